@@ -1,0 +1,9 @@
+pub mod Puts
+pub mod Overs
+pub mod Sharing
+pub mod Transfers
+pub mod Ranges
+pub mod Accepted
+pub mod Positions
+pub mod Passes
+pub mod Marked

@@ -1,0 +1,96 @@
+-- What an image is after bytes were put into it.
+use Rattle.std.proofs.Common.{◌≡◌, ℕ, ◌<◌, List, [], ◌∷◌, ◌++◌, length, get_or, map, Option, Some, None, Bool, true, false, cond, refl, ap, sym, ◌∙◌, arith, inl, inr, ◌⊎◌}
+use Rattle.std.specs.Prelude.{unwrap_or, nat_eq, IsSome}
+use Rattle.std.specs.List.{Contains}
+use Rattle.std.specs.Map.{lookup, keys_of}
+use Rattle.std.specs.Option.{option_or}
+use Rattle.std.proofs.lemmas.Bool.{eqb-true, cases_lt}
+use Rattle.std.proofs.lemmas.List.{ext_get_or, get_or_past}
+use Rattle.std.proofs.lemmas.List.Elements.{Contains-append_right}
+use Rattle.std.proofs.lemmas.List.FromFn.{length-map-range_with_len, get_or-map-range_with_len}
+use Rattle.std.proofs.lemmas.Map.Views.{Contains-keys_from_lookup}
+use Rattle.dma_mem.specs.Image.{put, carried}
+use Rattle.dma_mem.specs.Places.{Apart}
+
+-- ---- look-ups
+
+pub lookup-append : {X : Type 0} (test : ℕ → Bool) (xs ys : List (ℕ × X)) → lookup test (xs ++ ys) ≡ option_or (lookup test xs) (lookup test ys)
+lookup-append test [] ys = refl
+lookup-append test (x ∷ xs) ys =
+    elim (test x.0) as (λ b. cond b (Some x.1) (lookup test (xs ++ ys)) ≡ option_or (cond b (Some x.1) (lookup test xs)) (lookup test ys)) [
+      | true ↦ refl
+      | false ↦ lookup-append test xs ys
+    ]
+
+-- nothing is found where the address is no key
+pub lookup_none : {X : Type 0} (es : List (ℕ × X)) (a : ℕ) → ¬ Contains (keys_of es) a → lookup (nat_eq a) es ≡ None
+lookup_none {X} es a h =
+    let seen = Contains-keys_from_lookup eqb-true a es in
+    let by : (o : Option X) → (IsSome o → Contains (keys_of es) a) → o ≡ None = λ o. elim o as (λ o. (IsSome o → Contains (keys_of es) a) → o ≡ None) [ None ↦ λ _. refl | Some x ↦ λ f. absurd (h (f refl)) ] in
+    by (lookup (nat_eq a) es) seen
+
+-- an address is found in at most one of two lists whose keys are apart
+pub lookup_apart : {X : Type 0} (xs ys : List (ℕ × X)) (a : ℕ) → Apart (keys_of xs) (keys_of ys) → (lookup (nat_eq a) xs ≡ None) ⊎ (lookup (nat_eq a) ys ≡ None)
+lookup_apart {X} xs ys a h =
+    let seen = Contains-keys_from_lookup eqb-true a xs in
+    let by : (o : Option X) → (IsSome o → Contains (keys_of xs) a) → (o ≡ None) ⊎ (lookup (nat_eq a) ys ≡ None) = λ o. elim o as (λ o. (IsSome o → Contains (keys_of xs) a) → (o ≡ None) ⊎ (lookup (nat_eq a) ys ≡ None)) [ None ↦ λ _. inl refl | Some x ↦ λ f. inr (lookup_none ys a (h a (f refl))) ] in
+    by (lookup (nat_eq a) xs) seen
+
+-- ---- what is put
+
+pub length-put : (image : List ℕ) (es : List (ℕ × ℕ)) → length (put image es) ≡ length image
+unfolding put
+length-put image es = length-map-range_with_len _ 0 (length image)
+
+pub get_or-put : (image : List ℕ) (es : List (ℕ × ℕ)) (a : ℕ) → a < length image → get_or (put image es) a 0 ≡ unwrap_or (lookup (nat_eq a) es) (get_or image a 0)
+unfolding put
+get_or-put image es a h = get_or-map-range_with_len _ 0 (length image) a a 0 h (omega arith)
+
+-- what is put is known by its look-ups
+pub put-same : (image : List ℕ) (xs ys : List (ℕ × ℕ)) → ((a : ℕ) → lookup (nat_eq a) xs ≡ lookup (nat_eq a) ys) → put image xs ≡ put image ys
+put-same image xs ys h =
+    ext_get_or 0 _ _ (length-put image xs ∙ sym (length-put image ys)) (λ a l.
+    let m : a < length image = omega (arith, length-put image xs) in
+    get_or-put image xs a m ∙ ap (λ o. unwrap_or o (get_or image a 0)) (h a) ∙ sym (get_or-put image ys a m))
+
+-- of what is put twice, the later counts
+pub put-put : (image : List ℕ) (xs ys : List (ℕ × ℕ)) → put (put image xs) ys ≡ put image (ys ++ xs)
+put-put image xs ys =
+    ext_get_or 0 _ _ (simp length-put) (λ a l.
+    let m : a < length image = omega (arith, length-put (put image xs) ys, length-put image xs) in
+    let n : a < length (put image xs) = omega (arith, length-put image xs) in
+    let either : (o p : Option ℕ) (d : ℕ) → unwrap_or o (unwrap_or p d) ≡ unwrap_or (option_or o p) d = λ o p d. elim o as (λ o. unwrap_or o (unwrap_or p d) ≡ unwrap_or (option_or o p) d) [ None ↦ refl | Some x ↦ refl ] in
+    get_or-put (put image xs) ys a n
+    ∙ ap (unwrap_or (lookup (nat_eq a) ys)) (get_or-put image xs a m)
+    ∙ either (lookup (nat_eq a) ys) (lookup (nat_eq a) xs) (get_or image a 0)
+    ∙ ap (λ o. unwrap_or o (get_or image a 0)) (sym (lookup-append (nat_eq a) ys xs))
+    ∙ sym (get_or-put image (ys ++ xs) a m))
+
+-- a part may stand before or after another that has no address in common with it
+pub put-exchange : (image : List ℕ) (xs ys zs : List (ℕ × ℕ)) → Apart (keys_of xs) (keys_of ys) → put image (xs ++ (ys ++ zs)) ≡ put image (ys ++ (xs ++ zs))
+put-exchange image xs ys zs h =
+    put-same image _ _ (λ a.
+    let x = lookup (nat_eq a) xs in
+    let y = lookup (nat_eq a) ys in
+    let z = lookup (nat_eq a) zs in
+    let either : (o p q : Option ℕ) → (o ≡ None) ⊎ (p ≡ None) → option_or o (option_or p q) ≡ option_or p (option_or o q) = λ o p q. elim o as (λ o. (o ≡ None) ⊎ (p ≡ None) → option_or o (option_or p q) ≡ option_or p (option_or o q)) [ None ↦ λ _. refl | Some x ↦ λ c. elim c [ inl n ↦ cc | inr n ↦ rw n refl ] ] in
+    lookup-append (nat_eq a) xs (ys ++ zs) ∙ ap (option_or x) (lookup-append (nat_eq a) ys zs)
+    ∙ either x y z (lookup_apart xs ys a h)
+    ∙ sym (lookup-append (nat_eq a) ys (xs ++ zs) ∙ ap (option_or y) (lookup-append (nat_eq a) xs zs)))
+
+-- an address at which nothing is put keeps its byte, also past the end
+pub get_or-put_other : (image : List ℕ) (es : List (ℕ × ℕ)) (a : ℕ) → ¬ Contains (keys_of es) a → get_or (put image es) a 0 ≡ get_or image a 0
+get_or-put_other image es a h = elim (cases_lt a (length image)) [
+  | inl l ↦ get_or-put image es a l ∙ ap (λ o. unwrap_or o (get_or image a 0)) (lookup_none es a h)
+  | inr l ↦ get_or_past (put image es) a 0 (omega (arith, length-put image es)) ∙ sym (get_or_past image a 0 l)
+]
+
+-- ---- what moves carry
+
+-- moves carry the same bytes from an image into which bytes were put at none of their sources
+pub carried-put : (image : List ℕ) (es ms : List (ℕ × ℕ)) → ((a : ℕ) → Contains (map (λ m. m.1) ms) a → ¬ Contains (keys_of es) a) → carried (put image es) ms ≡ carried image ms
+carried-put image es [] h = refl
+carried-put image es (m ∷ ms) h =
+    let head : get_or (put image es) m.1 0 ≡ get_or image m.1 0 = get_or-put_other image es m.1 (h m.1 (0, omega arith, refl)) in
+    let tail : carried (put image es) ms ≡ carried image ms = carried-put image es ms (λ a i. h a (Contains-append_right (m.1 ∷ []) (map (λ m. m.1) ms) a i)) in
+    cc

@@ -1,0 +1,76 @@
+-- The places of a list of segments, and what it is for two transfers to be free of each other.
+use Rattle.std.specs.Prelude.{ℕ, List, length, take, Option, Bool, ◌||◌, ◌&&◌, not, nat_eq, nat_le, ◌+◌}
+use Rattle.std.specs.List.{flat_map, range_with_len, Contains, list_any, list_all, zip}
+use Rattle.dma_mem.specs.declared.segment.Segment.{Segment}
+
+-- the addresses of a segment, rising
+abbrev pub range_of : Segment → List ℕ
+range_of s = range_with_len s.addr s.len
+
+-- The addresses of a list of segments, segment after segment, each rising (dmaengine scatter list).
+abbrev pub places : List Segment → List ℕ
+places list = flat_map (λ s. range_with_len s.addr s.len) list
+
+-- Two segments meet where they share an address; an empty one meets nothing.
+abbrev pub Meets : Segment → Segment → Type 0
+Meets s t = (a : ℕ) × Contains (range_with_len s.addr s.len) a × Contains (range_with_len t.addr t.len) a
+
+-- no address stands in both lists
+abbrev pub Apart : List ℕ → List ℕ → Type 0
+Apart xs ys = (a : ℕ) → Contains xs a → ¬ Contains ys a
+
+-- whether an address stands in both lists
+unfoldable pub share : List ℕ → List ℕ → Bool
+share xs ys = list_any (λ a. list_any (nat_eq a) ys) xs
+
+-- whether two segments meet
+abbrev pub meets : Segment → Segment → Bool
+meets s t = share (range_with_len s.addr s.len) (range_with_len t.addr t.len)
+
+-- What a transfer copies from where to where, and the events that it waits for and signals.
+pub record Descriptor : Type 0 where
+  pub src : List Segment
+  pub dst : List Segment
+  pub wait : Option ℕ
+  pub signal : Option ℕ
+
+-- the places that a transfer reads, and those that it writes: position p of the first is copied to position p of the second
+abbrev pub sources : Descriptor → List ℕ
+sources t = places t.src
+
+abbrev pub destinations : Descriptor → List ℕ
+destinations t = places t.dst
+
+-- how many bytes it copies
+abbrev pub size_of : Descriptor → ℕ
+size_of t = length (destinations t)
+
+-- the first k moves of a transfer: each destination place beside its source place
+abbrev pub moves : Descriptor → ℕ → List (ℕ × ℕ)
+moves t k = take k (zip (destinations t) (sources t))
+
+-- whether each of its ranges ends at that address at most
+abbrev pub all_below : List Segment → ℕ → Bool
+all_below list size = list_all (λ s. nat_le (s.addr + s.len) size) list
+
+abbrev pub lies_below : Descriptor → ℕ → Bool
+lies_below t size = all_below t.src size && all_below t.dst size
+
+-- whether the transfer writes an address of the segment; whether it writes or reads one
+abbrev pub writes : Descriptor → Segment → Bool
+writes t s = share (range_with_len s.addr s.len) (destinations t)
+
+abbrev pub touches : Descriptor → Segment → Bool
+touches t s = share (range_with_len s.addr s.len) (destinations t) || share (range_with_len s.addr s.len) (sources t)
+
+-- A transfer is free of another where its destinations meet no range of the other and its sources no destination of the other.
+pub record IsFree (t u : Descriptor) : Type 0 where
+  pub writes_none : Apart (destinations t) (destinations u)
+  pub writes_no_source : Apart (destinations t) (sources u)
+  pub reads_none : Apart (sources t) (destinations u)
+
+-- whether it is free of the other
+abbrev pub is_free_of : Descriptor → Descriptor → Bool
+is_free_of t u =
+    not (share (destinations t) (destinations u)
+    || (share (destinations t) (sources u) || share (sources t) (destinations u)))

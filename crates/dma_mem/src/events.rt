@@ -1,0 +1,70 @@
+//! The flags of the controller's events.
+
+ghost use Rattle.std.specs.Prelude.{◌≡◌, ◌≤◌, length, slice_index_or, slice_set, true, false};
+ghost use Rattle.dma_mem.specs.Marking.{all_clear};
+
+use std::marker::Model;
+
+/// A flag for each event from 0 to 31 (PL330 manual, DMASEV and DMAWFE). Contracts see them as a list of 32 truth values.
+#[derive(Debug, Drop)]
+pub struct Events {
+    flags: [bool; 32],
+}
+
+impl Model for Events {
+    ghost use Rattle.std.specs.Prelude.{List, Bool};
+
+    ghost Value = { List Bool };
+
+    ghost view = { λ e. e.flags };
+}
+
+impl Events {
+    /// All flags clear.
+    pub fn new() -> Events
+        ensures { result ≡ all_clear }
+    {
+        Events { flags: [false; 32] }
+    }
+
+    /// Whether the flag of an event is set.
+    pub fn is_set(&self, event: u8) -> bool
+        requires { event ≤ 31 }
+        ensures flag { result ≡ slice_index_or self.now event false }
+        ensures count { length self.now ≡ 32 }
+    {
+        let index = usize::from(event);
+        self.flags[index]
+    }
+
+    /// Sets the flag of an event.
+    pub fn set(&mut self, event: u8)
+        requires { event ≤ 31 }
+        ensures { self.new ≡ slice_set self.old event true }
+    {
+        self.flags[usize::from(event)] = true;
+    }
+
+    /// Clears the flag of an event.
+    pub fn clear(&mut self, event: u8)
+        requires { event ≤ 31 }
+        ensures { self.new ≡ slice_set self.old event false }
+    {
+        self.flags[usize::from(event)] = false;
+    }
+}
+
+#[cfg(test)]
+mod tests {
+    use super::*;
+
+    #[test]
+    fn set_and_clear_one_flag(rt: HostRuntime) {
+        let mut events = Events::new();
+        events.set(31);
+        assert!(rt; events.is_set(31));
+        assert!(rt; !events.is_set(30));
+        events.clear(31);
+        assert!(rt; !events.is_set(31));
+    }
+}

@@ -1,0 +1,9 @@
+//! Memory, segments and transfers of a DMA controller.
+#![tactic(auto)]
+
+pub mod events;
+pub mod lists;
+pub mod marks;
+pub mod memory;
+pub mod segment;
+pub mod transfer;

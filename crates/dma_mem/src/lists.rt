@@ -1,0 +1,163 @@
+//! Lists that contracts see as their items alone.
+
+ghost use Rattle.std.specs.Prelude.{◌≡◌, ◌∷◌, ◌++◌, ◌==◌, [], length, IfOk, OnOk, OnErr};
+
+use crate::segment::Segment;
+use std::alloc::{AllocError, Global};
+use std::marker::Model;
+
+/// A list of bytes.
+#[derive(Debug, Drop)]
+pub struct Bytes {
+    bytes: Vec<u8>,
+}
+
+impl Model for Bytes {
+    ghost use Rattle.std.specs.Prelude.{List, ℕ};
+
+    ghost Value = { List ℕ };
+
+    ghost view = { λ b. b.bytes.items };
+}
+
+impl Bytes {
+    /// A list without bytes, which takes no memory.
+    pub fn new(alloc: Global) -> Bytes
+        ensures { result ≡ [] }
+    {
+        Bytes {
+            bytes: Vec::new(alloc),
+        }
+    }
+
+    /// A copy of these bytes.
+    pub fn from_slice(alloc: Global, bytes: &[u8]) -> Result<Bytes, AllocError>
+        ensures { IfOk result (λ list. list ≡ bytes.now) }
+    {
+        let bytes = Vec::from_slice(alloc, bytes)?;
+        Ok(Bytes { bytes })
+    }
+
+    /// The bytes.
+    pub fn as_slice(&self) -> &[u8]
+        ensures { result.now ≡ self.now }
+    {
+        self.bytes.as_slice()
+    }
+
+    /// How many bytes there are.
+    pub fn len(&self) -> usize
+        ensures { result ≡ length self.now }
+    {
+        self.bytes.len()
+    }
+
+    /// Whether there is no byte.
+    pub fn is_empty(&self) -> bool
+        ensures { result ≡ (length self.now == 0) }
+    {
+        self.bytes.is_empty()
+    }
+
+    /// Adds a byte at the end. Without memory for it the list stays as it was.
+    pub fn push(&mut self, byte: u8) -> Result<(), AllocError>
+        ensures ok { OnOk result (self.new ≡ self.old ++ byte ∷ []) }
+        ensures err { OnErr result (self.new ≡ self.old) }
+    {
+        self.bytes.push(byte)?;
+        Ok(())
+    }
+}
+
+/// A list of segments.
+#[derive(Debug, Drop)]
+pub struct Segments {
+    segments: Vec<Segment>,
+}
+
+impl Model for Segments {
+    ghost use Rattle.std.specs.Prelude.{List};
+    ghost use Rattle.dma_mem.specs.declared.segment.Segment.{Segment};
+
+    ghost Value = { List Segment };
+
+    ghost view = { λ s. s.segments.items };
+}
+
+impl Segments {
+    /// A list without segments, which takes no memory.
+    pub fn new(alloc: Global) -> Segments
+        ensures { result ≡ [] }
+    {
+        Segments {
+            segments: Vec::new(alloc),
+        }
+    }
+
+    /// A copy of these segments.
+    pub fn from_slice(alloc: Global, segments: &[Segment]) -> Result<Segments, AllocError>
+        ensures { IfOk result (λ list. list ≡ segments.now) }
+    {
+        let segments = Vec::from_slice(alloc, segments)?;
+        Ok(Segments { segments })
+    }
+
+    /// The segments.
+    pub fn as_slice(&self) -> &[Segment]
+        ensures { result.now ≡ self.now }
+    {
+        self.segments.as_slice()
+    }
+
+    /// How many segments there are.
+    pub fn len(&self) -> usize
+        ensures { result ≡ length self.now }
+    {
+        self.segments.len()
+    }
+
+    /// Whether there is no segment.
+    pub fn is_empty(&self) -> bool
+        ensures { result ≡ (length self.now == 0) }
+    {
+        self.segments.is_empty()
+    }
+
+    /// The same list again, in memory of its own.
+    pub fn try_copy(&self) -> Result<Segments, AllocError>
+        ensures { IfOk result (λ copy. copy ≡ self.now) }
+    {
+        Segments::from_slice(*self.segments.allocator(), self.as_slice())
+    }
+
+    /// Adds a segment at the end. Without memory for it the list stays as it was.
+    pub fn push(&mut self, segment: Segment) -> Result<(), AllocError>
+        ensures ok { OnOk result (self.new ≡ self.old ++ segment ∷ []) }
+        ensures err { OnErr result (self.new ≡ self.old) }
+    {
+        self.segments.push(segment)?;
+        Ok(())
+    }
+}
+
+#[cfg(test)]
+mod tests {
+    use super::*;
+    use std::test::Fail;
+
+    #[test]
+    fn grow_at_the_end(rt: HostRuntime) -> Result<(), Fail> {
+        let mut bytes = Bytes::from_slice(rt.alloc(), &[1, 2])?;
+        bytes.push(3)?;
+        assert_eq!(rt; bytes.as_slice(), [1, 2, 3].as_slice());
+        let mut segments = Segments::new(rt.alloc());
+        assert!(rt; segments.is_empty());
+        segments.push(Segment { addr: 4, len: 5 })?;
+        assert_eq!(rt; segments.len(), 1);
+        let copy = Segments::from_slice(rt.alloc(), segments.as_slice())?;
+        assert_eq!(rt; copy.as_slice(), [Segment { addr: 4, len: 5 }].as_slice());
+        assert!(rt; Bytes::new(rt.alloc()).is_empty());
+        assert_eq!(rt; bytes.len(), 3);
+        Ok(())
+    }
+}

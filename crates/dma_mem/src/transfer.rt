@@ -1,0 +1,542 @@
+//! Transfers from a list of segments to another.
+
+ghost use Rattle.std.specs.Prelude.{◌≡◌, ◌+◌, ◌≤◌, ◌↔◌, All, IsTrue, IfOk, IfErr, MatchResult, length, slice_get, unwrap_or};
+ghost use Rattle.dma_mem.specs.Places.{Descriptor, places, sources, destinations, size_of, lies_below, all_below, meets, share, range_of, touches, writes, is_free_of, IsFree};
+ghost use Rattle.std.specs.List.{list_any};
+ghost use Rattle.dma_mem.specs.Rules.{IsTransfer, refusal_of, total, some_meet, meets_any, has_empty_segment, has_wrapping_segment, is_bad_event};
+
+use crate::lists::Segments;
+use crate::segment::{Segment, meets};
+use std::alloc::{AllocError, Global};
+use std::marker::Model;
+use thiserror::Error;
+
+/// The most segments in one list (profile).
+pub const MAX_SEGMENTS: usize = 64;
+
+/// The most bytes in one transfer (profile).
+pub const MAX_BYTES: u32 = 1_048_576;
+
+/// The last event of the controller (PL330 manual, DMASEV).
+pub const LAST_EVENT: u8 = 31;
+
+/// One past the last address (PL330 manual, 32-bit address registers).
+const END_OF_ADDRESSES: u64 = 4_294_967_296;
+
+/// Why a transfer was refused, in the order of the tests.
+#[derive(Clone, Copy, Debug, PartialEq, Eq, Error)]
+pub enum TransferFault {
+    #[error("a list has no segment")]
+    EmptyList,
+    #[error("a list has more than {} segments", MAX_SEGMENTS)]
+    TooManySegments,
+    #[error("a segment is empty")]
+    EmptySegment,
+    #[error("a segment ends above the last address")]
+    SegmentWraps,
+    #[error("the lists have different lengths")]
+    TotalsDiffer,
+    #[error("the lists have more than {} bytes", MAX_BYTES)]
+    TooLong,
+    #[error("two destination segments meet")]
+    DestinationsMeet,
+    #[error("a source segment meets a destination segment")]
+    SourceMeetsDestination,
+    #[error("an event is above {}", LAST_EVENT)]
+    BadEvent,
+    #[error("out of memory")]
+    NoMemory,
+}
+
+/// What is copied from where to where, and the events that it waits for first and signals last.
+///
+/// The places of a list are the addresses of its segments, segment after segment, each rising. Position p of the sources
+/// is copied to position p of the destinations.
+#[derive(Debug, Drop)]
+pub struct Transfer {
+    src: Segments,
+    dst: Segments,
+    wait: Option<u8>,
+    signal: Option<u8>,
+    len: u32,
+}
+
+impl Model for Transfer {
+    ghost use Rattle.std.specs.Prelude.{◌≡◌};
+    ghost use Rattle.dma_mem.specs.Places.{Descriptor, size_of};
+
+    ghost Value = { Descriptor };
+
+    ghost use Rattle.dma_mem.specs.Rules.{IsTransfer};
+
+    ghost view = { λ t. record { src = t.src; dst = t.dst; wait = t.wait; signal = t.signal } };
+
+    ghost invariant = { λ t. IsTransfer (record { src = t.src; dst = t.dst; wait = t.wait; signal = t.signal })
+        × (t.len ≡ size_of (record { src = t.src; dst = t.dst; wait = t.wait; signal = t.signal })) };
+}
+
+fn has_empty_segment(list: &[Segment]) -> bool
+    ensures { result ≡ has_empty_segment list.now }
+{
+    list.iter().any(|s| s.len == 0)
+}
+
+fn has_wrapping_segment(list: &[Segment]) -> bool
+    ensures { result ≡ has_wrapping_segment list.now }
+{
+    list.iter().any(|s| u64::from(s.addr) + u64::from(s.len) > END_OF_ADDRESSES)
+}
+
+fn total(list: &[Segment]) -> u64
+    requires { length list.now ≤ MAX_SEGMENTS }
+    ensures { result ≡ total list.now }
+{
+    list.iter().map(|s| u64::from(s.len)).sum()
+}
+
+fn meets_one(s: Segment, others: &[Segment]) -> bool
+    ensures { result ≡ list_any (meets s) others.now }
+{
+    others.iter().any(|other| meets(s, *other))
+}
+
+fn some_meet(list: &[Segment]) -> bool
+    ensures { result ≡ some_meet list.now }
+{
+    for (i, s) in list.iter().enumerate() {
+        if meets_one(*s, &list[i + 1..]) {
+            return true;
+        }
+    }
+    false
+}
+
+fn meets_any(list: &[Segment], others: &[Segment]) -> bool
+    ensures { result ≡ meets_any list.now others.now }
+{
+    list.iter().any(|s| meets_one(*s, others))
+}
+
+/// Whether the list has an address of the segment.
+fn meets_list(s: Segment, list: &[Segment]) -> bool
+    ensures { result ≡ share (range_of s) (places list.now) }
+{
+    meets_one(s, list)
+}
+
+/// Whether the lists have an address in common.
+fn lists_meet(list: &[Segment], others: &[Segment]) -> bool
+    ensures { result ≡ share (places list.now) (places others.now) }
+{
+    meets_any(list, others)
+}
+
+fn is_bad_event(event: Option<u8>) -> bool
+    ensures { result ≡ is_bad_event event }
+{
+    event.is_some_and(|e| e > LAST_EVENT)
+}
+
+/// How many bytes a transfer of these lists copies, or the first refusal that holds.
+fn checked_len(
+    src: &[Segment],
+    dst: &[Segment],
+    wait: Option<u8>,
+    signal: Option<u8>,
+) -> Result<u32, TransferFault>
+    ensures { let t : Descriptor = record { src = src.now; dst = dst.now; wait = wait; signal = signal } in
+        MatchResult result (λ len. (refusal_of t ≡ None) × (len ≡ total dst.now)) (λ fault. refusal_of t ≡ Some fault) }
+{
+    if src.is_empty() || dst.is_empty() {
+        return Err(TransferFault::EmptyList);
+    }
+    if src.len() > MAX_SEGMENTS || dst.len() > MAX_SEGMENTS {
+        return Err(TransferFault::TooManySegments);
+    }
+    if has_empty_segment(src) || has_empty_segment(dst) {
+        return Err(TransferFault::EmptySegment);
+    }
+    if has_wrapping_segment(src) || has_wrapping_segment(dst) {
+        return Err(TransferFault::SegmentWraps);
+    }
+    let len = total(dst);
+    if total(src) != len {
+        return Err(TransferFault::TotalsDiffer);
+    }
+    if len > u64::from(MAX_BYTES) {
+        return Err(TransferFault::TooLong);
+    }
+    if some_meet(dst) {
+        return Err(TransferFault::DestinationsMeet);
+    }
+    if meets_any(src, dst) {
+        return Err(TransferFault::SourceMeetsDestination);
+    }
+    if is_bad_event(wait) || is_bad_event(signal) {
+        return Err(TransferFault::BadEvent);
+    }
+    Ok(len as u32)
+}
+
+/// The place of a position of a list, or none past its end.
+fn place_at(list: &[Segment], position: u32) -> Option<u32>
+    requires { All (λ s. s.addr + s.len ≤ 4294967296) list.now }
+    ensures { result ≡ slice_get (places list.now) position }
+{
+    let mut left = position;
+    for s in list {
+        if left < s.len {
+            return Some(s.addr + left);
+        }
+        left -= s.len;
+    }
+    None
+}
+
+fn all_below(list: &[Segment], size: u32) -> bool
+    ensures { result ≡ all_below list.now size }
+{
+    list.iter().all(|s| u64::from(s.addr) + u64::from(s.len) <= u64::from(size))
+}
+
+fn copied(alloc: Global, list: &[Segment]) -> Result<Segments, TransferFault>
+    ensures { MatchResult result (λ copy. copy ≡ list.now) (λ fault. fault ≡ TransferFault.NoMemory) }
+{
+    Segments::from_slice(alloc, list).map_err(|_| TransferFault::NoMemory)
+}
+
+impl Transfer {
+    /// A transfer from the places of `src` to those of `dst`, which waits for one event first and signals one last.
+    ///
+    /// The error is the first that holds, each tested over the sources and then the destinations before the next:
+    /// `EmptyList`; `TooManySegments` for more than [`MAX_SEGMENTS`]; `EmptySegment`; `SegmentWraps` where a segment ends
+    /// above 2^32; `TotalsDiffer` where the lists don't have as many bytes; `TooLong` for more than [`MAX_BYTES`];
+    /// `DestinationsMeet`; `SourceMeetsDestination`; `BadEvent` for one above [`LAST_EVENT`]; else `NoMemory`.
+    /// Source segments may meet each other.
+    pub fn new(
+        alloc: Global,
+        src: &[Segment],
+        dst: &[Segment],
+        wait: Option<u8>,
+        signal: Option<u8>,
+    ) -> Result<Transfer, TransferFault>
+        ensures ok { IfOk result (λ t. t ≡ record { src = src.now; dst = dst.now; wait = wait; signal = signal }) }
+        ensures accepted { IfOk result (λ t. refusal_of t ≡ None) }
+        ensures rules { IfOk result (λ t. IsTransfer t) }
+        ensures err { IfErr result (λ fault. fault ≡ unwrap_or
+            (refusal_of (record { src = src.now; dst = dst.now; wait = wait; signal = signal })) TransferFault.NoMemory) }
+    {
+        let len = checked_len(src, dst, wait, signal)?;
+        let src = copied(alloc, src)?;
+        let dst = copied(alloc, dst)?;
+        Ok(Transfer {
+            src,
+            dst,
+            wait,
+            signal,
+            len,
+        })
+    }
+
+    /// The source segments, in order.
+    pub fn src(&self) -> &[Segment]
+        ensures segments { result.now ≡ self.now.src }
+        ensures rules { IsTransfer self.now }
+    {
+        self.src.as_slice()
+    }
+
+    /// The destination segments, in order.
+    pub fn dst(&self) -> &[Segment]
+        ensures segments { result.now ≡ self.now.dst }
+        ensures rules { IsTransfer self.now }
+    {
+        self.dst.as_slice()
+    }
+
+    /// The event that it waits for before its first byte.
+    pub fn wait(&self) -> Option<u8>
+        ensures { result ≡ self.now.wait }
+    {
+        self.wait
+    }
+
+    /// The event that it signals after its last byte.
+    pub fn signal(&self) -> Option<u8>
+        ensures { result ≡ self.now.signal }
+    {
+        self.signal
+    }
+
+    /// How many bytes it copies: 1 to [`MAX_BYTES`].
+    pub fn len(&self) -> u32
+        ensures size { result ≡ size_of self.now }
+        ensures sources { result ≡ length (sources self.now) }
+        ensures low { 1 ≤ result }
+        ensures high { result ≤ MAX_BYTES }
+        ensures rules { IsTransfer self.now }
+    {
+        self.len
+    }
+
+    /// The address that position `position` is read from, or none at or past the length.
+    pub fn src_place(&self, position: u32) -> Option<u32>
+        ensures { result ≡ slice_get (sources self.now) position }
+    {
+        place_at(self.src(), position)
+    }
+
+    /// The address that position `position` is written to, or none at or past the length.
+    pub fn dst_place(&self, position: u32) -> Option<u32>
+        ensures { result ≡ slice_get (destinations self.now) position }
+    {
+        place_at(self.dst(), position)
+    }
+
+    /// Whether all its segments end at `size` or below it, as they have to in a memory of that size.
+    pub fn lies_below(&self, size: u32) -> bool
+        ensures below { result ≡ lies_below self.now size }
+        ensures rules { IsTransfer self.now }
+    {
+        all_below(self.src(), size) && all_below(self.dst(), size)
+    }
+
+    /// Whether a source or a destination segment meets this one.
+    pub fn touches(&self, segment: Segment) -> bool
+        ensures { result ≡ touches self.now segment }
+    {
+        self.writes(segment) || meets_list(segment, self.src())
+    }
+
+    /// Whether a destination segment meets this one.
+    pub fn writes(&self, segment: Segment) -> bool
+        ensures { result ≡ writes self.now segment }
+    {
+        meets_list(segment, self.dst())
+    }
+
+    /// Whether its destinations meet no segment of the other, and its sources no destination of the other.
+    pub fn is_free_of(&self, other: &Transfer) -> bool
+        ensures value { result ≡ is_free_of self.now other.now }
+        ensures fact { IsTrue result ↔ IsFree self.now other.now }
+    {
+        !lists_meet(self.dst(), other.dst())
+            && !lists_meet(self.dst(), other.src())
+            && !lists_meet(self.src(), other.dst())
+    }
+
+    /// The same transfer again, in memory of its own.
+    pub fn try_copy(&self) -> Result<Transfer, AllocError>
+        ensures { IfOk result (λ copy. copy ≡ self.now) }
+    {
+        let Transfer {
+            src,
+            dst,
+            wait,
+            signal,
+            len,
+        } = self;
+        Ok(Transfer {
+            src: src.try_copy()?,
+            dst: dst.try_copy()?,
+            wait: *wait,
+            signal: *signal,
+            len: *len,
+        })
+    }
+}
+
+#[cfg(test)]
+mod tests {
+    use super::*;
+    use std::test::Fail;
+
+    fn seg((addr, len): (u32, u32)) -> Segment {
+        Segment { addr, len }
+    }
+
+    fn repeated(alloc: Global, s: Segment, count: usize) -> Result<Segments, AllocError> {
+        let mut list = Segments::new(alloc);
+        for _ in 0..count {
+            list.push(s)?;
+        }
+        Ok(list)
+    }
+
+    // From the seventh row on, two causes that follow each other in the order hold.
+    #[test]
+    fn answers_the_first_cause(rt: HostRuntime) -> Result<(), Fail> {
+        let cases = [
+            ((0x100, 4), (0x108, 4), None, None),
+            (
+                (0x100, 8),
+                (0x104, 8),
+                None,
+                Some(TransferFault::SourceMeetsDestination),
+            ),
+            (
+                (0x100, 4),
+                (0x108, 5),
+                None,
+                Some(TransferFault::TotalsDiffer),
+            ),
+            (
+                (0x100, 4),
+                (0x200, 2),
+                Some((0x201, 2)),
+                Some(TransferFault::DestinationsMeet),
+            ),
+            (
+                (0x100, 0),
+                (0x200, 0),
+                None,
+                Some(TransferFault::EmptySegment),
+            ),
+            (
+                (0xFFFF_FFFF, 2),
+                (0, 2),
+                None,
+                Some(TransferFault::SegmentWraps),
+            ),
+            (
+                (0xFFFF_FFFF, 2),
+                (0, 2),
+                Some((8, 0)),
+                Some(TransferFault::EmptySegment),
+            ),
+            (
+                (0, 1),
+                (0xFFFF_FFFF, 2),
+                None,
+                Some(TransferFault::SegmentWraps),
+            ),
+            (
+                (0, 1_048_577),
+                (0x20_0000, 1_048_578),
+                None,
+                Some(TransferFault::TotalsDiffer),
+            ),
+            (
+                (0, 1_048_577),
+                (8, 1_048_576),
+                Some((8, 1)),
+                Some(TransferFault::TooLong),
+            ),
+            (
+                (0x200, 4),
+                (0x200, 2),
+                Some((0x201, 2)),
+                Some(TransferFault::DestinationsMeet),
+            ),
+        ];
+        for (src, dst, more, fault) in cases {
+            let mut list = Segments::from_slice(rt.alloc(), &[seg(dst)])?;
+            if let Some(second) = more {
+                list.push(seg(second))?;
+            }
+            let answer = Transfer::new(rt.alloc(), &[seg(src)], list.as_slice(), None, None);
+            assert_eq!(rt; answer.err(), fault, "at {src:?} to {dst:?}");
+        }
+        Ok(())
+    }
+
+    #[test]
+    fn tests_a_lists_length_first(rt: HostRuntime) -> Result<(), Fail> {
+        let many = repeated(rt.alloc(), seg((0, 0)), 65)?;
+        let none = Transfer::new(rt.alloc(), many.as_slice(), &[], None, None);
+        assert_eq!(rt; none.err(), Some(TransferFault::EmptyList));
+        let more = Transfer::new(rt.alloc(), &[seg((0, 1))], many.as_slice(), None, None);
+        assert_eq!(rt; more.err(), Some(TransferFault::TooManySegments));
+        Ok(())
+    }
+
+    #[test]
+    fn tests_the_events_last(rt: HostRuntime) {
+        let cases = [
+            (Some(32), None, 4, TransferFault::BadEvent),
+            (Some(31), Some(255), 4, TransferFault::BadEvent),
+            (Some(32), Some(32), 3, TransferFault::SourceMeetsDestination),
+        ];
+        for (wait, signal, to, fault) in cases {
+            let answer = Transfer::new(rt.alloc(), &[seg((0, 4))], &[seg((to, 4))], wait, signal);
+            assert_eq!(rt; answer.err(), Some(fault), "at {wait:?} {signal:?}");
+        }
+    }
+
+    #[test]
+    fn accepts_every_limit(rt: HostRuntime) -> Result<(), Fail> {
+        let src = repeated(rt.alloc(), seg((5, 16_384)), 64)?;
+        let dst = [seg((0xFFF0_0000, 1_048_576))];
+        let t = Transfer::new(rt.alloc(), src.as_slice(), &dst, Some(31), Some(31))?;
+        assert_eq!(rt; t.len(), 1_048_576);
+        assert_eq!(rt; t.src().len(), 64);
+        assert_eq!(rt; t.wait(), Some(31));
+        assert_eq!(rt; t.signal(), Some(31));
+        Ok(())
+    }
+
+    #[test]
+    fn tells_places_across_segments(rt: HostRuntime) -> Result<(), Fail> {
+        let src = [seg((0x10, 3)), seg((0x21, 5))];
+        let t = Transfer::new(rt.alloc(), &src, &[seg((0x40, 8))], None, None)?;
+        let places = [
+            (2, Some(0x12), Some(0x42)),
+            (3, Some(0x21), Some(0x43)),
+            (7, Some(0x25), Some(0x47)),
+            (8, None, None),
+        ];
+        for (position, from, to) in places {
+            assert_eq!(rt; t.src_place(position), from);
+            assert_eq!(rt; t.dst_place(position), to);
+        }
+        assert_eq!(rt; t.dst(), [seg((0x40, 8))].as_slice());
+        assert!(rt; t.lies_below(0x48) && !t.lies_below(0x47));
+        Ok(())
+    }
+
+    #[test]
+    fn is_free_of_others_both_ways(rt: HostRuntime) -> Result<(), Fail> {
+        let first = Transfer::new(
+            rt.alloc(),
+            &[seg((0x100, 4))],
+            &[seg((0x200, 4))],
+            None,
+            None,
+        )?;
+        let cases = [
+            ((0x203, 4), (0x300, 4), false),
+            ((0x300, 4), (0x203, 4), false),
+            ((0x300, 4), (0x103, 4), false),
+            ((0x100, 4), (0x204, 4), true),
+        ];
+        for (src, dst, free) in cases {
+            let other = Transfer::new(rt.alloc(), &[seg(src)], &[seg(dst)], None, None)?;
+            assert_eq!(rt; first.is_free_of(&other), free, "at {src:?} to {dst:?}");
+            assert_eq!(rt; other.is_free_of(&first), free, "at {src:?} to {dst:?}");
+        }
+        Ok(())
+    }
+
+    #[test]
+    fn copies_touch_the_same(rt: HostRuntime) -> Result<(), Fail> {
+        let first = Transfer::new(
+            rt.alloc(),
+            &[seg((0x100, 4))],
+            &[seg((0x200, 4))],
+            Some(3),
+            None,
+        )?;
+        let t = first.try_copy()?;
+        let cases = [
+            (0x103, true, false),
+            (0x203, true, true),
+            (0x204, false, false),
+        ];
+        for (addr, touched, written) in cases {
+            assert_eq!(rt; t.touches(seg((addr, 1))), touched, "at {addr}");
+            assert_eq!(rt; t.writes(seg((addr, 1))), written, "at {addr}");
+        }
+        assert_eq!(rt; t.wait(), Some(3));
+        Ok(())
+    }
+}
