@@ -1,0 +1,174 @@
+-- Fronts of bytes that are spellings joined.
+use Rattle.std.proofs.Common.{◌≡◌, ℕ, ◌+◌, ◌<◌, ◌≤◌, List, [], ◌∷◌, ◌++◌, length, take, drop, refl, sym, ap, ◌∙◌, subst, arith, append_assoc, append-nil, length-append, drop-drop, ◌-◌}
+use Rattle.std.specs.Prelude.{Err}
+use Rattle.std.proofs.lemmas.List.{take-append-drop, take_rest, drop_all}
+use Rattle.std.proofs.Math.Seq.{take-append_seam}
+use Rattle.dma_insn.specs.declared.insn.Insn.{Insn}
+use Rattle.dma_insn.specs.declared.codec.DecodeFault.{DecodeFault}
+use Rattle.dma_insn.specs.Spelling.{spelling, HasRanges, IsSpelledAt, IsRefusedFor}
+use Rattle.dma_insn.specs.Decoding.{decoded}
+use Rattle.dma_insn.specs.AssemblyText.{joined}
+use Rattle.dma_insn.specs.Disassembly.{AllInRange, insn_text, text_of, AreSpelled, Disassembles, StopsAt}
+use Rattle.dma_insn.proofs.Laws.{one_front, spelling_some}
+
+-- the bytes before a place are spellings joined
+pub record Front (bytes : List ℕ) (offset : ℕ) : Type 0 where
+  pub insns : List Insn
+  pub in_range : AllInRange insns
+  pub bytes_are : bytes ≡ joined insns ++ drop offset bytes
+  pub offset_is : offset ≡ length (joined insns)
+
+-- the same, and a text is theirs
+pub record WrittenFront (bytes : List ℕ) (offset : ℕ) (text : List ℕ) : Type 0 where
+  pub insns : List Insn
+  pub in_range : AllInRange insns
+  pub bytes_are : bytes ≡ joined insns ++ drop offset bytes
+  pub offset_is : offset ≡ length (joined insns)
+  pub text_is : text ≡ text_of insns
+
+all_push : (is : List Insn) (i : Insn) → AllInRange is → HasRanges i → AllInRange (is ++ i ∷ [])
+all_push [] i a h = (h, tt)
+all_push (j ∷ is) i a h = (a.0, all_push is i a.1 h)
+
+joined_push : (is : List Insn) (i : Insn) → joined (is ++ i ∷ []) ≡ joined is ++ spelling i
+joined_push [] i = append-nil (spelling i)
+joined_push (j ∷ is) i = ap (λ (l : List ℕ). spelling j ++ l) (joined_push is i) ∙ sym (append_assoc (spelling j) (joined is) (spelling i))
+
+text_push : (is : List Insn) (i : Insn) → text_of (is ++ i ∷ []) ≡ text_of is ++ (insn_text i ++ 10 ∷ [])
+text_push [] i = append-nil (insn_text i ++ 10 ∷ [])
+text_push (j ∷ is) i = ap (λ (l : List ℕ). (insn_text j ++ 10 ∷ []) ++ l) (text_push is i) ∙ sym (append_assoc (insn_text j ++ 10 ∷ []) (text_of is) (insn_text i ++ 10 ∷ []))
+
+front_bytes : (bytes : List ℕ) (offset : ℕ) (is : List Insn) (i : Insn) (n : ℕ) → bytes ≡ joined is ++ drop offset bytes → IsSpelledAt (drop offset bytes) i n → bytes ≡ joined (is ++ i ∷ []) ++ drop (offset + n) bytes
+front_bytes bytes offset is i n e h =
+    let rest = drop offset bytes in
+    let split : rest ≡ spelling i ++ drop n rest = sym (take-append-drop n rest) ∙ ap (λ (front : List ℕ). front ++ drop n rest) h.bytes_are in
+    let later : drop n rest ≡ drop (offset + n) bytes = drop-drop n offset bytes in
+    e ∙ ap (λ (l : List ℕ). joined is ++ l) (split ∙ ap (λ (l : List ℕ). spelling i ++ l) later) ∙ sym (append_assoc (joined is) (spelling i) (drop (offset + n) bytes))
+    ∙ ap (λ (l : List ℕ). l ++ drop (offset + n) bytes) (sym (joined_push is i))
+
+front_offset : (offset : ℕ) (is : List Insn) (i : Insn) (n : ℕ) → offset ≡ length (joined is) → n ≡ length (spelling i) → offset + n ≡ length (joined (is ++ i ∷ []))
+front_offset offset is i n e c = rw (joined_push is i) (omega (arith, length-append (joined is) (spelling i)))
+
+pub front_none : (bytes : List ℕ) → Front bytes 0
+front_none bytes = record { insns = []; in_range = tt; bytes_are = refl; offset_is = refl }
+
+pub front_more : (bytes : List ℕ) (offset : ℕ) (i : Insn) (n : ℕ) → Front bytes offset → IsSpelledAt (drop offset bytes) i n → Front bytes (offset + n)
+front_more bytes offset i n f h = record {
+  insns = f.insns ++ i ∷ [];
+  in_range = all_push f.insns i f.in_range h.in_range;
+  bytes_are = front_bytes bytes offset f.insns i n f.bytes_are h;
+  offset_is = front_offset offset f.insns i n f.offset_is h.count_is;
+}
+
+pub front_all : (bytes : List ℕ) (offset : ℕ) → length bytes ≤ offset → Front bytes offset → AreSpelled bytes
+front_all bytes offset all f =
+    let none : drop offset bytes ≡ [] = drop_all offset bytes all in
+    record { insns = f.insns; in_range = f.in_range; bytes_are = f.bytes_are ∙ ap (λ (l : List ℕ). joined f.insns ++ l) none ∙ append-nil (joined f.insns) }
+
+pub written_none : (bytes text : List ℕ) → text ≡ [] → WrittenFront bytes 0 text
+written_none bytes text e = record { insns = []; in_range = tt; bytes_are = refl; offset_is = refl; text_is = e }
+
+pub written_more : (bytes text new : List ℕ) (offset : ℕ) (i : Insn) (n : ℕ) → WrittenFront bytes offset text → IsSpelledAt (drop offset bytes) i n → new ≡ text ++ (insn_text i ++ 10 ∷ []) → WrittenFront bytes (offset + n) new
+written_more bytes text new offset i n f h e = record {
+  insns = f.insns ++ i ∷ [];
+  in_range = all_push f.insns i f.in_range h.in_range;
+  bytes_are = front_bytes bytes offset f.insns i n f.bytes_are h;
+  offset_is = front_offset offset f.insns i n f.offset_is h.count_is;
+  text_is = e ∙ ap (λ (l : List ℕ). l ++ (insn_text i ++ 10 ∷ [])) f.text_is ∙ sym (text_push f.insns i);
+}
+
+pub written_all : (bytes text : List ℕ) (offset : ℕ) → length bytes ≤ offset → WrittenFront bytes offset text → Disassembles bytes text
+written_all bytes text offset all f =
+    let none : drop offset bytes ≡ [] = drop_all offset bytes all in
+    record { insns = f.insns; in_range = f.in_range; bytes_are = f.bytes_are ∙ ap (λ (l : List ℕ). joined f.insns ++ l) none ∙ append-nil (joined f.insns); text_is = f.text_is }
+
+-- the same of a slice from the place on
+pub front_step : (bytes : List ℕ) (offset : ℕ) (i : Insn) (n : ℕ) → Front bytes offset → IsSpelledAt (take (length bytes - offset) (drop offset bytes)) i n → Front bytes (offset + n)
+front_step bytes offset i n f h = front_more bytes offset i n f (subst (λ (l : List ℕ). IsSpelledAt l i n) (take_rest bytes offset) h)
+
+pub written_step : (bytes text new : List ℕ) (offset : ℕ) (i : Insn) (n : ℕ) → WrittenFront bytes offset text → IsSpelledAt (take (length bytes - offset) (drop offset bytes)) i n → new ≡ text ++ (insn_text i ++ 10 ∷ []) → WrittenFront bytes (offset + n) new
+written_step bytes text new offset i n f h e = written_more bytes text new offset i n f (subst (λ (l : List ℕ). IsSpelledAt l i n) (take_rest bytes offset) h) e
+
+spelled_front : (i : Insn) (rest more : List ℕ) → HasRanges i → rest ≡ spelling i ++ more → IsSpelledAt rest i (length (spelling i))
+spelled_front i rest more h e =
+    record { in_range = h; count_is = refl; bytes_are = ap (take (length (spelling i))) e ∙ take-append_seam (spelling i) more }
+
+-- No spellings joined are a longer front than those behind which no instruction stands.
+longest_front : (is js : List Insn) (rest more : List ℕ) → AllInRange is → AllInRange js → joined is ++ rest ≡ joined js ++ more → ((i : Insn) (n : ℕ) → IsSpelledAt rest i n → ⊥) → length (joined js) ≤ length (joined is)
+longest_front is [] rest more hi hj e none = omega arith
+longest_front [] (j ∷ js) rest more hi hj e none =
+    absurd (none j (length (spelling j)) (spelled_front j rest (joined js ++ more) hj.0 (e ∙ append_assoc (spelling j) (joined js) more)))
+longest_front (i ∷ is) (j ∷ js) rest more hi hj e none =
+    let regrouped : spelling i ++ (joined is ++ rest) ≡ spelling j ++ (joined js ++ more) = sym (append_assoc (spelling i) (joined is) rest) ∙ e ∙ append_assoc (spelling j) (joined js) more in
+    let same = one_front i j (joined is ++ rest) (joined js ++ more) hi.0 hj.0 regrouped in
+    let first : length (spelling i) ≡ length (spelling j) = ap (λ (k : Insn). length (spelling k)) same.0 in
+    let rest_of = longest_front is js rest more hi.1 hj.1 same.1 none in
+    omega (arith, length-append (spelling i) (joined is), length-append (spelling j) (joined js))
+
+-- Where no instruction stands behind the front, it is the longest.
+pub stops : (bytes : List ℕ) (offset : ℕ) (fault : DecodeFault) → offset < length bytes → Front bytes offset → Err fault ≡ decoded (take (length bytes - offset) (drop offset bytes)) → IsRefusedFor (take (length bytes - offset) (drop offset bytes)) fault
+    → ((i : Insn) (n : ℕ) → IsSpelledAt (take (length bytes - offset) (drop offset bytes)) i n → ⊥) → StopsAt bytes offset fault
+stops bytes offset fault within f fault_is refused none =
+    let rest = drop offset bytes in
+    let same = take_rest bytes offset in
+    let none_here : (i : Insn) (n : ℕ) → IsSpelledAt rest i n → ⊥ = λ i n h. none i n (subst (λ (l : List ℕ). IsSpelledAt l i n) (sym same) h) in
+    let size : length bytes ≡ length (joined f.insns ++ rest) = ap length f.bytes_are in
+    let parts = length-append (joined f.insns) rest in
+    let at = f.offset_is in
+    record {
+      insns = f.insns;
+      rest = rest;
+      in_range = f.in_range;
+      bytes_are = f.bytes_are;
+      offset_is = f.offset_is;
+      some = omega arith;
+      fault_is = ap decoded (sym same) ∙ sym fault_is;
+      refused = subst (λ (l : List ℕ). IsRefusedFor l fault) same refused;
+      none = none_here;
+      longest = λ others more ranges e. let most = longest_front f.insns others rest more f.in_range ranges (sym f.bytes_are ∙ e) none_here in omega arith;
+    }
+
+-- Behind a front of bytes that are spellings joined, some instruction stands.
+pub never_stops : (bytes text : List ℕ) (offset : ℕ) → offset < length bytes → AreSpelled bytes → WrittenFront bytes offset text
+    → ((i : Insn) (n : ℕ) → IsSpelledAt (take (length bytes - offset) (drop offset bytes)) i n → ⊥) → ⊥
+never_stops bytes text offset within all f none =
+    let rest = drop offset bytes in
+    let none_here : (i : Insn) (n : ℕ) → IsSpelledAt rest i n → ⊥ = λ i n h. none i n (subst (λ (l : List ℕ). IsSpelledAt l i n) (sym (take_rest bytes offset)) h) in
+    let whole : joined f.insns ++ rest ≡ joined all.insns ++ [] = sym f.bytes_are ∙ all.bytes_are ∙ sym (append-nil (joined all.insns)) in
+    let most = longest_front f.insns all.insns rest [] f.in_range all.in_range whole none_here in
+    let size : length bytes ≡ length (joined all.insns) = ap length all.bytes_are in
+    let at = f.offset_is in
+    omega arith
+
+-- Bytes that stop have no text.
+pub stops_none : (bytes text : List ℕ) (offset : ℕ) (fault : DecodeFault) → StopsAt bytes offset fault → Disassembles bytes text → ⊥
+stops_none bytes text offset fault s d =
+    let most = s.longest d.insns [] d.in_range (d.bytes_are ∙ sym (append-nil (joined d.insns))) in
+    let size : length bytes ≡ length (joined s.insns ++ s.rest) = ap length s.bytes_are in
+    let all : length bytes ≡ length (joined d.insns) = ap length d.bytes_are in
+    let parts = length-append (joined s.insns) s.rest in
+    let at = s.offset_is in
+    let some = s.some in
+    omega arith
+
+-- Bytes are the spellings of one list of instructions.
+pub same_insns : (is js : List Insn) → AllInRange is → AllInRange js → joined is ≡ joined js → is ≡ js
+same_insns [] [] hi hj e = refl
+same_insns [] (j ∷ js) hi hj e =
+    let size : 0 ≡ length (spelling j ++ joined js) = ap length e in
+    absurd (let some = spelling_some j in omega (arith, length-append (spelling j) (joined js)))
+same_insns (i ∷ is) [] hi hj e =
+    let size : length (spelling i ++ joined is) ≡ 0 = ap length e in
+    absurd (let some = spelling_some i in omega (arith, length-append (spelling i) (joined is)))
+same_insns (i ∷ is) (j ∷ js) hi hj e =
+    let same = one_front i j (joined is) (joined js) hi.0 hj.0 e in
+    let rest = same_insns is js hi.1 hj.1 same.1 in
+    rw (same.0, rest) refl
+
+pub same_text_of : (bytes a b : List ℕ) → Disassembles bytes a → Disassembles bytes b → a ≡ b
+same_text_of bytes a b p q =
+    let same = same_insns p.insns q.insns p.in_range q.in_range (sym p.bytes_are ∙ q.bytes_are) in
+    p.text_is ∙ ap text_of same ∙ sym q.text_is
+
+pub has_text : (bytes : List ℕ) → AreSpelled bytes → (text : List ℕ) × Disassembles bytes text
+has_text bytes h = (text_of h.insns, record { insns = h.insns; in_range = h.in_range; bytes_are = h.bytes_are; text_is = refl })

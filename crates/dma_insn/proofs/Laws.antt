@@ -1,0 +1,276 @@
+-- What reading and spelling have to do with each other.
+use Rattle.std.proofs.Common.{◌≡◌, ℕ, ◌+◌, ◌-◌, ◌*◌, ◌/◌, ◌%◌, ◌^◌, ◌<◌, ◌≤◌, Bool, true, false, List, [], ◌∷◌, ◌++◌, length, drop, take, get_or, refl, sym, ap, ◌∙◌, subst, Ok, Err, arith, cond, eqb, ltb, suc}
+use Rattle.std.proofs.lemmas.Nat.{div-mul-add, mod-mul-add}
+use Rattle.std.proofs.lemmas.Bool.{eqb-true, eq-eqb, le-ltb, ltb-false, ltb-true, false≢true}
+use Rattle.std.proofs.lemmas.List.{take-append-drop, append_cancel_left, length-take}
+use Rattle.byteorder.specs.Numbers.{little_number-reads_back}
+use Rattle.std.specs.Prelude.{MatchResult, IfOk, IfErr}
+use Rattle.byteorder.specs.Endian.{little_bytes, little_number}
+use Rattle.dma_insn.specs.declared.insn.Reg.{Reg}
+use Rattle.dma_insn.specs.declared.insn.Reg.TheVariants.{Sar, Ccr, Dar}
+use Rattle.dma_insn.specs.declared.insn.Counter.{Counter}
+use Rattle.dma_insn.specs.declared.insn.Counter.TheVariants.{Lc0, Lc1}
+use Rattle.dma_insn.specs.declared.insn.Insn.{Insn}
+use Rattle.dma_insn.specs.declared.insn.Insn.TheVariants.{Mov, Ld, St, Rmb, Wmb, Nop, End, Lp, LpEnd, Sev, Wfe}
+use Rattle.dma_insn.specs.declared.codec.DecodeFault.{DecodeFault}
+use Rattle.dma_insn.specs.declared.codec.DecodeFault.TheVariants.{Cut, BadField}
+use Rattle.dma_insn.specs.Spelling.{spelling, HasRanges, IsSpelledAt, BeginsWith, IsRefusedFor, register_byte, loop_byte, loop_end_byte, invalid_bits, NoSpellingBeginsAnother}
+use Rattle.dma_insn.specs.Decoding.{Decoded, by_second, signal_at, wait_at, set_at, set_by, decoded}
+
+abbrev pub IsBytes : List ℕ → Type 0
+IsBytes bytes = (i : ℕ) → get_or bytes i 0 < 256
+
+-- a byte of two fields
+field : (e b : ℕ) → b < 8 → ((e * 8 + b) / 8 ≡ e) × ((e * 8 + b) % 8 ≡ b)
+field e b h = (div-mul-add e 8 b h, mod-mul-add e 8 b h)
+
+signal_again : (e : ℕ) → signal_at (e * 8) ≡ Ok (Sev e, 2)
+signal_again e =
+    let z : e * 8 ≡ e * 8 + 0 = omega arith in
+    let f = field e 0 (omega arith) in
+    ap signal_at z ∙ rw (f.1, f.0) refl
+
+wait_again : (e : ℕ) (v : Bool) → wait_at (e * 8 + invalid_bits v) ≡ Ok (Wfe e v, 2)
+wait_again e true = let f = field e 2 (omega arith) in rw (f.1, f.0) refl
+wait_again e false = let f = field e 0 (omega arith) in rw (f.1, f.0) refl
+
+set_again : (r : Reg) (v : ℕ) (rest : List ℕ) → v < 2 ^ 32 → set_by (register_byte r ∷ (little_bytes 4 v ++ rest)) ≡ Ok (Mov r v, 6)
+set_again r v rest h =
+    let bytes = register_byte r ∷ (little_bytes 4 v ++ rest) in
+    let long : 5 ≤ length bytes = omega arith in
+    rw (le-ltb (length bytes) 5 long, little_number-reads_back 4 v rest h) (elim r as (λ q. set_at (register_byte q) v ≡ Ok (Mov q v, 6)) [ Sar ↦ refl | Ccr ↦ refl | Dar ↦ refl ])
+
+-- what is spelled is read, whatever follows
+pub decoded-spelling : (i : Insn) (rest : List ℕ) → HasRanges i → decoded (spelling i ++ rest) ≡ Ok (i, length (spelling i))
+decoded-spelling End rest h = refl
+decoded-spelling Ld rest h = refl
+decoded-spelling St rest h = refl
+decoded-spelling Rmb rest h = refl
+decoded-spelling Wmb rest h = refl
+decoded-spelling Nop rest h = refl
+decoded-spelling (Lp Lc0 n) rest h = let e : n - 1 + 1 ≡ n = omega (arith, h.0) in ap (λ (m : ℕ). Ok (Lp Lc0 m, 2)) e
+decoded-spelling (Lp Lc1 n) rest h = let e : n - 1 + 1 ≡ n = omega (arith, h.0) in ap (λ (m : ℕ). Ok (Lp Lc1 m, 2)) e
+decoded-spelling (LpEnd Lc0 b) rest h = refl
+decoded-spelling (LpEnd Lc1 b) rest h = refl
+decoded-spelling (Sev e) rest h = signal_again e
+decoded-spelling (Wfe e v) rest h = wait_again e v
+decoded-spelling (Mov r v) rest h = set_again r v rest h
+
+pub decoded_at : (bytes : List ℕ) (i : Insn) (n : ℕ) → IsSpelledAt bytes i n → decoded bytes ≡ Ok (i, n)
+decoded_at bytes i n h =
+    let split : bytes ≡ spelling i ++ drop n bytes = sym (take-append-drop n bytes) ∙ ap (λ (front : List ℕ). front ++ drop n bytes) h.bytes_are in
+    ap decoded split ∙ decoded-spelling i (drop n bytes) h.in_range ∙ ap (λ (m : ℕ). Ok (i, m)) (sym h.count_is)
+
+same_ok : (r : Decoded) (x y : Insn × ℕ) → r ≡ Ok x → r ≡ Ok y → x ≡ y
+same_ok r x y left right = cc
+
+pub one_front : NoSpellingBeginsAnother
+one_front i j xs ys hi hj e =
+    let left = decoded-spelling i xs hi in
+    let right = decoded-spelling j ys hj in
+    let both = same_ok (decoded (spelling i ++ xs)) (i, length (spelling i)) (j, length (spelling j)) left (ap decoded e ∙ right) in
+    let same : i ≡ j = ap (λ (p : Insn × ℕ). p.0) both in
+    (same, append_cancel_left (spelling i) xs ys (e ∙ ap (λ (k : Insn). spelling k ++ ys) (sym same)))
+
+-- what is read at the front of these bytes is spelled there, and a fault is the first
+abbrev pub Right : List ℕ → Decoded → Type 0
+Right bytes read = MatchResult read (λ found. IsSpelledAt bytes found.0 found.1) (λ fault. IsRefusedFor bytes fault)
+
+by_test : (bytes : List ℕ) (t : Bool) (x y : Decoded) → (t ≡ true → Right bytes x) → (t ≡ false → Right bytes y) → Right bytes (cond t x y)
+by_test bytes true x y f g = f refl
+by_test bytes false x y f g = g refl
+
+-- by whether the first byte is this
+first_is : (b : ℕ) (rest : List ℕ) (c : ℕ) (x y : Decoded) → Right (c ∷ rest) x → (eqb b c ≡ false → Right (b ∷ rest) y) → Right (b ∷ rest) (cond (eqb b c) x y)
+first_is b rest c x y f g =
+    by_test (b ∷ rest) (eqb b c) x y (λ t. subst (λ (k : ℕ). Right (k ∷ rest) x) (sym (eqb-true b c t)) f) g
+
+one : (i : Insn) (rest : List ℕ) (b : ℕ) → HasRanges i → spelling i ≡ b ∷ [] → IsSpelledAt (b ∷ rest) i 1
+one i rest b h e = record { in_range = h; count_is = sym (ap length e); bytes_are = sym e }
+
+two : (i : Insn) (rest : List ℕ) (a b : ℕ) → HasRanges i → spelling i ≡ a ∷ b ∷ [] → IsSpelledAt (a ∷ b ∷ rest) i 2
+two i rest a b h e = record { in_range = h; count_is = sym (ap length e); bytes_are = sym e }
+
+-- an instruction of two bytes lacks its second
+cut_one : (i : Insn) (a b : ℕ) → HasRanges i → spelling i ≡ a ∷ b ∷ [] → IsRefusedFor (a ∷ []) Cut
+cut_one i a b h e =
+    let long : length (spelling i) ≡ 2 = ap length e in
+    (i, record { in_range = h; tail = b ∷ []; bytes_are = e }, omega arith)
+
+-- an instruction of two bytes has its second
+bad_two : (i : Insn) (a b c : ℕ) (rest : List ℕ) → HasRanges i → spelling i ≡ a ∷ b ∷ [] → IsRefusedFor (a ∷ c ∷ rest) BadField
+bad_two i a b c rest h e =
+    let long : length (spelling i) ≡ 2 = ap length e in
+    (i, record { in_range = h; tail = b ∷ []; bytes_are = e }, omega arith)
+
+loop_right : (c : Counter) (rest : List ℕ) → IsBytes rest → Right (loop_byte c ∷ rest) (by_second rest (λ n. Ok (Lp c (n + 1), 2)))
+loop_right c [] h = cut_one (Lp c 1) (loop_byte c) 0 (omega arith, omega arith) refl
+loop_right c (b ∷ rest) h =
+    let e : b + 1 - 1 ≡ b = omega arith in
+    two (Lp c (b + 1)) rest (loop_byte c) b (omega arith, omega (arith, h 0)) (ap (λ (m : ℕ). loop_byte c ∷ m ∷ []) e)
+
+loop_end_right : (c : Counter) (rest : List ℕ) → IsBytes rest → Right (loop_end_byte c ∷ rest) (by_second rest (λ n. Ok (LpEnd c n, 2)))
+loop_end_right c [] h = cut_one (LpEnd c 0) (loop_end_byte c) 0 (omega arith) refl
+loop_end_right c (b ∷ rest) h = two (LpEnd c b) rest (loop_end_byte c) b (h 0) refl
+
+signal_right : (rest : List ℕ) → IsBytes rest → Right (0x34 ∷ rest) (by_second rest signal_at)
+signal_right [] h = cut_one (Sev 0) 0x34 0 (omega arith) refl
+signal_right (b ∷ rest) h =
+    by_test (0x34 ∷ b ∷ rest) (eqb (b % 8) 0) _ _ (λ t. let e : b % 8 ≡ 0 = eqb-true (b % 8) 0 t in let l : b < 256 = h 0 in
+    two (Sev (b / 8)) rest 0x34 b (omega arith) (let s : b / 8 * 8 ≡ b = omega arith in ap (λ (m : ℕ). 0x34 ∷ m ∷ []) s)) (λ t. bad_two (Sev 0) 0x34 0 b rest (omega arith) refl)
+
+wait_right : (rest : List ℕ) → IsBytes rest → Right (0x36 ∷ rest) (by_second rest wait_at)
+wait_right [] h = cut_one (Wfe 0 false) 0x36 0 (omega arith) refl
+wait_right (b ∷ rest) h =
+    by_test (0x36 ∷ b ∷ rest) (eqb (b % 8) 0) _ _ (λ t. let e : b % 8 ≡ 0 = eqb-true (b % 8) 0 t in let l : b < 256 = h 0 in
+    two (Wfe (b / 8) false) rest 0x36 b (omega arith) (let s : b / 8 * 8 + 0 ≡ b = omega arith in ap (λ (m : ℕ). 0x36 ∷ m ∷ []) s)) (λ t.
+    by_test (0x36 ∷ b ∷ rest) (eqb (b % 8) 2) _ _ (λ t. let e : b % 8 ≡ 2 = eqb-true (b % 8) 2 t in let l : b < 256 = h 0 in
+    two (Wfe (b / 8) true) rest 0x36 b (omega arith) (let s : b / 8 * 8 + 2 ≡ b = omega arith in ap (λ (m : ℕ). 0x36 ∷ m ∷ []) s)) (λ t. bad_two (Wfe 0 false) 0x36 0 b rest (omega arith) refl))
+
+-- The bytes of the number that four bytes read as, the lowest first, are those bytes again.
+pub little_bytes-little_number : (bytes : List ℕ) → IsBytes bytes → 4 ≤ length bytes → little_bytes 4 (little_number 4 bytes) ≡ take 4 bytes
+little_bytes-little_number [] h n = absurd (omega arith)
+little_bytes-little_number (b ∷ []) h n = absurd (omega arith)
+little_bytes-little_number (b ∷ c ∷ []) h n = absurd (omega arith)
+little_bytes-little_number (b ∷ c ∷ d ∷ []) h n = absurd (omega arith)
+little_bytes-little_number (b ∷ c ∷ d ∷ e ∷ rest) h n =
+    let v = little_number 4 (b ∷ c ∷ d ∷ e ∷ rest) in
+    let bounds : (b < 256) × (c < 256) × (d < 256) × (e < 256) = (h 0, h 1, h 2, h 3) in
+    let e0 : b ≡ v % 256 = omega (arith, bounds) in
+    let e1 : c ≡ v / 256 % 256 = omega (arith, bounds) in
+    let e2 : d ≡ v / 65536 % 256 = omega (arith, bounds) in
+    let e3 : e ≡ v / 16777216 % 256 = omega (arith, bounds) in
+    cc (e0, e1, e2, e3)
+
+-- DMAMOV's spelling of a register, with any value
+set_begins : (r : Reg) → BeginsWith (Mov r 0) 0xbc
+set_begins r = record { in_range = omega arith; tail = register_byte r ∷ little_bytes 4 0; bytes_are = refl }
+
+set_cut : (rest : List ℕ) → length rest < 5 → IsRefusedFor (0xbc ∷ rest) Cut
+set_cut rest h = (Mov Sar 0, set_begins Sar, omega arith)
+
+set_bad : (rest : List ℕ) → 5 ≤ length rest → IsRefusedFor (0xbc ∷ rest) BadField
+set_bad rest h = (Mov Sar 0, set_begins Sar, omega arith)
+
+set_whole : (r : Reg) (rest : List ℕ) → IsBytes rest → 4 ≤ length rest → IsSpelledAt (0xbc ∷ register_byte r ∷ rest) (Mov r (little_number 4 rest)) 6
+set_whole r rest h n = record {
+  in_range = omega (arith, h 0, h 1, h 2, h 3);
+  count_is = refl;
+  bytes_are = ap (λ (xs : List ℕ). 0xbc ∷ register_byte r ∷ xs) (sym (little_bytes-little_number rest h n));
+}
+
+set_field : (a : ℕ) (rest : List ℕ) → IsBytes rest → ltb (length (a ∷ rest)) 5 ≡ false → Right (0xbc ∷ a ∷ rest) (set_at a (little_number 4 rest))
+set_field a rest h n =
+    let bytes = 0xbc ∷ a ∷ rest in
+    let long : 5 ≤ length (a ∷ rest) = ltb-false _ 5 n in
+    let four : 4 ≤ length rest = omega arith in
+    by_test bytes (eqb a 0) _ _ (λ t. subst (λ (k : ℕ). IsSpelledAt (0xbc ∷ k ∷ rest) (Mov Sar (little_number 4 rest)) 6) (sym (eqb-true a 0 t)) (set_whole Sar rest h four)) (λ n0.
+    by_test bytes (eqb a 1) _ _ (λ t. subst (λ (k : ℕ). IsSpelledAt (0xbc ∷ k ∷ rest) (Mov Ccr (little_number 4 rest)) 6) (sym (eqb-true a 1 t)) (set_whole Ccr rest h four)) (λ n1.
+    by_test bytes (eqb a 2) _ _ (λ t. subst (λ (k : ℕ). IsSpelledAt (0xbc ∷ k ∷ rest) (Mov Dar (little_number 4 rest)) 6) (sym (eqb-true a 2 t)) (set_whole Dar rest h four)) (λ n2.
+    set_bad (a ∷ rest) long)))
+
+set_right : (rest : List ℕ) → IsBytes rest → Right (0xbc ∷ rest) (set_by rest)
+set_right [] h = set_cut [] (omega arith)
+set_right (a ∷ rest) h =
+    by_test (0xbc ∷ a ∷ rest) (ltb (length (a ∷ rest)) 5) _ _ (λ t. set_cut (a ∷ rest) (ltb-true _ 5 t)) (λ t. set_field a rest (λ i. h (suc i)) t)
+
+-- a byte that differs from the first of a spelling
+other_first : (b c : ℕ) (xs tail : List ℕ) → eqb b c ≡ false → c ∷ xs ≡ b ∷ tail → ⊥
+other_first b c xs tail differs e =
+    let same : c ≡ b = cc in
+    let alike : eqb b b ≡ false = subst (λ (k : ℕ). eqb b k ≡ false) same differs in
+    let bad : true ≡ false = sym (eq-eqb b b refl) ∙ alike in
+    false≢true (sym bad)
+
+-- the bytes that begin no instruction
+pub record BeginsNone (b : ℕ) : Type 0 where
+  pub n0 : eqb b 0x00 ≡ false
+  pub n1 : eqb b 0x04 ≡ false
+  pub n2 : eqb b 0x08 ≡ false
+  pub n3 : eqb b 0x12 ≡ false
+  pub n4 : eqb b 0x13 ≡ false
+  pub n5 : eqb b 0x18 ≡ false
+  pub n6 : eqb b 0x20 ≡ false
+  pub n7 : eqb b 0x22 ≡ false
+  pub n8 : eqb b 0x38 ≡ false
+  pub n9 : eqb b 0x3c ≡ false
+  pub n10 : eqb b 0x34 ≡ false
+  pub n11 : eqb b 0x36 ≡ false
+  pub n12 : eqb b 0xbc ≡ false
+
+none_begins : (b : ℕ) → BeginsNone b → (i : Insn) (tail : List ℕ) → spelling i ≡ b ∷ tail → ⊥
+none_begins b n End tail e = other_first b 0x00 _ tail n.n0 e
+none_begins b n Ld tail e = other_first b 0x04 _ tail n.n1 e
+none_begins b n St tail e = other_first b 0x08 _ tail n.n2 e
+none_begins b n Rmb tail e = other_first b 0x12 _ tail n.n3 e
+none_begins b n Wmb tail e = other_first b 0x13 _ tail n.n4 e
+none_begins b n Nop tail e = other_first b 0x18 _ tail n.n5 e
+none_begins b n (Lp Lc0 m) tail e = other_first b 0x20 _ tail n.n6 e
+none_begins b n (Lp Lc1 m) tail e = other_first b 0x22 _ tail n.n7 e
+none_begins b n (LpEnd Lc0 m) tail e = other_first b 0x38 _ tail n.n8 e
+none_begins b n (LpEnd Lc1 m) tail e = other_first b 0x3c _ tail n.n9 e
+none_begins b n (Sev m) tail e = other_first b 0x34 _ tail n.n10 e
+none_begins b n (Wfe m v) tail e = other_first b 0x36 _ tail n.n11 e
+none_begins b n (Mov r v) tail e = other_first b 0xbc _ tail n.n12 e
+
+-- each first byte, in the order of the table
+pub decoded_right : (bytes : List ℕ) → IsBytes bytes → Right bytes (decoded bytes)
+decoded_right [] h = tt
+decoded_right (b ∷ rest) h =
+    let g : IsBytes rest = λ i. h (suc i) in
+    first_is b rest 0x00 _ _ (one End rest 0x00 tt refl) (λ n0.
+    first_is b rest 0x04 _ _ (one Ld rest 0x04 tt refl) (λ n1.
+    first_is b rest 0x08 _ _ (one St rest 0x08 tt refl) (λ n2.
+    first_is b rest 0x12 _ _ (one Rmb rest 0x12 tt refl) (λ n3.
+    first_is b rest 0x13 _ _ (one Wmb rest 0x13 tt refl) (λ n4.
+    first_is b rest 0x18 _ _ (one Nop rest 0x18 tt refl) (λ n5.
+    first_is b rest 0x20 _ _ (loop_right Lc0 rest g) (λ n6.
+    first_is b rest 0x22 _ _ (loop_right Lc1 rest g) (λ n7.
+    first_is b rest 0x38 _ _ (loop_end_right Lc0 rest g) (λ n8.
+    first_is b rest 0x3c _ _ (loop_end_right Lc1 rest g) (λ n9.
+    first_is b rest 0x34 _ _ (signal_right rest g) (λ n10.
+    first_is b rest 0x36 _ _ (wait_right rest g) (λ n11.
+    first_is b rest 0xbc _ _ (set_right rest g) (λ n12.
+    (refl, λ i begins. none_begins b (record { n0 = n0; n1 = n1; n2 = n2; n3 = n3; n4 = n4; n5 = n5; n6 = n6; n7 = n7; n8 = n8; n9 = n9; n10 = n10; n11 = n11; n12 = n12 }) i begins.tail begins.bytes_are))))))))))))))
+
+pub right_ok : (bytes : List ℕ) (r : Decoded) → Right bytes r → IfOk r (λ found. IsSpelledAt bytes found.0 found.1)
+right_ok bytes (Ok x) h = h
+right_ok bytes (Err e) h = tt
+
+pub right_err : (bytes : List ℕ) (r : Decoded) → Right bytes r → IfErr r (λ fault. IsRefusedFor bytes fault)
+right_err bytes (Ok x) h = tt
+right_err bytes (Err e) h = h
+
+err_not_ok : (r : Decoded) (fault : DecodeFault) (x : Insn × ℕ) → Err fault ≡ r → r ≡ Ok x → ⊥
+err_not_ok r fault x left right = cc
+
+-- where nothing is read, nothing is spelled
+pub none_spelled : (bytes : List ℕ) (r : Decoded) → r ≡ decoded bytes → IfErr r (λ _. (i : Insn) (n : ℕ) → IsSpelledAt bytes i n → ⊥)
+none_spelled bytes (Ok x) e = tt
+none_spelled bytes (Err fault) e = λ i n h. err_not_ok (decoded bytes) fault (i, n) e (decoded_at bytes i n h)
+
+pub spelling_some : (i : Insn) → 0 < length (spelling i)
+spelling_some End = omega arith
+spelling_some Ld = omega arith
+spelling_some St = omega arith
+spelling_some Rmb = omega arith
+spelling_some Wmb = omega arith
+spelling_some Nop = omega arith
+spelling_some (Lp c n) = omega arith
+spelling_some (LpEnd c b) = omega arith
+spelling_some (Sev e) = omega arith
+spelling_some (Wfe e v) = omega arith
+spelling_some (Mov r v) = omega arith
+
+-- What is spelled at the front is some bytes, and not more than there are.
+pub spelled_within : (bytes : List ℕ) (i : Insn) (n : ℕ) → IsSpelledAt bytes i n → (0 < n) × (n ≤ length bytes)
+spelled_within bytes i n h =
+    let some = spelling_some i in
+    let count = h.count_is in
+    let same : length (take n bytes) ≡ length (spelling i) = ap length h.bytes_are in
+    let taken = length-take n bytes in
+    (omega arith, omega arith)
+
+pub within_ok : (bytes : List ℕ) (r : Decoded) → IfOk r (λ found. IsSpelledAt bytes found.0 found.1) → IfOk r (λ found. (0 < found.1) × (found.1 ≤ length bytes))
+within_ok bytes (Ok x) h = spelled_within bytes x.0 x.1 h
+within_ok bytes (Err fault) h = tt

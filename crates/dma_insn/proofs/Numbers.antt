@@ -1,0 +1,212 @@
+-- The numbers that words write.
+use Rattle.std.proofs.Common.{◌≡◌, ℕ, ◌+◌, ◌-◌, ◌*◌, ◌/◌, ◌%◌, ◌^◌, ◌<◌, ◌≤◌, Bool, true, false, ◌&&◌, List, [], ◌∷◌, length, get_or, refl, sym, ap, ◌∙◌, Option, Some, None, cond, eqb, leb, arith, inl, inr}
+use Rattle.std.proofs.lemmas.Bool.{eqb-true, eqb-false, ne_eqb, leb-true, le-leb, lt-leb, le-ltb, lt-ltb, false≢true, cases_lt}
+use Rattle.std.specs.Option.{option_and_then}
+use Rattle.std.specs.Str.{all_ascii_digits}
+use Rattle.std.specs.Char.{is_ascii_digit, digit_value}
+use Rattle.std.specs.Str.Parse.{digits_value, digits_value_after}
+use Rattle.std.specs.Fmt.{digit_glyph}
+use Rattle.dma_insn.specs.AssemblyText.{IsDecimal, value_word}
+use Rattle.dma_insn.specs.LineReading.{capped, digits_from, number_of, hex_digit_of, hex_from, value_of}
+
+none_some : (k : ℕ) → None ≡ Some k → ⊥
+none_some k e = cc
+
+-- both of two tests
+both : (x y : Bool) → (x && y) ≡ true → (x ≡ true) × (y ≡ true)
+both true y e = (refl, e)
+both false y e = absurd (false≢true e)
+
+-- a digit's value
+digit_value_is : (c : ℕ) → is_ascii_digit c ≡ true → digit_value c ≡ c - 48
+digit_value_is c h =
+    let t = both (leb 48 c) (leb c 57) h in
+    let low : 48 ≤ c = leb-true 48 c t.0 in
+    let high : c ≤ 57 = leb-true c 57 t.1 in
+    rw (le-ltb c 48 (omega arith), lt-ltb c 58 (omega arith)) refl
+
+-- decimal digits are read, capped
+digits_read : (v : ℕ) (cs : List ℕ) → all_ascii_digits cs ≡ true → digits_from (capped v) cs ≡ Some (capped (digits_value_after 10 v cs))
+digits_read v [] h = refl
+digits_read v (c ∷ cs) h =
+    let t = both (is_ascii_digit c) (all_ascii_digits cs) h in
+    let value = digit_value_is c t.0 in
+    let same : capped (capped v * 10 + (c - 48)) ≡ capped (v * 10 + digit_value c) = rw value (omega arith) in
+    rw (t.0, same) (digits_read (v * 10 + digit_value c) cs t.1)
+
+-- what is read is digits
+digits_only_by : (b : Bool) (v k c : ℕ) (cs : List ℕ) → ((w : ℕ) → digits_from w cs ≡ Some k → all_ascii_digits cs ≡ true) → option_and_then (λ d. digits_from (capped (v * 10 + d)) cs) (cond b (Some (c - 48)) None) ≡ Some k → (b && all_ascii_digits cs) ≡ true
+digits_only_by true v k c cs rest e = rest (capped (v * 10 + (c - 48))) e
+digits_only_by false v k c cs rest e = absurd (none_some k e)
+
+digits_only : (v k : ℕ) (cs : List ℕ) → digits_from v cs ≡ Some k → all_ascii_digits cs ≡ true
+digits_only v k [] e = refl
+digits_only v k (c ∷ cs) e = digits_only_by (is_ascii_digit c) v k c cs (λ w h. digits_only w k cs h) e
+
+some_same : (k l : ℕ) → Some k ≡ Some l → k ≡ l
+some_same k l e = cc
+
+-- A word that is read is a number, capped.
+pub record ReadsNumber (word : List ℕ) (k : ℕ) : Type 0 where
+  pub number : ℕ
+  pub is_decimal : IsDecimal word number
+  pub value : k ≡ capped number
+
+reads : (word : List ℕ) (k : ℕ) → 0 < length word → (get_or word 0 0 ≡ 48 → length word ≡ 1) → digits_from 0 word ≡ Some k → ReadsNumber word k
+reads word k some no_zeros e =
+    let digits = digits_only 0 k word e in
+    record {
+      number = digits_value 10 word;
+      is_decimal = record { some = some; digits = digits; no_zeros = no_zeros; value_is = refl };
+      value = some_same k (capped (digits_value 10 word)) (sym e ∙ digits_read 0 word digits);
+    }
+
+reads_long : (c d : ℕ) (rest : List ℕ) (k : ℕ) (b : Bool) → eqb c 48 ≡ b → cond b None (digits_from 0 (c ∷ d ∷ rest)) ≡ Some k → ReadsNumber (c ∷ d ∷ rest) k
+reads_long c d rest k true is e = absurd (none_some k e)
+reads_long c d rest k false is e = reads (c ∷ d ∷ rest) k (omega arith) (λ z. absurd (eqb-false c 48 is z)) e
+
+pub number_of_reads : (word : List ℕ) (k : ℕ) → number_of word ≡ Some k → ReadsNumber word k
+number_of_reads [] k e = absurd (none_some k e)
+number_of_reads (c ∷ []) k e = reads (c ∷ []) k (omega arith) (λ z. refl) e
+number_of_reads (c ∷ d ∷ rest) k e = reads_long c d rest k (eqb c 48) refl e
+
+-- A number is read, capped.
+pub number_of_decimal : (word : List ℕ) (n : ℕ) → IsDecimal word n → number_of word ≡ Some (capped n)
+number_of_decimal [] n h = absurd (let some : 0 < length {A = ℕ} [] = h.some in omega arith)
+number_of_decimal (c ∷ []) n h = rw h.value_is (digits_read 0 (c ∷ []) h.digits)
+number_of_decimal (c ∷ d ∷ rest) n h =
+    let long : eqb c 48 ≡ false = ne_eqb c 48 (λ z. let one : length (c ∷ d ∷ rest) ≡ 1 = h.no_zeros z in omega arith) in
+    rw (h.value_is, long) (digits_read 0 (c ∷ d ∷ rest) h.digits)
+
+-- A hexadecimal digit.
+hex_low : (d : ℕ) → d < 10 → hex_digit_of (digit_glyph true d) ≡ Some d
+hex_low d low =
+    let same : 48 + d - 48 ≡ d = omega arith in
+    rw (lt-ltb d 10 low, le-leb 48 (48 + d) (omega arith), le-leb (48 + d) 57 (omega arith), same) refl
+
+hex_high : (d : ℕ) → 10 ≤ d → d < 16 → hex_digit_of (digit_glyph true d) ≡ Some d
+hex_high d high small =
+    let same : 55 + d - 55 ≡ d = omega arith in
+    rw (le-ltb d 10 high, le-leb 48 (55 + d) (omega arith), lt-leb (55 + d) 57 (omega arith), le-leb 65 (55 + d) (omega arith), le-leb (55 + d) 70 (omega arith), same) refl
+
+hex_digit_glyph : (d : ℕ) → d < 16 → hex_digit_of (digit_glyph true d) ≡ Some d
+hex_digit_glyph d small =
+    elim (cases_lt d 10) [
+      | inl low ↦ hex_low d low
+      | inr high ↦ hex_high d high small
+    ]
+
+-- A character that is a hexadecimal digit is the glyph of its value.
+pub record IsHexDigit (c d : ℕ) : Type 0 where
+  pub small : d < 16
+  pub glyph : c ≡ digit_glyph true d
+
+hex_by : (c d : ℕ) (s t u w : Bool) → leb 48 c ≡ s → leb c 57 ≡ t → leb 65 c ≡ u → leb c 70 ≡ w → cond (s && t) (Some (c - 48)) (cond (u && w) (Some (c - 55)) None) ≡ Some d → IsHexDigit c d
+hex_by c d true true u w a b x y e =
+    let value : c - 48 ≡ d = some_same (c - 48) d e in
+    let low : 48 ≤ c = leb-true 48 c a in
+    let high : c ≤ 57 = leb-true c 57 b in
+    let small : d < 10 = omega arith in
+    record { small = omega arith; glyph = rw (lt-ltb d 10 small) (omega arith) }
+hex_by c d true false true true a b x y e =
+    let value : c - 55 ≡ d = some_same (c - 55) d e in
+    let low : 65 ≤ c = leb-true 65 c x in
+    let high : c ≤ 70 = leb-true c 70 y in
+    let big : 10 ≤ d = omega arith in
+    record { small = omega arith; glyph = rw (le-ltb d 10 big) (omega arith) }
+hex_by c d true false true false a b x y e = absurd (none_some d e)
+hex_by c d true false false w a b x y e = absurd (none_some d e)
+hex_by c d false t true true a b x y e =
+    let value : c - 55 ≡ d = some_same (c - 55) d e in
+    let low : 65 ≤ c = leb-true 65 c x in
+    let high : c ≤ 70 = leb-true c 70 y in
+    let big : 10 ≤ d = omega arith in
+    record { small = omega arith; glyph = rw (le-ltb d 10 big) (omega arith) }
+hex_by c d false t true false a b x y e = absurd (none_some d e)
+hex_by c d false t false w a b x y e = absurd (none_some d e)
+
+hex_digit_is : (c d : ℕ) → hex_digit_of c ≡ Some d → IsHexDigit c d
+hex_digit_is c d e = hex_by c d (leb 48 c) (leb c 57) (leb 65 c) (leb c 70) refl refl refl refl e
+
+-- one digit of several
+pub record HexStep (value c : ℕ) (rest : List ℕ) (v : ℕ) : Type 0 where
+  pub digit : ℕ
+  pub is : IsHexDigit c digit
+  pub more : hex_from (value * 16 + digit) rest ≡ Some v
+
+hex_step_by : (value c : ℕ) (rest : List ℕ) (v : ℕ) (o : Option ℕ) → hex_digit_of c ≡ o → option_and_then (λ d. hex_from (value * 16 + d) rest) o ≡ Some v → HexStep value c rest v
+hex_step_by value c rest v None is e = absurd (none_some v e)
+hex_step_by value c rest v (Some d) is e = record { digit = d; is = hex_digit_is c d is; more = e }
+
+hex_step : (value c : ℕ) (rest : List ℕ) (v : ℕ) → hex_from value (c ∷ rest) ≡ Some v → HexStep value c rest v
+hex_step value c rest v e = hex_step_by value c rest v (hex_digit_of c) refl e
+
+-- A word of a value.
+pub record IsValueWord (word : List ℕ) (v : ℕ) : Type 0 where
+  pub word_is : word ≡ value_word v
+  pub small : v < 2 ^ 32
+
+value_word_from : (p q r s t u w x v a b c d e f g h : ℕ)
+    → IsHexDigit a p → IsHexDigit b q → IsHexDigit c r → IsHexDigit d s → IsHexDigit e t → IsHexDigit f u → IsHexDigit g w → IsHexDigit h x
+    → (((((((0 * 16 + p) * 16 + q) * 16 + r) * 16 + s) * 16 + t) * 16 + u) * 16 + w) * 16 + x ≡ v → IsValueWord (48 ∷ 120 ∷ a ∷ b ∷ c ∷ d ∷ e ∷ f ∷ g ∷ h ∷ []) v
+value_word_from p q r s t u w x v a b c d e f g h i0 i1 i2 i3 i4 i5 i6 i7 value =
+    let b0 : p < 16 = i0.small in let b1 : q < 16 = i1.small in let b2 : r < 16 = i2.small in let b3 : s < 16 = i3.small in
+    let b4 : t < 16 = i4.small in let b5 : u < 16 = i5.small in let b6 : w < 16 = i6.small in let b7 : x < 16 = i7.small in
+    let e0 : v / 0x10000000 % 16 ≡ p = omega arith in
+    let e1 : v / 0x1000000 % 16 ≡ q = omega arith in
+    let e2 : v / 0x100000 % 16 ≡ r = omega arith in
+    let e3 : v / 0x10000 % 16 ≡ s = omega arith in
+    let e4 : v / 0x1000 % 16 ≡ t = omega arith in
+    let e5 : v / 0x100 % 16 ≡ u = omega arith in
+    let e6 : v / 0x10 % 16 ≡ w = omega arith in
+    let e7 : v / 0x1 % 16 ≡ x = omega arith in
+    record {
+      word_is = rw (i0.glyph, i1.glyph, i2.glyph, i3.glyph, i4.glyph, i5.glyph, i6.glyph, i7.glyph, e0, e1, e2, e3, e4, e5, e6, e7) refl;
+      small = omega arith;
+    }
+
+eight_digits : (a b c d e f g h v : ℕ) → hex_from 0 (a ∷ b ∷ c ∷ d ∷ e ∷ f ∷ g ∷ h ∷ []) ≡ Some v → IsValueWord (48 ∷ 120 ∷ a ∷ b ∷ c ∷ d ∷ e ∷ f ∷ g ∷ h ∷ []) v
+eight_digits a b c d e f g h v read =
+    let s0 = hex_step 0 a (b ∷ c ∷ d ∷ e ∷ f ∷ g ∷ h ∷ []) v read in
+    let s1 = hex_step (0 * 16 + s0.digit) b (c ∷ d ∷ e ∷ f ∷ g ∷ h ∷ []) v s0.more in
+    let s2 = hex_step ((0 * 16 + s0.digit) * 16 + s1.digit) c (d ∷ e ∷ f ∷ g ∷ h ∷ []) v s1.more in
+    let s3 = hex_step (((0 * 16 + s0.digit) * 16 + s1.digit) * 16 + s2.digit) d (e ∷ f ∷ g ∷ h ∷ []) v s2.more in
+    let s4 = hex_step ((((0 * 16 + s0.digit) * 16 + s1.digit) * 16 + s2.digit) * 16 + s3.digit) e (f ∷ g ∷ h ∷ []) v s3.more in
+    let s5 = hex_step (((((0 * 16 + s0.digit) * 16 + s1.digit) * 16 + s2.digit) * 16 + s3.digit) * 16 + s4.digit) f (g ∷ h ∷ []) v s4.more in
+    let s6 = hex_step ((((((0 * 16 + s0.digit) * 16 + s1.digit) * 16 + s2.digit) * 16 + s3.digit) * 16 + s4.digit) * 16 + s5.digit) g (h ∷ []) v s5.more in
+    let s7 = hex_step (((((((0 * 16 + s0.digit) * 16 + s1.digit) * 16 + s2.digit) * 16 + s3.digit) * 16 + s4.digit) * 16 + s5.digit) * 16 + s6.digit) h [] v s6.more in
+    value_word_from s0.digit s1.digit s2.digit s3.digit s4.digit s5.digit s6.digit s7.digit v a b c d e f g h s0.is s1.is s2.is s3.is s4.is s5.is s6.is s7.is
+    (some_same ((((((((0 * 16 + s0.digit) * 16 + s1.digit) * 16 + s2.digit) * 16 + s3.digit) * 16 + s4.digit) * 16 + s5.digit) * 16 + s6.digit) * 16 + s7.digit) v s7.more)
+
+-- the same of eight digits
+eight_of : (digits : List ℕ) (v : ℕ) → length digits ≡ 8 → hex_from 0 digits ≡ Some v → IsValueWord (48 ∷ 120 ∷ digits) v
+eight_of [] v n e = absurd (omega arith)
+eight_of (a ∷ []) v n e = absurd (omega arith)
+eight_of (a ∷ b ∷ []) v n e = absurd (omega arith)
+eight_of (a ∷ b ∷ c ∷ []) v n e = absurd (omega arith)
+eight_of (a ∷ b ∷ c ∷ d ∷ []) v n e = absurd (omega arith)
+eight_of (a ∷ b ∷ c ∷ d ∷ g ∷ []) v n e = absurd (omega arith)
+eight_of (a ∷ b ∷ c ∷ d ∷ g ∷ h ∷ []) v n e = absurd (omega arith)
+eight_of (a ∷ b ∷ c ∷ d ∷ g ∷ h ∷ i ∷ []) v n e = absurd (omega arith)
+eight_of (a ∷ b ∷ c ∷ d ∷ g ∷ h ∷ i ∷ j ∷ []) v n e = eight_digits a b c d g h i j v e
+eight_of (a ∷ b ∷ c ∷ d ∷ g ∷ h ∷ i ∷ j ∷ k ∷ rest) v n e = absurd (omega arith)
+
+-- A word that is read as a value is the value's.
+value_of_by : (x y z : Bool) (a b : ℕ) (digits : List ℕ) (v : ℕ) → eqb a 48 ≡ x → eqb b 120 ≡ y → eqb (length digits) 8 ≡ z → cond (x && (y && z)) (hex_from 0 digits) None ≡ Some v → IsValueWord (a ∷ b ∷ digits) v
+value_of_by true true true a b digits v x y z e =
+    rw (eqb-true a 48 x, eqb-true b 120 y) (eight_of digits v (eqb-true (length digits) 8 z) e)
+value_of_by true true false a b digits v x y z e = absurd (none_some v e)
+value_of_by true false z a b digits v x y zz e = absurd (none_some v e)
+value_of_by false y z a b digits v x yy zz e = absurd (none_some v e)
+
+pub value_of_reads : (word : List ℕ) (v : ℕ) → value_of word ≡ Some v → IsValueWord word v
+value_of_reads [] v e = absurd (none_some v e)
+value_of_reads (a ∷ []) v e = absurd (none_some v e)
+value_of_reads (a ∷ b ∷ digits) v e = value_of_by (eqb a 48) (eqb b 120) (eqb (length digits) 8) a b digits v refl refl refl e
+
+-- The word of a value is read as it.
+pub value_of_word : (v : ℕ) → v < 2 ^ 32 → value_of (value_word v) ≡ Some v
+value_of_word v small =
+    let whole : (((((((0 * 16 + v / 0x10000000 % 16) * 16 + v / 0x1000000 % 16) * 16 + v / 0x100000 % 16) * 16 + v / 0x10000 % 16) * 16 + v / 0x1000 % 16) * 16 + v / 0x100 % 16) * 16 + v / 0x10 % 16) * 16 + v / 0x1 % 16 ≡ v = omega arith in
+    rw (hex_digit_glyph (v / 0x10000000 % 16) (omega arith), hex_digit_glyph (v / 0x1000000 % 16) (omega arith), hex_digit_glyph (v / 0x100000 % 16) (omega arith), hex_digit_glyph (v / 0x10000 % 16) (omega arith), hex_digit_glyph (v / 0x1000 % 16) (omega arith), hex_digit_glyph (v / 0x100 % 16) (omega arith), hex_digit_glyph (v / 0x10 % 16) (omega arith), hex_digit_glyph (v / 0x1 % 16) (omega arith))
+    (ap Some whole)

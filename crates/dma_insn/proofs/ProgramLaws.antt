@@ -1,0 +1,273 @@
+-- What a text is read as, line after line, against what its lines write.
+use Rattle.std.proofs.Common.{◌≡◌, ℕ, ◌+◌, ◌<◌, ◌≤◌, Bool, true, false, List, [], ◌∷◌, ◌++◌, length, refl, sym, ap, ◌∙◌, subst, Option, Some, None, Result, Ok, Err, cond, leb, arith, append_assoc, append-nil, length-append, inl, inr, ◌⊎◌}
+use Rattle.std.specs.Prelude.{MatchResult, MatchBool, IfOk, IfErr, IsOk}
+use Rattle.std.specs.Option.{ok_or}
+use Rattle.std.proofs.lemmas.Bool.{leb-true, leb-false, le-leb, false≢true}
+use Rattle.dma_insn.specs.Spelling.{spelling}
+use Rattle.dma_insn.specs.declared.insn.Insn.{Insn}
+use Rattle.dma_insn.specs.declared.assembler.Cause.{Cause}
+use Rattle.dma_insn.specs.declared.assembler.Cause.TheVariants.{Mnemonic, Operand, Range}
+use Rattle.dma_insn.specs.declared.assembler.AsmFault.{AsmFault}
+use Rattle.dma_insn.specs.declared.assembler.AsmFault.TheVariants.{Line, ProgramTooLong, NoMemory}
+use Rattle.dma_insn.specs.AssemblyText.{text_lines, words_of, is_skipped, insn_of, Writes, IsCause, HasCause, WritesFirst, WriteAll, joined, most_bytes, Assembles, StandsAt, IsFirstFault}
+use Rattle.dma_insn.specs.LineReading.{◌>>=◌, at_line, with_insn, line_in, after_line, after_lines, assembled, AnswersAs}
+use Rattle.dma_insn.proofs.LineLaws.{IsTold, line_in_told, line_in_written}
+
+insn_err : (i : Insn) (cause : Cause) (r : Result Insn Cause) → r ≡ Ok i → r ≡ Err cause → ⊥
+insn_err i cause r p q = cc
+
+range_operand : (r : Result Insn Cause) → r ≡ Err Range → r ≡ Err Operand → ⊥
+range_operand r p q = cc
+
+not_operand : (o : Option Insn) → ok_or o Range ≡ Err Operand → ⊥
+not_operand None e = range_operand (Err Range) refl e
+not_operand (Some i) e = insn_err i Operand (Ok i) refl e
+
+-- What is told of a line by what its words are read as.
+cause_told : (line : List ℕ) (cause : Cause) → line_in (words_of line) ≡ Err cause → IsTold (words_of line) (Err cause) → IsCause line cause
+cause_told line Mnemonic e told = told
+cause_told line Operand e told = (told, λ s written. not_operand (insn_of s) (sym (line_in_written (words_of line) s written) ∙ e))
+cause_told line Range e told = told
+
+cause_of : (line : List ℕ) (cause : Cause) → line_in (words_of line) ≡ Err cause → IsCause line cause
+cause_of line cause e = cause_told line cause e (subst (IsTold (words_of line)) e (line_in_told (words_of line)))
+
+written_by : (line : List ℕ) (i : Insn) → is_skipped line ≡ false → line_in (words_of line) ≡ Ok i → Writes line i
+written_by line i taken e =
+    let told : IsTold (words_of line) (Ok i) = subst (IsTold (words_of line)) e (line_in_told (words_of line)) in
+    record { taken = taken; statement = told.0; words_are = told.1; insn_is = told.2 }
+
+writes_read : (line : List ℕ) (i : Insn) → Writes line i → line_in (words_of line) ≡ Ok i
+writes_read line i h = line_in_written (words_of line) h.statement h.words_are ∙ ap (λ (o : Option Insn). ok_or o Range) h.insn_is
+
+-- A line stands among lines that follow n others and a program.
+pub record Place (n : ℕ) (program : List ℕ) (lines : List (List ℕ)) (line : List ℕ) (m : ℕ) (insns : List Insn) : Type 0 where
+  pub before : List (List ℕ)
+  pub after : List (List ℕ)
+  pub lines_are : lines ≡ before ++ line ∷ after
+  pub number : m ≡ n + (length before + 1)
+  pub writes : WriteAll before insns
+  pub fits : length (program ++ joined insns) ≤ most_bytes
+
+pub record Whole (program : List ℕ) (lines : List (List ℕ)) (bytes : List ℕ) : Type 0 where
+  pub insns : List Insn
+  pub writes : WriteAll lines insns
+  pub bytes_are : bytes ≡ program ++ joined insns
+  pub fits : length bytes ≤ most_bytes
+
+pub record Fails (n : ℕ) (program : List ℕ) (lines : List (List ℕ)) (m : ℕ) (cause : Cause) : Type 0 where
+  pub line : List ℕ
+  pub insns : List Insn
+  pub place : Place n program lines line m insns
+  pub cause_is : HasCause line cause
+
+pub record Passes (n : ℕ) (program : List ℕ) (lines : List (List ℕ)) (m : ℕ) : Type 0 where
+  pub line : List ℕ
+  pub insns : List Insn
+  pub insn : Insn
+  pub place : Place n program lines line m insns
+  pub writes : Writes line insn
+  pub long : most_bytes < length (program ++ joined insns) + length (spelling insn)
+
+abbrev pub FaultOf : ℕ → List ℕ → List (List ℕ) → AsmFault → Type 0
+FaultOf n program lines (Line m cause) = Fails n program lines m cause
+FaultOf n program lines (ProgramTooLong m) = Passes n program lines m
+FaultOf n program lines NoMemory = ⊥
+
+abbrev pub Outcome : ℕ → List ℕ → List (List ℕ) → Result (List ℕ) AsmFault → Type 0
+Outcome n program lines r = MatchResult r (λ bytes. Whole program lines bytes) (λ fault. FaultOf n program lines fault)
+
+-- a skipped line in front
+write_skipped : (line : List ℕ) (lines : List (List ℕ)) (is : List Insn) → is_skipped line ≡ true → WriteAll lines is → WriteAll (line ∷ lines) is
+write_skipped line lines is e h = rw e h
+
+-- a line in front that writes an instruction
+pub write_more : (line : List ℕ) (lines : List (List ℕ)) (i : Insn) (is : List Insn) → Writes line i → WriteAll lines is → WriteAll (line ∷ lines) (i ∷ is)
+write_more line lines i is w h = rw w.taken (record { first = i; rest = is; are = refl; writes = w; more = h })
+
+place_skipped : (n m : ℕ) (program : List ℕ) (line at : List ℕ) (lines : List (List ℕ)) (insns : List Insn) → is_skipped line ≡ true → Place (n + 1) program lines at m insns → Place n program (line ∷ lines) at m insns
+place_skipped n m program line at lines insns e p = record {
+  before = line ∷ p.before;
+  after = p.after;
+  lines_are = ap (λ (l : List (List ℕ)). line ∷ l) p.lines_are;
+  number = let number = p.number in omega arith;
+  writes = write_skipped line p.before insns e p.writes;
+  fits = p.fits;
+}
+
+place_more : (n m : ℕ) (program : List ℕ) (line at : List ℕ) (lines : List (List ℕ)) (i : Insn) (insns : List Insn) → Writes line i → Place (n + 1) (program ++ spelling i) lines at m insns → Place n program (line ∷ lines) at m (i ∷ insns)
+place_more n m program line at lines i insns w p = record {
+  before = line ∷ p.before;
+  after = p.after;
+  lines_are = ap (λ (l : List (List ℕ)). line ∷ l) p.lines_are;
+  number = let number = p.number in omega arith;
+  writes = write_more line p.before i insns w p.writes;
+  fits = subst (λ (l : List ℕ). length l ≤ most_bytes) (append_assoc program (spelling i) (joined insns)) p.fits;
+}
+
+place_here : (n : ℕ) (program line : List ℕ) (lines : List (List ℕ)) → length program ≤ most_bytes → Place n program (line ∷ lines) line (n + 1) []
+place_here n program line lines small = record {
+  before = [];
+  after = lines;
+  lines_are = refl;
+  number = omega arith;
+  writes = refl;
+  fits = let same = length-append program [] in omega arith;
+}
+
+outcome_skipped : (n : ℕ) (program line : List ℕ) (lines : List (List ℕ)) (r : Result (List ℕ) AsmFault) → is_skipped line ≡ true → Outcome (n + 1) program lines r → Outcome n program (line ∷ lines) r
+outcome_skipped n program line lines (Ok bytes) e h =
+    record { insns = h.insns; writes = write_skipped line lines h.insns e h.writes; bytes_are = h.bytes_are; fits = h.fits }
+outcome_skipped n program line lines (Err (Line m cause)) e h =
+    record { line = h.line; insns = h.insns; place = place_skipped n m program line h.line lines h.insns e h.place; cause_is = h.cause_is }
+outcome_skipped n program line lines (Err (ProgramTooLong m)) e h =
+    record { line = h.line; insns = h.insns; insn = h.insn; place = place_skipped n m program line h.line lines h.insns e h.place; writes = h.writes; long = h.long }
+outcome_skipped n program line lines (Err NoMemory) e h = h
+
+outcome_more : (n : ℕ) (program line : List ℕ) (lines : List (List ℕ)) (i : Insn) (r : Result (List ℕ) AsmFault) → Writes line i → Outcome (n + 1) (program ++ spelling i) lines r → Outcome n program (line ∷ lines) r
+outcome_more n program line lines i (Ok bytes) w h =
+    record { insns = i ∷ h.insns; writes = write_more line lines i h.insns w h.writes; bytes_are = h.bytes_are ∙ append_assoc program (spelling i) (joined h.insns); fits = h.fits }
+outcome_more n program line lines i (Err (Line m cause)) w h =
+    record { line = h.line; insns = i ∷ h.insns; place = place_more n m program line h.line lines i h.insns w h.place; cause_is = h.cause_is }
+outcome_more n program line lines i (Err (ProgramTooLong m)) w h =
+    record {
+      line = h.line;
+      insns = i ∷ h.insns;
+      insn = h.insn;
+      place = place_more n m program line h.line lines i h.insns w h.place;
+      writes = h.writes;
+      long = subst (λ (l : List ℕ). most_bytes < length l + length (spelling h.insn)) (append_assoc program (spelling i) (joined h.insns)) h.long;
+    }
+outcome_more n program line lines i (Err NoMemory) w h = h
+
+-- a line that is not skipped, by what its words are read as, and whether there is room
+outcome_room : (n : ℕ) (program line : List ℕ) (lines : List (List ℕ)) (i : Insn) (b : Bool) → leb (length program + length (spelling i)) 8192 ≡ b → length program ≤ most_bytes → Writes line i
+    → ((next : List ℕ) → length next ≤ most_bytes → Outcome (n + 1) next lines (after_lines (n + 1) next lines))
+    → Outcome n program (line ∷ lines) (cond b (Ok (program ++ spelling i)) (Err (ProgramTooLong (n + 1))) >>= λ next. after_lines (n + 1) next lines)
+outcome_room n program line lines i true e small w more =
+    let room : length program + length (spelling i) ≤ 8192 = leb-true _ 8192 e in
+    let same = length-append program (spelling i) in
+    outcome_more n program line lines i _ w (more (program ++ spelling i) (omega arith))
+outcome_room n program line lines i false e small w more =
+    let none : 8192 < length program + length (spelling i) = leb-false _ 8192 e in
+    let same = length-append program [] in
+    record { line = line; insns = []; insn = i; place = place_here n program line lines small; writes = w; long = omega arith }
+
+outcome_line : (n : ℕ) (program line : List ℕ) (lines : List (List ℕ)) (r : Result Insn Cause) → line_in (words_of line) ≡ r → length program ≤ most_bytes → is_skipped line ≡ false
+    → ((next : List ℕ) → length next ≤ most_bytes → Outcome (n + 1) next lines (after_lines (n + 1) next lines))
+    → Outcome n program (line ∷ lines) ((at_line (n + 1) r >>= with_insn (n + 1) program) >>= λ next. after_lines (n + 1) next lines)
+outcome_line n program line lines (Err cause) e small taken more =
+    record { line = line; insns = []; place = place_here n program line lines small; cause_is = record { taken = taken; cause_is = cause_of line cause e } }
+outcome_line n program line lines (Ok i) e small taken more =
+    outcome_room n program line lines i (leb (length program + length (spelling i)) 8192) refl small (written_by line i taken e) more
+
+outcome_by : (n : ℕ) (program line : List ℕ) (lines : List (List ℕ)) (b : Bool) → is_skipped line ≡ b → length program ≤ most_bytes
+    → ((next : List ℕ) → length next ≤ most_bytes → Outcome (n + 1) next lines (after_lines (n + 1) next lines))
+    → Outcome n program (line ∷ lines) (cond b (Ok program) (at_line (n + 1) (line_in (words_of line)) >>= with_insn (n + 1) program) >>= λ next. after_lines (n + 1) next lines)
+outcome_by n program line lines true e small more = outcome_skipped n program line lines _ e (more program small)
+outcome_by n program line lines false e small more = outcome_line n program line lines (line_in (words_of line)) refl small e more
+
+outcome : (lines : List (List ℕ)) (n : ℕ) (program : List ℕ) → length program ≤ most_bytes → Outcome n program lines (after_lines n program lines)
+unfolding after_line
+outcome [] n program small =
+    let same = length-append program [] in
+    record { insns = []; writes = refl; bytes_are = sym (append-nil program); fits = small }
+outcome (line ∷ lines) n program small =
+    outcome_by n program line lines (is_skipped line) refl small (λ next fits. outcome lines (n + 1) next fits)
+
+-- The lines that write some instructions are read as them, if there is room.
+read_room : (n : ℕ) (program : List ℕ) (line : List ℕ) (i : Insn) → is_skipped line ≡ false → line_in (words_of line) ≡ Ok i → length program + length (spelling i) ≤ 8192 → after_line n program line ≡ Ok (program ++ spelling i)
+unfolding after_line
+read_room n program line i taken e room = rw (taken, e, le-leb _ 8192 room) refl
+
+read_skipped : (n : ℕ) (program line : List ℕ) → is_skipped line ≡ true → after_line n program line ≡ Ok program
+unfolding after_line
+read_skipped n program line e = rw e refl
+
+again_by : (b : Bool) (line : List ℕ) (lines : List (List ℕ)) (n : ℕ) (program : List ℕ) (is : List Insn) → is_skipped line ≡ b
+    → MatchBool b (WriteAll lines is) (WritesFirst line is (λ rest. WriteAll lines rest))
+    → ((next : List ℕ) (js : List Insn) → WriteAll lines js → length (next ++ joined js) ≤ most_bytes → after_lines (n + 1) next lines ≡ Ok (next ++ joined js))
+    → length (program ++ joined is) ≤ most_bytes → after_lines n program (line ∷ lines) ≡ Ok (program ++ joined is)
+again_by true line lines n program is e h more room = rw (read_skipped (n + 1) program line e) (more program is h room)
+again_by false line lines n program is e h more room =
+    let all : program ++ joined is ≡ (program ++ spelling h.first) ++ joined h.rest = ap (λ (js : List Insn). program ++ joined js) h.are ∙ sym (append_assoc program (spelling h.first) (joined h.rest)) in
+    let size : length (program ++ joined is) ≡ length ((program ++ spelling h.first) ++ joined h.rest) = ap length all in
+    let first = length-append program (spelling h.first) in
+    let rest = length-append (program ++ spelling h.first) (joined h.rest) in
+    rw (read_room (n + 1) program line h.first e (writes_read line h.first h.writes) (omega arith))
+    (more (program ++ spelling h.first) h.rest h.more (omega arith) ∙ ap Ok (sym all))
+
+again : (lines : List (List ℕ)) (n : ℕ) (program : List ℕ) (is : List Insn) → WriteAll lines is → length (program ++ joined is) ≤ most_bytes → after_lines n program lines ≡ Ok (program ++ joined is)
+again [] n program is h room = rw h (ap Ok (sym (append-nil program)))
+again (line ∷ lines) n program is h room =
+    again_by (is_skipped line) line lines n program is refl h (λ next js written fits. again lines (n + 1) next js written fits) room
+
+-- A text that assembles is read as its bytes.
+pub assembled_again : (text bytes : List ℕ) → Assembles text bytes → assembled text ≡ Ok bytes
+assembled_again text bytes h =
+    let size : length bytes ≡ length (joined h.insns) = ap length h.bytes_are in
+    let fits = h.fits in
+    again (text_lines text) 0 [] h.insns h.text_is (omega arith) ∙ ap Ok (sym h.bytes_are)
+
+-- The outcome of a whole text.
+assembled_ok : (text bytes : List ℕ) → assembled text ≡ Ok bytes → Assembles text bytes
+assembled_ok text bytes e =
+    let w : Whole [] (text_lines text) bytes = subst (Outcome 0 [] (text_lines text)) e (outcome (text_lines text) 0 [] (omega arith)) in
+    record { insns = w.insns; text_is = w.writes; bytes_are = w.bytes_are; fits = w.fits }
+
+stands : (text line : List ℕ) (m : ℕ) (insns : List Insn) → Place 0 [] (text_lines text) line m insns → StandsAt text line m insns
+stands text line m insns p = record {
+  before = p.before;
+  after = p.after;
+  lines_are = p.lines_are;
+  number = let number = p.number in omega arith;
+  writes = p.writes;
+  fits = p.fits;
+}
+
+first_fault : (text : List ℕ) (fault : AsmFault) → FaultOf 0 [] (text_lines text) fault → IsFirstFault text fault
+first_fault text (Line m cause) h = (h.line, h.insns, stands text h.line m h.insns h.place, h.cause_is)
+first_fault text (ProgramTooLong m) h = (h.line, h.insns, h.insn, stands text h.line m h.insns h.place, h.writes, h.long)
+first_fault text NoMemory h = absurd h
+
+assembled_err : (text : List ℕ) (fault : AsmFault) → assembled text ≡ Err fault → IsFirstFault text fault
+assembled_err text fault e =
+    first_fault text fault (subst (Outcome 0 [] (text_lines text)) e (outcome (text_lines text) 0 [] (omega arith)))
+
+not_ok : (fault : AsmFault) → IsOk {T = List ℕ} (Err fault) → ⊥
+not_ok fault h = false≢true h
+
+some_bytes : (text : List ℕ) (r : Result (List ℕ) AsmFault) → assembled text ≡ r → IsOk r → IsFirstFault text NoMemory
+some_bytes text (Ok bytes) e ok = (bytes, assembled_ok text bytes e)
+some_bytes text (Err fault) e ok = absurd (not_ok fault ok)
+
+-- The clauses of `assemble`, by what reading the text gives.
+pub if_program : {X : Type 0} (view : X → List ℕ) (text : List ℕ) (r : Result X AsmFault) → AnswersAs view r (assembled text) → IfOk r (λ x. Assembles text (view x))
+if_program view text (Ok x) h = assembled_ok text (view x) h
+if_program view text (Err fault) h = tt
+
+fault_by : (text : List ℕ) (fault : AsmFault) → ((assembled text ≡ Err fault) ⊎ ((fault ≡ NoMemory) × IsOk (assembled text))) → IsFirstFault text fault
+fault_by text fault (inl e) = assembled_err text fault e
+fault_by text fault (inr h) = subst (IsFirstFault text) (sym h.0) (some_bytes text (assembled text) refl h.1)
+
+pub if_fault : {X : Type 0} (view : X → List ℕ) (text : List ℕ) (r : Result X AsmFault) → AnswersAs view r (assembled text) → IfErr r (λ fault. IsFirstFault text fault)
+if_fault view text (Ok x) h = tt
+if_fault view text (Err fault) h = fault_by text fault h
+
+ok_same : (r : Result (List ℕ) AsmFault) (a b : List ℕ) → r ≡ Ok a → r ≡ Ok b → a ≡ b
+ok_same r a b p q = cc
+
+ok_err : (r : Result (List ℕ) AsmFault) (a : List ℕ) (fault : AsmFault) → r ≡ Ok a → r ≡ Err fault → ⊥
+ok_err r a fault p q = cc
+
+only_by : (text bytes : List ℕ) (fault : AsmFault) → assembled text ≡ Ok bytes → ((assembled text ≡ Err fault) ⊎ ((fault ≡ NoMemory) × IsOk (assembled text))) → fault ≡ NoMemory
+only_by text bytes fault e (inl f) = absurd (ok_err (assembled text) bytes fault e f)
+only_by text bytes fault e (inr h) = h.0
+
+pub if_only : {X : Type 0} (view : X → List ℕ) (text : List ℕ) (r : Result X AsmFault) → AnswersAs view r (assembled text) → (bytes : List ℕ) → Assembles text bytes → MatchResult r (λ x. view x ≡ bytes) (λ fault. fault ≡ NoMemory)
+if_only view text (Ok x) h bytes a = ok_same (assembled text) (view x) bytes h (assembled_again text bytes a)
+if_only view text (Err fault) h bytes a = only_by text bytes fault (assembled_again text bytes a) h
+
+-- A text assembles to one list of bytes.
+pub assembles_once : (text p q : List ℕ) → Assembles text p → Assembles text q → p ≡ q
+assembles_once text p q a b = ok_same (assembled text) p q (assembled_again text p a) (assembled_again text q b)

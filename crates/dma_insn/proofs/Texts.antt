@@ -1,0 +1,223 @@
+-- The text that instructions are written as is the text of these instructions.
+use Rattle.std.proofs.Common.{◌≡◌, ℕ, ◌+◌, ◌/◌, ◌%◌, ◌^◌, ◌<◌, ◌≤◌, Bool, true, false, List, [], ◌∷◌, ◌++◌, map, length, get_or, refl, sym, ap, ◌∙◌, subst, Some, ltb, arith, append_assoc, append-nil, inl, inr}
+use Rattle.std.specs.Prelude.{codes, decimal}
+use Rattle.std.specs.List.{list_all, concat}
+use Rattle.std.specs.Str.{all_ascii_digits}
+use Rattle.std.specs.Str.Parse.{digits_value}
+use Rattle.std.specs.Fmt.{digit_glyph}
+use Rattle.std.proofs.lemmas.Bool.{and_parts, and_from, ltb-true, lt-ltb, le-ltb, ne_eqb, le-leb, cases_lt}
+use Rattle.std.proofs.lemmas.Str.Parse.{IsNumeralModel, numerals_by_value, tells_all_ascii_digits}
+use Rattle.std.proofs.lemmas.Fmt.{decimal_by_steps, decimal_nonempty, first_decimal, decimal_digit, digits_decimal, digits_value-decimal}
+use Rattle.dma_insn.specs.declared.insn.Reg.TheVariants.{Sar, Ccr, Dar}
+use Rattle.dma_insn.specs.declared.insn.Counter.{Counter}
+use Rattle.dma_insn.specs.declared.insn.Counter.TheVariants.{Lc0, Lc1}
+use Rattle.dma_insn.specs.declared.insn.Insn.{Insn}
+use Rattle.dma_insn.specs.declared.insn.Insn.TheVariants.{Mov, Ld, St, Rmb, Wmb, Nop, End, Lp, LpEnd, Sev, Wfe}
+use Rattle.dma_insn.specs.Spelling.{HasRanges}
+use Rattle.dma_insn.specs.AssemblyText.{onto_first, text_lines, words_of, is_skipped, IsDecimal, hex_digits, value_word, Statement, dmaend, dmald, dmast, dmarmb, dmawmb, dmanop, dmalp, dmalpend, dmasev, dmawfe, dmamov, IsWritten, insn_of, Writes, WriteAll, ProgramText, most_bytes, Assembles}
+use Rattle.dma_insn.specs.Disassembly.{AllInRange, insn_text, text_of, Disassembles, DisassemblyAssembles}
+use Rattle.dma_insn.proofs.ProgramLaws.{write_more, assembles_once}
+
+-- each byte is above k
+abbrev above : ℕ → List ℕ → Bool
+above k bytes = list_all (λ b. ltb k b) bytes
+
+above-append : (k : ℕ) (xs ys : List ℕ) → above k xs ≡ true → above k ys ≡ true → above k (xs ++ ys) ≡ true
+above-append k [] ys p q = q
+above-append k (x ∷ xs) ys p q =
+    let t = and_parts (ltb k x) (above k xs) p in
+    and_from (ltb k x) (above k (xs ++ ys)) t.0 (above-append k xs ys t.1 q)
+
+-- a word without spaces is one word
+words_plain : (w : List ℕ) → above 32 w ≡ true → words_of w ≡ w ∷ []
+words_plain [] h = refl
+words_plain (b ∷ w) h =
+    let t = and_parts (ltb 32 b) (above 32 w) h in
+    let above_b : 32 < b = ltb-true 32 b t.0 in
+    rw (ne_eqb b 32 (λ z. omega arith)) (ap (onto_first b) (words_plain w t.1))
+
+words_space : (w rest : List ℕ) → above 32 w ≡ true → words_of (w ++ 32 ∷ rest) ≡ w ∷ words_of rest
+words_space [] rest h = refl
+words_space (b ∷ w) rest h =
+    let t = and_parts (ltb 32 b) (above 32 w) h in
+    let above_b : 32 < b = ltb-true 32 b t.0 in
+    rw (ne_eqb b 32 (λ z. omega arith)) (ap (onto_first b) (words_space w rest t.1))
+
+-- a line without a line feed is one line
+lines_feed : (line rest : List ℕ) → above 10 line ≡ true → text_lines (line ++ 10 ∷ rest) ≡ line ∷ text_lines rest
+lines_feed [] rest h = refl
+lines_feed (b ∷ line) rest h =
+    let t = and_parts (ltb 10 b) (above 10 line) h in
+    let above_b : 10 < b = ltb-true 10 b t.0 in
+    rw (ne_eqb b 10 (λ z. omega arith)) (ap (onto_first b) (lines_feed line rest t.1))
+
+-- decimal digits are above
+above_decimal : (k n : ℕ) → k < 48 → n < 2 ^ 64 → above k (decimal n) ≡ true
+above_decimal k n low small =
+    decimal_by_steps (λ m ds. above k ds ≡ true)
+    (λ m h. and_from (ltb k (48 + m)) true (lt-ltb k (48 + m) (omega arith)) refl)
+    (λ m ds h p. above-append k ds ((48 + m % 10) ∷ []) p (and_from (ltb k (48 + m % 10)) true (lt-ltb k (48 + m % 10) (omega arith)) refl))
+    n small
+
+own : IsNumeralModel (λ ds. all_ascii_digits ds ≡ true) (digits_value 10)
+own = numerals_by_value (λ ds. all_ascii_digits ds ≡ true) tells_all_ascii_digits
+
+decimal_zeros : (n : ℕ) → n < 2 ^ 64 → get_or (decimal n) 0 0 ≡ 48 → length (decimal n) ≡ 1
+decimal_zeros n small z =
+    elim (cases_lt 0 n) [
+      | inl some ↦ absurd (omega (arith, first_decimal n some small))
+      | inr none ↦ let zero_n : n ≡ 0 = omega arith in rw (zero_n, decimal_digit 0 (omega arith)) refl
+    ]
+
+-- what is written of a number is it in decimal
+decimal_is : (n : ℕ) → n < 2 ^ 64 → IsDecimal (decimal n) n
+decimal_is n small = record {
+  some = decimal_nonempty n small;
+  digits = digits_decimal own n small;
+  no_zeros = decimal_zeros n small;
+  value_is = sym (digits_value-decimal own n small);
+}
+
+above_glyph : (k d : ℕ) → k < 48 → above k (digit_glyph true d ∷ []) ≡ true
+above_glyph k d low =
+    elim (cases_lt d 10) [
+      | inl small ↦ rw (lt-ltb d 10 small, lt-ltb k (48 + d) (omega arith)) refl
+      | inr big ↦ rw (le-ltb d 10 big, lt-ltb k (55 + d) (omega arith)) refl
+    ]
+
+above_digits : (k : ℕ) (places : List ℕ) (v : ℕ) → k < 48 → above k (map (λ place. digit_glyph true (v / place % 16)) places) ≡ true
+above_digits k [] v low = refl
+above_digits k (place ∷ places) v low =
+    above-append k (digit_glyph true (v / place % 16) ∷ []) (map (λ p. digit_glyph true (v / p % 16)) places) (above_glyph k (v / place % 16) low) (above_digits k places v low)
+
+above_value : (k v : ℕ) → k < 48 → above k (value_word v) ≡ true
+above_value k v low =
+    above-append k (codes "0x") (hex_digits v) (rw (lt-ltb k 48 (omega arith), lt-ltb k 120 (omega arith)) refl)
+    (above_digits k (0x10000000 ∷ 0x1000000 ∷ 0x100000 ∷ 0x10000 ∷ 0x1000 ∷ 0x100 ∷ 0x10 ∷ 0x1 ∷ []) v low)
+
+-- two numbers behind a name
+two_above : (m n : ℕ) → m < 2 ^ 64 → n < 2 ^ 64 → above 10 (decimal m ++ 32 ∷ (decimal n ++ [])) ≡ true
+two_above m n hm hn =
+    above-append 10 (decimal m) (32 ∷ (decimal n ++ [])) (above_decimal 10 m (omega arith) hm) (above-append 10 (decimal n) [] (above_decimal 10 n (omega arith) hn) refl)
+
+two_words_are : (m n : ℕ) → m < 2 ^ 64 → n < 2 ^ 64 → words_of (decimal m ++ 32 ∷ (decimal n ++ [])) ≡ decimal m ∷ decimal n ∷ []
+two_words_are m n hm hn =
+    words_space (decimal m) (decimal n ++ []) (above_decimal 32 m (omega arith) hm)
+    ∙ ap (λ (w : List ℕ). decimal m ∷ words_of w) (append-nil (decimal n)) ∙ ap (λ (ws : List (List ℕ)). decimal m ∷ ws) (words_plain (decimal n) (above_decimal 32 n (omega arith) hn))
+
+one_above : (n : ℕ) → n < 2 ^ 64 → above 10 (decimal n ++ []) ≡ true
+one_above n h = above-append 10 (decimal n) [] (above_decimal 10 n (omega arith) h) refl
+
+one_word_is : (n : ℕ) → n < 2 ^ 64 → words_of (decimal n ++ []) ≡ decimal n ∷ []
+one_word_is n h = ap words_of (append-nil (decimal n)) ∙ words_plain (decimal n) (above_decimal 32 n (omega arith) h)
+
+invalid_above : (n : ℕ) → n < 2 ^ 64 → above 10 (decimal n ++ (codes " invalid" ++ [])) ≡ true
+invalid_above n h = above-append 10 (decimal n) (codes " invalid" ++ []) (above_decimal 10 n (omega arith) h) refl
+
+invalid_words_are : (n : ℕ) → n < 2 ^ 64 → words_of (decimal n ++ (codes " invalid" ++ [])) ≡ decimal n ∷ codes "invalid" ∷ []
+invalid_words_are n h = words_space (decimal n) (codes "invalid" ++ []) (above_decimal 32 n (omega arith) h)
+
+value_above : (v : ℕ) → above 10 (value_word v ++ []) ≡ true
+value_above v = above-append 10 (value_word v) [] (above_value 10 v (omega arith)) refl
+
+value_words_are : (v : ℕ) → words_of (value_word v ++ []) ≡ value_word v ∷ []
+value_words_are v = ap words_of (append-nil (value_word v)) ∙ words_plain (value_word v) (above_value 32 v (omega arith))
+
+-- the line of an instruction has no line feed
+insn_text_above : (i : Insn) → HasRanges i → above 10 (insn_text i) ≡ true
+insn_text_above End h = refl
+insn_text_above Ld h = refl
+insn_text_above St h = refl
+insn_text_above Rmb h = refl
+insn_text_above Wmb h = refl
+insn_text_above Nop h = refl
+insn_text_above (Lp Lc0 n) h = two_above 0 n (omega arith) (omega (arith, h.1))
+insn_text_above (Lp Lc1 n) h = two_above 1 n (omega arith) (omega (arith, h.1))
+insn_text_above (LpEnd Lc0 b) h = two_above 0 b (omega arith) (omega arith)
+insn_text_above (LpEnd Lc1 b) h = two_above 1 b (omega arith) (omega arith)
+insn_text_above (Sev e) h = one_above e (omega arith)
+insn_text_above (Wfe e false) h = one_above e (omega arith)
+insn_text_above (Wfe e true) h = invalid_above e (omega arith)
+insn_text_above (Mov Sar v) h = value_above v
+insn_text_above (Mov Ccr v) h = value_above v
+insn_text_above (Mov Dar v) h = value_above v
+
+loop_writes : (m n : ℕ) (c : Counter) → m < 2 ^ 64 → (1 ≤ n) × (n ≤ 256) → insn_of (dmalp m n) ≡ Some (Lp c n) → Writes (concat (codes "DMALP " ∷ decimal m ∷ codes " " ∷ decimal n ∷ [])) (Lp c n)
+loop_writes m n c hm h e =
+    let hn : n < 2 ^ 64 = omega (arith, h.1) in
+    record {
+      taken = refl;
+      statement = dmalp m n;
+      words_are = record {
+        first = decimal m;
+        second = decimal n;
+        words_are = ap (λ (ws : List (List ℕ)). codes "DMALP" ∷ ws) (two_words_are m n hm hn);
+        first_number = decimal_is m hm;
+        second_number = decimal_is n hn;
+      };
+      insn_is = e;
+    }
+
+loop_end_writes : (m b : ℕ) (c : Counter) → m < 2 ^ 64 → b < 256 → insn_of (dmalpend m b) ≡ Some (LpEnd c b) → Writes (concat (codes "DMALPEND " ∷ decimal m ∷ codes " " ∷ decimal b ∷ [])) (LpEnd c b)
+loop_end_writes m b c hm h e =
+    let hb : b < 2 ^ 64 = omega arith in
+    record {
+      taken = refl;
+      statement = dmalpend m b;
+      words_are = record {
+        first = decimal m;
+        second = decimal b;
+        words_are = ap (λ (ws : List (List ℕ)). codes "DMALPEND" ∷ ws) (two_words_are m b hm hb);
+        first_number = decimal_is m hm;
+        second_number = decimal_is b hb;
+      };
+      insn_is = e;
+    }
+
+bare_writes : (i : Insn) (s : Statement) → is_skipped (insn_text i) ≡ false → IsWritten (words_of (insn_text i)) s → insn_of s ≡ Some i → Writes (insn_text i) i
+bare_writes i s taken words e = record { taken = taken; statement = s; words_are = words; insn_is = e }
+
+-- The line of an instruction writes it.
+insn_text_writes : (i : Insn) → HasRanges i → Writes (insn_text i) i
+insn_text_writes End h = bare_writes End dmaend refl refl refl
+insn_text_writes Ld h = bare_writes Ld dmald refl refl refl
+insn_text_writes St h = bare_writes St dmast refl refl refl
+insn_text_writes Rmb h = bare_writes Rmb dmarmb refl refl refl
+insn_text_writes Wmb h = bare_writes Wmb dmawmb refl refl refl
+insn_text_writes Nop h = bare_writes Nop dmanop refl refl refl
+insn_text_writes (Lp Lc0 n) h = loop_writes 0 n Lc0 (omega arith) h (rw (le-leb 1 n h.0, le-leb n 256 h.1) refl)
+insn_text_writes (Lp Lc1 n) h = loop_writes 1 n Lc1 (omega arith) h (rw (le-leb 1 n h.0, le-leb n 256 h.1) refl)
+insn_text_writes (LpEnd Lc0 b) h = loop_end_writes 0 b Lc0 (omega arith) h (rw (le-leb b 255 (omega arith)) refl)
+insn_text_writes (LpEnd Lc1 b) h = loop_end_writes 1 b Lc1 (omega arith) h (rw (le-leb b 255 (omega arith)) refl)
+insn_text_writes (Sev e) h =
+    let he : e < 2 ^ 64 = omega arith in
+    bare_writes (Sev e) (dmasev e) refl (record { word = decimal e; words_are = ap (λ (ws : List (List ℕ)). codes "DMASEV" ∷ ws) (one_word_is e he); number = decimal_is e he }) (rw (le-leb e 31 (omega arith)) refl)
+insn_text_writes (Wfe e false) h =
+    let he : e < 2 ^ 64 = omega arith in
+    bare_writes (Wfe e false) (dmawfe e false) refl (record { word = decimal e; words_are = ap (λ (ws : List (List ℕ)). codes "DMAWFE" ∷ ws) (one_word_is e he); number = decimal_is e he }) (rw (le-leb e 31 (omega arith)) refl)
+insn_text_writes (Wfe e true) h =
+    let he : e < 2 ^ 64 = omega arith in
+    bare_writes (Wfe e true) (dmawfe e true) refl (record { word = decimal e; words_are = ap (λ (ws : List (List ℕ)). codes "DMAWFE" ∷ ws) (invalid_words_are e he); number = decimal_is e he }) (rw (le-leb e 31 (omega arith)) refl)
+insn_text_writes (Mov Sar v) h = bare_writes (Mov Sar v) (dmamov Sar v) refl (record { words_are = ap (λ (ws : List (List ℕ)). codes "DMAMOV" ∷ codes "SAR" ∷ ws) (value_words_are v); in_range = h }) refl
+insn_text_writes (Mov Ccr v) h = bare_writes (Mov Ccr v) (dmamov Ccr v) refl (record { words_are = ap (λ (ws : List (List ℕ)). codes "DMAMOV" ∷ codes "CCR" ∷ ws) (value_words_are v); in_range = h }) refl
+insn_text_writes (Mov Dar v) h = bare_writes (Mov Dar v) (dmamov Dar v) refl (record { words_are = ap (λ (ws : List (List ℕ)). codes "DMAMOV" ∷ codes "DAR" ∷ ws) (value_words_are v); in_range = h }) refl
+
+-- The text of instructions is that of these instructions.
+text_of_written : (is : List Insn) → AllInRange is → ProgramText (text_of is) is
+text_of_written [] h = refl
+text_of_written (i ∷ is) h =
+    let lines : text_lines (text_of (i ∷ is)) ≡ insn_text i ∷ text_lines (text_of is) = ap text_lines (append_assoc (insn_text i) (10 ∷ []) (text_of is)) ∙ lines_feed (insn_text i) (text_of is) (insn_text_above i h.0) in
+    subst (λ (ls : List (List ℕ)). WriteAll ls (i ∷ is)) (sym lines) (write_more (insn_text i) (text_lines (text_of is)) i is (insn_text_writes i h.0) (text_of_written is h.1))
+
+pub text_assembles : (bytes text : List ℕ) → length bytes ≤ most_bytes → Disassembles bytes text → Assembles text bytes
+text_assembles bytes text small d = record {
+  insns = d.insns;
+  text_is = subst (λ (t : List ℕ). ProgramText t d.insns) (sym d.text_is) (text_of_written d.insns d.in_range);
+  bytes_are = d.bytes_are;
+  fits = small;
+}
+
+pub disassembly_again : DisassemblyAssembles
+disassembly_again bytes text small d =
+    let same = text_assembles bytes text small d in
+    (same, λ others a. assembles_once text others bytes a same)

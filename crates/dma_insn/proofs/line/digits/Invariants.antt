@@ -1,0 +1,7 @@
+-- The digits that are left, behind the value so far, read as all of them do.
+use Rattle.std.proofs.Common.{◌≡◌, drop}
+use Rattle.dma_insn.specs.LineReading.{digits_from}
+use Rattle.dma_insn.proofs.line.digits.Given as goal
+
+abbrev pub invariant-loop-byte : goal.invariant-loop-byte
+invariant-loop-byte l = digits_from l.value (drop l.byte-index l.word) ≡ digits_from 0 l.word

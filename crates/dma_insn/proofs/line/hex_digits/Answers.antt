@@ -1,0 +1,17 @@
+use Rattle.std.proofs.Common.{ℕ, ◌<◌, ◌≤◌, ◌+◌, ◌*◌, ◌^◌, arith}
+use Rattle.std.proofs.Math.Nat.{pow-le-pow_right}
+use Rattle.dma_insn.proofs.line.hex_digits.Goals as goal
+
+-- one more digit behind at most seven
+digit_fits : (value place : ℕ) → place < 8 → value < 16 ^ place → value * 16 + 16 ≤ 2 ^ 32
+digit_fits value place few small =
+    let most : 16 ^ place ≤ 16 ^ 7 = pow-le-pow_right {n = 16} (omega arith) {i = place} {j = 7} (omega arith) in
+    omega arith
+
+pub overflow_mul-value : goal.overflow_mul-value
+overflow_mul-value c =
+    omega (arith, digit_fits c.loop-byte.value c.loop-byte.byte-index (omega arith) c.loop-byte.invariant.small)
+
+pub overflow_add-value : goal.overflow_add-value
+overflow_add-value c =
+    omega (arith, digit_fits c.loop-byte.value c.loop-byte.byte-index (omega arith) c.loop-byte.invariant.small, c.in_ok-value.ensures.range)

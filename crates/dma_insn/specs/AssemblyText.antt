@@ -1,0 +1,206 @@
+-- The text of channel programs (profile; the words that name instructions and registers are those of the PL330 manual). It is
+-- told as a relation between lines and instructions, apart from what reads and what writes it.
+use Rattle.std.specs.Prelude.{◌≡◌, ℕ, ◌+◌, ◌/◌, ◌%◌, ◌^◌, ◌<◌, ◌≤◌, Bool, true, false, ◌==◌, ◌||◌, ◌&&◌, if◌then◌else◌, List, [], ◌∷◌, ◌++◌, length, slice_index, map, flat_map, Option, Some, None, codes, nat_le, MatchBool}
+use Rattle.std.specs.List.{list_all, list_any}
+use Rattle.std.specs.Option.{option_and_then}
+use Rattle.std.specs.Str.{all_ascii_digits, bytes_eq}
+use Rattle.std.specs.Str.Parse.{digits_value}
+use Rattle.std.specs.Fmt.{digit_glyph}
+use Rattle.dma_insn.specs.Spelling.{spelling}
+use Rattle.dma_insn.specs.declared.insn.Reg.{Reg}
+use Rattle.dma_insn.specs.declared.insn.Reg.TheVariants.{Sar, Ccr, Dar}
+use Rattle.dma_insn.specs.declared.insn.Counter.{Counter}
+use Rattle.dma_insn.specs.declared.insn.Counter.TheVariants.{Lc0, Lc1}
+use Rattle.dma_insn.specs.declared.insn.Insn.{Insn}
+use Rattle.dma_insn.specs.declared.insn.Insn.TheVariants.{Mov, Ld, St, Rmb, Wmb, Nop, End, Lp, LpEnd, Sev, Wfe}
+use Rattle.dma_insn.specs.declared.assembler.Cause.{Cause}
+use Rattle.dma_insn.specs.declared.assembler.Cause.TheVariants.{Mnemonic, Operand, Range}
+use Rattle.dma_insn.specs.declared.assembler.AsmFault.{AsmFault}
+use Rattle.dma_insn.specs.declared.assembler.AsmFault.TheVariants as faults
+
+-- a byte before the first of some parts
+abbrev pub onto_first : ℕ → List (List ℕ) → List (List ℕ)
+onto_first b [] = (b ∷ []) ∷ []
+onto_first b (part ∷ parts) = (b ∷ part) ∷ parts
+
+-- the lines of a text: a line feed ends each, and the last may lack it
+abbrev pub text_lines : List ℕ → List (List ℕ)
+text_lines [] = []
+text_lines (b ∷ rest) = if b == 10 then [] ∷ text_lines rest else onto_first b (text_lines rest)
+
+-- the words of a line: what stands between its spaces
+abbrev pub words_of : List ℕ → List (List ℕ)
+words_of [] = [] ∷ []
+words_of (b ∷ rest) = if b == 32 then [] ∷ words_of rest else onto_first b (words_of rest)
+
+-- a line of spaces alone, or whose first byte is #
+abbrev pub is_skipped : List ℕ → Bool
+is_skipped line = list_all (λ b. b == 32) line || (slice_index line 0 == 35)
+
+-- A word is a number in decimal, of any length, without leading zeros.
+pub record IsDecimal (word : List ℕ) (n : ℕ) : Type 0 where
+  pub some : 0 < length word
+  pub digits : all_ascii_digits word ≡ true
+  pub no_zeros : slice_index word 0 ≡ 48 → length word ≡ 1
+  pub value_is : n ≡ digits_value 10 word
+
+-- the eight hexadecimal digits of a number below 2 ^ 32, of 0 to 9 and A to F
+abbrev pub hex_digits : ℕ → List ℕ
+hex_digits v =
+    map (λ place. digit_glyph true (v / place % 16)) (0x10000000 ∷ 0x1000000 ∷ 0x100000 ∷ 0x10000 ∷ 0x1000 ∷ 0x100 ∷ 0x10 ∷ 0x1 ∷ [])
+
+-- 0x and these digits
+abbrev pub value_word : ℕ → List ℕ
+value_word v = codes "0x" ++ hex_digits v
+
+abbrev pub register_word : Reg → List ℕ
+register_word Sar = codes "SAR"
+register_word Ccr = codes "CCR"
+register_word Dar = codes "DAR"
+
+-- What a line writes, before it is asked whether its decimal numbers are in range: a loop's counter and times, a loop's
+-- counter and jump, an event, an event with or without the invalid flag, a register and its value.
+pub data Statement : Type 0 where
+  dmaend : Statement
+  dmald : Statement
+  dmast : Statement
+  dmarmb : Statement
+  dmawmb : Statement
+  dmanop : Statement
+  dmalp : ℕ → ℕ → Statement
+  dmalpend : ℕ → ℕ → Statement
+  dmasev : ℕ → Statement
+  dmawfe : ℕ → Bool → Statement
+  dmamov : Reg → ℕ → Statement
+
+-- a name, a number, and these words
+pub record HasNumber (words : List (List ℕ)) (name : List ℕ) (n : ℕ) (more : List (List ℕ)) : Type 0 where
+  pub word : List ℕ
+  pub words_are : words ≡ name ∷ word ∷ more
+  pub number : IsDecimal word n
+
+-- a name and two numbers
+pub record HasTwoNumbers (words : List (List ℕ)) (name : List ℕ) (m n : ℕ) : Type 0 where
+  pub first : List ℕ
+  pub second : List ℕ
+  pub words_are : words ≡ name ∷ first ∷ second ∷ []
+  pub first_number : IsDecimal first m
+  pub second_number : IsDecimal second n
+
+-- a register and its value
+pub record HasValue (words : List (List ℕ)) (r : Reg) (v : ℕ) : Type 0 where
+  pub words_are : words ≡ codes "DMAMOV" ∷ register_word r ∷ value_word v ∷ []
+  pub in_range : v < 2 ^ 32
+
+-- the words of a line are those of a statement
+abbrev pub IsWritten : List (List ℕ) → Statement → Type 0
+IsWritten words dmaend = words ≡ codes "DMAEND" ∷ []
+IsWritten words dmald = words ≡ codes "DMALD" ∷ []
+IsWritten words dmast = words ≡ codes "DMAST" ∷ []
+IsWritten words dmarmb = words ≡ codes "DMARMB" ∷ []
+IsWritten words dmawmb = words ≡ codes "DMAWMB" ∷ []
+IsWritten words dmanop = words ≡ codes "DMANOP" ∷ []
+IsWritten words (dmalp c n) = HasTwoNumbers words (codes "DMALP") c n
+IsWritten words (dmalpend c b) = HasTwoNumbers words (codes "DMALPEND") c b
+IsWritten words (dmasev e) = HasNumber words (codes "DMASEV") e []
+IsWritten words (dmawfe e false) = HasNumber words (codes "DMAWFE") e []
+IsWritten words (dmawfe e true) = HasNumber words (codes "DMAWFE") e (codes "invalid" ∷ [])
+IsWritten words (dmamov r v) = HasValue words r v
+
+abbrev pub counter_of : ℕ → Option Counter
+counter_of c = if c == 0 then Some Lc0 else (if c == 1 then Some Lc1 else None)
+
+-- the instruction of a statement, where each of its numbers is in range
+abbrev pub insn_of : Statement → Option Insn
+insn_of dmaend = Some End
+insn_of dmald = Some Ld
+insn_of dmast = Some St
+insn_of dmarmb = Some Rmb
+insn_of dmawmb = Some Wmb
+insn_of dmanop = Some Nop
+insn_of (dmalp c n) = option_and_then (λ k. if nat_le 1 n && nat_le n 256 then Some (Lp k n) else None) (counter_of c)
+insn_of (dmalpend c b) = option_and_then (λ k. if nat_le b 255 then Some (LpEnd k b) else None) (counter_of c)
+insn_of (dmasev e) = if nat_le e 31 then Some (Sev e) else None
+insn_of (dmawfe e v) = if nat_le e 31 then Some (Wfe e v) else None
+insn_of (dmamov r v) = Some (Mov r v)
+
+-- A line writes an instruction.
+pub record Writes (line : List ℕ) (i : Insn) : Type 0 where
+  pub taken : is_skipped line ≡ false
+  pub statement : Statement
+  pub words_are : IsWritten (words_of line) statement
+  pub insn_is : insn_of statement ≡ Some i
+
+-- the words that a line can begin with
+abbrev pub names : List (List ℕ)
+names =
+    codes "DMAEND" ∷ codes "DMALD" ∷ codes "DMAST" ∷ codes "DMARMB" ∷ codes "DMAWMB" ∷ codes "DMANOP"
+    ∷ codes "DMALP" ∷ codes "DMALPEND" ∷ codes "DMASEV" ∷ codes "DMAWFE" ∷ codes "DMAMOV" ∷ []
+
+abbrev pub first_of : List (List ℕ) → List ℕ
+first_of [] = []
+first_of (word ∷ words) = word
+
+abbrev pub begins_with_name : List ℕ → Bool
+begins_with_name line = list_any (λ name. bytes_eq (first_of (words_of line)) name) names
+
+-- Why a line that is not skipped writes no instruction: its first word is no name; it is one, and the words are no
+-- statement's; or they are, and a number is out of range.
+abbrev pub IsCause : List ℕ → Cause → Type 0
+IsCause line Mnemonic = begins_with_name line ≡ false
+IsCause line Operand = (begins_with_name line ≡ true) × ((s : Statement) → IsWritten (words_of line) s → ⊥)
+IsCause line Range = (s : Statement) × IsWritten (words_of line) s × (insn_of s ≡ None)
+
+pub record HasCause (line : List ℕ) (cause : Cause) : Type 0 where
+  pub taken : is_skipped line ≡ false
+  pub cause_is : IsCause line cause
+
+-- A line that is not skipped writes the first of some instructions, and what follows it writes the rest.
+pub record WritesFirst (line : List ℕ) (is : List Insn) (Rest : List Insn → Type 0) : Type 0 where
+  pub first : Insn
+  pub rest : List Insn
+  pub are : is ≡ first ∷ rest
+  pub writes : Writes line first
+  pub more : Rest rest
+
+-- The lines of a program's text: each one is skipped, or writes one instruction.
+abbrev pub WriteAll : List (List ℕ) → List Insn → Type 0
+WriteAll [] is = is ≡ []
+WriteAll (line ∷ lines) is = MatchBool (is_skipped line) (WriteAll lines is) (WritesFirst line is (λ rest. WriteAll lines rest))
+
+-- A text is the text of a program.
+abbrev pub ProgramText : List ℕ → List Insn → Type 0
+ProgramText text is = WriteAll (text_lines text) is
+
+-- the bytes of a program
+abbrev pub joined : List Insn → List ℕ
+joined is = flat_map spelling is
+
+-- the most bytes that a program has
+abbrev pub most_bytes : ℕ
+most_bytes = 8192
+
+-- A text assembles to these bytes.
+pub record Assembles (text bytes : List ℕ) : Type 0 where
+  pub insns : List Insn
+  pub text_is : ProgramText text insns
+  pub bytes_are : bytes ≡ joined insns
+  pub fits : length bytes ≤ most_bytes
+
+-- A line stands in a text behind n - 1 others, which write a program that is not too long.
+pub record StandsAt (text line : List ℕ) (n : ℕ) (insns : List Insn) : Type 0 where
+  pub before : List (List ℕ)
+  pub after : List (List ℕ)
+  pub lines_are : text_lines text ≡ before ++ line ∷ after
+  pub number : n ≡ length before + 1
+  pub writes : WriteAll before insns
+  pub fits : length (joined insns) ≤ most_bytes
+
+-- The first fault of a text: in line n, behind lines without one; the line with which the program is too long, behind
+-- lines without a fault; or none, and memory was refused.
+abbrev pub IsFirstFault : List ℕ → AsmFault → Type 0
+IsFirstFault text (faults.Line n cause) = (line : List ℕ) × (insns : List Insn) × StandsAt text line n insns × HasCause line cause
+IsFirstFault text (faults.ProgramTooLong n) =
+    (line : List ℕ) × (insns : List Insn) × (i : Insn) × StandsAt text line n insns × Writes line i
+    × (most_bytes < length (joined insns) + length (spelling i))
+IsFirstFault text faults.NoMemory = (bytes : List ℕ) × Assembles text bytes

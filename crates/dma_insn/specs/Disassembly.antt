@@ -1,0 +1,79 @@
+-- The text that a program's bytes are written as (profile).
+use Rattle.std.specs.Prelude.{◌≡◌, ℕ, ◌<◌, ◌≤◌, true, false, List, [], ◌∷◌, ◌++◌, length, flat_map, codes, decimal, Err}
+use Rattle.std.specs.List.{concat}
+use Rattle.dma_insn.specs.Spelling.{HasRanges, IsSpelledAt, IsRefusedFor}
+use Rattle.dma_insn.specs.Decoding.{decoded}
+use Rattle.dma_insn.specs.AssemblyText.{register_word, value_word, joined, most_bytes, Assembles}
+use Rattle.dma_insn.specs.declared.insn.Counter.{Counter}
+use Rattle.dma_insn.specs.declared.insn.Counter.TheVariants.{Lc0, Lc1}
+use Rattle.dma_insn.specs.declared.insn.Insn.{Insn}
+use Rattle.dma_insn.specs.declared.insn.Insn.TheVariants.{Mov, Ld, St, Rmb, Wmb, Nop, End, Lp, LpEnd, Sev, Wfe}
+use Rattle.dma_insn.specs.declared.codec.DecodeFault.{DecodeFault}
+use Rattle.dma_insn.specs.declared.disassembler.DisFault.{DisFault}
+use Rattle.dma_insn.specs.declared.disassembler.DisFault.TheVariants.{Decode, NoMemory}
+
+-- each of some instructions has its ranges
+abbrev pub AllInRange : List Insn → Type 0
+AllInRange [] = Unit {0}
+AllInRange (i ∷ is) = HasRanges i × AllInRange is
+
+abbrev pub counter_number : Counter → ℕ
+counter_number Lc0 = 0
+counter_number Lc1 = 1
+
+-- the line of an instruction, without its line feed
+abbrev pub insn_text : Insn → List ℕ
+insn_text End = codes "DMAEND"
+insn_text Ld = codes "DMALD"
+insn_text St = codes "DMAST"
+insn_text Rmb = codes "DMARMB"
+insn_text Wmb = codes "DMAWMB"
+insn_text Nop = codes "DMANOP"
+insn_text (Lp c n) = concat (codes "DMALP " ∷ decimal (counter_number c) ∷ codes " " ∷ decimal n ∷ [])
+insn_text (LpEnd c b) = concat (codes "DMALPEND " ∷ decimal (counter_number c) ∷ codes " " ∷ decimal b ∷ [])
+insn_text (Sev e) = concat (codes "DMASEV " ∷ decimal e ∷ [])
+insn_text (Wfe e false) = concat (codes "DMAWFE " ∷ decimal e ∷ [])
+insn_text (Wfe e true) = concat (codes "DMAWFE " ∷ decimal e ∷ codes " invalid" ∷ [])
+insn_text (Mov r v) = concat (codes "DMAMOV " ∷ register_word r ∷ codes " " ∷ value_word v ∷ [])
+
+-- the text of a program: a line for each instruction, each ended by a line feed, and no other line
+abbrev pub text_of : List Insn → List ℕ
+text_of is = flat_map (λ i. insn_text i ++ 10 ∷ []) is
+
+-- Bytes are the spellings of some instructions joined.
+pub record AreSpelled (bytes : List ℕ) : Type 0 where
+  pub insns : List Insn
+  pub in_range : AllInRange insns
+  pub bytes_are : bytes ≡ joined insns
+
+-- Bytes are the spellings of some instructions joined, and a text is the text of these.
+pub record Disassembles (bytes text : List ℕ) : Type 0 where
+  pub insns : List Insn
+  pub in_range : AllInRange insns
+  pub bytes_are : bytes ≡ joined insns
+  pub text_is : text ≡ text_of insns
+
+-- Behind the longest front of the bytes that is spellings joined stands something else, which is refused for a fault.
+pub record StopsAt (bytes : List ℕ) (offset : ℕ) (fault : DecodeFault) : Type 0 where
+  pub insns : List Insn
+  pub rest : List ℕ
+  pub in_range : AllInRange insns
+  pub bytes_are : bytes ≡ joined insns ++ rest
+  pub offset_is : offset ≡ length (joined insns)
+  pub some : 0 < length rest
+  pub fault_is : decoded rest ≡ Err fault
+  pub refused : IsRefusedFor rest fault
+  pub none : (i : Insn) (n : ℕ) → IsSpelledAt rest i n → ⊥
+  pub longest : (others : List Insn) (more : List ℕ) → AllInRange others → bytes ≡ joined others ++ more → length (joined others) ≤ offset
+
+-- Why bytes have no text: they are no spellings joined; or they are, and memory was refused.
+abbrev pub IsDisFault : List ℕ → DisFault → Type 0
+IsDisFault bytes (Decode offset fault) = StopsAt bytes offset fault
+IsDisFault bytes NoMemory = (text : List ℕ) × Disassembles bytes text
+
+-- What a program of at most 8,192 bytes is disassembled to is the text of the same instructions, and assembles to the same
+-- bytes and to no others.
+abbrev pub DisassemblyAssembles : Type 0
+DisassemblyAssembles =
+    (bytes text : List ℕ) → length bytes ≤ most_bytes → Disassembles bytes text
+    → Assembles text bytes × ((others : List ℕ) → Assembles text others → others ≡ bytes)

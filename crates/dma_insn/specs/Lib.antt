@@ -1,0 +1,6 @@
+pub mod Spelling
+pub mod Decoding
+pub mod ControlWord
+pub mod AssemblyText
+pub mod LineReading
+pub mod Disassembly

@@ -1,0 +1,307 @@
+//! The codes of the instructions, written and read.
+
+ghost use Rattle.std.specs.Prelude.{◌≡◌, ℕ, ◌+◌, ◌<◌, ◌≤◌, ◌∷◌, ◌++◌, List, length, drop, take, IfOk, IfErr};
+ghost use Rattle.dma_insn.specs.declared.insn.Insn.{Insn};
+ghost use Rattle.dma_insn.specs.declared.insn.Insn.TheVariants.{Lp, LpEnd};
+ghost use Rattle.dma_insn.specs.Spelling.{spelling, loop_byte, loop_end_byte, register_byte, HasRanges, IsSpelledAt, IsRefusedFor, NoSpellingBeginsAnother};
+ghost use Rattle.dma_insn.specs.Decoding.{decoded, by_second, signal_at, wait_at, set_by};
+
+use crate::insn::{Counter, Event, Insn, Reg, Times};
+use byteorder::{ByteOrder, LittleEndian};
+use thiserror::Error;
+
+/// Why bytes begin no instruction, in the order in which the causes are tested: no byte at all is `Cut`, a first byte that
+/// begins no instruction is `Unknown`, too few bytes behind it are `Cut`, and a register or an event byte outside the grammar
+/// is `BadField`.
+#[derive(Clone, Copy, PartialEq, Eq, Debug, Error)]
+pub enum DecodeFault {
+    #[error("the bytes end within an instruction")]
+    Cut,
+    #[error("no instruction begins with {0:#04x}")]
+    Unknown(u8),
+    #[error("a field is outside its range")]
+    BadField,
+}
+
+/// Writes the bytes of an instruction at the front of `out`, and answers how many they are; the others stay.
+pub fn encode(insn: Insn, out: &mut [u8; 6]) -> usize
+    ensures count { result ≡ length (spelling insn) }
+    ensures bytes { out.new ≡ spelling insn ++ drop result out.old }
+    // What the value's type keeps.
+    ensures in_range { HasRanges insn }
+{
+    match insn {
+        Insn::End => write_one(0x00, out),
+        Insn::Ld => write_one(0x04, out),
+        Insn::St => write_one(0x08, out),
+        Insn::Rmb => write_one(0x12, out),
+        Insn::Wmb => write_one(0x13, out),
+        Insn::Nop => write_one(0x18, out),
+        Insn::Lp { counter, times } => {
+            write_two(loop_code(counter), (times.number() - 1) as u8, out)
+        }
+        Insn::LpEnd { counter, back } => write_two(loop_end_code(counter), back, out),
+        Insn::Sev(event) => write_two(0x34, event.number() * 8, out),
+        Insn::Wfe { event, invalid } => {
+            write_two(0x36, event.number() * 8 + if invalid { 2 } else { 0 }, out)
+        }
+        Insn::Mov(reg, value) => {
+            write_two(0xbc, register_code(reg), out);
+            LittleEndian::write_u32(&mut out[2..], value);
+            6
+        }
+    }
+}
+
+// An instruction of one byte.
+fn write_one(first: u8, out: &mut [u8; 6]) -> usize
+    ensures count { result ≡ 1 }
+    ensures bytes { out.new ≡ first ∷ drop 1 out.old }
+{
+    out[0] = first;
+    1
+}
+
+// The first two bytes of an instruction.
+fn write_two(first: u8, second: u8, out: &mut [u8; 6]) -> usize
+    ensures count { result ≡ 2 }
+    ensures bytes { out.new ≡ first ∷ second ∷ drop 2 out.old }
+{
+    out[0] = first;
+    out[1] = second;
+    2
+}
+
+fn loop_code(counter: Counter) -> u8
+    ensures { result ≡ loop_byte counter }
+{
+    match counter {
+        Counter::Lc0 => 0x20,
+        Counter::Lc1 => 0x22,
+    }
+}
+
+fn loop_end_code(counter: Counter) -> u8
+    ensures { result ≡ loop_end_byte counter }
+{
+    match counter {
+        Counter::Lc0 => 0x38,
+        Counter::Lc1 => 0x3c,
+    }
+}
+
+fn register_code(reg: Reg) -> u8
+    ensures { result ≡ register_byte reg }
+{
+    match reg {
+        Reg::Sar => 0,
+        Reg::Ccr => 1,
+        Reg::Dar => 2,
+    }
+}
+
+/// Reads the instruction at the front of the bytes, and how many of them it takes. Others may follow. An immediate may have
+/// any value: whether a control word is one is not asked here.
+pub fn decode(bytes: &[u8]) -> Result<(Insn, usize), DecodeFault>
+    // What is read is spelled so, in as many bytes.
+    ensures found { IfOk result (λ found. IsSpelledAt bytes.now found.0 found.1) }
+    ensures within { IfOk result (λ found. (0 < found.1) × (found.1 ≤ length bytes.now)) }
+    // What is spelled so is read.
+    ensures only { (i : Insn) (n : ℕ) → IsSpelledAt bytes.now i n → result ≡ Ok (i, n) }
+    // Refused bytes begin with no instruction, and the cause is the first that holds.
+    ensures none { IfErr result (λ _. (i : Insn) (n : ℕ) → IsSpelledAt bytes.now i n → ⊥) }
+    ensures refused { IfErr result (λ fault. IsRefusedFor bytes.now fault) }
+    // The same as a function of the bytes.
+    ensures exact { result ≡ decoded bytes.now }
+{
+    read(bytes)
+}
+
+// One instruction, by its first byte.
+fn read(bytes: &[u8]) -> Result<(Insn, usize), DecodeFault>
+    ensures { result ≡ decoded bytes.now }
+{
+    let Some((first, rest)) = bytes.split_first() else {
+        return Err(DecodeFault::Cut);
+    };
+    match *first {
+        0x00 => Ok((Insn::End, 1)),
+        0x04 => Ok((Insn::Ld, 1)),
+        0x08 => Ok((Insn::St, 1)),
+        0x12 => Ok((Insn::Rmb, 1)),
+        0x13 => Ok((Insn::Wmb, 1)),
+        0x18 => Ok((Insn::Nop, 1)),
+        0x20 => loop_start(Counter::Lc0, rest),
+        0x22 => loop_start(Counter::Lc1, rest),
+        0x38 => loop_end(Counter::Lc0, rest),
+        0x3c => loop_end(Counter::Lc1, rest),
+        0x34 => signal(rest),
+        0x36 => wait(rest),
+        0xbc => set_register(rest),
+        other => Err(DecodeFault::Unknown(other)),
+    }
+}
+
+// DMALP from its second byte.
+fn loop_start(counter: Counter, rest: &[u8]) -> Result<(Insn, usize), DecodeFault>
+    ensures { result ≡ by_second rest.now (λ n. Ok (Lp counter (n + 1), 2)) }
+{
+    let Some(less_one) = rest.first() else {
+        return Err(DecodeFault::Cut);
+    };
+    let times = Times::of_number(*less_one as u16 + 1);
+    Ok((Insn::Lp { counter, times }, 2))
+}
+
+// DMALPEND from its second byte.
+fn loop_end(counter: Counter, rest: &[u8]) -> Result<(Insn, usize), DecodeFault>
+    ensures { result ≡ by_second rest.now (λ n. Ok (LpEnd counter n, 2)) }
+{
+    let Some(back) = rest.first() else {
+        return Err(DecodeFault::Cut);
+    };
+    let back = *back;
+    Ok((Insn::LpEnd { counter, back }, 2))
+}
+
+// DMASEV from its second byte.
+fn signal(rest: &[u8]) -> Result<(Insn, usize), DecodeFault>
+    ensures { result ≡ by_second rest.now signal_at }
+{
+    let Some(field) = rest.first() else {
+        return Err(DecodeFault::Cut);
+    };
+    if *field % 8 == 0 {
+        Ok((Insn::Sev(Event::of_number(*field / 8)), 2))
+    } else {
+        Err(DecodeFault::BadField)
+    }
+}
+
+// DMAWFE from its second byte.
+fn wait(rest: &[u8]) -> Result<(Insn, usize), DecodeFault>
+    ensures { result ≡ by_second rest.now wait_at }
+{
+    let Some(field) = rest.first() else {
+        return Err(DecodeFault::Cut);
+    };
+    let event = Event::of_number(*field / 8);
+    let invalid = match *field % 8 {
+        0 => false,
+        2 => true,
+        _ => return Err(DecodeFault::BadField),
+    };
+    Ok((Insn::Wfe { event, invalid }, 2))
+}
+
+// DMAMOV from its second byte.
+fn set_register(rest: &[u8]) -> Result<(Insn, usize), DecodeFault>
+    ensures { result ≡ set_by rest.now }
+{
+    if rest.len() < 5 {
+        return Err(DecodeFault::Cut);
+    }
+    let value = LittleEndian::read_u32(&rest[1..]);
+    match rest[0] {
+        0 => Ok((Insn::Mov(Reg::Sar, value), 6)),
+        1 => Ok((Insn::Mov(Reg::Ccr, value), 6)),
+        2 => Ok((Insn::Mov(Reg::Dar, value), 6)),
+        _ => Err(DecodeFault::BadField),
+    }
+}
+
+/// The law that no spelling begins another: bytes that begin with an instruction begin with no other, and what follows it is
+/// one thing too. So a program's bytes are cut into instructions in one way.
+pub fn no_spelling_begins_another()
+    ensures { NoSpellingBeginsAnother }
+{}
+
+#[cfg(test)]
+mod tests {
+    use super::*;
+    use std::test::Fail;
+
+    #[test]
+    fn the_value_of_a_register_is_low_byte_first(rt: HostRuntime) {
+        let mut out = [0xee; 6];
+        assert_eq!(rt; encode(Insn::Mov(Reg::Sar, 0x1000), &mut out), 6);
+        assert_eq!(rt; out, [0xbc, 0x00, 0x00, 0x10, 0x00, 0x00]);
+        assert_eq!(rt; decode(&out), Ok((Insn::Mov(Reg::Sar, 0x1000), 6)));
+        assert_eq!(rt; encode(Insn::Mov(Reg::Dar, 0x0403_0201), &mut out), 6);
+        assert_eq!(rt; out, [0xbc, 0x02, 0x01, 0x02, 0x03, 0x04]);
+    }
+
+    #[test]
+    fn an_event_stands_in_bits_7_to_3(rt: HostRuntime) -> Result<(), Fail> {
+        let event = Event::new(3).ok_or("3 is an event")?;
+        let insn = Insn::Wfe {
+            event,
+            invalid: true,
+        };
+        let written = insn;
+        let mut out = [0xee; 6];
+        assert_eq!(rt; encode(written, &mut out), 2);
+        assert_eq!(rt; out, [0x36, 0x1a, 0xee, 0xee, 0xee, 0xee]);
+        assert_eq!(rt; decode(&out), Ok((insn, 2)));
+        assert_eq!(rt; Event::new(32), None);
+        assert_eq!(rt; Event::of_number(31).number(), 31);
+        Ok(())
+    }
+
+    #[test]
+    fn a_loop_of_256_times_is_ff(rt: HostRuntime) -> Result<(), Fail> {
+        let times = Times::new(256).ok_or("256 is a count")?;
+        let insn = Insn::Lp {
+            counter: Counter::Lc0,
+            times,
+        };
+        assert_eq!(rt; decode(&[0x20, 0xff]), Ok((insn, 2)));
+        assert_eq!(rt; times.number(), 256);
+        assert_eq!(rt; Times::new(0), None);
+        assert_eq!(rt; Times::new(257), None);
+        Ok(())
+    }
+
+    #[test]
+    fn refusals_come_in_their_order(rt: HostRuntime) {
+        assert_eq!(rt; decode(&[]), Err(DecodeFault::Cut));
+        assert_eq!(rt; decode(&[0xbc, 0x00, 0x00]), Err(DecodeFault::Cut));
+        assert_eq!(rt; decode(&[0xbc, 0x07]), Err(DecodeFault::Cut));
+        assert_eq!(rt; decode(&[0x28]), Err(DecodeFault::Unknown(0x28)));
+        assert_eq!(rt; decode(&[0x28, 0x04]), Err(DecodeFault::Unknown(0x28)));
+        assert_eq!(rt; decode(&[0x34, 0x01]), Err(DecodeFault::BadField));
+        assert_eq!(rt;
+            decode(&[0xbc, 0x03, 0, 0, 0, 0]),
+            Err(DecodeFault::BadField)
+        );
+    }
+
+    // What `decode` answers for two bytes and four zero bytes behind them.
+    fn kind_of(first: u8, second: u8) -> usize
+        ensures { result < 4 }
+    {
+        match decode(&[first, second, 0, 0, 0, 0]) {
+            Ok(_) => 0,
+            Err(DecodeFault::BadField) => 1,
+            Err(DecodeFault::Unknown(_)) => 2,
+            Err(DecodeFault::Cut) => 3,
+        }
+    }
+
+    #[test]
+    fn every_pair_of_first_bytes(rt: HostRuntime) {
+        let mut counts = [0u32; 4];
+        for first in 0..=255u8 {
+            for second in 0..=255u8 {
+                let kind = kind_of(first, second);
+                counts[kind] = counts[kind].wrapping_add(1);
+            }
+        }
+        assert_eq!(rt; counts, [2_659, 669, 62_208, 0]);
+    }
+
+    #[test]
+    fn the_law_is_there() {
+        no_spelling_begins_another();
+    }
+}

@@ -1,0 +1,443 @@
+//! The channel control word, which DMAMOV CCR sets (PL330 manual, channel control registers): what one burst of a load, from
+//! the source, and of a store, to the destination, moves.
+
+ghost use Rattle.std.specs.Prelude.{◌≡◌, ℕ, ◌+◌, ◌<◌, ◌≤◌, ◌^◌, ◌↔◌, Some, IsSome, IfSome, Ok, IfOk};
+ghost use Rattle.dma_insn.specs.ControlWord.{field, flag, size_code, size_of, beat_bytes, burst_bytes, end_at, end_bits, control_of, bits_of, HasEndRanges, HasFields};
+
+use std::marker::Model;
+use thiserror::Error;
+
+/// Why a word is no control word, in the order in which the causes are tested (profile).
+#[derive(Clone, Copy, PartialEq, Eq, Debug, Error)]
+pub enum ControlFault {
+    /// A burst size code is 5, 6 or 7.
+    #[error("a burst size code is reserved")]
+    ReservedSize,
+    /// The endian swap size, bits 30:28, is not 0.
+    #[error("an endian swap is asked for")]
+    Swap,
+    #[error("bit 31 is set")]
+    Bit31,
+}
+
+/// How many bytes one beat of a burst moves; the manual's burst size codes 0 to 4.
+#[derive(Clone, Copy, PartialEq, Eq, Debug)]
+pub enum BeatSize {
+    One,
+    Two,
+    Four,
+    Eight,
+    Sixteen,
+}
+
+impl BeatSize {
+    /// The size of a burst size code; None for the reserved codes, 5 and above.
+    pub fn from_code(code: u8) -> Option<BeatSize>
+        ensures { result ≡ size_of code }
+    {
+        match code {
+            0 => Some(BeatSize::One),
+            1 => Some(BeatSize::Two),
+            2 => Some(BeatSize::Four),
+            3 => Some(BeatSize::Eight),
+            4 => Some(BeatSize::Sixteen),
+            _ => None,
+        }
+    }
+
+    pub fn code(self) -> u8
+        ensures value { result ≡ size_code self }
+        ensures range { result ≤ 4 }
+        ensures again { size_of result ≡ Some self }
+    {
+        match self {
+            BeatSize::One => 0,
+            BeatSize::Two => 1,
+            BeatSize::Four => 2,
+            BeatSize::Eight => 3,
+            BeatSize::Sixteen => 4,
+        }
+    }
+
+    pub fn bytes(self) -> u32
+        ensures value { result ≡ beat_bytes self }
+        ensures range { (1 ≤ result) × (result ≤ 16) }
+    {
+        match self {
+            BeatSize::One => 1,
+            BeatSize::Two => 2,
+            BeatSize::Four => 4,
+            BeatSize::Eight => 8,
+            BeatSize::Sixteen => 16,
+        }
+    }
+}
+
+/// How many beats one burst has, 1 to 16. A contract sees the number.
+#[derive(Clone, Copy, PartialEq, Eq, Debug)]
+pub struct Beats {
+    count: u8,
+}
+
+impl Model for Beats {
+    ghost use Rattle.std.specs.Prelude.{ℕ, ◌<◌, ◌≤◌};
+
+    ghost Value = { ℕ };
+
+    ghost view = { λ b. b.count };
+
+    ghost invariant = { λ b. (1 ≤ b.count) × (b.count ≤ 16) };
+
+    ghost inverse = { λ n. record { count = n } };
+}
+
+impl Beats {
+    /// This many beats; None for 0 and above 16.
+    pub fn new(count: u8) -> Option<Beats>
+        ensures some { IsSome result ↔ ((1 ≤ count) × (count ≤ 16)) }
+        ensures value { IfSome result (λ beats. beats ≡ count) }
+    {
+        if 1 <= count && count <= 16 {
+            Some(Beats::of_number(count))
+        } else {
+            None
+        }
+    }
+
+    /// This many beats, where the number is known to be from 1 to 16.
+    pub fn of_number(count: u8) -> Beats
+        requires low { 1 ≤ count }
+        requires high { count ≤ 16 }
+        ensures { result ≡ count }
+    {
+        Beats { count }
+    }
+
+    pub fn number(self) -> u8
+        ensures value { result ≡ self }
+        ensures range { (1 ≤ self) × (self ≤ 16) }
+    {
+        self.count
+    }
+}
+
+/// The protection field of one end, 0 to 7. It is kept and has no effect (profile). A contract sees the number.
+#[derive(Clone, Copy, PartialEq, Eq, Debug)]
+pub struct Protection {
+    prot_ctrl: u8,
+}
+
+impl Model for Protection {
+    ghost use Rattle.std.specs.Prelude.{ℕ, ◌<◌, ◌≤◌};
+
+    ghost Value = { ℕ };
+
+    ghost view = { λ p. p.prot_ctrl };
+
+    ghost invariant = { λ p. p.prot_ctrl < 8 };
+
+    ghost inverse = { λ n. record { prot_ctrl = n } };
+}
+
+impl Protection {
+    /// The field of this code; None above 7.
+    pub fn new(prot_ctrl: u8) -> Option<Protection>
+        ensures some { IsSome result ↔ (prot_ctrl < 8) }
+        ensures value { IfSome result (λ protection. protection ≡ prot_ctrl) }
+    {
+        if prot_ctrl < 8 {
+            Some(Protection::of_code(prot_ctrl))
+        } else {
+            None
+        }
+    }
+
+    /// The field of a code that is known to be at most 7.
+    pub fn of_code(prot_ctrl: u8) -> Protection
+        requires { prot_ctrl < 8 }
+        ensures { result ≡ prot_ctrl }
+    {
+        Protection { prot_ctrl }
+    }
+
+    pub fn code(self) -> u8
+        ensures value { result ≡ self }
+        ensures range { self < 8 }
+    {
+        self.prot_ctrl
+    }
+}
+
+/// The cache field of one end, 0 to 7. It is kept and has no effect (profile). A contract sees the number.
+#[derive(Clone, Copy, PartialEq, Eq, Debug)]
+pub struct Cache {
+    cache_ctrl: u8,
+}
+
+impl Model for Cache {
+    ghost use Rattle.std.specs.Prelude.{ℕ, ◌<◌, ◌≤◌};
+
+    ghost Value = { ℕ };
+
+    ghost view = { λ c. c.cache_ctrl };
+
+    ghost invariant = { λ c. c.cache_ctrl < 8 };
+
+    ghost inverse = { λ n. record { cache_ctrl = n } };
+}
+
+impl Cache {
+    /// The field of this code; None above 7.
+    pub fn new(cache_ctrl: u8) -> Option<Cache>
+        ensures some { IsSome result ↔ (cache_ctrl < 8) }
+        ensures value { IfSome result (λ field. field ≡ cache_ctrl) }
+    {
+        if cache_ctrl < 8 {
+            Some(Cache::of_code(cache_ctrl))
+        } else {
+            None
+        }
+    }
+
+    /// The field of a code that is known to be at most 7.
+    pub fn of_code(cache_ctrl: u8) -> Cache
+        requires { cache_ctrl < 8 }
+        ensures { result ≡ cache_ctrl }
+    {
+        Cache { cache_ctrl }
+    }
+
+    pub fn code(self) -> u8
+        ensures value { result ≡ self }
+        ensures range { self < 8 }
+    {
+        self.cache_ctrl
+    }
+}
+
+/// The fields of a control word for one end, the source or the destination.
+#[derive(Clone, Copy, PartialEq, Eq, Debug)]
+pub struct BurstEnd {
+    /// Whether the address grows by a burst's bytes; if not, each beat uses the same address.
+    pub increments: bool,
+    pub size: BeatSize,
+    pub beats: Beats,
+    pub protection: Protection,
+    pub cache: Cache,
+}
+
+impl BurstEnd {
+    /// The bytes of one beat, 1 to 16.
+    pub fn beat_bytes(&self) -> u32
+        ensures value { result ≡ beat_bytes self.now.size }
+        ensures range { (1 ≤ result) × (result ≤ 16) }
+    {
+        self.size.bytes()
+    }
+
+    /// The bytes of one burst, 1 to 256.
+    pub fn burst_bytes(&self) -> u32
+        ensures value { result ≡ burst_bytes self.now }
+        ensures range { (1 ≤ result) × (result ≤ 256) }
+    {
+        u32::from(self.beats.number()) * self.beat_bytes()
+    }
+
+    // The end whose lowest bit is this one; None where its size is reserved.
+    #[tactic(auto, unfolding(crate::specs::ControlWord::end_at))]
+    fn at(bits: u32, from: u32) -> Option<BurstEnd>
+        requires { from ≤ 14 }
+        ensures { result ≡ end_at from bits }
+    {
+        let size = BeatSize::from_code(three_bits(bits, from + 1))?;
+        Some(BurstEnd {
+            increments: one_bit(bits, from) == 1,
+            size,
+            beats: Beats::of_number(four_bits(bits, from + 4) + 1),
+            protection: Protection::of_code(three_bits(bits, from + 8)),
+            cache: Cache::of_code(three_bits(bits, from + 11)),
+        })
+    }
+
+    // The fourteen bits of one end.
+    #[tactic(auto, unfolding(crate::specs::ControlWord::end_bits))]
+    fn bits(&self) -> u32
+        ensures value { result ≡ end_bits self.now }
+        ensures range { result < 2 ^ 14 }
+        ensures in_range { HasEndRanges self.now }
+    {
+        let low = if self.increments { 1 } else { 0 };
+        let size = u32::from(self.size.code()) << 1;
+        let beats = u32::from(self.beats.number() - 1) << 4;
+        let protection = u32::from(self.protection.code()) << 8;
+        let cache = u32::from(self.cache.code()) << 11;
+        low + size + beats + protection + cache
+    }
+}
+
+/// A control word by its fields: how a load reads the source, and how a store writes the destination.
+#[derive(Clone, Copy, PartialEq, Eq, Debug)]
+pub struct Control {
+    pub src: BurstEnd,
+    pub dst: BurstEnd,
+}
+
+impl Control {
+    /// The fields of a word, or the first refusal: a reserved size of either end, then a swap, then bit 31.
+    pub fn from_bits(bits: u32) -> Result<Control, ControlFault>
+        // The fields and the refusals, as a function of the word.
+        ensures exact { result ≡ control_of bits }
+        // The fields, bit by bit.
+        ensures fields { IfOk result (λ control. HasFields bits control) }
+        // The fields give the word back.
+        ensures back { IfOk result (λ control. bits_of control ≡ bits) }
+    {
+        read(bits)
+    }
+
+    /// The word of these fields.
+    pub fn bits(&self) -> u32
+        ensures value { result ≡ bits_of self.now }
+        // What the types of the fields keep.
+        ensures src_in_range { HasEndRanges self.now.src }
+        ensures dst_in_range { HasEndRanges self.now.dst }
+        // The word has these fields.
+        ensures fields { HasFields result self.now }
+        // The word gives the fields back.
+        ensures again { control_of result ≡ Ok self.now }
+    {
+        write(self)
+    }
+}
+
+#[tactic(auto, unfolding(crate::specs::ControlWord::control_of))]
+fn read(bits: u32) -> Result<Control, ControlFault>
+    ensures { result ≡ control_of bits }
+{
+    let (Some(src), Some(dst)) = (BurstEnd::at(bits, 0), BurstEnd::at(bits, 14)) else {
+        return Err(ControlFault::ReservedSize);
+    };
+    if three_bits(bits, 28) != 0 {
+        return Err(ControlFault::Swap);
+    }
+    if one_bit(bits, 31) != 0 {
+        return Err(ControlFault::Bit31);
+    }
+    Ok(Control { src, dst })
+}
+
+#[tactic(auto, unfolding(crate::specs::ControlWord::bits_of))]
+fn write(control: &Control) -> u32
+    ensures value { result ≡ bits_of control.now }
+    ensures src_in_range { HasEndRanges control.now.src }
+    ensures dst_in_range { HasEndRanges control.now.dst }
+{
+    control.src.bits() + (control.dst.bits() << 14)
+}
+
+fn one_bit(bits: u32, from: u32) -> u8
+    requires { from < 32 }
+    ensures value { result ≡ field from 1 bits }
+    ensures range { result < 2 }
+{
+    (bits >> from & 0x1) as u8
+}
+
+fn three_bits(bits: u32, from: u32) -> u8
+    requires { from < 32 }
+    ensures value { result ≡ field from 3 bits }
+    ensures range { result < 8 }
+{
+    (bits >> from & 0x7) as u8
+}
+
+fn four_bits(bits: u32, from: u32) -> u8
+    requires { from < 32 }
+    ensures value { result ≡ field from 4 bits }
+    ensures range { result < 16 }
+{
+    (bits >> from & 0xf) as u8
+}
+
+#[cfg(test)]
+mod tests {
+    use super::*;
+    use std::test::Fail;
+
+    // Both ends alike, with rising addresses, and all other bits 0.
+    fn both_ends(size: BeatSize, beats: u8) -> Option<Control> {
+        let end = BurstEnd {
+            increments: true,
+            size,
+            beats: Beats::new(beats)?,
+            protection: Protection::new(0)?,
+            cache: Cache::new(0)?,
+        };
+        Some(Control { src: end, dst: end })
+    }
+
+    #[test]
+    fn words_of_rising_bursts(rt: HostRuntime) -> Result<(), Fail> {
+        let rows = [
+            (BeatSize::One, 1, 0x0000_4001),
+            (BeatSize::One, 5, 0x0010_4041),
+            (BeatSize::One, 12, 0x002c_40b1),
+            (BeatSize::One, 16, 0x003c_40f1),
+            (BeatSize::Two, 1, 0x0000_c003),
+            (BeatSize::Four, 1, 0x0001_4005),
+            (BeatSize::Sixteen, 2, 0x0006_4019),
+            (BeatSize::Sixteen, 16, 0x003e_40f9),
+        ];
+        for (size, beats, bits) in rows {
+            let control = both_ends(size, beats).ok_or("in range")?;
+            assert_eq!(rt; control.bits(), bits);
+            assert_eq!(rt; Control::from_bits(bits), Ok(control));
+        }
+        Ok(())
+    }
+
+    #[test]
+    fn protection_and_cache_are_kept(rt: HostRuntime) -> Result<(), Fail> {
+        let control = Control::from_bits(0x0ffd_bff7)
+            .ok()
+            .ok_or("a control word")?;
+        let bits = control.bits();
+        let (src, dst) = (control.src, control.dst);
+        assert_eq!(rt; (src.increments, dst.increments), (true, false));
+        assert_eq!(rt; (src.protection.code(), dst.cache.code()), (7, 7));
+        assert_eq!(rt; bits, 0x0ffd_bff7);
+        Ok(())
+    }
+
+    #[test]
+    fn refusals_come_in_their_order(rt: HostRuntime) {
+        assert_eq!(rt;
+            Control::from_bits(0x0000_000b),
+            Err(ControlFault::ReservedSize)
+        );
+        assert_eq!(rt;
+            Control::from_bits(0xf003_8000),
+            Err(ControlFault::ReservedSize)
+        );
+        assert_eq!(rt; Control::from_bits(0xc000_0000), Err(ControlFault::Swap));
+        assert_eq!(rt; Control::from_bits(0x8000_0000), Err(ControlFault::Bit31));
+    }
+
+    #[test]
+    fn bytes_of_beats_and_bursts(rt: HostRuntime) -> Result<(), Fail> {
+        let src = both_ends(BeatSize::Eight, 12).ok_or("in range")?.src;
+        assert_eq!(rt; src.beat_bytes(), 8);
+        assert_eq!(rt; src.burst_bytes(), 96);
+        assert_eq!(rt; BeatSize::from_code(4), Some(BeatSize::Sixteen));
+        assert_eq!(rt; BeatSize::from_code(5), None);
+        assert_eq!(rt; BeatSize::Two.code(), 1);
+        assert_eq!(rt; BeatSize::Sixteen.bytes(), 16);
+        assert_eq!(rt; Beats::new(17), None);
+        assert_eq!(rt; Protection::new(8), None);
+        assert_eq!(rt; Cache::new(8), None);
+        assert_eq!(rt; Beats::of_number(16).number(), 16);
+        assert_eq!(rt; Protection::of_code(5).code(), 5);
+        assert_eq!(rt; Cache::of_code(6).code(), 6);
+        Ok(())
+    }
+}

@@ -1,0 +1,139 @@
+//! One channel instruction as a value. Its types keep the ranges of what it carries, so that no value is outside the grammar.
+
+ghost use Rattle.std.specs.Prelude.{◌≡◌, ℕ, ◌<◌, ◌≤◌, ◌↔◌, IsSome, IfSome};
+
+use std::marker::Model;
+
+/// A register that DMAMOV sets: the source address, the control word, the destination address.
+#[derive(Clone, Copy, PartialEq, Eq, Debug)]
+pub enum Reg {
+    Sar,
+    Ccr,
+    Dar,
+}
+
+/// One of a channel's two loop counters, the manual's LC0 and LC1.
+#[derive(Clone, Copy, PartialEq, Eq, Debug)]
+pub enum Counter {
+    Lc0,
+    Lc1,
+}
+
+/// The number of an event, 0 to 31. A contract sees the number.
+#[derive(Clone, Copy, PartialEq, Eq, Debug)]
+pub struct Event {
+    number: u8,
+}
+
+impl Model for Event {
+    ghost Value = { ℕ };
+
+    ghost view = { λ e. e.number };
+
+    ghost invariant = { λ e. e.number < 32 };
+
+    ghost inverse = { λ n. record { number = n } };
+}
+
+impl Event {
+    /// The event of this number; None above 31.
+    pub fn new(number: u8) -> Option<Event>
+        ensures some { IsSome result ↔ (number < 32) }
+        ensures value { IfSome result (λ event. event ≡ number) }
+    {
+        if number < 32 {
+            Some(Event::of_number(number))
+        } else {
+            None
+        }
+    }
+
+    /// The event of a number that is known to be at most 31.
+    pub fn of_number(number: u8) -> Event
+        requires { number < 32 }
+        ensures { result ≡ number }
+    {
+        Event { number }
+    }
+
+    pub fn number(self) -> u8
+        ensures value { result ≡ self }
+        ensures range { self < 32 }
+    {
+        self.number
+    }
+}
+
+/// How often the body of a loop is run, 1 to 256. A contract sees the number.
+#[derive(Clone, Copy, PartialEq, Eq, Debug)]
+pub struct Times {
+    count: u16,
+}
+
+impl Model for Times {
+    ghost Value = { ℕ };
+
+    ghost view = { λ t. t.count };
+
+    ghost invariant = { λ t. (1 ≤ t.count) × (t.count ≤ 256) };
+
+    ghost inverse = { λ n. record { count = n } };
+}
+
+impl Times {
+    /// This many times; None for 0 and above 256.
+    pub fn new(count: u16) -> Option<Times>
+        ensures some { IsSome result ↔ ((1 ≤ count) × (count ≤ 256)) }
+        ensures value { IfSome result (λ times. times ≡ count) }
+    {
+        if 1 <= count && count <= 256 {
+            Some(Times::of_number(count))
+        } else {
+            None
+        }
+    }
+
+    /// This many times, where the number is known to be from 1 to 256.
+    pub fn of_number(count: u16) -> Times
+        requires low { 1 ≤ count }
+        requires high { count ≤ 256 }
+        ensures { result ≡ count }
+    {
+        Times { count }
+    }
+
+    pub fn number(self) -> u16
+        ensures value { result ≡ self }
+        ensures range { (1 ≤ self) × (self ≤ 256) }
+    {
+        self.count
+    }
+}
+
+/// One channel instruction (PL330 manual, instruction chapter). The field `back` of a loop's end is how many bytes before its
+/// own address the loop's body begins.
+#[derive(Clone, Copy, PartialEq, Eq, Debug)]
+pub enum Insn {
+    /// DMAMOV
+    Mov(Reg, u32),
+    /// DMALD
+    Ld,
+    /// DMAST
+    St,
+    /// DMARMB
+    Rmb,
+    /// DMAWMB
+    Wmb,
+    /// DMANOP
+    Nop,
+    /// DMAEND
+    End,
+    /// DMALP
+    Lp { counter: Counter, times: Times },
+    /// DMALPEND
+    LpEnd { counter: Counter, back: u8 },
+    /// DMASEV
+    Sev(Event),
+    /// DMAWFE
+    Wfe { event: Event, invalid: bool },
+}

@@ -1,0 +1,385 @@
+//! One line of assembly text: its words, and the instruction that they write.
+
+ghost use Rattle.std.specs.Prelude.{◌≡◌, ℕ, ◌+◌, ◌<◌, ◌≤◌, ◌==◌, ◌∷◌, [], List, length, position, Option, MatchOption, IfSome, Result, Ok};
+ghost use Rattle.std.specs.List.{list_all};
+ghost use Rattle.std.specs.Option.{option_map};
+ghost use Rattle.std.specs.Str.{bytes_eq};
+ghost use Rattle.dma_insn.specs.AssemblyText.{text_lines, words_of, is_skipped};
+ghost use Rattle.dma_insn.specs.LineReading.{SeenAs, words_after, no_word, one_word, two_words, wait_words, digit_of, digits_from, number_of, number_at, hex_digit_of, hex_from, value_of, value_at, register_of, register_at, counter_at, times_at, back_at, event_at, two_numbers, loop_line, loop_end_line, signal_line, wait_line, set_line, bare_line, name_of, line_by, line_in};
+
+use crate::assembler::Cause;
+use crate::insn::{Counter, Event, Insn, Reg, Times};
+
+/// The name that a line begins with.
+#[derive(Clone, Copy, PartialEq, Eq, Debug)]
+pub enum Name {
+    End,
+    Ld,
+    St,
+    Rmb,
+    Wmb,
+    Nop,
+    Lp,
+    LpEnd,
+    Sev,
+    Wfe,
+    Mov,
+}
+
+// Where a byte stands first.
+fn place_of(byte: u8, bytes: &[u8]) -> Option<usize>
+    ensures { result ≡ position (λ b. b == byte) bytes.now }
+{
+    bytes.iter().position(|b| *b == byte)
+}
+
+/// The first line of a text, without its line feed, and what follows it.
+pub fn split_line(text: &[u8]) -> (&[u8], &[u8])
+    requires { 0 < length text.now }
+    ensures first { text_lines text.now ≡ result.0.now ∷ text_lines result.1.now }
+    ensures shorter { length result.1.now < length text.now }
+{
+    match place_of(b'\n', text) {
+        Some(end) => (&text[..end], &text[end + 1..]),
+        None => (text, &[]),
+    }
+}
+
+// The first word, and what follows it, which begins with a space.
+fn split_word(text: &[u8]) -> (&[u8], &[u8])
+    ensures { words_of text.now ≡ result.0.now ∷ words_after result.1.now }
+{
+    match place_of(b' ', text) {
+        Some(end) => (&text[..end], &text[end..]),
+        None => (text, &[]),
+    }
+}
+
+// The next word, and what follows it.
+fn next_word(rest: &[u8]) -> Option<(&[u8], &[u8])>
+    ensures { MatchOption result (words_after rest.now ≡ []) (λ w. words_after rest.now ≡ w.0.now ∷ words_after w.1.now) }
+{
+    match rest {
+        [] => None,
+        [_, text @ ..] => Some(split_word(text)),
+    }
+}
+
+/// Whether a line has only spaces or begins with `#`.
+pub fn is_skipped(line: &[u8]) -> bool
+    ensures { result ≡ is_skipped line.now }
+{
+    is_blank(line) || line.first() == Some(&b'#')
+}
+
+fn is_blank(line: &[u8]) -> bool
+    ensures { result ≡ list_all (λ b. b == 32) line.now }
+{
+    line.iter().all(|b| *b == b' ')
+}
+
+fn is_text(word: &[u8], text: &[u8]) -> bool
+    ensures { result ≡ bytes_eq word.now text.now }
+{
+    word == text
+}
+
+// No word.
+fn no_more(rest: &[u8]) -> Result<(), Cause>
+    ensures { result ≡ no_word (words_after rest.now) }
+{
+    match next_word(rest) {
+        None => Ok(()),
+        Some(_) => Err(Cause::Operand),
+    }
+}
+
+// One word and no more.
+fn one(rest: &[u8]) -> Result<&[u8], Cause>
+    ensures { SeenAs (λ a. a.now) result (one_word (words_after rest.now)) }
+{
+    let Some((a, rest)) = next_word(rest) else {
+        return Err(Cause::Operand);
+    };
+    match next_word(rest) {
+        None => Ok(a),
+        Some(_) => Err(Cause::Operand),
+    }
+}
+
+// Two words and no more.
+fn two(rest: &[u8]) -> Result<(&[u8], &[u8]), Cause>
+    ensures { SeenAs (λ w. (w.0.now, w.1.now)) result (two_words (words_after rest.now)) }
+{
+    let Some((a, rest)) = next_word(rest) else {
+        return Err(Cause::Operand);
+    };
+    let Some((b, rest)) = next_word(rest) else {
+        return Err(Cause::Operand);
+    };
+    match next_word(rest) {
+        None => Ok((a, b)),
+        Some(_) => Err(Cause::Operand),
+    }
+}
+
+// A word, and whether `invalid` stands behind it.
+fn one_or_invalid(rest: &[u8]) -> Result<(&[u8], bool), Cause>
+    ensures { SeenAs (λ w. (w.0.now, w.1)) result (wait_words (words_after rest.now)) }
+{
+    let Some((a, rest)) = next_word(rest) else {
+        return Err(Cause::Operand);
+    };
+    let Some((b, rest)) = next_word(rest) else {
+        return Ok((a, false));
+    };
+    if next_word(rest).is_some() || !is_text(b, b"invalid") {
+        return Err(Cause::Operand);
+    }
+    Ok((a, true))
+}
+
+fn decimal_digit(byte: u8) -> Option<u16>
+    ensures { result ≡ digit_of byte }
+{
+    match byte {
+        b'0'..=b'9' => Some(u16::from(byte - b'0')),
+        _ => None,
+    }
+}
+
+// Decimal digits, read as at most 65,535.
+fn digits(word: &[u8]) -> Option<u16>
+    ensures { result ≡ digits_from 0 word.now }
+{
+    let mut value = 0u16;
+    for byte in word {
+        value = value
+            .saturating_mul(10)
+            .saturating_add(decimal_digit(*byte)?);
+    }
+    Some(value)
+}
+
+// A decimal number without leading zeros.
+fn number(word: &[u8]) -> Result<u16, Cause>
+    ensures { result ≡ number_at word.now }
+{
+    match word {
+        [] => Err(Cause::Operand),
+        [_] => digits(word).ok_or(Cause::Operand),
+        [first, ..] => {
+            if *first == b'0' {
+                return Err(Cause::Operand);
+            }
+            digits(word).ok_or(Cause::Operand)
+        }
+    }
+}
+
+fn hex_digit(byte: u8) -> Option<u32>
+    ensures value { result ≡ hex_digit_of byte }
+    ensures range { IfSome result (λ d. d < 16) }
+{
+    match byte {
+        b'0'..=b'9' => Some(u32::from(byte - b'0')),
+        b'A'..=b'F' => Some(u32::from(byte - b'A') + 10),
+        _ => None,
+    }
+}
+
+// Eight hexadecimal digits.
+fn hex_digits(digits: &[u8]) -> Option<u32>
+    requires { length digits.now ≡ 8 }
+    ensures { result ≡ hex_from 0 digits.now }
+{
+    let mut value = 0u32;
+    for byte in digits {
+        value = value * 16 + hex_digit(*byte)?;
+    }
+    Some(value)
+}
+
+// 0x and eight hexadecimal digits.
+fn value(word: &[u8]) -> Result<u32, Cause>
+    ensures { result ≡ value_at word.now }
+{
+    match word {
+        [b'0', b'x', digits @ ..] if digits.len() == 8 => hex_digits(digits).ok_or(Cause::Operand),
+        _ => Err(Cause::Operand),
+    }
+}
+
+fn register(word: &[u8]) -> Result<Reg, Cause>
+    ensures { result ≡ register_at word.now }
+{
+    if is_text(word, b"SAR") {
+        Ok(Reg::Sar)
+    } else if is_text(word, b"CCR") {
+        Ok(Reg::Ccr)
+    } else if is_text(word, b"DAR") {
+        Ok(Reg::Dar)
+    } else {
+        Err(Cause::Operand)
+    }
+}
+
+fn counter(number: u16) -> Result<Counter, Cause>
+    ensures { result ≡ counter_at number }
+{
+    match number {
+        0 => Ok(Counter::Lc0),
+        1 => Ok(Counter::Lc1),
+        _ => Err(Cause::Range),
+    }
+}
+
+fn times(number: u16) -> Result<Times, Cause>
+    ensures { result ≡ times_at number }
+{
+    if 1 <= number && number <= 256 {
+        Ok(Times::of_number(number))
+    } else {
+        Err(Cause::Range)
+    }
+}
+
+fn back(number: u16) -> Result<u8, Cause>
+    ensures { result ≡ back_at number }
+{
+    if number <= 255 {
+        Ok(number as u8)
+    } else {
+        Err(Cause::Range)
+    }
+}
+
+fn event(number: u16) -> Result<Event, Cause>
+    ensures { result ≡ event_at number }
+{
+    if number <= 31 {
+        Ok(Event::of_number(number as u8))
+    } else {
+        Err(Cause::Range)
+    }
+}
+
+fn numbers(rest: &[u8]) -> Result<(u16, u16), Cause>
+    ensures { result ≡ two_numbers (words_after rest.now) }
+{
+    let (a, b) = two(rest)?;
+    let a = number(a)?;
+    let b = number(b)?;
+    Ok((a, b))
+}
+
+fn loop_start(rest: &[u8]) -> Result<Insn, Cause>
+    ensures { result ≡ loop_line (words_after rest.now) }
+{
+    let (a, b) = numbers(rest)?;
+    let counter = counter(a)?;
+    let times = times(b)?;
+    Ok(Insn::Lp { counter, times })
+}
+
+fn loop_end(rest: &[u8]) -> Result<Insn, Cause>
+    ensures { result ≡ loop_end_line (words_after rest.now) }
+{
+    let (a, b) = numbers(rest)?;
+    let counter = counter(a)?;
+    let back = back(b)?;
+    Ok(Insn::LpEnd { counter, back })
+}
+
+fn signal(rest: &[u8]) -> Result<Insn, Cause>
+    ensures { result ≡ signal_line (words_after rest.now) }
+{
+    let word = one(rest)?;
+    let number = number(word)?;
+    Ok(Insn::Sev(event(number)?))
+}
+
+fn wait(rest: &[u8]) -> Result<Insn, Cause>
+    ensures { result ≡ wait_line (words_after rest.now) }
+{
+    let (word, invalid) = one_or_invalid(rest)?;
+    let number = number(word)?;
+    let event = event(number)?;
+    Ok(Insn::Wfe { event, invalid })
+}
+
+fn set_register(rest: &[u8]) -> Result<Insn, Cause>
+    ensures { result ≡ set_line (words_after rest.now) }
+{
+    let (a, b) = two(rest)?;
+    let register = register(a)?;
+    let value = value(b)?;
+    Ok(Insn::Mov(register, value))
+}
+
+fn bare(insn: Insn, rest: &[u8]) -> Result<Insn, Cause>
+    ensures { result ≡ bare_line insn (words_after rest.now) }
+{
+    no_more(rest)?;
+    Ok(insn)
+}
+
+fn name_in(word: &[u8]) -> Option<Name>
+    ensures { result ≡ name_of word.now }
+{
+    if is_text(word, b"DMAEND") {
+        Some(Name::End)
+    } else if is_text(word, b"DMALD") {
+        Some(Name::Ld)
+    } else if is_text(word, b"DMAST") {
+        Some(Name::St)
+    } else if is_text(word, b"DMARMB") {
+        Some(Name::Rmb)
+    } else if is_text(word, b"DMAWMB") {
+        Some(Name::Wmb)
+    } else if is_text(word, b"DMANOP") {
+        Some(Name::Nop)
+    } else if is_text(word, b"DMALP") {
+        Some(Name::Lp)
+    } else if is_text(word, b"DMALPEND") {
+        Some(Name::LpEnd)
+    } else if is_text(word, b"DMASEV") {
+        Some(Name::Sev)
+    } else if is_text(word, b"DMAWFE") {
+        Some(Name::Wfe)
+    } else if is_text(word, b"DMAMOV") {
+        Some(Name::Mov)
+    } else {
+        None
+    }
+}
+
+fn by_name(name: Name, rest: &[u8]) -> Result<Insn, Cause>
+    ensures { result ≡ line_by name (words_after rest.now) }
+{
+    match name {
+        Name::End => bare(Insn::End, rest),
+        Name::Ld => bare(Insn::Ld, rest),
+        Name::St => bare(Insn::St, rest),
+        Name::Rmb => bare(Insn::Rmb, rest),
+        Name::Wmb => bare(Insn::Wmb, rest),
+        Name::Nop => bare(Insn::Nop, rest),
+        Name::Lp => loop_start(rest),
+        Name::LpEnd => loop_end(rest),
+        Name::Sev => signal(rest),
+        Name::Wfe => wait(rest),
+        Name::Mov => set_register(rest),
+    }
+}
+
+/// The instruction that a line writes, or the first cause that holds.
+#[tactic(auto, unfolding(crate::specs::LineReading::line_in))]
+pub fn read_line(line: &[u8]) -> Result<Insn, Cause>
+    ensures { result ≡ line_in (words_of line.now) }
+{
+    let (word, rest) = split_word(line);
+    match name_in(word) {
+        None => Err(Cause::Mnemonic),
+        Some(name) => by_name(name, rest),
+    }
+}
