@@ -1,0 +1,11 @@
+-- Lemmas on how a command ends, on lines, numbers, hexadecimal words and lists of segments, and on the reading of a script;
+-- worked scripts.
+pub mod EndLemmas
+pub mod HexLemmas
+pub mod LineLemmas
+pub mod ListLemmas
+pub mod NumberLemmas
+pub mod PairLemmas
+pub mod RowLemmas
+pub mod ScriptLemmas
+pub mod Rows

@@ -1,0 +1,87 @@
+-- Worked scripts, computed from the definitions.
+use Rattle.std.proofs.Common.{◌≡◌, List, ℕ, [], ◌∷◌, ◌++◌, codes, Some, Ok, Err, refl}
+use Rattle.dma_script.specs.Statements.{run_script_of}
+use Rattle.dma_script.specs.Printing.{program_lines, read_text}
+use Rattle.dma_script.specs.Pairs.{pairs_of}
+use Rattle.dma_script.specs.Plan.{plan_of}
+use Rattle.dma_script.specs.declared.fault.Cause.TheVariants.{Byte, Command, First, Words, Number, Hex, Range, SizeOutOfRange, BadChannels}
+use Rattle.dma_script.specs.declared.statements.Statement.TheVariants.{Write, Read, Copy}
+
+-- a script of a memory line and one more
+abbrev after_memory : List ℕ → List ℕ
+after_memory line = codes "memory 64 1" ++ 10 ∷ line
+
+no_line : run_script_of [] ≡ Err (record { line = 0; cause = First })
+no_line = refl
+
+only_skipped : run_script_of (codes "# note" ++ 13 ∷ 10 ∷ 32 ∷ 9 ∷ []) ≡ Err (record { line = 0; cause = First })
+only_skipped = refl
+
+first_run : run_script_of (after_memory (codes "write 0x10 AA bb" ++ 13 ∷ 10 ∷ codes "copy 0x10+3 to 0x20+1,33+2" ++ 10 ∷ codes "read 0x1F+5" ++ 10 ∷ [])) ≡ Ok (record { size = 64; channels = 1; statements = Write 16 (170 ∷ 187 ∷ []) ∷ Copy (record { addr = 16; len = 3 } ∷ []) (record { addr = 32; len = 1 } ∷ record { addr = 33; len = 2 } ∷ []) ∷ Read (record { addr = 31; len = 5 }) ∷ [] })
+first_run = refl
+
+too_many_words : run_script_of (after_memory (codes "read 4+ 5")) ≡ Err (record { line = 2; cause = Words })
+too_many_words = refl
+
+wrong_to : run_script_of (after_memory (codes "copy 1+x too 2+2")) ≡ Err (record { line = 2; cause = Words })
+wrong_to = refl
+
+memory_again : run_script_of (after_memory (codes "memory x")) ≡ Err (record { line = 2; cause = First })
+memory_again = refl
+
+size_before_channels : run_script_of (codes "memory 0 9") ≡ Err (record { line = 1; cause = SizeOutOfRange })
+size_before_channels = refl
+
+too_large : run_script_of (codes "memory 16777217 1") ≡ Err (record { line = 1; cause = SizeOutOfRange })
+too_large = refl
+
+channels_out_of_range : run_script_of (codes "memory 64 300" ++ 10 ∷ 128 ∷ []) ≡ Err (record { line = 1; cause = BadChannels })
+channels_out_of_range = refl
+
+unknown_first : run_script_of (codes "fetch 1") ≡ Err (record { line = 1; cause = Command })
+unknown_first = refl
+
+byte_before_first : run_script_of (codes "read zz" ++ 128 ∷ []) ≡ Err (record { line = 1; cause = Byte })
+byte_before_first = refl
+
+number_before_hex : run_script_of (after_memory (codes "write zz gg")) ≡ Err (record { line = 2; cause = Number })
+number_before_hex = refl
+
+hex : run_script_of (after_memory (codes "write 0 00 A")) ≡ Err (record { line = 2; cause = Hex })
+hex = refl
+
+return_at_the_end : run_script_of (after_memory (codes "read 0+1" ++ 13 ∷ [])) ≡ Err (record { line = 2; cause = Byte })
+return_at_the_end = refl
+
+printed_read : read_text 31 (0 ∷ 170 ∷ []) ≡ codes "read 0x0000001F 00 AA"
+printed_read = refl
+
+no_program_line : program_lines [] ≡ []
+no_program_line = refl
+
+program_rows : program_lines (0 ∷ 1 ∷ 2 ∷ 3 ∷ 4 ∷ 5 ∷ 6 ∷ 7 ∷ 8 ∷ 9 ∷ 10 ∷ 11 ∷ 12 ∷ 13 ∷ 14 ∷ 15 ∷ 188 ∷ 64 ∷ []) ≡ codes "00 01 02 03 04 05 06 07 08 09 0A 0B 0C 0D 0E 0F" ∷ codes "BC 40" ∷ []
+program_rows = refl
+
+some_pairs : pairs_of (codes "22 fF" ++ 10 ∷ codes "0a" ++ 13 ∷ 9 ∷ []) ≡ Ok (34 ∷ 255 ∷ 10 ∷ [])
+some_pairs = refl
+
+lone_digit : pairs_of (codes "3") ≡ Err 1
+lone_digit = refl
+
+lone_digit_before_a_line_feed : pairs_of (codes "22" ++ 10 ∷ codes "3" ++ 10 ∷ codes "4") ≡ Err 2
+lone_digit_before_a_line_feed = refl
+
+whole_plan : plan_of (codes "# one" ++ 10 ∷ codes "1+2 to 3+2 wait 3 signal 255") ≡ Ok (record { line = 2; src = record { addr = 1; len = 2 } ∷ []; dst = record { addr = 3; len = 2 } ∷ []; wait = Some 3; signal = Some 255 })
+whole_plan = refl
+
+no_plan : plan_of [] ≡ Err (record { line = 0; cause = First })
+no_plan = refl
+
+second_plan : plan_of (codes "1+1 to 2+1" ++ 10 ∷ codes "x") ≡ Err (record { line = 2; cause = Words })
+second_plan = refl
+
+wait_signal : plan_of (codes "1+1 to 2+1 wait signal") ≡ Err (record { line = 1; cause = Number })
+wait_signal = refl
+
+event_out_of_range : plan_of (codes "1+1 to 2+1 signal 256") ≡ Err (record { line = 1; cause = Range })
+event_out_of_range = refl

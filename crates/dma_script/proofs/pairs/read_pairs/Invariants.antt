@@ -1,0 +1,14 @@
+-- Reading the rest behind the bytes so far is reading the whole input.
+use Rattle.std.proofs.Common.{◌≡◌, ◌+◌, ◌≤◌, length}
+use Rattle.dma_script.specs.Pairs.{pairs_of}
+use Rattle.dma_script.proofs.PairLemmas.{pairs_after}
+use Rattle.dma_script.proofs.pairs.read_pairs.Given as goal
+
+abbrev pub invariant-loop-rest : goal.invariant-loop-rest
+invariant-loop-rest l = record {
+  counted : l.line + length l.rest ≤ length l.input + 1;
+  reads : pairs_after l.bytes.items l.line l.rest ≡ pairs_of l.input;
+}
+
+abbrev pub decreases-loop-rest : goal.decreases-loop-rest
+decreases-loop-rest l = length l.rest

@@ -1,0 +1,44 @@
+-- What a command prints for an input, and how a call of it may end.
+use Rattle.std.specs.Prelude.{◌≡◌, ◌<◌, ℕ, List, [], ◌∷◌, ◌++◌, flat_map, take, length, codes, nat_lt, if◌then◌else◌, Option}
+use Rattle.std.specs.Io.KnownBytes.{Appends}
+
+-- What a command prints: for each input line the lines that it prints, without their line feeds, and the exit status.
+-- A command that prints all or nothing has one group, be it empty.
+pub record Printed : Type 0 where
+  pub groups : List (List (List ℕ))
+  pub status : ℕ
+
+-- each line with its line feed
+abbrev pub text_of : List (List ℕ) → List ℕ
+text_of lines = flat_map (λ line. line ++ 10 ∷ []) lines
+
+-- the text of one group after another
+abbrev pub printed_text : List (List (List ℕ)) → List ℕ
+printed_text groups = flat_map text_of groups
+
+-- the longest input that is carried out, in bytes (profile)
+abbrev pub longest_input : ℕ
+longest_input = 4194304
+
+-- one line, and status 1
+abbrev pub refusal : List ℕ → Printed
+refusal line = record { groups = (line ∷ []) ∷ []; status = 1 }
+
+-- What is printed for an input of any length, given what is printed for one that is not too long (profile).
+abbrev pub printed_within : (List ℕ → Printed) → List ℕ → Printed
+printed_within printed input = if nat_lt longest_input (length input) then refusal (codes "line 0: InputTooLong") else printed input
+
+-- the new bytes are the old ones and then the text of the first groups, at least one group being left out
+pub record AppendsGroups (groups : List (List (List ℕ))) (old new : List ℕ) : Type 0 where
+  pub count : ℕ
+  pub some_left : count < length groups
+  pub whole : new ≡ old ++ printed_text (take count groups)
+
+-- How a call of a command ends (profile). reader_failed and writer_failed say that a call of the stream failed; old and
+-- new are the bytes that the writer held before and holds now, where they are known. Either all is printed; or memory was
+-- refused, and exactly the first groups stand there; or the reader failed, and one line says so; or the writer failed.
+pub data Ends (reader_failed writer_failed : Type 0) (printed : Printed) (old new : Option (List ℕ)) (status : ℕ) : Type 0 where
+  complete : Appends old new (printed_text printed.groups) → status ≡ printed.status → Ends reader_failed writer_failed printed old new status
+  out_of_memory : (count : ℕ) → count < length printed.groups → Appends old new (printed_text (take count printed.groups)) → status ≡ 3 → Ends reader_failed writer_failed printed old new status
+  input_fault : reader_failed → Appends old new (text_of (codes "input failed" ∷ [])) → status ≡ 1 → Ends reader_failed writer_failed printed old new status
+  output_fault : writer_failed → status ≡ 1 → Ends reader_failed writer_failed printed old new status

@@ -1,0 +1,56 @@
+-- The lines that are printed, without their line feeds (profile).
+use Rattle.std.specs.Prelude.{ℕ, ◌+◌, ◌*◌, ◌/◌, ◌%◌, true, List, [], ◌∷◌, length, map, flat_map, take, drop, codes, decimal}
+use Rattle.std.specs.List.{concat, range_with_len}
+use Rattle.std.specs.Fmt.{digit_glyph}
+use Rattle.std.specs.Int.{to_be_bytes, w32}
+use Rattle.dma_script.specs.declared.fault.Cause.{Cause}
+use Rattle.dma_script.specs.declared.fault.Cause.TheVariants.{Byte, Command, First, Words, Number, Hex, Range, SizeOutOfRange, BadChannels}
+use Rattle.dma_script.specs.declared.fault.Fault.{Fault}
+
+-- the name of a cause
+abbrev pub cause_name : Cause → List ℕ
+cause_name Byte = codes "Byte"
+cause_name Command = codes "Command"
+cause_name First = codes "First"
+cause_name Words = codes "Words"
+cause_name Number = codes "Number"
+cause_name Hex = codes "Hex"
+cause_name Range = codes "Range"
+cause_name SizeOutOfRange = codes "SizeOutOfRange"
+cause_name BadChannels = codes "BadChannels"
+
+-- the line that a fault of a script prints
+abbrev pub fault_line : Fault → List ℕ
+fault_line fault = concat (codes "line " ∷ decimal fault.line ∷ codes ": " ∷ cause_name fault.cause ∷ [])
+
+-- a byte in two capital hexadecimal digits
+abbrev pub hex_byte_of : ℕ → List ℕ
+hex_byte_of b = digit_glyph true (b / 16) ∷ digit_glyph true (b % 16) ∷ []
+
+-- bytes with a space before each
+abbrev pub spaced_bytes : List ℕ → List ℕ
+spaced_bytes bytes = flat_map (λ b. 32 ∷ hex_byte_of b) bytes
+
+-- an address in eight digits
+abbrev pub hex_address : ℕ → List ℕ
+hex_address addr = flat_map hex_byte_of (to_be_bytes w32 addr)
+
+-- the line that a read prints, for its address and the bytes that stand there
+abbrev pub read_text : ℕ → List ℕ → List ℕ
+read_text addr bytes = concat (codes "read 0x" ∷ hex_address addr ∷ spaced_bytes bytes ∷ [])
+
+-- the bytes of one printed line: those of a row of the given number, from 0, sixteen to a row
+abbrev pub row_at : List ℕ → ℕ → List ℕ
+row_at bytes row = take 16 (drop (16 * row) bytes)
+
+-- the rows of the bytes, the last one shorter where they are no multiple of sixteen; no row for no bytes
+abbrev pub rows : List ℕ → List (List ℕ)
+rows bytes = map (row_at bytes) (range_with_len 0 ((length bytes + 15) / 16))
+
+-- the line of a row, with a space between two bytes
+abbrev pub row_line : List ℕ → List ℕ
+row_line row = drop 1 (spaced_bytes row)
+
+-- the lines that a program prints
+abbrev pub program_lines : List ℕ → List (List ℕ)
+program_lines bytes = map row_line (rows bytes)

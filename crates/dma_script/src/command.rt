@@ -1,0 +1,67 @@
+//! A command: what it prints for an input, and how it is run over a reader and a writer.
+ghost use Rattle.std.specs.Prelude.{◌≡◌, ◌++◌, ◌≤◌, ◌<◌, ◌⊎◌, List, ℕ, IfOk, OnErr, OnOk, IfSome, length};
+ghost use Rattle.std.specs.Io.KnownBytes.{Appends};
+ghost use Rattle.dma_script.specs.Command.{AppendsGroups, Ends, Printed, printed_text, printed_within};
+
+use crate::input::{InputError, LONGEST_INPUT, Source, read_input};
+use crate::output::{Sink, write_output};
+use std::alloc::{AllocError, Global};
+
+/// The exit status of a call that printed what its input asks for.
+pub const SUCCESS: u8 = 0;
+
+/// The exit status where the input has a fault, or a stream failed.
+pub const FAULT: u8 = 1;
+
+/// The exit status where memory was refused.
+pub const OUT_OF_MEMORY: u8 = 3;
+
+/// A command, by what it prints for an input that is not too long.
+pub trait Command {
+    ghost printed: { List ℕ → Printed };
+
+    /// Appends the printed text, and gives the status. Where memory is refused, exactly the text of the first groups is
+    /// appended, at least one group being left out.
+    fn answer(&self, alloc: Global, input: &[u8], out: &mut Vec<u8>) -> Result<u8, AllocError>
+        requires { length input.now ≤ LONGEST_INPUT }
+        ensures text { OnOk result (out.new.items ≡ out.old.items ++ printed_text (printed input.now).groups) }
+        ensures status { IfOk result (λ status. status ≡ (printed input.now).status) }
+        ensures refused { OnErr result (AppendsGroups (printed input.now).groups out.old.items out.new.items) };
+
+    // There is a group, be it empty, so that want of memory always leaves one out.
+    ghost some_group: { (input : List ℕ) → 0 < length (printed input).groups };
+}
+
+/// Writes the text and gives the status, or the status of a fault where a write fails.
+fn finish<W: Sink>(writer: &mut W, text: &[u8], status: u8) -> u8
+    ensures { ((result ≡ status) × Appends (W.contents writer.old) (W.contents writer.new) text.now)
+        ⊎ ((result ≡ FAULT) × W.has_failed writer.new) }
+{
+    match write_output(writer, text) {
+        Ok(()) => status,
+        Err(_) => FAULT,
+    }
+}
+
+/// Reads all there is, writes what the command prints for it and nothing else, and gives the exit status.
+pub fn serve<C: Command, R: Source, W: Sink>(
+    command: &C,
+    alloc: Global,
+    reader: &mut R,
+    writer: &mut W,
+) -> u8
+    ensures { IfSome (R.remaining reader.old) (λ input. Ends (R.has_failed reader.new) (W.has_failed writer.new)
+        (printed_within C.printed input) (W.contents writer.old) (W.contents writer.new) result) }
+{
+    let input = match read_input(alloc, reader) {
+        Ok(input) => input,
+        Err(InputError::Failed) => return finish(writer, b"input failed\n", FAULT),
+        Err(InputError::TooLong) => return finish(writer, b"line 0: InputTooLong\n", FAULT),
+        Err(InputError::NoMemory) => return OUT_OF_MEMORY,
+    };
+    let mut out = Vec::new(alloc);
+    match command.answer(alloc, &input, &mut out) {
+        Ok(status) => finish(writer, &out, status),
+        Err(_) => finish(writer, &out, OUT_OF_MEMORY),
+    }
+}

@@ -1,0 +1,146 @@
+//! A reader and a writer for tests, which tell their bytes, and fail or move few bytes at the calls that they are told.
+ghost use Rattle.std.specs.Prelude.{◌≡◌, ◌≤◌, ◌<◌, ◌+◌, IsTrue, OnErr, IfOk, length};
+ghost use Rattle.std.specs.Io.{ReadsAtMost, WritesAtMost};
+ghost use Rattle.std.specs.Io.KnownBytes.{ReadConsumes, WriteAppends};
+
+use crate::input::Source;
+use crate::output::Sink;
+use std::alloc::Global;
+use std::io;
+use std::io::{ErrorKind, Read, Write};
+
+/// Gives these bytes, at most so many at a read.
+#[derive(Drop)]
+pub struct FakeReader<'a> {
+    pub rest: &'a [u8],
+    /// The most bytes of a read.
+    pub most: usize,
+    /// The number of the read that fails, from 1; 0 where none does.
+    pub fails_at: usize,
+    /// How many reads there were.
+    pub calls: usize,
+    pub failed: bool,
+    ghost moves: { 0 < most },
+}
+
+impl<'a> FakeReader<'a> {
+    /// No read was made yet.
+    pub fn new(bytes: &'a [u8], most: usize, fails_at: usize) -> FakeReader<'a>
+        requires { 0 < most }
+    {
+        FakeReader {
+            rest: bytes,
+            most,
+            fails_at,
+            calls: 0,
+            failed: false,
+        }
+    }
+}
+
+impl Read for FakeReader<'_> {
+    ghost use Rattle.std.specs.Prelude.{Some};
+
+    ghost remaining = { λ r. Some r.rest.now };
+
+    fn read(&mut self, buf: &mut [u8]) -> io::Result<usize>
+        ensures bound { ReadsAtMost result buf.new }
+        ensures bytes { ReadConsumes (Some self.old.rest.now) (Some self.new.rest.now) result buf.new }
+        ensures fault { OnErr result (IsTrue self.new.failed) }
+        ensures counted { self.new.calls ≤ self.old.calls + 1 }
+    {
+        self.calls = self.calls.saturating_add(1);
+        if self.calls == self.fails_at {
+            self.failed = true;
+            return Err(io::Error::from(ErrorKind::Interrupted));
+        }
+        let count = self.most.min(buf.len()).min(self.rest.len());
+        let (given, rest) = self.rest.split_at(count);
+        buf[..count].copy_from_slice(given);
+        self.rest = rest;
+        Ok(count)
+    }
+}
+
+impl Source for FakeReader<'_> {
+    ghost has_failed = { λ r. IsTrue r.failed };
+
+    ghost reads = { λ r. r.calls };
+
+    fn fetch(&mut self, buf: &mut [u8]) -> io::Result<usize> {
+        self.read(buf)
+    }
+}
+
+/// Takes at most so many bytes at a write.
+#[derive(Drop)]
+pub struct FakeWriter {
+    pub bytes: Vec<u8>,
+    /// The most bytes of a write.
+    pub most: usize,
+    /// The number of the write that fails, from 1; 0 where none does.
+    pub fails_at: usize,
+    /// The number of the write that takes no byte, from 1; 0 where none does.
+    pub takes_none_at: usize,
+    /// How many writes there were.
+    pub calls: usize,
+    pub failed: bool,
+    ghost moves: { 0 < most },
+}
+
+impl FakeWriter {
+    /// No write was made yet.
+    pub fn new(alloc: Global, most: usize, fails_at: usize, takes_none_at: usize) -> FakeWriter
+        requires { 0 < most }
+    {
+        FakeWriter {
+            bytes: Vec::new(alloc),
+            most,
+            fails_at,
+            takes_none_at,
+            calls: 0,
+            failed: false,
+        }
+    }
+}
+
+impl Write for FakeWriter {
+    ghost use Rattle.std.specs.Prelude.{Some};
+
+    ghost contents = { λ w. Some w.bytes.items };
+
+    fn write(&mut self, buf: &[u8]) -> io::Result<usize>
+        ensures bound { WritesAtMost result buf.now }
+        ensures bytes { WriteAppends (Some self.old.bytes.items) (Some self.new.bytes.items) result buf.now }
+        ensures fault { OnErr result (IsTrue self.new.failed) }
+        ensures none_taken { IfOk result (λ n. n ≡ 0 → 0 < length buf.now → IsTrue self.new.failed) }
+    {
+        self.calls = self.calls.saturating_add(1);
+        if self.calls == self.fails_at {
+            self.failed = true;
+            return Err(io::Error::from(ErrorKind::Interrupted));
+        }
+        if self.calls == self.takes_none_at {
+            self.failed = true;
+            return Ok(0);
+        }
+        let count = self.most.min(buf.len());
+        if self.bytes.extend_from_slice(&buf[..count]).is_err() {
+            self.failed = true;
+            return Err(io::Error::from(ErrorKind::OutOfMemory));
+        }
+        Ok(count)
+    }
+
+    fn flush(&mut self) -> io::Result<()> {
+        Ok(())
+    }
+}
+
+impl Sink for FakeWriter {
+    ghost has_failed = { λ w. IsTrue w.failed };
+
+    fn put(&mut self, buf: &[u8]) -> io::Result<usize> {
+        self.write(buf)
+    }
+}

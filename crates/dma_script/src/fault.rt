@@ -1,0 +1,116 @@
+//! Why a script is refused.
+ghost use Rattle.std.specs.Prelude.{◌≡◌, Some};
+
+use std::alloc::{AllocError, AllocFailed};
+use std::error::Error;
+use std::fmt;
+
+/// Why a line is refused (profile), in the order in which the causes are tested: each over all words of the line, from the
+/// left, before the next. `Number` and `Hex` are one stage.
+#[derive(Clone, Copy, Debug, PartialEq, Eq, Drop)]
+pub enum Cause {
+    /// A byte that is not printable ASCII, a space or a tab.
+    Byte,
+    /// There is no such line.
+    Command,
+    /// The first line is not the memory line, or a later one is.
+    First,
+    /// A word too few, one too many, or a wrong fixed word.
+    Words,
+    /// A word that is no number, no segment or no list in its form, or a number above 4,294,967,295.
+    Number,
+    /// A word that is not an even number of hexadecimal digits.
+    Hex,
+    /// A number outside what its place allows.
+    Range,
+    /// The memory has no byte, or more than it may have.
+    SizeOutOfRange,
+    /// There is no channel, or more than there may be.
+    BadChannels,
+}
+
+// The name that is printed.
+impl fmt::Display for Cause {
+    ghost use Rattle.std.specs.Prelude.{Some};
+    ghost use Rattle.dma_script.specs.Printing.{cause_name};
+
+    ghost output = { λ c. Some (cause_name c) };
+
+    fn fmt<W: fmt::Write>(&self, f: &mut fmt::Formatter<W>) -> fmt::Result {
+        let name = match self {
+            Cause::Byte => "Byte",
+            Cause::Command => "Command",
+            Cause::First => "First",
+            Cause::Words => "Words",
+            Cause::Number => "Number",
+            Cause::Hex => "Hex",
+            Cause::Range => "Range",
+            Cause::SizeOutOfRange => "SizeOutOfRange",
+            Cause::BadChannels => "BadChannels",
+        };
+        f.write_str(name)
+    }
+}
+
+/// The first fault of a script.
+#[derive(Clone, Copy, Debug, PartialEq, Eq, Drop)]
+pub struct Fault {
+    /// The number of the line, from 1; 0 where the script has no line.
+    pub line: usize,
+    /// The first cause that the line has.
+    pub cause: Cause,
+}
+
+// The line that is printed: `line N: NAME`.
+impl fmt::Display for Fault {
+    ghost use Rattle.std.specs.Prelude.{Some};
+    ghost use Rattle.dma_script.specs.Printing.{fault_line};
+
+    ghost output = { λ f. Some (fault_line f) };
+
+    fn fmt<W: fmt::Write>(&self, f: &mut fmt::Formatter<W>) -> fmt::Result {
+        let line = self.line;
+        let cause = self.cause;
+        write!(f, "line {line}: {cause}")
+    }
+}
+
+impl Error for Fault {}
+
+/// Why a line was not read.
+#[derive(Clone, Copy, Debug, PartialEq, Eq, Drop)]
+pub enum LineError {
+    /// The line is refused.
+    Fault(Cause),
+    /// Memory was refused.
+    NoMemory,
+}
+
+impl From<AllocError> for LineError {
+    ghost use Rattle.dma_script.specs.declared.fault.LineError.TheVariants.{NoMemory};
+
+    ghost from_gives = { λ _ e. e ≡ NoMemory };
+
+    fn from(_error: AllocError) -> LineError {
+        LineError::NoMemory
+    }
+}
+
+impl<T: Drop> From<AllocFailed<T>> for LineError {
+    ghost use Rattle.dma_script.specs.declared.fault.LineError.TheVariants.{NoMemory};
+
+    ghost from_gives = { λ _ e. e ≡ NoMemory };
+
+    fn from(_error: AllocFailed<T>) -> LineError {
+        LineError::NoMemory
+    }
+}
+
+/// Why a script was not read.
+#[derive(Clone, Copy, Debug, PartialEq, Eq, Drop)]
+pub enum ScriptError {
+    /// The script is refused.
+    Fault(Fault),
+    /// Memory was refused.
+    NoMemory,
+}

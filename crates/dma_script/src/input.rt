@@ -1,0 +1,86 @@
+//! Reading a whole input.
+ghost use Rattle.std.specs.Prelude.{◌≡◌, ◌<◌, ◌≤◌, ◌+◌, length, IfOk, OnErr, IfSome, IsErrOf, vec_len};
+ghost use Rattle.std.specs.Io.KnownBytes.{ReadConsumes};
+ghost use Rattle.std.specs.Io.{ReadsAtMost};
+
+use std::alloc::{AllocError, Global};
+use std::io;
+use std::io::{Read, Stdin};
+
+/// The longest input that is carried out, in bytes (profile).
+pub const LONGEST_INPUT: usize = 4_194_304;
+
+/// The bytes asked for by one read.
+const READ_SIZE: usize = 8192;
+
+/// A reader that can tell whether a read of it has failed.
+pub trait Source: Read {
+    ghost use Rattle.std.specs.Prelude.{ℕ};
+
+    // A reader that does not tell may have failed at any time.
+    ghost has_failed: { Self → Type 0 } = { λ _. Unit {0} };
+
+    // How many reads were made of it, where it counts them.
+    ghost reads: { Self → ℕ } = { λ _. 0 };
+
+    /// One plain read.
+    fn fetch(&mut self, buf: &mut [u8]) -> io::Result<usize>
+        ensures bound { ReadsAtMost result buf.new }
+        ensures bytes { ReadConsumes (Self.remaining self.old) (Self.remaining self.new) result buf.new }
+        ensures fault { OnErr result (has_failed self.new) }
+        ensures counted { reads self.new ≤ reads self.old + 1 };
+}
+
+impl Source for &[u8] {
+    ghost has_failed = { λ _. ⊥ };
+
+    fn fetch(&mut self, buf: &mut [u8]) -> io::Result<usize> {
+        self.read(buf)
+    }
+}
+
+// What standard input gives is not known, so it may have failed at any time.
+impl Source for Stdin {
+    fn fetch(&mut self, buf: &mut [u8]) -> io::Result<usize> {
+        self.read(buf)
+    }
+}
+
+/// Why there is no input.
+#[derive(Clone, Copy, Debug, PartialEq, Eq, Drop)]
+pub enum InputError {
+    /// A read failed.
+    Failed,
+    /// The input has more than `LONGEST_INPUT` bytes.
+    TooLong,
+    /// Memory was refused.
+    NoMemory,
+}
+
+/// Reads to the end by plain reads, at most one more than the longest input has bytes. A read that gives no byte is the
+/// end, and a read fault of any kind is a failing input.
+pub fn read_input<R: Source>(alloc: Global, reader: &mut R) -> Result<Vec<u8>, InputError>
+    ensures input { IfOk result (λ v. IfSome (R.remaining reader.old) (λ input. v.items ≡ input)) }
+    ensures within { IfOk result (λ v. vec_len v ≤ LONGEST_INPUT) }
+    ensures too_long { IsErrOf result InputError.TooLong → IfSome (R.remaining reader.old) (λ input. LONGEST_INPUT < length input) }
+    ensures failed { IsErrOf result InputError.Failed → R.has_failed reader.new }
+    ensures reads { R.reads reader.new ≤ R.reads reader.old + (LONGEST_INPUT + 1) }
+{
+    let mut input = Vec::new(alloc);
+    let mut buf = [0u8; READ_SIZE];
+    for _turn in 0..=LONGEST_INPUT {
+        let Ok(count) = reader.fetch(&mut buf) else {
+            return Err(InputError::Failed);
+        };
+        if count == 0 {
+            return Ok(input);
+        }
+        if input.extend_from_slice(&buf[..count]).is_err() {
+            return Err(InputError::NoMemory);
+        }
+        if input.len() > LONGEST_INPUT {
+            return Err(InputError::TooLong);
+        }
+    }
+    Err(InputError::TooLong)
+}

@@ -1,0 +1,18 @@
+//! The layer of the program `dmasim` below its commands: whole input in, whole output out, the grammar of scripts, and the
+//! lines that are printed.
+#![tactic(auto)]
+
+pub mod command;
+#[cfg(test)]
+mod fakes;
+pub mod fault;
+pub mod input;
+pub mod lines;
+pub mod output;
+pub mod pairs;
+pub mod plan;
+pub mod printing;
+pub mod statements;
+#[cfg(test)]
+mod tests;
+pub mod words;

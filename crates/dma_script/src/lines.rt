@@ -1,0 +1,93 @@
+//! Reading a script line by line, up to its first fault.
+ghost use Rattle.std.specs.Prelude.{◌≡◌, ◌+◌, ◌≤◌, IfOk, List, ℕ, map, length};
+ghost use Rattle.dma_script.specs.Lines.{LineGives, ScriptGives, after_line, after_script, first_number, is_skipped};
+
+use crate::fault::{Cause, Fault, LineError, ScriptError};
+use crate::words::{is_plain_line, split_line, words};
+use std::alloc::{AllocError, Global};
+
+/// A kind of script, as what was read of it so far.
+pub trait Script {
+    ghost use Rattle.std.specs.Prelude.{List, ℕ, Result, map};
+    ghost use Rattle.dma_script.specs.declared.fault.Cause.{Cause};
+    ghost use Rattle.dma_script.specs.Lines.{LineGives};
+
+    ghost View: { Type 0 };
+
+    ghost view: { Self → View };
+
+    ghost step: { View → List (List ℕ) → Result View Cause };
+
+    /// Takes the words of the next line that is not skipped.
+    fn take_line(&mut self, alloc: Global, words: &[&[u8]]) -> Result<(), LineError>
+        ensures { LineGives result (view self.new) (step (view self.old) (map (λ word. word.now) words.now)) };
+}
+
+/// Whether a line is skipped and only counted: it has no words, or is a comment.
+fn is_skipped(words: &[&[u8]]) -> bool
+    ensures { result ≡ is_skipped (map (λ word. word.now) words.now) }
+{
+    match words {
+        [] => true,
+        [first, ..] => first.first() == Some(&b'#'),
+    }
+}
+
+/// Reads one line.
+fn read_line<S: Script>(script: &mut S, alloc: Global, line: &[u8]) -> Result<(), LineError>
+    ensures { LineGives result (S.view script.new) (after_line S.step (S.view script.old) line.now) }
+{
+    let words = words(alloc, line)?;
+    if is_skipped(&words) {
+        return Ok(());
+    }
+    if !is_plain_line(line) {
+        return Err(LineError::Fault(Cause::Byte));
+    }
+    script.take_line(alloc, &words)
+}
+
+/// Reads a whole script, up to its first fault. After an `Err` nothing is known of what was read.
+pub fn read_script<S: Script>(
+    script: &mut S,
+    alloc: Global,
+    input: &[u8],
+) -> Result<(), ScriptError>
+    ensures { ScriptGives (λ _. S.view script.new) result (after_script S.step (S.view script.old) input.now) }
+{
+    let mut rest = input;
+    let mut number = 0usize;
+    while !rest.is_empty() {
+        let (line, after) = split_line(rest);
+        number += 1;
+        match read_line(script, alloc, line) {
+            Ok(()) => rest = after,
+            Err(LineError::NoMemory) => return Err(ScriptError::NoMemory),
+            Err(LineError::Fault(cause)) => {
+                return Err(ScriptError::Fault(Fault {
+                    line: number,
+                    cause,
+                }));
+            }
+        }
+    }
+    Ok(())
+}
+
+/// The number of the first line that is not skipped, from 1; one more than the number of lines where all are skipped.
+pub fn first_number(alloc: Global, input: &[u8]) -> Result<usize, AllocError>
+    ensures { IfOk result (λ n. n ≡ first_number input.now) }
+{
+    let mut rest = input;
+    let mut number = 1usize;
+    while !rest.is_empty() {
+        let (line, after) = split_line(rest);
+        let words = words(alloc, line)?;
+        if !is_skipped(&words) {
+            return Ok(number);
+        }
+        number += 1;
+        rest = after;
+    }
+    Ok(number)
+}

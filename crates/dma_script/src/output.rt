@@ -1,0 +1,48 @@
+//! Writing a whole output.
+ghost use Rattle.std.specs.Prelude.{◌≡◌, ◌<◌, length, IfOk, OnOk, OnErr};
+ghost use Rattle.std.specs.Io.KnownBytes.{WriteAppends, Appends};
+ghost use Rattle.std.specs.Io.{WritesAtMost};
+
+use std::io;
+use std::io::{Stdout, Write};
+
+/// A writer that can tell whether a write of it has failed or taken no byte.
+pub trait Sink: Write {
+    // A writer that does not tell may have failed at any time.
+    ghost has_failed: { Self → Type 0 } = { λ _. Unit {0} };
+
+    /// One plain write of at least one byte. A write that takes no byte is a fault.
+    fn put(&mut self, buf: &[u8]) -> io::Result<usize>
+        requires { 0 < length buf.now }
+        ensures bound { WritesAtMost result buf.now }
+        ensures bytes { WriteAppends (Self.contents self.old) (Self.contents self.new) result buf.now }
+        ensures fault { OnErr result (has_failed self.new) }
+        ensures none_taken { IfOk result (λ n. n ≡ 0 → has_failed self.new) };
+}
+
+// What standard output takes is not known, so it may have failed at any time.
+impl Sink for Stdout {
+    fn put(&mut self, buf: &[u8]) -> io::Result<usize> {
+        self.write(buf)
+    }
+}
+
+/// A write failed, or took no byte.
+#[derive(Clone, Copy, Debug, PartialEq, Eq, Drop)]
+pub struct OutputFailed;
+
+/// Writes all of the text by plain writes. A write fault of any kind, or a write that takes no byte, ends it.
+pub fn write_output<W: Sink>(writer: &mut W, text: &[u8]) -> Result<(), OutputFailed>
+    ensures ok { OnOk result (Appends (W.contents writer.old) (W.contents writer.new) text.now) }
+    ensures err { OnErr result (W.has_failed writer.new) }
+{
+    let mut rest = text;
+    while !rest.is_empty() {
+        match writer.put(rest) {
+            Ok(0) => return Err(OutputFailed),
+            Ok(count) => rest = &rest[count..],
+            Err(_) => return Err(OutputFailed),
+        }
+    }
+    Ok(())
+}

@@ -1,0 +1,130 @@
+//! The lines that are printed. Each is appended whole with its line feed, or not at all.
+ghost use Rattle.std.specs.Prelude.{◌≡◌, ◌++◌, ◌∷◌, ◌<◌, [], IfOk, OnErr, OnOk, true, length};
+ghost use Rattle.std.specs.Fmt.{digit_glyph};
+ghost use Rattle.dma_script.specs.Command.{text_of};
+ghost use Rattle.dma_script.specs.Printing.{fault_line, hex_address, hex_byte_of, program_lines, read_text, row_line, spaced_bytes};
+
+use crate::fault::Fault;
+use std::alloc::{AllocError, Global};
+
+/// The most bytes of a program that are printed in one line (profile).
+const ROW_BYTES: usize = 16;
+
+/// Appends a line and its line feed, or nothing.
+pub fn push_line(out: &mut Vec<u8>, line: &[u8]) -> Result<(), AllocError>
+    ensures ok { OnOk result (out.new.items ≡ out.old.items ++ text_of (line.now ∷ [])) }
+    ensures err { OnErr result (out.new.items ≡ out.old.items) }
+{
+    out.reserve(line.len() + 1)?;
+    out.extend_from_slice(line)?;
+    out.push(b'\n')?;
+    Ok(())
+}
+
+/// Appends the line of a script's fault, or nothing.
+pub fn push_fault(alloc: Global, out: &mut Vec<u8>, fault: Fault) -> Result<(), AllocError>
+    ensures ok { OnOk result (out.new.items ≡ out.old.items ++ text_of (fault_line fault ∷ [])) }
+    ensures err { OnErr result (out.new.items ≡ out.old.items) }
+{
+    let line = format!(in alloc; "{fault}")?;
+    push_line(out, line.as_bytes())
+}
+
+/// A hexadecimal digit in capitals.
+fn glyph(digit: u8) -> u8
+    requires { digit < 16 }
+    ensures { result ≡ digit_glyph true digit }
+{
+    if digit < 10 {
+        b'0' + digit
+    } else {
+        b'A' + (digit - 10)
+    }
+}
+
+/// A byte in two capital digits, at the end.
+pub fn push_byte(line: &mut Vec<u8>, byte: u8) -> Result<(), AllocError>
+    ensures { OnOk result (line.new.items ≡ line.old.items ++ hex_byte_of byte) }
+{
+    line.push(glyph(byte / 16))?;
+    line.push(glyph(byte % 16))?;
+    Ok(())
+}
+
+/// Bytes with a space before each, at the end.
+fn push_bytes(line: &mut Vec<u8>, bytes: &[u8]) -> Result<(), AllocError>
+    ensures { OnOk result (line.new.items ≡ line.old.items ++ spaced_bytes bytes.now) }
+{
+    for byte in bytes {
+        line.push(b' ')?;
+        push_byte(line, *byte)?;
+    }
+    Ok(())
+}
+
+/// An address in eight digits, at the end.
+fn push_address(line: &mut Vec<u8>, addr: u32) -> Result<(), AllocError>
+    ensures { OnOk result (line.new.items ≡ line.old.items ++ hex_address addr) }
+{
+    for byte in addr.to_be_bytes() {
+        push_byte(line, byte)?;
+    }
+    Ok(())
+}
+
+/// The line that a read prints.
+fn read_line(alloc: Global, addr: u32, bytes: &[u8]) -> Result<Vec<u8>, AllocError>
+    ensures { IfOk result (λ line. line.items ≡ read_text addr bytes.now) }
+{
+    let mut line = Vec::from_slice(alloc, b"read 0x")?;
+    push_address(&mut line, addr)?;
+    push_bytes(&mut line, bytes)?;
+    Ok(line)
+}
+
+/// Appends the line that a read prints for its address and the bytes that stand there, or nothing.
+pub fn push_read(
+    alloc: Global,
+    out: &mut Vec<u8>,
+    addr: u32,
+    bytes: &[u8],
+) -> Result<(), AllocError>
+    ensures ok { OnOk result (out.new.items ≡ out.old.items ++ text_of (read_text addr bytes.now ∷ [])) }
+    ensures err { OnErr result (out.new.items ≡ out.old.items) }
+{
+    let line = read_line(alloc, addr, bytes)?;
+    push_line(out, &line)
+}
+
+/// The bytes of a row with a space between two, at the end.
+fn push_row(text: &mut Vec<u8>, row: &[u8]) -> Result<(), AllocError>
+    ensures { OnOk result (text.new.items ≡ text.old.items ++ text_of (row_line row.now ∷ [])) }
+{
+    if let [first, more @ ..] = row {
+        push_byte(text, *first)?;
+        push_bytes(text, more)?;
+    }
+    text.push(b'\n')?;
+    Ok(())
+}
+
+/// The lines of a program.
+fn program_text(alloc: Global, bytes: &[u8]) -> Result<Vec<u8>, AllocError>
+    ensures { IfOk result (λ text. text.items ≡ text_of (program_lines bytes.now)) }
+{
+    let mut text = Vec::new(alloc);
+    for row in bytes.chunks(ROW_BYTES) {
+        push_row(&mut text, row)?;
+    }
+    Ok(text)
+}
+
+/// Appends the lines of a program, 16 bytes to a line, or nothing. No bytes have no line.
+pub fn push_program(alloc: Global, out: &mut Vec<u8>, bytes: &[u8]) -> Result<(), AllocError>
+    ensures ok { OnOk result (out.new.items ≡ out.old.items ++ text_of (program_lines bytes.now)) }
+    ensures err { OnErr result (out.new.items ≡ out.old.items) }
+{
+    let text = program_text(alloc, bytes)?;
+    out.extend_from_slice(&text)?;
+    Ok(())
+}

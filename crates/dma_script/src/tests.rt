@@ -1,0 +1,392 @@
+//! What no clause says: the whole of a call over streams that fail, and that the grammar is the one that is meant.
+ghost use Rattle.std.specs.Prelude.{◌≡◌, ◌++◌, ◌∷◌, [], OnOk, OnErr, IfOk};
+
+use crate::command::{Command, SUCCESS, serve};
+use crate::fakes::{FakeReader, FakeWriter};
+use crate::fault::{Cause, Fault, ScriptError};
+use crate::input::{InputError, LONGEST_INPUT, read_input};
+use crate::pairs::{PairsError, push_pairs_fault, read_pairs};
+use crate::plan::{PlanLine, read_plan};
+use crate::printing::{push_fault, push_line, push_program, push_read};
+use crate::statements::{RunScript, Statement, read_run_script};
+use dma_mem::segment::Segment;
+use std::alloc::{AllocError, Global};
+use std::test::Fail;
+
+/// Prints its input as one line.
+#[derive(Drop)]
+struct Echo;
+
+impl Command for Echo {
+    ghost use Rattle.std.specs.Prelude.{[], ◌∷◌};
+    ghost use Rattle.std.proofs.Common.{lit<};
+
+    ghost printed = { λ input. record { groups = (input ∷ []) ∷ []; status = 0 } };
+
+    fn answer(&self, _alloc: Global, input: &[u8], out: &mut Vec<u8>) -> Result<u8, AllocError> {
+        push_line(out, input)?;
+        Ok(SUCCESS)
+    }
+
+    ghost some_group = { λ input. lit< tt };
+}
+
+/// The first fault of a script, if it has one.
+fn fault_of(alloc: Global, input: &[u8]) -> Result<Option<Fault>, AllocError> {
+    match read_run_script(alloc, input) {
+        Ok(_) => Ok(None),
+        Err(ScriptError::Fault(fault)) => Ok(Some(fault)),
+        Err(ScriptError::NoMemory) => Err(AllocError),
+    }
+}
+
+fn fault(line: usize, cause: Cause) -> Option<Fault> {
+    Some(Fault { line, cause })
+}
+
+#[test]
+fn whole_calls(rt: HostRuntime) -> Result<(), Fail> {
+    // most bytes of a read, the read that fails, most bytes of a write, the write that fails, the one that takes none
+    let cases: [(usize, usize, usize, usize, usize, u8, &[u8]); 9] = [
+        (8192, 0, 8192, 0, 0, 0, b"abc\n"),
+        (1, 0, 1, 0, 0, 0, b"abc\n"),
+        (8192, 1, 8192, 0, 0, 1, b"input failed\n"),
+        (8192, 2, 8192, 0, 0, 1, b"input failed\n"),
+        (1, 3, 1, 0, 0, 1, b"input failed\n"),
+        (8192, 0, 8192, 1, 0, 1, b""),
+        (8192, 0, 8192, 0, 1, 1, b""),
+        (8192, 0, 1, 3, 0, 1, b"ab"),
+        (8192, 0, 1, 0, 4, 1, b"abc"),
+    ];
+    for (most_read, fails, most_written, fails_writing, takes_none, status, text) in cases {
+        assert!(rt; most_read > 0 && most_written > 0);
+        let mut reader = FakeReader::new(b"abc", most_read, fails);
+        let mut writer = FakeWriter::new(rt.alloc(), most_written, fails_writing, takes_none);
+        assert_eq!(rt; serve(&Echo, rt.alloc(), &mut reader, &mut writer), status);
+        assert_eq!(rt; writer.bytes.as_slice(), text);
+    }
+    Ok(())
+}
+
+#[test]
+fn longest_inputs(rt: HostRuntime) -> Result<(), Fail> {
+    let longest = vec![in rt.alloc(); b'#'; LONGEST_INPUT]?;
+    let mut reader = FakeReader::new(&longest, 1, 0);
+    let read = read_input(rt.alloc(), &mut reader);
+    assert!(rt; matches!(&read, Ok(input) if input.len() == LONGEST_INPUT));
+    assert_eq!(rt; reader.calls, 4_194_305);
+    assert_eq!(rt; fault_of(rt.alloc(), &longest)?, fault(0, Cause::First));
+
+    let too_long = vec![in rt.alloc(); b'#'; LONGEST_INPUT + 1]?;
+    let mut reader = FakeReader::new(&too_long, 1, 0);
+    assert!(rt;
+        matches!(
+            read_input(rt.alloc(), &mut reader),
+            Err(InputError::TooLong)
+        )
+    );
+    assert_eq!(rt; reader.calls, 4_194_305);
+
+    let mut writer = FakeWriter::new(rt.alloc(), 8192, 0, 0);
+    assert_eq!(rt;
+        serve(&Echo, rt.alloc(), &mut too_long.as_slice(), &mut writer),
+        1
+    );
+    assert_eq!(rt;
+        writer.bytes.as_slice(),
+        b"line 0: InputTooLong\n".as_slice()
+    );
+    Ok(())
+}
+
+#[test]
+fn no_faults(rt: HostRuntime) -> Result<(), Fail> {
+    let cases: [&[u8]; 12] = [
+        b"memory 1 1",
+        b"memory 16777216 8\n",
+        b"\n \t\n# any bytes: \x00\x80\xFF\r\r\n#\n\t memory\t 0x40  0x1 \r\nread 0+0",
+        b"memory 64 1\r\nread 0x1F+5\r\n",
+        b"memory 00064 0001\nread 0000000000000000000031+0x0000000000000000000005\n",
+        b"memory 64 1\nread 4294967295+4294967295",
+        b"memory 64 1\nread 0xFFFFFFFF+0xffffffff",
+        b"memory 64 1\nread 0xaBcDeF+0",
+        b"memory 64 1\nwrite 0 aB Cd0123456789abcdefABCDEF 00",
+        b"memory 64 1\ncopy 1+2,3+4 to 5+6",
+        b"memory 64 1\ncopy 0+0 to 0+0\n\n",
+        b"memory 64 1\n #read\nread 0+1",
+    ];
+    for input in cases {
+        assert_eq!(rt; fault_of(rt.alloc(), input)?, None);
+    }
+    Ok(())
+}
+
+#[test]
+fn causes_in_order(rt: HostRuntime) -> Result<(), Fail> {
+    let cases: [(&[u8], usize, Cause); 20] = [
+        // No line at all.
+        (b"", 0, Cause::First),
+        (b"\n# no line\n \t\r\n", 0, Cause::First),
+        // Byte is before Command, Command before First, First before Words, Words before Number.
+        (b"read zz\x80", 1, Cause::Byte),
+        (b"fetch \x7F", 1, Cause::Byte),
+        (b"fetch 1", 1, Cause::Command),
+        (b"read", 1, Cause::First),
+        (b"read zz", 1, Cause::First),
+        (b"memory 64 1\nmemory x", 2, Cause::First),
+        (b"memory x", 1, Cause::Words),
+        (b"memory 64 1\nread 4+ 5", 2, Cause::Words),
+        (b"memory 64 1\ncopy 1+x too 2+2", 2, Cause::Words),
+        (b"memory 64 1\nwrite zz", 2, Cause::Words),
+        // Number and Hex are one stage, from the left.
+        (b"memory 64 1\nwrite zz gg", 2, Cause::Number),
+        (b"memory 64 1\nwrite 0 gg A", 2, Cause::Hex),
+        // Then the size, and then the channels.
+        (b"memory 0 x", 1, Cause::Number),
+        (b"memory 0 9", 1, Cause::SizeOutOfRange),
+        (b"memory 64 9", 1, Cause::BadChannels),
+        // The first faulty line, whatever a later one has.
+        (b"memory 64 300\n\x80", 1, Cause::BadChannels),
+        (b"memory 64 1\nread 1\n\x80", 2, Cause::Number),
+        (b"memory 64 1\n\n# skipped\r\nread 1", 4, Cause::Number),
+    ];
+    for (input, line, cause) in cases {
+        assert_eq!(rt; fault_of(rt.alloc(), input)?, fault(line, cause));
+    }
+    Ok(())
+}
+
+#[test]
+fn faults_of_words(rt: HostRuntime) -> Result<(), Fail> {
+    let cases: [(&[u8], Cause); 32] = [
+        // A carriage return without its line feed, a second one, and a control byte that makes a word.
+        (b"read 0+1\r", Cause::Byte),
+        (b"\r", Cause::Byte),
+        (b"read 0+1\r\r\n", Cause::Byte),
+        (b"\x0B", Cause::Byte),
+        (b"Read 0+1", Cause::Command),
+        (b"readx 0+1", Cause::Command),
+        (b"submit 0 0+4 to 8+4", Cause::Command),
+        (b"read", Cause::Words),
+        (b"read 0+1 #", Cause::Words),
+        (b"write 0", Cause::Words),
+        (b"copy 1+1 2+2 to 0+3", Cause::Words),
+        (b"copy 1+1 to", Cause::Words),
+        (b"copy 1+1 TO 0+1", Cause::Words),
+        (b"read 1", Cause::Number),
+        (b"read +1", Cause::Number),
+        (b"read 1+", Cause::Number),
+        (b"read 1+2+3", Cause::Number),
+        (b"read 0x+1", Cause::Number),
+        (b"read 0X1+1", Cause::Number),
+        (b"read 1A+1", Cause::Number),
+        (b"read 0x1G+1", Cause::Number),
+        (b"read -1+1", Cause::Number),
+        (b"read 4294967296+1", Cause::Number),
+        (b"read 0x100000000+1", Cause::Number),
+        (b"read 0+99999999999999999999999999", Cause::Number),
+        (b"copy 1+1, to 0+1", Cause::Number),
+        (b"copy ,1+1 to 0+1", Cause::Number),
+        (b"copy 1+1 to fill", Cause::Number),
+        (b"write 4294967296 00", Cause::Number),
+        (b"write 0 0", Cause::Hex),
+        (b"write 0 0x00", Cause::Hex),
+        (b"write 0 00 A AA", Cause::Hex),
+    ];
+    for (line, cause) in cases {
+        let mut input = b"memory 64 1\n".to_vec(rt.alloc())?;
+        input.extend_from_slice(line)?;
+        assert_eq!(rt; fault_of(rt.alloc(), &input)?, fault(2, cause));
+    }
+    Ok(())
+}
+
+#[test]
+fn faults_of_the_memory_line(rt: HostRuntime) -> Result<(), Fail> {
+    let cases: [(&[u8], Cause); 7] = [
+        (b"memory 16777217 1", Cause::SizeOutOfRange),
+        (b"memory 4294967295 1", Cause::SizeOutOfRange),
+        (b"memory 4294967296 1", Cause::Number),
+        (b"memory 64 0", Cause::BadChannels),
+        (b"memory 64 4294967296", Cause::Number),
+        (b"memory 64", Cause::Words),
+        (b"memory 64 1 1", Cause::Words),
+    ];
+    for (input, cause) in cases {
+        assert_eq!(rt; fault_of(rt.alloc(), input)?, fault(1, cause));
+    }
+    Ok(())
+}
+
+#[test]
+fn statements(rt: HostRuntime) -> Result<(), Fail> {
+    let input = b"memory 64 1\nwrite 0x10 AA bbCC\ncopy 0x10+3 to 0x20+1,0x30+2\nread 0x1F+5";
+    let RunScript {
+        size,
+        channels,
+        statements,
+    } = read_run_script(rt.alloc(), input).ok().ok_or("a script")?;
+    assert_eq!(rt; (size, channels), (64, 1));
+    let [
+        Statement::Write { addr, bytes },
+        Statement::Copy { src, dst },
+        Statement::Read(segment),
+    ] = statements.as_slice()
+    else {
+        return Err(Fail::from("three statements"));
+    };
+    assert_eq!(rt; *addr, 0x10);
+    assert_eq!(rt; bytes.as_slice(), [0xAA, 0xBB, 0xCC].as_slice());
+    assert_eq!(rt; src.as_slice(), [Segment { addr: 0x10, len: 3 }].as_slice());
+    assert_eq!(rt;
+        dst.as_slice(),
+        [
+            Segment { addr: 0x20, len: 1 },
+            Segment { addr: 0x30, len: 2 }
+        ]
+        .as_slice()
+    );
+    assert_eq!(rt; *segment, Segment { addr: 0x1F, len: 5 });
+    Ok(())
+}
+
+#[test]
+fn printed_lines(rt: HostRuntime) -> Result<(), Fail> {
+    let mut out = Vec::new(rt.alloc());
+    push_line(&mut out, b"ok")?;
+    push_read(rt.alloc(), &mut out, 0x1F, &[0x00, 0xAA, 0xBB, 0xCC, 0x09])?;
+    push_read(rt.alloc(), &mut out, 0xFEDC_BA98, &[])?;
+    for (line, cause) in [
+        (0, Cause::First),
+        (1, Cause::Byte),
+        (10, Cause::Command),
+        (4_194_304, Cause::Words),
+        (5, Cause::Number),
+        (6, Cause::Hex),
+        (7, Cause::Range),
+        (8, Cause::SizeOutOfRange),
+        (9, Cause::BadChannels),
+    ] {
+        push_fault(rt.alloc(), &mut out, Fault { line, cause })?;
+    }
+    let text = b"ok\nread 0x0000001F 00 AA BB CC 09\nread 0xFEDCBA98\n\
+        line 0: First\nline 1: Byte\nline 10: Command\nline 4194304: Words\nline 5: Number\n\
+        line 6: Hex\nline 7: Range\nline 8: SizeOutOfRange\nline 9: BadChannels\n";
+    assert_eq!(rt; out.as_slice(), text.as_slice());
+    Ok(())
+}
+
+#[test]
+fn program_lines(rt: HostRuntime) -> Result<(), Fail> {
+    let bytes: [u8; 23] = [
+        0xBC, 0x00, 0x00, 0x10, 0x00, 0x00, 0xBC, 0x02, 0x00, 0x20, 0x00, 0x00, 0xBC, 0x01, 0x05,
+        0x40, 0x01, 0x00, 0x04, 0x12, 0x08, 0x13, 0x00,
+    ];
+    let mut out = Vec::new(rt.alloc());
+    push_program(rt.alloc(), &mut out, &[])?;
+    assert!(rt; out.is_empty());
+    push_program(rt.alloc(), &mut out, &bytes)?;
+    push_program(rt.alloc(), &mut out, &bytes[..16])?;
+    let text = b"BC 00 00 10 00 00 BC 02 00 20 00 00 BC 01 05 40\n01 00 04 12 08 13 00\n\
+        BC 00 00 10 00 00 BC 02 00 20 00 00 BC 01 05 40\n";
+    assert_eq!(rt; out.as_slice(), text.as_slice());
+    Ok(())
+}
+
+#[test]
+fn pairs(rt: HostRuntime) -> Result<(), Fail> {
+    let read = read_pairs(rt.alloc(), b" 22Ff\t04\r\n0a\n\nAB\r")
+        .ok()
+        .ok_or("pairs")?;
+    assert_eq!(rt; read.as_slice(), [0x22, 0xFF, 0x04, 0x0A, 0xAB].as_slice());
+    let none = read_pairs(rt.alloc(), b"").ok().ok_or("no pairs")?;
+    assert!(rt; none.is_empty());
+    let cases: [(&[u8], usize); 8] = [
+        (b"3", 1),
+        (b"22\n04\n3", 3),
+        (b"22\n04\n3\n", 3),
+        (b"22\n3 4", 2),
+        (b"3\n4", 1),
+        (b"22\n\nx", 3),
+        (b"22 0x04", 1),
+        (b"\n2g\n3", 2),
+    ];
+    for (input, line) in cases {
+        let fault = read_pairs(rt.alloc(), input).err();
+        assert_eq!(rt; fault, Some(PairsError::Line(line)));
+    }
+    let mut out = Vec::new(rt.alloc());
+    push_pairs_fault(rt.alloc(), &mut out, 3)?;
+    assert_eq!(rt; out.as_slice(), b"line 3: Hex\n".as_slice());
+    Ok(())
+}
+
+#[test]
+fn plans(rt: HostRuntime) -> Result<(), Fail> {
+    let input = b"# one\n\n0x1000+4 to 0x2000+4,5+6 wait 3 signal 0xFF\r\n# end";
+    let PlanLine {
+        line,
+        src,
+        dst,
+        wait,
+        signal,
+    } = read_plan(rt.alloc(), input).ok().ok_or("a plan")?;
+    assert_eq!(rt; (line, wait, signal), (3, Some(3), Some(255)));
+    assert_eq!(rt;
+        src.as_slice(),
+        [Segment {
+            addr: 0x1000,
+            len: 4
+        }]
+        .as_slice()
+    );
+    assert_eq!(rt;
+        dst.as_slice(),
+        [
+            Segment {
+                addr: 0x2000,
+                len: 4
+            },
+            Segment { addr: 5, len: 6 }
+        ]
+        .as_slice()
+    );
+    for (input, wait, signal) in [
+        (b"1+1 to 2+1".as_slice(), None, None),
+        (b"1+1 to 2+1 wait 31".as_slice(), Some(31), None),
+        (b"1+1 to 2+1\tsignal 32".as_slice(), None, Some(32)),
+    ] {
+        let plan = read_plan(rt.alloc(), input).ok().ok_or("a plan")?;
+        assert_eq!(rt; (plan.line, plan.wait, plan.signal), (1, wait, signal));
+    }
+    Ok(())
+}
+
+#[test]
+fn faults_of_plans(rt: HostRuntime) -> Result<(), Fail> {
+    let cases: [(&[u8], usize, Cause); 18] = [
+        (b"", 0, Cause::First),
+        (b"# no line\n", 0, Cause::First),
+        (b"1+1 to 2+1\n1+1 to 2+1", 2, Cause::Words),
+        (b"1+1 to 2+1\n\n\x80", 3, Cause::Byte),
+        (b"1 to 2+1\n\x80", 1, Cause::Number),
+        (b"x\x80", 1, Cause::Byte),
+        (b"plan", 1, Cause::Words),
+        (b"x too 2+1", 1, Cause::Words),
+        (b"1+1 to 2+1 wait", 1, Cause::Words),
+        (b"1+1 to 2+1 3", 1, Cause::Words),
+        (b"x to 2+1 signal 1 wait 2", 1, Cause::Words),
+        (b"1+1 to 2+1 wait 1 wait 2", 1, Cause::Words),
+        (b"1+1 to 2+1 wait 1 signal 2 3", 1, Cause::Words),
+        (b"1+1 to 2+1 wait signal", 1, Cause::Number),
+        (b"1+1 to 2+1 wait 256 signal x", 1, Cause::Number),
+        (b"1+1 to 2+1 wait 256", 1, Cause::Range),
+        (b"1+1 to 2+1 wait 4294967296", 1, Cause::Number),
+        (b"fill to 2+1 signal 4294967295", 1, Cause::Number),
+    ];
+    for (input, line, cause) in cases {
+        let fault = read_plan(rt.alloc(), input).err();
+        assert_eq!(rt; fault, Some(ScriptError::Fault(Fault { line, cause })));
+    }
+    Ok(())
+}
