@@ -1,0 +1,67 @@
+//! Times a loop of bursts, a loop of DMANOP, and copies of blocks. It does nothing unless it is given an argument.
+#![tactic(auto)]
+
+use dma_chan::run::run_program;
+use dma_mem::memory::Memory;
+use std::alloc::Global;
+use std::rt::Clock;
+use std::time::Instant;
+use std::{env, io};
+
+// 8 MiB by bursts of 256 bytes
+static BURSTS: &[u8] =
+    b"\xbc\0\0\0\0\0\xbc\x02\0\0\x80\0\xbc\x01\xf9\x40\x3e\0\x20\x7f\x22\xff\x04\x12\x08\x13\x3c\x04\x38\x08\0";
+// 256 x 256 x 16 DMANOP
+static NOPS: &[u8] =
+    b"\x20\xff\x22\xff\x18\x18\x18\x18\x18\x18\x18\x18\x18\x18\x18\x18\x18\x18\x18\x18\x3c\x10\x38\x14\0";
+
+fn writes(memory: &mut Memory, block: &[u8]) {
+    for _ in 0..20u32 {
+        let _ = memory.write(0, block);
+    }
+}
+
+fn reads(memory: &Memory, block: &mut [u8]) {
+    for _ in 0..20u32 {
+        let _ = memory.read_into(8388608, block);
+    }
+}
+
+fn runs(alloc: Global, program: &[u8], memory: &mut Memory) {
+    for _ in 0..20u32 {
+        let _ = run_program(alloc, program, memory, 4000000000);
+    }
+}
+
+fn tell(rt: &(impl Print + Clock), name: &str, start: Instant) -> io::Result<()> {
+    let took = start.elapsed(rt)?;
+    println!(rt; "{} {:?}", name, took)
+}
+
+fn main(rt: HostRuntime) -> io::Result<()> {
+    if env::args(&rt)?.count() < 2 {
+        return Ok(());
+    }
+    measure(&rt)
+}
+
+fn measure(rt: &HostRuntime) -> io::Result<()> {
+    let Ok(mut memory) = Memory::new(rt.alloc(), 16777216) else {
+        return Ok(());
+    };
+    let Ok(mut block) = vec![in rt.alloc(); 7u8; 8388608] else {
+        return Ok(());
+    };
+    let start = Instant::now(rt)?;
+    writes(&mut memory, &block);
+    tell(rt, "160 MiB into memory", start)?;
+    let start = Instant::now(rt)?;
+    reads(&memory, &mut block);
+    tell(rt, "160 MiB out of memory", start)?;
+    let start = Instant::now(rt)?;
+    runs(rt.alloc(), BURSTS, &mut memory);
+    tell(rt, "160 MiB by bursts of 256, 3280000 instructions", start)?;
+    let start = Instant::now(rt)?;
+    runs(rt.alloc(), NOPS, &mut memory);
+    tell(rt, "22.4 million DMANOP", start)
+}

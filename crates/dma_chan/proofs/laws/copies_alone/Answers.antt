@@ -1,0 +1,5 @@
+use Rattle.dma_chan.proofs.Alone.{copies_alone}
+use Rattle.dma_chan.proofs.laws.copies_alone.Goals as goal
+
+pub returns : goal.returns
+returns c = copies_alone

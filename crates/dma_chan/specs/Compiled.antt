@@ -1,0 +1,90 @@
+-- The compiled form of a transfer (profile; the instructions are the PL330 manual's).
+use Rattle.std.specs.Prelude.{ℕ, zero, suc, ◌+◌, ◌-◌, ◌*◌, ◌/◌, ◌%◌, ◌^◌, Bool, false, ◌&&◌, ◌==◌, nat_le, if◌then◌else◌, List, [], ◌∷◌, map, Option, Some, None}
+use Rattle.dma_insn.specs.declared.insn.Reg.TheVariants.{Sar, Ccr, Dar}
+use Rattle.dma_insn.specs.declared.insn.Counter.TheVariants.{Lc0, Lc1}
+use Rattle.dma_insn.specs.declared.insn.Insn.{Insn}
+use Rattle.dma_insn.specs.declared.insn.Insn.TheVariants.{Mov, Ld, St, Rmb, Wmb, End, Sev, Wfe}
+use Rattle.dma_mem.specs.Places.{Descriptor}
+use Rattle.dma_chan.specs.declared.pieces.Piece.{Piece}
+use Rattle.dma_chan.specs.Pieces.{pieces_of}
+use Rattle.dma_chan.specs.Tree.{Tree, One, Then, Nothing, Repeat, in_order, bytes_of, unrolled, cost_of}
+use Rattle.dma_chan.specs.Programs.{ProgramValue}
+
+-- whether beats of b bytes fit a piece: b divides both addresses and is at most its length
+abbrev pub fits : ℕ → Piece → Bool
+fits b p = p.src % b == 0 && p.dst % b == 0 && nat_le b p.len
+
+-- the bytes a beat of a piece: the largest of 16, 8, 4, 2, 1 that fits
+unfoldable pub beat_of : Piece → ℕ
+beat_of p = if fits 16 p then 16 else (if fits 8 p then 8 else (if fits 4 p then 4 else (if fits 2 p then 2 else 1)))
+
+-- the code of a beat's size in the control word (PL330 manual, channel control register)
+abbrev pub size_code : ℕ → ℕ
+size_code b = if b == 16 then 4 else (if b == 8 then 3 else (if b == 4 then 2 else (if b == 2 then 1 else 0)))
+
+-- The control word of bursts of k beats of b bytes at both ends, with both increments: source increment in bit 0, source size
+-- from bit 1 and length from bit 4, destination increment in bit 14, size from bit 15 and length from bit 18.
+abbrev pub control_word : ℕ → ℕ → ℕ
+control_word b k = 1 + 2 * size_code b + 2 ^ 4 * (k - 1) + 2 ^ 14 + 2 ^ 15 * size_code b + 2 ^ 18 * (k - 1)
+
+-- One burst read and written, each with its barrier.
+abbrev pub body : Tree
+body = in_order (One Ld ∷ One Rmb ∷ One St ∷ One Wmb ∷ [])
+
+-- a tree, where a number isn't 0
+abbrev pub where_some : ℕ → Tree → Tree
+where_some zero t = Nothing
+where_some (suc n) t = t
+
+-- q bursts: whole turns of 256 by both counters, and the rest by one
+abbrev pub bursts : ℕ → Tree
+bursts q =
+    in_order (where_some (q / 256) (Repeat Lc0 (q / 256) (Repeat Lc1 256 body)) ∷ where_some (q % 256) (Repeat Lc1 (q % 256) body) ∷ [])
+
+-- a tree under a control word
+abbrev pub under : ℕ → Tree → Tree
+under w t = Then (One (Mov Ccr w)) t
+
+-- n bytes from where the registers point: bursts of 16 beats of b bytes, one burst of the whole beats left, and one of the bytes
+-- left
+unfoldable pub parts : ℕ → ℕ → Tree
+parts b n =
+    let q = n / (16 * b) in
+    let m = n % (16 * b) / b in
+    let t = n % (16 * b) % b in
+    in_order (
+    where_some q (under (control_word b 16) (bursts q))
+    ∷ where_some m (under (control_word b m) body)
+    ∷ where_some t (under (control_word 1 t) body) ∷ [])
+
+abbrev pub piece_code : ℕ → Piece → Tree
+piece_code b p = Then (One (Mov Sar p.src)) (Then (One (Mov Dar p.dst)) (parts b p.len))
+
+-- A piece: both addresses, and then its bytes.
+abbrev pub piece_tree : Piece → Tree
+piece_tree p = piece_code (beat_of p) p
+
+-- waiting for the event first, without the invalid flag
+abbrev pub wait_tree : Option ℕ → Tree
+wait_tree None = Nothing
+wait_tree (Some e) = One (Wfe e false)
+
+-- signalling the event last
+abbrev pub signal_tree : Option ℕ → Tree
+signal_tree None = Nothing
+signal_tree (Some e) = One (Sev e)
+
+-- The code of a transfer: the wait, the pieces in order, the signal and the end.
+abbrev pub tree_of : Descriptor → Tree
+tree_of t = in_order (wait_tree t.wait ∷ in_order (map piece_tree (pieces_of t)) ∷ signal_tree t.signal ∷ One End ∷ [])
+
+-- the instructions that its program executes, and how many they are
+unfoldable pub members : Descriptor → List Insn
+members t = unrolled (tree_of t)
+
+unfoldable pub cost : Descriptor → ℕ
+cost t = cost_of (tree_of t)
+
+-- The program of a transfer.
+unfoldable pub compiled : Descriptor → ProgramValue
+compiled t = record { bytes = bytes_of (tree_of t); cost = Some (cost t) }

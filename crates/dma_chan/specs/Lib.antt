@@ -1,0 +1,12 @@
+pub mod Registers
+pub mod Marking
+pub mod Exec
+pub mod Programs
+pub mod Channel
+pub mod Fields
+pub mod Run
+pub mod Tree
+pub mod Pieces
+pub mod Compiled
+pub mod Traffic
+pub mod Layer

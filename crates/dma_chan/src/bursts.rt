@@ -1,0 +1,264 @@
+//! The bursts of a channel: loads from memory into its buffer, and stores from its buffer to memory.
+
+ghost use Rattle.std.specs.Prelude.{◌≡◌, ℕ, ◌+◌, ◌-◌, ◌*◌, ◌≤◌, ◌<◌, ◌^◌, ◌++◌, IsTrue, Bool, List, length, take, drop, replicate, if◌then◌else◌};
+ghost use Rattle.std.specs.List.{flat_map, range_with_len};
+ghost use Rattle.circular_buffer.specs.Buffer.{buffer as ring};
+ghost use Rattle.dma_insn.specs.declared.insn.Insn.TheVariants.{Ld, St};
+ghost use Rattle.dma_mem.specs.Image.{put};
+ghost use Rattle.dma_chan.specs.Registers.{is_control, burst_at, burst_len, touched, left_by, advance, span_of, rounds_of, source_of, destination_of};
+ghost use Rattle.dma_chan.specs.Marking.{reaches};
+ghost use Rattle.dma_chan.specs.Exec.{act, state, read_at};
+
+use crate::registers::Registers;
+use crate::turn::{ChanTurn, FaultKind};
+use circular_buffer::HeapCircularBuffer;
+use dma_mem::marks::{MarkKind, Marks};
+use dma_mem::memory::Memory;
+use dma_mem::segment::Segment;
+
+/// The most bytes that a channel's buffer holds (profile), and the most of one burst (PL330 manual: 16 beats of 16 bytes).
+pub const BUFFER_SIZE: usize = 256;
+
+/// One burst: where it begins, whether its addresses rise from beat to beat, the bytes of a beat, and the number of beats.
+#[derive(Clone, Copy, PartialEq, Eq, Debug)]
+pub struct Burst {
+    pub addr: u32,
+    pub increments: bool,
+    pub size: u32,
+    pub beats: u32,
+}
+
+impl Burst {
+    // How many bytes it moves.
+    fn len(self) -> u32
+        requires { (self.size ≤ 16) × (self.beats ≤ 16) }
+        ensures value { result ≡ burst_len self }
+        ensures limit { result ≤ 256 }
+    {
+        self.beats * self.size
+    }
+
+    // The addresses that it touches, each once.
+    fn span(self) -> Segment
+        requires { (self.size ≤ 16) × (self.beats ≤ 16) }
+        ensures addr { result.addr ≡ self.addr }
+        ensures len { result.len ≡ span_of self }
+        ensures limit { result.len ≤ 256 }
+    {
+        Segment {
+            addr: self.addr,
+            len: if self.increments {
+                self.len()
+            } else {
+                self.size
+            },
+        }
+    }
+
+    // How often it touches them.
+    fn rounds(self) -> u32
+        requires { (self.size ≤ 16) × (self.beats ≤ 16) }
+        ensures value { result ≡ rounds_of self }
+        ensures bytes { result * span_of self ≡ burst_len self }
+    {
+        if self.increments { 1 } else { self.beats }
+    }
+
+    // How far it moves its address.
+    fn advance(self) -> u32
+        requires { (self.size ≤ 16) × (self.beats ≤ 16) }
+        ensures value { result ≡ advance self }
+        ensures limit { result ≤ span_of self }
+    {
+        if self.increments { self.len() } else { 0 }
+    }
+}
+
+// The bytes of a beat, by its code.
+fn beat_size(code: u32) -> u32
+    requires { code < 5 }
+    ensures value { result ≡ 2 ^ code }
+    ensures some { 1 ≤ result }
+    ensures limit { result ≤ 16 }
+{
+    match code {
+        0 => 1,
+        1 => 2,
+        2 => 4,
+        3 => 8,
+        _ => 16,
+    }
+}
+
+// The burst of a load.
+#[tactic(auto, unfolding(crate::specs::Registers::burst_at), using(crate::proofs::Controls::size_codes))]
+fn source_burst(registers: &Registers) -> Burst
+    requires { IsTrue (is_control registers.now.ccr) }
+    ensures value { result ≡ source_of registers.now }
+    ensures addr { result.addr ≡ registers.now.sar }
+    ensures some { (1 ≤ result.size) × (1 ≤ result.beats) }
+    ensures limit { (result.size ≤ 16) × (result.beats ≤ 16) }
+{
+    let ccr = registers.ccr;
+    Burst {
+        addr: registers.sar,
+        increments: ccr % 2 == 1,
+        size: beat_size(ccr / 2 % 8),
+        beats: ccr / 16 % 16 + 1,
+    }
+}
+
+// The burst of a store.
+#[tactic(auto, unfolding(crate::specs::Registers::burst_at), using(crate::proofs::Controls::size_codes))]
+fn destination_burst(registers: &Registers) -> Burst
+    requires { IsTrue (is_control registers.now.ccr) }
+    ensures value { result ≡ destination_of registers.now }
+    ensures addr { result.addr ≡ registers.now.dar }
+    ensures some { (1 ≤ result.size) × (1 ≤ result.beats) }
+    ensures limit { (result.size ≤ 16) × (result.beats ≤ 16) }
+{
+    let ccr = registers.ccr;
+    Burst {
+        addr: registers.dar,
+        increments: ccr / 0x4000 % 2 == 1,
+        size: beat_size(ccr / 0x8000 % 8),
+        beats: ccr / 0x4_0000 % 16 + 1,
+    }
+}
+
+// Whether a burst may touch its addresses: they lie in the memory and in no mark of the kind.
+#[tactic(auto, using(crate::proofs::Reach::reaches_span))]
+fn may_touch(kind: MarkKind, marks: &Marks, memory: &Memory, burst: Burst) -> bool
+    requires some { (1 ≤ burst.size) × (1 ≤ burst.beats) }
+    requires limit { (burst.size ≤ 16) × (burst.beats ≤ 16) }
+    ensures exact { result ≡ reaches kind marks.now (length memory.now) (touched burst) }
+    ensures within { IsTrue result → burst.addr + span_of burst ≤ length memory.now }
+    ensures below { IsTrue result → burst.addr + span_of burst < 2 ^ 32 }
+{
+    let span = burst.span();
+    let end = u64::from(span.addr) + u64::from(span.len);
+    end <= u64::from(memory.size()) && !marks.hits(kind, span)
+}
+
+// Reads the bytes that a burst touches, each once. It answers whether the burst may load them.
+fn read_span(marks: &Marks, memory: &Memory, burst: Burst, bytes: &mut [u8]) -> bool
+    requires some { (1 ≤ burst.size) × (1 ≤ burst.beats) }
+    requires limit { (burst.size ≤ 16) × (burst.beats ≤ 16) }
+    requires span { length bytes.old ≡ span_of burst }
+    ensures exact { result ≡ reaches MarkKind.Reading marks.now (length memory.now) (touched burst) }
+    ensures within { IsTrue result → burst.addr + span_of burst ≤ length memory.now }
+    ensures below { IsTrue result → burst.addr + span_of burst < 2 ^ 32 }
+    ensures bytes { IsTrue result → bytes.new ≡ take (span_of burst) (drop burst.addr memory.now) }
+{
+    may_touch(MarkKind::Reading, marks, memory, burst)
+        && memory.read_into(burst.addr, bytes).is_ok()
+}
+
+// Puts the bytes into the buffer so often.
+fn fill(buffer: &mut HeapCircularBuffer<u8>, bytes: &[u8], rounds: u32)
+    requires { length buffer.old.items + rounds * length bytes.now ≤ buffer.old.capacity }
+    ensures { buffer.new ≡ ring (buffer.old.items ++ flat_map (λ xs. xs) (replicate rounds bytes.now)) buffer.old.capacity }
+{
+    for _round in 0..rounds {
+        buffer.fill_from_slice(bytes);
+    }
+}
+
+// Executes DMALD.
+#[tactic(auto, using(crate::proofs::Rounds::read_touched))]
+pub(crate) fn load_burst(
+    marks: &Marks,
+    registers: &mut Registers,
+    buffer: &mut HeapCircularBuffer<u8>,
+    memory: &Memory,
+) -> ChanTurn
+    requires capacity { buffer.old.capacity ≡ 256 }
+    requires control { IsTrue (is_control registers.old.ccr) }
+    requires pc { registers.old.pc < 8192 }
+    ensures exact { (flags : List Bool) → act marks.now Ld (state registers.old buffer.old.items memory.now flags) ≡ (result, state registers.new buffer.new.items memory.now flags) }
+    ensures capacity { buffer.new.capacity ≡ 256 }
+    ensures control { registers.new.ccr ≡ registers.old.ccr }
+    ensures pc { registers.new.pc ≤ registers.old.pc + 1 }
+{
+    let burst = source_burst(registers);
+    if buffer.len() + burst.len() as usize > BUFFER_SIZE {
+        return ChanTurn::Fault(FaultKind::MfifoErr);
+    }
+    let mut bytes = [0; BUFFER_SIZE];
+    let bytes = &mut bytes[..burst.span().len as usize];
+    if !read_span(marks, memory, burst, bytes) {
+        return ChanTurn::Fault(FaultKind::DataReadErr);
+    }
+    fill(buffer, bytes, burst.rounds());
+    registers.pc += 1;
+    registers.sar += burst.advance();
+    ChanTurn::Moved
+}
+
+// Copies the oldest bytes of the buffer, as many as there is room for.
+fn copy_front(buffer: &HeapCircularBuffer<u8>, bytes: &mut [u8])
+    requires { length bytes.old ≤ length buffer.now.items }
+    ensures { bytes.new ≡ take (length bytes.old) buffer.now.items }
+{
+    let (front, back) = buffer.as_slices();
+    let from_front = front.len().min(bytes.len());
+    let (head, tail) = bytes.split_at_mut(from_front);
+    let from_back = tail.len();
+    head.copy_from_slice(&front[..from_front]);
+    tail.copy_from_slice(&back[..from_back]);
+}
+
+// Writes what a burst of these bytes leaves in memory. It answers whether the burst may store them, and if not, writes nothing.
+fn write_span(marks: &Marks, memory: &mut Memory, burst: Burst, bytes: &[u8]) -> bool
+    requires some { (1 ≤ burst.size) × (1 ≤ burst.beats) }
+    requires limit { (burst.size ≤ 16) × (burst.beats ≤ 16) }
+    requires len { length bytes.now ≡ burst_len burst }
+    ensures exact { result ≡ reaches MarkKind.Writing marks.now (length memory.old) (touched burst) }
+    ensures below { IsTrue result → burst.addr + span_of burst < 2 ^ 32 }
+    ensures written { memory.new ≡ (if result then put memory.old (left_by burst bytes.now) else memory.old) }
+{
+    let from = bytes.len() - burst.span().len as usize;
+    may_touch(MarkKind::Writing, marks, memory, burst)
+        && memory.write(burst.addr, &bytes[from..]).is_ok()
+}
+
+// Executes DMAST.
+pub(crate) fn store_burst(
+    marks: &Marks,
+    registers: &mut Registers,
+    buffer: &mut HeapCircularBuffer<u8>,
+    memory: &mut Memory,
+) -> ChanTurn
+    requires capacity { buffer.old.capacity ≡ 256 }
+    requires control { IsTrue (is_control registers.old.ccr) }
+    requires pc { registers.old.pc < 8192 }
+    ensures exact { (flags : List Bool) → act marks.now St (state registers.old buffer.old.items memory.old flags) ≡ (result, state registers.new buffer.new.items memory.new flags) }
+    ensures capacity { buffer.new.capacity ≡ 256 }
+    ensures control { registers.new.ccr ≡ registers.old.ccr }
+    ensures pc { registers.new.pc ≤ registers.old.pc + 1 }
+{
+    let burst = destination_burst(registers);
+    let len = burst.len() as usize;
+    if buffer.len() < len {
+        return ChanTurn::Fault(FaultKind::StDataUnavailable);
+    }
+    let mut bytes = [0; BUFFER_SIZE];
+    let bytes = &mut bytes[..len];
+    copy_front(buffer, bytes);
+    if !write_span(marks, memory, burst, bytes) {
+        return ChanTurn::Fault(FaultKind::DataWriteErr);
+    }
+    buffer.truncate_front(buffer.len() - len);
+    registers.pc += 1;
+    registers.dar += burst.advance();
+    ChanTurn::Moved
+}
+
+// How many bytes a store moves now.
+pub(crate) fn stored_len(registers: &Registers) -> u32
+    requires { IsTrue (is_control registers.now.ccr) }
+    ensures value { result ≡ burst_len (destination_of registers.now) }
+    ensures limit { result ≤ 256 }
+{
+    destination_burst(registers).len()
+}

@@ -1,0 +1,380 @@
+//! The compiler: a transfer as the program that copies it.
+
+ghost use Rattle.std.specs.Prelude.{ℕ, ◌≡◌, ◌+◌, ◌-◌, ◌*◌, ◌≤◌, ◌<◌, ◌^◌, ◌++◌, length, IfOk, IfSome, OnOk, map, All};
+ghost use Rattle.dma_insn.specs.Spelling.{spelling};
+ghost use Rattle.dma_chan.specs.Tree.{bytes_of, cost_of, in_order, Repeat};
+ghost use Rattle.dma_chan.specs.Compiled.{where_some, body, bursts, under, fits, beat_of, control_word, size_code, parts, piece_tree, wait_tree, signal_tree, tree_of, cost, compiled};
+ghost use Rattle.dma_chan.specs.Pieces.{pieces_of};
+ghost use Rattle.dma_mem.specs.Rules.{IsTransfer};
+
+use crate::pieces::{Piece, cut};
+use crate::program::Program;
+use dma_insn::codec::encode;
+use dma_insn::insn::{Counter, Event, Insn, Reg, Times};
+use dma_mem::transfer::Transfer;
+use std::alloc::{AllocError, Global};
+use thiserror::Error;
+
+/// The most bytes that the program of a transfer has: 58 for each of at most 127 pieces, and the wait, the signal and the end.
+pub const MAX_COMPILED: usize = 7371;
+
+// The most bytes of a piece's code.
+const PIECE_BYTES: usize = 58;
+
+// The bytes of a wait, a signal and the end.
+const OTHER_BYTES: usize = 5;
+
+/// Memory was refused.
+#[derive(Clone, Copy, PartialEq, Eq, Debug, Error)]
+#[error("out of memory")]
+pub struct NoMemory;
+
+impl From<AllocError> for NoMemory {
+    fn from(_refused: AllocError) -> NoMemory {
+        NoMemory
+    }
+}
+
+/// The program that copies a transfer's sources to its destinations, piece by piece, after its wait and before its signal.
+///
+/// The work is in proportion to the number of pieces. The error comes where memory is refused.
+#[tactic(auto, unfolding(crate::specs::Compiled::compiled))]
+pub fn compile(alloc: Global, transfer: &Transfer) -> Result<Program, NoMemory>
+    ensures program { IfOk result (λ program. program ≡ compiled transfer.now) }
+    ensures limit { IfOk result (λ program. length program.bytes ≤ 7371) }
+{
+    let pieces = cut(alloc, transfer.src(), transfer.dst())?;
+    let code = code_of(alloc, transfer, &pieces)?;
+    let cost = cost_of(transfer, &pieces);
+    Ok(Program::of_compiled(code, cost))
+}
+
+// The bytes of a transfer's code, by its pieces. Room for all of them is taken first.
+fn code_of(alloc: Global, transfer: &Transfer, pieces: &[Piece]) -> Result<Vec<u8>, AllocError>
+    requires rules { IsTransfer transfer.now }
+    requires pieces { pieces.now ≡ pieces_of transfer.now }
+    ensures { IfOk result (λ code. code.items ≡ bytes_of (tree_of transfer.now)) }
+{
+    let mut code = Vec::with_capacity(alloc, PIECE_BYTES * pieces.len() + OTHER_BYTES)?;
+    push_wait(&mut code, transfer.wait())?;
+    push_pieces(&mut code, pieces)?;
+    push_signal(&mut code, transfer.signal())?;
+    push(&mut code, Insn::End)?;
+    Ok(code)
+}
+
+// How many instructions a transfer's code executes, by its pieces.
+#[tactic(auto, unfolding(crate::specs::Compiled::cost))]
+fn cost_of(transfer: &Transfer, pieces: &[Piece]) -> u32
+    requires rules { IsTransfer transfer.now }
+    requires pieces { pieces.now ≡ pieces_of transfer.now }
+    ensures { result ≡ cost transfer.now }
+{
+    event_cost(transfer.wait()) + pieces_cost(pieces) + event_cost(transfer.signal()) + 1
+}
+
+// How many instructions a wait or a signal executes, where there is one.
+fn event_cost(event: Option<u8>) -> u32
+    ensures wait { result ≡ cost_of (wait_tree event) }
+    ensures signal { result ≡ cost_of (signal_tree event) }
+    ensures limit { result ≤ 1 }
+{
+    match event {
+        Some(_) => 1,
+        None => 0,
+    }
+}
+
+// Appends the wait, where the transfer has one.
+fn push_wait(code: &mut Vec<u8>, wait: Option<u8>) -> Result<(), AllocError>
+    requires { IfSome wait (λ event. event ≤ 31) }
+    ensures ok { OnOk result (code.new.items ≡ code.old.items ++ bytes_of (wait_tree wait)) }
+{
+    let Some(number) = wait else {
+        return Ok(());
+    };
+    let event = Event::of_number(number);
+    push(
+        code,
+        Insn::Wfe {
+            event,
+            invalid: false,
+        },
+    )
+}
+
+// Appends the signal, where the transfer has one.
+fn push_signal(code: &mut Vec<u8>, signal: Option<u8>) -> Result<(), AllocError>
+    requires { IfSome signal (λ event. event ≤ 31) }
+    ensures ok { OnOk result (code.new.items ≡ code.old.items ++ bytes_of (signal_tree signal)) }
+{
+    let Some(number) = signal else {
+        return Ok(());
+    };
+    push(code, Insn::Sev(Event::of_number(number)))
+}
+
+// Appends pieces in order.
+fn push_pieces(code: &mut Vec<u8>, pieces: &[Piece]) -> Result<(), AllocError>
+    requires { All (λ p. p.len ≤ 2 ^ 20) pieces.now }
+    ensures ok { OnOk result (code.new.items ≡ code.old.items ++ bytes_of (in_order (map piece_tree pieces.now))) }
+{
+    for piece in pieces {
+        push_piece(code, *piece)?;
+    }
+    Ok(())
+}
+
+// Appends a piece.
+fn push_piece(code: &mut Vec<u8>, piece: Piece) -> Result<(), AllocError>
+    requires { piece.len ≤ 2 ^ 20 }
+    ensures ok { OnOk result (code.new.items ≡ code.old.items ++ bytes_of (piece_tree piece)) }
+{
+    let beat = beat_of(piece);
+    push(code, Insn::Mov(Reg::Sar, piece.src))?;
+    push(code, Insn::Mov(Reg::Dar, piece.dst))?;
+    push_parts(code, beat, piece.len)?;
+    Ok(())
+}
+
+// Appends what copies so many bytes from where the registers point.
+#[tactic(auto, unfolding(crate::specs::Compiled::parts))]
+fn push_parts(code: &mut Vec<u8>, beat: u32, len: u32) -> Result<(), AllocError>
+    requires low { 1 ≤ beat }
+    requires high { beat ≤ 16 }
+    requires len { len ≤ 2 ^ 20 }
+    ensures ok { OnOk result (code.new.items ≡ code.old.items ++ bytes_of (parts beat len)) }
+{
+    let whole = 16 * beat;
+    let left = len % whole;
+    push_whole_bursts(code, beat, len / whole)?;
+    push_burst(code, beat, left / beat)?;
+    push_burst(code, 1, left % beat)?;
+    Ok(())
+}
+
+// Appends bursts of 16 beats, where there are any.
+#[tactic(auto, using(crate::proofs::Where::where_some_there, crate::proofs::Where::where_some_none))]
+fn push_whole_bursts(code: &mut Vec<u8>, beat: u32, count: u32) -> Result<(), AllocError>
+    requires { count ≤ 65536 }
+    ensures ok { OnOk result (code.new.items ≡ code.old.items ++ bytes_of (where_some count (under (control_word beat 16) (bursts count)))) }
+{
+    if count == 0 {
+        return Ok(());
+    }
+    push(code, Insn::Mov(Reg::Ccr, control_word(beat, 16)))?;
+    push_bursts(code, count)
+}
+
+// Appends so many bursts.
+fn push_bursts(code: &mut Vec<u8>, count: u32) -> Result<(), AllocError>
+    requires { count ≤ 65536 }
+    ensures ok { OnOk result (code.new.items ≡ code.old.items ++ bytes_of (bursts count)) }
+{
+    push_nested_loop(code, (count / 256) as u16)?;
+    push_rest(code, (count % 256) as u16)?;
+    Ok(())
+}
+
+// Appends whole turns of 256 bursts, where there are any.
+#[tactic(auto, using(crate::proofs::Where::where_some_there, crate::proofs::Where::where_some_none))]
+fn push_nested_loop(code: &mut Vec<u8>, turns: u16) -> Result<(), AllocError>
+    requires { turns ≤ 256 }
+    ensures ok { OnOk result (code.new.items ≡ code.old.items ++ bytes_of (where_some turns (Repeat Counter.Lc0 turns (Repeat Counter.Lc1 256 body)))) }
+{
+    if turns == 0 {
+        return Ok(());
+    }
+    let times = Times::of_number(turns);
+    push(
+        code,
+        Insn::Lp {
+            counter: Counter::Lc0,
+            times,
+        },
+    )?;
+    push_loop(code, 256)?;
+    push(
+        code,
+        Insn::LpEnd {
+            counter: Counter::Lc0,
+            back: 8,
+        },
+    )?;
+    Ok(())
+}
+
+// Appends fewer bursts than 256, where there are any.
+#[tactic(auto, using(crate::proofs::Where::where_some_there, crate::proofs::Where::where_some_none))]
+fn push_rest(code: &mut Vec<u8>, rest: u16) -> Result<(), AllocError>
+    requires { rest ≤ 256 }
+    ensures ok { OnOk result (code.new.items ≡ code.old.items ++ bytes_of (where_some rest (Repeat Counter.Lc1 rest body))) }
+{
+    if rest == 0 {
+        return Ok(());
+    }
+    push_loop(code, rest)
+}
+
+// Appends a loop round one burst.
+fn push_loop(code: &mut Vec<u8>, turns: u16) -> Result<(), AllocError>
+    requires low { 1 ≤ turns }
+    requires high { turns ≤ 256 }
+    ensures ok { OnOk result (code.new.items ≡ code.old.items ++ bytes_of (Repeat Counter.Lc1 turns body)) }
+{
+    let times = Times::of_number(turns);
+    push(
+        code,
+        Insn::Lp {
+            counter: Counter::Lc1,
+            times,
+        },
+    )?;
+    push_body(code)?;
+    push(
+        code,
+        Insn::LpEnd {
+            counter: Counter::Lc1,
+            back: 4,
+        },
+    )?;
+    Ok(())
+}
+
+// Appends one burst of so many beats, where there are any.
+#[tactic(auto, using(crate::proofs::Where::where_some_there, crate::proofs::Where::where_some_none))]
+fn push_burst(code: &mut Vec<u8>, beat: u32, beats: u32) -> Result<(), AllocError>
+    requires { beats ≤ 16 }
+    ensures ok { OnOk result (code.new.items ≡ code.old.items ++ bytes_of (where_some beats (under (control_word beat beats) body))) }
+{
+    if beats == 0 {
+        return Ok(());
+    }
+    push(code, Insn::Mov(Reg::Ccr, control_word(beat, beats)))?;
+    push_body(code)
+}
+
+// Appends one burst read and written.
+fn push_body(code: &mut Vec<u8>) -> Result<(), AllocError>
+    ensures ok { OnOk result (code.new.items ≡ code.old.items ++ bytes_of body) }
+{
+    push(code, Insn::Ld)?;
+    push(code, Insn::Rmb)?;
+    push(code, Insn::St)?;
+    push(code, Insn::Wmb)?;
+    Ok(())
+}
+
+// Appends an instruction's bytes.
+fn push(code: &mut Vec<u8>, insn: Insn) -> Result<(), AllocError>
+    ensures ok { OnOk result (code.new.items ≡ code.old.items ++ spelling insn) }
+{
+    let mut bytes = [0; 6];
+    let len = encode(insn, &mut bytes);
+    code.extend_from_slice(&bytes[..len])?;
+    Ok(())
+}
+
+// Whether beats of so many bytes fit a piece.
+fn fits(beat: u32, piece: Piece) -> bool
+    requires { 0 < beat }
+    ensures { result ≡ fits beat piece }
+{
+    piece.src % beat == 0 && piece.dst % beat == 0 && beat <= piece.len
+}
+
+// The bytes a beat of a piece.
+#[tactic(auto, unfolding(crate::specs::Compiled::beat_of))]
+fn beat_of(piece: Piece) -> u32
+    ensures value { result ≡ beat_of piece }
+    ensures low { 1 ≤ result }
+    ensures high { result ≤ 16 }
+{
+    if fits(16, piece) {
+        16
+    } else if fits(8, piece) {
+        8
+    } else if fits(4, piece) {
+        4
+    } else if fits(2, piece) {
+        2
+    } else {
+        1
+    }
+}
+
+// The control word's code of a beat's size.
+fn size_code(beat: u32) -> u32
+    ensures value { result ≡ size_code beat }
+    ensures limit { result ≤ 4 }
+{
+    match beat {
+        16 => 4,
+        8 => 3,
+        4 => 2,
+        2 => 1,
+        _ => 0,
+    }
+}
+
+// The control word of bursts of so many beats, with both increments.
+fn control_word(beat: u32, beats: u32) -> u32
+    requires low { 1 ≤ beats }
+    requires high { beats ≤ 16 }
+    ensures { result ≡ control_word beat beats }
+{
+    let code = size_code(beat);
+    let length = beats - 1;
+    1 + 2 * code + 16 * length + 0x4000 + 0x8000 * code + 0x4_0000 * length
+}
+
+// How many instructions the code of pieces executes.
+fn pieces_cost(pieces: &[Piece]) -> u32
+    requires lens { All (λ p. p.len ≤ 2 ^ 20) pieces.now }
+    requires few { length pieces.now ≤ 127 }
+    ensures value { result ≡ cost_of (in_order (map piece_tree pieces.now)) }
+    ensures limit { result ≤ 400000 * length pieces.now }
+{
+    let mut cost = 0;
+    for piece in pieces {
+        cost += piece_cost(*piece);
+    }
+    cost
+}
+
+// How many instructions a piece's code executes.
+#[tactic(auto, unfolding(crate::specs::Compiled::parts))]
+fn piece_cost(piece: Piece) -> u32
+    requires { piece.len ≤ 2 ^ 20 }
+    ensures value { result ≡ cost_of (piece_tree piece) }
+    ensures limit { result ≤ 400000 }
+{
+    let beat = beat_of(piece);
+    let whole = 16 * beat;
+    let left = piece.len % whole;
+    2 + whole_bursts_cost(piece.len / whole) + burst_cost(left / beat) + burst_cost(left % beat)
+}
+
+// How many instructions bursts of 16 beats execute, with their control word, where there are any.
+fn whole_bursts_cost(count: u32) -> u32
+    requires { count ≤ 65536 }
+    ensures value { (w : ℕ) → result ≡ cost_of (where_some count (under w (bursts count))) }
+    ensures limit { result ≤ 390000 }
+{
+    if count == 0 {
+        return 0;
+    }
+    let turns = count / 256;
+    let rest = count % 256;
+    let nested = if turns == 0 { 0 } else { 1 + turns * 1282 };
+    let single = if rest == 0 { 0 } else { 1 + rest * 5 };
+    1 + nested + single
+}
+
+// How many instructions one burst executes, with its control word, where it has any beats.
+fn burst_cost(beats: u32) -> u32
+    ensures value { (w : ℕ) → result ≡ cost_of (where_some beats (under w body)) }
+    ensures limit { result ≤ 5 }
+{
+    if beats == 0 { 0 } else { 5 }
+}

@@ -1,0 +1,187 @@
+//! Worked programs of transfers.
+
+use crate::compile::compile;
+use crate::program::Program;
+use crate::run::{RunEnd, run_program};
+use crate::turn::FaultKind;
+use dma_mem::memory::Memory;
+use dma_mem::segment::Segment;
+use dma_mem::transfer::Transfer;
+use std::alloc::Global;
+use std::test::Fail;
+
+fn segment(addr: u32, len: u32) -> Segment {
+    Segment { addr, len }
+}
+
+// The program that copies one segment to another of its length.
+fn copy_program(alloc: Global, src: u32, dst: u32, len: u32) -> Result<Program, Fail> {
+    let transfer = Transfer::new(
+        alloc,
+        &[segment(src, len)],
+        &[segment(dst, len)],
+        None,
+        None,
+    )?;
+    Ok(compile(alloc, &transfer)?)
+}
+
+// The 47 bytes of the copy of 300 bytes from 0x1000 to 0x2000.
+const COPY_OF_300: [u8; 47] = [
+    0xbc, 0x00, 0x00, 0x10, 0x00, 0x00, 0xbc, 0x02, 0x00, 0x20, 0x00, 0x00, 0xbc, 0x01, 0xf9, 0x40,
+    0x3e, 0x00, 0x22, 0x00, 0x04, 0x12, 0x08, 0x13, 0x3c, 0x04, 0xbc, 0x01, 0x19, 0x40, 0x06, 0x00,
+    0x04, 0x12, 0x08, 0x13, 0xbc, 0x01, 0xb1, 0x40, 0x2c, 0x00, 0x04, 0x12, 0x08, 0x13, 0x00,
+];
+
+// Where each of its instructions begins.
+const STARTS: [u32; 20] = [
+    0, 6, 12, 18, 20, 21, 22, 23, 24, 26, 32, 33, 34, 35, 36, 42, 43, 44, 45, 46,
+];
+
+#[test]
+fn four_bytes(rt: HostRuntime) -> Result<(), Fail> {
+    let program = copy_program(rt.alloc(), 0x1000, 0x2000, 4)?;
+    let bytes = [
+        0xbc, 0x00, 0x00, 0x10, 0x00, 0x00, 0xbc, 0x02, 0x00, 0x20, 0x00, 0x00, 0xbc, 0x01, 0x05,
+        0x40, 0x01, 0x00, 0x04, 0x12, 0x08, 0x13, 0x00,
+    ];
+    assert_eq!(rt; program.bytes(), bytes.as_slice());
+    assert_eq!(rt; program.cost(), Some(8));
+    Ok(())
+}
+
+#[test]
+fn a_wait_and_a_signal(rt: HostRuntime) -> Result<(), Fail> {
+    let alloc = rt.alloc();
+    let transfer = Transfer::new(
+        alloc,
+        &[segment(0x1000, 4)],
+        &[segment(0x2000, 4)],
+        Some(3),
+        Some(5),
+    )?;
+    let program = compile(alloc, &transfer)?;
+    let bytes = [
+        0x36, 0x18, 0xbc, 0x00, 0x00, 0x10, 0x00, 0x00, 0xbc, 0x02, 0x00, 0x20, 0x00, 0x00, 0xbc,
+        0x01, 0x05, 0x40, 0x01, 0x00, 0x04, 0x12, 0x08, 0x13, 0x34, 0x28, 0x00,
+    ];
+    assert_eq!(rt; program.bytes(), bytes.as_slice());
+    assert_eq!(rt; program.cost(), Some(10));
+    Ok(())
+}
+
+#[test]
+fn one_byte(rt: HostRuntime) -> Result<(), Fail> {
+    let program = copy_program(rt.alloc(), 0x1001, 0x2002, 1)?;
+    let bytes = [
+        0xbc, 0x00, 0x01, 0x10, 0x00, 0x00, 0xbc, 0x02, 0x02, 0x20, 0x00, 0x00, 0xbc, 0x01, 0x01,
+        0x40, 0x00, 0x00, 0x04, 0x12, 0x08, 0x13, 0x00,
+    ];
+    assert_eq!(rt; program.bytes(), bytes.as_slice());
+    assert_eq!(rt; program.cost(), Some(8));
+    Ok(())
+}
+
+#[test]
+fn bytes_at_odd_addresses(rt: HostRuntime) -> Result<(), Fail> {
+    let program = copy_program(rt.alloc(), 0x1001, 0x4002, 4113)?;
+    let bytes = [
+        0xbc, 0x00, 0x01, 0x10, 0x00, 0x00, 0xbc, 0x02, 0x02, 0x40, 0x00, 0x00, 0xbc, 0x01, 0xf1,
+        0x40, 0x3c, 0x00, 0x20, 0x00, 0x22, 0xff, 0x04, 0x12, 0x08, 0x13, 0x3c, 0x04, 0x38, 0x08,
+        0x22, 0x00, 0x04, 0x12, 0x08, 0x13, 0x3c, 0x04, 0xbc, 0x01, 0x01, 0x40, 0x00, 0x00, 0x04,
+        0x12, 0x08, 0x13, 0x00,
+    ];
+    assert_eq!(rt; program.bytes(), bytes.as_slice());
+    assert_eq!(rt; program.cost(), Some(1298));
+    Ok(())
+}
+
+#[test]
+fn three_hundred_bytes(rt: HostRuntime) -> Result<(), Fail> {
+    let program = copy_program(rt.alloc(), 0x1000, 0x2000, 300)?;
+    assert_eq!(rt; program.bytes(), COPY_OF_300.as_slice());
+    assert_eq!(rt; program.cost(), Some(20));
+    Ok(())
+}
+
+#[test]
+fn the_most_bytes(rt: HostRuntime) -> Result<(), Fail> {
+    let program = copy_program(rt.alloc(), 0x1, 0x200001, 1_048_576)?;
+    let bytes = [
+        0xbc, 0x00, 0x01, 0x00, 0x00, 0x00, 0xbc, 0x02, 0x01, 0x00, 0x20, 0x00, 0xbc, 0x01, 0xf1,
+        0x40, 0x3c, 0x00, 0x20, 0xff, 0x22, 0xff, 0x04, 0x12, 0x08, 0x13, 0x3c, 0x04, 0x38, 0x08,
+        0x00,
+    ];
+    assert_eq!(rt; program.bytes(), bytes.as_slice());
+    assert_eq!(rt; program.cost(), Some(328_197));
+    Ok(())
+}
+
+#[test]
+fn two_pieces(rt: HostRuntime) -> Result<(), Fail> {
+    let alloc = rt.alloc();
+    let transfer = Transfer::new(
+        alloc,
+        &[segment(0x10, 3), segment(0x21, 5)],
+        &[segment(0x40, 8)],
+        None,
+        None,
+    )?;
+    let program = compile(alloc, &transfer)?;
+    let bytes = [
+        0xbc, 0x00, 0x10, 0x00, 0x00, 0x00, 0xbc, 0x02, 0x40, 0x00, 0x00, 0x00, 0xbc, 0x01, 0x03,
+        0xc0, 0x00, 0x00, 0x04, 0x12, 0x08, 0x13, 0xbc, 0x01, 0x01, 0x40, 0x00, 0x00, 0x04, 0x12,
+        0x08, 0x13, 0xbc, 0x00, 0x21, 0x00, 0x00, 0x00, 0xbc, 0x02, 0x43, 0x00, 0x00, 0x00, 0xbc,
+        0x01, 0x41, 0x40, 0x10, 0x00, 0x04, 0x12, 0x08, 0x13, 0x00,
+    ];
+    assert_eq!(rt; program.bytes(), bytes.as_slice());
+    assert_eq!(rt; program.cost(), Some(20));
+    Ok(())
+}
+
+// The offset of the instruction at which a program of so many of the 47 bytes stops: the last that begins there or before.
+fn last_start(len: u32) -> u32 {
+    let mut last = 0;
+    for start in STARTS.iter() {
+        if *start <= len {
+            last = *start;
+        }
+    }
+    last
+}
+
+#[test]
+fn a_program_cut_to_each_length(rt: HostRuntime) -> Result<(), Fail> {
+    let alloc = rt.alloc();
+    for len in 0..47u32 {
+        let mut memory = Memory::new(alloc, 0x4000)?;
+        let end = run_program(alloc, &COPY_OF_300[..len as usize], &mut memory, 1000)?;
+        let kind = FaultKind::InstrFetchErr;
+        assert_eq!(rt;
+            end,
+            RunEnd::Fault {
+                kind,
+                pc: last_start(len)
+            }
+        );
+    }
+    Ok(())
+}
+
+#[test]
+fn three_hundred_bytes_copied(rt: HostRuntime) -> Result<(), Fail> {
+    let alloc = rt.alloc();
+    let mut memory = Memory::new(alloc, 0x4000)?;
+    memory.write(0x1000, &[0x11, 0x22, 0x33])?;
+    memory.write(0x1129, &[0x44, 0x55, 0x66])?;
+    let program = copy_program(alloc, 0x1000, 0x2000, 300)?;
+    let end = run_program(alloc, program.bytes(), &mut memory, 20)?;
+    assert_eq!(rt; end, RunEnd::Ended { turns: 20 });
+    let mut front = [0; 4];
+    memory.read_into(0x2000, &mut front)?;
+    assert_eq!(rt; front, [0x11, 0x22, 0x33, 0x00]);
+    let mut back = [0; 5];
+    memory.read_into(0x2128, &mut back)?;
+    assert_eq!(rt; back, [0x00, 0x44, 0x55, 0x66, 0x00]);
+    Ok(())
+}

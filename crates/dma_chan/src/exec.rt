@@ -1,0 +1,158 @@
+//! One instruction, executed.
+
+ghost use Rattle.std.specs.Prelude.{◌≡◌, ℕ, ◌+◌, ◌-◌, ◌≤◌, ◌<◌, Bool, IsTrue, List, length};
+ghost use Rattle.dma_insn.specs.Spelling.{spelling};
+ghost use Rattle.dma_insn.specs.declared.insn.Insn.TheVariants.{Mov, Lp, LpEnd, Sev, Wfe};
+ghost use Rattle.dma_chan.specs.Registers.{is_control, past, with_register};
+ghost use Rattle.dma_chan.specs.Exec.{act, state, State};
+ghost use Rattle.dma_mem.specs.Marking.{MarkList};
+
+use crate::bursts::{load_burst, store_burst};
+use crate::registers::Registers;
+use crate::turn::{ChanTurn, FaultKind};
+use circular_buffer::HeapCircularBuffer;
+use dma_insn::control::Control;
+use dma_insn::insn::{Counter, Event, Insn, Reg, Times};
+use dma_mem::events::Events;
+use dma_mem::marks::Marks;
+use dma_mem::memory::Memory;
+
+// Executes DMAMOV, which takes so many bytes of the program.
+#[tactic(auto, unfolding(crate::specs::Registers::is_control))]
+fn set_register(reg: Reg, value: u32, len: u32, registers: &mut Registers) -> ChanTurn
+    requires len { len ≡ length (spelling (Mov reg value)) }
+    requires pc { registers.old.pc + len ≤ 8192 }
+    requires control { IsTrue (is_control registers.old.ccr) }
+    ensures exact { (marks : MarkList) (buffer image : List ℕ) (flags : List Bool) → act marks (Mov reg value) (state registers.old buffer image flags) ≡ (result, state registers.new buffer image flags) }
+    ensures control { IsTrue (is_control registers.new.ccr) }
+    ensures pc { registers.new.pc ≤ registers.old.pc + len }
+{
+    match reg {
+        Reg::Sar => registers.sar = value,
+        Reg::Dar => registers.dar = value,
+        Reg::Ccr => {
+            if Control::from_bits(value).is_err() {
+                return ChanTurn::Fault(FaultKind::OperandInvalid);
+            }
+            registers.ccr = value;
+        }
+    }
+    registers.pc += len;
+    ChanTurn::Moved
+}
+
+// Executes DMALP.
+fn begin_loop(counter: Counter, times: Times, registers: &mut Registers) -> ChanTurn
+    requires pc { registers.old.pc + 2 ≤ 8192 }
+    ensures exact { (marks : MarkList) (buffer image : List ℕ) (flags : List Bool) → act marks (Lp counter times) (state registers.old buffer image flags) ≡ (result, state registers.new buffer image flags) }
+    ensures control { registers.new.ccr ≡ registers.old.ccr }
+    ensures pc { registers.new.pc ≤ registers.old.pc + 2 }
+{
+    let again = (times.number() - 1) as u8;
+    match counter {
+        Counter::Lc0 => registers.lc0 = again,
+        Counter::Lc1 => registers.lc1 = again,
+    }
+    registers.pc += 2;
+    ChanTurn::Moved
+}
+
+// Executes DMALPEND.
+#[tactic(auto, using(crate::proofs::Loops::looped_again))]
+fn end_loop(counter: Counter, back: u8, registers: &mut Registers) -> ChanTurn
+    requires pc { registers.old.pc + 2 ≤ 8192 }
+    ensures exact { (marks : MarkList) (buffer image : List ℕ) (flags : List Bool) → act marks (LpEnd counter back) (state registers.old buffer image flags) ≡ (result, state registers.new buffer image flags) }
+    ensures control { registers.new.ccr ≡ registers.old.ccr }
+    ensures pc { registers.new.pc ≤ registers.old.pc + 2 }
+{
+    let back = u32::from(back);
+    let count = match counter {
+        Counter::Lc0 => registers.lc0,
+        Counter::Lc1 => registers.lc1,
+    };
+    if count == 0 {
+        registers.pc += 2;
+        return ChanTurn::Moved;
+    }
+    if registers.pc < back {
+        return ChanTurn::Fault(FaultKind::InstrFetchErr);
+    }
+    match counter {
+        Counter::Lc0 => registers.lc0 = count - 1,
+        Counter::Lc1 => registers.lc1 = count - 1,
+    }
+    registers.pc -= back;
+    ChanTurn::Moved
+}
+
+// Executes DMASEV.
+fn signal(event: Event, registers: &mut Registers, events: &mut Events) -> ChanTurn
+    requires pc { registers.old.pc + 2 ≤ 8192 }
+    ensures exact { (marks : MarkList) (buffer image : List ℕ) → act marks (Sev event) (state registers.old buffer image events.old) ≡ (result, state registers.new buffer image events.new) }
+    ensures control { registers.new.ccr ≡ registers.old.ccr }
+    ensures pc { registers.new.pc ≤ registers.old.pc + 2 }
+{
+    events.set(event.number());
+    registers.pc += 2;
+    ChanTurn::Moved
+}
+
+// Executes DMAWFE.
+fn wait(event: Event, invalid: bool, registers: &mut Registers, events: &mut Events) -> ChanTurn
+    requires pc { registers.old.pc + 2 ≤ 8192 }
+    ensures exact { (marks : MarkList) (buffer image : List ℕ) → act marks (Wfe event invalid) (state registers.old buffer image events.old) ≡ (result, state registers.new buffer image events.new) }
+    ensures control { registers.new.ccr ≡ registers.old.ccr }
+    ensures pc { registers.new.pc ≤ registers.old.pc + 2 }
+{
+    let number = event.number();
+    if !events.is_set(number) {
+        return ChanTurn::Waiting(event);
+    }
+    events.clear(number);
+    registers.pc += 2;
+    ChanTurn::Moved
+}
+
+// Executes an instruction that only goes on.
+fn go_on(registers: &mut Registers) -> ChanTurn
+    requires { registers.old.pc + 1 ≤ 8192 }
+    ensures turn { result ≡ ChanTurn.Moved }
+    ensures registers { registers.new ≡ record (registers.old) { pc = registers.old.pc + 1 } }
+{
+    registers.pc += 1;
+    ChanTurn::Moved
+}
+
+// Executes an instruction that takes so many bytes of the program.
+pub(crate) fn execute(
+    insn: Insn,
+    len: u32,
+    registers: &mut Registers,
+    buffer: &mut HeapCircularBuffer<u8>,
+    memory: &mut Memory,
+    events: &mut Events,
+    marks: &Marks,
+) -> ChanTurn
+    requires len { len ≡ length (spelling insn) }
+    requires pc { registers.old.pc + len ≤ 8192 }
+    requires control { IsTrue (is_control registers.old.ccr) }
+    requires capacity { buffer.old.capacity ≡ 256 }
+    ensures exact { act marks.now insn (state registers.old buffer.old.items memory.old events.old) ≡ (result, state registers.new buffer.new.items memory.new events.new) }
+    ensures control { IsTrue (is_control registers.new.ccr) }
+    ensures capacity { buffer.new.capacity ≡ 256 }
+    ensures pc { registers.new.pc ≤ registers.old.pc + len }
+{
+    match insn {
+        Insn::Mov(reg, value) => set_register(reg, value, len, registers),
+        Insn::Ld => load_burst(marks, registers, buffer, memory),
+        Insn::St => store_burst(marks, registers, buffer, memory),
+        Insn::Rmb => go_on(registers),
+        Insn::Wmb => go_on(registers),
+        Insn::Nop => go_on(registers),
+        Insn::Lp { counter, times } => begin_loop(counter, times, registers),
+        Insn::LpEnd { counter, back } => end_loop(counter, back, registers),
+        Insn::Sev(event) => signal(event, registers, events),
+        Insn::Wfe { event, invalid } => wait(event, invalid, registers, events),
+        Insn::End => ChanTurn::Ended,
+    }
+}

@@ -1,0 +1,24 @@
+//! Laws of transfers' programs. Each is the clause of a function that does nothing.
+
+ghost use Rattle.dma_chan.specs.Layer.{StartsAt, AheadIs, LeftIs, StepIs, TurnTells, Survives, ShapeIs, StoredIs, CopiesAlone};
+
+/// What the channel does that runs a transfer's program, step by step, by the places of the transfer alone.
+pub fn runs_in_step()
+    ensures starts { StartsAt }
+    ensures ahead { AheadIs }
+    ensures left { LeftIs }
+    ensures step { StepIs }
+    ensures tells { TurnTells }
+    ensures survives { Survives }
+{}
+
+/// Which instructions a transfer's program executes, and how the bytes stored grow.
+pub fn stores_in_turn()
+    ensures shape { ShapeIs }
+    ensures stored { StoredIs }
+{}
+
+/// What a program leaves that is run alone, of a transfer that doesn't wait: one simultaneous copy of all its bytes.
+pub fn copies_alone()
+    ensures { CopiesAlone }
+{}

@@ -1,0 +1,87 @@
+//! A transfer's lists, cut into pieces that lie together at both ends.
+
+ghost use Rattle.std.specs.Prelude.{◌≡◌, List, ◌∷◌, ◌++◌, OnOk, IfOk};
+ghost use Rattle.std.specs.List.{AllByRecursion};
+ghost use Rattle.dma_chan.specs.Pieces.{pieces, byte_count, IsRange};
+
+use dma_mem::segment::Segment;
+use std::alloc::{AllocError, Global};
+
+/// Bytes that lie together at both ends.
+#[derive(Clone, Copy, PartialEq, Eq, Debug)]
+pub struct Piece {
+    /// The first source address.
+    pub src: u32,
+    /// The first destination address.
+    pub dst: u32,
+    /// The number of bytes.
+    pub len: u32,
+}
+
+// Two lists of as many bytes, cut at every end of a segment of either.
+pub(crate) fn cut(
+    alloc: Global,
+    sources: &[Segment],
+    destinations: &[Segment],
+) -> Result<Vec<Piece>, AllocError>
+    requires sources { AllByRecursion IsRange sources.now }
+    requires destinations { AllByRecursion IsRange destinations.now }
+    requires totals { byte_count sources.now ≡ byte_count destinations.now }
+    ensures { IfOk result (λ v. v.items ≡ pieces sources.now destinations.now) }
+{
+    let mut out = Vec::new(alloc);
+    if let (Some((src, more_sources)), Some((dst, more_destinations))) = (
+        sources.split_first(),
+        destinations.split_first(),
+    ) {
+        cut_from(&mut out, *src, more_sources, *dst, more_destinations)?;
+    }
+    Ok(out)
+}
+
+// The same for two lists that each have a first segment, which may be what is left of one.
+#[tactic(auto, using(crate::proofs::Steps::pieces_less, crate::proofs::Steps::pieces_more, crate::proofs::Steps::pieces_same))]
+fn cut_from(
+    out: &mut Vec<Piece>,
+    src: Segment,
+    sources: &[Segment],
+    dst: Segment,
+    destinations: &[Segment],
+) -> Result<(), AllocError>
+    requires sources { AllByRecursion IsRange (src ∷ sources.now) }
+    requires destinations { AllByRecursion IsRange (dst ∷ destinations.now) }
+    requires totals { byte_count (src ∷ sources.now) ≡ byte_count (dst ∷ destinations.now) }
+    ensures ok { OnOk result (out.new.items ≡ out.old.items ++ pieces (src ∷ sources.now) (dst ∷ destinations.now)) }
+{
+    let len = src.len.min(dst.len);
+    out.push(Piece {
+        src: src.addr,
+        dst: dst.addr,
+        len,
+    })?;
+    if src.len < dst.len {
+        let rest = Segment {
+            addr: dst.addr + len,
+            len: dst.len - len,
+        };
+        let Some((next, more)) = sources.split_first() else {
+            unreachable!();
+        };
+        cut_from(out, *next, more, rest, destinations)?;
+    } else if dst.len < src.len {
+        let rest = Segment {
+            addr: src.addr + len,
+            len: src.len - len,
+        };
+        let Some((next, more)) = destinations.split_first() else {
+            unreachable!();
+        };
+        cut_from(out, rest, sources, *next, more)?;
+    } else if let (Some((next_src, more_sources)), Some((next_dst, more_destinations))) = (
+        sources.split_first(),
+        destinations.split_first(),
+    ) {
+        cut_from(out, *next_src, more_sources, *next_dst, more_destinations)?;
+    }
+    Ok(())
+}

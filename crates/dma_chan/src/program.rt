@@ -1,0 +1,80 @@
+//! Programs.
+
+ghost use Rattle.std.specs.Prelude.{◌≡◌, ◌≤◌, ◌<◌, ◌↔◌, length, nat_lt, if◌then◌else◌, None, Some, IfOk, IfErr, IsOk, OnOk};
+
+use std::alloc::Global;
+use std::marker::Model;
+use thiserror::Error;
+
+/// The most bytes that a program has (profile).
+pub const MAX_BYTES: usize = 8192;
+
+/// Why bytes were no program.
+#[derive(Clone, Copy, Debug, PartialEq, Eq, Error)]
+pub enum ProgramFault {
+    #[error("the program has more than {} bytes", MAX_BYTES)]
+    ProgramTooLong,
+    #[error("out of memory")]
+    NoMemory,
+}
+
+/// The bytes of a program, at most [`MAX_BYTES`], and of a compiled one how many instructions it executes.
+#[derive(Drop)]
+pub struct Program {
+    bytes: Vec<u8>,
+    cost: Option<u32>,
+}
+
+impl Model for Program {
+    ghost use Rattle.std.specs.Prelude.{◌≤◌, length};
+    ghost use Rattle.dma_chan.specs.Programs.{ProgramValue};
+
+    ghost Value = { ProgramValue };
+
+    ghost view = { λ p. record { bytes = p.bytes.items; cost = p.cost } };
+
+    ghost invariant = { λ p. length p.bytes.items ≤ 8192 };
+}
+
+impl Program {
+    /// The program of these bytes, which need not be instructions. It has no cost.
+    ///
+    /// The error is `ProgramTooLong` above [`MAX_BYTES`], else `NoMemory`.
+    pub fn from_bytes(alloc: Global, bytes: &[u8]) -> Result<Program, ProgramFault>
+        ensures ok { IfOk result (λ program. program ≡ record { bytes = bytes.now; cost = None }) }
+        ensures fits { OnOk result (length bytes.now ≤ 8192) }
+        ensures err { IfErr result (λ fault. fault ≡ (if nat_lt 8192 (length bytes.now) then ProgramFault.ProgramTooLong else ProgramFault.NoMemory)) }
+    {
+        if bytes.len() > MAX_BYTES {
+            return Err(ProgramFault::ProgramTooLong);
+        }
+        let bytes = Vec::from_slice(alloc, bytes).map_err(|_| ProgramFault::NoMemory)?;
+        Ok(Program { bytes, cost: None })
+    }
+
+    // What the compiler made.
+    pub(crate) fn of_compiled(bytes: Vec<u8>, cost: u32) -> Program
+        requires { length bytes.items ≤ 8192 }
+        ensures { result ≡ record { bytes = bytes.items; cost = Some cost } }
+    {
+        Program {
+            bytes,
+            cost: Some(cost),
+        }
+    }
+
+    /// The bytes.
+    pub fn bytes(&self) -> &[u8]
+        ensures value { result.now ≡ self.now.bytes }
+        ensures limit { length result.now ≤ 8192 }
+    {
+        self.bytes.as_slice()
+    }
+
+    /// How many instructions it executes, if it was compiled.
+    pub fn cost(&self) -> Option<u32>
+        ensures { result ≡ self.now.cost }
+    {
+        self.cost
+    }
+}
