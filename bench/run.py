@@ -1,0 +1,58 @@
+"""Times dmasim on the scripts of this folder, each beside a plain memcpy of as many bytes in the same run.
+
+    python3 bench/run.py
+"""
+import os
+import subprocess
+import sys
+import time
+
+HERE = os.path.dirname(os.path.abspath(__file__))
+PROGRAM = os.path.join(HERE, "..", "crates", "dmasim", "out", "dmasim")
+TURNS = 5
+
+
+def script(name):
+    return subprocess.run([sys.executable, os.path.join(HERE, name)], check=True, stdout=subprocess.PIPE).stdout
+
+
+def best(action):
+    times = []
+    for _ in range(TURNS):
+        start = time.perf_counter()
+        action()
+        times.append(time.perf_counter() - start)
+    return min(times)
+
+
+def run(text):
+    done = subprocess.run([PROGRAM, "run"], input=text, stdout=subprocess.PIPE)
+    assert done.returncode == 0, done.returncode
+    return done.stdout
+
+
+def memcpy(size, count):
+    """`count` copies of `size` bytes between two blocks, by slice assignment, which is memmove."""
+    source = bytearray(os.urandom(4096) * (size // 4096 + 1))[:size]
+    target = bytearray(size)
+    return best(lambda: [target.__setitem__(slice(None), source) for _ in range(count)])
+
+
+def report(name, seconds, plain, what):
+    print("%-28s %8.1f ms   %s %8.3f ms   ratio %.1f" % (name, 1000 * seconds, what, 1000 * plain, seconds / plain))
+
+
+def main():
+    subprocess.run([os.path.join(HERE, "..", "dmasim")], input=b"", stdout=subprocess.DEVNULL)
+    empty = best(lambda: run(b"memory 1 1\n"))
+    print("%-28s %8.1f ms" % ("a script of one line", 1000 * empty))
+    writes = script("write_script.py")
+    lines = writes.count(b"\n") - 1
+    assert run(writes) == b"ok\n" * lines
+    report("4 MiB of write lines", best(lambda: run(writes)), memcpy(len(writes), 1), "memcpy of the script")
+    copies = script("copy_script.py")
+    assert run(copies).count(b"finished") == 100
+    report("100 copies of 1 MiB", best(lambda: run(copies)), memcpy(1 << 20, 100), "memcpy 100 x 1 MiB   ")
+
+
+main()

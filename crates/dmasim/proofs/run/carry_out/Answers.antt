@@ -1,0 +1,5 @@
+use Rattle.dmasim.proofs.run.carry_out.Goals as goal
+
+pub returns-in-Copy-clause-ok : goal.returns-in-Copy-clause-ok
+returns-in-Copy-clause-ok c =
+    rw (c.in-Copy.is, ← c.as_slice-in-Copy.ensures, ← c.as_slice-in-Copy-2.ensures) c.copy_line.ensures.ok

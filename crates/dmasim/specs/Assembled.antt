@@ -1,0 +1,37 @@
+-- What `dmasim asm` prints for an input.
+use Rattle.std.specs.Prelude.{ℕ, ◌<◌, ◌∷◌, [], List, length, Result, Ok, Err, codes, decimal}
+use Rattle.std.specs.List.{concat}
+use Rattle.std.proofs.Math.Nat.{zero-lt-suc}
+use Rattle.dma_insn.specs.declared.assembler.Cause.{Cause}
+use Rattle.dma_insn.specs.declared.assembler.Cause.TheVariants.{Mnemonic, Operand, Range}
+use Rattle.dma_insn.specs.declared.assembler.AsmFault.{AsmFault}
+use Rattle.dma_insn.specs.declared.assembler.AsmFault.TheVariants.{Line, ProgramTooLong, NoMemory}
+use Rattle.dma_insn.specs.LineReading.{assembled}
+use Rattle.dma_script.specs.Command.{Printed, refusal}
+use Rattle.dma_script.specs.Printing.{program_lines}
+
+-- the name of a cause
+abbrev pub cause_name : Cause → List ℕ
+cause_name Mnemonic = codes "mnemonic"
+cause_name Operand = codes "operand"
+cause_name Range = codes "range"
+
+-- the line of a fault; want of memory has none that is printed
+abbrev pub fault_line : AsmFault → List ℕ
+fault_line (Line n cause) = concat (codes "line " ∷ decimal n ∷ codes ": " ∷ cause_name cause ∷ [])
+fault_line (ProgramTooLong n) = concat (codes "line " ∷ decimal n ∷ codes ": ProgramTooLong" ∷ [])
+fault_line NoMemory = []
+
+-- A text that assembles prints its program's bytes, and another its first fault.
+abbrev pub asm_printed_of : Result (List ℕ) AsmFault → Printed
+asm_printed_of (Ok program) = record { groups = program_lines program ∷ []; status = 0 }
+asm_printed_of (Err fault) = refusal (fault_line fault)
+
+-- What is printed for an input.
+abbrev pub asm_printed : List ℕ → Printed
+asm_printed input = asm_printed_of (assembled input)
+
+-- there is one group, for the program or the fault
+abbrev pub asm_printed_of-some : (read : Result (List ℕ) AsmFault) → 0 < length (asm_printed_of read).groups
+asm_printed_of-some (Ok program) = zero-lt-suc _
+asm_printed_of-some (Err fault) = zero-lt-suc _

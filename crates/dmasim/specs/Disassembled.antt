@@ -1,0 +1,58 @@
+-- What `dmasim dis` prints for an input.
+use Rattle.std.specs.Prelude.{ℕ, ◌+◌, ◌-◌, ◌<◌, length, ◌++◌, ◌∷◌, [], List, Result, Ok, Err, suc, zero, codes, decimal}
+use Rattle.std.specs.List.{concat}
+use Rattle.std.proofs.Math.Nat.{zero-lt-suc}
+use Rattle.dma_insn.specs.declared.codec.DecodeFault.{DecodeFault}
+use Rattle.dma_insn.specs.declared.codec.DecodeFault.TheVariants.{Cut, Unknown, BadField}
+use Rattle.dma_insn.specs.Decoding.{Decoded, decoded}
+use Rattle.dma_insn.specs.Disassembly.{insn_text}
+use Rattle.dma_script.specs.Command.{Printed, refusal}
+use Rattle.dma_script.specs.Printing.{hex_byte_of}
+use Rattle.dma_script.specs.Pairs.{pairs_of, pairs_fault_line}
+
+-- a line before others, where there is no fault
+abbrev pub with_line : List ℕ → Result (List (List ℕ)) (ℕ × DecodeFault) → Result (List (List ℕ)) (ℕ × DecodeFault)
+with_line line (Ok lines) = Ok (line ∷ lines)
+with_line line (Err fault) = Err fault
+
+-- the line of an instruction of so many bytes and what follows it, or its fault at its offset
+abbrev pub first_line : ℕ → Decoded → (ℕ → Result (List (List ℕ)) (ℕ × DecodeFault)) → Result (List (List ℕ)) (ℕ × DecodeFault)
+first_line offset (Ok found) more = with_line (insn_text found.0) (more found.1)
+first_line offset (Err fault) more = Err (offset, fault)
+
+-- The lines of the instructions that these bytes spell one after another, or the first place where none stands, by its
+-- offset. The first bytes, so many, belong to the instruction before.
+abbrev pub lines_from : ℕ → ℕ → List ℕ → Result (List (List ℕ)) (ℕ × DecodeFault)
+lines_from offset skipped [] = Ok []
+lines_from offset (suc skipped) (byte ∷ rest) = lines_from (offset + 1) skipped rest
+lines_from offset zero (byte ∷ rest) = first_line offset (decoded (byte ∷ rest)) (λ count. lines_from (offset + 1) (count - 1) rest)
+
+-- the line of a fault
+abbrev pub decode_fault_line : ℕ → DecodeFault → List ℕ
+decode_fault_line offset Cut = concat (codes "offset " ∷ decimal offset ∷ codes ": Cut" ∷ [])
+decode_fault_line offset (Unknown byte) = concat (codes "offset " ∷ decimal offset ∷ codes ": Unknown " ∷ []) ++ hex_byte_of byte
+decode_fault_line offset BadField = concat (codes "offset " ∷ decimal offset ∷ codes ": BadField" ∷ [])
+
+-- what is printed for the bytes
+abbrev pub lines_printed : Result (List (List ℕ)) (ℕ × DecodeFault) → Printed
+lines_printed (Ok lines) = record { groups = lines ∷ []; status = 0 }
+lines_printed (Err fault) = refusal (decode_fault_line fault.0 fault.1)
+
+-- Pairs of digits print the text of the bytes that they spell, or their first fault; another input prints the line of its
+-- first wrong byte.
+abbrev pub dis_printed_of : Result (List ℕ) ℕ → Printed
+dis_printed_of (Ok bytes) = lines_printed (lines_from 0 0 bytes)
+dis_printed_of (Err line) = refusal (pairs_fault_line line)
+
+-- What is printed for an input.
+abbrev pub dis_printed : List ℕ → Printed
+dis_printed input = dis_printed_of (pairs_of input)
+
+-- there is one group, for the text or the fault
+abbrev pub lines_printed-some : (read : Result (List (List ℕ)) (ℕ × DecodeFault)) → 0 < length (lines_printed read).groups
+lines_printed-some (Ok lines) = zero-lt-suc _
+lines_printed-some (Err fault) = zero-lt-suc _
+
+abbrev pub dis_printed_of-some : (read : Result (List ℕ) ℕ) → 0 < length (dis_printed_of read).groups
+dis_printed_of-some (Ok bytes) = lines_printed-some (lines_from 0 0 bytes)
+dis_printed_of-some (Err line) = zero-lt-suc _

@@ -1,0 +1,8 @@
+-- What the program prints for an input.
+pub mod Plain
+pub mod Holds
+pub mod Printed
+pub mod Run
+pub mod Assembled
+pub mod Disassembled
+pub mod Planned

@@ -1,0 +1,76 @@
+//! dmasim carries out scripts of a DMA controller.
+#![tactic(auto)]
+
+mod asm;
+mod dis;
+mod plain;
+mod plan;
+mod printing;
+mod run;
+#[cfg(test)]
+mod tests;
+
+use asm::asm_main;
+use clap::error::ErrorKind;
+use clap::{Command, Error};
+use dis::dis_main;
+use plan::plan_main;
+use run::run_script;
+use std::alloc::Global;
+use std::process::ExitCode;
+use std::{env, io};
+
+const FAULT: u8 = 1;
+
+const WRONG_ARGUMENTS: u8 = 2;
+
+const OUT_OF_MEMORY: u8 = 3;
+
+/// The subcommand that the words of the command line name.
+fn subcommand<'a>(alloc: Global, words: &'a [String]) -> Result<Option<&'a str>, Error> {
+    let matches = Command::new(alloc, "dmasim")
+        .disable_help_subcommand(true)
+        .subcommand_required(true)
+        .subcommand(Command::new(alloc, "asm"))?
+        .subcommand(Command::new(alloc, "dis"))?
+        .subcommand(Command::new(alloc, "plan"))?
+        .subcommand(Command::new(alloc, "run"))?
+        .try_get_matches_from(words)?;
+    Ok(matches.subcommand_name())
+}
+
+/// Prints the usage, and gives the status of a wrong command line.
+fn usage(rt: &impl Print) -> u8 {
+    match rt.println("usage: dmasim asm|dis|plan|run|race") {
+        Ok(()) => WRONG_ARGUMENTS,
+        Err(_) => FAULT,
+    }
+}
+
+/// Runs the command that the words name, and gives its status.
+fn status(rt: &HostRuntime, words: &[String]) -> u8 {
+    match subcommand(rt.alloc(), words) {
+        Ok(Some("asm")) => asm_main(rt.alloc(), &mut rt.stdin(), &mut rt.stdout()),
+        Ok(Some("dis")) => dis_main(rt.alloc(), &mut rt.stdin(), &mut rt.stdout()),
+        Ok(Some("plan")) => plan_main(rt.alloc(), &mut rt.stdin(), &mut rt.stdout()),
+        Ok(Some("run")) => run_script(rt.alloc(), &mut rt.stdin(), &mut rt.stdout()),
+        Ok(_) => usage(rt),
+        Err(error) if error.kind() == ErrorKind::OutOfMemory => OUT_OF_MEMORY,
+        Err(_) => usage(rt),
+    }
+}
+
+fn main(rt: HostRuntime) -> ExitCode {
+    let words = match env::args(&rt) {
+        Ok(args) => args.collect(rt.alloc()),
+        Err(error) if error.kind() == io::ErrorKind::OutOfMemory => {
+            return ExitCode::from(OUT_OF_MEMORY);
+        }
+        Err(_) => return ExitCode::from(usage(&rt)),
+    };
+    let words: Vec<String> = match words {
+        Ok(words) => words,
+        Err(_) => return ExitCode::from(OUT_OF_MEMORY),
+    };
+    ExitCode::from(status(&rt, &words))
+}

@@ -1,0 +1,126 @@
+//! The command `plan`: it prints the program of a transfer, and what it costs.
+ghost use Rattle.std.specs.Prelude.{◌≡◌, ◌≢◌, ◌++◌, ◌∷◌, [], OnOk, OnErr, IfOk, IfSome};
+ghost use Rattle.dma_mem.specs.Rules.{refusal_of};
+ghost use Rattle.dma_script.specs.Command.{Ends, printed_text, printed_within, text_of};
+ghost use Rattle.dmasim.specs.Planned.{plan_printed, program_printed, transfer_of, transfer_printed, unfit_line};
+
+use crate::printing::transfer_fault_name;
+use dma_chan::compile::compile;
+use dma_chan::program::Program;
+use dma_mem::transfer::{Transfer, TransferFault};
+use dma_script::command::{Command, FAULT, SUCCESS, serve};
+use dma_script::fault::ScriptError;
+use dma_script::input::Source;
+use dma_script::output::Sink;
+use dma_script::plan::{PlanLine, read_plan};
+use dma_script::printing::{push_fault, push_line, push_program};
+use std::alloc::{AllocError, Global};
+
+/// Appends the line of a transfer that breaks a rule, or nothing. Where memory was refused there is no such line.
+fn push_unfit(
+    alloc: Global,
+    out: &mut Vec<u8>,
+    line: usize,
+    fault: TransferFault,
+) -> Result<(), AllocError>
+    ensures ok { OnOk result ((fault ≢ TransferFault.NoMemory) × (out.new.items ≡ out.old.items ++ text_of (unfit_line line fault ∷ []))) }
+    ensures err { OnErr result (out.new.items ≡ out.old.items) }
+{
+    match fault {
+        TransferFault::NoMemory => Err(AllocError),
+        _ => push_rule(alloc, out, line, fault),
+    }
+}
+
+fn push_rule(
+    alloc: Global,
+    out: &mut Vec<u8>,
+    line: usize,
+    fault: TransferFault,
+) -> Result<(), AllocError>
+    ensures ok { OnOk result (out.new.items ≡ out.old.items ++ text_of (unfit_line line fault ∷ [])) }
+    ensures err { OnErr result (out.new.items ≡ out.old.items) }
+{
+    let name = transfer_fault_name(fault);
+    let text = format!(in alloc; "line {line}: {name}")?;
+    push_line(out, text.as_bytes())
+}
+
+/// The lines of a program: its bytes, their number, and its cost.
+fn program_text(alloc: Global, program: &Program) -> Result<Vec<u8>, AllocError>
+    ensures { IfOk result (λ text. text.items ≡ text_of (program_printed program.now)) }
+{
+    let mut text = Vec::new(alloc);
+    push_program(alloc, &mut text, program.bytes())?;
+    let count = program.bytes().len();
+    let bytes = format!(in alloc; "bytes {count}")?;
+    push_line(&mut text, bytes.as_bytes())?;
+    if let Some(cost) = program.cost() {
+        let cost = format!(in alloc; "cost {cost}")?;
+        push_line(&mut text, cost.as_bytes())?;
+    }
+    Ok(text)
+}
+
+/// Appends the program of a transfer or the line of the first rule that it breaks, and gives the status; or appends
+/// nothing.
+fn push_transfer(alloc: Global, out: &mut Vec<u8>, line: &PlanLine) -> Result<u8, AllocError>
+    ensures text { OnOk result (out.new.items ≡ out.old.items ++ printed_text (transfer_printed line.now (refusal_of (transfer_of line.now))).groups) }
+    ensures status { IfOk result (λ status. status ≡ (transfer_printed line.now (refusal_of (transfer_of line.now))).status) }
+    ensures err { OnErr result (out.new.items ≡ out.old.items) }
+{
+    let built = Transfer::new(
+        alloc,
+        line.src.as_slice(),
+        line.dst.as_slice(),
+        line.wait,
+        line.signal,
+    );
+    match built {
+        Ok(transfer) => {
+            let Ok(program) = compile(alloc, &transfer) else {
+                return Err(AllocError);
+            };
+            let text = program_text(alloc, &program)?;
+            out.extend_from_slice(&text)?;
+            Ok(SUCCESS)
+        }
+        Err(fault) => {
+            push_unfit(alloc, out, line.line, fault)?;
+            Ok(FAULT)
+        }
+    }
+}
+
+/// The command `plan`.
+#[derive(Drop)]
+struct Plan;
+
+impl Command for Plan {
+    ghost use Rattle.dma_script.specs.Plan.{plan_of};
+    ghost use Rattle.dmasim.specs.Planned.{plan_printed, plan_printed_of-some};
+
+    ghost printed = { plan_printed };
+
+    fn answer(&self, alloc: Global, input: &[u8], out: &mut Vec<u8>) -> Result<u8, AllocError> {
+        match read_plan(alloc, input) {
+            Ok(line) => push_transfer(alloc, out, &line),
+            Err(ScriptError::Fault(fault)) => {
+                push_fault(alloc, out, fault)?;
+                Ok(FAULT)
+            }
+            Err(ScriptError::NoMemory) => Err(AllocError),
+        }
+    }
+
+    ghost some_group = { λ input. plan_printed_of-some (plan_of input) };
+}
+
+/// Reads the line of a transfer, writes its program or the line of the first fault and nothing else, and gives the exit
+/// status: 0, or 1 for a fault of the input or a failing stream, or 3 for want of memory, where nothing is written.
+pub fn plan_main<R: Source, W: Sink>(alloc: Global, reader: &mut R, writer: &mut W) -> u8
+    ensures { IfSome (R.remaining reader.old) (λ input. Ends (R.has_failed reader.new) (W.has_failed writer.new)
+        (printed_within plan_printed input) (W.contents writer.old) (W.contents writer.new) result) }
+{
+    serve(&Plan, alloc, reader, writer)
+}

@@ -1,0 +1,250 @@
+//! Whole runs: what is printed for an input, by the rules of the formats.
+use crate::asm::asm_main;
+use crate::dis::dis_main;
+use crate::plan::plan_main;
+use crate::run::run_script;
+use dma_script::output::Sink;
+use std::alloc::Global;
+use std::io;
+use std::io::Write;
+use std::test::Fail;
+
+/// Keeps what is written.
+#[derive(Drop)]
+struct Kept {
+    bytes: Vec<u8>,
+}
+
+impl Write for Kept {
+    fn write(&mut self, buf: &[u8]) -> io::Result<usize> {
+        self.bytes.extend_from_slice(buf)?;
+        Ok(buf.len())
+    }
+
+    fn flush(&mut self) -> io::Result<()> {
+        Ok(())
+    }
+}
+
+impl Sink for Kept {
+    fn put(&mut self, buf: &[u8]) -> io::Result<usize> {
+        self.write(buf)
+    }
+}
+
+/// The status of a run, and what it printed.
+fn run(alloc: Global, input: &[u8]) -> (u8, Vec<u8>) {
+    let mut reader = input;
+    let mut writer = Kept {
+        bytes: Vec::new(alloc),
+    };
+    let status = run_script(alloc, &mut reader, &mut writer);
+    (status, writer.bytes)
+}
+
+/// The status of `asm`, and what it printed.
+fn asm(alloc: Global, input: &[u8]) -> (u8, Vec<u8>) {
+    let mut reader = input;
+    let mut writer = Kept {
+        bytes: Vec::new(alloc),
+    };
+    let status = asm_main(alloc, &mut reader, &mut writer);
+    (status, writer.bytes)
+}
+
+/// The status of `dis`, and what it printed.
+fn dis(alloc: Global, input: &[u8]) -> (u8, Vec<u8>) {
+    let mut reader = input;
+    let mut writer = Kept {
+        bytes: Vec::new(alloc),
+    };
+    let status = dis_main(alloc, &mut reader, &mut writer);
+    (status, writer.bytes)
+}
+
+/// The status of `plan`, and what it printed.
+fn plan(alloc: Global, input: &[u8]) -> (u8, Vec<u8>) {
+    let mut reader = input;
+    let mut writer = Kept {
+        bytes: Vec::new(alloc),
+    };
+    let status = plan_main(alloc, &mut reader, &mut writer);
+    (status, writer.bytes)
+}
+
+#[test]
+fn assembled(rt: HostRuntime) -> Result<(), Fail> {
+    let cases: [(&[u8], u8, &[u8]); 12] = [
+        (b"", 0, b""),
+        (
+            b"DMALP 1 256\nDMALD\nDMAST\nDMALPEND 1 2\nDMAEND",
+            0,
+            b"22 FF 04 08 3C 02 00\n",
+        ),
+        (b"# a\n\nDMAMOV SAR 0x00001000\n", 0, b"BC 00 00 10 00 00\n"),
+        (b"DMALP 2 1", 1, b"line 1: range\n"),
+        (b"DMALP 1", 1, b"line 1: operand\n"),
+        (b"DMASTZ", 1, b"line 1: mnemonic\n"),
+        (b"DMAWFE 32", 1, b"line 1: range\n"),
+        (b"DMASEV 03", 1, b"line 1: operand\n"),
+        (b" DMAEND", 1, b"line 1: mnemonic\n"),
+        (
+            b"DMANOP\n\nDMAWFE 3 invalid\ndmaend\n",
+            1,
+            b"line 4: mnemonic\n",
+        ),
+        (b"DMAEND\r\n", 1, b"line 1: mnemonic\n"),
+        (
+            b"DMAMOV CCR 0x003C40F1\nDMAMOV DAR 0x00000001\nDMAWFE 3 invalid\nDMASEV 31\nDMAEND\n",
+            0,
+            b"BC 01 F1 40 3C 00 BC 02 01 00 00 00 36 1A 34 F8\n00\n",
+        ),
+    ];
+    for (input, status, text) in cases {
+        let ran = asm(rt.alloc(), input);
+        assert_eq!(rt; ran.0, status);
+        assert_eq!(rt; ran.1.as_slice(), text);
+    }
+    Ok(())
+}
+
+#[test]
+fn disassembled(rt: HostRuntime) -> Result<(), Fail> {
+    let cases: [(&[u8], u8, &[u8]); 9] = [
+        (b"", 0, b""),
+        (
+            b"22 FF 04 08 3C 02 00",
+            0,
+            b"DMALP 1 256\nDMALD\nDMAST\nDMALPEND 1 2\nDMAEND\n",
+        ),
+        (
+            b"22ff\t04\r\n08 3c02 00\n",
+            0,
+            b"DMALP 1 256\nDMALD\nDMAST\nDMALPEND 1 2\nDMAEND\n",
+        ),
+        (
+            b"bc 00 00 10 00 00 36 1A",
+            0,
+            b"DMAMOV SAR 0x00001000\nDMAWFE 3 invalid\n",
+        ),
+        (b"04 BC 00", 1, b"offset 1: Cut\n"),
+        (b"BC 07", 1, b"offset 0: Cut\n"),
+        (b"3", 1, b"line 1: Hex\n"),
+        (b"00\n00\n0 0", 1, b"line 3: Hex\n"),
+        (b"28", 1, b"offset 0: Unknown 28\n"),
+    ];
+    for (input, status, text) in cases {
+        let ran = dis(rt.alloc(), input);
+        assert_eq!(rt; ran.0, status);
+        assert_eq!(rt; ran.1.as_slice(), text);
+    }
+    let ran = dis(rt.alloc(), b"00 34 01");
+    assert_eq!(rt; ran.1.as_slice(), b"offset 1: BadField\n".as_slice());
+    Ok(())
+}
+
+#[test]
+fn planned(rt: HostRuntime) -> Result<(), Fail> {
+    let cases: [(&[u8], u8, &[u8]); 12] = [
+        (
+            b"0x1000+4 to 0x2000+4\n",
+            0,
+            b"BC 00 00 10 00 00 BC 02 00 20 00 00 BC 01 05 40\n01 00 04 12 08 13 00\nbytes 23\ncost 8\n",
+        ),
+        (
+            b"0x1000+4 to 0x2000+4 wait 3 signal 5\n",
+            0,
+            b"36 18 BC 00 00 10 00 00 BC 02 00 20 00 00 BC 01\n05 40 01 00 04 12 08 13 34 28 00\nbytes 27\ncost 10\n",
+        ),
+        (
+            b"0x1000+300 to 0x2000+300",
+            0,
+            b"BC 00 00 10 00 00 BC 02 00 20 00 00 BC 01 F9 40\n3E 00 22 00 04 12 08 13 3C 04 BC 01 19 40 06 00\n04 12 08 13 BC 01 B1 40 2C 00 04 12 08 13 00\nbytes 47\ncost 20\n",
+        ),
+        (b"0x1+1048577 to 0x200001+1048577", 1, b"line 1: TooLong\n"),
+        (
+            b"# first\n0x100+8 to 0x104+8",
+            1,
+            b"line 2: SourceMeetsDestination\n",
+        ),
+        (b"0x100+4 to 0x108+5", 1, b"line 1: TotalsDiffer\n"),
+        (
+            b"0x100+4 to 0x200+2,0x201+2",
+            1,
+            b"line 1: DestinationsMeet\n",
+        ),
+        (b"0x100+0 to 0x200+0", 1, b"line 1: EmptySegment\n"),
+        (b"0xFFFFFFFF+2 to 0x0+2", 1, b"line 1: SegmentWraps\n"),
+        (b"", 1, b"line 0: First\n"),
+        (b"0x100+0 to 0x200+0\n0+1 to 1+1", 1, b"line 2: Words\n"),
+        (b"0+1 to 1+1 wait signal", 1, b"line 1: Number\n"),
+    ];
+    for (input, status, text) in cases {
+        let ran = plan(rt.alloc(), input);
+        assert_eq!(rt; ran.0, status);
+        assert_eq!(rt; ran.1.as_slice(), text);
+    }
+    Ok(())
+}
+
+#[test]
+fn whole_runs(rt: HostRuntime) -> Result<(), Fail> {
+    let cases: [(&[u8], u8, &[u8]); 10] = [
+        (b"", 1, b"line 0: First\n"),
+        (b"# no line\n\n", 1, b"line 0: First\n"),
+        (b"memory 1 8", 0, b""),
+        (
+            b"memory 16 1\ncopy 0+4 to 2+4\ncopy 0+4 to 14+4\nwrite 15 AA BB\nread 15+1\n",
+            0,
+            b"refused SourceMeetsDestination\nrefused OutOfMemoryRange\nrefused OutOfMemoryRange\nread 0x0000000F 00\n",
+        ),
+        (b"memory 16777217 1\n", 1, b"line 1: SizeOutOfRange\n"),
+        (b"memory 64 300\n", 1, b"line 1: BadChannels\n"),
+        (
+            b"memory 16 1\nread 16+0\nread 16+1\n",
+            0,
+            b"read 0x00000010\nrefused OutOfMemoryRange\n",
+        ),
+        (
+            b"memory 64 1\nwrite 0 01 02 03 04\ncopy 0+4,1+2 to 0x20+1,0x10+5\ncopy 0x20+1 to 0+1\nread 0+33\n",
+            0,
+            b"ok\ncopy finished 1 NoError residue 0\ncopy finished 2 NoError residue 0\nread 0x00000000 01 02 03 04 00 00 00 00 00 00 00 00 00 00 00 00 02 03 04 02 03 00 00 00 00 00 00 00 00 00 00 00 01\n",
+        ),
+        (
+            b"memory 64 1\ncopy 0+0 to 8+0\ncopy 0+4 to 8+5\ncopy 0+1048577 to 2000000+1048577\ncopy 0+4 to 8+2,9+2\ncopy 0xFFFFFFFF+2 to 0+2\n",
+            0,
+            b"refused EmptySegment\nrefused TotalsDiffer\nrefused TooLong\nrefused DestinationsMeet\nrefused SegmentWraps\n",
+        ),
+        (
+            b"memory 64 1\nwrite 0 AA\nstep 0\n",
+            1,
+            b"line 3: Command\n",
+        ),
+    ];
+    for (input, status, text) in cases {
+        let ran = run(rt.alloc(), input);
+        assert_eq!(rt; ran.0, status);
+        assert_eq!(rt; ran.1.as_slice(), text);
+    }
+    Ok(())
+}
+
+#[test]
+fn longest_list(rt: HostRuntime) -> Result<(), Fail> {
+    // 64 segments are copied, 65 are refused
+    let mut script = Vec::from_slice(rt.alloc(), b"memory 256 1\ncopy 0+1")?;
+    for _ in 1..64 {
+        script.extend_from_slice(b",0+1")?;
+    }
+    let mut longer = Vec::from_slice(rt.alloc(), &script)?;
+    script.extend_from_slice(b" to 64+64\n")?;
+    longer.extend_from_slice(b",0+1 to 64+65\n")?;
+    let ran = run(rt.alloc(), &script);
+    assert_eq!(rt;
+        ran.1.as_slice(),
+        b"copy finished 1 NoError residue 0\n".as_slice()
+    );
+    let ran = run(rt.alloc(), &longer);
+    assert_eq!(rt; ran.1.as_slice(), b"refused TooManySegments\n".as_slice());
+    Ok(())
+}
