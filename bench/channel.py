@@ -27,11 +27,12 @@ def measure():
 
 def main():
     subprocess.run(["rt", "run"], cwd=CRATE, stdout=subprocess.DEVNULL, stderr=subprocess.DEVNULL)
-    into, out, bursts, nops = (min(times) for times in zip(*[measure() for _ in range(TURNS)]))
+    into, out, bursts, nops, compiled = (min(times) for times in zip(*[measure() for _ in range(TURNS)]))
     size = 160 * (1 << 20)
     copy = (into + out) / 2  # two plain copies were timed, of blocks of 8 MiB
     print("bursts of 256 bytes    %6.2f GB/s, a plain copy %6.2f GB/s, ratio %.2f"
           % (size / bursts / 1e9, size / copy / 1e9, copy / bursts))
+    print("compiled copies of 1 MiB %4.2f GB/s, ratio to the loop of bursts %.2f" % (size / compiled / 1e9, bursts / compiled))
     print("instructions           %6.1f million a second (DMANOP, its loops and ends)" % (INSTRUCTIONS / nops / 1e6))
 
 

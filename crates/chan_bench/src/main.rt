@@ -1,8 +1,11 @@
-//! Times a loop of bursts, a loop of DMANOP, and copies of blocks. It does nothing unless it is given an argument.
+//! Times a loop of bursts, a loop of DMANOP, a compiled copy, and copies of blocks. It does nothing unless it is given an argument.
 #![tactic(auto)]
 
+use dma_chan::compile::compile;
 use dma_chan::run::run_program;
 use dma_mem::memory::Memory;
+use dma_mem::segment::Segment;
+use dma_mem::transfer::Transfer;
 use std::alloc::Global;
 use std::rt::Clock;
 use std::time::Instant;
@@ -30,6 +33,16 @@ fn reads(memory: &Memory, block: &mut [u8]) {
 fn runs(alloc: Global, program: &[u8], memory: &mut Memory) {
     for _ in 0..20u32 {
         let _ = run_program(alloc, program, memory, 4000000000);
+    }
+}
+
+// 1 MiB, compiled and run alone, so often
+fn compiled(alloc: Global, transfer: &Transfer, memory: &mut Memory) {
+    for _ in 0..160u32 {
+        let Ok(program) = compile(alloc, transfer) else {
+            return;
+        };
+        let _ = run_program(alloc, program.bytes(), memory, 4000000000);
     }
 }
 
@@ -63,5 +76,19 @@ fn measure(rt: &HostRuntime) -> io::Result<()> {
     tell(rt, "160 MiB by bursts of 256, 3280000 instructions", start)?;
     let start = Instant::now(rt)?;
     runs(rt.alloc(), NOPS, &mut memory);
-    tell(rt, "22.4 million DMANOP", start)
+    tell(rt, "22292520 instructions, most of them DMANOP", start)?;
+    let from = [Segment {
+        addr: 0,
+        len: 1048576,
+    }];
+    let to = [Segment {
+        addr: 8388608,
+        len: 1048576,
+    }];
+    let Ok(transfer) = Transfer::new(rt.alloc(), &from, &to, None, None) else {
+        return Ok(());
+    };
+    let start = Instant::now(rt)?;
+    compiled(rt.alloc(), &transfer, &mut memory);
+    tell(rt, "160 MiB by compiled copies of 1 MiB", start)
 }

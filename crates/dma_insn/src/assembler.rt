@@ -246,6 +246,39 @@ mod tests {
     }
 
     #[test]
+    fn each_name_with_wrong_operands(rt: HostRuntime) {
+        let lines: [&[u8]; 24] = [
+            b"DMAMOV",
+            b"DMAMOV SAR",
+            b"DMAMOV SAR 0x00001000 1",
+            b"DMAMOV sar 0x00001000",
+            b"DMALD 1",
+            b"DMARMB x",
+            b"DMANOP 0",
+            b"DMAEND 0x00000000",
+            b"DMALP",
+            b"DMALP 00 1",
+            b"DMALP 0 01",
+            b"DMALP 0 x",
+            b"DMALPEND",
+            b"DMALPEND 0 1 1",
+            b"DMALPEND 00 1",
+            b"DMALPEND 0 01",
+            b"DMALPEND 0 x",
+            b"DMASEV x",
+            b"DMASEV 3 ",
+            b"DMAWFE",
+            b"DMAWFE 03",
+            b"DMAWFE x invalid",
+            b"DMAWFE invalid",
+            b"DMAWFE 3 3",
+        ];
+        for line in lines {
+            assert_eq!(rt; cause(rt.alloc(), line), Some(Cause::Operand));
+        }
+    }
+
+    #[test]
     fn numbers_out_of_range(rt: HostRuntime) {
         assert_eq!(rt; cause(rt.alloc(), b"DMALP 2 1"), Some(Cause::Range));
         assert_eq!(rt; cause(rt.alloc(), b"DMALP 0 0"), Some(Cause::Range));

@@ -227,6 +227,13 @@ pub struct BurstEnd {
 }
 
 impl BurstEnd {
+    /// Whether the address grows by a burst's bytes.
+    pub fn is_incrementing(&self) -> bool
+        ensures { result ≡ self.now.increments }
+    {
+        self.increments
+    }
+
     /// The bytes of one beat, 1 to 16.
     pub fn beat_bytes(&self) -> u32
         ensures value { result ≡ beat_bytes self.now.size }
@@ -266,7 +273,7 @@ impl BurstEnd {
         ensures range { result < 2 ^ 14 }
         ensures in_range { HasEndRanges self.now }
     {
-        let low = if self.increments { 1 } else { 0 };
+        let low = if self.is_incrementing() { 1 } else { 0 };
         let size = u32::from(self.size.code()) << 1;
         let beats = u32::from(self.beats.number() - 1) << 4;
         let protection = u32::from(self.protection.code()) << 8;
