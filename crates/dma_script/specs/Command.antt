@@ -34,11 +34,25 @@ pub record AppendsGroups (groups : List (List (List ℕ))) (old new : List ℕ) 
   pub some_left : count < length groups
   pub whole : new ≡ old ++ printed_text (take count groups)
 
--- How a call of a command ends (profile). reader_failed and writer_failed say that a call of the stream failed; old and
--- new are the bytes that the writer held before and holds now, where they are known. Either all is printed; or memory was
--- refused, and exactly the first groups stand there; or the reader failed, and one line says so; or the writer failed.
-pub data Ends (reader_failed writer_failed : Type 0) (printed : Printed) (old new : Option (List ℕ)) (status : ℕ) : Type 0 where
-  complete : Appends old new (printed_text printed.groups) → status ≡ printed.status → Ends reader_failed writer_failed printed old new status
-  out_of_memory : (count : ℕ) → count < length printed.groups → Appends old new (printed_text (take count printed.groups)) → status ≡ 3 → Ends reader_failed writer_failed printed old new status
-  input_fault : reader_failed → Appends old new (text_of (codes "input failed" ∷ [])) → status ≡ 1 → Ends reader_failed writer_failed printed old new status
-  output_fault : writer_failed → status ≡ 1 → Ends reader_failed writer_failed printed old new status
+-- What a stream tells of its failures: that a call of it had failed before, and that one has failed by now.
+pub record Failures : Type 1 where
+  pub before : Type 0
+  pub after : Type 0
+
+-- the failures of a stream that was `old` before and is `new` now
+abbrev pub failures : {S : Type 0} → (S → Type 0) → S → S → Failures
+failures has_failed old new = record { before = has_failed old; after = has_failed new }
+
+-- No call of the stream failed meanwhile.
+abbrev pub Unfailed : Failures → Type 0
+Unfailed stream = stream.after → stream.before
+
+-- How a call of a command ends (profile). old and new are the bytes that the writer held before and holds now, where they
+-- are known. Either all is printed; or memory was refused, and exactly the first groups stand there; or the reader failed,
+-- and one line says so; or the writer failed. Where no stream is named, no call of a stream failed: a failure is never
+-- tried again and hidden.
+pub data Ends (reader writer : Failures) (printed : Printed) (old new : Option (List ℕ)) (status : ℕ) : Type 0 where
+  complete : Unfailed reader → Unfailed writer → Appends old new (printed_text printed.groups) → status ≡ printed.status → Ends reader writer printed old new status
+  out_of_memory : Unfailed reader → Unfailed writer → (count : ℕ) → count < length printed.groups → Appends old new (printed_text (take count printed.groups)) → status ≡ 3 → Ends reader writer printed old new status
+  input_fault : reader.after → Unfailed writer → Appends old new (text_of (codes "input failed" ∷ [])) → status ≡ 1 → Ends reader writer printed old new status
+  output_fault : writer.after → status ≡ 1 → Ends reader writer printed old new status

@@ -1,7 +1,7 @@
 //! A command: what it prints for an input, and how it is run over a reader and a writer.
-ghost use Rattle.std.specs.Prelude.{◌≡◌, ◌++◌, ◌≤◌, ◌<◌, ◌⊎◌, List, ℕ, IfOk, OnErr, OnOk, IfSome, length};
+ghost use Rattle.std.specs.Prelude.{◌≡◌, ◌++◌, ◌+◌, ◌≤◌, ◌<◌, ◌⊎◌, List, ℕ, IfOk, OnErr, OnOk, IfSome, length};
 ghost use Rattle.std.specs.Io.KnownBytes.{Appends};
-ghost use Rattle.dma_script.specs.Command.{AppendsGroups, Ends, Printed, printed_text, printed_within};
+ghost use Rattle.dma_script.specs.Command.{AppendsGroups, Ends, Printed, failures, printed_text, printed_within};
 
 use crate::input::{InputError, LONGEST_INPUT, Source, read_input};
 use crate::output::{Sink, write_output};
@@ -34,7 +34,8 @@ pub trait Command {
 
 /// Writes the text and gives the status, or the status of a fault where a write fails.
 fn finish<W: Sink>(writer: &mut W, text: &[u8], status: u8) -> u8
-    ensures { ((result ≡ status) × Appends (W.contents writer.old) (W.contents writer.new) text.now)
+    ensures { ((result ≡ status) × Appends (W.contents writer.old) (W.contents writer.new) text.now
+            × (W.has_failed writer.new → W.has_failed writer.old))
         ⊎ ((result ≡ FAULT) × W.has_failed writer.new) }
 {
     match write_output(writer, text) {
@@ -43,15 +44,18 @@ fn finish<W: Sink>(writer: &mut W, text: &[u8], status: u8) -> u8
     }
 }
 
-/// Reads all there is, writes what the command prints for it and nothing else, and gives the exit status.
+/// Reads all there is, at most one read more than the longest input has bytes, writes what the command prints for it and
+/// nothing else, and gives the exit status. A read or a write that fails is never tried again.
 pub fn serve<C: Command, R: Source, W: Sink>(
     command: &C,
     alloc: Global,
     reader: &mut R,
     writer: &mut W,
 ) -> u8
-    ensures { IfSome (R.remaining reader.old) (λ input. Ends (R.has_failed reader.new) (W.has_failed writer.new)
+    ensures ends { IfSome (R.remaining reader.old) (λ input. Ends
+        (failures R.has_failed reader.old reader.new) (failures W.has_failed writer.old writer.new)
         (printed_within C.printed input) (W.contents writer.old) (W.contents writer.new) result) }
+    ensures reads { R.reads reader.new ≤ R.reads reader.old + (LONGEST_INPUT + 1) }
 {
     let input = match read_input(alloc, reader) {
         Ok(input) => input,

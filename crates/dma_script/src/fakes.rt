@@ -1,5 +1,5 @@
 //! A reader and a writer for tests, which tell their bytes, and fail or move few bytes at the calls that they are told.
-ghost use Rattle.std.specs.Prelude.{◌≡◌, ◌≤◌, ◌<◌, ◌+◌, IsTrue, OnErr, IfOk, length};
+ghost use Rattle.std.specs.Prelude.{◌≡◌, ◌≤◌, ◌<◌, ◌+◌, IsTrue, OnOk, OnErr, IfOk, length};
 ghost use Rattle.std.specs.Io.{ReadsAtMost, WritesAtMost};
 ghost use Rattle.std.specs.Io.KnownBytes.{ReadConsumes, WriteAppends};
 
@@ -47,6 +47,8 @@ impl Read for FakeReader<'_> {
         ensures bound { ReadsAtMost result buf.new }
         ensures bytes { ReadConsumes (Some self.old.rest.now) (Some self.new.rest.now) result buf.new }
         ensures fault { OnErr result (IsTrue self.new.failed) }
+        ensures no_fault { OnOk result (IsTrue self.new.failed → IsTrue self.old.failed) }
+        ensures lasting { IsTrue self.old.failed → IsTrue self.new.failed }
         ensures counted { self.new.calls ≤ self.old.calls + 1 }
     {
         self.calls = self.calls.saturating_add(1);
@@ -114,6 +116,8 @@ impl Write for FakeWriter {
         ensures bytes { WriteAppends (Some self.old.bytes.items) (Some self.new.bytes.items) result buf.now }
         ensures fault { OnErr result (IsTrue self.new.failed) }
         ensures none_taken { IfOk result (λ n. n ≡ 0 → 0 < length buf.now → IsTrue self.new.failed) }
+        ensures some_taken { IfOk result (λ n. 0 < n → IsTrue self.new.failed → IsTrue self.old.failed) }
+        ensures lasting { IsTrue self.old.failed → IsTrue self.new.failed }
     {
         self.calls = self.calls.saturating_add(1);
         if self.calls == self.fails_at {

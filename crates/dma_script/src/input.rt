@@ -1,5 +1,5 @@
 //! Reading a whole input.
-ghost use Rattle.std.specs.Prelude.{◌≡◌, ◌<◌, ◌≤◌, ◌+◌, length, IfOk, OnErr, IfSome, IsErrOf, vec_len};
+ghost use Rattle.std.specs.Prelude.{◌≡◌, ◌≢◌, ◌<◌, ◌≤◌, ◌+◌, length, Err, IfOk, OnOk, OnErr, IfSome, IsErrOf, vec_len};
 ghost use Rattle.std.specs.Io.KnownBytes.{ReadConsumes};
 ghost use Rattle.std.specs.Io.{ReadsAtMost};
 
@@ -17,7 +17,7 @@ const READ_SIZE: usize = 8192;
 pub trait Source: Read {
     ghost use Rattle.std.specs.Prelude.{ℕ};
 
-    // A reader that does not tell may have failed at any time.
+    // A read has failed, now or before. A reader that does not tell may have failed at any time.
     ghost has_failed: { Self → Type 0 } = { λ _. Unit {0} };
 
     // How many reads were made of it, where it counts them.
@@ -28,6 +28,8 @@ pub trait Source: Read {
         ensures bound { ReadsAtMost result buf.new }
         ensures bytes { ReadConsumes (Self.remaining self.old) (Self.remaining self.new) result buf.new }
         ensures fault { OnErr result (has_failed self.new) }
+        ensures no_fault { OnOk result (has_failed self.new → has_failed self.old) }
+        ensures lasting { has_failed self.old → has_failed self.new }
         ensures counted { reads self.new ≤ reads self.old + 1 };
 }
 
@@ -58,12 +60,13 @@ pub enum InputError {
 }
 
 /// Reads to the end by plain reads, at most one more than the longest input has bytes. A read that gives no byte is the
-/// end, and a read fault of any kind is a failing input.
+/// end, and a read fault of any kind is a failing input, told at once: it's the only end with a failed read.
 pub fn read_input<R: Source>(alloc: Global, reader: &mut R) -> Result<Vec<u8>, InputError>
     ensures input { IfOk result (λ v. IfSome (R.remaining reader.old) (λ input. v.items ≡ input)) }
     ensures within { IfOk result (λ v. vec_len v ≤ LONGEST_INPUT) }
     ensures too_long { IsErrOf result InputError.TooLong → IfSome (R.remaining reader.old) (λ input. LONGEST_INPUT < length input) }
     ensures failed { IsErrOf result InputError.Failed → R.has_failed reader.new }
+    ensures unfailed { result ≢ Err InputError.Failed → R.has_failed reader.new → R.has_failed reader.old }
     ensures reads { R.reads reader.new ≤ R.reads reader.old + (LONGEST_INPUT + 1) }
 {
     let mut input = Vec::new(alloc);

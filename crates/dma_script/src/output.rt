@@ -8,7 +8,7 @@ use std::io::{Stdout, Write};
 
 /// A writer that can tell whether a write of it has failed or taken no byte.
 pub trait Sink: Write {
-    // A writer that does not tell may have failed at any time.
+    // A write has failed or taken no byte, now or before. A writer that does not tell may have failed at any time.
     ghost has_failed: { Self → Type 0 } = { λ _. Unit {0} };
 
     /// One plain write of at least one byte. A write that takes no byte is a fault.
@@ -17,7 +17,9 @@ pub trait Sink: Write {
         ensures bound { WritesAtMost result buf.now }
         ensures bytes { WriteAppends (Self.contents self.old) (Self.contents self.new) result buf.now }
         ensures fault { OnErr result (has_failed self.new) }
-        ensures none_taken { IfOk result (λ n. n ≡ 0 → has_failed self.new) };
+        ensures none_taken { IfOk result (λ n. n ≡ 0 → has_failed self.new) }
+        ensures some_taken { IfOk result (λ n. 0 < n → has_failed self.new → has_failed self.old) }
+        ensures lasting { has_failed self.old → has_failed self.new };
 }
 
 // What standard output takes is not known, so it may have failed at any time.
@@ -31,9 +33,10 @@ impl Sink for Stdout {
 #[derive(Clone, Copy, Debug, PartialEq, Eq, Drop)]
 pub struct OutputFailed;
 
-/// Writes all of the text by plain writes. A write fault of any kind, or a write that takes no byte, ends it.
+/// Writes all of the text by plain writes. A write fault of any kind, or a write that takes no byte, ends it at once.
 pub fn write_output<W: Sink>(writer: &mut W, text: &[u8]) -> Result<(), OutputFailed>
     ensures ok { OnOk result (Appends (W.contents writer.old) (W.contents writer.new) text.now) }
+    ensures unfailed { OnOk result (W.has_failed writer.new → W.has_failed writer.old) }
     ensures err { OnErr result (W.has_failed writer.new) }
 {
     let mut rest = text;

@@ -1,11 +1,11 @@
 //! The command `asm`: it prints the bytes of the program that a text writes.
-ghost use Rattle.std.specs.Prelude.{◌≡◌, ◌≢◌, ◌++◌, ◌∷◌, [], OnOk, OnErr, IfSome};
-ghost use Rattle.dma_script.specs.Command.{Ends, printed_within, text_of};
+ghost use Rattle.std.specs.Prelude.{◌≡◌, ◌≢◌, ◌≤◌, ◌+◌, ◌++◌, ◌∷◌, [], OnOk, OnErr, IfSome};
+ghost use Rattle.dma_script.specs.Command.{Ends, failures, printed_within, text_of};
 ghost use Rattle.dmasim.specs.Assembled.{asm_printed, cause_name, fault_line};
 
 use dma_insn::assembler::{AsmFault, Cause, assemble};
 use dma_script::command::{Command, FAULT, SUCCESS, serve};
-use dma_script::input::Source;
+use dma_script::input::{LONGEST_INPUT, Source};
 use dma_script::output::Sink;
 use dma_script::printing::{push_line, push_program};
 use std::alloc::{AllocError, Global};
@@ -79,8 +79,10 @@ impl Command for Asm {
 /// Reads a program's text, writes its bytes or the line of its first fault and nothing else, and gives the exit status: 0,
 /// or 1 for a fault of the text or a failing stream, or 3 for want of memory, where nothing is written.
 pub fn asm_main<R: Source, W: Sink>(alloc: Global, reader: &mut R, writer: &mut W) -> u8
-    ensures { IfSome (R.remaining reader.old) (λ input. Ends (R.has_failed reader.new) (W.has_failed writer.new)
+    ensures ends { IfSome (R.remaining reader.old) (λ input. Ends
+        (failures R.has_failed reader.old reader.new) (failures W.has_failed writer.old writer.new)
         (printed_within asm_printed input) (W.contents writer.old) (W.contents writer.new) result) }
+    ensures reads { R.reads reader.new ≤ R.reads reader.old + (LONGEST_INPUT + 1) }
 {
     serve(&Asm, alloc, reader, writer)
 }

@@ -1,7 +1,7 @@
 //! The command `plan`: it prints the program of a transfer, and what it costs.
-ghost use Rattle.std.specs.Prelude.{◌≡◌, ◌≢◌, ◌++◌, ◌∷◌, [], OnOk, OnErr, IfOk, IfSome};
+ghost use Rattle.std.specs.Prelude.{◌≡◌, ◌≢◌, ◌≤◌, ◌+◌, ◌++◌, ◌∷◌, [], OnOk, OnErr, IfOk, IfSome};
 ghost use Rattle.dma_mem.specs.Rules.{refusal_of};
-ghost use Rattle.dma_script.specs.Command.{Ends, printed_text, printed_within, text_of};
+ghost use Rattle.dma_script.specs.Command.{Ends, failures, printed_text, printed_within, text_of};
 ghost use Rattle.dmasim.specs.Planned.{plan_printed, program_printed, transfer_of, transfer_printed, unfit_line};
 
 use crate::printing::transfer_fault_name;
@@ -10,7 +10,7 @@ use dma_chan::program::Program;
 use dma_mem::transfer::{Transfer, TransferFault};
 use dma_script::command::{Command, FAULT, SUCCESS, serve};
 use dma_script::fault::ScriptError;
-use dma_script::input::Source;
+use dma_script::input::{LONGEST_INPUT, Source};
 use dma_script::output::Sink;
 use dma_script::plan::{PlanLine, read_plan};
 use dma_script::printing::{push_fault, push_line, push_program};
@@ -119,8 +119,10 @@ impl Command for Plan {
 /// Reads the line of a transfer, writes its program or the line of the first fault and nothing else, and gives the exit
 /// status: 0, or 1 for a fault of the input or a failing stream, or 3 for want of memory, where nothing is written.
 pub fn plan_main<R: Source, W: Sink>(alloc: Global, reader: &mut R, writer: &mut W) -> u8
-    ensures { IfSome (R.remaining reader.old) (λ input. Ends (R.has_failed reader.new) (W.has_failed writer.new)
+    ensures ends { IfSome (R.remaining reader.old) (λ input. Ends
+        (failures R.has_failed reader.old reader.new) (failures W.has_failed writer.old writer.new)
         (printed_within plan_printed input) (W.contents writer.old) (W.contents writer.new) result) }
+    ensures reads { R.reads reader.new ≤ R.reads reader.old + (LONGEST_INPUT + 1) }
 {
     serve(&Plan, alloc, reader, writer)
 }

@@ -1,6 +1,6 @@
 //! The command `run`: it carries out a script line by line.
-ghost use Rattle.std.specs.Prelude.{◌≡◌, ◌≢◌, ◌++◌, ◌∷◌, [], OnOk, OnErr, IfSome};
-ghost use Rattle.dma_script.specs.Command.{AppendsGroups, Ends, printed_text, printed_within, text_of};
+ghost use Rattle.std.specs.Prelude.{◌≡◌, ◌≢◌, ◌≤◌, ◌+◌, ◌++◌, ◌∷◌, [], OnOk, OnErr, IfSome};
+ghost use Rattle.dma_script.specs.Command.{AppendsGroups, Ends, failures, printed_text, printed_within, text_of};
 ghost use Rattle.dmasim.specs.Plain.{object_of};
 ghost use Rattle.dmasim.specs.Printed.{call_fault_name, refused_line, transfer_fault_name};
 ghost use Rattle.dmasim.specs.Run.{answer_of, answers, printed, AnswersLine};
@@ -12,7 +12,7 @@ use dma_mem::segment::Segment;
 use dma_mem::transfer::{Transfer, TransferFault};
 use dma_script::command::{Command, FAULT, SUCCESS, serve};
 use dma_script::fault::ScriptError;
-use dma_script::input::Source;
+use dma_script::input::{LONGEST_INPUT, Source};
 use dma_script::output::Sink;
 use dma_script::printing::{push_fault, push_line, push_read};
 use dma_script::statements::{Statement, read_run_script};
@@ -174,8 +174,10 @@ impl Command for Run {
 /// Reads a script, carries it out, writes what it prints and nothing else, and gives the exit status: 0, or 1 for a fault
 /// of the script or a failing stream, or 3 for want of memory.
 pub fn run_script<R: Source, W: Sink>(alloc: Global, reader: &mut R, writer: &mut W) -> u8
-    ensures { IfSome (R.remaining reader.old) (λ input. Ends (R.has_failed reader.new) (W.has_failed writer.new)
+    ensures ends { IfSome (R.remaining reader.old) (λ input. Ends
+        (failures R.has_failed reader.old reader.new) (failures W.has_failed writer.old writer.new)
         (printed_within printed input) (W.contents writer.old) (W.contents writer.new) result) }
+    ensures reads { R.reads reader.new ≤ R.reads reader.old + (LONGEST_INPUT + 1) }
 {
     serve(&Run, alloc, reader, writer)
 }
