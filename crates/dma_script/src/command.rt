@@ -35,7 +35,7 @@ pub trait Command {
 /// Writes the text and gives the status, or the status of a fault where a write fails.
 fn finish<W: Sink>(writer: &mut W, text: &[u8], status: u8) -> u8
     ensures { ((result ≡ status) × Appends (W.contents writer.old) (W.contents writer.new) text.now
-            × (W.has_failed writer.new → W.has_failed writer.old))
+        × (W.has_failed writer.new → W.has_failed writer.old))
         ⊎ ((result ≡ FAULT) × W.has_failed writer.new) }
 {
     match write_output(writer, text) {
