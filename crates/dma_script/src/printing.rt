@@ -52,7 +52,7 @@ pub fn push_byte(line: &mut Vec<u8>, byte: u8) -> Result<(), AllocError>
 }
 
 /// Bytes with a space before each, at the end.
-fn push_bytes(line: &mut Vec<u8>, bytes: &[u8]) -> Result<(), AllocError>
+pub fn push_bytes(line: &mut Vec<u8>, bytes: &[u8]) -> Result<(), AllocError>
     ensures { OnOk result (line.new.items ≡ line.old.items ++ spaced_bytes bytes.now) }
 {
     for byte in bytes {
@@ -63,7 +63,7 @@ fn push_bytes(line: &mut Vec<u8>, bytes: &[u8]) -> Result<(), AllocError>
 }
 
 /// An address in eight digits, at the end.
-fn push_address(line: &mut Vec<u8>, addr: u32) -> Result<(), AllocError>
+pub fn push_address(line: &mut Vec<u8>, addr: u32) -> Result<(), AllocError>
     ensures { OnOk result (line.new.items ≡ line.old.items ++ hex_address addr) }
 {
     for byte in addr.to_be_bytes() {

@@ -1,6 +1,6 @@
-pub mod PlainLemmas
-pub mod Copying
 pub mod RunLemmas
-pub mod Rows
+pub mod Served
+pub mod StepLemmas
+pub mod CopyLemmas
 pub mod DisLemmas
 pub mod PlanLemmas

@@ -1,61 +1,114 @@
--- What a line prints and adds, by how its call was answered.
-use Rattle.std.proofs.Common.{◌≡◌, ◌≢◌, ℕ, ◌+◌, ◌<◌, List, [], ◌∷◌, ◌++◌, length, Option, Some, None, refl, ap, sym, ◌∙◌, take, drop, get_or, suc, add-one, append_assoc, arith}
+-- What the lines of a script print and leave.
+use Rattle.std.proofs.Common.{◌≡◌, ◌≢◌, ℕ, ◌+◌, ◌<◌, ◌≤◌, Bool, true, false, if◌then◌else◌, codes, zero, List, [], ◌∷◌, ◌++◌, length, Option, Some, None, Result, Ok, Err, refl, ap, sym, subst, ◌∙◌, take, drop, get_or, suc, add-one, append_assoc, arith}
 use Rattle.std.proofs.Math.Seq.{take-add, drop-cons}
 use Rattle.std.proofs.lemmas.List.{append-nil, drop-drop}
 use Rattle.std.proofs.lemmas.List.Concat.{flat_map-append}
-use Rattle.std.specs.Prelude.{unwrap_or}
+use Rattle.std.specs.Prelude.{unwrap_or, is_some, decimal}
+use Rattle.std.specs.List.{filter_map, range_with_len, cons_option}
+use Rattle.std.proofs.lemmas.List.{length-append}
+use Rattle.std.proofs.lemmas.List.Elements.{filter_map-append}
+use Rattle.dma_mem.specs.Places.{Descriptor}
+use Rattle.dma_engine.specs.declared.call.Call.TheVariants.{Submit}
+use Rattle.dma_engine.specs.Answer.{answer}
+use Rattle.dma_engine.proofs.WhatRuns.{range_with_len-add}
 use Rattle.dma_mem.specs.declared.transfer.TransferFault.{TransferFault}
 use Rattle.dma_mem.specs.declared.transfer.TransferFault.TheVariants as transfers
-use Rattle.dma_engine.specs.Object.{Object, opening}
-use Rattle.dma_engine.specs.History.{object_after}
-use Rattle.dma_engine.proofs.Histories.{object_after-append}
+use Rattle.std.specs.Option.{option_map}
+use Rattle.dma_engine.specs.Object.{Object}
+use Rattle.dma_engine.specs.View.{View, ChannelSchedule, running, runs}
 use Rattle.dma_script.specs.Command.{text_of, printed_text, AppendsGroups}
+use Rattle.dma_script.specs.declared.fault.Fault.{Fault}
+use Rattle.dma_script.specs.declared.statements.RunScript.{RunScript}
 use Rattle.dma_script.specs.declared.statements.Statement.{Statement}
-use Rattle.dmasim.specs.declared.plain.CallFault.{CallFault}
-use Rattle.dmasim.specs.declared.plain.CallFault.TheVariants.{NoMemory}
-use Rattle.dmasim.specs.Plain.{Past, object_of, with_entries, IsRefusal}
-use Rattle.dmasim.specs.Printed.{transfer_fault_name, call_fault_name, refused_line}
-use Rattle.dmasim.specs.Run.{Answer, AnswersLine, unless_refused, unless_unfit, answer_of, answers}
+use Rattle.dmasim.specs.Printed.{transfer_fault_name, refused_line}
+use Rattle.dmasim.specs.Run.{Answered, AnswersLine, copied, copied_after, is_in_use, told, totals_line, unless_unfit, line_answer, lines_answered, printed_of}
 
--- a call that is accepted
-pub answered : (old new : Past) (out out' : List ℕ) (fault : Option CallFault) (answer : Answer) → fault ≡ None → new ≡ with_entries old answer.entries → out' ≡ out ++ text_of answer.lines → AnswersLine (unless_refused fault answer) old new out out'
-answered old new out out' fault answer none adds prints =
-    rw none (record { acts = ap object_of adds ∙ object_after-append (opening old.size old.channels) old.history answer.entries; prints = prints })
+-- ---- a transfer's rules
 
--- a call that is refused, and not for want of memory
-pub declined : (old new : Past) (out out' : List ℕ) (fault : Option CallFault) (e : CallFault) (answer : Answer) → IsRefusal fault e → new ≡ old → (e ≢ NoMemory) × (out' ≡ out ++ text_of (refused_line (call_fault_name e) ∷ [])) → AnswersLine (unless_refused fault answer) old new out out'
-declined old new out out' None e answer is stays prints = absurd (prints.0 is)
-declined old new out out' (Some fault) e answer is stays prints = record {
-  acts = ap object_of stays;
-  prints = prints.1 ∙ ap (λ f. out ++ text_of (refused_line (call_fault_name f) ∷ [])) is;
-}
+pub unless_unfit-none : (fault : Option TransferFault) (v : View) (answered : Answered) → fault ≡ None → unless_unfit fault v answered ≡ answered
+unless_unfit-none fault v answered none = rw none refl
 
--- a transfer that meets the rules
-pub unless_unfit-none : (fault : Option TransferFault) (answer : Answer) → fault ≡ None → unless_unfit fault answer ≡ answer
-unless_unfit-none fault answer none = rw none refl
-
--- a transfer that doesn't
-pub unfit : (old : Past) (out out' : List ℕ) (fault : Option TransferFault) (e : TransferFault) (answer : Answer) → e ≡ unwrap_or fault transfers.NoMemory → (e ≢ transfers.NoMemory) × (out' ≡ out ++ text_of (refused_line (transfer_fault_name e) ∷ [])) → AnswersLine (unless_unfit fault answer) old old out out'
-unfit old out out' None e answer is prints = absurd (prints.0 is)
-unfit old out out' (Some fault) e answer is prints = record {
+-- a transfer that breaks a rule
+pub unfit : (v : View) (out out' : List ℕ) (fault : Option TransferFault) (e : TransferFault) (answered : Answered) → e ≡ unwrap_or fault transfers.NoMemory → (e ≢ transfers.NoMemory) × (out' ≡ out ++ text_of (refused_line (transfer_fault_name e) ∷ [])) → AnswersLine (unless_unfit fault v answered) v out out'
+unfit v out out' None e answered is prints = absurd (prints.0 is)
+unfit v out out' (Some fault) e answered is prints = record {
   acts = refl;
   prints = prints.1 ∙ ap (λ f. out ++ text_of (refused_line (transfer_fault_name f) ∷ [])) is;
 }
 
+-- channel 0 in use or not
+pub where_used : (v : View) (t : Descriptor) → is_in_use v ≡ true → copied v t ≡ told (refused_line (codes "ChannelInUse")) v
+where_used v t used = ap (λ b. if b then told (refused_line (codes "ChannelInUse")) v else copied_after (answer v (Submit 0 t))) used
+
+pub where_free : (v : View) (t : Descriptor) → is_in_use v ≡ false → copied v t ≡ copied_after (answer v (Submit 0 t))
+where_free v t free = ap (λ b. if b then told (refused_line (codes "ChannelInUse")) v else copied_after (answer v (Submit 0 t))) free
+
+-- ---- what runs
+
+pub filter_map-more : {X : Type 0} (f : ℕ → Option X) (n : ℕ) → filter_map f (range_with_len 0 (n + 1)) ≡ filter_map f (range_with_len 0 n) ++ filter_map f (n ∷ [])
+filter_map-more f n =
+    let place : 0 + n ≡ n = omega arith in
+    ap (filter_map f) (range_with_len-add 0 n 1 ∙ ap (λ k. range_with_len 0 n ++ k ∷ []) place) ∙ filter_map-append f (range_with_len 0 n) (n ∷ [])
+
+one-or-none : {X : Type 0} (x : Option X) (b : Bool) → is_some x ≡ b → length (cons_option x []) ≡ (if b then 1 else 0)
+one-or-none None true is = absurd cc
+one-or-none None false is = refl
+one-or-none (Some x) true is = refl
+one-or-none (Some x) false is = absurd cc
+
+at-most-one : (b : Bool) → (if b then 1 else 0) ≤ 1
+at-most-one true = omega arith
+at-most-one false = omega arith
+
+-- one more where there is something
+pub counted : {X : Type 0} (f : ℕ → Option X) (n : ℕ) (b : Bool) → is_some (f n) ≡ b → length (filter_map f (range_with_len 0 (n + 1))) ≡ length (filter_map f (range_with_len 0 n)) + (if b then 1 else 0)
+counted f n b is =
+    ap length (filter_map-more f n) ∙ length-append (filter_map f (range_with_len 0 n)) (filter_map f (n ∷ []))
+    ∙ ap (λ k. length (filter_map f (range_with_len 0 n)) + k) (one-or-none (f n) b is)
+
+-- at most one for each number
+pub counted-within : {X : Type 0} (f : ℕ → Option X) (n : ℕ) → length (filter_map f (range_with_len 0 n)) ≤ n
+counted-within f zero = omega arith
+counted-within f (suc n) =
+    let more = counted f n (is_some (f n)) refl in
+    let few : (if is_some (f n) then 1 else 0) ≤ 1 = at-most-one (is_some (f n)) in
+    let before = counted-within f n in
+    subst (λ k. length (filter_map f (range_with_len 0 k)) ≤ k) (add-one n) (omega (arith, more, few, before))
+
+pub running-is : (o : Object) (schedule : List ChannelSchedule) → running o schedule ≡ filter_map (runs o schedule) (range_with_len 0 (length o.channels))
+unfolding running
+running-is o schedule = refl
+
+-- what is told of a running transfer, where there is one
+pub is_some-told : {X Y : Type 0} (f : X → Y) (x : Option X) → is_some (option_map f x) ≡ is_some x
+is_some-told f None = refl
+is_some-told f (Some x) = refl
+
+-- the line of the totals, grouped from the right
+pub totals-parts : (entries steps running : ℕ) → codes "totals entries " ++ (decimal entries ++ (codes " steps " ++ (decimal steps ++ (codes " running " ++ decimal running)))) ≡ totals_line entries steps running
+totals-parts entries steps running =
+    let e = decimal entries in
+    let s = decimal steps in
+    let r = decimal running in
+    ap (λ l. codes "totals entries " ++ l)
+    (sym (append_assoc e (codes " steps ") (s ++ (codes " running " ++ r)))
+    ∙ sym (append_assoc (e ++ codes " steps ") s (codes " running " ++ r))
+    ∙ sym (append_assoc (e ++ codes " steps " ++ s) (codes " running ") r))
+
 -- ---- the lines of a script, one after another
 
-pub length-answers : (o : Object) (lines : List Statement) → length (answers o lines) ≡ length lines
-length-answers o [] = refl
-length-answers o (line ∷ rest) = ap (λ n. suc n) (length-answers (object_after o (answer_of o line).entries) rest)
+pub length-lines_answered : (v : View) (lines : List Statement) → length (lines_answered v lines) ≡ length lines
+length-lines_answered v [] = refl
+length-lines_answered v (line ∷ rest) = ap (λ n. suc n) (length-lines_answered (line_answer v line).1 rest)
 
--- the line after the first i, where what the others answer is known from what all answer
-pub answers-more : (o first : Object) (lines : List Statement) (i : ℕ) (d : Statement) → i < length lines → answers o (drop i lines) ≡ drop i (answers first lines) → (let a = answer_of o (get_or lines i d) in (answers (object_after o a.entries) (drop (i + 1) lines) ≡ drop (i + 1) (answers first lines)) × (take (i + 1) (answers first lines) ≡ take i (answers first lines) ++ a.lines ∷ []))
-answers-more o first lines i d less here =
-    let a = answer_of o (get_or lines i d) in
-    let all = answers first lines in
-    let rest = answers (object_after o a.entries) (drop (i + 1) lines) in
+-- the line after the first i, where what the others print is known from what all print
+pub answered-more : (v first : View) (lines : List Statement) (i : ℕ) (d : Statement) → i < length lines → lines_answered v (drop i lines) ≡ drop i (lines_answered first lines) → (let a = line_answer v (get_or lines i d) in (lines_answered a.1 (drop (i + 1) lines) ≡ drop (i + 1) (lines_answered first lines)) × (take (i + 1) (lines_answered first lines) ≡ take i (lines_answered first lines) ++ a.0 ∷ []))
+answered-more v first lines i d less here =
+    let a = line_answer v (get_or lines i d) in
+    let all = lines_answered first lines in
+    let rest = lines_answered a.1 (drop (i + 1) lines) in
     let split : drop i lines ≡ get_or lines i d ∷ drop (i + 1) lines = rw add-one (drop-cons lines i d less) in
-    let next : a.lines ∷ rest ≡ drop i all = ap (answers o) (sym split) ∙ here in (
+    let next : a.0 ∷ rest ≡ drop i all = ap (lines_answered v) (sym split) ∙ here in (
       ap (drop 1) next ∙ drop-drop 1 i all,
       take-add i 1 all ∙ ap (λ l. take i all ++ take 1 l) (sym next),
     )

@@ -1,6 +1,4 @@
 -- What the program prints for an input.
-pub mod Plain
-pub mod Holds
 pub mod Printed
 pub mod Run
 pub mod Assembled

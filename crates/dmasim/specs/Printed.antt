@@ -1,13 +1,21 @@
--- The lines that are printed of what a controller answers.
-use Rattle.std.specs.Prelude.{ℕ, List, [], ◌∷◌, codes, decimal}
-use Rattle.std.specs.List.{concat}
+-- What is printed of refusals, calls and replies, without line feeds (profile).
+use Rattle.std.specs.Prelude.{ℕ, ◌++◌, List, [], ◌∷◌, Option, Some, None, codes, decimal}
 use Rattle.dma_mem.specs.declared.transfer.TransferFault.{TransferFault}
 use Rattle.dma_mem.specs.declared.transfer.TransferFault.TheVariants as transfers
+use Rattle.dma_engine.specs.declared.call.Call.{Call}
+use Rattle.dma_engine.specs.declared.call.Call.TheVariants as calls
+use Rattle.dma_engine.specs.declared.call.Reply.{Reply}
+use Rattle.dma_engine.specs.declared.call.Reply.TheVariants as replies
+use Rattle.dma_engine.specs.declared.fault.EngineFault.{EngineFault}
+use Rattle.dma_engine.specs.declared.fault.EngineFault.TheVariants as faults
 use Rattle.dma_engine.specs.declared.outcome.Outcome.{Outcome}
 use Rattle.dma_engine.specs.declared.outcome.TransResult.{TransResult}
 use Rattle.dma_engine.specs.declared.outcome.TransResult.TheVariants.{NoError, ReadFailed, WriteFailed, Aborted}
-use Rattle.dmasim.specs.declared.plain.CallFault.{CallFault}
-use Rattle.dmasim.specs.declared.plain.CallFault.TheVariants as calls
+use Rattle.dma_engine.specs.declared.turn.Status.{Status}
+use Rattle.dma_engine.specs.declared.turn.Status.TheVariants.{Unknown, InProgress, Complete}
+use Rattle.dma_engine.specs.declared.turn.Turn.{Turn}
+use Rattle.dma_engine.specs.declared.turn.Turn.TheVariants.{Nothing, Held, Started, Moved, Waiting, Paused, Halted, Finished}
+use Rattle.dma_script.specs.Printing.{hex_address, spaced_bytes}
 
 -- the name of a refusal of a transfer's rules
 abbrev pub transfer_fault_name : TransferFault → List ℕ
@@ -22,11 +30,20 @@ transfer_fault_name transfers.SourceMeetsDestination = codes "SourceMeetsDestina
 transfer_fault_name transfers.BadEvent = codes "BadEvent"
 transfer_fault_name transfers.NoMemory = codes "NoMemory"
 
--- the name of a refusal of a call
-abbrev pub call_fault_name : CallFault → List ℕ
-call_fault_name calls.OutOfMemoryRange = codes "OutOfMemoryRange"
-call_fault_name calls.CookiesSpent = codes "CookiesSpent"
-call_fault_name calls.NoMemory = codes "NoMemory"
+-- a refusal of a call: its name, and what it names
+abbrev pub fault_text : EngineFault → List ℕ
+fault_text faults.OutOfMemoryRange = codes "OutOfMemoryRange"
+fault_text (faults.Busy ch cookie) = codes "Busy " ++ decimal ch ++ codes " " ++ decimal cookie
+fault_text faults.NoChannel = codes "NoChannel"
+fault_text faults.CookiesSpent = codes "CookiesSpent"
+fault_text faults.StepsSpent = codes "StepsSpent"
+fault_text faults.BadEvent = codes "BadEvent"
+fault_text faults.BadRange = codes "BadRange"
+fault_text faults.NoMemory = codes "NoMemory"
+
+-- `refused NAME`
+abbrev pub refused_line : List ℕ → List ℕ
+refused_line name = codes "refused " ++ name
 
 -- the name of a result
 abbrev pub result_name : TransResult → List ℕ
@@ -35,11 +52,54 @@ result_name ReadFailed = codes "ReadFailed"
 result_name WriteFailed = codes "WriteFailed"
 result_name Aborted = codes "Aborted"
 
--- `refused NAME`
-abbrev pub refused_line : List ℕ → List ℕ
-refused_line name = concat (codes "refused " ∷ name ∷ [])
+-- `NAME residue N`
+abbrev pub residue_text : TransResult → ℕ → List ℕ
+residue_text result residue = result_name result ++ codes " residue " ++ decimal residue
 
--- `copy finished COOKIE NAME residue N`
-abbrev pub copy_finished_line : ℕ → Outcome → List ℕ
-copy_finished_line cookie outcome =
-    concat (codes "copy finished " ∷ decimal cookie ∷ codes " " ∷ result_name outcome.result ∷ codes " residue " ∷ decimal outcome.residue ∷ [])
+-- how a cookie finished, if it did
+abbrev pub outcome_text : Option Outcome → List ℕ
+outcome_text None = codes "none"
+outcome_text (Some x) = residue_text x.result x.residue
+
+-- how far a cookie is
+abbrev pub status_name : Status → List ℕ
+status_name Unknown = codes "Unknown"
+status_name InProgress = codes "InProgress"
+status_name Complete = codes "Complete"
+
+-- what a step did
+abbrev pub turn_text : Turn → List ℕ
+turn_text Nothing = codes "nothing"
+turn_text (Held ch cookie) = codes "held " ++ decimal ch ++ codes " " ++ decimal cookie
+turn_text (Started cookie) = codes "started " ++ decimal cookie
+turn_text Moved = codes "moved"
+turn_text (Waiting event) = codes "waiting " ++ decimal event
+turn_text Paused = codes "paused"
+turn_text Halted = codes "halted"
+turn_text (Finished cookie result residue) = codes "finished " ++ decimal cookie ++ codes " " ++ residue_text result residue
+
+-- what is printed of a reply
+abbrev pub reply_text : Reply → List ℕ
+reply_text replies.Done = codes "ok"
+reply_text (replies.Bytes bytes) = spaced_bytes bytes
+reply_text (replies.Cookie cookie) = decimal cookie
+reply_text (replies.Count count) = decimal count
+reply_text (replies.Turned turn) = turn_text turn
+reply_text (replies.State status) = status_name status
+reply_text (replies.Result outcome) = outcome_text outcome
+reply_text (replies.Refused fault) = refused_line (fault_text fault)
+
+-- what is printed of a call before its reply
+abbrev pub call_words : Call → List ℕ
+call_words (calls.Read addr len) = codes "read 0x" ++ hex_address addr
+call_words (calls.Submit ch transfer) = codes "cookie "
+call_words (calls.Issue ch) = codes "issued "
+call_words (calls.Terminate ch) = codes "aborted "
+call_words (calls.Status ch cookie) = codes "status "
+call_words (calls.Result ch cookie) = codes "result "
+call_words _ = []
+
+-- the line that a call prints, by its reply; a refusal stands alone
+abbrev pub call_line : Call → Reply → List ℕ
+call_line call (replies.Refused fault) = refused_line (fault_text fault)
+call_line call reply = call_words call ++ reply_text reply

@@ -1,82 +1,186 @@
 -- What `dmasim run` prints for an input.
-use Rattle.std.specs.Prelude.{◌≡◌, ℕ, ◌+◌, ◌<◌, ◌++◌, ◌∷◌, [], Option, Some, None, Result, Ok, Err, List, length, take, drop, codes}
+use Rattle.std.specs.Prelude.{◌≡◌, ◌≢◌, ℕ, ◌+◌, ◌<◌, ◌++◌, ◌∷◌, [], if◌then◌else◌, ◌||◌, Bool, true, false, nat_lt, zero, suc, Option, Some, None, Result, Ok, Err, List, length, map, replicate, codes, decimal}
 use Rattle.std.proofs.Math.Nat.{zero-lt-suc}
+use Rattle.std.specs.Str.{bytes_eq}
+use Rattle.dma_mem.specs.declared.segment.Segment.{Segment}
 use Rattle.dma_mem.specs.declared.transfer.TransferFault.{TransferFault}
 use Rattle.dma_mem.specs.Places.{Descriptor}
 use Rattle.dma_mem.specs.Rules.{refusal_of}
-use Rattle.dma_engine.specs.declared.entry.Entry.{Entry}
-use Rattle.dma_engine.specs.declared.entry.Entry.TheVariants.{Wrote, ReadBack}
-use Rattle.dma_engine.specs.declared.outcome.TransResult.TheVariants.{NoError}
-use Rattle.dma_engine.specs.Object.{Object, opening, channel, used}
-use Rattle.dma_engine.specs.History.{object_after}
+use Rattle.dma_engine.specs.declared.call.Call.{Call}
+use Rattle.dma_engine.specs.declared.call.Call.TheVariants as calls
+use Rattle.dma_engine.specs.declared.call.Reply.{Reply}
+use Rattle.dma_engine.specs.declared.call.Reply.TheVariants.{Turned, Refused}
+use Rattle.dma_engine.specs.declared.fault.EngineFault.TheVariants.{NoMemory}
+use Rattle.dma_engine.specs.declared.turn.Turn.TheVariants.{Started, Moved}
+use Rattle.dma_engine.specs.Object.{channel, unfinished}
+use Rattle.dma_engine.specs.View.{View, new_view, object_of, schedule_at, running}
+use Rattle.dma_engine.specs.Answer.{answer, answers}
 use Rattle.dma_script.specs.Command.{Printed, refusal, text_of}
 use Rattle.dma_script.specs.Statements.{run_script_of}
-use Rattle.dma_script.specs.Printing.{read_text, fault_line}
+use Rattle.dma_script.specs.Printing.{fault_line}
 use Rattle.dma_script.specs.declared.fault.Fault.{Fault}
+use Rattle.dma_script.specs.declared.plan.TransferLine.{TransferLine}
 use Rattle.dma_script.specs.declared.statements.RunScript.{RunScript}
 use Rattle.dma_script.specs.declared.statements.Statement.{Statement}
-use Rattle.dma_script.specs.declared.statements.Statement.TheVariants.{Write, Read, Copy}
-use Rattle.dmasim.specs.declared.plain.CallFault.{CallFault}
-use Rattle.dmasim.specs.Plain.{Past, object_of, access_fault, copy_fault, copy_entries}
-use Rattle.dmasim.specs.Printed.{transfer_fault_name, call_fault_name, refused_line, copy_finished_line}
+use Rattle.dma_script.specs.declared.statements.Statement.TheVariants.{Write, Read, Copy, Submit, Issue, Pause, Resume, Terminate, Step, Status, Result as Outcome, Mark, Unmark, Raise, Totals}
+use Rattle.dmasim.specs.declared.copies.TheConstants.{MOST_STEPS}
+use Rattle.dmasim.specs.Printed.{transfer_fault_name, fault_text, refused_line, reply_text, call_line}
 
--- What a line prints, and the entries that it adds to the history.
-pub record Answer : Type 0 where
-  pub lines : List (List ℕ)
-  pub entries : List Entry
+-- the lines that a line of the script prints, and the view after it
+abbrev pub Answered : Type 0
+Answered = List (List ℕ) × View
 
--- a refusal prints its name, and adds nothing
-abbrev pub refused : List ℕ → Answer
-refused name = record { lines = refused_line name ∷ []; entries = [] }
+-- one line, and the view after it
+abbrev pub told : List ℕ → View → Answered
+told line v = (line ∷ [], v)
 
-abbrev pub unless_refused : Option CallFault → Answer → Answer
-unless_refused (Some fault) answer = refused (call_fault_name fault)
-unless_refused None answer = answer
+-- a line that is one call
+abbrev pub call_answer : View → Call → Answered
+call_answer v call = told (call_line call (answer v call).0) (answer v call).1
 
-abbrev pub unless_unfit : Option TransferFault → Answer → Answer
-unless_unfit (Some fault) answer = refused (transfer_fault_name fault)
-unless_unfit None answer = answer
+-- a transfer's own rules are tested before anything else; a refusal changes nothing
+abbrev pub unless_unfit : Option TransferFault → View → Answered → Answered
+unless_unfit (Some fault) v answered = told (refused_line (transfer_fault_name fault)) v
+unless_unfit None v answered = answered
 
--- a copy finishes at once, with all its bytes stored, under the next cookie of channel 0
-abbrev pub copied : Object → Descriptor → Answer
-copied o t =
-    let cookie = used (channel o 0) + 1 in
-    record {
-      lines = copy_finished_line cookie (record { result = NoError; residue = 0 }) ∷ [];
-      entries = copy_entries t cookie;
-    }
+-- the transfer of a submit line
+abbrev pub submitted : TransferLine → Descriptor
+submitted line = record { src = line.src; dst = line.dst; wait = line.wait; signal = line.signal }
 
--- What a line answers to the object that it finds. A transfer's own rules are tested before the call's refusals.
-abbrev pub answer_of : Object → Statement → Answer
-answer_of o (Write addr bytes) =
-    unless_refused (access_fault o addr (length bytes)) (record { lines = codes "ok" ∷ []; entries = Wrote addr bytes ∷ [] })
-answer_of o (Read segment) =
-    let bytes = take segment.len (drop segment.addr o.image) in
-    unless_refused (access_fault o segment.addr segment.len)
-    (record { lines = read_text segment.addr bytes ∷ []; entries = ReadBack segment.addr bytes ∷ [] })
-answer_of o (Copy src dst) =
-    let t : Descriptor = record { src = src; dst = dst; wait = None; signal = None } in
-    unless_unfit (refusal_of t) (unless_refused (copy_fault o t) (copied o t))
+abbrev pub submit_answer : View → ℕ → TransferLine → Answered
+submit_answer v ch line =
+    unless_unfit (refusal_of (submitted line)) v (call_answer v (calls.Submit ch (submitted line)))
 
--- what each line prints, the first of them being answered by this object
-abbrev pub answers : Object → List Statement → List (List (List ℕ))
-answers o [] = []
-answers o (line ∷ rest) = (answer_of o line).lines ∷ answers (object_after o (answer_of o line).entries) rest
+-- ---- step lines
 
--- A script that is read prints nothing for its memory line, and then what its lines answer; another prints its first fault.
+-- one text more before the runs of those that follow it
+abbrev pub joined : List ℕ → List (List ℕ × ℕ) → List (List ℕ × ℕ)
+joined text [] = (text, 1) ∷ []
+joined text ((next, count) ∷ rest) = if bytes_eq text next then (text, count + 1) ∷ rest else (text, 1) ∷ (next, count) ∷ rest
+
+-- each run of equal texts that follow each other, and how many they are
+abbrev pub runs_of : List (List ℕ) → List (List ℕ × ℕ)
+runs_of [] = []
+runs_of (text ∷ rest) = joined text (runs_of rest)
+
+-- `step CH ANSWER xCOUNT`
+abbrev pub step_line : ℕ → List ℕ × ℕ → List ℕ
+step_line ch run = codes "step " ++ decimal ch ++ codes " " ++ run.0 ++ codes " x" ++ decimal run.1
+
+-- the lines that answers of steps of a channel print
+abbrev pub step_lines : ℕ → List (List ℕ) → List (List ℕ)
+step_lines ch texts = map (step_line ch) (runs_of texts)
+
+abbrev pub step_answer : View → ℕ → ℕ → Answered
+step_answer v ch count =
+    let after = answers v (replicate count (calls.Step ch)) in
+    (step_lines ch (map reply_text after.0), after.1)
+
+-- ---- copy lines
+
+-- channel 0 has an unfinished cookie, or is paused or halted
+abbrev pub is_in_use : View → Bool
+is_in_use v =
+    nat_lt 0 (unfinished (channel (object_of v) 0)) || ((schedule_at v 0).paused || (channel (object_of v) 0).halted)
+
+-- an answer after which a copy goes on
+abbrev pub goes_on : Reply → Bool
+goes_on (Turned (Started cookie)) = true
+goes_on (Turned Moved) = true
+goes_on _ = false
+
+-- Steps of channel 0 until an answer is neither Started nor Moved, or after so many that were: the last answer, and the view
+-- after it.
+unfoldable pub stepped_through : ℕ → View → Reply × View
+stepped_through zero v = answer v (calls.Step 0)
+stepped_through (suc n) v =
+    let first = answer v (calls.Step 0) in
+    if goes_on first.0 then stepped_through n first.1 else first
+
+-- `copy ANSWER`
+abbrev pub copy_line : Reply → List ℕ
+copy_line reply = codes "copy " ++ reply_text reply
+
+-- What was submitted to channel 0 is issued and stepped through. (No transfer takes MOST_STEPS steps.)
+abbrev pub carried_through : View → Answered
+carried_through v =
+    let last = stepped_through MOST_STEPS (answer v (calls.Issue 0)).1 in told (copy_line last.0) last.1
+
+abbrev pub is_refused : Reply → Bool
+is_refused (Refused fault) = true
+is_refused _ = false
+
+-- what follows a transfer's submission
+abbrev pub copied_after : Reply × View → Answered
+copied_after after = if is_refused after.0 then told (reply_text after.0) after.1 else carried_through after.1
+
+abbrev pub copied : View → Descriptor → Answered
+copied v t =
+    if is_in_use v then told (refused_line (codes "ChannelInUse")) v else copied_after (answer v (calls.Submit 0 t))
+
+abbrev pub plain_copy : List Segment → List Segment → Descriptor
+plain_copy src dst = record { src = src; dst = dst; wait = None; signal = None }
+
+abbrev pub copy_answer : View → List Segment → List Segment → Answered
+copy_answer v src dst = unless_unfit (refusal_of (plain_copy src dst)) v (copied v (plain_copy src dst))
+
+-- ---- whole scripts
+
+-- `totals entries N steps N running N`
+abbrev pub totals_line : ℕ → ℕ → ℕ → List ℕ
+totals_line entries steps running =
+    codes "totals entries " ++ decimal entries ++ codes " steps " ++ decimal steps ++ codes " running " ++ decimal running
+
+abbrev pub totals_of : View → List ℕ
+totals_of v = totals_line (length v.history) v.steps (length (running (object_of v) v.schedule))
+
+-- What a line prints to the view that it finds, and the view after it.
+abbrev pub line_answer : View → Statement → Answered
+line_answer v (Write addr bytes) = call_answer v (calls.Write addr bytes)
+line_answer v (Read segment) = call_answer v (calls.Read segment.addr segment.len)
+line_answer v (Copy src dst) = copy_answer v src dst
+line_answer v (Submit ch transfer) = submit_answer v ch transfer
+line_answer v (Issue ch) = call_answer v (calls.Issue ch)
+line_answer v (Pause ch) = call_answer v (calls.Pause ch)
+line_answer v (Resume ch) = call_answer v (calls.Resume ch)
+line_answer v (Terminate ch) = call_answer v (calls.Terminate ch)
+line_answer v (Step ch count) = step_answer v ch count
+line_answer v (Status ch cookie) = call_answer v (calls.Status ch cookie)
+line_answer v (Outcome ch cookie) = call_answer v (calls.Result ch cookie)
+line_answer v (Mark kind segment) = call_answer v (calls.Mark kind segment)
+line_answer v Unmark = call_answer v calls.Unmark
+line_answer v (Raise event) = call_answer v (calls.Raise event)
+line_answer v Totals = told (totals_of v) v
+
+-- what each line prints, the first of them finding this view
+abbrev pub lines_answered : View → List Statement → List (List (List ℕ))
+lines_answered v [] = []
+lines_answered v (line ∷ rest) = (line_answer v line).0 ∷ lines_answered (line_answer v line).1 rest
+
+-- A script that is read prints nothing for its memory line, and then what its lines print; another prints its first fault.
 abbrev pub printed_of : Result RunScript Fault → Printed
 printed_of (Ok script) =
-    record { groups = [] ∷ answers (opening script.size script.channels) script.statements; status = 0 }
+    record { groups = [] ∷ lines_answered (new_view script.size script.channels) script.statements; status = 0 }
 printed_of (Err fault) = refusal (fault_line fault)
 
 -- What is printed for an input.
 abbrev pub printed : List ℕ → Printed
 printed input = printed_of (run_script_of input)
 
--- A line was answered so: the object is that after its entries, and its printed lines were appended.
-pub record AnswersLine (answer : Answer) (old new : Past) (out out' : List ℕ) : Type 0 where
-  pub acts : object_of new ≡ object_after (object_of old) answer.entries
-  pub prints : out' ≡ out ++ text_of answer.lines
+-- A line was answered so: the view is the one after it, and its printed lines were appended.
+pub record AnswersLine (answered : Answered) (new : View) (out out' : List ℕ) : Type 0 where
+  pub acts : new ≡ answered.1
+  pub prints : out' ≡ out ++ text_of answered.0
+
+-- Equal answers that follow each other are counted: with those that are still to come, the lines before and the lines of the
+-- answers that are counted give this text.
+abbrev pub text_with : ℕ → List ℕ → List ℕ → ℕ → List (List ℕ) → List ℕ
+text_with ch lines answer count rest = lines ++ text_of (step_lines ch (replicate count answer ++ rest))
+
+-- no reply is want of memory
+abbrev pub AreServed : List Reply → Type 0
+AreServed [] = Unit {0}
+AreServed (reply ∷ rest) = (reply ≢ Refused NoMemory) × AreServed rest
 
 -- there is a group for the memory line, or for the fault
 abbrev pub printed_of-some : (read : Result RunScript Fault) → 0 < length (printed_of read).groups

@@ -2,11 +2,13 @@
 #![tactic(auto)]
 
 mod asm;
+mod calls;
+mod copies;
 mod dis;
-mod plain;
 mod plan;
 mod printing;
 mod run;
+mod steps;
 #[cfg(test)]
 mod tests;
 

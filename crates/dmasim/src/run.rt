@@ -1,147 +1,84 @@
 //! The command `run`: it carries out a script line by line.
-ghost use Rattle.std.specs.Prelude.{◌≡◌, ◌≢◌, ◌≤◌, ◌+◌, ◌++◌, ◌∷◌, [], OnOk, OnErr, IfSome};
-ghost use Rattle.dma_script.specs.Command.{AppendsGroups, Ends, failures, printed_text, printed_within, text_of};
-ghost use Rattle.dmasim.specs.Plain.{object_of};
-ghost use Rattle.dmasim.specs.Printed.{call_fault_name, refused_line, transfer_fault_name};
-ghost use Rattle.dmasim.specs.Run.{answer_of, answers, printed, AnswersLine};
+ghost use Rattle.std.specs.Prelude.{◌≡◌, ◌≤◌, ◌+◌, ◌++◌, OnOk, OnErr, IfSome};
+ghost use Rattle.dma_script.specs.Command.{AppendsGroups, Ends, failures, printed_text, printed_within};
+ghost use Rattle.dmasim.specs.Run.{line_answer, lines_answered, printed, AnswersLine};
 
-use crate::plain::{CallFault, Plain};
-use crate::printing::{call_fault_name, push_copy_finished, push_refused, transfer_fault_name};
-use dma_engine::{Outcome, TransResult};
-use dma_mem::segment::Segment;
-use dma_mem::transfer::{Transfer, TransferFault};
+use crate::calls::{answer_call, submit_line, totals_line, write_line};
+use crate::copies::answer_copy;
+use crate::steps::answer_steps;
+use dma_engine::{Call, Engine};
 use dma_script::command::{Command, FAULT, SUCCESS, serve};
 use dma_script::fault::ScriptError;
 use dma_script::input::{LONGEST_INPUT, Source};
 use dma_script::output::Sink;
-use dma_script::printing::{push_fault, push_line, push_read};
+use dma_script::printing::push_fault;
 use dma_script::statements::{Statement, read_run_script};
 use std::alloc::{AllocError, Global};
-
-/// Appends what a refused call prints. Where memory was refused it prints nothing and the script ends.
-fn push_call_fault(alloc: Global, out: &mut Vec<u8>, fault: CallFault) -> Result<(), AllocError>
-    ensures ok { OnOk result ((fault ≢ CallFault.NoMemory) × (out.new.items ≡ out.old.items ++ text_of (refused_line (call_fault_name fault) ∷ []))) }
-    ensures err { OnErr result (out.new.items ≡ out.old.items) }
-{
-    match fault {
-        CallFault::NoMemory => Err(AllocError),
-        _ => push_refused(alloc, out, call_fault_name(fault)),
-    }
-}
-
-/// Appends what a transfer that breaks a rule prints. Where memory was refused it prints nothing and the script ends.
-fn push_transfer_fault(
-    alloc: Global,
-    out: &mut Vec<u8>,
-    fault: TransferFault,
-) -> Result<(), AllocError>
-    ensures ok { OnOk result ((fault ≢ TransferFault.NoMemory) × (out.new.items ≡ out.old.items ++ text_of (refused_line (transfer_fault_name fault) ∷ []))) }
-    ensures err { OnErr result (out.new.items ≡ out.old.items) }
-{
-    match fault {
-        TransferFault::NoMemory => Err(AllocError),
-        _ => push_refused(alloc, out, transfer_fault_name(fault)),
-    }
-}
-
-/// Carries out `write ADDR HEX`.
-fn write_line(
-    alloc: Global,
-    plain: &mut Plain,
-    addr: u32,
-    bytes: &[u8],
-    out: &mut Vec<u8>,
-) -> Result<(), AllocError>
-    ensures ok { OnOk result (AnswersLine (answer_of (object_of plain.old) (Statement.Write addr bytes.now)) plain.old plain.new out.old.items out.new.items) }
-    ensures err { OnErr result (out.new.items ≡ out.old.items) }
-{
-    match plain.write(addr, bytes) {
-        Ok(()) => push_line(out, b"ok"),
-        Err(fault) => push_call_fault(alloc, out, fault),
-    }
-}
-
-/// Carries out `read SEG`.
-fn read_line(
-    alloc: Global,
-    plain: &mut Plain,
-    segment: Segment,
-    out: &mut Vec<u8>,
-) -> Result<(), AllocError>
-    ensures ok { OnOk result (AnswersLine (answer_of (object_of plain.old) (Statement.Read segment)) plain.old plain.new out.old.items out.new.items) }
-    ensures err { OnErr result (out.new.items ≡ out.old.items) }
-{
-    match plain.read(segment.addr, segment.len) {
-        Ok(bytes) => push_read(alloc, out, segment.addr, &bytes),
-        Err(fault) => push_call_fault(alloc, out, fault),
-    }
-}
-
-/// Carries out `copy LIST to LIST`.
-fn copy_line(
-    alloc: Global,
-    plain: &mut Plain,
-    src: &[Segment],
-    dst: &[Segment],
-    out: &mut Vec<u8>,
-) -> Result<(), AllocError>
-    ensures ok { OnOk result (AnswersLine (answer_of (object_of plain.old) (Statement.Copy src.now dst.now)) plain.old plain.new out.old.items out.new.items) }
-    ensures err { OnErr result (out.new.items ≡ out.old.items) }
-{
-    let transfer = match Transfer::new(alloc, src, dst, None, None) {
-        Ok(transfer) => transfer,
-        Err(fault) => return push_transfer_fault(alloc, out, fault),
-    };
-    match plain.copy(transfer) {
-        Ok(cookie) => push_copy_finished(alloc, out, cookie, FINISHED),
-        Err(fault) => push_call_fault(alloc, out, fault),
-    }
-}
 
 /// Carries out a line, and appends what it prints or nothing.
 fn carry_out(
     alloc: Global,
-    plain: &mut Plain,
+    engine: &mut Engine,
     statement: &Statement,
     out: &mut Vec<u8>,
 ) -> Result<(), AllocError>
-    ensures ok { OnOk result (AnswersLine (answer_of (object_of plain.old) statement.now) plain.old plain.new out.old.items out.new.items) }
+    ensures ok { OnOk result (AnswersLine (line_answer engine.old.view statement.now) engine.new.view out.old.items out.new.items) }
     ensures err { OnErr result (out.new.items ≡ out.old.items) }
 {
     match statement {
-        Statement::Write { addr, bytes } => write_line(alloc, plain, *addr, bytes.as_slice(), out),
-        Statement::Read(segment) => read_line(alloc, plain, *segment, out),
-        Statement::Copy { src, dst } => copy_line(
-            alloc,
-            plain,
-            src.as_slice(),
-            dst.as_slice(),
-            out,
-        ),
+        Statement::Write { addr, bytes } => {
+            write_line(alloc, engine, *addr, bytes.as_slice(), out)
+        }
+        Statement::Copy { src, dst } => {
+            answer_copy(alloc, engine, src.as_slice(), dst.as_slice(), out)
+        }
+        Statement::Submit { ch, transfer } => submit_line(alloc, engine, *ch, transfer, out),
+        Statement::Step { ch, count } => answer_steps(alloc, engine, *ch, *count, out),
+        Statement::Totals => totals_line(alloc, engine, out),
+        Statement::Read(segment) => {
+            let (addr, len) = (segment.addr, segment.len);
+            answer_call(alloc, engine, &Call::Read { addr, len }, out)
+        }
+        Statement::Issue { ch } => answer_call(alloc, engine, &Call::Issue { ch: *ch }, out),
+        Statement::Pause { ch } => answer_call(alloc, engine, &Call::Pause { ch: *ch }, out),
+        Statement::Resume { ch } => answer_call(alloc, engine, &Call::Resume { ch: *ch }, out),
+        Statement::Terminate { ch } => {
+            answer_call(alloc, engine, &Call::Terminate { ch: *ch }, out)
+        }
+        Statement::Status { ch, cookie } => {
+            let (ch, cookie) = (*ch, *cookie);
+            answer_call(alloc, engine, &Call::Status { ch, cookie }, out)
+        }
+        Statement::Result { ch, cookie } => {
+            let (ch, cookie) = (*ch, *cookie);
+            answer_call(alloc, engine, &Call::Result { ch, cookie }, out)
+        }
+        Statement::Mark { kind, segment } => {
+            let (kind, segment) = (*kind, *segment);
+            answer_call(alloc, engine, &Call::Mark { kind, segment }, out)
+        }
+        Statement::Unmark => answer_call(alloc, engine, &Call::Unmark, out),
+        Statement::Raise { event } => {
+            answer_call(alloc, engine, &Call::Raise { event: *event }, out)
+        }
     }
 }
 
 /// Carries out the lines of a script. Where memory is refused, what the lines before printed stands there.
 fn carry_out_all(
     alloc: Global,
-    plain: &mut Plain,
+    engine: &mut Engine,
     statements: &[Statement],
     out: &mut Vec<u8>,
 ) -> Result<(), AllocError>
-    ensures ok { OnOk result (out.new.items ≡ out.old.items ++ printed_text (answers (object_of plain.old) statements.now)) }
-    ensures err { OnErr result (AppendsGroups (answers (object_of plain.old) statements.now) out.old.items out.new.items) }
+    ensures ok { OnOk result (out.new.items ≡ out.old.items ++ printed_text (lines_answered engine.old.view statements.now)) }
+    ensures err { OnErr result (AppendsGroups (lines_answered engine.old.view statements.now) out.old.items out.new.items) }
 {
     for statement in statements {
-        carry_out(alloc, plain, statement, out)?;
+        carry_out(alloc, engine, statement, out)?;
     }
     Ok(())
 }
-
-/// The outcome of a copy.
-const FINISHED: Outcome = Outcome {
-    result: TransResult::NoError,
-    residue: 0,
-};
 
 /// The command `run`.
 #[derive(Drop)]
@@ -156,8 +93,10 @@ impl Command for Run {
     fn answer(&self, alloc: Global, input: &[u8], out: &mut Vec<u8>) -> Result<u8, AllocError> {
         match read_run_script(alloc, input) {
             Ok(script) => {
-                let mut plain = Plain::new(alloc, script.size, script.channels as u8)?;
-                carry_out_all(alloc, &mut plain, script.statements.as_slice(), out)?;
+                let Ok(mut engine) = Engine::new(alloc, script.size, script.channels as u8) else {
+                    return Err(AllocError);
+                };
+                carry_out_all(alloc, &mut engine, script.statements.as_slice(), out)?;
                 Ok(SUCCESS)
             }
             Err(ScriptError::Fault(fault)) => {

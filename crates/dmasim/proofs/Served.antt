@@ -1,0 +1,58 @@
+-- Calls in order, none of which was refused memory.
+use Rattle.std.proofs.Common.{◌≡◌, ◌≢◌, ℕ, List, [], ◌∷◌, ◌++◌, length, suc, Option, Some, None, refl, ap, sym, ◌∙◌}
+use Rattle.dma_engine.specs.declared.call.Call.{Call}
+use Rattle.dma_engine.specs.declared.call.Reply.{Reply}
+use Rattle.dma_engine.specs.declared.call.Reply.TheVariants.{Done, Bytes, Cookie, Count, Turned, State, Result, Refused}
+use Rattle.dma_engine.specs.declared.fault.EngineFault.{EngineFault}
+use Rattle.dma_engine.specs.declared.fault.EngineFault.TheVariants.{OutOfMemoryRange, Busy, NoChannel, CookiesSpent, StepsSpent, BadEvent, BadRange, NoMemory}
+use Rattle.dma_engine.specs.View.{View}
+use Rattle.dma_engine.specs.Answer.{Answers, AreAnswers, answer, answers}
+use Rattle.dmasim.specs.Run.{AreServed}
+
+-- a reply that isn't want of memory is the answer
+pub served-one : (v : View) (call : Call) (reply : Reply) (w : View) → reply ≢ Refused NoMemory → Answers v call reply w → (reply, w) ≡ answer v call
+served-one v call Done w served is = is
+served-one v call (Bytes bytes) w served is = is
+served-one v call (Cookie cookie) w served is = is
+served-one v call (Count count) w served is = is
+served-one v call (Turned turn) w served is = is
+served-one v call (State status) w served is = is
+served-one v call (Result outcome) w served is = is
+served-one v call (Refused OutOfMemoryRange) w served is = is
+served-one v call (Refused (Busy ch cookie)) w served is = is
+served-one v call (Refused NoChannel) w served is = is
+served-one v call (Refused CookiesSpent) w served is = is
+served-one v call (Refused StepsSpent) w served is = is
+served-one v call (Refused BadEvent) w served is = is
+served-one v call (Refused BadRange) w served is = is
+served-one v call (Refused NoMemory) w served is = absurd (served refl)
+
+-- and so of calls in order
+pub served-all : (v : View) (calls : List Call) (replies : List Reply) (w : View) → AreServed replies → AreAnswers v calls replies w → (replies, w) ≡ answers v calls
+served-all v [] [] w served is = ap (λ x. ([], x)) is
+served-all v [] (reply ∷ replies) w served is = absurd is
+served-all v (call ∷ calls) [] w served is = absurd is
+served-all v (call ∷ calls) (reply ∷ replies) w served is =
+    let next = is.0 in
+    let one : (reply, next) ≡ answer v call = served-one v call reply next served.0 is.1 in
+    let rest : (replies, w) ≡ answers next calls = served-all next calls replies w served.1 is.2 in
+    let later : answers next calls ≡ answers (answer v call).1 calls = ap (λ (a : Reply × View). answers a.1 calls) one in
+    ap (λ (a : Reply × View). (a.0 ∷ replies, w)) one
+    ∙ ap (λ (b : List Reply × View). ((answer v call).0 ∷ b.0, b.1)) (rest ∙ later)
+
+pub AreServed-push : (replies : List Reply) (reply : Reply) → AreServed replies → reply ≢ Refused NoMemory → AreServed (replies ++ reply ∷ [])
+AreServed-push [] reply all one = (one, tt)
+AreServed-push (first ∷ replies) reply all one = (all.0, AreServed-push replies reply all.1 one)
+
+-- calls in two parts
+pub answers-append : (v : View) (xs ys : List Call) → answers v (xs ++ ys) ≡ (let a = answers v xs in let b = answers a.1 ys in (a.0 ++ b.0, b.1))
+answers-append v [] ys = refl
+answers-append v (call ∷ xs) ys =
+    ap (λ (a : List Reply × View). ((answer v call).0 ∷ a.0, a.1)) (answers-append (answer v call).1 xs ys)
+
+-- one reply for each call
+pub one-each : (v : View) (calls : List Call) (replies : List Reply) (w : View) → AreAnswers v calls replies w → length replies ≡ length calls
+one-each v [] [] w is = refl
+one-each v [] (reply ∷ replies) w is = absurd is
+one-each v (call ∷ calls) [] w is = absurd is
+one-each v (call ∷ calls) (reply ∷ replies) w is = ap (λ n. suc n) (one-each is.0 calls replies w is.2)

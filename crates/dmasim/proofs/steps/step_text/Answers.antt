@@ -1,0 +1,44 @@
+use Rattle.std.proofs.Common.{◌≡◌, ◌≤◌, ◌+◌, ◌-◌, ◌++◌, [], ◌∙◌, List, ℕ, ap, sym, map, length, take, arith}
+use Rattle.std.specs.Prelude.{replicate}
+use Rattle.std.proofs.lemmas.List.{append-nil, take-replicate, length-replicate}
+use Rattle.dma_engine.specs.declared.call.Call.{Call}
+use Rattle.dma_engine.specs.declared.call.Call.TheVariants.{Step}
+use Rattle.dma_engine.specs.declared.call.Reply.{Reply}
+use Rattle.dma_engine.specs.View.{View}
+use Rattle.dma_engine.specs.Answer.{answers}
+use Rattle.dma_script.specs.Command.{text_of}
+use Rattle.dmasim.specs.Printed.{reply_text}
+use Rattle.dmasim.specs.Run.{step_lines}
+use Rattle.dmasim.proofs.StepLemmas.{ended, more-view, more-texts}
+use Rattle.dmasim.proofs.steps.step_text.Goals as goal
+
+pub loop-left-preserved : goal.loop-left-preserved
+loop-left-preserved c =
+    let v = c.args.engine.now.view in
+    let w = c.loop-left.engine.view in
+    let step = Step c.args.ch in
+    let inv = c.loop-left.invariant in
+    let left = c.loop-left.left in
+    let many = c.min-many.result in
+    let within : many ≤ left = omega (arith, c.min-many.ensures) in
+    let few : many ≤ c.min.result = omega (arith, c.min-many.ensures, c.min.ensures, inv.left) in
+    let sum : (c.args.count - left) + many ≡ c.args.count - (left - many) = omega (arith, within, inv.left) in
+    let calls : take many c.deref.result.now ≡ replicate many step = ap (take many) (c.deref.ensures.value ∙ c.in_ok-calls.ensures) ∙ take-replicate many c.min.result step few in
+    let size : length (take many c.deref.result.now) ≡ many = ap length calls ∙ length-replicate many step in
+    record {
+      left = omega (arith, inv.left);
+      counted = omega (arith, c.in_ok-take_steps.ensures.count, inv.counted, size, within, inv.left);
+      view = c.in_ok-take_steps.ensures.view ∙ more-view v w step _ (c.args.count - left) many _ sum inv.view calls;
+      text = λ rest. c.in_ok-take_steps.ensures.text rest ∙ inv.text _
+        ∙ ap (λ l. text_of (step_lines c.args.ch l)) (more-texts v w step _ (c.args.count - left) many _ rest sum inv.view calls);
+    }
+
+pub returns-clause-text : goal.returns-clause-text
+returns-clause-text c =
+    let v = c.args.engine.now.view in
+    let told = c.loop-left.told in
+    let none : c.args.count - c.loop-left.left ≡ c.args.count = omega (arith, c.loop-left-test.false) in
+    ended c.args.ch told.lines.items c.end_line.new.self.lines.items told.last.items told.count c.in_ok-end_line.ensures.none c.in_ok-end_line.ensures.line
+    ∙ c.loop-left.invariant.text []
+    ∙ ap (λ (k : ℕ). text_of (step_lines c.args.ch (map reply_text (answers v (replicate k (Step c.args.ch))).0 ++ []))) none
+    ∙ ap (λ l. text_of (step_lines c.args.ch l)) (append-nil (map reply_text (answers v (replicate c.args.count (Step c.args.ch))).0))

@@ -1,0 +1,113 @@
+//! The lines of a script that copy: submitted to channel 0, issued, and stepped through.
+ghost use Rattle.std.specs.Prelude.{◌≡◌, ◌++◌, ◌∷◌, [], OnOk, OnErr, IfOk};
+ghost use Rattle.dma_engine.specs.Answer.{answer};
+ghost use Rattle.dmasim.specs.Run.{AnswersLine, carried_through, copied, copied_after, copy_answer, goes_on, is_in_use, is_refused, stepped_through};
+
+use crate::calls::{push_unfit, reply_to};
+use crate::printing::{push_refused, push_reply, push_text};
+use dma_engine::{Call, Engine, Reply, Turn};
+use dma_mem::segment::Segment;
+use dma_mem::transfer::Transfer;
+use dma_script::printing::push_line;
+use std::alloc::{AllocError, Global};
+
+/// More steps than any transfer takes: it has at most 1,048,576 bytes, and each of its bursts at most a few instructions.
+pub const MOST_STEPS: u32 = 16_777_216;
+
+/// Whether channel 0 has an unfinished cookie, or is paused or halted.
+fn is_in_use(engine: &Engine) -> bool
+    ensures { result ≡ is_in_use engine.now.view }
+{
+    engine.unfinished(0) > 0 || engine.paused(0) || engine.halted(0)
+}
+
+/// Whether a copy goes on after such an answer.
+fn goes_on(reply: &Reply) -> bool
+    ensures { result ≡ goes_on reply.now }
+{
+    matches!(reply, Reply::Turned(Turn::Started(_) | Turn::Moved))
+}
+
+/// Steps channel 0 once.
+fn step_once(alloc: Global, engine: &mut Engine) -> Result<Reply, AllocError>
+    ensures { IfOk result (λ reply. (reply, engine.new.view) ≡ answer engine.old.view (Call.Step 0)) }
+{
+    reply_to(alloc, engine, &Call::Step { ch: 0 })
+}
+
+/// Steps channel 0 until an answer is neither Started nor Moved.
+fn step_through(alloc: Global, engine: &mut Engine) -> Result<Reply, AllocError>
+    ensures { IfOk result (λ reply. (reply, engine.new.view) ≡ stepped_through MOST_STEPS engine.old.view) }
+{
+    for _turn in 0..MOST_STEPS {
+        let reply = step_once(alloc, engine)?;
+        if !goes_on(&reply) {
+            return Ok(reply);
+        }
+    }
+    step_once(alloc, engine)
+}
+
+/// Whether a call was refused.
+fn is_refused(reply: &Reply) -> bool
+    ensures { result ≡ is_refused reply.now }
+{
+    matches!(reply, Reply::Refused(_))
+}
+
+/// Issues what was submitted to channel 0 and steps through it.
+fn carry_through(
+    alloc: Global,
+    engine: &mut Engine,
+    out: &mut Vec<u8>,
+) -> Result<(), AllocError>
+    ensures ok { OnOk result (AnswersLine (carried_through engine.old.view) engine.new.view out.old.items out.new.items) }
+    ensures err { OnErr result (out.new.items ≡ out.old.items) }
+{
+    reply_to(alloc, engine, &Call::Issue { ch: 0 })?;
+    let last = step_through(alloc, engine)?;
+    let mut line = Vec::new(alloc);
+    push_text(&mut line, "copy ")?;
+    push_reply(alloc, &mut line, &last)?;
+    push_line(out, &line)
+}
+
+/// Submits a transfer to channel 0, issues it and steps through it.
+fn copy_through(
+    alloc: Global,
+    engine: &mut Engine,
+    transfer: Transfer,
+    out: &mut Vec<u8>,
+) -> Result<(), AllocError>
+    ensures ok { OnOk result (AnswersLine (copied_after (answer engine.old.view (Call.Submit 0 transfer))) engine.new.view out.old.items out.new.items) }
+    ensures err { OnErr result (out.new.items ≡ out.old.items) }
+{
+    let reply = reply_to(alloc, engine, &Call::Submit { ch: 0, transfer })?;
+    if !is_refused(&reply) {
+        return carry_through(alloc, engine, out);
+    }
+    let mut line = Vec::new(alloc);
+    push_reply(alloc, &mut line, &reply)?;
+    push_line(out, &line)
+}
+
+/// Carries out `copy LIST to LIST`.
+pub fn answer_copy(
+    alloc: Global,
+    engine: &mut Engine,
+    src: &[Segment],
+    dst: &[Segment],
+    out: &mut Vec<u8>,
+) -> Result<(), AllocError>
+    ensures ok { OnOk result (AnswersLine (copy_answer engine.old.view src.now dst.now) engine.new.view out.old.items out.new.items) }
+    ensures err { OnErr result (out.new.items ≡ out.old.items) }
+{
+    let transfer = match Transfer::new(alloc, src, dst, None, None) {
+        Ok(transfer) => transfer,
+        Err(fault) => return push_unfit(alloc, out, fault),
+    };
+    if is_in_use(engine) {
+        return push_refused(alloc, out, "ChannelInUse");
+    }
+    copy_through(alloc, engine, transfer, out)
+}
