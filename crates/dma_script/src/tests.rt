@@ -9,6 +9,7 @@ use crate::pairs::{PairsError, push_pairs_fault, read_pairs};
 use crate::plan::{PlanLine, read_plan};
 use crate::printing::{push_fault, push_line, push_program, push_read};
 use crate::statements::{RunScript, Statement, read_run_script};
+use dma_mem::marks::MarkKind;
 use dma_mem::segment::Segment;
 use std::alloc::{AllocError, Global};
 use std::test::Fail;
@@ -101,7 +102,7 @@ fn longest_inputs(rt: HostRuntime) -> Result<(), Fail> {
 
 #[test]
 fn no_faults(rt: HostRuntime) -> Result<(), Fail> {
-    let cases: [&[u8]; 12] = [
+    let cases: [&[u8]; 16] = [
         b"memory 1 1",
         b"memory 16777216 8\n",
         b"\n \t\n# any bytes: \x00\x80\xFF\r\r\n#\n\t memory\t 0x40  0x1 \r\nread 0+0",
@@ -114,6 +115,10 @@ fn no_faults(rt: HostRuntime) -> Result<(), Fail> {
         b"memory 64 1\ncopy 1+2,3+4 to 5+6",
         b"memory 64 1\ncopy 0+0 to 0+0\n\n",
         b"memory 64 1\n #read\nread 0+1",
+        b"memory 64 1\nsubmit 255 1+2,3+4 to 5+6 wait 0xFF signal 255\nsubmit 0 0+0 to 0+0 signal 0",
+        b"memory 64 1\nissue 255\npause 255\nresume 255\nterminate 255\nraise 255",
+        b"memory 64 1\nstep 255\nstep 255 1\nstep 0 1000000",
+        b"memory 64 1\nstatus 255 4294967295\nresult 255 0\nmark write 4294967295+4294967295",
     ];
     for input in cases {
         assert_eq!(rt; fault_of(rt.alloc(), input)?, None);
@@ -166,7 +171,7 @@ fn faults_of_words(rt: HostRuntime) -> Result<(), Fail> {
         (b"\x0B", Cause::Byte),
         (b"Read 0+1", Cause::Command),
         (b"readx 0+1", Cause::Command),
-        (b"submit 0 0+4 to 8+4", Cause::Command),
+        (b"go", Cause::Command),
         (b"read", Cause::Words),
         (b"read 0+1 #", Cause::Words),
         (b"write 0", Cause::Words),
@@ -192,6 +197,58 @@ fn faults_of_words(rt: HostRuntime) -> Result<(), Fail> {
         (b"write 0 0", Cause::Hex),
         (b"write 0 0x00", Cause::Hex),
         (b"write 0 00 A AA", Cause::Hex),
+    ];
+    for (line, cause) in cases {
+        let mut input = b"memory 64 1\n".to_vec(rt.alloc())?;
+        input.extend_from_slice(line)?;
+        assert_eq!(rt; fault_of(rt.alloc(), &input)?, fault(2, cause));
+    }
+    Ok(())
+}
+
+#[test]
+fn faults_of_channel_lines(rt: HostRuntime) -> Result<(), Fail> {
+    let cases: [(&[u8], Cause); 40] = [
+        (b"submit", Cause::Words),
+        (b"submit 0", Cause::Words),
+        (b"submit x 0+4 to 8+4 wait", Cause::Words),
+        (b"submit x 0+4 too 8+4", Cause::Words),
+        (b"submit 0 0+4 to 8+4 signal 1 wait 2", Cause::Words),
+        (b"submit 256 x to 8+4", Cause::Number),
+        (b"submit x 0+4 to 8+4 wait 300", Cause::Number),
+        (b"submit 256 0+4 to 8+4 wait signal", Cause::Number),
+        (b"submit 256 0+4 to 8+4", Cause::Range),
+        (b"submit 256 0+4 to 8+4 wait 300", Cause::Range),
+        (b"submit 0 0+4 to 8+4 wait 300", Cause::Range),
+        (b"submit 0 0+4 to 8+4 signal 256", Cause::Range),
+        (b"issue", Cause::Words),
+        (b"issue x 0", Cause::Words),
+        (b"issue x", Cause::Number),
+        (b"issue 256", Cause::Range),
+        (b"pause 256", Cause::Range),
+        (b"resume 4294967296", Cause::Number),
+        (b"terminate 300 1", Cause::Words),
+        (b"step", Cause::Words),
+        (b"step x 0 0", Cause::Words),
+        (b"step 256 x", Cause::Number),
+        (b"step 256", Cause::Range),
+        (b"step 0 0", Cause::Range),
+        (b"step 0 1000001", Cause::Range),
+        (b"status 0", Cause::Words),
+        (b"status 256 x", Cause::Number),
+        (b"status 256 4294967295", Cause::Range),
+        (b"result 0 4294967296", Cause::Number),
+        (b"result 256 1", Cause::Range),
+        (b"mark red 0+1", Cause::Words),
+        (b"mark red x", Cause::Words),
+        (b"mark read", Cause::Words),
+        (b"mark read 1", Cause::Number),
+        (b"unmark 0", Cause::Words),
+        (b"unmarked", Cause::Command),
+        (b"raise", Cause::Words),
+        (b"raise x", Cause::Number),
+        (b"raise 300", Cause::Range),
+        (b"totals totals", Cause::Words),
     ];
     for (line, cause) in cases {
         let mut input = b"memory 64 1\n".to_vec(rt.alloc())?;
@@ -247,6 +304,66 @@ fn statements(rt: HostRuntime) -> Result<(), Fail> {
         .as_slice()
     );
     assert_eq!(rt; *segment, Segment { addr: 0x1F, len: 5 });
+    Ok(())
+}
+
+#[test]
+fn statements_of_channels(rt: HostRuntime) -> Result<(), Fail> {
+    let input = b"memory 64 8\nsubmit 1 0+4 to 8+4 wait 3 signal 255\nissue 2\npause 3\nresume 4\n\
+        terminate 5\nstep 6 1000000\nstep 0x7\nstatus 8 9\nresult 10 4294967295";
+    let script = read_run_script(rt.alloc(), input).ok().ok_or("a script")?;
+    let [
+        Statement::Submit { ch: 1, transfer },
+        Statement::Issue { ch: 2 },
+        Statement::Pause { ch: 3 },
+        Statement::Resume { ch: 4 },
+        Statement::Terminate { ch: 5 },
+        Statement::Step {
+            ch: 6,
+            count: 1_000_000,
+        },
+        Statement::Step { ch: 7, count: 1 },
+        Statement::Status { ch: 8, cookie: 9 },
+        Statement::Result {
+            ch: 10,
+            cookie: u32::MAX,
+        },
+    ] = script.statements.as_slice()
+    else {
+        return Err(Fail::from("nine statements"));
+    };
+    assert_eq!(rt;
+        transfer.src.as_slice(),
+        [Segment { addr: 0, len: 4 }].as_slice()
+    );
+    assert_eq!(rt;
+        transfer.dst.as_slice(),
+        [Segment { addr: 8, len: 4 }].as_slice()
+    );
+    assert_eq!(rt; (transfer.wait, transfer.signal), (Some(3), Some(255)));
+    Ok(())
+}
+
+#[test]
+fn statements_of_the_engine(rt: HostRuntime) -> Result<(), Fail> {
+    let input = b"memory 64 8\nmark read 1+2\nmark write 3+4\nunmark\nraise 0xFF\ntotals";
+    let script = read_run_script(rt.alloc(), input).ok().ok_or("a script")?;
+    let [
+        Statement::Mark {
+            kind: MarkKind::Reading,
+            segment: Segment { addr: 1, len: 2 },
+        },
+        Statement::Mark {
+            kind: MarkKind::Writing,
+            segment: Segment { addr: 3, len: 4 },
+        },
+        Statement::Unmark,
+        Statement::Raise { event: 255 },
+        Statement::Totals,
+    ] = script.statements.as_slice()
+    else {
+        return Err(Fail::from("five statements"));
+    };
     Ok(())
 }
 
