@@ -9,7 +9,6 @@ use crate::pairs::{PairsError, push_pairs_fault, read_pairs};
 use crate::plan::{PlanLine, read_plan};
 use crate::printing::{push_fault, push_line, push_program, push_read};
 use crate::statements::{RunScript, Statement, read_run_script};
-use dma_mem::marks::MarkKind;
 use dma_mem::segment::Segment;
 use std::alloc::{AllocError, Global};
 use std::test::Fail;
@@ -307,63 +306,53 @@ fn statements(rt: HostRuntime) -> Result<(), Fail> {
     Ok(())
 }
 
-#[test]
-fn statements_of_channels(rt: HostRuntime) -> Result<(), Fail> {
-    let input = b"memory 64 8\nsubmit 1 0+4 to 8+4 wait 3 signal 255\nissue 2\npause 3\nresume 4\n\
-        terminate 5\nstep 6 1000000\nstep 0x7\nstatus 8 9\nresult 10 4294967295";
-    let script = read_run_script(rt.alloc(), input).ok().ok_or("a script")?;
-    let [
-        Statement::Submit { ch: 1, transfer },
-        Statement::Issue { ch: 2 },
-        Statement::Pause { ch: 3 },
-        Statement::Resume { ch: 4 },
-        Statement::Terminate { ch: 5 },
-        Statement::Step {
-            ch: 6,
-            count: 1_000_000,
-        },
-        Statement::Step { ch: 7, count: 1 },
-        Statement::Status { ch: 8, cookie: 9 },
-        Statement::Result {
-            ch: 10,
-            cookie: u32::MAX,
-        },
-    ] = script.statements.as_slice()
-    else {
-        return Err(Fail::from("nine statements"));
-    };
-    assert_eq!(rt;
-        transfer.src.as_slice(),
-        [Segment { addr: 0, len: 4 }].as_slice()
-    );
-    assert_eq!(rt;
-        transfer.dst.as_slice(),
-        [Segment { addr: 8, len: 4 }].as_slice()
-    );
-    assert_eq!(rt; (transfer.wait, transfer.signal), (Some(3), Some(255)));
-    Ok(())
+/// The only statement of a script, as its debug text.
+fn statement_text(alloc: Global, line: &[u8]) -> Result<String, Fail> {
+    let mut input = b"memory 64 1\n".to_vec(alloc)?;
+    input.extend_from_slice(line)?;
+    let script = read_run_script(alloc, &input).ok().ok_or("a script")?;
+    match script.statements.as_slice() {
+        [statement] => Ok(format!(in alloc; "{statement:?}")?),
+        _ => Err(Fail::from("one statement")),
+    }
 }
 
 #[test]
-fn statements_of_the_engine(rt: HostRuntime) -> Result<(), Fail> {
-    let input = b"memory 64 8\nmark read 1+2\nmark write 3+4\nunmark\nraise 0xFF\ntotals";
-    let script = read_run_script(rt.alloc(), input).ok().ok_or("a script")?;
-    let [
-        Statement::Mark {
-            kind: MarkKind::Reading,
-            segment: Segment { addr: 1, len: 2 },
-        },
-        Statement::Mark {
-            kind: MarkKind::Writing,
-            segment: Segment { addr: 3, len: 4 },
-        },
-        Statement::Unmark,
-        Statement::Raise { event: 255 },
-        Statement::Totals,
-    ] = script.statements.as_slice()
-    else {
-        return Err(Fail::from("five statements"));
-    };
+fn each_statement(rt: HostRuntime) -> Result<(), Fail> {
+    let cases: [(&[u8], &str); 15] = [
+        (b"read 0x1F+5", "Read(Segment { addr: 31, len: 5 })"),
+        (b"issue 2", "Issue { ch: 2 }"),
+        (b"pause 3", "Pause { ch: 3 }"),
+        (b"resume 4", "Resume { ch: 4 }"),
+        (b"terminate 5", "Terminate { ch: 5 }"),
+        (b"step 6", "Step { ch: 6, count: 1 }"),
+        (b"step 0x7 1000000", "Step { ch: 7, count: 1000000 }"),
+        (b"status 8 9", "Status { ch: 8, cookie: 9 }"),
+        (
+            b"result 255 4294967295",
+            "Result { ch: 255, cookie: 4294967295 }",
+        ),
+        (
+            b"mark read 1+2",
+            "Mark { kind: Reading, segment: Segment { addr: 1, len: 2 } }",
+        ),
+        (
+            b"mark write 3+4",
+            "Mark { kind: Writing, segment: Segment { addr: 3, len: 4 } }",
+        ),
+        (b"unmark", "Unmark"),
+        (b"raise 255", "Raise { event: 255 }"),
+        (b"totals", "Totals"),
+        (
+            b"submit 1 0+4 to 8+4 wait 3 signal 255",
+            "Submit { ch: 1, transfer: TransferLine { src: Segments { segments: [Segment { addr: 0, len: 4 }] }, \
+                dst: Segments { segments: [Segment { addr: 8, len: 4 }] }, wait: Some(3), signal: Some(255) } }",
+        ),
+    ];
+    for (line, text) in cases {
+        let told = statement_text(rt.alloc(), line)?;
+        assert_eq!(rt; told.as_str(), text);
+    }
     Ok(())
 }
 
