@@ -112,6 +112,18 @@ channel_and_cookie words = do
   ch ← byte_of number
   Ok (ch, cookie)
 
+-- `status CH COOKIE`
+abbrev pub status_line : List (List ℕ) → Result Statement Cause
+status_line words = do
+  w ← channel_and_cookie words
+  Ok (statements.Status w.0 w.1)
+
+-- `result CH COOKIE`
+abbrev pub result_line : List (List ℕ) → Result Statement Cause
+result_line words = do
+  w ← channel_and_cookie words
+  Ok (statements.Result w.0 w.1)
+
 -- what a mark makes fail
 abbrev pub mark_kind_of : List ℕ → Option MarkKind
 mark_kind_of word =
@@ -151,12 +163,8 @@ later_line keywords.Terminate words = do
   ch ← byte_alone words
   Ok (statements.Terminate ch)
 later_line keywords.Step words = step_line words
-later_line keywords.Status words = do
-  w ← channel_and_cookie words
-  Ok (statements.Status w.0 w.1)
-later_line keywords.Result words = do
-  w ← channel_and_cookie words
-  Ok (statements.Result w.0 w.1)
+later_line keywords.Status words = status_line words
+later_line keywords.Result words = result_line words
 later_line keywords.Mark words = mark_line words
 later_line keywords.Unmark words = do
   none ← no_word words

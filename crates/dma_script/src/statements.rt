@@ -199,7 +199,7 @@ pub struct RunScript {
 
 ghost use Rattle.std.specs.Option.{ForSome};
 ghost use Rattle.dma_script.specs.Lines.{Gives, LineGives, ScriptGives};
-ghost use Rattle.dma_script.specs.Statements.{channel_and_cookie, copy_line, count_of, first_line, IsWithin, keyword_of, later_line, mark_kind_of, mark_line, memory_line, next_line, read_line, run_script_of, step_line, submit_line, write_line};
+ghost use Rattle.dma_script.specs.Statements.{channel_and_cookie, copy_line, count_of, first_line, IsWithin, keyword_of, later_line, mark_kind_of, mark_line, memory_line, next_line, read_line, result_line, run_script_of, status_line, step_line, submit_line, write_line};
 
 fn keyword_in(word: &[u8]) -> Option<Keyword>
     ensures { result ≡ keyword_of word.now }
@@ -329,6 +329,22 @@ fn channel_and_cookie(words: &[&[u8]]) -> Result<(u8, u32), Cause>
     Ok((ch, cookie))
 }
 
+/// `status CH COOKIE`
+fn status_line(words: &[&[u8]]) -> Result<Statement, Cause>
+    ensures { result ≡ status_line (map (λ word. word.now) words.now) }
+{
+    let (ch, cookie) = channel_and_cookie(words)?;
+    Ok(Statement::Status { ch, cookie })
+}
+
+/// `result CH COOKIE`
+fn result_line(words: &[&[u8]]) -> Result<Statement, Cause>
+    ensures { result ≡ result_line (map (λ word. word.now) words.now) }
+{
+    let (ch, cookie) = channel_and_cookie(words)?;
+    Ok(Statement::Result { ch, cookie })
+}
+
 /// What a mark makes fail.
 fn mark_kind_in(word: &[u8]) -> Option<MarkKind>
     ensures { result ≡ mark_kind_of word.now }
@@ -386,14 +402,8 @@ fn later_line(alloc: Global, keyword: Keyword, words: &[&[u8]]) -> Result<Statem
             ch: byte_alone(words)?,
         }),
         Keyword::Step => Ok(step_line(words)?),
-        Keyword::Status => {
-            let (ch, cookie) = channel_and_cookie(words)?;
-            Ok(Statement::Status { ch, cookie })
-        }
-        Keyword::Result => {
-            let (ch, cookie) = channel_and_cookie(words)?;
-            Ok(Statement::Result { ch, cookie })
-        }
+        Keyword::Status => Ok(status_line(words)?),
+        Keyword::Result => Ok(result_line(words)?),
         Keyword::Mark => Ok(mark_line(words)?),
         Keyword::Unmark => {
             no_word(words)?;
