@@ -1,7 +1,7 @@
 //! The words of a transfer with its events, and the line of a plan script.
-ghost use Rattle.std.specs.Prelude.{◌≡◌, ◌++◌, ◌∷◌, [], List, map};
+ghost use Rattle.std.specs.Prelude.{◌≡◌, map};
 ghost use Rattle.std.specs.Option.{option_map};
-ghost use Rattle.dma_script.specs.Lines.{Gives, LineGives, ScriptGives, seen_by};
+ghost use Rattle.dma_script.specs.Lines.{Gives, ScriptGives, seen_by};
 ghost use Rattle.dma_script.specs.Plan.{after_fixed, events_of, plan_of, seen_words, transfer_line, transfer_numbers, transfer_of, transfer_words};
 
 use crate::arguments::{byte_where, list_at, number_where};

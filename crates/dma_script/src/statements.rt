@@ -1,5 +1,5 @@
 //! The lines of a run script.
-ghost use Rattle.std.specs.Prelude.{◌≡◌, ◌==◌, ◌++◌, ◌∷◌, [], IfOk, List, OnErr, OnOk, map};
+ghost use Rattle.std.specs.Prelude.{◌≡◌, ◌++◌, ◌∷◌, [], IfOk, List, OnErr, OnOk, map};
 
 use crate::arguments::{
     byte_alone, byte_of, bytes_at, first_and_rest, list_at, no_word, number_at, number_where,
