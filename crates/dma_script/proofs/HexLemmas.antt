@@ -3,7 +3,7 @@ use Rattle.std.proofs.Common.{◌≡◌, ℕ, ◌<◌, ◌≤◌, ◌+◌, ◌*�
 use Rattle.std.specs.Option.{ok_or, option_map}
 use Rattle.dma_script.specs.Words.{bytes_in, hex_digit_of}
 use Rattle.dma_script.specs.Lines.{◌>>=◌, LineGives, Gives}
-use Rattle.dma_script.specs.Statements.{hex_at, hex_after, bytes_at}
+use Rattle.dma_script.specs.Arguments.{hex_at, hex_after, bytes_at}
 use Rattle.dma_script.specs.declared.fault.Cause.{Cause}
 use Rattle.dma_script.specs.declared.fault.Cause.TheVariants.{Hex}
 use Rattle.dma_script.specs.declared.fault.LineError.{LineError}

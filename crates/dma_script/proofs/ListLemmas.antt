@@ -6,10 +6,7 @@ use Rattle.dma_script.specs.Words.{each_of, segment_of, parts_at}
 use Rattle.dma_mem.specs.declared.segment.Segment.{Segment}
 use Rattle.dma_script.specs.declared.fault.Cause.{Cause}
 use Rattle.dma_script.specs.declared.fault.Cause.TheVariants.{Number}
-use Rattle.dma_script.specs.declared.fault.LineError.{LineError}
-use Rattle.dma_script.specs.declared.fault.LineError.TheVariants as line_errors
-use Rattle.dma_script.specs.Lines.{Gives}
-use Rattle.dma_script.specs.Statements.{segment_at, list_at}
+use Rattle.dma_script.specs.Arguments.{segment_at, list_at}
 use Rattle.std.specs.Option.{ok_or}
 
 each_of-push : {A : Type 0} (xs : List (Option A)) (a : A) → each_of (xs ++ Some a ∷ []) ≡ option_map (λ l. l ++ a ∷ []) (each_of xs)
@@ -47,8 +44,7 @@ ok_or_err None cause h = (refl, cc)
 ok_or_err (Some a) cause h = cc
 
 -- The fault of a part is the fault of the list.
-pub list_at_fault : (word part : List ℕ) (n : ℕ) (e : LineError) → n < length (parts_at 44 word) → part ≡ get_or (parts_at 44 word) n part → Gives (λ (s : Segment). s) (Err e) (segment_at part) → Gives (λ (l : List Segment). l) (Err e) (list_at word)
-list_at_fault word part n line_errors.NoMemory within at fault = tt
-list_at_fault word part n (line_errors.Fault cause) within at fault =
+pub list_at_fault : (word part : List ℕ) (n : ℕ) (cause : Cause) → n < length (parts_at 44 word) → part ≡ get_or (parts_at 44 word) n part → segment_at part ≡ Err cause → list_at word ≡ Err cause
+list_at_fault word part n cause within at fault =
     let told = ok_or_err (segment_of part) cause fault in
     ap (λ o. ok_or o Number) (segments_none (parts_at 44 word) n part within at told.0) ∙ ap Err told.1

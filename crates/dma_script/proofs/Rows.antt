@@ -1,11 +1,12 @@
 -- Worked scripts, computed from the definitions.
-use Rattle.std.proofs.Common.{◌≡◌, List, ℕ, [], ◌∷◌, ◌++◌, codes, Some, Ok, Err, refl}
+use Rattle.std.proofs.Common.{◌≡◌, List, ℕ, [], ◌∷◌, ◌++◌, codes, Some, None, Ok, Err, refl}
 use Rattle.dma_script.specs.Statements.{run_script_of}
 use Rattle.dma_script.specs.Printing.{program_lines, read_text}
 use Rattle.dma_script.specs.Pairs.{pairs_of}
 use Rattle.dma_script.specs.Plan.{plan_of}
 use Rattle.dma_script.specs.declared.fault.Cause.TheVariants.{Byte, Command, First, Words, Number, Hex, Range, SizeOutOfRange, BadChannels}
-use Rattle.dma_script.specs.declared.statements.Statement.TheVariants.{Write, Read, Copy}
+use Rattle.dma_mem.specs.declared.marks.MarkKind.TheVariants.{Reading, Writing}
+use Rattle.dma_script.specs.declared.statements.Statement.TheVariants as statements
 
 -- a script of a memory line and one more
 abbrev after_memory : List ℕ → List ℕ
@@ -17,7 +18,7 @@ no_line = refl
 only_skipped : run_script_of (codes "# note" ++ 13 ∷ 10 ∷ 32 ∷ 9 ∷ []) ≡ Err (record { line = 0; cause = First })
 only_skipped = refl
 
-first_run : run_script_of (after_memory (codes "write 0x10 AA bb" ++ 13 ∷ 10 ∷ codes "copy 0x10+3 to 0x20+1,33+2" ++ 10 ∷ codes "read 0x1F+5" ++ 10 ∷ [])) ≡ Ok (record { size = 64; channels = 1; statements = Write 16 (170 ∷ 187 ∷ []) ∷ Copy (record { addr = 16; len = 3 } ∷ []) (record { addr = 32; len = 1 } ∷ record { addr = 33; len = 2 } ∷ []) ∷ Read (record { addr = 31; len = 5 }) ∷ [] })
+first_run : run_script_of (after_memory (codes "write 0x10 AA bb" ++ 13 ∷ 10 ∷ codes "copy 0x10+3 to 0x20+1,33+2" ++ 10 ∷ codes "read 0x1F+5" ++ 10 ∷ [])) ≡ Ok (record { size = 64; channels = 1; statements = statements.Write 16 (170 ∷ 187 ∷ []) ∷ statements.Copy (record { addr = 16; len = 3 } ∷ []) (record { addr = 32; len = 1 } ∷ record { addr = 33; len = 2 } ∷ []) ∷ statements.Read (record { addr = 31; len = 5 }) ∷ [] })
 first_run = refl
 
 too_many_words : run_script_of (after_memory (codes "read 4+ 5")) ≡ Err (record { line = 2; cause = Words })
@@ -52,6 +53,27 @@ hex = refl
 
 return_at_the_end : run_script_of (after_memory (codes "read 0+1" ++ 13 ∷ [])) ≡ Err (record { line = 2; cause = Byte })
 return_at_the_end = refl
+
+channel_lines : run_script_of (after_memory (codes "submit 1 1+2 to 3+2 signal 255" ++ 10 ∷ codes "issue 1" ++ 10 ∷ codes "step 1" ++ 10 ∷ codes "step 1 1000000" ++ 10 ∷ codes "status 1 2" ++ 10 ∷ codes "result 2 1")) ≡ Ok (record { size = 64; channels = 1; statements = statements.Submit 1 (record { src = record { addr = 1; len = 2 } ∷ []; dst = record { addr = 3; len = 2 } ∷ []; wait = None; signal = Some 255 }) ∷ statements.Issue 1 ∷ statements.Step 1 1 ∷ statements.Step 1 1000000 ∷ statements.Status 1 2 ∷ statements.Result 2 1 ∷ [] })
+channel_lines = refl
+
+other_lines : run_script_of (after_memory (codes "pause 1" ++ 10 ∷ codes "resume 2" ++ 10 ∷ codes "terminate 3" ++ 10 ∷ codes "mark read 1+2" ++ 10 ∷ codes "mark write 3+4" ++ 10 ∷ codes "unmark" ++ 10 ∷ codes "raise 255" ++ 10 ∷ codes "totals")) ≡ Ok (record { size = 64; channels = 1; statements = statements.Pause 1 ∷ statements.Resume 2 ∷ statements.Terminate 3 ∷ statements.Mark Reading (record { addr = 1; len = 2 }) ∷ statements.Mark Writing (record { addr = 3; len = 4 }) ∷ statements.Unmark ∷ statements.Raise 255 ∷ statements.Totals ∷ [] })
+other_lines = refl
+
+step_number_before_range : run_script_of (after_memory (codes "step 256 x")) ≡ Err (record { line = 2; cause = Number })
+step_number_before_range = refl
+
+submit_number_before_range : run_script_of (after_memory (codes "submit 256 0+4 to 8+x wait 300")) ≡ Err (record { line = 2; cause = Number })
+submit_number_before_range = refl
+
+submit_out_of_range : run_script_of (after_memory (codes "submit 256 0+4 to 8+4 wait 300")) ≡ Err (record { line = 2; cause = Range })
+submit_out_of_range = refl
+
+too_many_steps : run_script_of (after_memory (codes "step 0 1000001")) ≡ Err (record { line = 2; cause = Range })
+too_many_steps = refl
+
+no_such_mark : run_script_of (after_memory (codes "mark red 0+1")) ≡ Err (record { line = 2; cause = Words })
+no_such_mark = refl
 
 printed_read : read_text 31 (0 ∷ 170 ∷ []) ≡ codes "read 0x0000001F 00 AA"
 printed_read = refl

@@ -1,8 +1,10 @@
--- How a command ends, what words spell, how a script is read up to its first fault, pairs of digits, the line of a plan, and printed lines.
+-- How a command ends, what words spell, how a script is read up to its first fault, what the words after the first of a line
+-- say, the line of a plan, the lines of a run script, pairs of digits, and printed lines.
 pub mod Command
 pub mod Words
 pub mod Lines
+pub mod Arguments
+pub mod Plan
 pub mod Statements
 pub mod Printing
 pub mod Pairs
-pub mod Plan

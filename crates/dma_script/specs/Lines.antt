@@ -65,3 +65,8 @@ abbrev pub Gives : {X Y : Type 0} → (X → Y) → Result X LineError → Resul
 Gives view (Ok x) gives = gives ≡ Ok (view x)
 Gives view (Err line_errors.NoMemory) gives = Unit {0}
 Gives view (Err (line_errors.Fault cause)) gives = gives ≡ Err cause
+
+-- A value that a function returned, seen by view; the cause of a fault is seen as it is.
+abbrev pub seen_by : {X Y : Type 0} → (X → Y) → Result X Cause → Result Y Cause
+seen_by view (Ok x) = Ok (view x)
+seen_by view (Err cause) = Err cause

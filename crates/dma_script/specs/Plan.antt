@@ -1,14 +1,28 @@
--- The line of a plan script, and the words of a transfer with its events (profile).
-use Rattle.std.specs.Prelude.{ℕ, ◌==◌, nat_le, if◌then◌else◌, List, ◌∷◌, length, Option, Some, None, Result, Ok, Err, codes}
-use Rattle.std.specs.Option.{ok_or}
+-- The words of a transfer with its events, and the line of a plan script (profile). All words are counted before any is read,
+-- and all are read before any is tested against a range.
+use Rattle.std.specs.Prelude.{ℕ, ◌==◌, if◌then◌else◌, List, ◌∷◌, length, Option, Some, None, Result, Ok, Err, codes}
+use Rattle.std.specs.Option.{ok_or, option_map}
 use Rattle.std.specs.Str.{bytes_eq}
 use Rattle.dma_script.specs.Lines.{◌>>=◌, after_script, first_number}
-use Rattle.dma_script.specs.Statements.{where_holds, number_at, list_at}
+use Rattle.dma_script.specs.Arguments.{where_holds, number_where, byte_where, list_at}
 use Rattle.dma_script.specs.declared.fault.Cause.{Cause}
 use Rattle.dma_script.specs.declared.fault.Cause.TheVariants as causes
 use Rattle.dma_script.specs.declared.fault.Fault.{Fault}
+use Rattle.dma_script.specs.declared.plan.TransferWords.{TransferWords}
+use Rattle.dma_script.specs.declared.plan.TransferNumbers.{TransferNumbers}
 use Rattle.dma_script.specs.declared.plan.TransferLine.{TransferLine}
 use Rattle.dma_script.specs.declared.plan.PlanLine.{PlanLine}
+
+-- the words of a transfer: its two lists, and its events where there are any
+pub record WordsOfTransfer : Type 0 where
+  pub src : List ℕ
+  pub dst : List ℕ
+  pub wait : Option (List ℕ)
+  pub signal : Option (List ℕ)
+
+-- the bytes of the words
+abbrev pub seen_words : TransferWords → WordsOfTransfer
+seen_words words = record { src = words.src.now; dst = words.dst.now; wait = option_map (λ word. word.now) words.wait; signal = option_map (λ word. word.now) words.signal }
 
 -- the word after a fixed one, where that stands first, and the words that follow
 abbrev pub after_fixed : List ℕ → List (List ℕ) → Option (List ℕ) × List (List ℕ)
@@ -22,31 +36,36 @@ events_of words =
     let signal = after_fixed (codes "signal") wait.1 in
     if length signal.1 == 0 then Ok (wait.0, signal.0) else Err causes.Words
 
--- the number that a word spells, where there is a word
-abbrev pub number_where : Option (List ℕ) → Result (Option ℕ) Cause
-number_where None = Ok None
-number_where (Some word) = do
-  n ← number_at word
-  Ok (Some n)
-
--- a number that is at most 255, where there is one
-abbrev pub byte_where : Option ℕ → Result (Option ℕ) Cause
-byte_where None = Ok None
-byte_where (Some n) = if nat_le n 255 then Ok (Some n) else Err causes.Range
-
--- `LIST to LIST [wait E] [signal E]`: all words are counted, then all are read, and then the events are tested.
-abbrev pub transfer_line : List (List ℕ) → Result TransferLine Cause
-transfer_line (src ∷ to ∷ dst ∷ more) = do
+-- `LIST to LIST [wait E] [signal E]`, of which the words are counted
+abbrev pub transfer_words : List (List ℕ) → Result WordsOfTransfer Cause
+transfer_words (src ∷ to ∷ dst ∷ more) = do
   fixed ← where_holds (bytes_eq to (codes "to")) causes.Words
   events ← events_of more
-  sources ← list_at src
-  destinations ← list_at dst
-  wait_number ← number_where events.0
-  signal_number ← number_where events.1
-  wait ← byte_where wait_number
-  signal ← byte_where signal_number
-  Ok (record { src = sources; dst = destinations; wait = wait; signal = signal })
-transfer_line words = Err causes.Words
+  Ok (record { src = src; dst = dst; wait = events.0; signal = events.1 })
+transfer_words words = Err causes.Words
+
+-- the segments and numbers that the words spell
+abbrev pub transfer_numbers : WordsOfTransfer → Result TransferNumbers Cause
+transfer_numbers words = do
+  src ← list_at words.src
+  dst ← list_at words.dst
+  wait ← number_where words.wait
+  signal ← number_where words.signal
+  Ok (record { src = src; dst = dst; wait = wait; signal = signal })
+
+-- the transfer, where the numbers of its events are in their range
+abbrev pub transfer_of : TransferNumbers → Result TransferLine Cause
+transfer_of numbers = do
+  wait ← byte_where numbers.wait
+  signal ← byte_where numbers.signal
+  Ok (record { src = numbers.src; dst = numbers.dst; wait = wait; signal = signal })
+
+-- `LIST to LIST [wait E] [signal E]`
+abbrev pub transfer_line : List (List ℕ) → Result TransferLine Cause
+transfer_line words = do
+  parts ← transfer_words words
+  numbers ← transfer_numbers parts
+  transfer_of numbers
 
 -- The next line of a plan script, which has one line and no more.
 abbrev pub plan_step : Option TransferLine → List (List ℕ) → Result (Option TransferLine) Cause

@@ -1,83 +1,43 @@
 -- The lines of a run script (profile). Of a line, all words are counted before any is read, and all are read, from the left,
 -- before any is tested against a range.
-use Rattle.std.specs.Prelude.{ℕ, Bool, ◌&&◌, nat_le, ◌≤◌, if◌then◌else◌, List, [], ◌∷◌, ◌++◌, Option, Some, None, Result, Ok, Err, codes}
+use Rattle.std.specs.Prelude.{ℕ, ◌&&◌, nat_le, ◌≤◌, if◌then◌else◌, List, [], ◌∷◌, ◌++◌, Option, Some, None, Result, Ok, Err, codes}
 use Rattle.std.specs.Option.{ok_or}
 use Rattle.std.specs.Str.{bytes_eq}
 use Rattle.dma_mem.specs.declared.memory.TheConstants.{MAX_SIZE}
-use Rattle.dma_mem.specs.declared.segment.Segment.{Segment}
-use Rattle.dma_script.specs.Words.{number_of, segment_of, list_of, bytes_in}
+use Rattle.dma_mem.specs.declared.marks.MarkKind.{MarkKind}
+use Rattle.dma_mem.specs.declared.marks.MarkKind.TheVariants.{Reading, Writing}
 use Rattle.dma_script.specs.Lines.{◌>>=◌, after_script}
+use Rattle.dma_script.specs.Arguments.{where_holds, no_word, one_of, two_of, three_of, one_or_two, one_and_more, first_and_rest, number_at, number_where, byte_of, byte_alone, segment_at, list_at, bytes_at}
+use Rattle.dma_script.specs.Plan.{transfer_words, transfer_numbers, transfer_of}
 use Rattle.dma_script.specs.declared.fault.Cause.{Cause}
 use Rattle.dma_script.specs.declared.fault.Cause.TheVariants as causes
 use Rattle.dma_script.specs.declared.fault.Fault.{Fault}
 use Rattle.dma_script.specs.declared.statements.Keyword.{Keyword}
 use Rattle.dma_script.specs.declared.statements.Keyword.TheVariants as keywords
 use Rattle.dma_script.specs.declared.statements.Statement.{Statement}
-use Rattle.dma_script.specs.declared.statements.Statement.TheVariants.{Write, Read, Copy}
+use Rattle.dma_script.specs.declared.statements.Statement.TheVariants as statements
 use Rattle.dma_script.specs.declared.statements.RunScript.{RunScript}
-use Rattle.dma_script.specs.declared.statements.TheConstants.{MAX_CHANNELS}
+use Rattle.dma_script.specs.declared.statements.TheConstants.{MAX_CHANNELS, MAX_STEPS}
 
 -- the word that begins a line
 abbrev pub keyword_of : List ℕ → Option Keyword
 keyword_of word =
-    if bytes_eq word (codes "memory") then Some keywords.Memory else
-    (if bytes_eq word (codes "write") then Some keywords.Write else
-    (if bytes_eq word (codes "read") then Some keywords.Read else
-    (if bytes_eq word (codes "copy") then Some keywords.Copy else None)))
-
--- a cause where a test fails
-abbrev pub where_holds : Bool → Cause → Result (Unit {0}) Cause
-where_holds holds cause = if holds then Ok tt else Err cause
-
--- one word and no more
-abbrev pub one_of : List (List ℕ) → Result (List ℕ) Cause
-one_of (a ∷ []) = Ok a
-one_of _ = Err causes.Words
-
--- two words and no more
-abbrev pub two_of : List (List ℕ) → Result (List ℕ × List ℕ) Cause
-two_of (a ∷ b ∷ []) = Ok (a, b)
-two_of _ = Err causes.Words
-
--- three words and no more
-abbrev pub three_of : List (List ℕ) → Result (List ℕ × List ℕ × List ℕ) Cause
-three_of (a ∷ b ∷ c ∷ []) = Ok (a, b, c)
-three_of _ = Err causes.Words
-
--- a word and one or more others
-abbrev pub one_and_more : List (List ℕ) → Result (List ℕ × List (List ℕ)) Cause
-one_and_more (a ∷ b ∷ more) = Ok (a, b ∷ more)
-one_and_more _ = Err causes.Words
-
--- the number that a word spells
-abbrev pub number_at : List ℕ → Result ℕ Cause
-number_at word = ok_or (number_of word) causes.Number
-
--- the segment that a word spells
-abbrev pub segment_at : List ℕ → Result Segment Cause
-segment_at word = ok_or (segment_of word) causes.Number
-
--- the segments that a word spells
-abbrev pub list_at : List ℕ → Result (List Segment) Cause
-list_at word = ok_or (list_of word) causes.Number
-
--- the bytes that a word of hexadecimal digits spells
-abbrev pub hex_at : List ℕ → Result (List ℕ) Cause
-hex_at word = ok_or (bytes_in word) causes.Hex
-
--- bytes read before, and then those of a hexadecimal word
-abbrev pub hex_after : List ℕ → List ℕ → Result (List ℕ) Cause
-hex_after before word = do
-  more ← hex_at word
-  Ok (before ++ more)
-
--- the bytes of hexadecimal words, joined
-abbrev pub bytes_at : List (List ℕ) → Result (List ℕ) Cause
-bytes_at [] = Ok []
-bytes_at (word ∷ words) = do
-  front ← hex_at word
-  rest ← bytes_at words
-  Ok (front ++ rest)
+    if bytes_eq word (codes "memory") then Some keywords.Memory else (
+    if bytes_eq word (codes "write") then Some keywords.Write else (
+    if bytes_eq word (codes "read") then Some keywords.Read else (
+    if bytes_eq word (codes "copy") then Some keywords.Copy else (
+    if bytes_eq word (codes "submit") then Some keywords.Submit else (
+    if bytes_eq word (codes "issue") then Some keywords.Issue else (
+    if bytes_eq word (codes "pause") then Some keywords.Pause else (
+    if bytes_eq word (codes "resume") then Some keywords.Resume else (
+    if bytes_eq word (codes "terminate") then Some keywords.Terminate else (
+    if bytes_eq word (codes "step") then Some keywords.Step else (
+    if bytes_eq word (codes "status") then Some keywords.Status else (
+    if bytes_eq word (codes "result") then Some keywords.Result else (
+    if bytes_eq word (codes "mark") then Some keywords.Mark else (
+    if bytes_eq word (codes "unmark") then Some keywords.Unmark else (
+    if bytes_eq word (codes "raise") then Some keywords.Raise else (
+    if bytes_eq word (codes "totals") then Some keywords.Totals else None)))))))))))))))
 
 -- `memory SIZE CHANNELS`: a script with no line after it yet
 abbrev pub memory_line : List (List ℕ) → Result RunScript Cause
@@ -99,14 +59,14 @@ write_line words = do
   w ← one_and_more words
   addr ← number_at w.0
   bytes ← bytes_at w.1
-  Ok (Write addr bytes)
+  Ok (statements.Write addr bytes)
 
 -- `read SEG`
 abbrev pub read_line : List (List ℕ) → Result Statement Cause
 read_line words = do
   w ← one_of words
   segment ← segment_at w
-  Ok (Read segment)
+  Ok (statements.Read segment)
 
 -- `copy LIST to LIST`
 abbrev pub copy_line : List (List ℕ) → Result Statement Cause
@@ -115,7 +75,68 @@ copy_line words = do
   fixed ← where_holds (bytes_eq w.1 (codes "to")) causes.Words
   src ← list_at w.0
   dst ← list_at w.2
-  Ok (Copy src dst)
+  Ok (statements.Copy src dst)
+
+-- `submit CH LIST to LIST [wait E] [signal E]`
+abbrev pub submit_line : List (List ℕ) → Result Statement Cause
+submit_line words = do
+  w ← first_and_rest words
+  parts ← transfer_words w.1
+  number ← number_at w.0
+  numbers ← transfer_numbers parts
+  ch ← byte_of number
+  transfer ← transfer_of numbers
+  Ok (statements.Submit ch transfer)
+
+-- the count of a step line: 1 to the most, and 1 where it is left out
+abbrev pub count_of : Option ℕ → Result ℕ Cause
+count_of None = Ok 1
+count_of (Some n) = if nat_le 1 n && nat_le n MAX_STEPS then Ok n else Err causes.Range
+
+-- `step CH [N]`
+abbrev pub step_line : List (List ℕ) → Result Statement Cause
+step_line words = do
+  w ← one_or_two words
+  number ← number_at w.0
+  steps ← number_where w.1
+  ch ← byte_of number
+  count ← count_of steps
+  Ok (statements.Step ch count)
+
+-- `CH COOKIE`
+abbrev pub channel_and_cookie : List (List ℕ) → Result (ℕ × ℕ) Cause
+channel_and_cookie words = do
+  w ← two_of words
+  number ← number_at w.0
+  cookie ← number_at w.1
+  ch ← byte_of number
+  Ok (ch, cookie)
+
+-- `status CH COOKIE`
+abbrev pub status_line : List (List ℕ) → Result Statement Cause
+status_line words = do
+  w ← channel_and_cookie words
+  Ok (statements.Status w.0 w.1)
+
+-- `result CH COOKIE`
+abbrev pub result_line : List (List ℕ) → Result Statement Cause
+result_line words = do
+  w ← channel_and_cookie words
+  Ok (statements.Result w.0 w.1)
+
+-- what a mark makes fail
+abbrev pub mark_kind_of : List ℕ → Option MarkKind
+mark_kind_of word =
+    if bytes_eq word (codes "read") then Some Reading else
+    (if bytes_eq word (codes "write") then Some Writing else None)
+
+-- `mark read SEG` or `mark write SEG`
+abbrev pub mark_line : List (List ℕ) → Result Statement Cause
+mark_line words = do
+  w ← two_of words
+  kind ← ok_or (mark_kind_of w.0) causes.Words
+  segment ← segment_at w.1
+  Ok (statements.Mark kind segment)
 
 -- The first line, by its keyword and the words after that: it is the memory line.
 abbrev pub first_line : Keyword → List (List ℕ) → Result RunScript Cause
@@ -128,6 +149,32 @@ later_line keywords.Memory words = Err causes.First
 later_line keywords.Write words = write_line words
 later_line keywords.Read words = read_line words
 later_line keywords.Copy words = copy_line words
+later_line keywords.Submit words = submit_line words
+later_line keywords.Issue words = do
+  ch ← byte_alone words
+  Ok (statements.Issue ch)
+later_line keywords.Pause words = do
+  ch ← byte_alone words
+  Ok (statements.Pause ch)
+later_line keywords.Resume words = do
+  ch ← byte_alone words
+  Ok (statements.Resume ch)
+later_line keywords.Terminate words = do
+  ch ← byte_alone words
+  Ok (statements.Terminate ch)
+later_line keywords.Step words = step_line words
+later_line keywords.Status words = status_line words
+later_line keywords.Result words = result_line words
+later_line keywords.Mark words = mark_line words
+later_line keywords.Unmark words = do
+  none ← no_word words
+  Ok statements.Unmark
+later_line keywords.Raise words = do
+  event ← byte_alone words
+  Ok (statements.Raise event)
+later_line keywords.Totals words = do
+  none ← no_word words
+  Ok statements.Totals
 
 -- The next line of a run script, of which nothing is read before the memory line.
 abbrev pub next_line : Option RunScript → Keyword → List (List ℕ) → Result (Option RunScript) Cause

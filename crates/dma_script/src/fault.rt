@@ -86,6 +86,16 @@ pub enum LineError {
     NoMemory,
 }
 
+impl From<Cause> for LineError {
+    ghost use Rattle.dma_script.specs.declared.fault.LineError.TheVariants.{Fault};
+
+    ghost from_gives = { λ cause e. e ≡ Fault cause };
+
+    fn from(cause: Cause) -> LineError {
+        LineError::Fault(cause)
+    }
+}
+
 impl From<AllocError> for LineError {
     ghost use Rattle.dma_script.specs.declared.fault.LineError.TheVariants.{NoMemory};
 

@@ -2,6 +2,7 @@
 //! lines that are printed.
 #![tactic(auto)]
 
+mod arguments;
 pub mod command;
 #[cfg(test)]
 mod fakes;

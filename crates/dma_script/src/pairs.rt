@@ -4,9 +4,9 @@ ghost use Rattle.dma_script.specs.Command.{text_of};
 ghost use Rattle.dma_script.specs.Words.{hex_digit_of};
 ghost use Rattle.dma_script.specs.Pairs.{PairsGives, is_gap, pair_of, pairs_fault_line, pairs_of};
 
+use crate::arguments::digit_in;
 use crate::fault::{Cause, Fault};
 use crate::printing::push_fault;
-use crate::statements::digit_in;
 use std::alloc::{AllocError, AllocFailed, Global};
 
 /// Why pairs of digits were not read.

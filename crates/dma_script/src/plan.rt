@@ -1,12 +1,12 @@
-//! The line of a plan script, and the words of a transfer with its events.
-ghost use Rattle.std.specs.Prelude.{◌≡◌, ◌++◌, ◌∷◌, [], List, map};
+//! The words of a transfer with its events, and the line of a plan script.
+ghost use Rattle.std.specs.Prelude.{◌≡◌, map};
 ghost use Rattle.std.specs.Option.{option_map};
-ghost use Rattle.dma_script.specs.Lines.{Gives, LineGives, ScriptGives};
-ghost use Rattle.dma_script.specs.Plan.{after_fixed, byte_where, events_of, number_where, plan_of, transfer_line};
+ghost use Rattle.dma_script.specs.Lines.{Gives, ScriptGives, seen_by};
+ghost use Rattle.dma_script.specs.Plan.{after_fixed, events_of, plan_of, seen_words, transfer_line, transfer_numbers, transfer_of, transfer_words};
 
+use crate::arguments::{byte_where, list_at, number_where};
 use crate::fault::{Cause, Fault, LineError, ScriptError};
 use crate::lines::{Script, first_number, read_script};
-use crate::statements::{list_at, number_at};
 use crate::words::is_text;
 use dma_mem::lists::Segments;
 use std::alloc::Global;
@@ -22,6 +22,24 @@ pub struct TransferLine {
     pub wait: Option<u8>,
     /// The event that is signalled last.
     pub signal: Option<u8>,
+}
+
+/// The words of a transfer: its two lists, and its events where there are any.
+#[derive(Clone, Copy)]
+pub(crate) struct TransferWords<'a> {
+    src: &'a [u8],
+    dst: &'a [u8],
+    wait: Option<&'a [u8]>,
+    signal: Option<&'a [u8]>,
+}
+
+/// The segments and numbers of a transfer, whose events are not yet tested against their range.
+#[derive(Drop)]
+pub(crate) struct TransferNumbers {
+    src: Segments,
+    dst: Segments,
+    wait: Option<u32>,
+    signal: Option<u32>,
 }
 
 /// A plan script: its one line.
@@ -53,64 +71,78 @@ fn after_fixed<'a, 'w>(fixed: &[u8], words: &'w [&'a [u8]]) -> (Option<&'a [u8]>
 }
 
 /// `[wait E] [signal E]`
-pub fn events_of<'a>(words: &[&'a [u8]]) -> Result<(Option<&'a [u8]>, Option<&'a [u8]>), LineError>
-    ensures { Gives (λ e. (option_map (λ word. word.now) e.0, option_map (λ word. word.now) e.1)) result (events_of (map (λ word. word.now) words.now)) }
+fn events_of<'a>(words: &[&'a [u8]]) -> Result<(Option<&'a [u8]>, Option<&'a [u8]>), Cause>
+    ensures { seen_by (λ e. (option_map (λ word. word.now) e.0, option_map (λ word. word.now) e.1)) result ≡ events_of (map (λ word. word.now) words.now) }
 {
     let (wait, words) = after_fixed(b"wait", words);
     let (signal, words) = after_fixed(b"signal", words);
     if words.is_empty() {
         Ok((wait, signal))
     } else {
-        Err(LineError::Fault(Cause::Words))
+        Err(Cause::Words)
     }
 }
 
-/// The number that a word spells, where there is a word.
-pub fn number_where(word: Option<&[u8]>) -> Result<Option<u32>, LineError>
-    ensures { Gives (λ n. n) result (number_where (option_map (λ word. word.now) word.entry)) }
+/// `LIST to LIST [wait E] [signal E]`, of which the words are counted.
+pub(crate) fn transfer_words<'a>(words: &[&'a [u8]]) -> Result<TransferWords<'a>, Cause>
+    ensures { seen_by seen_words result ≡ transfer_words (map (λ word. word.now) words.now) }
 {
-    match word {
-        None => Ok(None),
-        Some(word) => Ok(Some(number_at(word)?)),
+    let [src, to, dst, more @ ..] = words else {
+        return Err(Cause::Words);
+    };
+    if !is_text(to, b"to") {
+        return Err(Cause::Words);
     }
+    let (wait, signal) = events_of(more)?;
+    Ok(TransferWords {
+        src,
+        dst,
+        wait,
+        signal,
+    })
 }
 
-/// A number that is at most 255, where there is one.
-pub fn byte_where(number: Option<u32>) -> Result<Option<u8>, LineError>
-    ensures { Gives (λ n. n) result (byte_where number) }
+/// The segments and numbers that the words spell.
+pub(crate) fn transfer_numbers(
+    alloc: Global,
+    words: TransferWords<'_>,
+) -> Result<TransferNumbers, LineError>
+    ensures { Gives (λ numbers. numbers) result (transfer_numbers (seen_words words.entry)) }
 {
-    match number {
-        None => Ok(None),
-        Some(n) => match u8::try_from(n) {
-            Ok(byte) => Ok(Some(byte)),
-            Err(_) => Err(LineError::Fault(Cause::Range)),
-        },
-    }
+    let src = list_at(alloc, words.src)?;
+    let dst = list_at(alloc, words.dst)?;
+    let wait = number_where(words.wait)?;
+    let signal = number_where(words.signal)?;
+    Ok(TransferNumbers {
+        src,
+        dst,
+        wait,
+        signal,
+    })
+}
+
+/// The transfer, where the numbers of its events are in their range.
+pub(crate) fn transfer_of(numbers: TransferNumbers) -> Result<TransferLine, Cause>
+    ensures { result ≡ transfer_of numbers }
+{
+    let wait = byte_where(numbers.wait)?;
+    let signal = byte_where(numbers.signal)?;
+    Ok(TransferLine {
+        src: numbers.src,
+        dst: numbers.dst,
+        wait,
+        signal,
+    })
 }
 
 /// `LIST to LIST [wait E] [signal E]`
 fn transfer_line(alloc: Global, words: &[&[u8]]) -> Result<TransferLine, LineError>
     ensures { Gives (λ line. line) result (transfer_line (map (λ word. word.now) words.now)) }
 {
-    let [src, to, dst, more @ ..] = words else {
-        return Err(LineError::Fault(Cause::Words));
-    };
-    if !is_text(to, b"to") {
-        return Err(LineError::Fault(Cause::Words));
-    }
-    let (wait, signal) = events_of(more)?;
-    let src = list_at(alloc, src)?;
-    let dst = list_at(alloc, dst)?;
-    let wait_number = number_where(wait)?;
-    let signal_number = number_where(signal)?;
-    let wait = byte_where(wait_number)?;
-    let signal = byte_where(signal_number)?;
-    Ok(TransferLine {
-        src,
-        dst,
-        wait,
-        signal,
-    })
+    let words = transfer_words(words)?;
+    let numbers = transfer_numbers(alloc, words)?;
+    let line = transfer_of(numbers)?;
+    Ok(line)
 }
 
 /// What was read of a plan script so far.

@@ -1,10 +1,16 @@
 //! The lines of a run script.
-ghost use Rattle.std.specs.Prelude.{◌≡◌, ◌==◌, ◌++◌, ◌∷◌, [], IfOk, List, OnErr, OnOk, map};
+ghost use Rattle.std.specs.Prelude.{◌≡◌, ◌++◌, ◌∷◌, [], IfOk, List, OnErr, OnOk, map};
 
+use crate::arguments::{
+    byte_alone, byte_of, bytes_at, first_and_rest, list_at, no_word, number_at, number_where,
+    one_and_more, one_of, one_or_two, segment_at, three_of, two_of,
+};
 use crate::fault::{Cause, Fault, LineError, ScriptError};
 use crate::lines::{Script, read_script};
-use crate::words::{is_text, number, segment_in};
+use crate::plan::{TransferLine, transfer_numbers, transfer_of, transfer_words};
+use crate::words::is_text;
 use dma_mem::lists::{Bytes, Segments};
+use dma_mem::marks::MarkKind;
 use dma_mem::memory::MAX_SIZE;
 use dma_mem::segment::Segment;
 use std::alloc::{AllocError, Global};
@@ -12,6 +18,9 @@ use std::marker::Model;
 
 /// The most channels that a script may ask for (profile).
 pub const MAX_CHANNELS: u32 = 8;
+
+/// The most steps that a line may ask for (profile).
+pub const MAX_STEPS: u32 = 1_000_000;
 
 /// The word that begins a line.
 #[derive(Clone, Copy, Debug, PartialEq, Eq, Drop)]
@@ -24,6 +33,30 @@ pub enum Keyword {
     Read,
     /// `copy LIST to LIST`
     Copy,
+    /// `submit CH LIST to LIST [wait E] [signal E]`
+    Submit,
+    /// `issue CH`
+    Issue,
+    /// `pause CH`
+    Pause,
+    /// `resume CH`
+    Resume,
+    /// `terminate CH`
+    Terminate,
+    /// `step CH [N]`
+    Step,
+    /// `status CH COOKIE`
+    Status,
+    /// `result CH COOKIE`
+    Result,
+    /// `mark read SEG` or `mark write SEG`
+    Mark,
+    /// `unmark`
+    Unmark,
+    /// `raise E`
+    Raise,
+    /// `totals`
+    Totals,
 }
 
 /// A line of a run script after its first.
@@ -45,6 +78,70 @@ pub enum Statement {
         /// Where they go.
         dst: Segments,
     },
+    /// Submits a transfer on a channel.
+    Submit {
+        /// The channel.
+        ch: u8,
+        /// The transfer, with its events.
+        transfer: TransferLine,
+    },
+    /// Issues what was submitted on a channel.
+    Issue {
+        /// The channel.
+        ch: u8,
+    },
+    /// Pauses a channel.
+    Pause {
+        /// The channel.
+        ch: u8,
+    },
+    /// Lets a paused channel go on.
+    Resume {
+        /// The channel.
+        ch: u8,
+    },
+    /// Ends all that is unfinished on a channel.
+    Terminate {
+        /// The channel.
+        ch: u8,
+    },
+    /// Steps a channel.
+    Step {
+        /// The channel.
+        ch: u8,
+        /// How often, 1 to [`MAX_STEPS`]; 1 where it was left out.
+        count: u32,
+    },
+    /// Asks how far a transfer is.
+    Status {
+        /// The channel.
+        ch: u8,
+        /// The number that its submit line printed.
+        cookie: u32,
+    },
+    /// Asks how a transfer ended.
+    Result {
+        /// The channel.
+        ch: u8,
+        /// The number that its submit line printed.
+        cookie: u32,
+    },
+    /// Marks a segment, at which loads or stores fail.
+    Mark {
+        /// Which of them.
+        kind: MarkKind,
+        /// The segment.
+        segment: Segment,
+    },
+    /// Removes all marks.
+    Unmark,
+    /// Sets the flag of an event.
+    Raise {
+        /// The event.
+        event: u8,
+    },
+    /// Asks for the counts of the whole run.
+    Totals,
 }
 
 /// A list of statements, which contracts see as its items alone.
@@ -102,144 +199,45 @@ pub struct RunScript {
 
 ghost use Rattle.std.specs.Option.{ForSome};
 ghost use Rattle.dma_script.specs.Lines.{Gives, LineGives, ScriptGives};
-ghost use Rattle.dma_script.specs.Words.{hex_digit_of};
-ghost use Rattle.dma_script.specs.Statements.{bytes_at, copy_line, first_line, hex_after, IsWithin, keyword_of, next_line, later_line, list_at, memory_line, number_at, one_and_more, one_of, read_line, run_script_of, segment_at, three_of, two_of, write_line};
+ghost use Rattle.dma_script.specs.Statements.{channel_and_cookie, copy_line, count_of, first_line, IsWithin, keyword_of, later_line, mark_kind_of, mark_line, memory_line, next_line, read_line, result_line, run_script_of, status_line, step_line, submit_line, write_line};
 
 fn keyword_in(word: &[u8]) -> Option<Keyword>
     ensures { result ≡ keyword_of word.now }
 {
-    if is_text(word, b"memory") {
-        Some(Keyword::Memory)
-    } else if is_text(word, b"write") {
-        Some(Keyword::Write)
-    } else if is_text(word, b"read") {
-        Some(Keyword::Read)
-    } else if is_text(word, b"copy") {
-        Some(Keyword::Copy)
-    } else {
-        None
-    }
-}
-
-fn one_of<'a>(words: &[&'a [u8]]) -> Result<&'a [u8], LineError>
-    ensures { Gives (λ a. a.now) result (one_of (map (λ word. word.now) words.now)) }
-{
-    match words {
-        [a] => Ok(*a),
-        _ => Err(LineError::Fault(Cause::Words)),
-    }
-}
-
-fn two_of<'a>(words: &[&'a [u8]]) -> Result<(&'a [u8], &'a [u8]), LineError>
-    ensures { Gives (λ w. (w.0.now, w.1.now)) result (two_of (map (λ word. word.now) words.now)) }
-{
-    match words {
-        [a, b] => Ok((*a, *b)),
-        _ => Err(LineError::Fault(Cause::Words)),
-    }
-}
-
-fn three_of<'a>(words: &[&'a [u8]]) -> Result<(&'a [u8], &'a [u8], &'a [u8]), LineError>
-    ensures { Gives (λ w. (w.0.now, w.1.now, w.2.now)) result (three_of (map (λ word. word.now) words.now)) }
-{
-    match words {
-        [a, b, c] => Ok((*a, *b, *c)),
-        _ => Err(LineError::Fault(Cause::Words)),
-    }
-}
-
-fn one_and_more<'a, 'w>(words: &'w [&'a [u8]]) -> Result<(&'a [u8], &'w [&'a [u8]]), LineError>
-    ensures { Gives (λ w. (w.0.now, map (λ word. word.now) w.1.now)) result (one_and_more (map (λ word. word.now) words.now)) }
-{
-    match words {
-        [] | [_] => Err(LineError::Fault(Cause::Words)),
-        [a, more @ ..] => Ok((*a, more)),
-    }
-}
-
-/// The number that a word spells.
-pub(crate) fn number_at(word: &[u8]) -> Result<u32, LineError>
-    ensures { Gives (λ n. n) result (number_at word.now) }
-{
-    number(word).ok_or(LineError::Fault(Cause::Number))
-}
-
-fn segment_at(word: &[u8]) -> Result<Segment, LineError>
-    ensures { Gives (λ s. s) result (segment_at word.now) }
-{
-    segment_in(word).ok_or(LineError::Fault(Cause::Number))
-}
-
-fn is_comma(byte: u8) -> bool
-    ensures { result ≡ (byte == 44) }
-{
-    byte == b','
-}
-
-/// The segments that a word spells.
-pub(crate) fn list_at(alloc: Global, word: &[u8]) -> Result<Segments, LineError>
-    ensures { Gives (λ list. list) result (list_at word.now) }
-{
-    let mut list = Segments::new(alloc);
-    for part in word.split(|b| is_comma(*b)) {
-        list.push(segment_at(part)?)?;
-    }
-    Ok(list)
-}
-
-/// The value of a hexadecimal digit.
-pub(crate) fn digit_in(byte: u8) -> Option<u8>
-    ensures { result ≡ hex_digit_of byte }
-{
-    match byte {
-        b'0'..=b'9' => Some(byte - b'0'),
-        b'a'..=b'f' => Some(byte - b'a' + 10),
-        b'A'..=b'F' => Some(byte - b'A' + 10),
+    match word {
+        _ if is_text(word, b"memory") => Some(Keyword::Memory),
+        _ if is_text(word, b"write") => Some(Keyword::Write),
+        _ if is_text(word, b"read") => Some(Keyword::Read),
+        _ if is_text(word, b"copy") => Some(Keyword::Copy),
+        _ if is_text(word, b"submit") => Some(Keyword::Submit),
+        _ if is_text(word, b"issue") => Some(Keyword::Issue),
+        _ if is_text(word, b"pause") => Some(Keyword::Pause),
+        _ if is_text(word, b"resume") => Some(Keyword::Resume),
+        _ if is_text(word, b"terminate") => Some(Keyword::Terminate),
+        _ if is_text(word, b"step") => Some(Keyword::Step),
+        _ if is_text(word, b"status") => Some(Keyword::Status),
+        _ if is_text(word, b"result") => Some(Keyword::Result),
+        _ if is_text(word, b"mark") => Some(Keyword::Mark),
+        _ if is_text(word, b"unmark") => Some(Keyword::Unmark),
+        _ if is_text(word, b"raise") => Some(Keyword::Raise),
+        _ if is_text(word, b"totals") => Some(Keyword::Totals),
         _ => None,
     }
 }
 
-/// Appends the bytes of a word of hexadecimal digits.
-fn push_hex(bytes: &mut Bytes, word: &[u8]) -> Result<(), LineError>
-    ensures { LineGives result bytes.new (hex_after bytes.old word.now) }
-{
-    let mut rest = word;
-    while let [high, low, after @ ..] = rest {
-        let high = digit_in(*high).ok_or(LineError::Fault(Cause::Hex))?;
-        let low = digit_in(*low).ok_or(LineError::Fault(Cause::Hex))?;
-        bytes.push(16 * high + low)?;
-        rest = after;
-    }
-    if rest.is_empty() {
-        Ok(())
-    } else {
-        Err(LineError::Fault(Cause::Hex))
-    }
-}
-
-fn bytes_at(alloc: Global, words: &[&[u8]]) -> Result<Bytes, LineError>
-    ensures { Gives (λ bytes. bytes) result (bytes_at (map (λ word. word.now) words.now)) }
-{
-    let mut bytes = Bytes::new(alloc);
-    for word in words {
-        push_hex(&mut bytes, word)?;
-    }
-    Ok(bytes)
-}
-
 /// `memory SIZE CHANNELS`
-fn memory_line(alloc: Global, words: &[&[u8]]) -> Result<RunScript, LineError>
-    ensures line { Gives (λ script. script) result (memory_line (map (λ word. word.now) words.now)) }
+fn memory_line(alloc: Global, words: &[&[u8]]) -> Result<RunScript, Cause>
+    ensures line { result ≡ memory_line (map (λ word. word.now) words.now) }
     ensures within { IfOk result IsWithin }
 {
     let (size, channels) = two_of(words)?;
     let size = number_at(size)?;
     let channels = number_at(channels)?;
     if !(1..=MAX_SIZE).contains(&size) {
-        return Err(LineError::Fault(Cause::SizeOutOfRange));
+        return Err(Cause::SizeOutOfRange);
     }
     if !(1..=MAX_CHANNELS).contains(&channels) {
-        return Err(LineError::Fault(Cause::BadChannels));
+        return Err(Cause::BadChannels);
     }
     Ok(RunScript {
         size,
@@ -259,8 +257,8 @@ fn write_line(alloc: Global, words: &[&[u8]]) -> Result<Statement, LineError>
 }
 
 /// `read SEG`
-fn read_line(words: &[&[u8]]) -> Result<Statement, LineError>
-    ensures { Gives (λ line. line) result (read_line (map (λ word. word.now) words.now)) }
+fn read_line(words: &[&[u8]]) -> Result<Statement, Cause>
+    ensures { result ≡ read_line (map (λ word. word.now) words.now) }
 {
     let segment = segment_at(one_of(words)?)?;
     Ok(Statement::Read(segment))
@@ -279,14 +277,105 @@ fn copy_line(alloc: Global, words: &[&[u8]]) -> Result<Statement, LineError>
     Ok(Statement::Copy { src, dst })
 }
 
+/// `submit CH LIST to LIST [wait E] [signal E]`
+fn submit_line(alloc: Global, words: &[&[u8]]) -> Result<Statement, LineError>
+    ensures { Gives (λ line. line) result (submit_line (map (λ word. word.now) words.now)) }
+{
+    let (ch, words) = first_and_rest(words)?;
+    let words = transfer_words(words)?;
+    let number = number_at(ch)?;
+    let numbers = transfer_numbers(alloc, words)?;
+    let ch = byte_of(number)?;
+    let transfer = transfer_of(numbers)?;
+    Ok(Statement::Submit { ch, transfer })
+}
+
+/// The count of a step line.
+fn count_of(count: Option<u32>) -> Result<u32, Cause>
+    ensures { result ≡ count_of count }
+{
+    match count {
+        None => Ok(1),
+        Some(n) => {
+            if (1..=MAX_STEPS).contains(&n) {
+                Ok(n)
+            } else {
+                Err(Cause::Range)
+            }
+        }
+    }
+}
+
+/// `step CH [N]`
+fn step_line(words: &[&[u8]]) -> Result<Statement, Cause>
+    ensures { result ≡ step_line (map (λ word. word.now) words.now) }
+{
+    let (ch, steps) = one_or_two(words)?;
+    let number = number_at(ch)?;
+    let steps = number_where(steps)?;
+    let ch = byte_of(number)?;
+    let count = count_of(steps)?;
+    Ok(Statement::Step { ch, count })
+}
+
+/// `CH COOKIE`
+fn channel_and_cookie(words: &[&[u8]]) -> Result<(u8, u32), Cause>
+    ensures { result ≡ channel_and_cookie (map (λ word. word.now) words.now) }
+{
+    let (ch, cookie) = two_of(words)?;
+    let number = number_at(ch)?;
+    let cookie = number_at(cookie)?;
+    let ch = byte_of(number)?;
+    Ok((ch, cookie))
+}
+
+/// `status CH COOKIE`
+fn status_line(words: &[&[u8]]) -> Result<Statement, Cause>
+    ensures { result ≡ status_line (map (λ word. word.now) words.now) }
+{
+    let (ch, cookie) = channel_and_cookie(words)?;
+    Ok(Statement::Status { ch, cookie })
+}
+
+/// `result CH COOKIE`
+fn result_line(words: &[&[u8]]) -> Result<Statement, Cause>
+    ensures { result ≡ result_line (map (λ word. word.now) words.now) }
+{
+    let (ch, cookie) = channel_and_cookie(words)?;
+    Ok(Statement::Result { ch, cookie })
+}
+
+/// What a mark makes fail.
+fn mark_kind_in(word: &[u8]) -> Option<MarkKind>
+    ensures { result ≡ mark_kind_of word.now }
+{
+    if is_text(word, b"read") {
+        Some(MarkKind::Reading)
+    } else if is_text(word, b"write") {
+        Some(MarkKind::Writing)
+    } else {
+        None
+    }
+}
+
+/// `mark read SEG` or `mark write SEG`
+fn mark_line(words: &[&[u8]]) -> Result<Statement, Cause>
+    ensures { result ≡ mark_line (map (λ word. word.now) words.now) }
+{
+    let (kind, segment) = two_of(words)?;
+    let kind = mark_kind_in(kind).ok_or(Cause::Words)?;
+    let segment = segment_at(segment)?;
+    Ok(Statement::Mark { kind, segment })
+}
+
 /// The first line, by its keyword and the words after that.
-fn first_line(alloc: Global, keyword: Keyword, words: &[&[u8]]) -> Result<RunScript, LineError>
-    ensures line { Gives (λ script. script) result (first_line keyword (map (λ word. word.now) words.now)) }
+fn first_line(alloc: Global, keyword: Keyword, words: &[&[u8]]) -> Result<RunScript, Cause>
+    ensures line { result ≡ first_line keyword (map (λ word. word.now) words.now) }
     ensures within { IfOk result IsWithin }
 {
     match keyword {
         Keyword::Memory => memory_line(alloc, words),
-        Keyword::Write | Keyword::Read | Keyword::Copy => Err(LineError::Fault(Cause::First)),
+        _ => Err(Cause::First),
     }
 }
 
@@ -297,8 +386,36 @@ fn later_line(alloc: Global, keyword: Keyword, words: &[&[u8]]) -> Result<Statem
     match keyword {
         Keyword::Memory => Err(LineError::Fault(Cause::First)),
         Keyword::Write => write_line(alloc, words),
-        Keyword::Read => read_line(words),
+        Keyword::Read => Ok(read_line(words)?),
         Keyword::Copy => copy_line(alloc, words),
+        Keyword::Submit => submit_line(alloc, words),
+        Keyword::Issue => Ok(Statement::Issue {
+            ch: byte_alone(words)?,
+        }),
+        Keyword::Pause => Ok(Statement::Pause {
+            ch: byte_alone(words)?,
+        }),
+        Keyword::Resume => Ok(Statement::Resume {
+            ch: byte_alone(words)?,
+        }),
+        Keyword::Terminate => Ok(Statement::Terminate {
+            ch: byte_alone(words)?,
+        }),
+        Keyword::Step => Ok(step_line(words)?),
+        Keyword::Status => Ok(status_line(words)?),
+        Keyword::Result => Ok(result_line(words)?),
+        Keyword::Mark => Ok(mark_line(words)?),
+        Keyword::Unmark => {
+            no_word(words)?;
+            Ok(Statement::Unmark)
+        }
+        Keyword::Raise => Ok(Statement::Raise {
+            event: byte_alone(words)?,
+        }),
+        Keyword::Totals => {
+            no_word(words)?;
+            Ok(Statement::Totals)
+        }
     }
 }
 

@@ -101,7 +101,7 @@ fn longest_inputs(rt: HostRuntime) -> Result<(), Fail> {
 
 #[test]
 fn no_faults(rt: HostRuntime) -> Result<(), Fail> {
-    let cases: [&[u8]; 12] = [
+    let cases: [&[u8]; 16] = [
         b"memory 1 1",
         b"memory 16777216 8\n",
         b"\n \t\n# any bytes: \x00\x80\xFF\r\r\n#\n\t memory\t 0x40  0x1 \r\nread 0+0",
@@ -114,6 +114,10 @@ fn no_faults(rt: HostRuntime) -> Result<(), Fail> {
         b"memory 64 1\ncopy 1+2,3+4 to 5+6",
         b"memory 64 1\ncopy 0+0 to 0+0\n\n",
         b"memory 64 1\n #read\nread 0+1",
+        b"memory 64 1\nsubmit 255 1+2,3+4 to 5+6 wait 0xFF signal 255\nsubmit 0 0+0 to 0+0 signal 0",
+        b"memory 64 1\nissue 255\npause 255\nresume 255\nterminate 255\nraise 255",
+        b"memory 64 1\nstep 255\nstep 255 1\nstep 0 1000000",
+        b"memory 64 1\nstatus 255 4294967295\nresult 255 0\nmark write 4294967295+4294967295",
     ];
     for input in cases {
         assert_eq!(rt; fault_of(rt.alloc(), input)?, None);
@@ -166,7 +170,7 @@ fn faults_of_words(rt: HostRuntime) -> Result<(), Fail> {
         (b"\x0B", Cause::Byte),
         (b"Read 0+1", Cause::Command),
         (b"readx 0+1", Cause::Command),
-        (b"submit 0 0+4 to 8+4", Cause::Command),
+        (b"go", Cause::Command),
         (b"read", Cause::Words),
         (b"read 0+1 #", Cause::Words),
         (b"write 0", Cause::Words),
@@ -192,6 +196,58 @@ fn faults_of_words(rt: HostRuntime) -> Result<(), Fail> {
         (b"write 0 0", Cause::Hex),
         (b"write 0 0x00", Cause::Hex),
         (b"write 0 00 A AA", Cause::Hex),
+    ];
+    for (line, cause) in cases {
+        let mut input = b"memory 64 1\n".to_vec(rt.alloc())?;
+        input.extend_from_slice(line)?;
+        assert_eq!(rt; fault_of(rt.alloc(), &input)?, fault(2, cause));
+    }
+    Ok(())
+}
+
+#[test]
+fn faults_of_channel_lines(rt: HostRuntime) -> Result<(), Fail> {
+    let cases: [(&[u8], Cause); 40] = [
+        (b"submit", Cause::Words),
+        (b"submit 0", Cause::Words),
+        (b"submit x 0+4 to 8+4 wait", Cause::Words),
+        (b"submit x 0+4 too 8+4", Cause::Words),
+        (b"submit 0 0+4 to 8+4 signal 1 wait 2", Cause::Words),
+        (b"submit 256 x to 8+4", Cause::Number),
+        (b"submit x 0+4 to 8+4 wait 300", Cause::Number),
+        (b"submit 256 0+4 to 8+4 wait signal", Cause::Number),
+        (b"submit 256 0+4 to 8+4", Cause::Range),
+        (b"submit 256 0+4 to 8+4 wait 300", Cause::Range),
+        (b"submit 0 0+4 to 8+4 wait 300", Cause::Range),
+        (b"submit 0 0+4 to 8+4 signal 256", Cause::Range),
+        (b"issue", Cause::Words),
+        (b"issue x 0", Cause::Words),
+        (b"issue x", Cause::Number),
+        (b"issue 256", Cause::Range),
+        (b"pause 256", Cause::Range),
+        (b"resume 4294967296", Cause::Number),
+        (b"terminate 300 1", Cause::Words),
+        (b"step", Cause::Words),
+        (b"step x 0 0", Cause::Words),
+        (b"step 256 x", Cause::Number),
+        (b"step 256", Cause::Range),
+        (b"step 0 0", Cause::Range),
+        (b"step 0 1000001", Cause::Range),
+        (b"status 0", Cause::Words),
+        (b"status 256 x", Cause::Number),
+        (b"status 256 4294967295", Cause::Range),
+        (b"result 0 4294967296", Cause::Number),
+        (b"result 256 1", Cause::Range),
+        (b"mark red 0+1", Cause::Words),
+        (b"mark red x", Cause::Words),
+        (b"mark read", Cause::Words),
+        (b"mark read 1", Cause::Number),
+        (b"unmark 0", Cause::Words),
+        (b"unmarked", Cause::Command),
+        (b"raise", Cause::Words),
+        (b"raise x", Cause::Number),
+        (b"raise 300", Cause::Range),
+        (b"totals totals", Cause::Words),
     ];
     for (line, cause) in cases {
         let mut input = b"memory 64 1\n".to_vec(rt.alloc())?;
@@ -247,6 +303,56 @@ fn statements(rt: HostRuntime) -> Result<(), Fail> {
         .as_slice()
     );
     assert_eq!(rt; *segment, Segment { addr: 0x1F, len: 5 });
+    Ok(())
+}
+
+/// The only statement of a script, as its debug text.
+fn statement_text(alloc: Global, line: &[u8]) -> Result<String, Fail> {
+    let mut input = b"memory 64 1\n".to_vec(alloc)?;
+    input.extend_from_slice(line)?;
+    let script = read_run_script(alloc, &input).ok().ok_or("a script")?;
+    match script.statements.as_slice() {
+        [statement] => Ok(format!(in alloc; "{statement:?}")?),
+        _ => Err(Fail::from("one statement")),
+    }
+}
+
+#[test]
+fn each_statement(rt: HostRuntime) -> Result<(), Fail> {
+    let cases: [(&[u8], &str); 15] = [
+        (b"read 0x1F+5", "Read(Segment { addr: 31, len: 5 })"),
+        (b"issue 2", "Issue { ch: 2 }"),
+        (b"pause 3", "Pause { ch: 3 }"),
+        (b"resume 4", "Resume { ch: 4 }"),
+        (b"terminate 5", "Terminate { ch: 5 }"),
+        (b"step 6", "Step { ch: 6, count: 1 }"),
+        (b"step 0x7 1000000", "Step { ch: 7, count: 1000000 }"),
+        (b"status 8 9", "Status { ch: 8, cookie: 9 }"),
+        (
+            b"result 255 4294967295",
+            "Result { ch: 255, cookie: 4294967295 }",
+        ),
+        (
+            b"mark read 1+2",
+            "Mark { kind: Reading, segment: Segment { addr: 1, len: 2 } }",
+        ),
+        (
+            b"mark write 3+4",
+            "Mark { kind: Writing, segment: Segment { addr: 3, len: 4 } }",
+        ),
+        (b"unmark", "Unmark"),
+        (b"raise 255", "Raise { event: 255 }"),
+        (b"totals", "Totals"),
+        (
+            b"submit 1 0+4 to 8+4 wait 3 signal 255",
+            "Submit { ch: 1, transfer: TransferLine { src: Segments { segments: [Segment { addr: 0, len: 4 }] }, \
+                dst: Segments { segments: [Segment { addr: 8, len: 4 }] }, wait: Some(3), signal: Some(255) } }",
+        ),
+    ];
+    for (line, text) in cases {
+        let told = statement_text(rt.alloc(), line)?;
+        assert_eq!(rt; told.as_str(), text);
+    }
     Ok(())
 }
 

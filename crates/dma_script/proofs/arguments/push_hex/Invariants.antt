@@ -1,7 +1,7 @@
 -- Reading the rest of the word behind the bytes so far is reading the whole word.
 use Rattle.std.proofs.Common.{◌≡◌, length}
-use Rattle.dma_script.specs.Statements.{hex_after}
-use Rattle.dma_script.proofs.statements.push_hex.Given as goal
+use Rattle.dma_script.specs.Arguments.{hex_after}
+use Rattle.dma_script.proofs.arguments.push_hex.Given as goal
 
 abbrev pub invariant-loop-rest : goal.invariant-loop-rest
 invariant-loop-rest l = hex_after l.bytes l.rest ≡ hex_after l.initial.bytes l.word

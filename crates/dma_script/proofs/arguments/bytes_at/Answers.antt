@@ -1,7 +1,7 @@
 use Rattle.std.proofs.Common.{◌∙◌}
 use Rattle.std.proofs.lemmas.Result.{err_from_is_err_and}
 use Rattle.dma_script.proofs.HexLemmas.{bytes_after_more, bytes_at_fault}
-use Rattle.dma_script.proofs.statements.bytes_at.Goals as goal
+use Rattle.dma_script.proofs.arguments.bytes_at.Goals as goal
 
 pub loop-word-preserved : goal.loop-word-preserved
 loop-word-preserved c =

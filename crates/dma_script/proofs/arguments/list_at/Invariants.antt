@@ -1,7 +1,7 @@
 -- The parts so far are segments, and the list has them.
 use Rattle.std.proofs.Common.{◌≡◌, map, take, length, Some}
 use Rattle.dma_script.specs.Words.{each_of, segment_of, parts_at}
-use Rattle.dma_script.proofs.statements.list_at.Given as goal
+use Rattle.dma_script.proofs.arguments.list_at.Given as goal
 
 abbrev pub invariant-loop-part : goal.invariant-loop-part
 invariant-loop-part l = record {

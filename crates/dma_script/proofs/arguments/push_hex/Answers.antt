@@ -1,9 +1,9 @@
 use Rattle.std.proofs.Common.{◌≡◌, ◌∙◌, ap, get_or, length, take, drop, ◌-◌, Some, rules, arith, ◌++◌, ◌∷◌, [], ◌+◌, ◌*◌}
 use Rattle.std.proofs.lemmas.List.{take_rest}
 use Rattle.dma_script.specs.Words.{hex_digit_of}
-use Rattle.dma_script.specs.Statements.{hex_after}
+use Rattle.dma_script.specs.Arguments.{hex_after}
 use Rattle.dma_script.proofs.HexLemmas.{hex_after_pair}
-use Rattle.dma_script.proofs.statements.push_hex.Goals as goal
+use Rattle.dma_script.proofs.arguments.push_hex.Goals as goal
 
 pub loop-rest-preserved : goal.loop-rest-preserved
 loop-rest-preserved c =
