@@ -12,8 +12,9 @@ PROGRAM = os.path.join(HERE, "..", "crates", "dmasim", "out", "dmasim")
 TURNS = 5
 
 
-def script(name):
-    return subprocess.run([sys.executable, os.path.join(HERE, name)], check=True, stdout=subprocess.PIPE).stdout
+def script(name, *words):
+    command = [sys.executable, os.path.join(HERE, name)] + [str(word) for word in words]
+    return subprocess.run(command, check=True, stdout=subprocess.PIPE).stdout
 
 
 def best(action):
@@ -53,6 +54,11 @@ def main():
     copies = script("copy_script.py")
     assert run(copies).count(b"finished") == 100
     report("100 copies of 1 MiB", best(lambda: run(copies)), memcpy(1 << 20, 100), "memcpy 100 x 1 MiB   ")
+    for count in (1000, 10000, 100000):
+        submits = script("submit_script.py", count)
+        assert run(submits).count(b"finished") == count
+        seconds = best(lambda: run(submits)) - empty
+        print("%6d submits of 4 bytes %10.1f ms   %.2f us for each" % (count, 1000 * seconds, 1e6 * seconds / count))
 
 
 main()

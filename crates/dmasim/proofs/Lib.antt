@@ -4,3 +4,4 @@ pub mod StepLemmas
 pub mod CopyLemmas
 pub mod DisLemmas
 pub mod PlanLemmas
+pub mod Rows

@@ -101,7 +101,8 @@ stepped_through (suc n) v =
 abbrev pub copy_line : Reply → List ℕ
 copy_line reply = codes "copy " ++ reply_text reply
 
--- What was submitted to channel 0 is issued and stepped through. (No transfer takes MOST_STEPS steps.)
+-- What was submitted to channel 0 is issued and stepped through. (Every transfer takes fewer steps than
+-- MOST_STEPS: see `CostIs` of dma_chan.)
 abbrev pub carried_through : View → Answered
 carried_through v =
     let last = stepped_through MOST_STEPS (answer v (calls.Issue 0)).1 in told (copy_line last.0) last.1

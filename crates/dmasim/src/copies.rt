@@ -11,8 +11,8 @@ use dma_mem::transfer::Transfer;
 use dma_script::printing::push_line;
 use std::alloc::{AllocError, Global};
 
-/// More steps than any transfer takes: it has at most 1,048,576 bytes, and each of its bursts at most a few instructions.
-pub const MOST_STEPS: u32 = 16_777_216;
+/// More steps than any transfer takes, which are its start and fewer than 2^19 instructions (`dma_chan::laws::costs_little`).
+pub const MOST_STEPS: u32 = 524_288;
 
 /// Whether channel 0 has an unfinished cookie, or is paused or halted.
 fn is_in_use(engine: &Engine) -> bool

@@ -10,6 +10,8 @@ mod printing;
 mod run;
 mod steps;
 #[cfg(test)]
+mod run_tests;
+#[cfg(test)]
 mod tests;
 
 use asm::asm_main;

@@ -6,7 +6,7 @@ ghost use Rattle.dmasim.specs.Run.{line_answer, lines_answered, printed, Answers
 use crate::calls::{answer_call, submit_line, totals_line, write_line};
 use crate::copies::answer_copy;
 use crate::steps::answer_steps;
-use dma_engine::{Call, Engine};
+use dma_engine::{Call, Engine, NewFault};
 use dma_script::command::{Command, FAULT, SUCCESS, serve};
 use dma_script::fault::ScriptError;
 use dma_script::input::{LONGEST_INPUT, Source};
@@ -93,8 +93,10 @@ impl Command for Run {
     fn answer(&self, alloc: Global, input: &[u8], out: &mut Vec<u8>) -> Result<u8, AllocError> {
         match read_run_script(alloc, input) {
             Ok(script) => {
-                let Ok(mut engine) = Engine::new(alloc, script.size, script.channels as u8) else {
-                    return Err(AllocError);
+                let mut engine = match Engine::new(alloc, script.size, script.channels as u8) {
+                    Ok(engine) => engine,
+                    Err(NewFault::NoMemory) => return Err(AllocError),
+                    Err(NewFault::BadChannels | NewFault::SizeOutOfRange) => unreachable!(),
                 };
                 carry_out_all(alloc, &mut engine, script.statements.as_slice(), out)?;
                 Ok(SUCCESS)

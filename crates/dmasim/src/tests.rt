@@ -33,7 +33,7 @@ impl Sink for Kept {
 }
 
 /// The status of a run, and what it printed.
-fn run(alloc: Global, input: &[u8]) -> (u8, Vec<u8>) {
+pub fn run(alloc: Global, input: &[u8]) -> (u8, Vec<u8>) {
     let mut reader = input;
     let mut writer = Kept {
         bytes: Vec::new(alloc),
@@ -216,7 +216,7 @@ fn whole_runs(rt: HostRuntime) -> Result<(), Fail> {
             b"refused EmptySegment\nrefused TotalsDiffer\nrefused TooLong\nrefused DestinationsMeet\nrefused SegmentWraps\n",
         ),
         (
-            b"memory 64 1\nwrite 0 AA\nstep 0\n",
+            b"memory 64 1\nwrite 0 AA\nstop 0\n",
             1,
             b"line 3: Command\n",
         ),
