@@ -1,6 +1,6 @@
 -- Small scripts, and what each of their lines prints, computed from the definitions.
 use Rattle.std.proofs.Common.{◌≡◌, ℕ, List, [], ◌∷◌, ◌++◌, refl}
-use Rattle.std.specs.Prelude.{String, codes, decimal}
+use Rattle.std.specs.Prelude.{codes, decimal}
 use Rattle.dma_mem.specs.Image.{put, after_moves, over}
 use Rattle.dma_mem.specs.Places.{share}
 use Rattle.dma_engine.specs.Object.{opening}
@@ -22,8 +22,8 @@ one_each [] = []
 one_each (line ∷ rest) = (line ∷ []) ∷ one_each rest
 
 -- words and a number
-abbrev numbered : String → ℕ → List ℕ
-numbered words n = codes words ++ decimal n
+abbrev numbered : List ℕ → ℕ → List ℕ
+numbered words n = words ++ decimal n
 
 no_line : (printed []).groups ≡ one_each (fault_line (record { line = 0; cause = First }) ∷ [])
 no_line = refl
@@ -39,10 +39,10 @@ rules : (printed (script (codes "memory 8 1" ∷ codes "copy 0+0 to 4+0" ∷ cod
 unfolding put after_moves opening share running
 rules = refl
 
-queues : (printed (script (codes "memory 8 1" ∷ codes "submit 0 0+2 to 2+2" ∷ codes "status 0 1" ∷ codes "copy 0+2 to 2+2" ∷ codes "issue 0" ∷ codes "terminate 0" ∷ codes "result 0 1" ∷ codes "status 0 1" ∷ codes "step 0 2" ∷ []))).groups ≡ [] ∷ one_each (numbered "cookie " 1 ∷ codes "status InProgress" ∷ codes "refused ChannelInUse" ∷ numbered "issued " 1 ∷ numbered "aborted " 1 ∷ numbered "result Aborted residue " 2 ∷ codes "status Complete" ∷ step_line 0 (codes "nothing", 2) ∷ [])
+queues : (printed (script (codes "memory 8 1" ∷ codes "submit 0 0+2 to 2+2" ∷ codes "status 0 1" ∷ codes "copy 0+2 to 2+2" ∷ codes "issue 0" ∷ codes "terminate 0" ∷ codes "result 0 1" ∷ codes "status 0 1" ∷ codes "step 0 2" ∷ []))).groups ≡ [] ∷ one_each (numbered (codes "cookie ") 1 ∷ codes "status InProgress" ∷ codes "refused ChannelInUse" ∷ numbered (codes "issued ") 1 ∷ numbered (codes "aborted ") 1 ∷ numbered (codes "result Aborted residue ") 2 ∷ codes "status Complete" ∷ step_line 0 (codes "nothing", 2) ∷ [])
 unfolding put after_moves opening share running
 queues = refl
 
-pauses : (printed (script (codes "memory 8 1" ∷ codes "submit 0 0+2 to 2+2" ∷ codes "issue 0" ∷ codes "pause 0" ∷ codes "step 0 3" ∷ codes "resume 0" ∷ codes "step 0" ∷ codes "write 0 AA" ∷ codes "read 4+1" ∷ []))).groups ≡ [] ∷ one_each (numbered "cookie " 1 ∷ numbered "issued " 1 ∷ codes "ok" ∷ step_line 0 (codes "paused", 3) ∷ codes "ok" ∷ step_line 0 (numbered "started " 1, 1) ∷ refused_line (fault_text (Busy 0 1)) ∷ codes "read 0x00000004 00" ∷ [])
+pauses : (printed (script (codes "memory 8 1" ∷ codes "submit 0 0+2 to 2+2" ∷ codes "issue 0" ∷ codes "pause 0" ∷ codes "step 0 3" ∷ codes "resume 0" ∷ codes "step 0" ∷ codes "write 0 AA" ∷ codes "read 4+1" ∷ []))).groups ≡ [] ∷ one_each (numbered (codes "cookie ") 1 ∷ numbered (codes "issued ") 1 ∷ codes "ok" ∷ step_line 0 (codes "paused", 3) ∷ codes "ok" ∷ step_line 0 (numbered (codes "started ") 1, 1) ∷ refused_line (fault_text (Busy 0 1)) ∷ codes "read 0x00000004 00" ∷ [])
 unfolding put after_moves opening share running
 pauses = refl
