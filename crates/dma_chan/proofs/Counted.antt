@@ -1,20 +1,19 @@
 -- How many instructions running a tree executes, counted without writing them out, and a bound for a transfer's.
-use Rattle.std.proofs.Common.{◌≡◌, ℕ, zero, suc, ◌+◌, ◌*◌, ◌/◌, ◌%◌, ◌^◌, ◌≤◌, ◌<◌, List, [], ◌∷◌, length, map, Option, Some, None, refl, ap, ◌∙◌, arith, length-append}
+use Rattle.std.proofs.Common.{◌≡◌, ℕ, zero, suc, ◌+◌, ◌*◌, ◌/◌, ◌%◌, ◌^◌, ◌≤◌, List, [], ◌∷◌, length, map, Option, Some, None, refl, ap, ◌∙◌, arith, length-append}
 use Rattle.std.proofs.Math.Nat.{div-mul-le_self}
-use Rattle.std.specs.List.{AllByRecursion, range_with_len}
+use Rattle.std.specs.List.{range_with_len}
 use Rattle.std.proofs.lemmas.List.FromFn.{length-range_with_len}
 use Rattle.dma_insn.specs.declared.insn.Counter.TheVariants.{Lc0, Lc1}
 use Rattle.dma_insn.specs.declared.insn.Insn.{Insn}
 use Rattle.dma_insn.specs.declared.insn.Insn.TheVariants.{LpEnd}
 use Rattle.dma_mem.specs.Places.{Descriptor}
-use Rattle.dma_mem.specs.Rules.{IsTransfer}
 use Rattle.dma_chan.specs.declared.pieces.Piece.{Piece}
-use Rattle.dma_chan.specs.Pieces.{pieces, pieces_of}
+use Rattle.dma_chan.specs.Pieces.{pieces_of}
 use Rattle.dma_chan.specs.Tree.{Tree, One, Then, Nothing, Repeat, bytes_of, unrolled, times, turn_of, cost_of, in_order}
 use Rattle.dma_chan.specs.Compiled.{members, cost, tree_of, piece_tree, parts, where_some, under, bursts, body, beat_of, control_word, wait_tree, signal_tree}
 use Rattle.dma_chan.specs.Layer.{CostIs}
-use Rattle.dma_chan.proofs.Cuts.{IsPiece, read_by}
-use Rattle.dma_chan.proofs.Spelled.{cut_well, pieces_few, byte_count-places}
+use Rattle.dma_chan.proofs.Cuts.{read_by}
+use Rattle.dma_chan.proofs.Spelled.{cut_well, pieces_few}
 use Rattle.dma_chan.proofs.Words.{beat_right}
 
 -- the number by the tree alone
