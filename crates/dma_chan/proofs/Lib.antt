@@ -11,6 +11,7 @@ pub mod Where
 pub mod Spelled
 pub mod Walk
 pub mod Words
+pub mod Counted
 pub mod Sound
 pub mod Carry
 pub mod Numbered

@@ -2,13 +2,14 @@
 use Rattle.std.proofs.Common.{◌≡◌, ℕ, zero, suc, ◌+◌, ◌*◌, ◌/◌, ◌%◌, ◌^◌, ◌<◌, ◌≤◌, List, [], ◌∷◌, ◌++◌, length, refl, sym, ap, ◌∙◌, arith, drop, get_or, map, drop-cons, add-one, append_assoc, length-append, Option, Some, None}
 use Rattle.std.specs.List.{AllByRecursion, All, range_with_len}
 use Rattle.std.proofs.lemmas.List.Elements.{All-from_recursion, All-head, All-tail}
+use Rattle.std.proofs.lemmas.List.{drop_all}
 use Rattle.std.proofs.lemmas.List.FromFn.{length-range_with_len}
 use Rattle.dma_mem.specs.declared.segment.Segment.{Segment}
 use Rattle.dma_mem.specs.Places.{Descriptor, places}
 use Rattle.dma_mem.specs.Rules.{IsTransfer, IsSegmentList}
 use Rattle.dma_chan.specs.declared.pieces.Piece.{Piece}
 use Rattle.dma_chan.specs.Pieces.{pieces, pieces_of, byte_count, IsRange}
-use Rattle.dma_chan.specs.Tree.{Tree, bytes_of, cost_of, in_order}
+use Rattle.dma_chan.specs.Tree.{Tree, bytes_of, unrolled, cost_of, in_order}
 use Rattle.dma_chan.specs.Compiled.{piece_tree, beat_of, parts, where_some, under, control_word, bursts, body, wait_tree, signal_tree, tree_of}
 use Rattle.dma_chan.proofs.Cuts.{IsPiece, Pieces, pieces_right}
 
@@ -21,11 +22,18 @@ rest_more ps i d old now new h e inv =
 
 -- what is left to count
 pub cost_more : (ps : List Piece) (i : ℕ) (d : Piece) (all now c : ℕ) → i < length ps → c ≡ cost_of (piece_tree (get_or ps i d)) → now + cost_of (in_order (map piece_tree (drop i ps))) ≡ all → now + c + cost_of (in_order (map piece_tree (drop (i + 1) ps))) ≡ all
+unfolding cost_of
 cost_more ps i d all now c h e inv =
     let cut : drop i ps ≡ get_or ps i d ∷ drop (i + 1) ps = drop-cons ps i d h ∙ rw add-one refl in
-    let rest = cost_of (in_order (map piece_tree (drop (i + 1) ps))) in
-    let one : cost_of (in_order (map piece_tree (drop i ps))) ≡ c + rest = ap (λ (xs : List Piece). cost_of (in_order (map piece_tree xs))) cut ∙ ap (λ (n : ℕ). n + rest) (sym e) in
-    omega arith
+    let first = piece_tree (get_or ps i d) in
+    let rest = in_order (map piece_tree (drop (i + 1) ps)) in
+    let one : cost_of (in_order (map piece_tree (drop i ps))) ≡ cost_of first + cost_of rest = ap (λ (xs : List Piece). cost_of (in_order (map piece_tree xs))) cut ∙ length-append (unrolled first) (unrolled rest) in
+    omega (arith, e, one)
+
+-- nothing is left
+pub cost_done : (ps : List Piece) (i : ℕ) → length ps ≤ i → cost_of (in_order (map piece_tree (drop i ps))) ≡ 0
+unfolding cost_of
+cost_done ps i h = ap (λ (xs : List Piece). length (unrolled (in_order (map piece_tree xs)))) (drop_all i ps h)
 
 -- ---- what holds of a transfer's lists
 

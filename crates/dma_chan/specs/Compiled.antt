@@ -1,5 +1,5 @@
 -- The compiled form of a transfer (profile; the instructions are the PL330 manual's).
-use Rattle.std.specs.Prelude.{ℕ, zero, suc, ◌+◌, ◌-◌, ◌*◌, ◌/◌, ◌%◌, ◌^◌, Bool, false, ◌&&◌, ◌==◌, nat_le, if◌then◌else◌, List, [], ◌∷◌, map, Option, Some, None}
+use Rattle.std.specs.Prelude.{ℕ, zero, suc, ◌+◌, ◌-◌, ◌*◌, ◌/◌, ◌%◌, ◌^◌, Bool, false, ◌&&◌, ◌==◌, nat_le, if◌then◌else◌, List, [], ◌∷◌, map, length, Option, Some, None}
 use Rattle.dma_insn.specs.declared.insn.Reg.TheVariants.{Sar, Ccr, Dar}
 use Rattle.dma_insn.specs.declared.insn.Counter.TheVariants.{Lc0, Lc1}
 use Rattle.dma_insn.specs.declared.insn.Insn.{Insn}
@@ -7,7 +7,7 @@ use Rattle.dma_insn.specs.declared.insn.Insn.TheVariants.{Mov, Ld, St, Rmb, Wmb,
 use Rattle.dma_mem.specs.Places.{Descriptor}
 use Rattle.dma_chan.specs.declared.pieces.Piece.{Piece}
 use Rattle.dma_chan.specs.Pieces.{pieces_of}
-use Rattle.dma_chan.specs.Tree.{Tree, One, Then, Nothing, Repeat, in_order, bytes_of, unrolled, cost_of}
+use Rattle.dma_chan.specs.Tree.{Tree, One, Then, Nothing, Repeat, in_order, bytes_of, unrolled}
 use Rattle.dma_chan.specs.Programs.{ProgramValue}
 
 -- whether beats of b bytes fit a piece: b divides both addresses and is at most its length
@@ -83,7 +83,7 @@ unfoldable pub members : Descriptor → List Insn
 members t = unrolled (tree_of t)
 
 unfoldable pub cost : Descriptor → ℕ
-cost t = cost_of (tree_of t)
+cost t = length (members t)
 
 -- The program of a transfer.
 unfoldable pub compiled : Descriptor → ProgramValue

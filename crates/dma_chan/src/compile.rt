@@ -42,6 +42,7 @@ impl From<AllocError> for NoMemory {
 pub fn compile(alloc: Global, transfer: &Transfer) -> Result<Program, NoMemory>
     ensures program { IfOk result (λ program. program ≡ compiled transfer.now) }
     ensures limit { IfOk result (λ program. length program.bytes ≤ 7371) }
+    ensures constant { MAX_COMPILED ≡ 7371 }
 {
     let pieces = cut(alloc, transfer.src(), transfer.dst())?;
     let code = code_of(alloc, transfer, &pieces)?;
@@ -64,7 +65,7 @@ fn code_of(alloc: Global, transfer: &Transfer, pieces: &[Piece]) -> Result<Vec<u
 }
 
 // How many instructions a transfer's code executes, by its pieces.
-#[tactic(auto, unfolding(crate::specs::Compiled::cost))]
+#[tactic(auto, using(crate::proofs::Counted::cost_of_tree, crate::proofs::Counted::cost_counted))]
 fn cost_of(transfer: &Transfer, pieces: &[Piece]) -> u32
     requires rules { IsTransfer transfer.now }
     requires pieces { pieces.now ≡ pieces_of transfer.now }
@@ -74,6 +75,7 @@ fn cost_of(transfer: &Transfer, pieces: &[Piece]) -> u32
 }
 
 // How many instructions a wait or a signal executes, where there is one.
+#[tactic(auto, using(crate::proofs::Counted::cost_counted))]
 fn event_cost(event: Option<u8>) -> u32
     ensures wait { result ≡ cost_of (wait_tree event) }
     ensures signal { result ≡ cost_of (signal_tree event) }
@@ -329,6 +331,7 @@ fn control_word(beat: u32, beats: u32) -> u32
 }
 
 // How many instructions the code of pieces executes.
+#[tactic(auto, using(crate::proofs::Spelled::cost_done))]
 fn pieces_cost(pieces: &[Piece]) -> u32
     requires lens { All (λ p. p.len ≤ 2 ^ 20) pieces.now }
     requires few { length pieces.now ≤ 127 }
@@ -343,7 +346,7 @@ fn pieces_cost(pieces: &[Piece]) -> u32
 }
 
 // How many instructions a piece's code executes.
-#[tactic(auto, unfolding(crate::specs::Compiled::parts))]
+#[tactic(auto, unfolding(crate::specs::Compiled::parts), using(crate::proofs::Counted::cost_counted))]
 fn piece_cost(piece: Piece) -> u32
     requires { piece.len ≤ 2 ^ 20 }
     ensures value { result ≡ cost_of (piece_tree piece) }
@@ -356,6 +359,7 @@ fn piece_cost(piece: Piece) -> u32
 }
 
 // How many instructions bursts of 16 beats execute, with their control word, where there are any.
+#[tactic(auto, using(crate::proofs::Counted::cost_counted))]
 fn whole_bursts_cost(count: u32) -> u32
     requires { count ≤ 65536 }
     ensures value { (w : ℕ) → result ≡ cost_of (where_some count (under w (bursts count))) }
@@ -372,6 +376,7 @@ fn whole_bursts_cost(count: u32) -> u32
 }
 
 // How many instructions one burst executes, with its control word, where it has any beats.
+#[tactic(auto, using(crate::proofs::Counted::cost_counted))]
 fn burst_cost(beats: u32) -> u32
     ensures value { (w : ℕ) → result ≡ cost_of (where_some beats (under w body)) }
     ensures limit { result ≤ 5 }

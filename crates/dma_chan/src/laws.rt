@@ -1,6 +1,6 @@
 //! Laws of transfers' programs. Each is the clause of a function that does nothing.
 
-ghost use Rattle.dma_chan.specs.Layer.{StartsAt, AheadIs, LeftIs, StepIs, TurnTells, Survives, ShapeIs, StoredIs, CopiesAlone};
+ghost use Rattle.dma_chan.specs.Layer.{StartsAt, AheadIs, LeftIs, StepIs, TurnTells, Survives, ShapeIs, CostIs, StoredIs, CopiesAlone};
 
 /// What the channel does that runs a transfer's program, step by step, by the places of the transfer alone.
 pub fn runs_in_step()
@@ -16,6 +16,11 @@ pub fn runs_in_step()
 pub fn stores_in_turn()
     ensures shape { ShapeIs }
     ensures stored { StoredIs }
+{}
+
+/// How many instructions a transfer costs at most.
+pub fn costs_little()
+    ensures { CostIs }
 {}
 
 /// What a program leaves that is run alone, of a transfer that doesn't wait: one simultaneous copy of all its bytes.

@@ -1,16 +1,16 @@
 //! Programs of one channel of a PL330 controller, and the machine that runs them.
 #![tactic(auto)]
 
-pub mod bursts;
+mod bursts;
 pub mod channel;
 pub mod compile;
 #[cfg(test)]
 mod compile_tests;
-pub mod exec;
+mod exec;
 pub mod laws;
-pub mod pieces;
+mod pieces;
 pub mod program;
-pub mod registers;
+mod registers;
 pub mod run;
 #[cfg(test)]
 mod tests;

@@ -1,6 +1,7 @@
 //! Worked runs of hand-written programs.
 
 use crate::channel::Channel;
+use crate::compile::compile;
 use crate::program::{Program, ProgramFault};
 use crate::run::{RunEnd, RunFault, run_program};
 use crate::turn::{ChanTurn, FaultKind};
@@ -9,6 +10,7 @@ use dma_mem::events::Events;
 use dma_mem::marks::{MarkKind, Marks};
 use dma_mem::memory::Memory;
 use dma_mem::segment::Segment;
+use dma_mem::transfer::Transfer;
 use std::alloc::Global;
 use std::test::Fail;
 
@@ -118,11 +120,16 @@ struct Machine {
 }
 
 impl Machine {
+    // A channel with a program of these bytes.
+    fn of_bytes(alloc: Global, bytes: &[u8]) -> Result<Machine, Fail> {
+        Machine::of_program(alloc, Program::from_bytes(alloc, bytes)?)
+    }
+
     // A channel with this program, over a memory of 256 bytes that tell their addresses.
-    fn of_program(alloc: Global, bytes: &[u8]) -> Result<Machine, Fail> {
+    fn of_program(alloc: Global, program: Program) -> Result<Machine, Fail> {
         let memory = counted(alloc)?;
         let mut channel = Channel::new(alloc)?;
-        channel.load(Program::from_bytes(alloc, bytes)?);
+        channel.load(program);
         let events = Events::new();
         let marks = Marks::new(alloc);
         Ok(Machine {
@@ -171,6 +178,16 @@ impl Machine {
     fn byte(&self, address: u32) -> Option<u8> {
         self.memory.byte(address)
     }
+
+    // Whether each byte of the memory still tells its address.
+    fn is_untouched(&self) -> bool {
+        for address in 0..=255u8 {
+            if self.byte(u32::from(address)) != Some(address) {
+                return false;
+            }
+        }
+        true
+    }
 }
 
 // Loads 32 bytes from 0x40 and 32 from 0x10, and stores them to 0x80 and on.
@@ -179,7 +196,7 @@ static TWO_LOADS: &[u8] =
 
 #[test]
 fn a_marked_load_changes_nothing(rt: HostRuntime) -> Result<(), Fail> {
-    let mut machine = Machine::of_program(rt.alloc(), TWO_LOADS)?;
+    let mut machine = Machine::of_bytes(rt.alloc(), TWO_LOADS)?;
     assert!(rt; machine.moves(5));
     machine
         .marks
@@ -187,6 +204,7 @@ fn a_marked_load_changes_nothing(rt: HostRuntime) -> Result<(), Fail> {
     let refused = Some(ChanTurn::Fault(FaultKind::DataReadErr));
     assert_eq!(rt; machine.step(), refused);
     assert_eq!(rt; machine.place(), (Some(Ok(Insn::Ld)), 25, 5, 0));
+    assert!(rt; machine.is_untouched());
     machine.marks.clear();
     assert!(rt; machine.moves(2));
     assert_eq!(rt; machine.byte(0x80), Some(0x40));
@@ -202,7 +220,7 @@ fn a_marked_load_changes_nothing(rt: HostRuntime) -> Result<(), Fail> {
 
 #[test]
 fn a_marked_store_changes_nothing(rt: HostRuntime) -> Result<(), Fail> {
-    let mut machine = Machine::of_program(rt.alloc(), TWO_LOADS)?;
+    let mut machine = Machine::of_bytes(rt.alloc(), TWO_LOADS)?;
     machine
         .marks
         .add(MarkKind::Writing, Segment { addr: 0x9f, len: 1 })?;
@@ -242,7 +260,7 @@ fn bursts_without_increment_stay_at_their_address(rt: HostRuntime) -> Result<(),
 
 #[test]
 fn a_wait_keeps_its_place(rt: HostRuntime) -> Result<(), Fail> {
-    let mut machine = Machine::of_program(rt.alloc(), b"\x36\x18\x05")?;
+    let mut machine = Machine::of_bytes(rt.alloc(), b"\x36\x18\x05")?;
     assert_eq!(rt; machine.step(), Some(ChanTurn::Waiting(event(3)?)));
     assert_eq!(rt; machine.channel.pc(), 0);
     machine.events.set(3);
@@ -250,5 +268,46 @@ fn a_wait_keeps_its_place(rt: HostRuntime) -> Result<(), Fail> {
     assert!(rt; !machine.events.is_set(3));
     let unknown = Some(Err(FaultKind::UndefInstr));
     assert_eq!(rt; machine.place(), (unknown, 2, 1, 0));
+    Ok(())
+}
+
+// How many bytes the copy of 40 bytes between odd and even addresses has stored after so many instructions: its loop has two
+// bursts of 16 bytes, and behind it stands one of 8.
+fn stored_after(taken: u32) -> u64 {
+    match taken {
+        0..=6 => 0,
+        7..=11 => 16,
+        12..=17 => 32,
+        _ => 40,
+    }
+}
+
+#[test]
+fn what_is_left_falls_by_one_each_step(rt: HostRuntime) -> Result<(), Fail> {
+    let alloc = rt.alloc();
+    let source = Segment {
+        addr: 0x11,
+        len: 40,
+    };
+    let destination = Segment {
+        addr: 0x82,
+        len: 40,
+    };
+    let transfer = Transfer::new(alloc, &[source], &[destination], None, None)?;
+    let mut machine = Machine::of_program(alloc, compile(alloc, &transfer)?)?;
+    for taken in 0..19u32 {
+        assert_eq!(rt; machine.channel.left(), Some(20 - taken));
+        assert_eq!(rt; machine.channel.taken(), taken);
+        assert_eq!(rt; machine.channel.stored(), stored_after(taken));
+        assert_eq!(rt; machine.step(), Some(ChanTurn::Moved));
+    }
+    assert_eq!(rt; machine.channel.left(), Some(1));
+    assert_eq!(rt; machine.step(), Some(ChanTurn::Ended));
+    assert_eq!(rt; machine.channel.left(), None);
+    assert_eq!(rt; machine.place(), (None, 36, 20, 40));
+    assert_eq!(rt; machine.byte(0x81), Some(0x81));
+    assert_eq!(rt; machine.byte(0x82), Some(0x11));
+    assert_eq!(rt; machine.byte(0xa9), Some(0x38));
+    assert_eq!(rt; machine.byte(0xaa), Some(0xaa));
     Ok(())
 }

@@ -1,4 +1,4 @@
-//! The lines that are printed. Each is appended whole with its line feed, or not at all.
+//! The lines that are printed, and their parts. Each public call appends all that it says, or nothing.
 ghost use Rattle.std.specs.Prelude.{◌≡◌, ◌++◌, ◌∷◌, ◌<◌, [], IfOk, OnErr, OnOk, true, length};
 ghost use Rattle.std.specs.Fmt.{digit_glyph};
 ghost use Rattle.dma_script.specs.Command.{text_of};
@@ -42,10 +42,12 @@ fn glyph(digit: u8) -> u8
     }
 }
 
-/// A byte in two capital digits, at the end.
+/// Appends a byte in two capital digits, or nothing.
 pub fn push_byte(line: &mut Vec<u8>, byte: u8) -> Result<(), AllocError>
-    ensures { OnOk result (line.new.items ≡ line.old.items ++ hex_byte_of byte) }
+    ensures ok { OnOk result (line.new.items ≡ line.old.items ++ hex_byte_of byte) }
+    ensures err { OnErr result (line.new.items ≡ line.old.items) }
 {
+    line.reserve(2)?;
     line.push(glyph(byte / 16))?;
     line.push(glyph(byte % 16))?;
     Ok(())
