@@ -4,3 +4,4 @@ pub mod RunLemmas
 pub mod Rows
 pub mod DisLemmas
 pub mod PlanLemmas
+pub mod AsmLemmas
