@@ -9,7 +9,7 @@ use Rattle.dma_insn.specs.Spelling.{spelling, HasRanges, IsSpelledAt, IsRefusedF
 use Rattle.dma_insn.specs.Decoding.{Decoded, decoded}
 use Rattle.dma_insn.specs.AssemblyText.{joined}
 use Rattle.dma_insn.specs.Disassembly.{AllInRange, insn_text, text_of, AreSpelled, Disassembles, StopsAt, DisassemblyTells}
-use Rattle.dma_insn.proofs.Laws.{IsBytes, Right, one_front, spelling_some, spelled_within, decoded_right, right_err, none_spelled}
+use Rattle.dma_insn.proofs.Laws.{IsBytes, Right, one_front, spelling_some, spelled_within, decoded_right, none_spelled}
 use Rattle.dma_insn.proofs.Texts.{disassembles}
 
 -- the bytes before a place are spellings joined

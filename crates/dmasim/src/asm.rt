@@ -76,8 +76,8 @@ impl Command for Asm {
     }
 
     ghost some_group = { λ input. elim (assembled input) as (λ read. 0 < length (asm_printed_of read).groups) [
-        | Ok program ↦ zero-lt-suc _
-        | Err fault ↦ zero-lt-suc _
+      | Ok program ↦ zero-lt-suc _
+      | Err fault ↦ zero-lt-suc _
     ] };
 }
 

@@ -95,11 +95,11 @@ impl Command for Dis {
     }
 
     ghost some_group = { λ input. elim (pairs_of input) as (λ read. 0 < length (dis_printed_of read).groups) [
-        | Ok bytes ↦ elim (lines_from 0 0 bytes) as (λ read. 0 < length (lines_printed read).groups) [
-            | Ok lines ↦ zero-lt-suc _
-            | Err fault ↦ zero-lt-suc _
-        ]
-        | Err line ↦ zero-lt-suc _
+      | Ok bytes ↦ elim (lines_from 0 0 bytes) as (λ read. 0 < length (lines_printed read).groups) [
+        | Ok lines ↦ zero-lt-suc _
+        | Err fault ↦ zero-lt-suc _
+      ]
+      | Err line ↦ zero-lt-suc _
     ] };
 }
 

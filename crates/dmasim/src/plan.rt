@@ -117,11 +117,11 @@ impl Command for Plan {
     }
 
     ghost some_group = { λ input. elim (plan_of input) as (λ read. 0 < length (plan_printed_of read).groups) [
-        | Ok line ↦ elim (refusal_of (transfer_of line)) as (λ unfit. 0 < length (transfer_printed line unfit).groups) [
-            | None ↦ zero-lt-suc _
-            | Some fault ↦ zero-lt-suc _
-        ]
-        | Err fault ↦ zero-lt-suc _
+      | Ok line ↦ elim (refusal_of (transfer_of line)) as (λ unfit. 0 < length (transfer_printed line unfit).groups) [
+        | None ↦ zero-lt-suc _
+        | Some fault ↦ zero-lt-suc _
+      ]
+      | Err fault ↦ zero-lt-suc _
     ] };
 }
 

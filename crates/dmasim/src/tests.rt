@@ -1,6 +1,6 @@
 //! Whole runs: what is printed for an input, by the rules of the formats.
-use crate::asm::asm_main;
-use crate::dis::dis_main;
+use crate::asm::{asm_main, asm_prints};
+use crate::dis::{dis_main, dis_prints};
 use crate::plan::plan_main;
 use crate::run::run_script;
 use dma_script::output::Sink;
@@ -105,6 +105,7 @@ fn assembled(rt: HostRuntime) -> Result<(), Fail> {
         assert_eq!(rt; ran.0, status);
         assert_eq!(rt; ran.1.as_slice(), text);
     }
+    asm_prints();
     Ok(())
 }
 
@@ -140,6 +141,7 @@ fn disassembled(rt: HostRuntime) -> Result<(), Fail> {
     }
     let ran = dis(rt.alloc(), b"00 34 01");
     assert_eq!(rt; ran.1.as_slice(), b"offset 1: BadField\n".as_slice());
+    dis_prints();
     Ok(())
 }
 
@@ -200,10 +202,7 @@ fn longest_program(rt: HostRuntime) -> Result<(), Fail> {
     text.extend_from_slice(b"DMAEND")?;
     let ran = asm(rt.alloc(), &text);
     assert_eq!(rt; ran.0, 1);
-    assert_eq!(rt;
-        ran.1.as_slice(),
-        b"line 8193: ProgramTooLong\n".as_slice()
-    );
+    assert_eq!(rt; ran.1.as_slice(), b"line 8193: ProgramTooLong\n".as_slice());
     Ok(())
 }
 
@@ -280,11 +279,7 @@ fn planned_refusals(rt: HostRuntime) -> Result<(), Fail> {
         ),
         (b"0x100+4 to 0x200+4 wait 256", 1, b"line 1: Range\n"),
         (b"0x100+4 to 0x200+4 signal 256", 1, b"line 1: Range\n"),
-        (
-            b"0x100+8 to 0x104+8 wait 256",
-            1,
-            b"line 1: Range\n",
-        ),
+        (b"0x100+8 to 0x104+8 wait 256", 1, b"line 1: Range\n"),
     ];
     for (input, status, text) in cases {
         let ran = plan(rt.alloc(), input);
