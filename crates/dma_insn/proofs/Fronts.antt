@@ -11,6 +11,7 @@ use Rattle.dma_insn.specs.AssemblyText.{joined}
 use Rattle.dma_insn.specs.Disassembly.{AllInRange, insn_text, text_of, AreSpelled, Disassembles, StopsAt, DisassemblyTells}
 use Rattle.dma_insn.proofs.Laws.{IsBytes, Right, one_front, spelling_some, spelled_within, decoded_right, none_spelled}
 use Rattle.dma_insn.proofs.Texts.{disassembles}
+use Rattle.dma_insn.proofs.OneText.{one_way}
 
 -- the bytes before a place are spellings joined
 pub record Front (bytes : List ℕ) (offset : ℕ) : Type 0 where
@@ -242,4 +243,5 @@ disassembly_tells = record {
   one = λ bytes are. told bytes (cut (length bytes) bytes (omega arith) are);
   not_both = λ bytes text offset fault d s. stops_none bytes text offset fault s d;
   one_text = λ bytes text other p q. same_text_of bytes text other p q;
+  one_way = one_way;
 }

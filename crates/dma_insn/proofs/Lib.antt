@@ -6,3 +6,4 @@ mod LineLaws
 pub mod ProgramLaws
 pub mod Fronts
 mod Texts
+mod OneText

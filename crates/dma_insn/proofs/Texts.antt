@@ -59,7 +59,7 @@ above_decimal k n low small =
     (λ m ds h p. above-append k ds ((48 + m % 10) ∷ []) p (and_from (ltb k (48 + m % 10)) true (lt-ltb k (48 + m % 10) (omega arith)) refl))
     n small
 
-own : IsNumeralModel (λ ds. all_ascii_digits ds ≡ true) (digits_value 10)
+pub own : IsNumeralModel (λ ds. all_ascii_digits ds ≡ true) (digits_value 10)
 own = numerals_by_value (λ ds. all_ascii_digits ds ≡ true) tells_all_ascii_digits
 
 decimal_zeros : (n : ℕ) → n < 2 ^ 64 → get_or (decimal n) 0 0 ≡ 48 → length (decimal n) ≡ 1
@@ -178,7 +178,7 @@ bare_writes : (i : Insn) (s : Statement) → is_skipped (insn_text i) ≡ false 
 bare_writes i s taken words e = record { taken = taken; statement = s; words_are = words; insn_is = e }
 
 -- The line of an instruction writes it.
-insn_text_writes : (i : Insn) → HasRanges i → Writes (insn_text i) i
+pub insn_text_writes : (i : Insn) → HasRanges i → Writes (insn_text i) i
 insn_text_writes End h = bare_writes End dmaend refl refl refl
 insn_text_writes Ld h = bare_writes Ld dmald refl refl refl
 insn_text_writes St h = bare_writes St dmast refl refl refl
@@ -219,7 +219,7 @@ no_line_skipped : (is : List Insn) → AllInRange is → list_any is_skipped (ma
 no_line_skipped [] h = refl
 no_line_skipped (i ∷ is) h = let w = insn_text_writes i h.0 in rw w.taken (no_line_skipped is h.1)
 
-lines_ended : (is : List Insn) → text_of is ≡ flat_map (λ line. line ++ 10 ∷ []) (map insn_text is)
+pub lines_ended : (is : List Insn) → text_of is ≡ flat_map (λ line. line ++ 10 ∷ []) (map insn_text is)
 lines_ended [] = refl
 lines_ended (i ∷ is) = ap (λ (more : List ℕ). (insn_text i ++ 10 ∷ []) ++ more) (lines_ended is)
 

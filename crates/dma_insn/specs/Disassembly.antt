@@ -82,9 +82,12 @@ DisassemblyAssembles =
     (bytes text : List ℕ) → length bytes ≤ most_bytes → Disassembles bytes text
     → Assembles text bytes × ((others : List ℕ) → Assembles text others → others ≡ bytes)
 
--- Each list of bytes has a text, or a place behind which no instruction stands; none has both, or two texts.
+-- Each list of bytes has a text, or a place behind which no instruction stands; none has both, or two texts. A text of a
+-- program's instructions that skips no line and ends each is written in one way.
 pub record DisassemblyTells : Type 0 where
   pub one : (bytes : List ℕ) → ((i : ℕ) → slice_index bytes i < 256)
       → ((text : List ℕ) × Disassembles bytes text) ⊎ ((offset : ℕ) × (fault : DecodeFault) × StopsAt bytes offset fault)
   pub not_both : (bytes text : List ℕ) (offset : ℕ) (fault : DecodeFault) → Disassembles bytes text → StopsAt bytes offset fault → ⊥
   pub one_text : (bytes text other : List ℕ) → Disassembles bytes text → Disassembles bytes other → text ≡ other
+  pub one_way : (text : List ℕ) (insns : List Insn) → AllInRange insns → ProgramText text insns
+      → list_any is_skipped (text_lines text) ≡ false → text ≡ flat_map (λ line. line ++ 10 ∷ []) (text_lines text) → text ≡ text_of insns
