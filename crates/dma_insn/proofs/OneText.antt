@@ -16,7 +16,7 @@ use Rattle.dma_insn.specs.Disassembly.{AllInRange, counter_number, insn_text, te
 use Rattle.dma_insn.proofs.Texts.{own, insn_text_writes, lines_ended}
 
 -- the line of some words, with a space between two
-unwords : List (List ℕ) → List ℕ
+abbrev unwords : List (List ℕ) → List ℕ
 unwords [] = []
 unwords (w ∷ []) = w
 unwords (w ∷ v ∷ ws) = w ++ 32 ∷ unwords (v ∷ ws)
@@ -74,7 +74,7 @@ same_one : (ws vs : List (List ℕ)) (name : List ℕ) (n : ℕ) (more : List (L
 same_one ws vs name n more hn h k = h.words_are ∙ ap (λ (w : List ℕ). name ∷ w ∷ more) (same_word h.word k.word n hn h.number k.number) ∙ sym k.words_are
 
 -- the statement of an instruction
-statement_of : Insn → Statement
+abbrev statement_of : Insn → Statement
 statement_of End = dmaend
 statement_of Ld = dmald
 statement_of St = dmast
