@@ -1,15 +1,17 @@
 -- Fronts of bytes that are spellings joined.
-use Rattle.std.proofs.Common.{◌≡◌, ℕ, ◌+◌, ◌<◌, ◌≤◌, List, [], ◌∷◌, ◌++◌, length, take, drop, refl, sym, ap, ◌∙◌, subst, arith, append_assoc, append-nil, length-append, drop-drop, ◌-◌}
-use Rattle.std.specs.Prelude.{Err}
-use Rattle.std.proofs.lemmas.List.{take-append-drop, take_rest, drop_all}
+use Rattle.std.proofs.Common.{◌≡◌, ℕ, ◌+◌, ◌<◌, ◌≤◌, zero, suc, List, [], ◌∷◌, ◌++◌, length, take, drop, refl, sym, ap, ◌∙◌, subst, arith, append_assoc, append-nil, length-append, drop-drop, ◌-◌, ◌⊎◌, inl, inr}
+use Rattle.std.specs.Prelude.{Ok, Err}
+use Rattle.std.proofs.lemmas.List.{take-append-drop, take_rest, drop_all, length-drop, get_or-drop}
 use Rattle.std.proofs.Math.Seq.{take-append_seam}
 use Rattle.dma_insn.specs.declared.insn.Insn.{Insn}
 use Rattle.dma_insn.specs.declared.codec.DecodeFault.{DecodeFault}
 use Rattle.dma_insn.specs.Spelling.{spelling, HasRanges, IsSpelledAt, IsRefusedFor}
-use Rattle.dma_insn.specs.Decoding.{decoded}
+use Rattle.dma_insn.specs.Decoding.{Decoded, decoded}
 use Rattle.dma_insn.specs.AssemblyText.{joined}
-use Rattle.dma_insn.specs.Disassembly.{AllInRange, insn_text, text_of, AreSpelled, Disassembles, StopsAt}
-use Rattle.dma_insn.proofs.Laws.{one_front, spelling_some}
+use Rattle.dma_insn.specs.Disassembly.{AllInRange, insn_text, text_of, AreSpelled, Disassembles, StopsAt, DisassemblyTells}
+use Rattle.dma_insn.proofs.Laws.{IsBytes, Right, one_front, spelling_some, spelled_within, decoded_right, none_spelled}
+use Rattle.dma_insn.proofs.Texts.{disassembles}
+use Rattle.dma_insn.proofs.OneText.{one_way}
 
 -- the bytes before a place are spellings joined
 pub record Front (bytes : List ℕ) (offset : ℕ) : Type 0 where
@@ -80,7 +82,7 @@ written_more bytes text new offset i n f h e = record {
 pub written_all : (bytes text : List ℕ) (offset : ℕ) → length bytes ≤ offset → WrittenFront bytes offset text → Disassembles bytes text
 written_all bytes text offset all f =
     let none : drop offset bytes ≡ [] = drop_all offset bytes all in
-    record { insns = f.insns; in_range = f.in_range; bytes_are = f.bytes_are ∙ ap (λ (l : List ℕ). joined f.insns ++ l) none ∙ append-nil (joined f.insns); text_is = f.text_is }
+    disassembles bytes text f.insns f.in_range (f.bytes_are ∙ ap (λ (l : List ℕ). joined f.insns ++ l) none ∙ append-nil (joined f.insns)) f.text_is
 
 -- the same of a slice from the place on
 pub front_step : (bytes : List ℕ) (offset : ℕ) (i : Insn) (n : ℕ) → Front bytes offset → IsSpelledAt (take (length bytes - offset) (drop offset bytes)) i n → Front bytes (offset + n)
@@ -171,4 +173,75 @@ same_text_of bytes a b p q =
     p.text_is ∙ ap text_of same ∙ sym q.text_is
 
 pub has_text : (bytes : List ℕ) → AreSpelled bytes → (text : List ℕ) × Disassembles bytes text
-has_text bytes h = (text_of h.insns, record { insns = h.insns; in_range = h.in_range; bytes_are = h.bytes_are; text_is = refl })
+has_text bytes h = (text_of h.insns, disassembles bytes (text_of h.insns) h.insns h.in_range h.bytes_are refl)
+
+-- behind spellings joined stand bytes that are read as none
+record BreaksOff (bytes : List ℕ) : Type 0 where
+  pub insns : List Insn
+  pub rest : List ℕ
+  pub fault : DecodeFault
+  pub in_range : AllInRange insns
+  pub bytes_are : bytes ≡ joined insns ++ rest
+  pub some : 0 < length rest
+  pub fault_is : decoded rest ≡ Err fault
+  pub are_bytes : IsBytes rest
+
+cut_more : (i : Insn) (rest whole : List ℕ) → HasRanges i → whole ≡ spelling i ++ rest → AreSpelled rest ⊎ BreaksOff rest → AreSpelled whole ⊎ BreaksOff whole
+cut_more i rest whole h e (inl s) =
+    inl (record { insns = i ∷ s.insns; in_range = (h, s.in_range); bytes_are = e ∙ ap (λ (l : List ℕ). spelling i ++ l) s.bytes_are })
+cut_more i rest whole h e (inr s) = inr (record {
+  insns = i ∷ s.insns;
+  rest = s.rest;
+  fault = s.fault;
+  in_range = (h, s.in_range);
+  bytes_are = e ∙ ap (λ (l : List ℕ). spelling i ++ l) s.bytes_are ∙ sym (append_assoc (spelling i) (joined s.insns) s.rest);
+  some = s.some;
+  fault_is = s.fault_is;
+  are_bytes = s.are_bytes;
+})
+
+cut_by : (k : ℕ) (bytes : List ℕ) (r : Decoded) → decoded bytes ≡ r → Right bytes r → length bytes ≤ suc k → 0 < length bytes → IsBytes bytes
+    → ((rest : List ℕ) → length rest ≤ k → IsBytes rest → AreSpelled rest ⊎ BreaksOff rest) → AreSpelled bytes ⊎ BreaksOff bytes
+cut_by k bytes (Ok x) e right small some h more =
+    let within = spelled_within bytes x.0 x.1 right in
+    let split : bytes ≡ spelling x.0 ++ drop x.1 bytes = sym (take-append-drop x.1 bytes) ∙ ap (λ (front : List ℕ). front ++ drop x.1 bytes) right.bytes_are in
+    let shorter = length-drop x.1 bytes in
+    cut_more x.0 (drop x.1 bytes) bytes right.in_range split (more (drop x.1 bytes) (omega arith) (λ i. omega (arith, get_or-drop x.1 bytes i 0, h (x.1 + i))))
+cut_by k bytes (Err fault) e right small some h more =
+    inr (record { insns = []; rest = bytes; fault = fault; in_range = tt; bytes_are = refl; some = some; fault_is = e; are_bytes = h })
+
+cut : (k : ℕ) (bytes : List ℕ) → length bytes ≤ k → IsBytes bytes → AreSpelled bytes ⊎ BreaksOff bytes
+cut k [] small h = inl (record { insns = []; in_range = tt; bytes_are = refl })
+cut zero (b ∷ rest) small h = absurd (omega arith)
+cut (suc k) (b ∷ rest) small h =
+    cut_by k (b ∷ rest) (decoded (b ∷ rest)) refl (decoded_right (b ∷ rest) h) small (omega arith) h (λ more less are. cut k more less are)
+
+-- Where they break off, they stop.
+breaks_stops : (bytes : List ℕ) (b : BreaksOff bytes) → StopsAt bytes (length (joined b.insns)) b.fault
+breaks_stops bytes b =
+    let read : Right b.rest (Err b.fault) = subst (Right b.rest) b.fault_is (decoded_right b.rest b.are_bytes) in
+    let none = none_spelled b.rest (Err b.fault) (sym b.fault_is) in
+    record {
+      insns = b.insns;
+      rest = b.rest;
+      in_range = b.in_range;
+      bytes_are = b.bytes_are;
+      offset_is = refl;
+      some = b.some;
+      fault_is = b.fault_is;
+      refused = read;
+      none = none;
+      longest = λ others more ranges e. longest_front b.insns others b.rest more b.in_range ranges (sym b.bytes_are ∙ e) none;
+    }
+
+told : (bytes : List ℕ) → AreSpelled bytes ⊎ BreaksOff bytes → ((text : List ℕ) × Disassembles bytes text) ⊎ ((offset : ℕ) × (fault : DecodeFault) × StopsAt bytes offset fault)
+told bytes (inl s) = inl (has_text bytes s)
+told bytes (inr b) = inr (length (joined b.insns), b.fault, breaks_stops bytes b)
+
+pub disassembly_tells : DisassemblyTells
+disassembly_tells = record {
+  one = λ bytes are. told bytes (cut (length bytes) bytes (omega arith) are);
+  not_both = λ bytes text offset fault d s. stops_none bytes text offset fault s d;
+  one_text = λ bytes text other p q. same_text_of bytes text other p q;
+  one_way = one_way;
+}

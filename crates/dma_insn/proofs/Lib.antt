@@ -3,6 +3,7 @@ pub mod ControlLaws
 mod TextLines
 mod Numbers
 mod LineLaws
-mod ProgramLaws
-mod Fronts
+pub mod ProgramLaws
+pub mod Fronts
 mod Texts
+mod OneText

@@ -1,16 +1,18 @@
 -- What a text is read as, line after line, against what its lines write.
-use Rattle.std.proofs.Common.{◌≡◌, ℕ, ◌+◌, ◌<◌, ◌≤◌, Bool, true, false, List, [], ◌∷◌, ◌++◌, length, refl, sym, ap, ◌∙◌, subst, Option, Some, None, Result, Ok, Err, cond, leb, arith, append_assoc, append-nil, length-append, inl, inr, ◌⊎◌}
+use Rattle.std.proofs.Common.{◌≡◌, ℕ, ◌+◌, ◌<◌, ◌≤◌, Bool, true, false, List, [], ◌∷◌, ◌++◌, ◌≢◌, length, refl, sym, ap, ◌∙◌, subst, Option, Some, None, Result, Ok, Err, cond, leb, arith, append_assoc, append-nil, length-append, inl, inr, ◌⊎◌}
 use Rattle.std.specs.Prelude.{MatchResult, MatchBool, IfOk, IfErr, IsOk}
 use Rattle.std.specs.Option.{ok_or}
-use Rattle.std.proofs.lemmas.Bool.{leb-true, leb-false, le-leb, false≢true}
+use Rattle.std.specs.List.{list_any}
+use Rattle.std.specs.Str.{bytes_eq}
+use Rattle.std.proofs.lemmas.Bool.{leb-true, leb-false, le-leb, lt-leb, false≢true}
 use Rattle.dma_insn.specs.Spelling.{spelling}
 use Rattle.dma_insn.specs.declared.insn.Insn.{Insn}
 use Rattle.dma_insn.specs.declared.assembler.Cause.{Cause}
 use Rattle.dma_insn.specs.declared.assembler.Cause.TheVariants.{Mnemonic, Operand, Range}
 use Rattle.dma_insn.specs.declared.assembler.AsmFault.{AsmFault}
 use Rattle.dma_insn.specs.declared.assembler.AsmFault.TheVariants.{Line, ProgramTooLong, NoMemory}
-use Rattle.dma_insn.specs.AssemblyText.{text_lines, words_of, is_skipped, insn_of, Writes, IsCause, HasCause, WritesFirst, WriteAll, joined, most_bytes, Assembles, StandsAt, IsFirstFault}
-use Rattle.dma_insn.specs.LineReading.{◌>>=◌, at_line, with_insn, line_in, after_line, after_lines, assembled, AnswersAs}
+use Rattle.dma_insn.specs.AssemblyText.{text_lines, words_of, is_skipped, Statement, dmaend, dmald, dmast, dmarmb, dmawmb, dmanop, dmalp, dmalpend, dmasev, dmawfe, dmamov, IsWritten, insn_of, names, first_of, Writes, IsCause, HasCause, WritesFirst, WriteAll, joined, most_bytes, Assembles, StandsAt, IsFirstFault}
+use Rattle.dma_insn.specs.LineReading.{◌>>=◌, at_line, with_insn, line_in, after_line, after_lines, assembled, ReadingTells, AnswersAs}
 use Rattle.dma_insn.proofs.LineLaws.{IsTold, line_in_told, line_in_written}
 
 insn_err : (i : Insn) (cause : Cause) (r : Result Insn Cause) → r ≡ Ok i → r ≡ Err cause → ⊥
@@ -184,23 +186,40 @@ read_skipped : (n : ℕ) (program line : List ℕ) → is_skipped line ≡ true 
 unfolding after_line
 read_skipped n program line e = rw e refl
 
-again_by : (b : Bool) (line : List ℕ) (lines : List (List ℕ)) (n : ℕ) (program : List ℕ) (is : List Insn) → is_skipped line ≡ b
+read_fault : (n : ℕ) (program line : List ℕ) (cause : Cause) → is_skipped line ≡ false → line_in (words_of line) ≡ Err cause → after_line n program line ≡ Err (Line n cause)
+unfolding after_line
+read_fault n program line cause taken e = rw (taken, e) refl
+
+read_long : (n : ℕ) (program line : List ℕ) (i : Insn) → is_skipped line ≡ false → line_in (words_of line) ≡ Ok i → 8192 < length program + length (spelling i) → after_line n program line ≡ Err (ProgramTooLong n)
+unfolding after_line
+read_long n program line i taken e long = rw (taken, e, lt-leb _ 8192 long) refl
+
+-- the same, in front of further lines
+again_by : (b : Bool) (line : List ℕ) (lines after : List (List ℕ)) (n : ℕ) (program : List ℕ) (is : List Insn) → is_skipped line ≡ b
     → MatchBool b (WriteAll lines is) (WritesFirst line is (λ rest. WriteAll lines rest))
-    → ((next : List ℕ) (js : List Insn) → WriteAll lines js → length (next ++ joined js) ≤ most_bytes → after_lines (n + 1) next lines ≡ Ok (next ++ joined js))
-    → length (program ++ joined is) ≤ most_bytes → after_lines n program (line ∷ lines) ≡ Ok (program ++ joined is)
-again_by true line lines n program is e h more room = rw (read_skipped (n + 1) program line e) (more program is h room)
-again_by false line lines n program is e h more room =
+    → ((next : List ℕ) (js : List Insn) → WriteAll lines js → length (next ++ joined js) ≤ most_bytes → after_lines (n + 1) next (lines ++ after) ≡ after_lines (n + 1 + length lines) (next ++ joined js) after)
+    → length (program ++ joined is) ≤ most_bytes → after_lines n program (line ∷ (lines ++ after)) ≡ after_lines (n + 1 + length lines) (program ++ joined is) after
+again_by true line lines after n program is e h more room = rw (read_skipped (n + 1) program line e) (more program is h room)
+again_by false line lines after n program is e h more room =
     let all : program ++ joined is ≡ (program ++ spelling h.first) ++ joined h.rest = ap (λ (js : List Insn). program ++ joined js) h.are ∙ sym (append_assoc program (spelling h.first) (joined h.rest)) in
     let size : length (program ++ joined is) ≡ length ((program ++ spelling h.first) ++ joined h.rest) = ap length all in
     let first = length-append program (spelling h.first) in
     let rest = length-append (program ++ spelling h.first) (joined h.rest) in
     rw (read_room (n + 1) program line h.first e (writes_read line h.first h.writes) (omega arith))
-    (more (program ++ spelling h.first) h.rest h.more (omega arith) ∙ ap Ok (sym all))
+    (more (program ++ spelling h.first) h.rest h.more (omega arith) ∙ ap (λ (p : List ℕ). after_lines (n + 1 + length lines) p after) (sym all))
+
+again_before : (lines after : List (List ℕ)) (n : ℕ) (program : List ℕ) (is : List Insn) → WriteAll lines is → length (program ++ joined is) ≤ most_bytes
+    → after_lines n program (lines ++ after) ≡ after_lines (n + length lines) (program ++ joined is) after
+again_before [] after n program is h room =
+    let e : n ≡ n + 0 = omega arith in
+    rw h (ap (λ (p : List ℕ). after_lines n p after) (sym (append-nil program)) ∙ ap (λ (m : ℕ). after_lines m (program ++ []) after) e)
+again_before (line ∷ lines) after n program is h room =
+    let e : n + 1 + length lines ≡ n + length (line ∷ lines) = omega arith in
+    again_by (is_skipped line) line lines after n program is refl h (λ next js written fits. again_before lines after (n + 1) next js written fits) room
+    ∙ ap (λ (m : ℕ). after_lines m (program ++ joined is) after) e
 
 again : (lines : List (List ℕ)) (n : ℕ) (program : List ℕ) (is : List Insn) → WriteAll lines is → length (program ++ joined is) ≤ most_bytes → after_lines n program lines ≡ Ok (program ++ joined is)
-again [] n program is h room = rw h (ap Ok (sym (append-nil program)))
-again (line ∷ lines) n program is h room =
-    again_by (is_skipped line) line lines n program is refl h (λ next js written fits. again lines (n + 1) next js written fits) room
+again lines n program is h room = ap (after_lines n program) (sym (append-nil lines)) ∙ again_before lines [] n program is h room
 
 -- A text that assembles is read as its bytes.
 pub assembled_again : (text bytes : List ℕ) → Assembles text bytes → assembled text ≡ Ok bytes
@@ -271,3 +290,64 @@ if_only view text (Err fault) h bytes a = only_by text bytes fault (assembled_ag
 -- A text assembles to one list of bytes.
 pub assembles_once : (text p q : List ℕ) → Assembles text p → Assembles text q → p ≡ q
 assembles_once text p q a b = ok_same (assembled text) p q (assembled_again text p a) (assembled_again text q b)
+
+-- words of a statement begin with a name
+written_name : (words : List (List ℕ)) (s : Statement) → IsWritten words s → list_any (λ name. bytes_eq (first_of words) name) names ≡ true
+written_name words dmaend h = rw h refl
+written_name words dmald h = rw h refl
+written_name words dmast h = rw h refl
+written_name words dmarmb h = rw h refl
+written_name words dmawmb h = rw h refl
+written_name words dmanop h = rw h refl
+written_name words (dmalp c n) h = rw h.words_are refl
+written_name words (dmalpend c b) h = rw h.words_are refl
+written_name words (dmasev e) h = rw h.words_are refl
+written_name words (dmawfe e false) h = rw h.words_are refl
+written_name words (dmawfe e true) h = rw h.words_are refl
+written_name words (dmamov r v) h = rw h.words_are refl
+
+-- What a line with a cause is read as.
+cause_by : (line : List ℕ) (cause : Cause) (r : Result Insn Cause) → line_in (words_of line) ≡ r → IsTold (words_of line) r → IsCause line cause → r ≡ Err cause
+cause_by line Mnemonic (Ok i) e told h = absurd (false≢true (sym h ∙ written_name (words_of line) told.0 told.1))
+cause_by line Mnemonic (Err Mnemonic) e told h = refl
+cause_by line Mnemonic (Err Operand) e told h = absurd (false≢true (sym h ∙ told))
+cause_by line Mnemonic (Err Range) e told h = absurd (false≢true (sym h ∙ written_name (words_of line) told.0 told.1))
+cause_by line Operand (Ok i) e told h = absurd (h.1 told.0 told.1)
+cause_by line Operand (Err Mnemonic) e told h = absurd (false≢true (sym told ∙ h.0))
+cause_by line Operand (Err Operand) e told h = refl
+cause_by line Operand (Err Range) e told h = absurd (h.1 told.0 told.1)
+cause_by line Range r e told h = sym e ∙ line_in_written (words_of line) h.0 h.1 ∙ ap (λ (o : Option Insn). ok_or o Range) h.2
+
+cause_read : (line : List ℕ) (cause : Cause) → IsCause line cause → line_in (words_of line) ≡ Err cause
+cause_read line cause h = cause_by line cause (line_in (words_of line)) refl (line_in_told (words_of line)) h
+
+-- The lines before a place are read as what they write.
+read_before : (text line : List ℕ) (n : ℕ) (insns : List Insn) (at : StandsAt text line n insns) → assembled text ≡ after_lines (length at.before) (joined insns) (line ∷ at.after)
+read_before text line n insns at =
+    let e : 0 + length at.before ≡ length at.before = omega arith in
+    ap (after_lines 0 []) at.lines_are ∙ again_before at.before (line ∷ at.after) 0 [] insns at.writes at.fits
+    ∙ ap (λ (m : ℕ). after_lines m (joined insns) (line ∷ at.after)) e
+
+-- The first fault of a text is what it is read as.
+fault_read : (text : List ℕ) (fault : AsmFault) → fault ≢ NoMemory → IsFirstFault text fault → assembled text ≡ Err fault
+fault_read text (Line n cause) other h =
+    let at = h.2 in
+    let here : after_line (length at.before + 1) (joined h.1) h.0 ≡ Err (Line (length at.before + 1) cause) = read_fault _ (joined h.1) h.0 cause h.3.taken (cause_read h.0 cause h.3.cause_is) in
+    read_before text h.0 n h.1 at ∙ rw here (ap (λ (m : ℕ). Err (Line m cause)) (sym at.number))
+fault_read text (ProgramTooLong n) other h =
+    let at = h.3 in
+    let here : after_line (length at.before + 1) (joined h.1) h.0 ≡ Err (ProgramTooLong (length at.before + 1)) = read_long _ (joined h.1) h.0 h.2 h.4.taken (writes_read h.0 h.2 h.4) h.5 in
+    read_before text h.0 n h.1 at ∙ rw here (ap (λ (m : ℕ). Err (ProgramTooLong m)) (sym at.number))
+fault_read text NoMemory other h = absurd (other refl)
+
+-- Reading takes no memory.
+no_memory_never : (text : List ℕ) (fault : AsmFault) → assembled text ≡ Err fault → fault ≢ NoMemory
+no_memory_never text fault e is =
+    let bad : Outcome 0 [] (text_lines text) (Err NoMemory) = subst (Outcome 0 [] (text_lines text)) (e ∙ ap Err is) (outcome (text_lines text) 0 [] (omega arith)) in
+    bad
+
+pub reading_tells : ReadingTells
+reading_tells = record {
+  program = λ text bytes. (λ e. assembled_ok text bytes e, λ a. assembled_again text bytes a);
+  fault = λ text fault. (λ e. (no_memory_never text fault e, assembled_err text fault e), λ h. fault_read text fault h.0 h.1);
+}

@@ -1,7 +1,7 @@
 -- The text that instructions are written as is the text of these instructions.
 use Rattle.std.proofs.Common.{◌≡◌, ℕ, ◌+◌, ◌/◌, ◌%◌, ◌^◌, ◌<◌, ◌≤◌, Bool, true, false, List, [], ◌∷◌, ◌++◌, map, length, get_or, refl, sym, ap, ◌∙◌, subst, Some, ltb, arith, append_assoc, append-nil, inl, inr}
-use Rattle.std.specs.Prelude.{codes, decimal}
-use Rattle.std.specs.List.{list_all, concat}
+use Rattle.std.specs.Prelude.{codes, decimal, flat_map}
+use Rattle.std.specs.List.{list_all, list_any, concat}
 use Rattle.std.specs.Str.{all_ascii_digits}
 use Rattle.std.specs.Str.Parse.{digits_value}
 use Rattle.std.specs.Fmt.{digit_glyph}
@@ -14,7 +14,7 @@ use Rattle.dma_insn.specs.declared.insn.Counter.TheVariants.{Lc0, Lc1}
 use Rattle.dma_insn.specs.declared.insn.Insn.{Insn}
 use Rattle.dma_insn.specs.declared.insn.Insn.TheVariants.{Mov, Ld, St, Rmb, Wmb, Nop, End, Lp, LpEnd, Sev, Wfe}
 use Rattle.dma_insn.specs.Spelling.{HasRanges}
-use Rattle.dma_insn.specs.AssemblyText.{onto_first, text_lines, words_of, is_skipped, IsDecimal, hex_digits, value_word, Statement, dmaend, dmald, dmast, dmarmb, dmawmb, dmanop, dmalp, dmalpend, dmasev, dmawfe, dmamov, IsWritten, insn_of, Writes, WriteAll, ProgramText, most_bytes, Assembles}
+use Rattle.dma_insn.specs.AssemblyText.{onto_first, text_lines, words_of, is_skipped, IsDecimal, hex_digits, value_word, Statement, dmaend, dmald, dmast, dmarmb, dmawmb, dmanop, dmalp, dmalpend, dmasev, dmawfe, dmamov, IsWritten, insn_of, Writes, WriteAll, ProgramText, joined, most_bytes, Assembles}
 use Rattle.dma_insn.specs.Disassembly.{AllInRange, insn_text, text_of, Disassembles, DisassemblyAssembles}
 use Rattle.dma_insn.proofs.ProgramLaws.{write_more, assembles_once}
 
@@ -59,7 +59,7 @@ above_decimal k n low small =
     (λ m ds h p. above-append k ds ((48 + m % 10) ∷ []) p (and_from (ltb k (48 + m % 10)) true (lt-ltb k (48 + m % 10) (omega arith)) refl))
     n small
 
-own : IsNumeralModel (λ ds. all_ascii_digits ds ≡ true) (digits_value 10)
+pub own : IsNumeralModel (λ ds. all_ascii_digits ds ≡ true) (digits_value 10)
 own = numerals_by_value (λ ds. all_ascii_digits ds ≡ true) tells_all_ascii_digits
 
 decimal_zeros : (n : ℕ) → n < 2 ^ 64 → get_or (decimal n) 0 0 ≡ 48 → length (decimal n) ≡ 1
@@ -178,7 +178,7 @@ bare_writes : (i : Insn) (s : Statement) → is_skipped (insn_text i) ≡ false 
 bare_writes i s taken words e = record { taken = taken; statement = s; words_are = words; insn_is = e }
 
 -- The line of an instruction writes it.
-insn_text_writes : (i : Insn) → HasRanges i → Writes (insn_text i) i
+pub insn_text_writes : (i : Insn) → HasRanges i → Writes (insn_text i) i
 insn_text_writes End h = bare_writes End dmaend refl refl refl
 insn_text_writes Ld h = bare_writes Ld dmald refl refl refl
 insn_text_writes St h = bare_writes St dmast refl refl refl
@@ -209,10 +209,39 @@ text_of_written (i ∷ is) h =
     let lines : text_lines (text_of (i ∷ is)) ≡ insn_text i ∷ text_lines (text_of is) = ap text_lines (append_assoc (insn_text i) (10 ∷ []) (text_of is)) ∙ lines_feed (insn_text i) (text_of is) (insn_text_above i h.0) in
     subst (λ (ls : List (List ℕ)). WriteAll ls (i ∷ is)) (sym lines) (write_more (insn_text i) (text_lines (text_of is)) i is (insn_text_writes i h.0) (text_of_written is h.1))
 
+text_of_lines : (is : List Insn) → AllInRange is → text_lines (text_of is) ≡ map insn_text is
+text_of_lines [] h = refl
+text_of_lines (i ∷ is) h =
+    ap text_lines (append_assoc (insn_text i) (10 ∷ []) (text_of is)) ∙ lines_feed (insn_text i) (text_of is) (insn_text_above i h.0)
+    ∙ ap (λ (ls : List (List ℕ)). insn_text i ∷ ls) (text_of_lines is h.1)
+
+no_line_skipped : (is : List Insn) → AllInRange is → list_any is_skipped (map insn_text is) ≡ false
+no_line_skipped [] h = refl
+no_line_skipped (i ∷ is) h = let w = insn_text_writes i h.0 in rw w.taken (no_line_skipped is h.1)
+
+pub lines_ended : (is : List Insn) → text_of is ≡ flat_map (λ line. line ++ 10 ∷ []) (map insn_text is)
+lines_ended [] = refl
+lines_ended (i ∷ is) = ap (λ (more : List ℕ). (insn_text i ++ 10 ∷ []) ++ more) (lines_ended is)
+
+-- What is written of spellings joined is their text.
+disassembled : (bytes : List ℕ) (is : List Insn) → AllInRange is → bytes ≡ joined is → Disassembles bytes (text_of is)
+disassembled bytes is h e = record {
+  insns = is;
+  in_range = h;
+  bytes_are = e;
+  program = text_of_written is h;
+  none_skipped = ap (list_any is_skipped) (text_of_lines is h) ∙ no_line_skipped is h;
+  all_ended = lines_ended is ∙ sym (ap (flat_map (λ line. line ++ 10 ∷ [])) (text_of_lines is h));
+  text_is = refl;
+}
+
+pub disassembles : (bytes text : List ℕ) (is : List Insn) → AllInRange is → bytes ≡ joined is → text ≡ text_of is → Disassembles bytes text
+disassembles bytes text is h e t = subst (Disassembles bytes) (sym t) (disassembled bytes is h e)
+
 pub text_assembles : (bytes text : List ℕ) → length bytes ≤ most_bytes → Disassembles bytes text → Assembles text bytes
 text_assembles bytes text small d = record {
   insns = d.insns;
-  text_is = subst (λ (t : List ℕ). ProgramText t d.insns) (sym d.text_is) (text_of_written d.insns d.in_range);
+  text_is = d.program;
   bytes_are = d.bytes_are;
   fits = small;
 }

@@ -1,9 +1,9 @@
 -- The text that a program's bytes are written as (profile).
-use Rattle.std.specs.Prelude.{◌≡◌, ℕ, ◌<◌, ◌≤◌, true, false, List, [], ◌∷◌, ◌++◌, length, flat_map, codes, decimal, Err}
-use Rattle.std.specs.List.{concat}
+use Rattle.std.specs.Prelude.{◌≡◌, ℕ, ◌<◌, ◌≤◌, true, false, ◌⊎◌, List, [], ◌∷◌, ◌++◌, length, slice_index, flat_map, codes, decimal, Err}
+use Rattle.std.specs.List.{concat, list_any}
 use Rattle.dma_insn.specs.Spelling.{HasRanges, IsSpelledAt, IsRefusedFor}
 use Rattle.dma_insn.specs.Decoding.{decoded}
-use Rattle.dma_insn.specs.AssemblyText.{register_word, value_word, joined, most_bytes, Assembles}
+use Rattle.dma_insn.specs.AssemblyText.{register_word, value_word, text_lines, is_skipped, ProgramText, joined, most_bytes, Assembles}
 use Rattle.dma_insn.specs.declared.insn.Counter.{Counter}
 use Rattle.dma_insn.specs.declared.insn.Counter.TheVariants.{Lc0, Lc1}
 use Rattle.dma_insn.specs.declared.insn.Insn.{Insn}
@@ -46,11 +46,15 @@ pub record AreSpelled (bytes : List ℕ) : Type 0 where
   pub in_range : AllInRange insns
   pub bytes_are : bytes ≡ joined insns
 
--- Bytes are the spellings of some instructions joined, and a text is the text of these.
+-- Bytes of any number are the spellings of some instructions joined, and a text is the text of a program of these, without a
+-- skipped line and with each line ended; the same as a function of the instructions.
 pub record Disassembles (bytes text : List ℕ) : Type 0 where
   pub insns : List Insn
   pub in_range : AllInRange insns
   pub bytes_are : bytes ≡ joined insns
+  pub program : ProgramText text insns
+  pub none_skipped : list_any is_skipped (text_lines text) ≡ false
+  pub all_ended : text ≡ flat_map (λ line. line ++ 10 ∷ []) (text_lines text)
   pub text_is : text ≡ text_of insns
 
 -- Behind the longest front of the bytes that is spellings joined stands something else, which is refused for a fault.
@@ -77,3 +81,13 @@ abbrev pub DisassemblyAssembles : Type 0
 DisassemblyAssembles =
     (bytes text : List ℕ) → length bytes ≤ most_bytes → Disassembles bytes text
     → Assembles text bytes × ((others : List ℕ) → Assembles text others → others ≡ bytes)
+
+-- Each list of bytes has a text, or a place behind which no instruction stands; none has both, or two texts. A text of a
+-- program's instructions that skips no line and ends each is written in one way.
+pub record DisassemblyTells : Type 0 where
+  pub one : (bytes : List ℕ) → ((i : ℕ) → slice_index bytes i < 256)
+      → ((text : List ℕ) × Disassembles bytes text) ⊎ ((offset : ℕ) × (fault : DecodeFault) × StopsAt bytes offset fault)
+  pub not_both : (bytes text : List ℕ) (offset : ℕ) (fault : DecodeFault) → Disassembles bytes text → StopsAt bytes offset fault → ⊥
+  pub one_text : (bytes text other : List ℕ) → Disassembles bytes text → Disassembles bytes other → text ≡ other
+  pub one_way : (text : List ℕ) (insns : List Insn) → AllInRange insns → ProgramText text insns
+      → list_any is_skipped (text_lines text) ≡ false → text ≡ flat_map (λ line. line ++ 10 ∷ []) (text_lines text) → text ≡ text_of insns

@@ -1,10 +1,10 @@
--- What reads assembly text, as functions of the bytes. `AssemblyText` says what is meant; that these functions answer so is
--- proved on `assemble`.
-use Rattle.std.specs.Prelude.{◌≡◌, ℕ, ◌+◌, ◌-◌, ◌*◌, Bool, true, false, ◌==◌, ◌&&◌, if◌then◌else◌, List, [], ◌∷◌, ◌++◌, length, Option, Some, None, Result, Ok, Err, IsOk, ◌⊎◌, codes, nat_le, min}
+-- What reads assembly text, as functions of the bytes. `AssemblyText` says what is meant; that `assembled` tells the same of
+-- every text is the law `ReadingTells`.
+use Rattle.std.specs.Prelude.{◌≡◌, ◌≢◌, ◌↔◌, ℕ, ◌+◌, ◌-◌, ◌*◌, Bool, true, false, ◌==◌, ◌&&◌, if◌then◌else◌, List, [], ◌∷◌, ◌++◌, length, Option, Some, None, Result, Ok, Err, IsOk, ◌⊎◌, codes, nat_le, min}
 use Rattle.std.specs.Option.{option_and_then, ok_or}
 use Rattle.std.specs.Str.{bytes_eq}
 use Rattle.dma_insn.specs.Spelling.{spelling}
-use Rattle.dma_insn.specs.AssemblyText.{words_of, text_lines, is_skipped, counter_of}
+use Rattle.dma_insn.specs.AssemblyText.{words_of, text_lines, is_skipped, counter_of, Assembles, IsFirstFault}
 use Rattle.dma_insn.specs.declared.insn.Reg.{Reg}
 use Rattle.dma_insn.specs.declared.insn.Reg.TheVariants.{Sar, Ccr, Dar}
 use Rattle.dma_insn.specs.declared.insn.Counter.{Counter}
@@ -215,6 +215,12 @@ after_lines n program (line ∷ lines) = do
 -- what a text assembles to, or its first fault
 abbrev pub assembled : List ℕ → Result (List ℕ) AsmFault
 assembled text = after_lines 0 [] (text_lines text)
+
+-- Reading tells of every text what the relation of texts and programs tells: the bytes to which the text assembles, exactly
+-- where it does; and its first fault, exactly where it has one.
+pub record ReadingTells : Type 0 where
+  pub program : (text bytes : List ℕ) → (assembled text ≡ Ok bytes) ↔ Assembles text bytes
+  pub fault : (text : List ℕ) (fault : AsmFault) → (assembled text ≡ Err fault) ↔ ((fault ≢ NoMemory) × IsFirstFault text fault)
 
 -- What a function returned, seen by view, is what reading gives; or memory was refused where reading gives bytes.
 abbrev pub AnswersAs : {X : Type 0} → (X → List ℕ) → Result X AsmFault → Result (List ℕ) AsmFault → Type 0

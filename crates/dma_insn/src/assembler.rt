@@ -2,7 +2,7 @@
 
 ghost use Rattle.std.specs.Prelude.{◌≡◌, ℕ, List, MatchResult, Ok, Err, IfOk, IfErr};
 ghost use Rattle.dma_insn.specs.AssemblyText.{Assembles, IsFirstFault};
-ghost use Rattle.dma_insn.specs.LineReading.{AnswersAs, after_line, assembled};
+ghost use Rattle.dma_insn.specs.LineReading.{AnswersAs, ReadingTells, after_line, assembled};
 ghost use Rattle.dma_insn.specs.declared.assembler.AsmFault.TheVariants.{NoMemory};
 
 use crate::buffer::CodeBuffer;
@@ -62,6 +62,12 @@ pub fn assemble(alloc: Global, text: &[u8]) -> Result<Vec<u8>, AsmFault>
 {
     build(alloc, text)
 }
+
+/// The law that reading a text as a function tells what the relation of texts and programs tells, for every text: its bytes
+/// exactly where it assembles to them, its first fault exactly where it has one.
+pub fn reading_tells()
+    ensures { ReadingTells }
+{}
 
 // The bytes as reading the text gives them, or its fault; want of memory where it has none.
 fn build(alloc: Global, text: &[u8]) -> Result<Vec<u8>, AsmFault>
@@ -317,6 +323,7 @@ mod tests {
         let longer = bytes_long(rt.alloc(), 8193)?;
         let fault = assemble(rt.alloc(), &longer).err();
         assert_eq!(rt; fault, Some(AsmFault::ProgramTooLong(8193)));
+        reading_tells();
         Ok(())
     }
 }

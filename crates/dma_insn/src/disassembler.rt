@@ -3,7 +3,7 @@
 ghost use Rattle.std.specs.Prelude.{◌≡◌, ℕ, ◌++◌, ◌∷◌, [], List, MatchResult, MatchOption, Ok, Err, IfOk, IfErr, OnOk, string_bytes, ◌<◌, true};
 ghost use Rattle.std.specs.Fmt.{digit_glyph};
 ghost use Rattle.dma_insn.specs.AssemblyText.{register_word, hex_digits};
-ghost use Rattle.dma_insn.specs.Disassembly.{counter_number, insn_text, AreSpelled, Disassembles, IsDisFault, StopsAt, DisassemblyAssembles};
+ghost use Rattle.dma_insn.specs.Disassembly.{counter_number, insn_text, AreSpelled, Disassembles, IsDisFault, StopsAt, DisassemblyAssembles, DisassemblyTells};
 ghost use Rattle.dma_insn.specs.declared.disassembler.DisFault.TheVariants.{NoMemory};
 ghost use Rattle.dma_insn.specs.declared.insn.Insn.TheVariants.{Mov};
 
@@ -24,7 +24,7 @@ pub enum DisFault {
 
 /// The text of a program: one line for each instruction, each ended by a line feed. Of no bytes it is empty.
 pub fn disassemble(alloc: Global, bytes: &[u8]) -> Result<Vec<u8>, DisFault>
-    // The bytes are spellings joined, and this is the text of their instructions.
+    // The bytes are spellings joined, and this is the text of a program of their instructions, one line for each.
     ensures text { IfOk result (λ text. Disassembles bytes.now text.items) }
     // Else the fault of what stands behind the longest front that is spellings joined; want of memory where all is.
     ensures fault { IfErr result (λ fault. IsDisFault bytes.now fault) }
@@ -45,6 +45,11 @@ pub fn disassemble(alloc: Global, bytes: &[u8]) -> Result<Vec<u8>, DisFault>
 /// instructions, and assembles to its bytes and to no others.
 pub fn disassembly_assembles()
     ensures { DisassemblyAssembles }
+{}
+
+/// The law that each list of bytes has a text or a place where it stops, and not both.
+pub fn disassembly_tells()
+    ensures { DisassemblyTells }
 {}
 
 // The first place where no instruction stands, and its refusal.
@@ -235,5 +240,6 @@ mod tests {
             Some((2, DecodeFault::BadField))
         );
         disassembly_assembles();
+        disassembly_tells();
     }
 }

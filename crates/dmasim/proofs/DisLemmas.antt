@@ -1,5 +1,8 @@
 -- The lines of a disassembled program.
-use Rattle.std.proofs.Common.{◌≡◌, ℕ, ◌+◌, ◌-◌, ◌<◌, ◌≤◌, List, [], ◌∷◌, ◌++◌, length, drop, map, Ok, Err, suc, zero, refl, ap, sym, ◌∙◌, arith, append_assoc}
+use Rattle.std.proofs.Common.{◌≡◌, ℕ, ◌+◌, ◌-◌, ◌<◌, ◌≤◌, Bool, true, false, cond, ltb, List, [], ◌∷◌, ◌++◌, length, drop, map, Option, Some, None, Result, Ok, Err, suc, zero, refl, ap, sym, ◌∙◌, subst, arith, append_assoc}
+use Rattle.std.specs.Prelude.{IfSome, IfOk}
+use Rattle.std.specs.Char.{digit_value}
+use Rattle.std.proofs.lemmas.Bool.{ltb-true}
 use Rattle.std.proofs.lemmas.List.{length-append, append-nil}
 use Rattle.std.proofs.Math.Seq.{drop-append_seam}
 use Rattle.dma_insn.specs.declared.insn.Insn.{Insn}
@@ -8,9 +11,13 @@ use Rattle.dma_insn.specs.Spelling.{spelling}
 use Rattle.dma_insn.specs.Decoding.{decoded}
 use Rattle.dma_insn.specs.AssemblyText.{joined}
 use Rattle.dma_insn.specs.Disassembly.{AllInRange, Disassembles, StopsAt, insn_text, text_of}
-use Rattle.dma_insn.proofs.Laws.{decoded-spelling, spelling_some}
+use Rattle.dma_insn.proofs.Laws.{IsBytes, decoded-spelling, spelling_some}
+use Rattle.dma_insn.proofs.Fronts.{disassembly_tells}
 use Rattle.dma_script.specs.Command as command
-use Rattle.dmasim.specs.Disassembled.{lines_from, with_line, lines_printed, decode_fault_line}
+use Rattle.dma_script.specs.Words.{hex_digit_of}
+use Rattle.dma_script.specs.Lines.{◌>>=◌}
+use Rattle.dma_script.specs.Pairs.{is_gap, line_after, pair_of, pairs_from, pairs_of}
+use Rattle.dmasim.specs.Disassembled.{DisPrints, lines_from, with_line, lines_printed, dis_printed_of, decode_fault_line}
 
 -- bytes that are skipped are only counted
 lines_from-skipped : (offset k : ℕ) (xs : List ℕ) → k ≤ length xs → lines_from offset k xs ≡ lines_from (offset + k) 0 (drop k xs)
@@ -63,11 +70,18 @@ pub text_of-lines : (is : List Insn) → text_of is ≡ command.text_of (map ins
 text_of-lines [] = refl
 text_of-lines (i ∷ is) = ap (λ more. (insn_text i ++ 10 ∷ []) ++ more) (text_of-lines is)
 
+-- bytes that have a text have its lines
+lines_from-text : (bytes text : List ℕ) (d : Disassembles bytes text) → lines_from 0 0 bytes ≡ Ok (map insn_text d.insns)
+lines_from-text bytes text d = ap (lines_from 0 0) d.bytes_are ∙ lines_from-joined 0 d.insns d.in_range
+
+shown-text : (bytes text : List ℕ) (d : Disassembles bytes text) → command.text_of (map insn_text d.insns) ≡ text
+shown-text bytes text d = sym (text_of-lines d.insns) ∙ sym d.text_is
+
 -- bytes that have a text print it
 pub printed-text : (bytes text : List ℕ) → Disassembles bytes text → (command.printed_text (lines_printed (lines_from 0 0 bytes)).groups ≡ text) × ((lines_printed (lines_from 0 0 bytes)).status ≡ 0)
 printed-text bytes text d =
-    let read : lines_from 0 0 bytes ≡ Ok (map insn_text d.insns) = ap (lines_from 0 0) d.bytes_are ∙ lines_from-joined 0 d.insns d.in_range in
-    let shown : command.text_of (map insn_text d.insns) ++ [] ≡ text = append-nil (command.text_of (map insn_text d.insns)) ∙ sym (text_of-lines d.insns) ∙ sym d.text_is in
+    let read = lines_from-text bytes text d in
+    let shown : command.text_of (map insn_text d.insns) ++ [] ≡ text = append-nil (command.text_of (map insn_text d.insns)) ∙ shown-text bytes text d in
     (rw read shown, rw read refl)
 
 -- others print their fault
@@ -76,3 +90,48 @@ printed-stops bytes offset fault s =
     let e : 0 + length (joined s.insns) ≡ offset = omega (arith, s.offset_is) in
     let read : lines_from 0 0 bytes ≡ Err (offset, fault) = ap (lines_from 0 0) s.bytes_are ∙ lines_from-stops 0 s.insns s.rest fault s.in_range s.some s.fault_is ∙ ap (λ o. Err (o, fault)) e in
     ap lines_printed read
+
+-- what pairs spell are bytes
+digit_small_by : (v : ℕ) (t : Bool) → ltb v 16 ≡ t → IfSome (cond t (Some v) None) (λ d. d < 16)
+digit_small_by v true e = ltb-true v 16 e
+digit_small_by v false e = tt
+
+digit_small : (b : ℕ) → IfSome (hex_digit_of b) (λ d. d < 16)
+digit_small b = digit_small_by (digit_value b) (ltb (digit_value b) 16) refl
+
+pair_small : (line : ℕ) (high low : Option ℕ) → IfSome high (λ d. d < 16) → IfSome low (λ d. d < 16) → IfOk (pair_of line high low) (λ byte. byte < 256)
+pair_small line (Some high) (Some low) h l = omega (arith, h, l)
+pair_small line (Some high) None h l = tt
+pair_small line None low h l = tt
+
+bytes_none : IsBytes []
+bytes_none i = omega arith
+
+bytes_more : (byte : ℕ) (more : List ℕ) → byte < 256 → IsBytes more → IsBytes (byte ∷ more)
+bytes_more byte more small h zero = small
+bytes_more byte more small h (suc i) = h i
+
+pair_then : (pair : Result ℕ ℕ) (rest : Result (List ℕ) ℕ) → IfOk pair (λ byte. byte < 256) → IfOk rest IsBytes → IfOk (pair >>= λ byte. rest >>= λ more. Ok (byte ∷ more)) IsBytes
+pair_then (Ok byte) (Ok more) small h = bytes_more byte more small h
+pair_then (Ok byte) (Err line) small h = tt
+pair_then (Err line) rest small h = tt
+
+by_gap : (t : Bool) (x y : Result (List ℕ) ℕ) → IfOk x IsBytes → IfOk y IsBytes → IfOk (cond t x y) IsBytes
+by_gap true x y h k = h
+by_gap false x y h k = k
+
+pairs_bytes : (input : List ℕ) (line : ℕ) → IfOk (pairs_from line input) IsBytes
+pairs_bytes [] line = bytes_none
+pairs_bytes (a ∷ []) line = by_gap (is_gap a) (Ok []) (Err line) bytes_none tt
+pairs_bytes (a ∷ b ∷ rest) line =
+    by_gap (is_gap a) _ _ (pairs_bytes (b ∷ rest) (line_after line a)) (pair_then _ _ (pair_small line _ _ (digit_small a) (digit_small b)) (pairs_bytes rest line))
+
+pairs_of-bytes : (input bytes : List ℕ) → pairs_of input ≡ Ok bytes → IsBytes bytes
+pairs_of-bytes input bytes e = subst (λ (r : Result (List ℕ) ℕ). IfOk r IsBytes) e (pairs_bytes input 1)
+
+pub dis_prints : DisPrints
+dis_prints = record {
+  one = λ input bytes e. disassembly_tells.one bytes (pairs_of-bytes input bytes e);
+  text = λ input bytes text e d. (map insn_text d.insns, ap dis_printed_of e ∙ ap lines_printed (lines_from-text bytes text d), shown-text bytes text d);
+  fault = λ input bytes offset fault e s. ap dis_printed_of e ∙ printed-stops bytes offset fault s;
+}

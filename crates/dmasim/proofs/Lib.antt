@@ -4,4 +4,5 @@ pub mod StepLemmas
 pub mod CopyLemmas
 pub mod DisLemmas
 pub mod PlanLemmas
+pub mod AsmLemmas
 pub mod Rows

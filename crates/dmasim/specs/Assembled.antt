@@ -1,11 +1,11 @@
 -- What `dmasim asm` prints for an input.
-use Rattle.std.specs.Prelude.{ℕ, ◌<◌, ◌∷◌, [], List, length, Result, Ok, Err, codes, decimal}
+use Rattle.std.specs.Prelude.{◌≡◌, ◌≢◌, ◌⊎◌, ℕ, ◌∷◌, [], List, Result, Ok, Err, codes, decimal}
 use Rattle.std.specs.List.{concat}
-use Rattle.std.proofs.Math.Nat.{zero-lt-suc}
 use Rattle.dma_insn.specs.declared.assembler.Cause.{Cause}
 use Rattle.dma_insn.specs.declared.assembler.Cause.TheVariants.{Mnemonic, Operand, Range}
 use Rattle.dma_insn.specs.declared.assembler.AsmFault.{AsmFault}
 use Rattle.dma_insn.specs.declared.assembler.AsmFault.TheVariants.{Line, ProgramTooLong, NoMemory}
+use Rattle.dma_insn.specs.AssemblyText.{Assembles, IsFirstFault}
 use Rattle.dma_insn.specs.LineReading.{assembled}
 use Rattle.dma_script.specs.Command.{Printed, refusal}
 use Rattle.dma_script.specs.Printing.{program_lines}
@@ -31,7 +31,12 @@ asm_printed_of (Err fault) = refusal (fault_line fault)
 abbrev pub asm_printed : List ℕ → Printed
 asm_printed input = asm_printed_of (assembled input)
 
--- there is one group, for the program or the fault
-abbrev pub asm_printed_of-some : (read : Result (List ℕ) AsmFault) → 0 < length (asm_printed_of read).groups
-asm_printed_of-some (Ok program) = zero-lt-suc _
-asm_printed_of-some (Err fault) = zero-lt-suc _
+-- What is printed, told by the relation of texts and programs alone: each input assembles to a program, whose bytes are
+-- printed, or has a first fault, whose line is.
+pub record AsmPrints : Type 0 where
+  pub one : (input : List ℕ)
+      → ((program : List ℕ) × Assembles input program) ⊎ ((fault : AsmFault) × (fault ≢ NoMemory) × IsFirstFault input fault)
+  pub program : (input program : List ℕ) → Assembles input program
+      → asm_printed input ≡ record { groups = program_lines program ∷ []; status = 0 }
+  pub fault : (input : List ℕ) (fault : AsmFault) → fault ≢ NoMemory → IsFirstFault input fault
+      → asm_printed input ≡ refusal (fault_line fault)

@@ -1,12 +1,11 @@
 -- What `dmasim dis` prints for an input.
-use Rattle.std.specs.Prelude.{ℕ, ◌+◌, ◌-◌, ◌<◌, length, ◌++◌, ◌∷◌, [], List, Result, Ok, Err, suc, zero, codes, decimal}
+use Rattle.std.specs.Prelude.{◌≡◌, ◌⊎◌, ℕ, ◌+◌, ◌-◌, ◌++◌, ◌∷◌, [], List, Result, Ok, Err, suc, zero, codes, decimal}
 use Rattle.std.specs.List.{concat}
-use Rattle.std.proofs.Math.Nat.{zero-lt-suc}
 use Rattle.dma_insn.specs.declared.codec.DecodeFault.{DecodeFault}
 use Rattle.dma_insn.specs.declared.codec.DecodeFault.TheVariants.{Cut, Unknown, BadField}
 use Rattle.dma_insn.specs.Decoding.{Decoded, decoded}
-use Rattle.dma_insn.specs.Disassembly.{insn_text}
-use Rattle.dma_script.specs.Command.{Printed, refusal}
+use Rattle.dma_insn.specs.Disassembly.{insn_text, Disassembles, StopsAt}
+use Rattle.dma_script.specs.Command.{Printed, refusal, text_of}
 use Rattle.dma_script.specs.Printing.{hex_byte_of}
 use Rattle.dma_script.specs.Pairs.{pairs_of, pairs_fault_line}
 
@@ -48,11 +47,12 @@ dis_printed_of (Err line) = refusal (pairs_fault_line line)
 abbrev pub dis_printed : List ℕ → Printed
 dis_printed input = dis_printed_of (pairs_of input)
 
--- there is one group, for the text or the fault
-abbrev pub lines_printed-some : (read : Result (List (List ℕ)) (ℕ × DecodeFault)) → 0 < length (lines_printed read).groups
-lines_printed-some (Ok lines) = zero-lt-suc _
-lines_printed-some (Err fault) = zero-lt-suc _
-
-abbrev pub dis_printed_of-some : (read : Result (List ℕ) ℕ) → 0 < length (dis_printed_of read).groups
-dis_printed_of-some (Ok bytes) = lines_printed-some (lines_from 0 0 bytes)
-dis_printed_of-some (Err line) = zero-lt-suc _
+-- What is printed for pairs of digits, told by the relation of bytes and texts alone: the bytes that they spell have a text,
+-- which is printed, or a first place where no instruction stands, whose line is.
+pub record DisPrints : Type 0 where
+  pub one : (input bytes : List ℕ) → pairs_of input ≡ Ok bytes
+      → ((text : List ℕ) × Disassembles bytes text) ⊎ ((offset : ℕ) × (fault : DecodeFault) × StopsAt bytes offset fault)
+  pub text : (input bytes text : List ℕ) → pairs_of input ≡ Ok bytes → Disassembles bytes text
+      → (lines : List (List ℕ)) × (dis_printed input ≡ record { groups = lines ∷ []; status = 0 }) × (text_of lines ≡ text)
+  pub fault : (input bytes : List ℕ) (offset : ℕ) (fault : DecodeFault) → pairs_of input ≡ Ok bytes → StopsAt bytes offset fault
+      → dis_printed input ≡ refusal (decode_fault_line offset fault)

@@ -1,7 +1,6 @@
 -- What `dmasim plan` prints for an input.
-use Rattle.std.specs.Prelude.{ℕ, ◌<◌, ◌∷◌, [], ◌++◌, List, length, Option, Some, None, Result, Ok, Err, codes, decimal}
+use Rattle.std.specs.Prelude.{ℕ, ◌∷◌, [], ◌++◌, List, length, Option, Some, None, Result, Ok, Err, codes, decimal}
 use Rattle.std.specs.List.{concat}
-use Rattle.std.proofs.Math.Nat.{zero-lt-suc}
 use Rattle.dma_mem.specs.declared.transfer.TransferFault.{TransferFault}
 use Rattle.dma_mem.specs.Places.{Descriptor}
 use Rattle.dma_mem.specs.Rules.{refusal_of}
@@ -44,12 +43,3 @@ plan_printed_of (Err fault) = refusal (fault_line fault)
 -- What is printed for an input.
 abbrev pub plan_printed : List ℕ → Printed
 plan_printed input = plan_printed_of (plan_of input)
-
--- there is one group, for the program or the fault
-abbrev pub transfer_printed-some : (line : PlanLine) (unfit : Option TransferFault) → 0 < length (transfer_printed line unfit).groups
-transfer_printed-some line None = zero-lt-suc _
-transfer_printed-some line (Some fault) = zero-lt-suc _
-
-abbrev pub plan_printed_of-some : (read : Result PlanLine Fault) → 0 < length (plan_printed_of read).groups
-plan_printed_of-some (Ok line) = transfer_printed-some line (refusal_of (transfer_of line))
-plan_printed_of-some (Err fault) = zero-lt-suc _

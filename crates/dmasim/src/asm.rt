@@ -1,7 +1,7 @@
 //! The command `asm`: it prints the bytes of the program that a text writes.
 ghost use Rattle.std.specs.Prelude.{◌≡◌, ◌≢◌, ◌≤◌, ◌+◌, ◌++◌, ◌∷◌, [], OnOk, OnErr, IfSome};
 ghost use Rattle.dma_script.specs.Command.{Ends, failures, printed_within, text_of};
-ghost use Rattle.dmasim.specs.Assembled.{asm_printed, cause_name, fault_line};
+ghost use Rattle.dmasim.specs.Assembled.{AsmPrints, asm_printed, cause_name, fault_line};
 
 use dma_insn::assembler::{AsmFault, Cause, assemble};
 use dma_script::command::{Command, FAULT, SUCCESS, serve};
@@ -55,8 +55,10 @@ fn push_too_long(alloc: Global, out: &mut Vec<u8>, n: usize) -> Result<(), Alloc
 struct Asm;
 
 impl Command for Asm {
+    ghost use Rattle.std.specs.Prelude.{◌<◌, length, Ok, Err};
+    ghost use Rattle.std.proofs.Math.Nat.{zero-lt-suc};
     ghost use Rattle.dma_insn.specs.LineReading.{assembled};
-    ghost use Rattle.dmasim.specs.Assembled.{asm_printed, asm_printed_of-some};
+    ghost use Rattle.dmasim.specs.Assembled.{asm_printed, asm_printed_of};
 
     ghost printed = { asm_printed };
 
@@ -73,8 +75,16 @@ impl Command for Asm {
         }
     }
 
-    ghost some_group = { λ input. asm_printed_of-some (assembled input) };
+    ghost some_group = { λ input. elim (assembled input) as (λ read. 0 < length (asm_printed_of read).groups) [
+      | Ok program ↦ zero-lt-suc _
+      | Err fault ↦ zero-lt-suc _
+    ] };
 }
+
+/// The law that what `asm` prints is told by the relation of texts and programs alone.
+pub fn asm_prints()
+    ensures { AsmPrints }
+{}
 
 /// Reads a program's text, writes its bytes or the line of its first fault and nothing else, and gives the exit status: 0,
 /// or 1 for a fault of the text or a failing stream, or 3 for want of memory, where nothing is written.

@@ -2,7 +2,7 @@
 ghost use Rattle.std.specs.Prelude.{◌≡◌, ◌≢◌, ◌≤◌, ◌+◌, ◌++◌, ◌∷◌, [], OnOk, OnErr, IfOk, IfSome};
 ghost use Rattle.dma_insn.specs.declared.codec.DecodeFault.{DecodeFault};
 ghost use Rattle.dma_script.specs.Command.{AppendsGroups, Ends, failures, printed_text, printed_within, text_of};
-ghost use Rattle.dmasim.specs.Disassembled.{decode_fault_line, dis_printed, lines_from, lines_printed};
+ghost use Rattle.dmasim.specs.Disassembled.{DisPrints, decode_fault_line, dis_printed, lines_from, lines_printed};
 
 use dma_insn::codec::DecodeFault;
 use dma_insn::disassembler::{DisFault, disassemble};
@@ -76,8 +76,10 @@ fn push_text(alloc: Global, out: &mut Vec<u8>, bytes: &[u8]) -> Result<u8, Alloc
 struct Dis;
 
 impl Command for Dis {
+    ghost use Rattle.std.specs.Prelude.{◌<◌, length, Ok, Err};
+    ghost use Rattle.std.proofs.Math.Nat.{zero-lt-suc};
     ghost use Rattle.dma_script.specs.Pairs.{pairs_of};
-    ghost use Rattle.dmasim.specs.Disassembled.{dis_printed, dis_printed_of-some};
+    ghost use Rattle.dmasim.specs.Disassembled.{dis_printed, dis_printed_of, lines_from, lines_printed};
 
     ghost printed = { dis_printed };
 
@@ -92,8 +94,19 @@ impl Command for Dis {
         }
     }
 
-    ghost some_group = { λ input. dis_printed_of-some (pairs_of input) };
+    ghost some_group = { λ input. elim (pairs_of input) as (λ read. 0 < length (dis_printed_of read).groups) [
+      | Ok bytes ↦ elim (lines_from 0 0 bytes) as (λ read. 0 < length (lines_printed read).groups) [
+        | Ok lines ↦ zero-lt-suc _
+        | Err fault ↦ zero-lt-suc _
+      ]
+      | Err line ↦ zero-lt-suc _
+    ] };
 }
+
+/// The law that what `dis` prints for pairs of digits is told by the relation of bytes and texts alone.
+pub fn dis_prints()
+    ensures { DisPrints }
+{}
 
 /// Reads pairs of hexadecimal digits, writes the text of the program that they spell or the line of the first fault and
 /// nothing else, and gives the exit status: 0, or 1 for a fault of the input or a failing stream, or 3 for want of memory,

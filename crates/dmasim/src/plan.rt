@@ -97,8 +97,11 @@ fn push_transfer(alloc: Global, out: &mut Vec<u8>, line: &PlanLine) -> Result<u8
 struct Plan;
 
 impl Command for Plan {
+    ghost use Rattle.std.specs.Prelude.{◌<◌, length, Some, None, Ok, Err};
+    ghost use Rattle.std.proofs.Math.Nat.{zero-lt-suc};
+    ghost use Rattle.dma_mem.specs.Rules.{refusal_of};
     ghost use Rattle.dma_script.specs.Plan.{plan_of};
-    ghost use Rattle.dmasim.specs.Planned.{plan_printed, plan_printed_of-some};
+    ghost use Rattle.dmasim.specs.Planned.{plan_printed, plan_printed_of, transfer_of, transfer_printed};
 
     ghost printed = { plan_printed };
 
@@ -113,7 +116,13 @@ impl Command for Plan {
         }
     }
 
-    ghost some_group = { λ input. plan_printed_of-some (plan_of input) };
+    ghost some_group = { λ input. elim (plan_of input) as (λ read. 0 < length (plan_printed_of read).groups) [
+      | Ok line ↦ elim (refusal_of (transfer_of line)) as (λ unfit. 0 < length (transfer_printed line unfit).groups) [
+        | None ↦ zero-lt-suc _
+        | Some fault ↦ zero-lt-suc _
+      ]
+      | Err fault ↦ zero-lt-suc _
+    ] };
 }
 
 /// Reads the line of a transfer, writes its program or the line of the first fault and nothing else, and gives the exit

@@ -1,6 +1,6 @@
 //! Whole runs: what is printed for an input, by the rules of the formats.
-use crate::asm::asm_main;
-use crate::dis::dis_main;
+use crate::asm::{asm_main, asm_prints};
+use crate::dis::{dis_main, dis_prints};
 use crate::plan::plan_main;
 use crate::run::run_script;
 use dma_script::output::Sink;
@@ -105,6 +105,7 @@ fn assembled(rt: HostRuntime) -> Result<(), Fail> {
         assert_eq!(rt; ran.0, status);
         assert_eq!(rt; ran.1.as_slice(), text);
     }
+    asm_prints();
     Ok(())
 }
 
@@ -140,6 +141,7 @@ fn disassembled(rt: HostRuntime) -> Result<(), Fail> {
     }
     let ran = dis(rt.alloc(), b"00 34 01");
     assert_eq!(rt; ran.1.as_slice(), b"offset 1: BadField\n".as_slice());
+    dis_prints();
     Ok(())
 }
 
@@ -178,6 +180,106 @@ fn planned(rt: HostRuntime) -> Result<(), Fail> {
         (b"", 1, b"line 0: First\n"),
         (b"0x100+0 to 0x200+0\n0+1 to 1+1", 1, b"line 2: Words\n"),
         (b"0+1 to 1+1 wait signal", 1, b"line 1: Number\n"),
+    ];
+    for (input, status, text) in cases {
+        let ran = plan(rt.alloc(), input);
+        assert_eq!(rt; ran.0, status);
+        assert_eq!(rt; ran.1.as_slice(), text);
+    }
+    Ok(())
+}
+
+#[test]
+fn longest_program(rt: HostRuntime) -> Result<(), Fail> {
+    // 8,192 bytes are a program, and the line with one more is named
+    let mut text = Vec::new(rt.alloc());
+    for _ in 0..8192 {
+        text.extend_from_slice(b"DMANOP\n")?;
+    }
+    let ran = asm(rt.alloc(), &text);
+    assert_eq!(rt; ran.0, 0);
+    assert_eq!(rt; ran.1.len(), 3 * 8192);
+    text.extend_from_slice(b"DMAEND")?;
+    let ran = asm(rt.alloc(), &text);
+    assert_eq!(rt; ran.0, 1);
+    assert_eq!(rt; ran.1.as_slice(), b"line 8193: ProgramTooLong\n".as_slice());
+    Ok(())
+}
+
+#[test]
+fn disassembled_without_limit(rt: HostRuntime) -> Result<(), Fail> {
+    // a byte more than a program that is assembled may have
+    let mut pairs = Vec::new(rt.alloc());
+    let mut text = Vec::new(rt.alloc());
+    for _ in 0..8193 {
+        pairs.extend_from_slice(b"18 ")?;
+        text.extend_from_slice(b"DMANOP\n")?;
+    }
+    let ran = dis(rt.alloc(), &pairs);
+    assert_eq!(rt; ran.0, 0);
+    assert_eq!(rt; ran.1.as_slice(), text.as_slice());
+    pairs.extend_from_slice(b"28")?;
+    let ran = dis(rt.alloc(), &pairs);
+    assert_eq!(rt; ran.0, 1);
+    assert_eq!(rt; ran.1.as_slice(), b"offset 8193: Unknown 28\n".as_slice());
+    Ok(())
+}
+
+#[test]
+fn planned_pieces(rt: HostRuntime) -> Result<(), Fail> {
+    let cases: [(&[u8], u8, &[u8]); 5] = [
+        (
+            b"0x1001+1 to 0x2002+1",
+            0,
+            b"BC 00 01 10 00 00 BC 02 02 20 00 00 BC 01 01 40\n00 00 04 12 08 13 00\nbytes 23\ncost 8\n",
+        ),
+        (
+            b"0x1001+4113 to 0x4002+4113",
+            0,
+            b"BC 00 01 10 00 00 BC 02 02 40 00 00 BC 01 F1 40\n3C 00 20 00 22 FF 04 12 08 13 3C 04 38 08 22 00\n04 12 08 13 3C 04 BC 01 01 40 00 00 04 12 08 13\n00\nbytes 49\ncost 1298\n",
+        ),
+        (
+            b"0x1+1048576 to 0x200001+1048576",
+            0,
+            b"BC 00 01 00 00 00 BC 02 01 00 20 00 BC 01 F1 40\n3C 00 20 FF 22 FF 04 12 08 13 3C 04 38 08 00\nbytes 31\ncost 328197\n",
+        ),
+        (
+            b"0x10+3,0x21+5 to 0x40+8",
+            0,
+            b"BC 00 10 00 00 00 BC 02 40 00 00 00 BC 01 03 C0\n00 00 04 12 08 13 BC 01 01 40 00 00 04 12 08 13\nBC 00 21 00 00 00 BC 02 43 00 00 00 BC 01 41 40\n10 00 04 12 08 13 00\nbytes 55\ncost 20\n",
+        ),
+        (
+            b"0x100+4 to 0x108+4",
+            0,
+            b"BC 00 00 01 00 00 BC 02 08 01 00 00 BC 01 05 40\n01 00 04 12 08 13 00\nbytes 23\ncost 8\n",
+        ),
+    ];
+    for (input, status, text) in cases {
+        let ran = plan(rt.alloc(), input);
+        assert_eq!(rt; ran.0, status);
+        assert_eq!(rt; ran.1.as_slice(), text);
+    }
+    Ok(())
+}
+
+#[test]
+fn planned_refusals(rt: HostRuntime) -> Result<(), Fail> {
+    let cases: [(&[u8], u8, &[u8]); 7] = [
+        (
+            b"0x100+8 to 0x104+8",
+            1,
+            b"line 1: SourceMeetsDestination\n",
+        ),
+        (b"0x100+4 to 0x200+4 wait 32", 1, b"line 1: BadEvent\n"),
+        (b"0x100+4 to 0x200+4 signal 32", 1, b"line 1: BadEvent\n"),
+        (
+            b"0x100+4 to 0x200+4 wait 31 signal 255",
+            1,
+            b"line 1: BadEvent\n",
+        ),
+        (b"0x100+4 to 0x200+4 wait 256", 1, b"line 1: Range\n"),
+        (b"0x100+4 to 0x200+4 signal 256", 1, b"line 1: Range\n"),
+        (b"0x100+8 to 0x104+8 wait 256", 1, b"line 1: Range\n"),
     ];
     for (input, status, text) in cases {
         let ran = plan(rt.alloc(), input);

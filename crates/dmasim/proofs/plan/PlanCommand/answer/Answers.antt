@@ -2,7 +2,7 @@ use Rattle.std.proofs.Common.{sym, ◌∙◌}
 use Rattle.std.proofs.lemmas.List.{append-nil}
 use Rattle.std.proofs.lemmas.Result.{on_err_weaker}
 use Rattle.dma_script.specs.Plan.{plan_of}
-use Rattle.dmasim.specs.Planned.{plan_printed_of-some}
+use Rattle.dmasim.proofs.PlanLemmas.{plan_printed_of-some}
 use Rattle.dmasim.proofs.plan.PlanCommand.answer.Goals as goal
 
 pub returns-in-Ok-clause-refused : goal.returns-in-Ok-clause-refused
