@@ -5,6 +5,7 @@
 import os
 import subprocess
 import sys
+import tempfile
 import time
 
 HERE = os.path.dirname(os.path.abspath(__file__))
@@ -32,6 +33,15 @@ def run(text):
     return done.stdout
 
 
+def peak(text):
+    """The most memory that a run holds, in MiB."""
+    with tempfile.TemporaryFile() as script_file:
+        script_file.write(text)
+        script_file.seek(0)
+        done = subprocess.Popen([PROGRAM, "run"], stdin=script_file, stdout=subprocess.DEVNULL)
+        return os.wait4(done.pid, 0)[2].ru_maxrss / 1024
+
+
 def memcpy(size, count):
     """`count` copies of `size` bytes between two blocks, by slice assignment, which is memmove."""
     source = bytearray(os.urandom(4096) * (size // 4096 + 1))[:size]
@@ -49,10 +59,13 @@ def main():
     print("%-28s %8.1f ms" % ("a script of one line", 1000 * empty))
     writes = script("write_script.py")
     lines = writes.count(b"\n") - 1
+    print("%-28s %8.1f MiB" % ("memory of a script of one line", peak(b"memory 1 1\n")))
+    print("%-28s %8.1f MiB" % ("memory of 4 MiB of writes", peak(writes)))
     assert run(writes) == b"ok\n" * lines
     report("4 MiB of write lines", best(lambda: run(writes)), memcpy(len(writes), 1), "memcpy of the script")
     copies = script("copy_script.py")
     assert run(copies).count(b"finished") == 100
+    print("%-28s %8.1f MiB (its memory line has 16 MiB)" % ("memory of 100 copies", peak(copies)))
     report("100 copies of 1 MiB", best(lambda: run(copies)), memcpy(1 << 20, 100), "memcpy 100 x 1 MiB   ")
     for count in (1000, 10000, 100000):
         submits = script("submit_script.py", count)

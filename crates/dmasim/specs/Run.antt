@@ -1,6 +1,5 @@
 -- What `dmasim run` prints for an input.
 use Rattle.std.specs.Prelude.{◌≡◌, ◌≢◌, ℕ, ◌+◌, ◌<◌, ◌++◌, ◌∷◌, [], if◌then◌else◌, ◌||◌, Bool, true, false, nat_lt, zero, suc, Option, Some, None, Result, Ok, Err, List, length, map, replicate, codes, decimal}
-use Rattle.std.proofs.Math.Nat.{zero-lt-suc}
 use Rattle.std.specs.Str.{bytes_eq}
 use Rattle.dma_mem.specs.declared.segment.Segment.{Segment}
 use Rattle.dma_mem.specs.declared.transfer.TransferFault.{TransferFault}
@@ -182,8 +181,3 @@ text_with ch lines answer count rest = lines ++ text_of (step_lines ch (replicat
 abbrev pub AreServed : List Reply → Type 0
 AreServed [] = Unit {0}
 AreServed (reply ∷ rest) = (reply ≢ Refused NoMemory) × AreServed rest
-
--- there is a group for the memory line, or for the fault
-abbrev pub printed_of-some : (read : Result RunScript Fault) → 0 < length (printed_of read).groups
-printed_of-some (Ok script) = zero-lt-suc _
-printed_of-some (Err fault) = zero-lt-suc _

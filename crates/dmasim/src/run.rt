@@ -86,7 +86,9 @@ struct Run;
 
 impl Command for Run {
     ghost use Rattle.dma_script.specs.Statements.{run_script_of};
-    ghost use Rattle.dmasim.specs.Run.{printed, printed_of-some};
+    ghost use Rattle.std.specs.Prelude.{◌<◌, length, Ok, Err};
+    ghost use Rattle.std.proofs.Math.Nat.{zero-lt-suc};
+    ghost use Rattle.dmasim.specs.Run.{printed, printed_of};
 
     ghost printed = { printed };
 
@@ -109,7 +111,10 @@ impl Command for Run {
         }
     }
 
-    ghost some_group = { λ input. printed_of-some (run_script_of input) };
+    ghost some_group = { λ input. elim (run_script_of input) as (λ read. 0 < length (printed_of read).groups) [
+      | Ok script ↦ zero-lt-suc _
+      | Err fault ↦ zero-lt-suc _
+    ] };
 }
 
 /// Reads a script, carries it out, writes what it prints and nothing else, and gives the exit status: 0, or 1 for a fault
