@@ -1,3 +1,11 @@
--- The object of one thread, and what each entry of a history does to it.
+-- The object of one thread, and what each entry of a history does to it; how an engine is seen, and what each call answers.
 pub mod Object
 pub mod History
+pub mod Ticks
+pub mod View
+pub mod Turn
+pub mod Answer
+pub mod Ways
+pub mod Holds
+pub mod Inside
+pub mod Due

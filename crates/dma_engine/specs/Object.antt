@@ -1,10 +1,15 @@
 -- The object that a DMA controller is for one thread, and what each entry of its history needs of it and does to it.
-use Rattle.std.specs.Prelude.{◌≡◌, ℕ, ◌+◌, ◌-◌, ◌<◌, ◌≤◌, if◌then◌else◌, Bool, true, false, nat_lt, Option, None, IsSome, IsSomeAnd, unwrap_or, List, [], ◌∷◌, ◌++◌, length, take, drop, replicate, slice_get, slice_index_or, slice_set}
-use Rattle.dma_mem.specs.Places.{Descriptor, lies_below, size_of}
+use Rattle.std.specs.Prelude.{◌≡◌, ℕ, ◌+◌, ◌-◌, ◌<◌, ◌≤◌, if◌then◌else◌, Bool, true, false, nat_lt, Option, Some, None, IsSome, IsSomeAnd, MatchOption, unwrap_or, List, [], ◌∷◌, ◌++◌, length, map, take, drop, replicate, slice_get, slice_index_or, slice_set}
+use Rattle.dma_mem.specs.Places.{Descriptor, lies_below, size_of, sources, destinations}
 use Rattle.dma_mem.specs.Rules.{IsTransfer}
 use Rattle.dma_mem.specs.Image.{put, bytes_at, laid}
+use Rattle.dma_mem.specs.declared.segment.Segment.{Segment}
 use Rattle.dma_engine.specs.declared.entry.Entry.{Entry}
-use Rattle.dma_engine.specs.declared.entry.Entry.TheVariants.{Wrote, ReadBack, Submitted, Issued, Finished}
+use Rattle.dma_engine.specs.declared.entry.Entry.TheVariants.{Wrote, ReadBack, Submitted, Issued, Passed, Signalled, Finished, Terminated, Marked, Unmarked}
+use Rattle.dma_engine.specs.declared.entry.Signaller.TheVariants.{Channel, Host}
+use Rattle.dma_mem.specs.declared.marks.MarkKind.{MarkKind}
+use Rattle.dma_mem.specs.declared.marks.MarkKind.TheVariants.{Reading, Writing}
+use Rattle.dma_chan.specs.Layer.{meets_mark}
 use Rattle.dma_engine.specs.declared.outcome.Outcome.{Outcome}
 use Rattle.dma_engine.specs.declared.outcome.TransResult.{TransResult}
 use Rattle.dma_engine.specs.declared.outcome.TransResult.TheVariants.{NoError, ReadFailed, WriteFailed, Aborted}
@@ -23,18 +28,22 @@ pub record ChannelState : Type 0 where
   pub signalled : Bool
   pub halted : Bool
 
--- The object of one thread: an image of the memory, and its channels.
+-- The object of one thread: an image of the memory, the flag of each event, the marked ranges, and its channels.
 pub record Object : Type 0 where
   pub image : List ℕ
+  pub events : List Bool
+  pub marks : List (MarkKind × Segment)
   pub channels : List ChannelState
 
 -- a channel to which nothing was submitted
 abbrev pub new_channel : ChannelState
 new_channel = record { submitted = []; issued = 0; outcomes = []; passed = false; signalled = false; halted = false }
 
--- The opening object: a memory of zeros, and channels to which nothing was submitted.
+-- The opening object: a memory of zeros, 32 clear flags (PL330 manual, DMASEV and DMAWFE), no marks, and channels to which
+-- nothing was submitted.
 unfoldable pub opening : ℕ → ℕ → Object
-opening size channels = record { image = replicate size 0; channels = replicate channels new_channel }
+opening size channels =
+    record { image = replicate size 0; events = replicate 32 false; marks = []; channels = replicate channels new_channel }
 
 -- the channel of that number; where there is none, one to which nothing was submitted
 abbrev pub channel : Object → ℕ → ChannelState
@@ -43,12 +52,22 @@ channel o ch = slice_index_or o.channels ch new_channel
 abbrev pub with_channel : Object → ℕ → ChannelState → Object
 with_channel o ch c = record o { channels = slice_set o.channels ch c }
 
--- how many cookies a channel has given, and how many of them are finished
+-- whether the flag of an event is set
+abbrev pub is_set : Object → ℕ → Bool
+is_set o event = slice_index_or o.events event false
+
+abbrev pub with_flag : Object → ℕ → Bool → Object
+with_flag o event flag = record o { events = slice_set o.events event flag }
+
+-- how many cookies a channel has given, how many of them are finished, and how many aren't
 abbrev pub used : ChannelState → ℕ
 used c = length c.submitted
 
 abbrev pub finished : ChannelState → ℕ
 finished c = length c.outcomes
+
+abbrev pub unfinished : ChannelState → ℕ
+unfinished c = used c - finished c
 
 -- The front of a channel is its first submitted transfer without an outcome.
 abbrev pub front : ChannelState → Option Descriptor
@@ -75,8 +94,23 @@ HasSignalled c t = IsSome t.signal → c.signalled ≡ true
 abbrev pub last_cookie : ℕ
 last_cookie = 2147483647
 
--- What an entry needs of the object that it acts on. A front finishes with NoError when all of it is stored; the other
--- results need marked ranges or a terminate, which this object hasn't yet.
+-- The front can fail with so many bytes stored: it has passed and not signalled, not all is stored, and of the places that
+-- come next, as many as a burst has at most (256, the channel's buffer, profile), one lies in a mark of that kind.
+abbrev pub CanFail : Object → ChannelState → MarkKind → (Descriptor → List ℕ) → ℕ → Type 0
+CanFail o c kind side done =
+    FrontIs c (λ t.
+    HasPassed c t × (c.signalled ≡ false) × (done < size_of t)
+    × (meets_mark kind o.marks (take 256 (drop done (side t))) ≡ true))
+
+-- So much of the front can be stored when its channel is terminated: nothing where no front is issued, the channel is halted,
+-- or the front waits and hasn't passed; all where it has signalled.
+abbrev pub CanHaveStored : ChannelState → ℕ → Type 0
+CanHaveStored c done =
+    MatchOption (issued_front c) (done ≡ 0) (λ t.
+    (done ≤ size_of t) × (c.halted ≡ true → done ≡ 0) × (IsSome t.wait → c.passed ≡ false → done ≡ 0)
+    × (c.signalled ≡ true → done ≡ size_of t))
+
+-- What an entry needs of the object that it acts on.
 abbrev pub Allows : Object → Entry → Type 0
 Allows o (Wrote addr bytes) = addr + length bytes ≤ length o.image
 Allows o (ReadBack addr bytes) =
@@ -85,11 +119,22 @@ Allows o (Submitted ch t cookie) =
     (ch < length o.channels) × IsTransfer t × (lies_below t (length o.image) ≡ true)
     × (cookie ≡ used (channel o ch) + 1) × (cookie ≤ last_cookie)
 Allows o (Issued ch) = ch < length o.channels
+Allows o (Passed ch event) =
+    FrontIs (channel o ch) (λ t.
+    (t.wait ≡ Some event) × ((channel o ch).passed ≡ false) × (slice_get o.events event ≡ Some true))
+Allows o (Signalled (Channel ch) event) =
+    FrontIs (channel o ch) (λ t.
+    HasPassed (channel o ch) t × (t.signal ≡ Some event) × ((channel o ch).signalled ≡ false))
+Allows o (Signalled Host event) = event ≤ 31
 Allows o (Finished ch NoError done) =
     FrontIs (channel o ch) (λ t. HasPassed (channel o ch) t × HasSignalled (channel o ch) t × (done ≡ size_of t))
-Allows o (Finished ch ReadFailed done) = ⊥
-Allows o (Finished ch WriteFailed done) = ⊥
+Allows o (Finished ch ReadFailed done) = CanFail o (channel o ch) Reading sources done
+Allows o (Finished ch WriteFailed done) = CanFail o (channel o ch) Writing destinations done
 Allows o (Finished ch Aborted done) = ⊥
+Allows o (Terminated ch done count) =
+    (ch < length o.channels) × (count ≡ unfinished (channel o ch)) × CanHaveStored (channel o ch) done
+Allows o (Marked kind segment) = (0 < segment.len) × (segment.addr + segment.len ≤ 4294967296)
+Allows o Unmarked = Unit {0}
 
 -- ---- what an entry leaves
 
@@ -104,6 +149,25 @@ front_of c = unwrap_or (front c) no_transfer
 abbrev pub outcome_of : TransResult → Descriptor → ℕ → Outcome
 outcome_of result t done = record { result = result; residue = size_of t - done }
 
+-- the outcomes of transfers that are all aborted, the first with so many bytes stored
+abbrev pub aborted : ℕ → List Descriptor → List Outcome
+aborted done [] = []
+aborted done (t ∷ ts) = outcome_of Aborted t done ∷ map (λ u. outcome_of Aborted u 0) ts
+
+-- a failure halts the channel (profile)
+abbrev pub is_failure : TransResult → Bool
+is_failure ReadFailed = true
+is_failure WriteFailed = true
+is_failure _ = false
+
+-- an image after one simultaneous copy of the front's first bytes
+abbrev pub with_front_laid : Object → ℕ → ℕ → Object
+with_front_laid o ch done = record o { image = laid o.image (front_of (channel o ch)) done }
+
+-- a channel with one more transfer
+abbrev pub with_transfer : ChannelState → Descriptor → ChannelState
+with_transfer c t = record c { submitted = c.submitted ++ t ∷ [] }
+
 -- a channel whose front has finished
 abbrev pub with_outcome : ChannelState → TransResult → ℕ → ChannelState
 with_outcome c result done =
@@ -111,15 +175,33 @@ with_outcome c result done =
       outcomes = c.outcomes ++ outcome_of result (front_of c) done ∷ [];
       passed = false;
       signalled = false;
+      halted = is_failure result;
     }
 
--- The object after an entry. What isn't named stays. A front that finishes is one simultaneous copy of its first bytes.
+-- a channel that was terminated
+abbrev pub with_all_aborted : ChannelState → ℕ → ChannelState
+with_all_aborted c done =
+    record c {
+      issued = used c;
+      outcomes = c.outcomes ++ aborted done (drop (finished c) c.submitted);
+      passed = false;
+      signalled = false;
+      halted = false;
+    }
+
+-- The object after an entry. What isn't named stays.
 abbrev pub after : Object → Entry → Object
 after o (Wrote addr bytes) = record o { image = put o.image (bytes_at addr bytes) }
 after o (ReadBack addr bytes) = o
-after o (Submitted ch t cookie) =
-    with_channel o ch (record (channel o ch) { submitted = (channel o ch).submitted ++ t ∷ [] })
+after o (Submitted ch t cookie) = with_channel o ch (with_transfer (channel o ch) t)
 after o (Issued ch) = with_channel o ch (record (channel o ch) { issued = used (channel o ch) })
+after o (Passed ch event) = with_channel (with_flag o event false) ch (record (channel o ch) { passed = true })
+after o (Signalled (Channel ch) event) =
+    with_channel (with_flag o event true) ch (record (channel o ch) { signalled = true })
+after o (Signalled Host event) = with_flag o event true
 after o (Finished ch result done) =
-    with_channel (record o { image = laid o.image (front_of (channel o ch)) done }) ch
-    (with_outcome (channel o ch) result done)
+    with_channel (with_front_laid o ch done) ch (with_outcome (channel o ch) result done)
+after o (Terminated ch done count) =
+    with_channel (with_front_laid o ch done) ch (with_all_aborted (channel o ch) done)
+after o (Marked kind segment) = record o { marks = o.marks ++ (kind, segment) ∷ [] }
+after o Unmarked = record o { marks = [] }

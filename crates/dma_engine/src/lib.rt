@@ -1,10 +1,25 @@
-//! The DMA engine: what its history is made of, and what the history means.
-//!
-//! So far this crate has the entries of a history and, in its definitions, the object of one thread that they act on.
+//! The DMA engine: queues of transfers on channels over one memory, carried out in steps of one instruction, and the history
+//! of what was done.
 #![tactic(auto)]
 
+pub mod call;
+pub mod engine;
 pub mod entry;
+pub mod fault;
+pub mod lists;
 pub mod outcome;
+pub mod queue;
+pub mod run;
+pub mod turn;
+pub mod way;
 
-pub use entry::Entry;
+pub use call::{Call, Reply};
+pub use dma_mem::marks::MarkKind;
+pub use engine::Engine;
+pub use entry::{Entry, Signaller};
+pub use fault::{EngineFault, NewFault, SubmitFault};
 pub use outcome::{Outcome, TransResult};
+pub use turn::{Running, Status, Turn};
+
+#[cfg(test)]
+mod tests;

@@ -1,0 +1,282 @@
+-- From what a call found to its answer.
+use Rattle.std.proofs.Common.{◌≡◌, ◌≢◌, ℕ, ◌+◌, ◌-◌, ◌<◌, ◌≤◌, List, [], ◌∷◌, ◌++◌, length, take, drop, Option, Some, None, Bool, true, false, refl, ap, sym, ◌∙◌, subst, arith, ◌||◌, not}
+use Rattle.std.specs.Prelude.{nat_lt, nat_le, ◌==◌, unwrap_or, Ok, Err}
+use Rattle.std.proofs.lemmas.Bool.{lt-ltb, le-ltb, le-leb, lt-leb, eq-eqb, ne_eqb}
+use Rattle.std.proofs.lemmas.List.{length_push}
+use Rattle.dma_mem.specs.Places.{Descriptor, lies_below}
+use Rattle.dma_mem.specs.declared.marks.MarkKind.{MarkKind}
+use Rattle.dma_mem.specs.declared.segment.Segment.{Segment}
+use Rattle.dma_engine.specs.declared.call.Call.{Call}
+use Rattle.dma_engine.specs.declared.call.Call.TheVariants.{Write, Read, Submit, Issue, Pause, Resume, Mark, Unmark, Raise, Terminate}
+use Rattle.dma_engine.specs.declared.call.Reply.{Reply}
+use Rattle.dma_engine.specs.declared.call.Reply.TheVariants.{Done, Bytes, Cookie, Count, Refused}
+use Rattle.dma_engine.specs.declared.entry.Entry.{Entry}
+use Rattle.dma_engine.specs.declared.entry.Entry.TheVariants.{Wrote, ReadBack, Submitted, Issued, Signalled, Marked, Unmarked, Terminated}
+use Rattle.dma_engine.specs.declared.entry.Signaller.TheVariants.{Host}
+use Rattle.dma_engine.specs.declared.fault.EngineFault.{EngineFault}
+use Rattle.dma_engine.specs.declared.fault.EngineFault.TheVariants.{OutOfMemoryRange, Busy, NoChannel, CookiesSpent, StepsSpent, BadEvent, BadRange, NoMemory}
+use Rattle.dma_engine.specs.declared.way.Way.TheVariants.{Write as WriteWay, Read as ReadWay}
+use Rattle.dma_engine.specs.Object.{channel, used, unfinished, last_cookie}
+use Rattle.dma_engine.specs.View.{View, RunningTransfer, object_of, size, channels}
+use Rattle.dma_engine.specs.Turn.{with_entry}
+use Rattle.dma_engine.specs.Answer.{Answers, answer, takes_memory, write_fault, read_fault, channel_fault, submit_fault, mark_fault, cause, checked, busy, first_running, named, with_pause, is_started, terminated, done_on}
+use Rattle.dma_engine.specs.Ways.{is_in_the_way}
+
+-- ---- a call that adds an entry takes memory
+
+or-true : (b : Bool) → (b || true) ≡ true
+or-true true = refl
+or-true false = refl
+
+pub starved : (v : View) (call : Call) (reply : Reply) (w : View) (e : Entry) → answer v call ≡ (reply, w) → w.history ≡ v.history ++ e ∷ [] → Answers v call (Refused NoMemory) v
+starved v call reply w e is more =
+    let longer : nat_lt (length v.history) (length w.history) ≡ true = lt-ltb _ _ (omega (arith, ap length more, length_push v.history e)) in
+    let takes : takes_memory v call ≡ true = ap (λ (x : Reply × View). is_started x.0 || nat_lt (length v.history) (length x.1.history)) is ∙ ap (λ b. is_started reply || b) longer ∙ or-true (is_started reply) in
+    (takes, refl)
+
+-- ---- a running transfer in the way
+
+busy-known : (x : Option RunningTransfer) (ch cookie : ℕ) → Some (ch, cookie) ≡ named x → busy x ≡ Some (Busy ch cookie)
+busy-known None ch cookie h = absurd cc
+busy-known (Some r) ch cookie h =
+    let pair : Option (ℕ × ℕ) → ℕ × ℕ = λ o. unwrap_or o (0, 0) in
+    let a : ch ≡ r.ch = ap (λ o. (pair o).0) h in
+    let b : cookie ≡ r.cookie = ap (λ o. (pair o).1) h in
+    rw (a, b) refl
+
+busy-none : (x : Option RunningTransfer) → None ≡ named x → busy x ≡ None
+busy-none None h = refl
+busy-none (Some r) h = absurd cc
+
+-- ---- write
+
+pub write-out : (v : View) (addr : ℕ) (bytes : List ℕ) → size v < addr + length bytes → Answers v (Write addr bytes) (Refused OutOfMemoryRange) v
+write-out v addr bytes h = let e : nat_lt (size v) (addr + length bytes) ≡ true = lt-ltb _ _ h in rw e refl
+
+pub write-busy : (v : View) (addr : ℕ) (bytes : List ℕ) (ch cookie : ℕ) → addr + length bytes ≤ size v → Some (ch, cookie) ≡ named (first_running v (is_in_the_way (WriteWay (record { addr = addr; len = length bytes })))) → Answers v (Write addr bytes) (Refused (Busy ch cookie)) v
+write-busy v addr bytes ch cookie within h =
+    let e : nat_lt (size v) (addr + length bytes) ≡ false = le-ltb _ _ within in
+    let f = busy-known (first_running v (is_in_the_way (WriteWay (record { addr = addr; len = length bytes })))) ch cookie h in
+    rw (e, f) refl
+
+pub write-free : (v : View) (addr n : ℕ) → addr + n ≤ size v → None ≡ named (first_running v (is_in_the_way (WriteWay (record { addr = addr; len = n })))) → write_fault v addr n ≡ None
+write-free v addr n within h =
+    let e : nat_lt (size v) (addr + n) ≡ false = le-ltb _ _ within in
+    let f = busy-none (first_running v (is_in_the_way (WriteWay (record { addr = addr; len = n })))) h in
+    rw (e, f) refl
+
+pub write-answer : (v : View) (addr : ℕ) (bytes : List ℕ) → write_fault v addr (length bytes) ≡ None → answer v (Write addr bytes) ≡ (Done, with_entry v (Wrote addr bytes))
+write-answer v addr bytes free = rw free refl
+
+pub write-starved : (v : View) (addr : ℕ) (bytes : List ℕ) → write_fault v addr (length bytes) ≡ None → Answers v (Write addr bytes) (Refused NoMemory) v
+write-starved v addr bytes free = starved v (Write addr bytes) Done _ (Wrote addr bytes) (write-answer v addr bytes free) refl
+
+pub write-done : (v w : View) (addr : ℕ) (bytes : List ℕ) → write_fault v addr (length bytes) ≡ None → w ≡ with_entry v (Wrote addr bytes) → Answers v (Write addr bytes) Done w
+write-done v w addr bytes free is = ap (λ x. (Done, x)) is ∙ sym (write-answer v addr bytes free)
+
+-- ---- read
+
+pub read-out : (v : View) (addr n : ℕ) → size v < addr + n → Answers v (Read addr n) (Refused OutOfMemoryRange) v
+read-out v addr n h = let e : nat_lt (size v) (addr + n) ≡ true = lt-ltb _ _ h in rw e refl
+
+pub read-busy : (v : View) (addr n ch cookie : ℕ) → addr + n ≤ size v → Some (ch, cookie) ≡ named (first_running v (is_in_the_way (ReadWay (record { addr = addr; len = n })))) → Answers v (Read addr n) (Refused (Busy ch cookie)) v
+read-busy v addr n ch cookie within h =
+    let e : nat_lt (size v) (addr + n) ≡ false = le-ltb _ _ within in
+    let f = busy-known (first_running v (is_in_the_way (ReadWay (record { addr = addr; len = n })))) ch cookie h in
+    rw (e, f) refl
+
+pub read-free : (v : View) (addr n : ℕ) → addr + n ≤ size v → None ≡ named (first_running v (is_in_the_way (ReadWay (record { addr = addr; len = n })))) → read_fault v addr n ≡ None
+read-free v addr n within h =
+    let e : nat_lt (size v) (addr + n) ≡ false = le-ltb _ _ within in
+    let f = busy-none (first_running v (is_in_the_way (ReadWay (record { addr = addr; len = n })))) h in
+    rw (e, f) refl
+
+pub read-answer : (v : View) (addr n : ℕ) → read_fault v addr n ≡ None → let bytes = take n (drop addr (object_of v).image) in answer v (Read addr n) ≡ (Bytes bytes, with_entry v (ReadBack addr bytes))
+read-answer v addr n free = rw free refl
+
+pub read-starved : (v : View) (addr n : ℕ) → read_fault v addr n ≡ None → Answers v (Read addr n) (Refused NoMemory) v
+read-starved v addr n free =
+    let bytes = take n (drop addr (object_of v).image) in
+    starved v (Read addr n) (Bytes bytes) _ (ReadBack addr bytes) (read-answer v addr n free) refl
+
+pub read-done : (v w : View) (addr n : ℕ) (bytes : List ℕ) → read_fault v addr n ≡ None → bytes ≡ take n (drop addr (object_of v).image) → w ≡ with_entry v (ReadBack addr bytes) → Answers v (Read addr n) (Bytes bytes) w
+read-done v w addr n bytes free read is =
+    ap (λ x. (Bytes bytes, x)) is ∙ ap (λ b. (Bytes b, with_entry v (ReadBack addr b))) read ∙ sym (read-answer v addr n free)
+
+-- ---- channels
+
+pub channel-gone : (v : View) (ch : ℕ) → channels v ≤ ch → channel_fault v ch ≡ Some NoChannel
+channel-gone v ch h = let e : nat_le (channels v) ch ≡ true = le-leb _ _ h in rw e refl
+
+pub channel-there : (v : View) (ch : ℕ) → ch < channels v → channel_fault v ch ≡ None
+channel-there v ch h = let e : nat_le (channels v) ch ≡ false = lt-leb _ _ h in rw e refl
+
+pub issue-gone : (v : View) (ch : ℕ) → channels v ≤ ch → Answers v (Issue ch) (Refused NoChannel) v
+issue-gone v ch h = rw (channel-gone v ch h) refl
+
+pub issue-answer : (v : View) (ch : ℕ) → ch < channels v → let c = channel (object_of v) ch in answer v (Issue ch) ≡ (Count (used c - c.issued), with_entry v (Issued ch))
+issue-answer v ch h = rw (channel-there v ch h) refl
+
+pub issue-starved : (v : View) (ch : ℕ) → ch < channels v → Answers v (Issue ch) (Refused NoMemory) v
+issue-starved v ch h = starved v (Issue ch) _ _ (Issued ch) (issue-answer v ch h) refl
+
+pub issue-done : (v w : View) (ch count : ℕ) → ch < channels v → count ≡ used (channel (object_of v) ch) - (channel (object_of v) ch).issued → w ≡ with_entry v (Issued ch) → Answers v (Issue ch) (Count count) w
+issue-done v w ch count h n is = ap (λ x. (Count count, x)) is ∙ ap (λ k. (Count k, with_entry v (Issued ch))) n ∙ sym (issue-answer v ch h)
+
+pub pause-gone : (v : View) (ch : ℕ) → channels v ≤ ch → Answers v (Pause ch) (Refused NoChannel) v
+pause-gone v ch h = rw (channel-gone v ch h) refl
+
+pub resume-gone : (v : View) (ch : ℕ) → channels v ≤ ch → Answers v (Resume ch) (Refused NoChannel) v
+resume-gone v ch h = rw (channel-gone v ch h) refl
+
+pub pause-done : (v w : View) (ch : ℕ) → ch < channels v → w ≡ with_pause v ch true → Answers v (Pause ch) Done w
+pause-done v w ch h is = rw (channel-there v ch h, is) refl
+
+pub resume-done : (v w : View) (ch : ℕ) → ch < channels v → w ≡ with_pause v ch false → Answers v (Resume ch) Done w
+resume-done v w ch h is = rw (channel-there v ch h, is) refl
+
+pub terminate-gone : (v : View) (ch : ℕ) → channels v ≤ ch → Answers v (Terminate ch) (Refused NoChannel) v
+terminate-gone v ch h = rw (channel-gone v ch h) refl
+
+pub terminate-answer : (v : View) (ch : ℕ) → ch < channels v → answer v (Terminate ch) ≡ (Count (unfinished (channel (object_of v) ch)), terminated v ch)
+terminate-answer v ch h = rw (channel-there v ch h) refl
+
+pub terminate-starved : (v : View) (ch : ℕ) → ch < channels v → Answers v (Terminate ch) (Refused NoMemory) v
+terminate-starved v ch h =
+    starved v (Terminate ch) _ _ (Terminated ch (done_on v ch) (unfinished (channel (object_of v) ch))) (terminate-answer v ch h) refl
+
+pub terminate-done : (v w : View) (ch count : ℕ) → ch < channels v → count ≡ unfinished (channel (object_of v) ch) → w ≡ terminated v ch → Answers v (Terminate ch) (Count count) w
+terminate-done v w ch count h n is = ap (λ x. (Count count, x)) is ∙ ap (λ k. (Count k, terminated v ch)) n ∙ sym (terminate-answer v ch h)
+
+-- ---- submit
+
+pub submit-gone : (v : View) (ch : ℕ) (t : Descriptor) → channels v ≤ ch → Answers v (Submit ch t) (Refused NoChannel) v
+submit-gone v ch t h = let e : nat_le (channels v) ch ≡ true = le-leb _ _ h in rw e refl
+
+pub submit-out : (v : View) (ch : ℕ) (t : Descriptor) → ch < channels v → lies_below t (size v) ≡ false → Answers v (Submit ch t) (Refused OutOfMemoryRange) v
+submit-out v ch t h out = let e : nat_le (channels v) ch ≡ false = lt-leb _ _ h in rw (e, out) refl
+
+pub submit-spent : (v : View) (ch : ℕ) (t : Descriptor) → ch < channels v → lies_below t (size v) ≡ true → last_cookie ≤ used (channel (object_of v) ch) → Answers v (Submit ch t) (Refused CookiesSpent) v
+submit-spent v ch t h below spent =
+    let e : nat_le (channels v) ch ≡ false = lt-leb _ _ h in
+    let f : nat_le last_cookie (used (channel (object_of v) ch)) ≡ true = le-leb _ _ spent in
+    rw (e, below, f) refl
+
+pub submit-answer : (v : View) (ch : ℕ) (t : Descriptor) → ch < channels v → lies_below t (size v) ≡ true → used (channel (object_of v) ch) < last_cookie → let cookie = used (channel (object_of v) ch) + 1 in answer v (Submit ch t) ≡ (Cookie cookie, with_entry v (Submitted ch t cookie))
+submit-answer v ch t h below few =
+    let e : nat_le (channels v) ch ≡ false = lt-leb _ _ h in
+    let f : nat_le last_cookie (used (channel (object_of v) ch)) ≡ false = lt-leb _ _ few in
+    rw (e, below, f) refl
+
+pub submit-starved : (v : View) (ch : ℕ) (t : Descriptor) → ch < channels v → lies_below t (size v) ≡ true → used (channel (object_of v) ch) < last_cookie → Answers v (Submit ch t) (Refused NoMemory) v
+submit-starved v ch t h below few =
+    let cookie = used (channel (object_of v) ch) + 1 in
+    starved v (Submit ch t) (Cookie cookie) _ (Submitted ch t cookie) (submit-answer v ch t h below few) refl
+
+pub submit-done : (v w : View) (ch cookie : ℕ) (t : Descriptor) → ch < channels v → lies_below t (size v) ≡ true → used (channel (object_of v) ch) < last_cookie → cookie ≡ used (channel (object_of v) ch) + 1 → w ≡ with_entry v (Submitted ch t cookie) → Answers v (Submit ch t) (Cookie cookie) w
+submit-done v w ch cookie t h below few number is =
+    ap (λ x. (Cookie cookie, x)) is ∙ ap (λ k. (Cookie k, with_entry v (Submitted ch t k))) number ∙ sym (submit-answer v ch t h below few)
+
+-- ---- marks and events
+
+or-false : (a b : Bool) → a ≡ false → b ≡ false → (a || b) ≡ false
+or-false a b h g = rw (h, g) refl
+
+pub mark-empty : (v : View) (kind : MarkKind) (s : Segment) → s.len ≡ 0 → Answers v (Mark kind s) (Refused BadRange) v
+mark-empty v kind s h = let e : (s.len == 0) ≡ true = eq-eqb s.len 0 h in rw e refl
+
+pub mark-wraps : (v : View) (kind : MarkKind) (s : Segment) → 4294967296 < s.addr + s.len → Answers v (Mark kind s) (Refused BadRange) v
+mark-wraps v kind s h =
+    let e : (s.len == 0 || nat_lt 4294967296 (s.addr + s.len)) ≡ true = ap (λ b. s.len == 0 || b) (lt-ltb 4294967296 (s.addr + s.len) h) ∙ or-true (s.len == 0) in
+    rw e refl
+
+mark-fits : (s : Segment) → s.len ≢ 0 → s.addr + s.len ≤ 4294967296 → mark_fault s ≡ None
+mark-fits s some within =
+    let e = or-false (s.len == 0) (nat_lt 4294967296 (s.addr + s.len)) (ne_eqb s.len 0 some) (le-ltb 4294967296 (s.addr + s.len) within) in
+    rw e refl
+
+pub mark-answer : (v : View) (kind : MarkKind) (s : Segment) → s.len ≢ 0 → s.addr + s.len ≤ 4294967296 → answer v (Mark kind s) ≡ (Done, with_entry v (Marked kind s))
+mark-answer v kind s some within = rw (mark-fits s some within) refl
+
+pub mark-starved : (v : View) (kind : MarkKind) (s : Segment) → s.len ≢ 0 → s.addr + s.len ≤ 4294967296 → Answers v (Mark kind s) (Refused NoMemory) v
+mark-starved v kind s some within = starved v (Mark kind s) Done _ (Marked kind s) (mark-answer v kind s some within) refl
+
+pub mark-done : (v w : View) (kind : MarkKind) (s : Segment) → s.len ≢ 0 → s.addr + s.len ≤ 4294967296 → w ≡ with_entry v (Marked kind s) → Answers v (Mark kind s) Done w
+mark-done v w kind s some within is = ap (λ x. (Done, x)) is ∙ sym (mark-answer v kind s some within)
+
+pub unmark-starved : (v : View) → Answers v Unmark (Refused NoMemory) v
+unmark-starved v = starved v Unmark Done (with_entry v Unmarked) Unmarked refl refl
+
+pub unmark-done : (v w : View) → w ≡ with_entry v Unmarked → Answers v Unmark Done w
+unmark-done v w is = ap (λ x. (Done, x)) is
+
+pub raise-bad : (v : View) (event : ℕ) → 31 < event → Answers v (Raise event) (Refused BadEvent) v
+raise-bad v event h = let e : nat_lt 31 event ≡ true = lt-ltb 31 event h in rw e refl
+
+pub raise-answer : (v : View) (event : ℕ) → event ≤ 31 → answer v (Raise event) ≡ (Done, with_entry v (Signalled Host event))
+raise-answer v event h = let e : nat_lt 31 event ≡ false = le-ltb 31 event h in rw e refl
+
+pub raise-starved : (v : View) (event : ℕ) → event ≤ 31 → Answers v (Raise event) (Refused NoMemory) v
+raise-starved v event h = starved v (Raise event) Done _ (Signalled Host event) (raise-answer v event h) refl
+
+pub raise-done : (v w : View) (event : ℕ) → event ≤ 31 → w ≡ with_entry v (Signalled Host event) → Answers v (Raise event) Done w
+raise-done v w event h is = ap (λ x. (Done, x)) is ∙ sym (raise-answer v event h)
+
+-- ---- a submit that is checked first
+
+pub check-out : (v : View) (ch n : ℕ) (t : Descriptor) → ch < channels v → lies_below t (size v) ≡ false → Err OutOfMemoryRange ≡ checked (submit_fault v ch t) n
+check-out v ch n t h out = let e : nat_le (channels v) ch ≡ false = lt-leb _ _ h in rw (e, out) refl
+
+pub check-spent : (v : View) (ch n : ℕ) (t : Descriptor) → ch < channels v → lies_below t (size v) ≡ true → last_cookie ≤ used (channel (object_of v) ch) → Err CookiesSpent ≡ checked (submit_fault v ch t) n
+check-spent v ch n t h below spent =
+    let e : nat_le (channels v) ch ≡ false = lt-leb _ _ h in
+    let f : nat_le last_cookie (used (channel (object_of v) ch)) ≡ true = le-leb _ _ spent in
+    rw (e, below, f) refl
+
+pub check-fine : (v : View) (ch n : ℕ) (t : Descriptor) → ch < channels v → lies_below t (size v) ≡ true → used (channel (object_of v) ch) < last_cookie → Ok n ≡ checked (submit_fault v ch t) n
+check-fine v ch n t h below few =
+    let e : nat_le (channels v) ch ≡ false = lt-leb _ _ h in
+    let f : nat_le last_cookie (used (channel (object_of v) ch)) ≡ false = lt-leb _ _ few in
+    rw (e, below, f) refl
+
+pub checked-none : (x : Option EngineFault) (n k : ℕ) → Ok k ≡ checked x n → x ≡ None
+checked-none None n k h = refl
+checked-none (Some f) n k h = absurd cc
+
+checked-some : (x : Option EngineFault) (n : ℕ) (fault : EngineFault) → Err fault ≡ checked x n → x ≡ Some fault
+checked-some None n fault h = absurd cc
+checked-some (Some f) n fault h = let e : f ≡ fault = cc in ap (λ y. Some y) e
+
+-- a fault that a check names is no want of memory
+abbrev IsNamed : EngineFault → Type 0
+IsNamed NoMemory = ⊥
+IsNamed f = Unit {0}
+
+named-cause : (b : Bool) (f : EngineFault) (others : Option EngineFault) (fault : EngineFault) → IsNamed f → (others ≡ Some fault → IsNamed fault) → cause b f others ≡ Some fault → IsNamed fault
+named-cause true f others fault n rest h = let e : f ≡ fault = cc in subst IsNamed e n
+named-cause false f others fault n rest h = rest h
+
+refused-as : (v : View) (call : Call) (fault : EngineFault) → IsNamed fault → answer v call ≡ (Refused fault, v) → Answers v call (Refused fault) v
+refused-as v call OutOfMemoryRange n is = sym is
+refused-as v call (Busy ch cookie) n is = sym is
+refused-as v call NoChannel n is = sym is
+refused-as v call CookiesSpent n is = sym is
+refused-as v call StepsSpent n is = sym is
+refused-as v call BadEvent n is = sym is
+refused-as v call BadRange n is = sym is
+refused-as v call NoMemory n is = absurd n
+
+pub submit-checked : (v : View) (ch n : ℕ) (t : Descriptor) (fault : EngineFault) → Err fault ≡ checked (submit_fault v ch t) n → Answers v (Submit ch t) (Refused fault) v
+submit-checked v ch n t fault h =
+    let is = checked-some (submit_fault v ch t) n fault h in
+    let no_more : None ≡ Some fault → IsNamed fault = λ e. absurd cc in
+    let third = named-cause (nat_le last_cookie (used (channel (object_of v) ch))) CookiesSpent None fault tt no_more in
+    let second = named-cause (not (lies_below t (size v))) OutOfMemoryRange _ fault tt third in
+    let first = named-cause (nat_le (channels v) ch) NoChannel _ fault tt second in
+    refused-as v (Submit ch t) fault (first is) (rw is refl)
+
+pub submit-wanting : (v : View) (ch : ℕ) (t : Descriptor) → submit_fault v ch t ≡ None → Answers v (Submit ch t) (Refused NoMemory) v
+submit-wanting v ch t none =
+    let cookie = used (channel (object_of v) ch) + 1 in
+    let is : answer v (Submit ch t) ≡ (Cookie cookie, with_entry v (Submitted ch t cookie)) = rw none refl in
+    starved v (Submit ch t) (Cookie cookie) _ (Submitted ch t cookie) is refl

@@ -1,0 +1,211 @@
+-- What an engine keeps when an entry is added, or one channel changes.
+use Rattle.std.proofs.Common.{◌≡◌, ◌≢◌, ℕ, ◌<◌, List, [], ◌∷◌, ◌++◌, length, Option, Some, None, Bool, true, refl, ap, sym, ◌∙◌, subst, arith, inl, inr}
+use Rattle.std.specs.Prelude.{slice_get, slice_index, slice_index_or, slice_set, is_some, IfSome, IsSomeAnd}
+use Rattle.std.specs.List.{Contains}
+use Rattle.std.proofs.lemmas.Bool.{cases_eq}
+use Rattle.std.proofs.lemmas.List.{map-set, set-get_or, length-set, get_or-map, get_or-set_same, get_or-set_other}
+use Rattle.dma_mem.specs.Places.{Descriptor, IsFree, is_free_of, sources, destinations}
+use Rattle.dma_mem.proofs.Sharing.{share_none, is_free_of-true}
+use Rattle.dma_mem.proofs.Transfers.{IsFree-sym}
+use Rattle.dma_chan.specs.Channel.{ChannelValue}
+use Rattle.dma_chan.specs.Layer.{IsAt}
+use Rattle.dma_mem.specs.Marking.{MarkList}
+use Rattle.dma_chan.specs.Programs.{ProgramValue}
+use Rattle.dma_chan.proofs.Layers.{survives}
+use Rattle.dma_engine.specs.declared.entry.Entry.{Entry}
+use Rattle.dma_engine.specs.declared.queue.Queue.{Queue}
+use Rattle.dma_engine.specs.Object.{Object, ChannelState, channel, after, Allows, front}
+use Rattle.dma_engine.specs.History.{object_after, IsLegal}
+use Rattle.dma_engine.specs.View.{View, ChannelSchedule, RunningTransfer, Fits, Agrees, AreFree, IsSound, runs_there, runs, idle, object_of, memory_of, memory_shown}
+use Rattle.dma_engine.specs.Holds.{Holds, IsQueue, IsRun, Parts, view_of, schedule_of}
+use Rattle.dma_engine.proofs.Histories.{object_after-append, IsLegal-append}
+use Rattle.dma_engine.proofs.Queues.{slice_get-push}
+
+-- ---- free in both directions
+
+pub free-true : (t u : Descriptor) → IsFree t u → is_free_of t u ≡ true
+free-true t u h =
+    let a = share_none (destinations t) (destinations u) h.writes_none in
+    let b = share_none (destinations t) (sources u) h.writes_no_source in
+    let c = share_none (sources t) (destinations u) h.reads_none in
+    rw (a, b, c) refl
+
+pub AreFree-sym : (x y : Option RunningTransfer) → AreFree x y → AreFree y x
+AreFree-sym None None h = tt
+AreFree-sym None (Some s) h = tt
+AreFree-sym (Some r) None h = tt
+AreFree-sym (Some r) (Some s) h =
+    free-true s.transfer r.transfer (IsFree-sym r.transfer s.transfer (is_free_of-true r.transfer s.transfer h))
+
+-- ---- what a machine keeps
+
+-- a machine stays where it is over a memory that has the same at its front's sources
+pub run-kept : (memory other : List ℕ) (m : ChannelValue) (c : ChannelState) → ((t : Descriptor) → is_some m.program ≡ true → front c ≡ Some t → (a : ℕ) → Contains (sources t) a → slice_index other a ≡ slice_index memory a) → IsRun memory m c → IsRun other m c
+run-kept memory other m c same h =
+    let by : (o : Option ProgramValue) (f : Option Descriptor) → m.program ≡ o → front c ≡ f → IfSome o (λ _. IsSomeAnd f (λ t. IsAt t m.taken memory m)) → IfSome o (λ _. IsSomeAnd f (λ t. IsAt t m.taken other m)) = λ o f. elim o as (λ o. m.program ≡ o → front c ≡ f → IfSome o (λ _. IsSomeAnd f (λ t. IsAt t m.taken memory m)) → IfSome o (λ _. IsSomeAnd f (λ t. IsAt t m.taken other m))) [
+      | None ↦ λ _ _ g. g
+      | Some p ↦ λ e. elim f as (λ f. front c ≡ f → IsSomeAnd f (λ t. IsAt t m.taken memory m) → IsSomeAnd f (λ t. IsAt t m.taken other m)) [
+        | None ↦ λ _ g. g
+        | Some t ↦ λ i g. survives t m.taken memory other m g (same t (ap is_some e) i)
+      ]
+    ] in
+    by _ _ refl refl h
+
+-- a queue stays as it is when the history grows
+pub queue-kept : (ch : ℕ) (history longer : List Entry) (memory other : List ℕ) (q : Queue) (c : ChannelState) → ((k : ℕ) (e : Entry) → slice_get history k ≡ Some e → slice_get longer k ≡ Some e) → IsRun other q.channel c → IsQueue ch history memory q c → IsQueue ch longer other q c
+queue-kept ch history longer memory other q c grows machine h = record {
+  many = h.many;
+  stands = λ k less. grows _ _ (h.stands k less);
+  outcomes = h.outcomes;
+  issued = h.issued;
+  halted = h.halted;
+  machine = machine;
+}
+
+-- ---- an entry that changes no channel
+
+-- a schedule fits an object by its channels alone
+pub fits-channels : (o p : Object) (s : List ChannelSchedule) → o.channels ≡ p.channels → Fits o s → Fits p s
+fits-channels o p s e h = record {
+  many = rw (← e) h.many;
+  each = rw (← e) h.each;
+  free = rw (← e) h.free;
+}
+
+-- the parts with one more entry
+abbrev pub with_entry_at : Parts → Entry → List ℕ → List Bool → MarkList → Parts
+with_entry_at p e memory events marks = record p { memory = memory; events = events; marks = marks; history = p.history ++ e ∷ [] }
+
+pub record EntersWith (p : Parts) (e : Entry) (memory : List ℕ) (flags : List Bool) (marked : MarkList) : Type 0 where
+  pub allowed : Allows (object_of (view_of p)) e
+  pub stay : (after (object_of (view_of p)) e).channels ≡ (object_of (view_of p)).channels
+  pub shown : memory ≡ memory_shown (after (object_of (view_of p)) e) (view_of p).schedule
+  pub events : flags ≡ (after (object_of (view_of p)) e).events
+  pub marks : marked ≡ (after (object_of (view_of p)) e).marks
+  pub machines : (ch : ℕ) (d : Queue) → ch < length p.queues →
+      IsRun p.memory (slice_index_or p.queues ch d).channel (channel (object_of (view_of p)) ch) →
+      IsRun memory (slice_index_or p.queues ch d).channel (channel (object_of (view_of p)) ch)
+
+pub holds-entered : (p : Parts) (e : Entry) (memory : List ℕ) (events : List Bool) (marks : MarkList) → Holds p → EntersWith p e memory events marks → Holds (with_entry_at p e memory events marks)
+holds-entered p e memory events marks h w =
+    let v : View = view_of p in
+    let u : View = view_of (with_entry_at p e memory events marks) in
+    let o = object_of v in
+    let step : object_of u ≡ after o e = object_after-append v.base p.history (e ∷ []) in
+    record {
+      sound = record {
+        opens = h.sound.opens;
+        makes = h.sound.makes;
+        legal = IsLegal-append v.base p.history (e ∷ []) h.sound.legal (w.allowed, tt);
+        fits = rw step (fits-channels o (after o e) v.schedule (sym w.stay) h.sound.fits);
+      };
+      shown = rw step w.shown;
+      events = rw step w.events;
+      marks = rw step w.marks;
+      each = λ ch d less.
+          let kept = queue-kept ch p.history (p.history ++ e ∷ []) p.memory memory (slice_index_or p.queues ch d) (channel o ch) (λ k x. slice_get-push p.history e x k) (w.machines ch d less (h.each ch d less).machine) (h.each ch d less) in
+          rw (step, w.stay) kept;
+    }
+
+-- ---- one channel changes
+
+pub runs-here : (o : Object) (s : List ChannelSchedule) (ch : ℕ) (x : ChannelSchedule) → ch < length s → runs o (slice_set s ch x) ch ≡ runs_there ch (channel o ch) x.taken
+runs-here o s ch x less = ap (λ (y : ChannelSchedule). runs_there ch (channel o ch) y.taken) (get_or-set_same s ch x idle less)
+
+pub runs-other : (o p : Object) (s : List ChannelSchedule) (ch c : ℕ) (x : ChannelSchedule) → c ≢ ch → channel p c ≡ channel o c → runs p (slice_set s ch x) c ≡ runs o s c
+runs-other o p s ch c x differs same =
+    ap (λ (y : ChannelSchedule). runs_there c (channel p c) y.taken) (get_or-set_other s ch c x idle differs)
+    ∙ ap (λ d. runs_there c d (slice_index_or s c idle).taken) same
+
+-- the object and the schedule after a change at one channel
+pub record FitsStill (o p : Object) (s : List ChannelSchedule) (ch : ℕ) (x : ChannelSchedule) : Type 0 where
+  pub there : ch < length o.channels
+  pub many : length p.channels ≡ length o.channels
+  pub others : (c : ℕ) → c ≢ ch → channel p c ≡ channel o c
+  pub agrees : Agrees (channel p ch) x.taken
+  pub free : (d : ℕ) → d < length o.channels → d ≢ ch → AreFree (runs_there ch (channel p ch) x.taken) (runs o s d)
+
+pub fits-changed : (o p : Object) (s : List ChannelSchedule) (ch : ℕ) (x : ChannelSchedule) → Fits o s → FitsStill o p s ch x → Fits p (slice_set s ch x)
+fits-changed o p s ch x h w =
+    let less : ch < length s = omega (arith, h.many, w.there) in
+    let here = runs-here p s ch x less in
+    let other : (c : ℕ) → c ≢ ch → runs p (slice_set s ch x) c ≡ runs o s c = λ c d. runs-other o p s ch c x d (w.others c d) in
+    record {
+      many = length-set s ch x ∙ h.many ∙ sym w.many;
+      each = λ c l. elim (cases_eq c ch) [
+        | inl e ↦ rw (e, get_or-set_same s ch x idle less) w.agrees
+        | inr d ↦ rw (w.others c d, get_or-set_other s ch c x idle d) (h.each c (omega (arith, w.many, l)))
+      ];
+      free = λ c d i j k. elim (cases_eq c ch) [
+        | inl e ↦ elim (cases_eq d ch) [
+          | inl f ↦ absurd (k (e ∙ sym f))
+          | inr g ↦ rw (e, here, other d g) (w.free d (omega (arith, w.many, j)) g)
+        ]
+        | inr f ↦ elim (cases_eq d ch) [
+          | inl e ↦ rw (e, here, other c f) (AreFree-sym _ _ (w.free c (omega (arith, w.many, i)) f))
+          | inr g ↦ rw (other c f, other d g) (h.free c d (omega (arith, w.many, i)) (omega (arith, w.many, j)) k)
+        ]
+      ];
+    }
+
+-- the parts after a change of one queue
+abbrev pub changed : Parts → ℕ → Queue → List ℕ → List Bool → List Entry → ℕ → Parts
+changed p ch q memory events history steps = record { size = p.size; memory = memory; events = events; marks = p.marks; queues = slice_set p.queues ch q; history = history; steps = steps }
+
+-- their view
+abbrev pub changed_view : Parts → ℕ → Queue → List Entry → ℕ → View
+changed_view p ch q history steps = record { base = (view_of p).base; history = history; steps = steps; schedule = slice_set (view_of p).schedule ch (schedule_of q) }
+
+pub view-changed : (p : Parts) (ch : ℕ) (q : Queue) (memory : List ℕ) (events : List Bool) (history : List Entry) (steps : ℕ) → view_of (changed p ch q memory events history steps) ≡ changed_view p ch q history steps
+view-changed p ch q memory events history steps =
+    let s = map-set schedule_of p.queues ch q in
+    let n = length-set p.queues ch q in
+    rw (s, n) refl
+
+-- what has to be so, with the object that the new history leaves
+pub record ChangesTo (p : Parts) (ch : ℕ) (q : Queue) (memory : List ℕ) (flags : List Bool) (history : List Entry) (o : Object) : Type 0 where
+  pub legal : IsLegal (view_of p).base history
+  pub leaves : object_after (view_of p).base history ≡ o
+  pub grows : (k : ℕ) (e : Entry) → slice_get p.history k ≡ Some e → slice_get history k ≡ Some e
+  pub fits : FitsStill (object_of (view_of p)) o (view_of p).schedule ch (schedule_of q)
+  pub shown : memory ≡ memory_shown o (slice_set (view_of p).schedule ch (schedule_of q))
+  pub events : flags ≡ o.events
+  pub marks : (object_of (view_of p)).marks ≡ o.marks
+  pub tied : IsQueue ch history memory q (channel o ch)
+  pub machines : (c : ℕ) (d : Queue) → c < length p.queues → c ≢ ch →
+      IsRun p.memory (slice_index_or p.queues c d).channel (channel (object_of (view_of p)) c) →
+      IsRun memory (slice_index_or p.queues c d).channel (channel (object_of (view_of p)) c)
+
+pub holds-changed : (p : Parts) (ch : ℕ) (q : Queue) (memory : List ℕ) (events : List Bool) (history : List Entry) (steps : ℕ) (o : Object) → Holds p → ch < length p.queues → ChangesTo p ch q memory events history o → Holds (changed p ch q memory events history steps)
+holds-changed p ch q memory events history steps o h less w =
+    let v : View = view_of p in
+    let r = changed p ch q memory events history steps in
+    let u : View = changed_view p ch q history steps in
+    let is : u ≡ view_of r = sym (view-changed p ch q memory events history steps) in
+    let sound : IsSound u = record {
+      opens = h.sound.opens;
+      makes = h.sound.makes;
+      legal = w.legal;
+      fits = rw w.leaves (fits-changed (object_of v) o v.schedule ch (schedule_of q) h.sound.fits w.fits);
+    } in
+    let leaves : object_of (view_of r) ≡ o = ap object_of (sym is) ∙ w.leaves in
+    record {
+      sound = subst IsSound is sound;
+      shown = w.shown ∙ ap (λ x. memory_shown x (slice_set v.schedule ch (schedule_of q))) (sym w.leaves) ∙ ap memory_of is;
+      events = w.events ∙ ap (λ (x : Object). x.events) (sym leaves);
+      marks = h.marks ∙ w.marks ∙ ap (λ (x : Object). x.marks) (sym leaves);
+      each = λ c d l. elim (cases_eq c ch) [
+        | inl e ↦ rw (e, leaves, get_or-set_same p.queues ch q d less) w.tied
+        | inr f ↦
+            let l' : c < length p.queues = omega (arith, l, length-set p.queues ch q) in
+            let old = h.each c d l' in
+            let kept = queue-kept c p.history history p.memory memory (slice_index_or p.queues c d) (channel (object_of v) c) w.grows (w.machines c d l' f old.machine) old in
+            rw (leaves, get_or-set_other p.queues ch c q d f, w.fits.others c f) kept
+      ];
+    }
+
+-- the schedule stays where a queue's does
+pub schedule-kept : (p : Parts) (ch : ℕ) (q r : Queue) → ch < length p.queues → q ≡ slice_index_or p.queues ch q → schedule_of r ≡ schedule_of q → slice_set (view_of p).schedule ch (schedule_of r) ≡ (view_of p).schedule
+schedule-kept p ch q r less read same =
+    ap (slice_set (view_of p).schedule ch) (same ∙ ap schedule_of read ∙ sym (get_or-map schedule_of p.queues ch q idle less))
+    ∙ set-get_or (view_of p).schedule ch idle

@@ -1,0 +1,164 @@
+-- What an engine keeps when an entry is added that changes no channel: a write, a read, a mark, an unmark, a raise.
+use Rattle.std.proofs.Common.{◌≡◌, ◌≢◌, ℕ, ◌+◌, ◌<◌, ◌≤◌, List, [], ◌∷◌, ◌++◌, length, Option, Some, None, Bool, true, false, refl, ap, sym, ◌∙◌, arith, suc, zero, take, drop, inr, get_or}
+use Rattle.std.specs.Prelude.{nat_lt, slice_index, slice_index_or, slice_set, is_some}
+use Rattle.std.specs.List.{Contains, range_with_len}
+use Rattle.std.specs.Map.{keys_of}
+use Rattle.std.proofs.lemmas.Bool.{ltb-false, false≢true}
+use Rattle.std.proofs.lemmas.List.{length-take, length-drop}
+use Rattle.std.proofs.lemmas.List.FromFn.{length-range_with_len}
+use Rattle.std.proofs.lemmas.Map.Made.{keys_of-zip}
+use Rattle.dma_mem.specs.Image.{put, bytes_at}
+use Rattle.dma_mem.specs.Places.{Descriptor, touches, writes}
+use Rattle.dma_mem.specs.declared.marks.MarkKind.{MarkKind}
+use Rattle.dma_mem.specs.declared.segment.Segment.{Segment}
+use Rattle.dma_mem.proofs.Puts.{get_or-put_other}
+use Rattle.dma_mem.proofs.Sharing.{touches-false}
+use Rattle.dma_chan.specs.Channel.{ChannelValue}
+use Rattle.dma_chan.specs.Programs.{ProgramValue}
+use Rattle.dma_engine.specs.declared.entry.Entry.TheVariants.{Wrote, ReadBack, Signalled, Marked, Unmarked}
+use Rattle.dma_engine.specs.declared.entry.Signaller.TheVariants.{Host}
+use Rattle.dma_engine.specs.declared.fault.EngineFault.{EngineFault}
+use Rattle.dma_engine.specs.declared.fault.EngineFault.TheVariants.{OutOfMemoryRange}
+use Rattle.dma_engine.specs.declared.queue.Queue.{Queue}
+use Rattle.dma_engine.specs.Object.{Object, channel, front, finished, after}
+use Rattle.dma_engine.specs.View.{View, ChannelSchedule, RunningTransfer, running, runs, runs_there, memory_shown, object_of, size, channels}
+use Rattle.dma_engine.specs.Answer.{write_fault, read_fault, busy, cause, first_running}
+use Rattle.dma_engine.specs.Holds.{Holds, Parts, view_of, taken_of}
+use Rattle.dma_engine.proofs.Changes.{holds-entered, with_entry_at, run-kept}
+use Rattle.dma_engine.proofs.Memory.{shown-wrote, shown-read}
+use Rattle.dma_engine.proofs.Queues.{holds-at, many-queues, runs_front}
+use Rattle.dma_engine.proofs.WhatRuns.{find-none_at}
+
+-- ---- what runs, by its queue
+
+pub taken-some : (m : ChannelValue) → is_some m.program ≡ true → taken_of m ≡ Some m.taken
+taken-some m h =
+    let by : (o : Option ProgramValue) → is_some o ≡ true → o ≡ m.program → taken_of m ≡ Some m.taken = λ o. elim o as (λ o. is_some o ≡ true → o ≡ m.program → taken_of m ≡ Some m.taken) [
+      | None ↦ λ e _. absurd (false≢true e)
+      | Some p ↦ λ _ e. rw (← e) refl
+    ] in
+    by m.program h refl
+
+-- within a list the default doesn't matter
+pub get_or_any : {X : Type 0} (xs : List X) (k : ℕ) (d e : X) → k < length xs → get_or xs k d ≡ get_or xs k e
+get_or_any [] k d e h = absurd (omega arith)
+get_or_any (x ∷ xs) zero d e h = refl
+get_or_any (x ∷ xs) (suc k) d e h = get_or_any xs k d e (omega arith)
+
+pub runs_at : (p : Parts) → Holds p → (ch : ℕ) (q : Queue) (t : Descriptor) → ch < length p.queues → q ≡ slice_index_or p.queues ch q → is_some q.channel.program ≡ true → front (channel (object_of (view_of p)) ch) ≡ Some t → runs (object_of (view_of p)) (view_of p).schedule ch ≡ Some (record { ch = ch; cookie = finished (channel (object_of (view_of p)) ch) + 1; transfer = t; taken = q.channel.taken })
+runs_at p h ch q t less read loaded is =
+    let at = holds-at p h ch q less read in
+    let c = channel (object_of (view_of p)) ch in
+    at.runs_is ∙ ap (runs_there ch c) (taken-some q.channel loaded) ∙ runs_front ch c t q.channel.taken is
+
+-- ---- a write
+
+cause-none : (b : Bool) (fault : EngineFault) (others : Option EngineFault) → cause b fault others ≡ None → (b ≡ false) × (others ≡ None)
+cause-none true fault others h = absurd cc
+cause-none false fault others h = (refl, h)
+
+busy-none : (x : Option RunningTransfer) → busy x ≡ None → x ≡ None
+busy-none None h = refl
+busy-none (Some r) h = absurd cc
+
+pub write-allowed : (v : View) (addr n : ℕ) → write_fault v addr n ≡ None → (addr + n ≤ size v) × (first_running v (λ t. touches t (record { addr = addr; len = n })) ≡ None)
+write-allowed v addr n h =
+    let parts = cause-none (nat_lt (size v) (addr + n)) OutOfMemoryRange _ h in
+    (ltb-false (size v) (addr + n) parts.0, busy-none _ parts.1)
+
+-- an address that a write doesn't touch keeps its byte
+kept-byte : (memory : List ℕ) (addr : ℕ) (bytes : List ℕ) (a : ℕ) → ¬ Contains (range_with_len addr (length bytes)) a → slice_index (put memory (bytes_at addr bytes)) a ≡ slice_index memory a
+kept-byte memory addr bytes a h =
+    let range = range_with_len addr (length bytes) in
+    let keys : keys_of (bytes_at addr bytes) ≡ range = keys_of-zip range bytes (sym (length-range_with_len addr (length bytes))) in
+    get_or-put_other memory (bytes_at addr bytes) a (rw keys h)
+
+pub holds-wrote : (p : Parts) (addr : ℕ) (bytes : List ℕ) → Holds p → write_fault (view_of p) addr (length bytes) ≡ None → Holds (with_entry_at p (Wrote addr bytes) (put p.memory (bytes_at addr bytes)) p.events p.marks)
+holds-wrote p addr bytes h free =
+    let v : View = view_of p in
+    let o = object_of v in
+    let n = length bytes in
+    let range : Segment = record { addr = addr; len = n } in
+    let may = write-allowed v addr n free in
+    holds-entered p (Wrote addr bytes) (put p.memory (bytes_at addr bytes)) p.events p.marks h (record {
+      allowed = may.0;
+      stay = refl;
+      shown = ap (λ m. put m (bytes_at addr bytes)) h.shown ∙ sym (shown-wrote o v.schedule addr bytes may.1);
+      events = h.events;
+      marks = h.marks;
+      machines = λ ch d less machine.
+          let q = slice_index_or p.queues ch d in
+          run-kept p.memory (put p.memory (bytes_at addr bytes)) q.channel (channel o ch) (λ t loaded is a inside.
+          let there : ch < length o.channels = omega (arith, many-queues p h, less) in
+          let runs_is = runs_at p h ch q t less (get_or_any p.queues ch d q less) loaded is in
+          let clear = find-none_at (λ r. touches r.transfer range) o v.schedule ch _ there may.1 runs_is in
+          kept-byte p.memory addr bytes a (λ within. touches-false t range clear (a, within, inr inside))) machine;
+    })
+
+-- ---- a read
+
+pub read-allowed : (v : View) (addr n : ℕ) → read_fault v addr n ≡ None → (addr + n ≤ size v) × (first_running v (λ t. writes t (record { addr = addr; len = n })) ≡ None)
+read-allowed v addr n h =
+    let parts = cause-none (nat_lt (size v) (addr + n)) OutOfMemoryRange _ h in
+    (ltb-false (size v) (addr + n) parts.0, busy-none _ parts.1)
+
+-- the memory has there what the image has
+pub memory-read : (p : Parts) (addr n : ℕ) → Holds p → read_fault (view_of p) addr n ≡ None → take n (drop addr p.memory) ≡ take n (drop addr (object_of (view_of p)).image)
+memory-read p addr n h free =
+    let v : View = view_of p in
+    ap (λ m. take n (drop addr m)) h.shown ∙ shown-read (object_of v) v.schedule addr n (read-allowed v addr n free).1
+
+pub holds-read : (p : Parts) (addr n : ℕ) (bytes : List ℕ) → Holds p → read_fault (view_of p) addr n ≡ None → bytes ≡ take n (drop addr (object_of (view_of p)).image) → Holds (with_entry_at p (ReadBack addr bytes) p.memory p.events p.marks)
+holds-read p addr n bytes h free is =
+    let v : View = view_of p in
+    let image = (object_of v).image in
+    let may = read-allowed v addr n free in
+    let long : length bytes ≡ n = ap length is ∙ omega (arith, may.0, length-take n (drop addr image), length-drop addr image) in
+    holds-entered p (ReadBack addr bytes) p.memory p.events p.marks h (record {
+      allowed = (omega (arith, long, may.0), is ∙ ap (λ k. take k (drop addr image)) (sym long));
+      stay = refl;
+      shown = h.shown;
+      events = h.events;
+      marks = h.marks;
+      machines = λ ch d less machine. machine;
+    })
+
+-- ---- marks and events
+
+shown-same : (o p : Object) (s : List ChannelSchedule) → o.image ≡ p.image → o.channels ≡ p.channels → memory_shown o s ≡ memory_shown p s
+unfolding running
+shown-same o p s image channels = rw (image, channels) refl
+
+-- what shows of the memory hangs on the image and the channels alone
+pub holds-marked : (p : Parts) (kind : MarkKind) (s : Segment) → Holds p → s.len ≢ 0 → s.addr + s.len ≤ 4294967296 → Holds (with_entry_at p (Marked kind s) p.memory p.events (p.marks ++ (kind, s) ∷ []))
+holds-marked p kind s h some within =
+    holds-entered p (Marked kind s) p.memory p.events (p.marks ++ (kind, s) ∷ []) h (record {
+      allowed = (omega arith, within);
+      stay = refl;
+      shown = h.shown ∙ shown-same (object_of (view_of p)) (after (object_of (view_of p)) (Marked kind s)) (view_of p).schedule refl refl;
+      events = h.events;
+      marks = ap (λ l. l ++ (kind, s) ∷ []) h.marks;
+      machines = λ ch d less machine. machine;
+    })
+
+pub holds-unmarked : (p : Parts) → Holds p → Holds (with_entry_at p Unmarked p.memory p.events [])
+holds-unmarked p h =
+    holds-entered p Unmarked p.memory p.events [] h (record {
+      allowed = tt;
+      stay = refl;
+      shown = h.shown ∙ shown-same (object_of (view_of p)) (after (object_of (view_of p)) Unmarked) (view_of p).schedule refl refl;
+      events = h.events;
+      marks = refl;
+      machines = λ ch d less machine. machine;
+    })
+
+pub holds-raised : (p : Parts) (event : ℕ) → Holds p → event ≤ 31 → Holds (with_entry_at p (Signalled Host event) p.memory (slice_set p.events event true) p.marks)
+holds-raised p event h small =
+    holds-entered p (Signalled Host event) p.memory (slice_set p.events event true) p.marks h (record {
+      allowed = small;
+      stay = refl;
+      shown = h.shown ∙ shown-same (object_of (view_of p)) (after (object_of (view_of p)) (Signalled Host event)) (view_of p).schedule refl refl;
+      events = ap (λ l. slice_set l event true) h.events;
+      marks = h.marks;
+      machines = λ ch d less machine. machine;
+    })

@@ -1,0 +1,111 @@
+-- What a new engine keeps.
+use Rattle.std.proofs.Common.{◌≡◌, ◌≢◌, ℕ, ◌+◌, ◌<◌, ◌≤◌, [], ◌∷◌, ◌++◌, length, map, Option, None, true, false, refl, ap, sym, ◌∙◌, subst, arith, inl, inr, zero, suc, add-one}
+use Rattle.std.specs.Prelude.{slice_index_or, replicate, nat_lt, ◌==◌}
+use Rattle.dma_mem.specs.Sizes.{is_size}
+use Rattle.std.specs.List.{filter_map, range_with_len}
+use Rattle.std.proofs.lemmas.Bool.{cases_lt, ne_eqb, le-ltb}
+use Rattle.std.proofs.lemmas.List.{length-replicate, get_or-replicate, get_or_past}
+use Rattle.dma_mem.specs.Image.{over, after_moves}
+use Rattle.dma_mem.specs.Marking.{all_clear}
+use Rattle.dma_engine.specs.Object.{channel, new_channel, opening}
+use Rattle.dma_engine.specs.View.{View, ChannelSchedule, RunningTransfer, Fits, runs, runs_there, running, with_stored, memory_shown, memory_of, object_of, IsSound, idle, new_fault, new_view}
+use Rattle.dma_engine.specs.Holds.{Holds, Parts, view_of, schedule_of, new_queue}
+use Rattle.dma_engine.proofs.Endings.{put-nil}
+use Rattle.dma_engine.proofs.Sizes.{opening-size, opening-many}
+
+pub replicate-push : {X : Type 0} (n : ℕ) (x : X) → replicate n x ++ x ∷ [] ≡ replicate (n + 1) x
+replicate-push zero x = refl
+replicate-push (suc n) x = rw add-one (ap (λ l. x ∷ l) (rw add-one at (replicate-push n x)))
+
+map-same : (n : ℕ) → map schedule_of (replicate n new_queue) ≡ replicate n idle
+map-same zero = refl
+map-same (suc n) = ap (λ l. idle ∷ l) (map-same n)
+
+idle-at : (n ch : ℕ) → slice_index_or (replicate n idle) ch idle ≡ idle
+idle-at n ch = elim (cases_lt ch n) [
+  | inl less ↦ get_or-replicate n ch idle idle less
+  | inr past ↦ get_or_past (replicate n idle) ch idle (omega (arith, length-replicate n idle))
+]
+
+new-at : (bytes n ch : ℕ) → channel (opening bytes n) ch ≡ new_channel
+unfolding opening
+new-at bytes n ch = elim (cases_lt ch n) [
+  | inl less ↦ get_or-replicate n ch new_channel new_channel less
+  | inr past ↦ get_or_past (replicate n new_channel) ch new_channel (omega (arith, length-replicate n new_channel))
+]
+
+none-runs : (bytes n ch : ℕ) → runs (opening bytes n) (replicate n idle) ch ≡ None
+none-runs bytes n ch = ap (λ (x : ChannelSchedule). runs_there ch (channel (opening bytes n) ch) x.taken) (idle-at n ch)
+
+filter-none : (f : ℕ → Option RunningTransfer) (a n : ℕ) → ((c : ℕ) → f c ≡ None) → filter_map f (range_with_len a n) ≡ []
+filter-none f a zero h = refl
+filter-none f a (suc n) h =
+    let head = h a in
+    let rest : filter_map f (range_with_len (a + 1) n) ≡ [] = filter-none f (a + 1) n h in
+    cc
+
+nothing-runs : (bytes n : ℕ) → running (opening bytes n) (replicate n idle) ≡ []
+unfolding running
+nothing-runs bytes n = filter-none (runs (opening bytes n) (replicate n idle)) 0 (length (opening bytes n).channels) (none-runs bytes n)
+
+opening-shown : (bytes n : ℕ) → replicate bytes 0 ≡ memory_shown (opening bytes n) (replicate n idle)
+unfolding opening after_moves
+opening-shown bytes n = sym (ap (λ l. over (opening bytes n).image (map with_stored l)) (nothing-runs bytes n) ∙ put-nil (replicate bytes 0))
+
+opening-fits : (bytes n : ℕ) → Fits (opening bytes n) (replicate n idle)
+opening-fits bytes n = record {
+  many = length-replicate n idle ∙ sym (opening-many bytes n);
+  each = λ ch less. rw (new-at bytes n ch, idle-at n ch) (refl, refl);
+  free = λ c d i j k. rw (none-runs bytes n c) tt;
+}
+
+opening-events : (bytes n : ℕ) → all_clear ≡ (opening bytes n).events
+unfolding opening all_clear
+opening-events bytes n = refl
+
+opening-marks : (bytes n : ℕ) → [] ≡ (opening bytes n).marks
+unfolding opening
+opening-marks bytes n = refl
+
+-- the parts of a new engine
+abbrev pub new_parts : ℕ → ℕ → Parts
+new_parts bytes n = record { size = bytes; memory = replicate bytes 0; events = all_clear; marks = []; queues = replicate n new_queue; history = []; steps = 0 }
+
+pub new-view : (bytes n : ℕ) → view_of (new_parts bytes n) ≡ new_view bytes n
+new-view bytes n =
+    ap (λ k. record { base = opening bytes k; history = []; steps = 0; schedule = map schedule_of (replicate n new_queue) }) (length-replicate n new_queue)
+    ∙ ap (λ s. record { base = opening bytes n; history = []; steps = 0; schedule = s }) (map-same n)
+
+pub holds-new : (bytes n : ℕ) → new_fault bytes n ≡ None → Holds (new_parts bytes n)
+holds-new bytes n made =
+    let v : View = view_of (new_parts bytes n) in
+    let is : v ≡ new_view bytes n = new-view bytes n in
+    let o = opening bytes n in
+    record {
+      sound = subst IsSound (sym is) (record {
+        opens = rw (opening-size bytes n, opening-many bytes n) refl;
+        makes = rw (opening-size bytes n, opening-many bytes n) made;
+        legal = tt;
+        fits = opening-fits bytes n;
+      });
+      shown = opening-shown bytes n ∙ ap memory_of (sym is);
+      events = opening-events bytes n ∙ ap (λ (w : View). (object_of w).events) (sym is);
+      marks = opening-marks bytes n ∙ ap (λ (w : View). (object_of w).marks) (sym is);
+      each = λ ch d less.
+          let inside : ch < n = omega (arith, less, length-replicate n new_queue) in
+          let here : channel (object_of v) ch ≡ new_channel = ap (λ (w : View). channel (object_of w) ch) is ∙ new-at bytes n ch in
+          rw (get_or-replicate n ch new_queue d inside, here) (record {
+            many = refl;
+            stands = λ k l. absurd (omega arith);
+            outcomes = refl;
+            issued = refl;
+            halted = refl;
+            machine = tt;
+          });
+    }
+
+pub made-from : (bytes many : ℕ) → many ≢ 0 → many ≤ 8 → is_size bytes ≡ true → new_fault bytes many ≡ None
+made-from bytes many some few size =
+    let e : (many == 0) ≡ false = ne_eqb many 0 some in
+    let f : nat_lt 8 many ≡ false = le-ltb 8 many few in
+    rw (e, f, size) refl

@@ -1,0 +1,112 @@
+-- A queue and what the object knows of its channel.
+use Rattle.std.proofs.Common.{◌≡◌, ℕ, ◌+◌, ◌<◌, List, [], ◌∷◌, ◌++◌, length, Option, Some, None, Bool, true, false, cond, refl, ap, sym, ◌∙◌, arith, suc, zero}
+use Rattle.std.specs.Prelude.{IsSomeAnd, slice_get, slice_index, slice_index_or, nat_lt}
+use Rattle.std.proofs.lemmas.Option.{slice_get_within, get_or_from_slice_get}
+use Rattle.std.proofs.lemmas.List.{get_or-map, length-map}
+use Rattle.dma_mem.specs.Places.{Descriptor}
+use Rattle.dma_engine.specs.declared.entry.Entry.{Entry}
+use Rattle.dma_engine.specs.declared.entry.Entry.TheVariants.{Submitted}
+use Rattle.dma_engine.specs.declared.queue.Queue.{Queue}
+use Rattle.dma_engine.specs.Object.{ChannelState, channel, front, issued_front, no_transfer, used, finished}
+use Rattle.dma_engine.specs.View.{Agrees, runs_there, runs, idle, object_of, channels, View, ChannelSchedule}
+use Rattle.dma_engine.specs.Holds.{IsQueue, Holds, Parts, view_of, schedule_of}
+
+-- ---- the front of a channel
+
+-- an issued front, of which a fact holds
+pub record Front (c : ChannelState) (P : Descriptor → Type 0) : Type 0 where
+  pub transfer : Descriptor
+  pub is : front c ≡ Some transfer
+  pub issued : issued_front c ≡ Some transfer
+  pub holds : P transfer
+  pub within : finished c < used c
+
+pub front_where : (c : ChannelState) (P : Descriptor → Type 0) → IsSomeAnd (issued_front c) P → Front c P
+front_where c P h =
+    let by : (b : Bool) (o : Option Descriptor) → nat_lt (finished c) c.issued ≡ b → front c ≡ o → IsSomeAnd (cond b o None) P → Front c P = λ b o. elim b as (λ b. nat_lt (finished c) c.issued ≡ b → front c ≡ o → IsSomeAnd (cond b o None) P → Front c P) [
+      | false ↦ λ e f g. absurd g
+      | true ↦ λ e. elim o as (λ o. front c ≡ o → IsSomeAnd o P → Front c P) [
+        | None ↦ λ f g. absurd g
+        | Some t ↦ λ f g. record {
+          transfer = t;
+          is = f;
+          issued = rw e f;
+          holds = g;
+          within = slice_get_within c.submitted (finished c) t f;
+        }
+      ]
+    ] in
+    by _ _ refl refl h
+
+-- where an issued front is known, it is the front
+pub front_known : (c : ChannelState) (t : Descriptor) → issued_front c ≡ Some t → Front c (λ u. u ≡ t)
+front_known c t h = front_where c (λ u. u ≡ t) (rw h refl)
+
+-- what runs at a channel whose front is known
+pub runs_front : (ch : ℕ) (c : ChannelState) (t : Descriptor) (taken : ℕ) → front c ≡ Some t → runs_there ch c (Some taken) ≡ Some (record { ch = ch; cookie = finished c + 1; transfer = t; taken = taken })
+runs_front ch c t taken h = rw h refl
+
+-- ---- a queue at its channel
+
+-- what an engine keeps, at the queue that was read at a channel
+pub record HoldsAt (p : Parts) (ch : ℕ) (q : Queue) : Type 0 where
+  pub there : ch < channels (view_of p)
+  pub tied : IsQueue ch p.history p.memory q (channel (object_of (view_of p)) ch)
+  pub agrees : Agrees (channel (object_of (view_of p)) ch) (schedule_of q).taken
+  pub runs_is : runs (object_of (view_of p)) (view_of p).schedule ch ≡ runs_there ch (channel (object_of (view_of p)) ch) (schedule_of q).taken
+  pub schedule_is : slice_index_or (view_of p).schedule ch idle ≡ schedule_of q
+
+pub many-queues : (p : Parts) → Holds p → length p.queues ≡ channels (view_of p)
+many-queues p h = sym (length-map p.queues schedule_of) ∙ h.sound.fits.many
+
+pub holds-at : (p : Parts) → Holds p → (ch : ℕ) (q : Queue) → ch < length p.queues → q ≡ slice_index_or p.queues ch q → HoldsAt p ch q
+holds-at p h ch q less read =
+    let v : View = view_of p in
+    let inside : ch < channels v = omega (arith, many-queues p h, less) in
+    let at : slice_index_or v.schedule ch idle ≡ schedule_of q = get_or-map schedule_of p.queues ch q idle less ∙ ap schedule_of (sym read) in
+    record {
+      there = inside;
+      tied = rw (← read) at (h.each ch q less);
+      agrees = rw at at (h.sound.fits.each ch inside);
+      runs_is = ap (λ (s : ChannelSchedule). runs_there ch (channel (object_of v) ch) s.taken) at;
+      schedule_is = at;
+    }
+
+-- the front's entry stands in the history at the place that the queue has of it
+pub front_stands : (ch : ℕ) (history : List Entry) (memory : List ℕ) (q : Queue) (c : ChannelState) (t : Descriptor) → IsQueue ch history memory q c → front c ≡ Some t → slice_get history (slice_index q.places (length q.outcomes)) ≡ Some (Submitted ch t (finished c + 1))
+front_stands ch history memory q c t tied is =
+    let less : finished c < used c = slice_get_within c.submitted (finished c) t is in
+    let front_is : slice_index_or c.submitted (finished c) no_transfer ≡ t = get_or_from_slice_get c.submitted (finished c) t no_transfer is in
+    let many : length q.outcomes ≡ finished c = ap length tied.outcomes in
+    let stands : slice_get history (slice_index q.places (finished c)) ≡ Some (Submitted ch (slice_index_or c.submitted (finished c) no_transfer) (finished c + 1)) = tied.stands (finished c) less in
+    ap (λ n. slice_get history (slice_index q.places n)) many ∙ stands ∙ ap (λ u. Some (Submitted ch u (finished c + 1))) front_is
+
+-- so its place is one of the queue, and one of the history
+pub front_place : (ch : ℕ) (history : List Entry) (memory : List ℕ) (q : Queue) (c : ChannelState) (t : Descriptor) → IsQueue ch history memory q c → front c ≡ Some t → (length q.outcomes < length q.places) × (slice_index q.places (length q.outcomes) < length history)
+front_place ch history memory q c t tied is =
+    let less : finished c < used c = slice_get_within c.submitted (finished c) t is in
+    let many : length q.outcomes ≡ finished c = ap length tied.outcomes in
+    (omega (arith, tied.many, many, less), slice_get_within history _ _ (front_stands ch history memory q c t tied is))
+
+-- and what is read there is its entry
+pub front_read : (ch : ℕ) (history : List Entry) (memory : List ℕ) (q : Queue) (c : ChannelState) (t : Descriptor) (e : Entry) (place : ℕ) → IsQueue ch history memory q c → front c ≡ Some t → place ≡ slice_index q.places (length q.outcomes) → e ≡ slice_index_or history place e → e ≡ Submitted ch t (finished c + 1)
+front_read ch history memory q c t e place tied is at read =
+    read ∙ get_or_from_slice_get history place _ e (ap (slice_get history) at ∙ front_stands ch history memory q c t tied is)
+
+-- ---- lists with one more item
+
+-- an entry stands where it stood when more are added
+pub slice_get-push : {X : Type 0} (xs : List X) (y x : X) (k : ℕ) → slice_get xs k ≡ Some x → slice_get (xs ++ y ∷ []) k ≡ Some x
+slice_get-push [] y x k h = absurd cc
+slice_get-push (z ∷ xs) y x zero h = h
+slice_get-push (z ∷ xs) y x (suc k) h = slice_get-push xs y x k h
+
+pub slice_get-push_within : {X : Type 0} (xs : List X) (y : X) (k : ℕ) → k < length xs → slice_get (xs ++ y ∷ []) k ≡ slice_get xs k
+slice_get-push_within [] y k h = absurd (omega arith)
+slice_get-push_within (x ∷ xs) y zero h = refl
+slice_get-push_within (x ∷ xs) y (suc k) h = slice_get-push_within xs y k (omega arith)
+
+pub slice_get-push_last : {X : Type 0} (xs : List X) (y : X) (k : ℕ) → k ≡ length xs → slice_get (xs ++ y ∷ []) k ≡ Some y
+slice_get-push_last [] y k h = rw h refl
+slice_get-push_last (x ∷ xs) y zero h = absurd (omega arith)
+slice_get-push_last (x ∷ xs) y (suc k) h = slice_get-push_last xs y k (omega arith)

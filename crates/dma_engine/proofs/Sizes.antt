@@ -1,0 +1,96 @@
+-- How large the parts of an engine are.
+use Rattle.std.proofs.Common.{◌≡◌, ℕ, ◌≤◌, List, [], ◌∷◌, length, Some, None, Bool, true, false, refl, ap, sym, ◌∙◌, arith, ◌||◌, not}
+use Rattle.std.specs.Prelude.{nat_lt, ◌==◌, if◌then◌else◌}
+use Rattle.std.proofs.lemmas.Bool.{ltb-false, or_parts}
+use Rattle.std.proofs.lemmas.List.{length-replicate, length-set}
+use Rattle.dma_mem.specs.Image.{bytes_at}
+use Rattle.dma_mem.specs.Sizes.{is_size}
+use Rattle.dma_mem.proofs.Overs.{length-after_moves}
+use Rattle.dma_mem.proofs.Puts.{length-put}
+use Rattle.dma_engine.specs.declared.entry.Entry.{Entry}
+use Rattle.dma_engine.specs.declared.entry.Entry.TheVariants.{Wrote, ReadBack, Submitted, Issued, Passed, Signalled, Finished, Terminated, Marked, Unmarked}
+use Rattle.dma_engine.specs.declared.entry.Signaller.TheVariants.{Channel, Host}
+use Rattle.dma_engine.specs.declared.fault.NewFault.TheVariants.{BadChannels, SizeOutOfRange}
+use Rattle.dma_engine.specs.Object.{Object, after, opening}
+use Rattle.dma_engine.specs.History.{object_after}
+use Rattle.dma_engine.specs.View.{View, object_of, size, new_fault}
+use Rattle.dma_engine.specs.Holds.{Holds, Parts, view_of}
+
+-- no entry changes the size of the memory
+pub size-after : (o : Object) (e : Entry) → length (after o e).image ≡ length o.image
+size-after o (Wrote addr bytes) = length-put o.image (bytes_at addr bytes)
+size-after o (ReadBack addr bytes) = refl
+size-after o (Submitted ch t cookie) = refl
+size-after o (Issued ch) = refl
+size-after o (Passed ch event) = refl
+size-after o (Signalled (Channel ch) event) = refl
+size-after o (Signalled Host event) = refl
+size-after o (Finished ch result done) = length-after_moves _ _
+size-after o (Terminated ch done count) = length-after_moves _ _
+size-after o (Marked kind segment) = refl
+size-after o Unmarked = refl
+
+pub size-object : (o : Object) (h : List Entry) → length (object_after o h).image ≡ length o.image
+size-object o [] = refl
+size-object o (e ∷ es) = size-object (after o e) es ∙ size-after o e
+
+-- nor the number of flags
+pub flags-after : (o : Object) (e : Entry) → length (after o e).events ≡ length o.events
+flags-after o (Wrote addr bytes) = refl
+flags-after o (ReadBack addr bytes) = refl
+flags-after o (Submitted ch t cookie) = refl
+flags-after o (Issued ch) = refl
+flags-after o (Passed ch event) = length-set _ _ _
+flags-after o (Signalled (Channel ch) event) = length-set _ _ _
+flags-after o (Signalled Host event) = length-set _ _ _
+flags-after o (Finished ch result done) = refl
+flags-after o (Terminated ch done count) = refl
+flags-after o (Marked kind segment) = refl
+flags-after o Unmarked = refl
+
+pub flags-object : (o : Object) (h : List Entry) → length (object_after o h).events ≡ length o.events
+flags-object o [] = refl
+flags-object o (e ∷ es) = flags-object (after o e) es ∙ flags-after o e
+
+pub opening-size : (bytes many : ℕ) → length (opening bytes many).image ≡ bytes
+unfolding opening
+opening-size bytes many = length-replicate bytes 0
+
+pub opening-many : (bytes many : ℕ) → length (opening bytes many).channels ≡ many
+unfolding opening
+opening-many bytes many = length-replicate many _
+
+opening-flags : (bytes many : ℕ) → length (opening bytes many).events ≡ 32
+unfolding opening
+opening-flags bytes many = refl
+
+pub size-is : (p : Parts) → p.size ≡ size (view_of p)
+size-is p = sym (size-object (view_of p).base p.history ∙ opening-size p.size (length p.queues))
+
+pub memory-size : (p : Parts) → Holds p → length p.memory ≡ size (view_of p)
+memory-size p h = ap length h.shown ∙ length-after_moves _ _
+
+pub flags-many : (p : Parts) → length (object_of (view_of p)).events ≡ 32
+flags-many p = flags-object (view_of p).base p.history ∙ opening-flags p.size (length p.queues)
+
+not-false : (b : Bool) → not b ≡ false → b ≡ true
+not-false true h = refl
+not-false false h = absurd cc
+
+-- an engine that can be made has 1 to 8 channels and a memory's size
+pub made : (bytes many : ℕ) → new_fault bytes many ≡ None → (many ≤ 8) × (is_size bytes ≡ true)
+made bytes many h =
+    let by : (b c : Bool) → (many == 0 || nat_lt 8 many) ≡ b → not (is_size bytes) ≡ c → (if b then Some BadChannels else (if c then Some SizeOutOfRange else None)) ≡ None → (many ≤ 8) × (is_size bytes ≡ true) = λ b c. elim b as (λ b. (many == 0 || nat_lt 8 many) ≡ b → not (is_size bytes) ≡ c → (if b then Some BadChannels else (if c then Some SizeOutOfRange else None)) ≡ None → (many ≤ 8) × (is_size bytes ≡ true)) [
+      | true ↦ λ _ _ e. absurd cc
+      | false ↦ λ d. elim c as (λ c. not (is_size bytes) ≡ c → (if c then Some SizeOutOfRange else None) ≡ None → (many ≤ 8) × (is_size bytes ≡ true)) [
+        | true ↦ λ _ e. absurd cc
+        | false ↦ λ f _. (ltb-false 8 many (or_parts _ _ d).1, not-false (is_size bytes) f)
+      ]
+    ] in
+    by _ _ refl refl h
+
+pub few-queues : (p : Parts) → Holds p → length p.queues ≤ 8
+few-queues p h =
+    let v : View = view_of p in
+    let m = made (length v.base.image) (length v.base.channels) h.sound.makes in
+    omega (arith, m.0, opening-many p.size (length p.queues))

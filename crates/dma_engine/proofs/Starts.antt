@@ -1,0 +1,232 @@
+-- What an engine keeps where a front starts, and what it may answer where one finishes.
+use Rattle.std.proofs.Common.{◌≡◌, ◌≢◌, ℕ, ◌+◌, ◌-◌, ◌<◌, ◌≤◌, List, [], ◌∷◌, ◌++◌, length, take, drop, Option, Some, None, Bool, true, false, ◌&&◌, ◌||◌, not, refl, ap, sym, ◌∙◌, arith, zero, suc}
+use Rattle.std.specs.Prelude.{slice_index_or, slice_set, is_some, nat_lt, ◌==◌, unwrap_or, IfSome, IsSome}
+use Rattle.std.specs.List.{list_any}
+use Rattle.std.specs.Option.{option_map}
+use Rattle.std.proofs.lemmas.Bool.{eq-eqb, ne_eqb, lt-ltb, false≢true}
+use Rattle.dma_insn.specs.declared.insn.Insn.TheVariants.{Ld, St, End, Sev, Wfe}
+use Rattle.dma_mem.specs.Marking.{MarkList}
+use Rattle.dma_mem.specs.Places.{Descriptor, is_free_of, size_of, sources, destinations}
+use Rattle.dma_mem.specs.Rules.{IsTransfer}
+use Rattle.dma_mem.specs.declared.marks.MarkKind.{MarkKind}
+use Rattle.dma_mem.specs.declared.marks.MarkKind.TheVariants.{Reading, Writing}
+use Rattle.dma_chan.specs.Channel.{loaded}
+use Rattle.dma_chan.specs.Compiled.{cost, compiled}
+use Rattle.dma_chan.specs.Layer.{meets_mark}
+use Rattle.dma_chan.specs.Traffic.{member, stored_after, burst}
+use Rattle.dma_chan.proofs.Layers.{starts_at}
+use Rattle.dma_chan.proofs.Shape.{shape_is, stored_is}
+use Rattle.dma_engine.specs.declared.call.Call.TheVariants.{Step}
+use Rattle.dma_engine.specs.declared.call.Reply.TheVariants.{Turned}
+use Rattle.dma_engine.specs.declared.entry.Entry.TheVariants.{Finished}
+use Rattle.dma_engine.specs.declared.outcome.Outcome.{Outcome}
+use Rattle.dma_engine.specs.declared.outcome.TransResult.{TransResult}
+use Rattle.dma_engine.specs.declared.outcome.TransResult.TheVariants.{NoError, ReadFailed, WriteFailed, Aborted}
+use Rattle.dma_engine.specs.declared.queue.Queue.{Queue}
+use Rattle.dma_engine.specs.declared.turn.Turn.TheVariants.{Held, Started, Finished as TurnFinished}
+use Rattle.dma_engine.specs.Object.{ChannelState, Allows, channel, front, issued_front, finished}
+use Rattle.dma_engine.specs.View.{View, ChannelSchedule, RunningTransfer, Agrees, AreFree, runs, runs_there, object_of}
+use Rattle.dma_engine.specs.Turn.{front_cookie, in_the_way, start_turn, with_entry, with_step, with_taken}
+use Rattle.dma_engine.specs.Answer.{Answers, named, done_on, done_by}
+use Rattle.dma_engine.specs.Due.{MayStart, Finishes}
+use Rattle.dma_engine.specs.Holds.{Holds, Parts, view_of, schedule_of}
+use Rattle.dma_engine.proofs.Changes.{changed, view-changed, holds-changed, runs-here, runs-other}
+use Rattle.dma_engine.proofs.Endings.{queue_finished}
+use Rattle.dma_engine.proofs.Executed.{and-false}
+use Rattle.dma_engine.proofs.Memory.{shown-started}
+use Rattle.dma_engine.proofs.Moves.{passed-still}
+use Rattle.dma_engine.proofs.Queues.{front_known, holds-at, runs_front}
+use Rattle.dma_engine.proofs.Ruled.{Runs, good-front}
+use Rattle.dma_engine.proofs.Stepping.{Due, stepped-so, start-turn, finish-turn}
+use Rattle.dma_engine.proofs.WhatRuns.{find-none_at}
+
+-- ---- a start
+
+-- the front, from what was found of it
+pub front-told : (o : Option Descriptor) (u : Descriptor) (k n : ℕ) → Some (u, k) ≡ option_map {U = Descriptor × ℕ} (λ t. (t, n)) o → (o ≡ Some u) × (k ≡ n)
+front-told None u k n h = absurd cc
+front-told (Some t) u k n h =
+    let pair : Option (Descriptor × ℕ) → Descriptor × ℕ = λ x. unwrap_or x (u, k) in
+    (ap (λ x. Some x) (sym (ap (λ x. (pair x).0) h)), ap (λ x. (pair x).1) h)
+
+way-none : (x : Option RunningTransfer) → None ≡ named x → x ≡ None
+way-none None h = refl
+way-none (Some r) h = absurd cc
+
+abbrev pub queue_started : Queue → Descriptor → Queue
+queue_started q t = record q { channel = loaded (compiled t) }
+
+not-free : (b : Bool) → not b ≡ false → b ≡ true
+not-free true h = refl
+not-free false h = absurd cc
+
+start-agrees : (c : ChannelState) (t : Descriptor) → IsTransfer t → c.halted ≡ false → issued_front c ≡ Some t → Agrees c None → Agrees c (Some 0)
+start-agrees c t rules goes is before =
+    let shape = shape_is t rules in
+    let some : 0 < cost t = omega (arith, shape.some) in
+    let last : (w : Option ℕ) → IfSome w (λ e. (2 ≤ cost t) × (member t (cost t - 2) ≡ Sev e)) → false ≡ (is_some w && 0 == cost t - 1) = λ w. elim w as (λ w. IfSome w (λ e. (2 ≤ cost t) × (member t (cost t - 2) ≡ Sev e)) → false ≡ (is_some w && 0 == cost t - 1)) [
+      | None ↦ λ _. refl
+      | Some e ↦ λ l. sym (ne_eqb 0 (cost t - 1) (λ z. omega (arith, l.0)))
+    ] in
+    (goes, rw is (some, before.0 ∙ sym (and-false (is_some t.wait)), before.1 ∙ last t.signal shape.signal_last))
+
+free-of : (t : Descriptor) (r : RunningTransfer) (x : Option RunningTransfer) → r.transfer ≡ t → IfSome x (λ s. not (is_free_of t s.transfer) ≡ false) → AreFree (Some r) x
+free-of t r None e h = tt
+free-of t r (Some s) e h = rw e (not-free (is_free_of t s.transfer) h)
+
+pub holds-started : (p : Parts) (ch : ℕ) (q : Queue) (t : Descriptor) → Holds p → ch < length p.queues → q ≡ slice_index_or p.queues ch q → MayStart (view_of p) ch → issued_front (channel (object_of (view_of p)) ch) ≡ Some t → in_the_way (view_of p) t ≡ None → Holds (changed p ch (queue_started q t) p.memory p.events p.history p.steps)
+holds-started p ch q t h less read may some none =
+    let v : View = view_of p in
+    let o = object_of v in
+    let s = v.schedule in
+    let c = channel o ch in
+    let r = queue_started q t in
+    let x : ChannelSchedule = schedule_of r in
+    let at = holds-at p h ch q less read in
+    let tied = at.tied in
+    let within : ch < length s = omega (arith, h.sound.fits.many, at.there) in
+    let is : front c ≡ Some t = (front_known c t some).is ∙ ap (λ u. Some u) (front_known c t some).holds in
+    let good = good-front p h ch t is in
+    let idle_there : (schedule_of q).taken ≡ None = sym (ap (λ (y : ChannelSchedule). y.taken) at.schedule_is) ∙ may.3 in
+    let before : Agrees c None = rw idle_there at at.agrees in
+    let now : RunningTransfer = record { ch = ch; cookie = finished c + 1; transfer = t; taken = 0 } in
+    let there_is : runs_there ch c x.taken ≡ Some now = runs_front ch c t 0 is in
+    let rested : runs o s ch ≡ None = at.runs_is ∙ ap (runs_there ch c) idle_there in
+    let others : (d : ℕ) → d ≢ ch → runs o s d ≡ runs o (slice_set s ch x) d = λ d k. sym (runs-other o o s ch d x k refl) in
+    let each : (d : ℕ) → d < length o.channels → (y : Option RunningTransfer) → runs o s d ≡ y → IfSome y (λ u. not (is_free_of t u.transfer) ≡ false) = λ d l y. elim y as (λ y. runs o s d ≡ y → IfSome y (λ u. not (is_free_of t u.transfer) ≡ false)) [
+      | None ↦ λ _. tt
+      | Some u ↦ λ e. find-none_at (λ r. not (is_free_of t r.transfer)) o s d u l none e
+    ] in
+    holds-changed p ch r p.memory p.events p.history p.steps o h less (record {
+      legal = h.sound.legal;
+      leaves = refl;
+      grows = λ k e y. y;
+      fits = record {
+        there = at.there;
+        many = refl;
+        others = λ d k. refl;
+        agrees = start-agrees c t good.0 may.1 some before;
+        free = λ d l k. rw there_is (free-of t now (runs o s d) refl (each d l (runs o s d) refl));
+      };
+      shown = h.shown ∙ sym (shown-started ch o o s (slice_set s ch x) now (record { channels = refl; there = at.there; others = others }) refl rested (runs-here o s ch x within ∙ there_is) (stored_is t good.0).none);
+      events = h.events;
+      marks = refl;
+      tied = record {
+        many = tied.many;
+        stands = tied.stands;
+        outcomes = tied.outcomes;
+        issued = tied.issued;
+        halted = tied.halted;
+        machine = rw is (starts_at t p.memory good.0);
+      };
+      machines = λ d i l k machine. machine;
+    })
+
+pub start-answers : (p : Parts) (ch cookie : ℕ) (q : Queue) (t : Descriptor) → Holds p → ch < length p.queues → q ≡ slice_index_or p.queues ch q → MayStart (view_of p) ch → issued_front (channel (object_of (view_of p)) ch) ≡ Some t → in_the_way (view_of p) t ≡ None → cookie ≡ finished (channel (object_of (view_of p)) ch) + 1 → Answers (view_of p) (Step ch) (Turned (Started cookie)) (view_of (changed p ch (queue_started q t) p.memory p.events p.history p.steps))
+start-answers p ch cookie q t h less read may some none number =
+    let v : View = view_of p in
+    let at = holds-at p h ch q less read in
+    let view : view_of (changed p ch (queue_started q t) p.memory p.events p.history p.steps) ≡ with_taken v ch (Some 0) = view-changed p ch (queue_started q t) p.memory p.events p.history p.steps ∙ ap (λ (x : ChannelSchedule). record v { schedule = slice_set v.schedule ch (record x { taken = Some 0 }) }) (sym at.schedule_is) in
+    ap (λ w. (Turned (Started cookie), w)) view
+    ∙ ap (λ k. (Turned (Started k), with_taken v ch (Some 0))) number
+    ∙ stepped-so v _ ch (Started (front_cookie v ch)) (start-turn v ch t may some ∙ ap (start_turn v ch) none)
+
+pub held-answers : (v : View) (ch other cookie : ℕ) (t : Descriptor) → MayStart v ch → issued_front (channel (object_of v) ch) ≡ Some t → Some (other, cookie) ≡ named (in_the_way v t) → Answers v (Step ch) (Turned (Held other cookie)) v
+held-answers v ch other cookie t may some held =
+    let by : (x : Option RunningTransfer) → in_the_way v t ≡ x → Some (other, cookie) ≡ named x → Answers v (Step ch) (Turned (Held other cookie)) v = λ x. elim x as (λ x. in_the_way v t ≡ x → Some (other, cookie) ≡ named x → Answers v (Step ch) (Turned (Held other cookie)) v) [
+      | None ↦ λ _ e. absurd cc
+      | Some r ↦ λ is e.
+          let pair : Option (ℕ × ℕ) → ℕ × ℕ = λ y. unwrap_or y (0, 0) in
+          let a : other ≡ r.ch = ap (λ y. (pair y).0) e in
+          let b : cookie ≡ r.cookie = ap (λ y. (pair y).1) e in
+          ap (λ k. (Turned (Held k cookie), v)) a ∙ ap (λ k. (Turned (Held r.ch k), v)) b
+          ∙ stepped-so v v ch (Held r.ch r.cookie) (start-turn v ch t may some ∙ ap (start_turn v ch) is)
+    ] in
+    by _ refl held
+
+pub way-clear : (v : View) (t : Descriptor) → None ≡ named (in_the_way v t) → in_the_way v t ≡ None
+way-clear v t h = way-none (in_the_way v t) h
+
+-- ---- a finish
+
+either : (a b c : Bool) → (b ≡ true → c ≡ true) → (a || b) ≡ true → (a || c) ≡ true
+either true b c f h = refl
+either false b c f h = f h
+
+any-longer : (p : ℕ → Bool) (xs : List ℕ) (b c : ℕ) → b ≤ c → list_any p (take b xs) ≡ true → list_any p (take c xs) ≡ true
+any-longer p xs zero c l h = absurd (false≢true h)
+any-longer p xs (suc b) zero l h = absurd (omega arith)
+any-longer p [] (suc b) (suc c) l h = h
+any-longer p (x ∷ xs) (suc b) (suc c) l h =
+    let rest : list_any p (take b xs) ≡ true → list_any p (take c xs) ≡ true = any-longer p xs b c (omega arith) in
+    either (p x) (list_any p (take b xs)) (list_any p (take c xs)) rest h
+
+pub more-marked : (kind : MarkKind) (marks : MarkList) (xs : List ℕ) (b : ℕ) → b ≤ 256 → meets_mark kind marks (take b xs) ≡ true → meets_mark kind marks (take 256 xs) ≡ true
+unfolding meets_mark
+more-marked kind marks xs b small h = any-longer _ xs b 256 small h
+
+not-signalled : (p : Parts) (ch : ℕ) (q : Queue) (r : Runs p ch q) → member r.transfer q.channel.taken ≢ End → (channel (object_of (view_of p)) ch).signalled ≡ false
+not-signalled p ch q r other =
+    let t = r.transfer in
+    let n = q.channel.taken in
+    let shape = shape_is t r.rules in
+    r.signalled ∙ ap (λ b. is_some t.signal && b) (ne_eqb n (cost t - 1) (λ z. other (ap (member t) z ∙ shape.end_last))) ∙ and-false (is_some t.signal)
+
+pub finish-allowed : (p : Parts) (ch : ℕ) (q : Queue) (how : TransResult) → Holds p → ch < length p.queues → q ≡ slice_index_or p.queues ch q → (d : Due p ch q (Finishes (view_of p) how)) → Allows (object_of (view_of p)) (Finished ch how (done_on (view_of p) ch))
+finish-allowed p ch q NoError h less read d =
+    let c = channel (object_of (view_of p)) ch in
+    let r = d.it in
+    let t = r.transfer in
+    let n = q.channel.taken in
+    let shape = shape_is t r.rules in
+    let is : member t n ≡ End = d.holds in
+    let last : n + 1 ≡ cost t = shape.end_only n r.within is in
+    let at_last : n ≡ cost t - 1 = omega arith in
+    let done : done_on (view_of p) ch ≡ stored_after t n = ap done_by r.runs_is in
+    let not_wfe : (k : ℕ) (i : Bool) → member t n ≢ Wfe k i = λ k i f. let g = sym is ∙ f in absurd cc in
+    let passed : IsSome t.wait → c.passed ≡ true = λ w. passed-still p ch q r not_wfe ∙ ap (λ b. b && nat_lt 0 (n + 1)) w ∙ lt-ltb 0 (n + 1) (omega arith) in
+    let signalled : IsSome t.signal → c.signalled ≡ true = λ w. r.signalled ∙ ap (λ b. b && n == cost t - 1) w ∙ eq-eqb n (cost t - 1) at_last in
+    (r.goes, rw r.issued (passed, signalled, done ∙ ap (stored_after t) at_last ∙ (stored_is t r.rules).all))
+finish-allowed p ch q ReadFailed h less read d =
+    let c = channel (object_of (view_of p)) ch in
+    let r = d.it in
+    let t = r.transfer in
+    let n = q.channel.taken in
+    let is : member t n ≡ Ld = d.holds.0 in
+    let done : done_on (view_of p) ch ≡ stored_after t n = ap done_by r.runs_is in
+    let load = (stored_is t r.rules).load n is in
+    let not_wfe : (k : ℕ) (i : Bool) → member t n ≢ Wfe k i = λ k i f. let g = sym is ∙ f in absurd cc in
+    let not_end : member t n ≢ End = λ f. let g = sym is ∙ f in absurd cc in
+    let passed : IsSome t.wait → c.passed ≡ true = λ w. passed-still p ch q r not_wfe ∙ ap (λ b. b && nat_lt 0 (n + 1)) w ∙ lt-ltb 0 (n + 1) (omega arith) in
+    let hit = more-marked Reading (object_of (view_of p)).marks (drop (stored_after t n) (sources t)) (burst t n) load.1 d.holds.1 in
+    (r.goes, rw (r.issued, done) (passed, not-signalled p ch q r not_end, omega (arith, load.0, load.2), hit))
+finish-allowed p ch q WriteFailed h less read d =
+    let c = channel (object_of (view_of p)) ch in
+    let r = d.it in
+    let t = r.transfer in
+    let n = q.channel.taken in
+    let is : member t n ≡ St = d.holds.0 in
+    let done : done_on (view_of p) ch ≡ stored_after t n = ap done_by r.runs_is in
+    let store = (stored_is t r.rules).store n is in
+    let not_wfe : (k : ℕ) (i : Bool) → member t n ≢ Wfe k i = λ k i f. let g = sym is ∙ f in absurd cc in
+    let not_end : member t n ≢ End = λ f. let g = sym is ∙ f in absurd cc in
+    let passed : IsSome t.wait → c.passed ≡ true = λ w. passed-still p ch q r not_wfe ∙ ap (λ b. b && nat_lt 0 (n + 1)) w ∙ lt-ltb 0 (n + 1) (omega arith) in
+    let hit = more-marked Writing (object_of (view_of p)).marks (drop (stored_after t n) (destinations t)) (burst t n) store.1 d.holds.1 in
+    (r.goes, rw (r.issued, done) (passed, not-signalled p ch q r not_end, omega (arith, store.0, store.2), hit))
+finish-allowed p ch q Aborted h less read d = absurd d.holds
+
+pub finish-answers : (p : Parts) (ch cookie residue : ℕ) (how : TransResult) (q : Queue) (outcome : Outcome) (halted : Bool) (u : Descriptor) (flags : List Bool) (memory : List ℕ) → Holds p → ch < length p.queues → q ≡ slice_index_or p.queues ch q → (d : Due p ch q (Finishes (view_of p) how)) → issued_front (channel (object_of (view_of p)) ch) ≡ Some u → cookie ≡ finished (channel (object_of (view_of p)) ch) + 1 → residue ≡ size_of u - done_on (view_of p) ch → Answers (view_of p) (Step ch) (Turned (TurnFinished cookie how residue)) (view_of (changed p ch (queue_finished q outcome halted) memory flags (p.history ++ Finished ch how (done_on (view_of p) ch) ∷ []) (p.steps + 1)))
+finish-answers p ch cookie residue how q outcome halted u flags memory h less read d some number rest =
+    let v : View = view_of p in
+    let r = d.it in
+    let t = r.transfer in
+    let n = q.channel.taken in
+    let at = holds-at p h ch q less read in
+    let done : done_on v ch ≡ stored_after t n = ap done_by r.runs_is in
+    let same : u ≡ t = sym (ap (λ o. unwrap_or o u) (sym r.issued ∙ some)) in
+    let left : residue ≡ size_of t - stored_after t n = rest ∙ ap (λ x. size_of x - done_on v ch) same ∙ ap (λ k. size_of t - k) done in
+    let view : view_of (changed p ch (queue_finished q outcome halted) memory flags (p.history ++ Finished ch how (done_on v ch) ∷ []) (p.steps + 1)) ≡ with_step (with_taken (with_entry v (Finished ch how (stored_after t n))) ch None) = view-changed p ch (queue_finished q outcome halted) memory flags (p.history ++ Finished ch how (done_on v ch) ∷ []) (p.steps + 1) ∙ ap (λ k. record v { history = p.history ++ Finished ch how k ∷ []; steps = p.steps + 1; schedule = slice_set v.schedule ch (record { paused = q.paused; taken = None }) }) done ∙ ap (λ (x : ChannelSchedule). record v { history = p.history ++ Finished ch how (stored_after t n) ∷ []; steps = p.steps + 1; schedule = slice_set v.schedule ch (record x { taken = None }) }) (sym at.schedule_is) in
+    ap (λ w. (Turned (TurnFinished cookie how residue), w)) view
+    ∙ ap (λ k. (Turned (TurnFinished k how residue), with_step (with_taken (with_entry v (Finished ch how (stored_after t n))) ch None))) number
+    ∙ ap (λ k. (Turned (TurnFinished (front_cookie v ch) how k), with_step (with_taken (with_entry v (Finished ch how (stored_after t n))) ch None))) left
+    ∙ stepped-so v _ ch (TurnFinished (front_cookie v ch) how (size_of t - stored_after t n)) (d.turn_is ∙ finish-turn v ch n t how d.holds)

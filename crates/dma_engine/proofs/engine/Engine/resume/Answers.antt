@@ -1,0 +1,31 @@
+use Rattle.std.proofs.Common.{◌≡◌, ◌<◌, ◌∙◌, ap, length, false, arith}
+use Rattle.dma_engine.specs.Answer.{with_pause}
+use Rattle.dma_engine.specs.Holds.{view_of}
+use Rattle.dma_engine.specs.Inside.{parts_of}
+use Rattle.dma_engine.specs.View.{View, EngineState, channels}
+use Rattle.dma_engine.proofs.Answered.{resume-gone, resume-done}
+use Rattle.dma_engine.proofs.Queues.{many-queues}
+use Rattle.dma_engine.proofs.Quiet.{holds-paused, view-paused}
+use Rattle.dma_engine.proofs.engine.Engine.resume.Goals as goal
+
+pub returns-then-index-len : goal.returns-then-index-len
+returns-then-index-len c =
+    let p = parts_of c.self.inside in
+    let is : view_of p ≡ c.args.self.now.view = ap (λ (s : EngineState). s.view) c.self.view_is in
+    let many = many-queues p c.self.invariant ∙ ap channels is in
+    resume-gone c.args.self.now.view c.args.ch (omega (arith, many, c.if-index-len.true, c.from-index.ensures, c.len.ensures, c.self.inside.queues.ok.0))
+
+pub invariant_of-self : goal.invariant_of-self
+invariant_of-self c =
+    let p = parts_of c.self.inside in
+    let less : c.from-index.result < length p.queues = omega (arith, c.if-index-len.false, c.len.ensures, c.self.inside.queues.ok.0) in
+    holds-paused p c.from-index.result c.index_mut-queue.result.now false c.self.invariant less c.index_mut-queue.ensures.value
+
+pub returns : goal.returns
+returns c =
+    let p = parts_of c.self.inside in
+    let is : view_of p ≡ c.args.self.now.view = ap (λ (s : EngineState). s.view) c.self.view_is in
+    let less : c.from-index.result < length p.queues = omega (arith, c.if-index-len.false, c.len.ensures, c.self.inside.queues.ok.0) in
+    let many = many-queues p c.self.invariant ∙ ap channels is in
+    let view = view-paused p c.from-index.result c.index_mut-queue.result.now false c.self.invariant less c.index_mut-queue.ensures.value ∙ ap (λ (w : View). with_pause w c.from-index.result false) is in
+    rw (← c.from-index.ensures) (resume-done c.args.self.now.view _ c.from-index.result (omega (arith, many, less)) view)

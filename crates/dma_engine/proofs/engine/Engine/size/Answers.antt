@@ -1,0 +1,8 @@
+use Rattle.std.proofs.Common.{◌∙◌, ap}
+use Rattle.dma_engine.specs.Inside.{parts_of}
+use Rattle.dma_engine.specs.View.{EngineState, size}
+use Rattle.dma_engine.proofs.Sizes.{size-is}
+use Rattle.dma_engine.proofs.engine.Engine.size.Goals as goal
+
+pub returns : goal.returns
+returns c = size-is (parts_of c.self.inside) ∙ ap (λ (s : EngineState). size s.view) c.self.view_is

@@ -1,0 +1,61 @@
+use Rattle.std.proofs.Common.{◌≡◌, ◌+◌, sym, ◌∙◌, ap, subst, length, None, false, refl, arith}
+use Rattle.std.specs.Prelude.{nat_lt}
+use Rattle.std.proofs.lemmas.Bool.{le-ltb}
+use Rattle.dma_engine.specs.declared.entry.Entry.TheVariants.{Wrote}
+use Rattle.dma_engine.specs.Answer.{write_fault}
+use Rattle.dma_engine.specs.Holds.{view_of}
+use Rattle.dma_engine.specs.Inside.{parts_of}
+use Rattle.dma_engine.specs.Turn.{with_entry}
+use Rattle.dma_engine.specs.View.{View, EngineState, size}
+use Rattle.dma_engine.proofs.Answered.{write-out, write-busy, write-free, write-starved, write-done}
+use Rattle.dma_engine.proofs.Entries.{holds-wrote}
+use Rattle.dma_engine.proofs.Sizes.{size-is, memory-size}
+use Rattle.dma_engine.proofs.engine.Engine.write.Goals as goal
+
+pub returns-then-addr-bytes : goal.returns-then-addr-bytes
+returns-then-addr-bytes c =
+    let end = size-is (parts_of c.self.inside) ∙ ap (λ (s : EngineState). size s.view) c.self.view_is in
+    write-out c.args.self.now.view c.args.addr c.args.bytes.now (omega (arith, end, c.if-addr-bytes.true))
+
+pub returns-in-Some : goal.returns-in-Some
+returns-in-Some c =
+    let end = size-is (parts_of c.self.inside) ∙ ap (λ (s : EngineState). size s.view) c.self.view_is in
+    write-busy c.args.self.now.view c.args.addr c.args.bytes.now c.in-Some.ch c.in-Some.cookie (omega (arith, end, c.if-addr-bytes.false)) c.in-Some.ensures
+
+pub returns-in_default-from_slice : goal.returns-in_default-from_slice
+returns-in_default-from_slice c =
+    let end = size-is (parts_of c.self.inside) ∙ ap (λ (s : EngineState). size s.view) c.self.view_is in
+    let free = write-free c.args.self.now.view c.args.addr (length c.args.bytes.now) (omega (arith, end, c.if-addr-bytes.false)) c.in_default.ensures in
+    write-starved c.args.self.now.view c.args.addr c.args.bytes.now free
+
+pub returns-then-not-added : goal.returns-then-not-added
+returns-then-not-added c =
+    let end = size-is (parts_of c.self.inside) ∙ ap (λ (s : EngineState). size s.view) c.self.view_is in
+    let free = write-free c.args.self.now.view c.args.addr (length c.args.bytes.now) (omega (arith, end, c.if-addr-bytes.false)) c.in_default.ensures in
+    rw c.if-not-added.ensures ((write-starved c.args.self.now.view c.args.addr c.args.bytes.now free).0, ap (λ (s : EngineState). s.view) c.self.view_is)
+
+pub unreachable-requires : goal.unreachable-requires
+unreachable-requires c =
+    let p = parts_of c.self.inside in
+    let long = memory-size p c.self.invariant in
+    let end = size-is p in
+    let fits : nat_lt (length p.memory) (c.args.addr + length c.args.bytes.now) ≡ false = le-ltb _ _ (omega (arith, long, end, c.if-addr-bytes.false)) in
+    c.in_default-write.not-Ok _ (c.write.ensures.result ∙ rw fits refl)
+
+pub invariant_of-self-2 : goal.invariant_of-self-2
+invariant_of-self-2 c =
+    let p = parts_of c.self.inside in
+    let is : view_of p ≡ c.args.self.now.view = ap (λ (s : EngineState). s.view) c.self.view_is in
+    let end = size-is p ∙ ap size is in
+    let n = length c.args.bytes.now in
+    let free = write-free c.args.self.now.view c.args.addr n (omega (arith, end, c.if-addr-bytes.false)) c.in_default.ensures in
+    let free' : write_fault (view_of p) c.args.addr n ≡ None = subst (λ (w : View). write_fault w c.args.addr n ≡ None) (sym is) free in
+    rw (c.if-not-added.ensures, c.in-Ok-write.ensures.ok, c.in-Ok.ensures) (holds-wrote p c.args.addr c.args.bytes.now c.self.invariant free')
+
+pub returns : goal.returns
+returns c =
+    let is : view_of (parts_of c.self.inside) ≡ c.args.self.now.view = ap (λ (s : EngineState). s.view) c.self.view_is in
+    let end = size-is (parts_of c.self.inside) ∙ ap size is in
+    let free = write-free c.args.self.now.view c.args.addr (length c.args.bytes.now) (omega (arith, end, c.if-addr-bytes.false)) c.in_default.ensures in
+    write-done c.args.self.now.view _ c.args.addr c.args.bytes.now free
+    (rw (c.if-not-added.ensures, c.in-Ok.ensures) (ap (λ (w : View). with_entry w (Wrote c.args.addr c.args.bytes.now)) is))

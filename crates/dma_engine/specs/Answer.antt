@@ -1,0 +1,189 @@
+-- What each call answers.
+use Rattle.std.specs.Prelude.{◌≡◌, ℕ, ◌+◌, ◌-◌, if◌then◌else◌, ◌==◌, ◌||◌, Bool, true, false, nat_lt, nat_le, not, Option, Some, None, Result, Ok, Err, List, [], ◌∷◌, ◌++◌, length, take, drop, slice_get, slice_set, find}
+use Rattle.std.specs.Option.{option_map}
+use Rattle.dma_mem.specs.Places.{Descriptor, touches, writes, lies_below}
+use Rattle.dma_mem.specs.declared.segment.Segment.{Segment}
+use Rattle.dma_engine.specs.declared.entry.Entry.{Entry}
+use Rattle.dma_engine.specs.declared.entry.Entry.TheVariants.{Wrote, ReadBack, Submitted, Issued, Signalled, Terminated, Marked, Unmarked}
+use Rattle.dma_engine.specs.declared.entry.Signaller.TheVariants.{Host}
+use Rattle.dma_engine.specs.declared.call.Call.{Call}
+use Rattle.dma_engine.specs.declared.call.Call.TheVariants.{Write, Read, Submit, Issue, Pause, Resume, Terminate, Step, Status, Result as ResultOf, Mark, Unmark, Raise}
+use Rattle.dma_engine.specs.declared.call.Reply.{Reply}
+use Rattle.dma_engine.specs.declared.call.Reply.TheVariants.{Done, Bytes, Cookie, Count, Turned, State, Result as Told, Refused}
+use Rattle.dma_engine.specs.declared.turn.Status.{Status as EngineStatus}
+use Rattle.dma_engine.specs.declared.turn.Turn.{Turn}
+use Rattle.dma_engine.specs.declared.turn.Turn.TheVariants.{Started}
+use Rattle.dma_engine.specs.declared.fault.EngineFault.{EngineFault}
+use Rattle.dma_engine.specs.declared.fault.EngineFault.TheVariants.{OutOfMemoryRange, Busy, NoChannel, CookiesSpent, BadEvent, BadRange, NoMemory}
+use Rattle.dma_engine.specs.declared.fault.SubmitFault.{SubmitFault}
+use Rattle.dma_engine.specs.declared.outcome.Outcome.{Outcome}
+use Rattle.dma_engine.specs.Object.{Object, channel, used, unfinished, last_cookie}
+use Rattle.dma_engine.specs.Ticks.{ticks_of, board_of, board_after, status_of}
+use Rattle.dma_chan.specs.Traffic.{stored_after}
+use Rattle.dma_engine.specs.View.{View, RunningTransfer, object_of, schedule_at, size, channels, idle, runs, running}
+use Rattle.dma_engine.specs.Turn.{with_entry, turn}
+
+-- ---- the first cause of a refusal, if there is one
+
+-- a cause, if it holds; else the others
+abbrev pub cause : Bool → EngineFault → Option EngineFault → Option EngineFault
+cause holds fault others = if holds then Some fault else others
+
+-- a running transfer in the way is named by its channel and cookie
+abbrev pub busy : Option RunningTransfer → Option EngineFault
+busy None = None
+busy (Some r) = Some (Busy r.ch r.cookie)
+
+abbrev pub named : Option RunningTransfer → Option (ℕ × ℕ)
+named x = option_map (λ r. (r.ch, r.cookie)) x
+
+-- the first running transfer, on the lowest channel, of which a test holds
+abbrev pub first_running : View → (Descriptor → Bool) → Option RunningTransfer
+first_running v test = find (λ r. test r.transfer) (running (object_of v) v.schedule)
+
+abbrev pub range_fault : View → ℕ → ℕ → (Segment → Descriptor → Bool) → Option EngineFault
+range_fault v addr n test =
+    cause (nat_lt (size v) (addr + n)) OutOfMemoryRange (busy (first_running v (test (record { addr = addr; len = n }))))
+
+-- a write is in the way of a running transfer that writes or reads a byte of its range, a read of one that writes one
+abbrev pub write_fault : View → ℕ → ℕ → Option EngineFault
+write_fault v addr n = range_fault v addr n (λ s t. touches t s)
+
+abbrev pub read_fault : View → ℕ → ℕ → Option EngineFault
+read_fault v addr n = range_fault v addr n (λ s t. writes t s)
+
+abbrev pub channel_fault : View → ℕ → Option EngineFault
+channel_fault v ch = cause (nat_le (channels v) ch) NoChannel None
+
+abbrev pub submit_fault : View → ℕ → Descriptor → Option EngineFault
+submit_fault v ch t =
+    cause (nat_le (channels v) ch) NoChannel (
+    cause (not (lies_below t (size v))) OutOfMemoryRange (
+    cause (nat_le last_cookie (used (channel (object_of v) ch))) CookiesSpent None))
+
+-- what is answered of a cookie, or the first cause
+abbrev pub checked : Option EngineFault → ℕ → Result ℕ EngineFault
+checked None cookie = Ok cookie
+checked (Some fault) cookie = Err fault
+
+-- a marked range isn't empty and ends at 2 ^ 32 at most (PL330 manual, 32-bit addresses)
+abbrev pub mark_fault : Segment → Option EngineFault
+mark_fault s = cause (s.len == 0 || nat_lt 4294967296 (s.addr + s.len)) BadRange None
+
+abbrev pub raise_fault : ℕ → Option EngineFault
+raise_fault event = cause (nat_lt 31 event) BadEvent None
+
+-- ---- what a call does where nothing refuses it
+
+-- a channel whose schedule is changed
+abbrev pub with_pause : View → ℕ → Bool → View
+with_pause v ch paused =
+    record v { schedule = slice_set v.schedule ch (record (schedule_at v ch) { paused = paused }) }
+
+-- the bytes that a channel's front has stored, 0 where nothing runs
+abbrev pub done_by : Option RunningTransfer → ℕ
+done_by None = 0
+done_by (Some r) = stored_after r.transfer r.taken
+
+abbrev pub done_on : View → ℕ → ℕ
+done_on v ch = done_by (runs (object_of v) v.schedule ch)
+
+-- all unfinished cookies are aborted; the channel then neither runs nor is paused
+abbrev pub terminated : View → ℕ → View
+terminated v ch =
+    record (with_entry v (Terminated ch (done_on v ch) (unfinished (channel (object_of v) ch)))) {
+      schedule = slice_set v.schedule ch idle;
+    }
+
+-- how far a cookie is: as readers of the status are told by the history's ticks
+abbrev pub status_in : View → ℕ → ℕ → EngineStatus
+status_in v ch cookie = status_of (board_after (board_of v.base) (ticks_of v.history)) ch cookie
+
+-- how a cookie finished, if it did
+abbrev pub result_of : Object → ℕ → ℕ → Option Outcome
+result_of o ch cookie = if cookie == 0 then None else slice_get (channel o ch).outcomes (cookie - 1)
+
+-- the reply of a call that answers a result
+abbrev pub reply_of : {T : Type 0} → (T → Reply) → Result T EngineFault → Reply
+reply_of told (Ok x) = told x
+reply_of told (Err fault) = Refused fault
+
+abbrev pub submit_reply : Result ℕ SubmitFault → Reply
+submit_reply (Ok cookie) = Cookie cookie
+submit_reply (Err refused) = Refused refused.fault
+
+-- a refusal leaves the view as it was
+abbrev pub unless : Option EngineFault → View → Reply × View → Reply × View
+unless (Some fault) v accepted = (Refused fault, v)
+unless None v accepted = accepted
+
+-- What a call answers, and the view after it, where memory is not wanting. An accepted call adds its entry at the end of the
+-- history, or none.
+abbrev pub answer : View → Call → Reply × View
+answer v (Write addr bytes) = unless (write_fault v addr (length bytes)) v (Done, with_entry v (Wrote addr bytes))
+answer v (Read addr len) =
+    let bytes = take len (drop addr (object_of v).image) in
+    unless (read_fault v addr len) v (Bytes bytes, with_entry v (ReadBack addr bytes))
+answer v (Submit ch t) =
+    let cookie = used (channel (object_of v) ch) + 1 in
+    unless (submit_fault v ch t) v (Cookie cookie, with_entry v (Submitted ch t cookie))
+answer v (Issue ch) =
+    let c = channel (object_of v) ch in
+    unless (channel_fault v ch) v (Count (used c - c.issued), with_entry v (Issued ch))
+answer v (Pause ch) = unless (channel_fault v ch) v (Done, with_pause v ch true)
+answer v (Resume ch) = unless (channel_fault v ch) v (Done, with_pause v ch false)
+answer v (Terminate ch) =
+    unless (channel_fault v ch) v (Count (unfinished (channel (object_of v) ch)), terminated v ch)
+answer v (Step ch) = (reply_of Turned (turn v ch).0, (turn v ch).1)
+answer v (Status ch cookie) = (State (status_in v ch cookie), v)
+answer v (ResultOf ch cookie) = (Told (result_of (object_of v) ch cookie), v)
+answer v (Mark kind segment) = unless (mark_fault segment) v (Done, with_entry v (Marked kind segment))
+answer v Unmark = (Done, with_entry v Unmarked)
+answer v (Raise event) = unless (raise_fault event) v (Done, with_entry v (Signalled Host event))
+
+-- ---- want of memory
+
+abbrev pub is_started : Reply → Bool
+is_started (Turned (Started cookie)) = true
+is_started _ = false
+
+-- A call takes memory where it adds an entry or starts a transfer. No other call does.
+abbrev pub takes_memory : View → Call → Bool
+takes_memory v call =
+    is_started (answer v call).0 || nat_lt (length v.history) (length (answer v call).1.history)
+
+-- A call answers so, and leaves such a view. A call that takes memory may also be refused it, after every other cause, and
+-- then leaves the view as it was.
+abbrev pub Answers : View → Call → Reply → View → Type 0
+Answers old call (Refused NoMemory) new = (takes_memory old call ≡ true) × (new ≡ old)
+Answers old call reply new = (reply, new) ≡ answer old call
+
+-- the same of the answer of one step
+abbrev pub Steps : View → ℕ → Result Turn EngineFault → View → Type 0
+Steps old ch result new = Answers old (Step ch) (reply_of Turned result) new
+
+-- ---- lists of calls
+
+-- Calls in order answer so, one reply for each, and leave such a view.
+abbrev pub AreAnswers : View → List Call → List Reply → View → Type 0
+AreAnswers old [] [] new = new ≡ old
+AreAnswers old (call ∷ calls) (reply ∷ replies) new =
+    (next : View) × Answers old call reply next × AreAnswers next calls replies new
+AreAnswers old _ _ new = ⊥
+
+-- The history begins with the one from before, from the same base.
+abbrev pub Extends : View → View → Type 0
+Extends old new = (new.base ≡ old.base) × ((more : List Entry) × (new.history ≡ old.history ++ more))
+
+-- Outcome number k is cookie k's, and never changes.
+abbrev pub KeepsOutcomes : View → View → Type 0
+KeepsOutcomes old new =
+    (ch cookie : ℕ) (x : Outcome) → result_of (object_of old) ch cookie ≡ Some x → result_of (object_of new) ch cookie ≡ Some x
+
+-- the replies to calls in order, where memory is not wanting
+abbrev pub answers : View → List Call → List Reply × View
+answers v [] = ([], v)
+answers v (call ∷ calls) =
+    let first = answer v call in
+    let rest = answers first.1 calls in
+    (first.0 ∷ rest.0, rest.1)

@@ -1,0 +1,61 @@
+-- What an engine keeps: its parts are what its view says.
+use Rattle.std.specs.Prelude.{◌≡◌, ℕ, ◌+◌, ◌<◌, Bool, false, Option, Some, List, [], length, map, slice_get, slice_index, slice_index_or, IfSome, IsSomeAnd}
+use Rattle.std.specs.Option.{option_map}
+use Rattle.dma_chan.specs.Channel.{ChannelValue, new_channel as no_program}
+use Rattle.dma_chan.specs.Layer.{IsAt}
+use Rattle.dma_mem.specs.Marking.{MarkList}
+use Rattle.dma_engine.specs.declared.entry.Entry.{Entry}
+use Rattle.dma_engine.specs.declared.entry.Entry.TheVariants.{Submitted}
+use Rattle.dma_engine.specs.declared.queue.Queue.{Queue}
+use Rattle.dma_engine.specs.Object.{ChannelState, channel, front, no_transfer, opening, used}
+use Rattle.dma_engine.specs.View.{View, ChannelSchedule, IsSound, object_of, memory_of}
+
+-- the parts of an engine
+pub record Parts : Type 0 where
+  pub size : ℕ
+  pub memory : List ℕ
+  pub events : List Bool
+  pub marks : MarkList
+  pub queues : List Queue
+  pub history : List Entry
+  pub steps : ℕ
+
+-- the instructions that a channel's machine has executed, where a program is loaded
+abbrev pub taken_of : ChannelValue → Option ℕ
+taken_of m = option_map (λ _. m.taken) m.program
+
+-- the schedule of a channel
+abbrev pub schedule_of : Queue → ChannelSchedule
+schedule_of q = record { paused = q.paused; taken = taken_of q.channel }
+
+-- the view of an engine of these parts
+abbrev pub view_of : Parts → View
+view_of p =
+    record { base = opening p.size (length p.queues); history = p.history; steps = p.steps; schedule = map schedule_of p.queues }
+
+-- a queue to which nothing was submitted
+abbrev pub new_queue : Queue
+new_queue = record { places = []; outcomes = []; issued = 0; paused = false; halted = false; channel = no_program }
+
+-- where a program is loaded, it is that of the channel's front
+abbrev pub IsRun : List ℕ → ChannelValue → ChannelState → Type 0
+IsRun memory m c = IfSome m.program (λ _. IsSomeAnd (front c) (λ t. IsAt t m.taken memory m))
+
+-- A queue is what the object knows of its channel; its places are those of the channel's Submitted entries.
+pub record IsQueue (ch : ℕ) (history : List Entry) (memory : List ℕ) (q : Queue) (c : ChannelState) : Type 0 where
+  pub many : length q.places ≡ used c
+  pub stands : (k : ℕ) → k < used c →
+      slice_get history (slice_index q.places k) ≡ Some (Submitted ch (slice_index_or c.submitted k no_transfer) (k + 1))
+  pub outcomes : q.outcomes ≡ c.outcomes
+  pub issued : q.issued ≡ c.issued
+  pub halted : q.halted ≡ c.halted
+  pub machine : IsRun memory q.channel c
+
+-- The view is sound, the memory is what it shows, flags and marks are the object's, and each queue is its channel's.
+pub record Holds (p : Parts) : Type 0 where
+  pub sound : IsSound (view_of p)
+  pub shown : p.memory ≡ memory_of (view_of p)
+  pub events : p.events ≡ (object_of (view_of p)).events
+  pub marks : p.marks ≡ (object_of (view_of p)).marks
+  pub each : (ch : ℕ) (d : Queue) → ch < length p.queues →
+      IsQueue ch p.history p.memory (slice_index_or p.queues ch d) (channel (object_of (view_of p)) ch)

@@ -1,0 +1,62 @@
+-- What readers of the status are told.
+use Rattle.std.specs.Prelude.{ℕ, ◌+◌, if◌then◌else◌, ◌==◌, ◌||◌, nat_lt, nat_le, min, List, [], ◌∷◌, map, slice_index_or, slice_set}
+use Rattle.dma_engine.specs.declared.entry.Entry.{Entry}
+use Rattle.dma_engine.specs.declared.entry.Entry.TheVariants.{Submitted as EntrySubmitted, Finished as EntryFinished, Terminated}
+use Rattle.dma_engine.specs.declared.turn.Status.{Status}
+use Rattle.dma_engine.specs.declared.turn.Status.TheVariants.{Unknown, InProgress, Complete}
+use Rattle.dma_engine.specs.Object.{Object, ChannelState, used, finished}
+
+-- A channel gave a cookie, or so many of its cookies finished.
+pub data Tick : Type 0 where
+  Submitted : (ch : ℕ) → Tick
+  Finished : (ch count : ℕ) → Tick
+
+-- the ticks of a history
+abbrev pub ticks_of : List Entry → List Tick
+ticks_of [] = []
+ticks_of (EntrySubmitted ch t cookie ∷ es) = Submitted ch ∷ ticks_of es
+ticks_of (EntryFinished ch result done ∷ es) = Finished ch 1 ∷ ticks_of es
+ticks_of (Terminated ch done count ∷ es) = Finished ch count ∷ ticks_of es
+ticks_of (_ ∷ es) = ticks_of es
+
+-- how many cookies of a channel were given, and how many are finished
+pub record Counts : Type 0 where
+  pub used : ℕ
+  pub finished : ℕ
+
+-- A board has the counts of each channel.
+abbrev pub Board : Type 0
+Board = List Counts
+
+abbrev pub no_counts : Counts
+no_counts = record { used = 0; finished = 0 }
+
+abbrev pub counts : Board → ℕ → Counts
+counts board ch = slice_index_or board ch no_counts
+
+-- a count stops at the largest number of 32 bits, which no legal history reaches
+abbrev pub added_up : ℕ → ℕ → ℕ
+added_up n by = min (n + by) 4294967295
+
+abbrev pub ticked : Board → Tick → Board
+ticked board (Submitted ch) =
+    slice_set board ch (record (counts board ch) { used = added_up (counts board ch).used 1 })
+ticked board (Finished ch count) =
+    slice_set board ch (record (counts board ch) { finished = added_up (counts board ch).finished count })
+
+abbrev pub board_after : Board → List Tick → Board
+board_after board [] = board
+board_after board (t ∷ ts) = board_after (ticked board t) ts
+
+-- the board of an object from which a history begins
+abbrev pub counts_of : ChannelState → Counts
+counts_of c = record { used = used c; finished = finished c }
+
+abbrev pub board_of : Object → Board
+board_of o = map counts_of o.channels
+
+-- How far a cookie is (profile).
+abbrev pub status_of : Board → ℕ → ℕ → Status
+status_of board ch cookie =
+    if cookie == 0 || nat_lt (counts board ch).used cookie then Unknown
+    else (if nat_le cookie (counts board ch).finished then Complete else InProgress)

@@ -1,0 +1,61 @@
+//! Calls on an engine, and what they answer.
+
+use crate::fault::EngineFault;
+use crate::outcome::Outcome;
+use crate::turn::{Status, Turn};
+use dma_mem::lists::Bytes;
+use dma_mem::marks::MarkKind;
+use dma_mem::segment::Segment;
+use dma_mem::transfer::Transfer;
+
+/// A call on an engine. Each is the method of that name.
+#[derive(Drop)]
+pub enum Call {
+    /// `write`
+    Write { addr: u32, bytes: Bytes },
+    /// `read`
+    Read { addr: u32, len: u32 },
+    /// `submit`
+    Submit { ch: u8, transfer: Transfer },
+    /// `issue`
+    Issue { ch: u8 },
+    /// `pause`
+    Pause { ch: u8 },
+    /// `resume`
+    Resume { ch: u8 },
+    /// `terminate`
+    Terminate { ch: u8 },
+    /// `step`
+    Step { ch: u8 },
+    /// `status`
+    Status { ch: u8, cookie: u32 },
+    /// `result`
+    Result { ch: u8, cookie: u32 },
+    /// `mark`
+    Mark { kind: MarkKind, segment: Segment },
+    /// `unmark`
+    Unmark,
+    /// `raise`
+    Raise { event: u8 },
+}
+
+/// What a call answers.
+#[derive(Drop)]
+pub enum Reply {
+    /// A write, a mark, an unmark, a raise, a pause or a resume was done.
+    Done,
+    /// What was read.
+    Bytes(Bytes),
+    /// The cookie of what was submitted.
+    Cookie(u32),
+    /// How many cookies were issued, or aborted.
+    Count(u32),
+    /// What a step did.
+    Turned(Turn),
+    /// How far a cookie is.
+    State(Status),
+    /// How a cookie finished, if it did.
+    Result(Option<Outcome>),
+    /// The call was refused.
+    Refused(EngineFault),
+}

@@ -1,0 +1,861 @@
+//! The engine.
+
+ghost use Rattle.std.specs.Prelude.{◌≡◌, ◌+◌, ◌-◌, ◌<◌, ◌≤◌, ℕ, MatchOption, IfOk, IfErr, OnOk, None, unwrap_or, length, take, drop, IfSome, slice_index_or, replicate, nat_lt, ◌++◌, ◌∷◌, [], if◌then◌else◌, vec_len, vec_capacity};
+ghost use Rattle.std.specs.Option.{option_map};
+ghost use Rattle.dma_mem.specs.Places.{Descriptor};
+ghost use Rattle.dma_engine.specs.Object.{channel, used, finished, unfinished, issued_front, no_transfer, aborted, is_failure};
+ghost use Rattle.dma_engine.specs.View.{size, channels, object_of, schedule_at, runs, running_on, new_fault, new_view, IsSound};
+ghost use Rattle.dma_engine.specs.Answer.{Answers, Steps, reply_of, checked, submit_fault, submit_reply, status_in, result_of, first_running, named, done_on};
+ghost use Rattle.dma_engine.specs.Ways.{is_in_the_way};
+ghost use Rattle.dma_engine.specs.Holds.{new_queue};
+ghost use Rattle.dma_engine.specs.Due.{IsDue, MayStart, Waits, Signals, GoesOn, Finishes, failure_of};
+
+use crate::call::{Call, Reply};
+use crate::entry::{Entry, Signaller};
+use crate::fault::{EngineFault, NewFault, SubmitFault};
+use crate::outcome::{Outcome, TransResult};
+use crate::queue::Queue;
+use crate::turn::{Running, Status, Turn};
+use crate::way::Way;
+use dma_chan::compile::compile;
+use dma_chan::turn::{ChanTurn, FaultKind};
+use dma_insn::insn::Insn;
+use dma_mem::events::Events;
+use dma_mem::lists::Bytes;
+use dma_mem::marks::{MarkKind, Marks};
+use dma_mem::memory::{MemFault, Memory};
+use dma_mem::segment::Segment;
+use dma_mem::transfer::{LAST_EVENT, Transfer};
+use std::alloc::{AllocError, Global};
+use std::marker::Model;
+
+/// The most channels that an engine has (PL330 manual, the number of channel threads is configured).
+pub const MAX_CHANNELS: u8 = 8;
+
+/// One past the last address (PL330 manual, 32-bit address registers).
+const END_OF_ADDRESSES: u64 = 4_294_967_296;
+
+/// The last cookie of a channel (profile).
+const LAST_COOKIE: usize = 2_147_483_647;
+
+/// Queues of transfers on channels over one memory. Contracts see its history, its step count and its schedule.
+#[derive(Drop)]
+pub struct Engine {
+    alloc: Global,
+    size: u32,
+    memory: Memory,
+    events: Events,
+    marks: Marks,
+    queues: Vec<Queue>,
+    history: Vec<Entry>,
+    steps: u64,
+}
+
+impl Model for Engine {
+    ghost use Rattle.dma_engine.specs.View.{EngineState};
+
+    ghost Value = { EngineState };
+
+    ghost use Rattle.dma_engine.specs.Holds.{view_of, Holds};
+    ghost use Rattle.dma_engine.specs.Inside.{parts_of};
+
+    ghost view = { λ e. record { view = view_of (parts_of e) } };
+
+    ghost invariant = { λ e. Holds (parts_of e) };
+}
+
+impl Engine {
+    /// An engine over a memory of zeros, with nothing submitted to any channel.
+    ///
+    /// The error is the first that holds of `BadChannels` for 0 channels or more than [`MAX_CHANNELS`], `SizeOutOfRange` for a size
+    /// that a memory can't have, and `NoMemory`.
+    pub fn new(alloc: Global, size: u32, channels: u8) -> Result<Engine, NewFault>
+        ensures ok { IfOk result (λ engine. engine.view ≡ new_view size channels) }
+        ensures made { OnOk result (new_fault size channels ≡ None) }
+        ensures err { IfErr result (λ fault. fault ≡ unwrap_or (new_fault size channels) NewFault.NoMemory) }
+    {
+        if channels == 0 {
+            return Err(NewFault::BadChannels);
+        }
+        if channels > MAX_CHANNELS {
+            return Err(NewFault::BadChannels);
+        }
+        let memory = match Memory::new(alloc, size) {
+            Ok(memory) => memory,
+            Err(MemFault::SizeOutOfRange) => return Err(NewFault::SizeOutOfRange),
+            Err(_) => return Err(NewFault::NoMemory),
+        };
+        let Ok(queues) = new_queues(alloc, channels) else {
+            return Err(NewFault::NoMemory);
+        };
+        Ok(Engine {
+            alloc,
+            size,
+            memory,
+            events: Events::new(),
+            marks: Marks::new(alloc),
+            queues,
+            history: Vec::new(alloc),
+            steps: 0,
+        })
+    }
+
+    /// How many bytes the memory has.
+    pub fn size(&self) -> u32
+        ensures { result ≡ size self.now.view }
+    {
+        self.size
+    }
+
+    /// How many channels there are.
+    pub fn channels(&self) -> u8
+        ensures { result ≡ channels self.now.view }
+    {
+        self.queues.len() as u8
+    }
+
+    /// How many instructions were executed.
+    pub fn steps(&self) -> u64
+        ensures { result ≡ self.now.view.steps }
+    {
+        self.steps
+    }
+
+    /// What was done, in order.
+    pub fn history(&self) -> &[Entry]
+        ensures entries { result.now ≡ self.now.view.history }
+        ensures sound { IsSound self.now.view }
+    {
+        self.history.as_slice()
+    }
+
+    /// How many cookies a channel has given; 0 where there is no such channel.
+    pub fn used(&self, ch: u8) -> u32
+        ensures { result ≡ used (channel (object_of self.now.view) ch) }
+    {
+        match self.queues.get(usize::from(ch)) {
+            Some(queue) => queue.places.len() as u32,
+            None => 0,
+        }
+    }
+
+    /// How many cookies of a channel are finished; 0 where there is no such channel.
+    pub fn finished(&self, ch: u8) -> u32
+        ensures { result ≡ finished (channel (object_of self.now.view) ch) }
+    {
+        match self.queues.get(usize::from(ch)) {
+            Some(queue) => queue.outcomes.len() as u32,
+            None => 0,
+        }
+    }
+
+    /// How many cookies of a channel are not finished; 0 where there is no such channel.
+    pub fn unfinished(&self, ch: u8) -> u32
+        ensures { result ≡ unfinished (channel (object_of self.now.view) ch) }
+    {
+        let _ = &self.size;
+        self.used(ch) - self.finished(ch)
+    }
+
+    /// Whether a channel is paused; false where there is no such channel.
+    pub fn paused(&self, ch: u8) -> bool
+        ensures { result ≡ (schedule_at self.now.view ch).paused }
+    {
+        match self.queues.get(usize::from(ch)) {
+            Some(queue) => queue.paused,
+            None => false,
+        }
+    }
+
+    /// Whether a failure has halted a channel; false where there is no such channel.
+    pub fn halted(&self, ch: u8) -> bool
+        ensures { result ≡ (channel (object_of self.now.view) ch).halted }
+    {
+        match self.queues.get(usize::from(ch)) {
+            Some(queue) => queue.halted,
+            None => false,
+        }
+    }
+
+    /// How far a cookie is: `Unknown` where the channel is not there, or the cookie is 0 or above the last one given.
+    pub fn status(&self, ch: u8, cookie: u32) -> Status
+        ensures { result ≡ status_in self.now.view ch cookie }
+    {
+        let used = self.used(ch);
+        let finished = self.finished(ch);
+        let _ = &self.size;
+        if cookie == 0 {
+            return Status::Unknown;
+        }
+        if cookie > used {
+            return Status::Unknown;
+        }
+        if cookie <= finished {
+            Status::Complete
+        } else {
+            Status::InProgress
+        }
+    }
+
+    /// How a cookie finished, exactly where it has.
+    pub fn result(&self, ch: u8, cookie: u32) -> Option<Outcome>
+        ensures { result ≡ result_of (object_of self.now.view) ch cookie }
+    {
+        if cookie == 0 {
+            return None;
+        }
+        match self.queues.get(usize::from(ch)) {
+            Some(queue) => queue.outcomes.get(cookie as usize - 1),
+            None => None,
+        }
+    }
+
+    /// What runs on a channel: its cookie, and how many of its bytes are stored.
+    pub fn running(&self, ch: u8) -> Option<Running>
+        ensures { result ≡ running_on self.now.view ch }
+    {
+        let index = usize::from(ch);
+        if index >= self.queues.len() {
+            return None;
+        }
+        let queue = &self.queues[index];
+        if !queue.channel.is_loaded() {
+            return None;
+        }
+        let cookie = queue.outcomes.len() as u32 + 1;
+        let stored = queue.channel.stored() as u32;
+        Some(Running { cookie, stored })
+    }
+
+    // The transfer of a cookie, counted from 0.
+    fn transfer(&self, index: usize, n: usize) -> &Transfer
+        requires there { index < channels self.now.view }
+        requires given { n < used (channel (object_of self.now.view) index) }
+        ensures { result.now ≡ slice_index_or (channel (object_of self.now.view) index).submitted n no_transfer }
+    {
+        match &self.history[self.queues[index].places.at(n)] {
+            Entry::Submitted { transfer, .. } => transfer,
+            _ => unreachable!(),
+        }
+    }
+
+    // The bytes that a channel's front has stored, 0 where nothing runs.
+    fn done(&self, index: usize) -> u32
+        requires { index < channels self.now.view }
+        ensures { result ≡ done_on self.now.view index }
+    {
+        let queue = &self.queues[index];
+        if queue.channel.is_loaded() {
+            queue.channel.stored() as u32
+        } else {
+            0
+        }
+    }
+
+    // The outcomes of all unfinished cookies of a channel, if they are aborted when the front has stored so many bytes.
+    fn aborted(&self, index: usize, done: u32) -> Result<Vec<Outcome>, AllocError>
+        requires { index < channels self.now.view }
+        ensures { let c = channel (object_of self.now.view) index in
+            IfOk result (λ list. list.items ≡ aborted done (drop (finished c) c.submitted)) }
+    {
+        let queue = &self.queues[index];
+        let first = queue.outcomes.len();
+        let mut list = Vec::new(self.alloc);
+        for n in first..queue.places.len() {
+            let stored = if n == first { done } else { 0 };
+            let residue = self.transfer(index, n).len().saturating_sub(stored);
+            list.push(Outcome {
+                result: TransResult::Aborted,
+                residue,
+            })?;
+        }
+        Ok(list)
+    }
+
+    // The issued front of a channel, with its cookie.
+    fn front(&self, index: usize) -> Option<(&Transfer, u32)>
+        requires { index < channels self.now.view }
+        ensures { option_map {U = Descriptor × ℕ} (λ p. (p.0.now, p.1)) result
+            ≡ option_map {U = Descriptor × ℕ} (λ t. (t, finished (channel (object_of self.now.view) index) + 1)) (issued_front (channel (object_of self.now.view) index)) }
+    {
+        let queue = &self.queues[index];
+        let finished = queue.outcomes.len();
+        if finished >= queue.issued as usize {
+            return None;
+        }
+        match &self.history[queue.places.at(finished)] {
+            Entry::Submitted {
+                transfer,
+                cookie,
+                ..
+            } => Some((transfer, *cookie)),
+            _ => unreachable!(),
+        }
+    }
+
+    // The transfer that runs on a channel, with its cookie.
+    fn running_transfer(&self, index: usize) -> Option<(&Transfer, u32)>
+        requires { index < channels self.now.view }
+        ensures { option_map {U = Descriptor × ℕ} (λ p. (p.0.now, p.1)) result
+            ≡ option_map {U = Descriptor × ℕ} (λ r. (r.transfer, r.cookie)) (runs (object_of self.now.view) self.now.view.schedule index) }
+    {
+        let queue = &self.queues[index];
+        if queue.channel.is_loaded() {
+            self.front(index)
+        } else {
+            None
+        }
+    }
+
+    // The channel and the cookie of the first running transfer that is in the way.
+    fn first_in_the_way(&self, way: &Way) -> Option<(u8, u32)>
+        ensures { result ≡ named (first_running self.now.view (is_in_the_way way.now)) }
+    {
+        for index in 0..self.queues.len() {
+            if let Some((transfer, cookie)) = self.running_transfer(index) {
+                if way.has(transfer) {
+                    return Some((index as u8, cookie));
+                }
+            }
+        }
+        None
+    }
+
+    /// Writes bytes from an address on.
+    ///
+    /// The error is the first that holds of `OutOfMemoryRange`, `Busy` where a running transfer reads or writes an address of
+    /// the range, and `NoMemory`.
+    pub fn write(&mut self, addr: u32, bytes: &[u8]) -> Result<(), EngineFault>
+        ensures { Answers self.old.view (Call.Write addr bytes.now) (reply_of (λ _. Reply.Done) result) self.new.view }
+    {
+        if addr as usize + bytes.len() > self.size as usize {
+            return Err(EngineFault::OutOfMemoryRange);
+        }
+        let range = Segment {
+            addr,
+            len: bytes.len() as u32,
+        };
+        if let Some((ch, cookie)) = self.first_in_the_way(&Way::Write(range)) {
+            return Err(EngineFault::Busy { ch, cookie });
+        }
+        let Ok(kept) = Bytes::from_slice(self.alloc, bytes) else {
+            return Err(EngineFault::NoMemory);
+        };
+        if !added(&mut self.history, Entry::Wrote { addr, bytes: kept }) {
+            return Err(EngineFault::NoMemory);
+        }
+        let Ok(()) = self.memory.write(addr, bytes) else {
+            unreachable!();
+        };
+        Ok(())
+    }
+
+    /// Reads bytes from an address on.
+    ///
+    /// The error is the first that holds of `OutOfMemoryRange`, `Busy` where a running transfer writes an address of the
+    /// range, and `NoMemory`.
+    pub fn read(&mut self, addr: u32, len: u32) -> Result<Bytes, EngineFault>
+        ensures { Answers self.old.view (Call.Read addr len) (reply_of (λ bytes. Reply.Bytes bytes) result) self.new.view }
+    {
+        if addr as usize + len as usize > self.size as usize {
+            return Err(EngineFault::OutOfMemoryRange);
+        }
+        let range = Segment { addr, len };
+        if let Some((ch, cookie)) = self.first_in_the_way(&Way::Read(range)) {
+            return Err(EngineFault::Busy { ch, cookie });
+        }
+        let Some(answer) = bytes_of(self.alloc, &self.memory, addr, len) else {
+            return Err(EngineFault::NoMemory);
+        };
+        let Ok(kept) = Bytes::from_slice(self.alloc, answer.as_slice()) else {
+            return Err(EngineFault::NoMemory);
+        };
+        if !added(&mut self.history, Entry::ReadBack { addr, bytes: kept }) {
+            return Err(EngineFault::NoMemory);
+        }
+        Ok(answer)
+    }
+
+    /// The cookie that `submit` would answer, or the fault that it would name before `NoMemory`. Nothing changes.
+    pub fn check_submit(&self, ch: u8, transfer: &Transfer) -> Result<u32, EngineFault>
+        ensures { result ≡ checked (submit_fault self.now.view ch transfer.now) (used (channel (object_of self.now.view) ch) + 1) }
+    {
+        let index = usize::from(ch);
+        if index >= self.queues.len() {
+            return Err(EngineFault::NoChannel);
+        }
+        if !transfer.lies_below(self.size) {
+            return Err(EngineFault::OutOfMemoryRange);
+        }
+        let given = self.queues[index].places.len();
+        if given >= LAST_COOKIE {
+            return Err(EngineFault::CookiesSpent);
+        }
+        Ok(given as u32 + 1)
+    }
+
+    /// Gives a transfer to a channel, and answers its cookie, 1 for the first of the channel. It starts nothing.
+    ///
+    /// The fault is the first that holds of `NoChannel`, `OutOfMemoryRange` where a segment ends above the memory's size,
+    /// `CookiesSpent` and `NoMemory`; the transfer is handed back with it.
+    pub fn submit(&mut self, ch: u8, transfer: Transfer) -> Result<u32, SubmitFault>
+        ensures answer { Answers self.old.view (Call.Submit ch transfer) (submit_reply result) self.new.view }
+        ensures back { IfErr result (λ refused. refused.transfer ≡ transfer) }
+    {
+        let index = usize::from(ch);
+        if index >= self.queues.len() {
+            return Err(SubmitFault {
+                fault: EngineFault::NoChannel,
+                transfer,
+            });
+        }
+        if !transfer.lies_below(self.size) {
+            return Err(SubmitFault {
+                fault: EngineFault::OutOfMemoryRange,
+                transfer,
+            });
+        }
+        let given = self.queues[index].places.len();
+        if given >= LAST_COOKIE {
+            return Err(SubmitFault {
+                fault: EngineFault::CookiesSpent,
+                transfer,
+            });
+        }
+        let Ok(()) = self.history.reserve(1) else {
+            return Err(SubmitFault {
+                fault: EngineFault::NoMemory,
+                transfer,
+            });
+        };
+        let place = self.history.len();
+        if !self.queues[index].places.add(place) {
+            return Err(SubmitFault {
+                fault: EngineFault::NoMemory,
+                transfer,
+            });
+        }
+        let cookie = given as u32 + 1;
+        let Ok(()) = self.history.push(Entry::Submitted {
+            ch,
+            transfer,
+            cookie,
+        })
+        else {
+            unreachable!();
+        };
+        Ok(cookie)
+    }
+
+    /// Issues all submitted cookies of a channel, and answers how many became so.
+    ///
+    /// The error is `NoChannel`, else `NoMemory`.
+    pub fn issue(&mut self, ch: u8) -> Result<u32, EngineFault>
+        ensures { Answers self.old.view (Call.Issue ch) (reply_of (λ count. Reply.Count count) result) self.new.view }
+    {
+        let index = usize::from(ch);
+        if index >= self.queues.len() {
+            return Err(EngineFault::NoChannel);
+        }
+        if !added(&mut self.history, Entry::Issued { ch }) {
+            return Err(EngineFault::NoMemory);
+        }
+        let queue = &mut self.queues[index];
+        let before = queue.issued;
+        let after = queue.places.len() as u32;
+        queue.issued = after;
+        Ok(after - before)
+    }
+
+    /// Pauses a channel, so that its steps execute nothing; a paused one stays so. It adds no entry and takes no memory.
+    ///
+    /// The error is `NoChannel`.
+    pub fn pause(&mut self, ch: u8) -> Result<(), EngineFault>
+        ensures { Answers self.old.view (Call.Pause ch) (reply_of (λ _. Reply.Done) result) self.new.view }
+    {
+        let index = usize::from(ch);
+        if index >= self.queues.len() {
+            return Err(EngineFault::NoChannel);
+        }
+        let queue = &mut self.queues[index];
+        queue.paused = true;
+        Ok(())
+    }
+
+    /// Ends the pause of a channel; one that isn't paused stays so. It adds no entry and takes no memory.
+    ///
+    /// The error is `NoChannel`.
+    pub fn resume(&mut self, ch: u8) -> Result<(), EngineFault>
+        ensures { Answers self.old.view (Call.Resume ch) (reply_of (λ _. Reply.Done) result) self.new.view }
+    {
+        let index = usize::from(ch);
+        if index >= self.queues.len() {
+            return Err(EngineFault::NoChannel);
+        }
+        let queue = &mut self.queues[index];
+        queue.paused = false;
+        Ok(())
+    }
+
+    /// Ends all unfinished cookies of a channel, issued or not, as aborted, and answers their number. What a running front has
+    /// stored stays stored. The channel is then neither paused nor halted, and all its cookies count as issued.
+    ///
+    /// The error is `NoChannel`, else `NoMemory`.
+    pub fn terminate(&mut self, ch: u8) -> Result<u32, EngineFault>
+        ensures { Answers self.old.view (Call.Terminate ch) (reply_of (λ count. Reply.Count count) result) self.new.view }
+    {
+        let index = usize::from(ch);
+        if index >= self.queues.len() {
+            return Err(EngineFault::NoChannel);
+        }
+        let done = self.done(index);
+        let Ok(aborted) = self.aborted(index, done) else {
+            return Err(EngineFault::NoMemory);
+        };
+        let Ok(()) = self.history.reserve(1) else {
+            return Err(EngineFault::NoMemory);
+        };
+        let queue = &mut self.queues[index];
+        if !queue.terminate(&aborted) {
+            return Err(EngineFault::NoMemory);
+        }
+        let count = aborted.len() as u32;
+        let Ok(()) = self.history.push(Entry::Terminated { ch, done, count }) else {
+            unreachable!();
+        };
+        Ok(count)
+    }
+
+    /// Takes one step of a channel: the first case that applies. It is `Halted`, `Paused`, or `Nothing` where no front is issued;
+    /// a front that isn't running is `Held` by a running transfer that it isn't free of, or else `Started`; else its next
+    /// instruction is executed, which may be `Waiting`, `Moved` or `Finished`. The step count rises by one for the last two.
+    ///
+    /// The error is the first that holds of `NoChannel`, `StepsSpent` where an instruction is due and the count is 2^64 - 1, and
+    /// `NoMemory`, which comes only at a start, a pass, a signal or a finish.
+    pub fn step(&mut self, ch: u8) -> Result<Turn, EngineFault>
+        ensures { Steps self.old.view ch result self.new.view }
+    {
+        let index = usize::from(ch);
+        if index >= self.queues.len() {
+            return Err(EngineFault::NoChannel);
+        }
+        let queue = &self.queues[index];
+        if queue.halted {
+            return Ok(Turn::Halted);
+        }
+        if queue.paused {
+            return Ok(Turn::Paused);
+        }
+        if !queue.channel.is_loaded() {
+            return self.start(ch);
+        }
+        if self.steps == u64::MAX {
+            return Err(EngineFault::StepsSpent);
+        }
+        let Ok(insn) = queue.channel.ahead() else {
+            unreachable!();
+        };
+        match insn {
+            Insn::Wfe { event, .. } => self.pass(ch, event.number()),
+            Insn::Sev(event) => self.signal(ch, event.number()),
+            Insn::End => self.finish(ch, TransResult::NoError),
+            _ => self.carry_on(ch),
+        }
+    }
+
+    // Starts the front, unless there is none or a running transfer is in its way.
+    fn start(&mut self, ch: u8) -> Result<Turn, EngineFault>
+        requires { MayStart self.old.view ch }
+        ensures { Steps self.old.view ch result self.new.view }
+    {
+        let index = usize::from(ch);
+        let Some((transfer, cookie)) = self.front(index) else {
+            return Ok(Turn::Nothing);
+        };
+        if let Some((ch, cookie)) = self.first_in_the_way(&Way::Start(transfer)) {
+            return Ok(Turn::Held { ch, cookie });
+        }
+        let Ok(program) = compile(self.alloc, transfer) else {
+            return Err(EngineFault::NoMemory);
+        };
+        let queue = &mut self.queues[index];
+        queue.channel.load(program);
+        Ok(Turn::Started(cookie))
+    }
+
+    // Goes on past the event that the front waits for, if its flag is set.
+    fn pass(&mut self, ch: u8, event: u8) -> Result<Turn, EngineFault>
+        requires event { event ≤ 31 }
+        requires due { IsDue self.old.view ch (Waits event) }
+        ensures { Steps self.old.view ch result self.new.view }
+    {
+        if !self.events.is_set(event) {
+            return Ok(Turn::Waiting(event));
+        }
+        if !added(&mut self.history, Entry::Passed { ch, event }) {
+            return Err(EngineFault::NoMemory);
+        }
+        let queue = &mut self.queues[usize::from(ch)];
+        queue
+            .channel
+            .step(&mut self.memory, &mut self.events, &self.marks);
+        self.steps += 1;
+        Ok(Turn::Moved)
+    }
+
+    // Signals the front's event.
+    fn signal(&mut self, ch: u8, event: u8) -> Result<Turn, EngineFault>
+        requires { IsDue self.old.view ch (Signals event) }
+        ensures { Steps self.old.view ch result self.new.view }
+    {
+        let entry = Entry::Signalled {
+            by: Signaller::Channel(ch),
+            event,
+        };
+        if !added(&mut self.history, entry) {
+            return Err(EngineFault::NoMemory);
+        }
+        let queue = &mut self.queues[usize::from(ch)];
+        queue
+            .channel
+            .step(&mut self.memory, &mut self.events, &self.marks);
+        self.steps += 1;
+        Ok(Turn::Moved)
+    }
+
+    // Executes an instruction that neither waits nor signals nor ends. A burst that fails finishes the front.
+    fn carry_on(&mut self, ch: u8) -> Result<Turn, EngineFault>
+        requires { IsDue self.old.view ch GoesOn }
+        ensures { Steps self.old.view ch result self.new.view }
+    {
+        let queue = &mut self.queues[usize::from(ch)];
+        let turn = queue
+            .channel
+            .step(&mut self.memory, &mut self.events, &self.marks);
+        match turn {
+            ChanTurn::Moved => {
+                self.steps += 1;
+                Ok(Turn::Moved)
+            }
+            ChanTurn::Fault(kind) => self.finish(ch, failure_of(kind)),
+            _ => unreachable!(),
+        }
+    }
+
+    // Finishes the front with this result. A failure halts the channel.
+    fn finish(&mut self, ch: u8, how: TransResult) -> Result<Turn, EngineFault>
+        requires { IsDue self.old.view ch (Finishes self.old.view how) }
+        ensures { Steps self.old.view ch result self.new.view }
+    {
+        let index = usize::from(ch);
+        let stored = self.done(index);
+        let Some((transfer, front_cookie)) = self.front(index) else {
+            unreachable!();
+        };
+        let residue = transfer.len().saturating_sub(stored);
+        let Ok(()) = self.history.reserve(1) else {
+            return Err(EngineFault::NoMemory);
+        };
+        let queue = &mut self.queues[index];
+        let outcome = Outcome {
+            result: how,
+            residue,
+        };
+        if !queue.finish(outcome, is_failure(how)) {
+            return Err(EngineFault::NoMemory);
+        }
+        self.steps += 1;
+        let Ok(()) = self.history.push(Entry::Finished {
+            ch,
+            result: how,
+            done: stored,
+        })
+        else {
+            unreachable!();
+        };
+        Ok(Turn::Finished {
+            cookie: front_cookie,
+            result: how,
+            residue,
+        })
+    }
+
+    /// Marks a range, which need not lie below the memory's size: from then on bursts of that kind fail there, and nothing else.
+    ///
+    /// The error is `BadRange` where the range is empty or ends above the last address, else `NoMemory`.
+    pub fn mark(&mut self, kind: MarkKind, segment: Segment) -> Result<(), EngineFault>
+        ensures { Answers self.old.view (Call.Mark kind segment) (reply_of (λ _. Reply.Done) result) self.new.view }
+    {
+        if segment.len == 0 {
+            return Err(EngineFault::BadRange);
+        }
+        if u64::from(segment.addr) + u64::from(segment.len) > END_OF_ADDRESSES {
+            return Err(EngineFault::BadRange);
+        }
+        let Ok(()) = self.history.reserve(1) else {
+            return Err(EngineFault::NoMemory);
+        };
+        let Ok(()) = self.marks.add(kind, segment) else {
+            return Err(EngineFault::NoMemory);
+        };
+        let Ok(()) = self.history.push(Entry::Marked { kind, segment }) else {
+            unreachable!();
+        };
+        Ok(())
+    }
+
+    /// Removes all marks.
+    ///
+    /// The error is `NoMemory`.
+    pub fn unmark(&mut self) -> Result<(), EngineFault>
+        ensures { Answers self.old.view Call.Unmark (reply_of (λ _. Reply.Done) result) self.new.view }
+    {
+        if !added(&mut self.history, Entry::Unmarked) {
+            return Err(EngineFault::NoMemory);
+        }
+        self.marks.clear();
+        Ok(())
+    }
+
+    /// Sets the flag of an event.
+    ///
+    /// The error is `BadEvent` above 31, else `NoMemory`.
+    pub fn raise(&mut self, event: u8) -> Result<(), EngineFault>
+        ensures { Answers self.old.view (Call.Raise event) (reply_of (λ _. Reply.Done) result) self.new.view }
+    {
+        if event > LAST_EVENT {
+            return Err(EngineFault::BadEvent);
+        }
+        let entry = Entry::Signalled {
+            by: Signaller::Host,
+            event,
+        };
+        if !added(&mut self.history, entry) {
+            return Err(EngineFault::NoMemory);
+        }
+        self.events.set(event);
+        Ok(())
+    }
+
+    // Submits a copy of a transfer.
+    fn submit_copy(&mut self, ch: u8, transfer: &Transfer) -> Reply
+        ensures { Answers self.old.view (Call.Submit ch transfer.now) result self.new.view }
+    {
+        match self.check_submit(ch, transfer) {
+            Ok(_) => self.submit_checked(ch, transfer),
+            Err(fault) => Reply::Refused(fault),
+        }
+    }
+
+    // The same where nothing but want of memory can refuse it.
+    fn submit_checked(&mut self, ch: u8, transfer: &Transfer) -> Reply
+        requires { submit_fault self.old.view ch transfer.now ≡ None }
+        ensures { Answers self.old.view (Call.Submit ch transfer.now) result self.new.view }
+    {
+        let Ok(copy) = transfer.try_copy() else {
+            return Reply::Refused(EngineFault::NoMemory);
+        };
+        match self.submit(ch, copy) {
+            Ok(cookie) => Reply::Cookie(cookie),
+            Err(refused) => Reply::Refused(refused.fault),
+        }
+    }
+
+    /// Carries a call out: the method of its name.
+    pub fn carry_out(&mut self, call: &Call) -> Reply
+        ensures { Answers self.old.view call.now result self.new.view }
+    {
+        match call {
+            Call::Write { addr, bytes } => done(self.write(*addr, bytes.as_slice())),
+            Call::Read { addr, len } => match self.read(*addr, *len) {
+                Ok(bytes) => Reply::Bytes(bytes),
+                Err(fault) => Reply::Refused(fault),
+            },
+            Call::Submit { ch, transfer } => self.submit_copy(*ch, transfer),
+            Call::Issue { ch } => counted(self.issue(*ch)),
+            Call::Pause { ch } => done(self.pause(*ch)),
+            Call::Resume { ch } => done(self.resume(*ch)),
+            Call::Terminate { ch } => counted(self.terminate(*ch)),
+            Call::Step { ch } => match self.step(*ch) {
+                Ok(turn) => Reply::Turned(turn),
+                Err(fault) => Reply::Refused(fault),
+            },
+            Call::Status { ch, cookie } => Reply::State(self.status(*ch, *cookie)),
+            Call::Result { ch, cookie } => Reply::Result(self.result(*ch, *cookie)),
+            Call::Mark { kind, segment } => done(self.mark(*kind, *segment)),
+            Call::Unmark => done(self.unmark()),
+            Call::Raise { event } => done(self.raise(*event)),
+        }
+    }
+}
+
+fn done(outcome: Result<(), EngineFault>) -> Reply
+    ensures { result ≡ reply_of (λ _. Reply.Done) outcome }
+{
+    match outcome {
+        Ok(()) => Reply::Done,
+        Err(fault) => Reply::Refused(fault),
+    }
+}
+
+fn counted(outcome: Result<u32, EngineFault>) -> Reply
+    ensures { result ≡ reply_of (λ count. Reply.Count count) outcome }
+{
+    match outcome {
+        Ok(count) => Reply::Count(count),
+        Err(fault) => Reply::Refused(fault),
+    }
+}
+
+// Queues to which nothing was submitted.
+fn new_queues(alloc: Global, count: u8) -> Result<Vec<Queue>, AllocError>
+    ensures { IfOk result (λ queues. queues.items ≡ replicate count new_queue) }
+{
+    let mut queues = Vec::new(alloc);
+    for _n in 0..count {
+        let queue = Queue::new(alloc)?;
+        queues.push(queue)?;
+    }
+    Ok(queues)
+}
+
+// How the front finishes whose channel fails so: a load that fails is told as one, a store as the other.
+fn failure_of(kind: FaultKind) -> TransResult
+    ensures { result ≡ failure_of kind }
+{
+    match kind {
+        FaultKind::DataReadErr => TransResult::ReadFailed,
+        _ => TransResult::WriteFailed,
+    }
+}
+
+// Whether a result halts its channel.
+fn is_failure(how: TransResult) -> bool
+    ensures { result ≡ is_failure how }
+{
+    match how {
+        TransResult::ReadFailed | TransResult::WriteFailed => true,
+        TransResult::NoError | TransResult::Aborted => false,
+    }
+}
+
+// Adds an entry, if there is memory for it.
+fn added(history: &mut Vec<Entry>, entry: Entry) -> bool
+    ensures { history.new.items ≡ (if result then history.old.items ++ entry ∷ [] else history.old.items) }
+{
+    history.push(entry).is_ok()
+}
+
+// The bytes of a memory from an address on, if there is memory for them.
+fn bytes_of(alloc: Global, memory: &Memory, addr: u32, len: u32) -> Option<Bytes>
+    requires { addr + len ≤ length memory.now }
+    ensures { IfSome result (λ bytes. bytes ≡ take len (drop addr memory.now)) }
+{
+    let Ok(mut buffer) = vec![in alloc; 0u8; len as usize] else {
+        return None;
+    };
+    let Ok(()) = memory.read_into(addr, &mut buffer) else {
+        return None;
+    };
+    Bytes::from_slice(alloc, &buffer).ok()
+}

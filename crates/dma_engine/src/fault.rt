@@ -1,0 +1,62 @@
+//! Why a call on an engine was refused.
+
+use dma_mem::transfer::Transfer;
+use thiserror::Error;
+
+/// Why a call was refused, in the order of the tests. Each call names those that it may answer. A refused call changes
+/// nothing.
+#[derive(Clone, Copy, Debug, PartialEq, Eq, Error)]
+pub enum EngineFault {
+    /// A range ends above the memory's size.
+    #[error("a range ends above the memory's size")]
+    OutOfMemoryRange,
+    /// A running transfer is in the way: the one on the lowest such channel.
+    #[error("a running transfer is in the way")]
+    Busy {
+        /// Its channel.
+        ch: u8,
+        /// Its cookie.
+        cookie: u32,
+    },
+    /// The channel's number is not below the number of channels.
+    #[error("there is no such channel")]
+    NoChannel,
+    /// The channel has given its last cookie.
+    #[error("the channel has given its last cookie")]
+    CookiesSpent,
+    /// An instruction is due, and the step count is at its end.
+    #[error("the step count is at its end")]
+    StepsSpent,
+    /// The event's number is above 31.
+    #[error("an event is above 31")]
+    BadEvent,
+    /// A range to be marked is empty, or ends above the last address.
+    #[error("the range is empty or ends above the last address")]
+    BadRange,
+    /// Memory was wanting. This is always the last refusal.
+    #[error("out of memory")]
+    NoMemory,
+}
+
+/// Why no engine was made, in the order of the tests.
+#[derive(Clone, Copy, Debug, PartialEq, Eq, Error)]
+pub enum NewFault {
+    /// There are 1 to 8 channels.
+    #[error("the number of channels is not 1 to 8")]
+    BadChannels,
+    /// A memory has 1 to 16,777,216 bytes.
+    #[error("the size is not 1 to 16777216 bytes")]
+    SizeOutOfRange,
+    /// Memory was wanting.
+    #[error("out of memory")]
+    NoMemory,
+}
+
+/// Why a transfer was not taken, with the transfer.
+#[derive(Drop)]
+pub struct SubmitFault {
+    /// Why.
+    pub fault: EngineFault,
+    /// What was to be submitted.
+    pub transfer: Transfer,
+}

@@ -1,0 +1,56 @@
+//! What a step of a channel did, and how far a cookie is.
+
+use crate::outcome::TransResult;
+
+/// What one step of a channel did.
+#[derive(Clone, Copy, Debug, PartialEq, Eq)]
+pub enum Turn {
+    /// There is nothing to do: no transfer is issued and unfinished.
+    Nothing,
+    /// The front can't start, since a running transfer has a range in common with it: the one on the lowest such channel.
+    Held {
+        /// The channel in the way.
+        ch: u8,
+        /// The cookie that runs there.
+        cookie: u32,
+    },
+    /// The front with this cookie runs from now on. No instruction was executed.
+    Started(u32),
+    /// One instruction was executed.
+    Moved,
+    /// The front waits for this event, whose flag is clear.
+    Waiting(u8),
+    /// The channel is paused.
+    Paused,
+    /// The channel is halted by a failed transfer, until it is terminated.
+    Halted,
+    /// The front finished.
+    Finished {
+        /// Its cookie.
+        cookie: u32,
+        /// How it finished.
+        result: TransResult,
+        /// How many of its bytes were not stored.
+        residue: u32,
+    },
+}
+
+/// How far a cookie is.
+#[derive(Clone, Copy, Debug, PartialEq, Eq)]
+pub enum Status {
+    /// No such cookie was given (profile).
+    Unknown,
+    /// It was given and hasn't finished (DMA_IN_PROGRESS).
+    InProgress,
+    /// It has finished (DMA_COMPLETE).
+    Complete,
+}
+
+/// What runs on a channel.
+#[derive(Clone, Copy, Debug, PartialEq, Eq)]
+pub struct Running {
+    /// Its cookie.
+    pub cookie: u32,
+    /// How many of its bytes are stored.
+    pub stored: u32,
+}
