@@ -49,14 +49,13 @@ copied_image = refl
 
 copied_is_legal : IsLegal (opening 4 1) copied
 unfolding opening put after_moves share
-copied_is_legal =
-    (
-      omega arith,
-      (
-        (omega arith, IsTransfer-from_no_refusal (copy 0 2 2) refl, refl, refl, omega arith),
-        (omega arith, ((refl, ((λ waits. waits), (λ signals. signals), refl)), ((omega arith, refl), tt))),
-      ),
-    )
+copied_is_legal = (
+  omega arith,
+  (
+    (omega arith, IsTransfer-from_no_refusal (copy 0 2 2) refl, refl, refl, omega arith),
+    (omega arith, ((refl, ((λ waits. waits), (λ signals. signals), refl)), ((omega arith, refl), tt))),
+  ),
+)
 
 -- a byte is to be copied from a range with a mark
 abbrev over_a_mark : MarkKind → Object

@@ -1,4 +1,4 @@
-//! Each call once, with ample memory.
+//! Each call with ample memory, and the rows of the table of steps.
 
 use crate::call::{Call, Reply};
 use crate::engine::Engine;
@@ -138,7 +138,11 @@ fn two_bursts(alloc: Global) -> Result<Engine, Fail> {
         addr: 0x2000,
         len: 36,
     }];
-    submitted(&mut engine, 0, Transfer::new(alloc, &src, &dst, None, None)?)?;
+    submitted(
+        &mut engine,
+        0,
+        Transfer::new(alloc, &src, &dst, None, None)?,
+    )?;
     Ok(engine)
 }
 
@@ -203,7 +207,10 @@ fn a_terminate_keeps_what_was_stored(rt: HostRuntime) -> Result<(), Fail> {
     };
     assert_eq!(rt; engine.result(0, 1), Some(first));
     assert_eq!(rt; engine.result(0, 2), Some(second));
-    assert_eq!(rt; engine.read(0x201E, 4)?.as_slice(), [0x11, 0x22, 0, 0].as_slice());
+    assert_eq!(rt;
+        engine.read(0x201E, 4)?.as_slice(),
+        [0x11, 0x22, 0, 0].as_slice()
+    );
     Ok(())
 }
 
@@ -228,7 +235,10 @@ fn a_load_fails_in_a_mark(rt: HostRuntime) -> Result<(), Fail> {
     assert_eq!(rt; engine.step(0)?, failed);
     assert!(rt; engine.halted(0));
     assert_eq!(rt; engine.step(0)?, Turn::Halted);
-    assert_eq!(rt; engine.read(0x201E, 4)?.as_slice(), [0x11, 0x22, 0, 0].as_slice());
+    assert_eq!(rt;
+        engine.read(0x201E, 4)?.as_slice(),
+        [0x11, 0x22, 0, 0].as_slice()
+    );
     assert_eq!(rt; engine.terminate(0)?, 0);
     assert_eq!(rt; engine.step(0)?, Turn::Nothing);
     Ok(())
@@ -244,7 +254,10 @@ fn a_store_fails_in_a_mark(rt: HostRuntime) -> Result<(), Fail> {
     };
     assert_eq!(rt; engine.step(0)?, failed);
     assert_eq!(rt; engine.step(0)?, Turn::Halted);
-    assert_eq!(rt; engine.read(0x201E, 4)?.as_slice(), [0x11, 0x22, 0, 0].as_slice());
+    assert_eq!(rt;
+        engine.read(0x201E, 4)?.as_slice(),
+        [0x11, 0x22, 0, 0].as_slice()
+    );
     Ok(())
 }
 
@@ -257,15 +270,26 @@ fn a_mark_of_the_other_kind_stops_no_burst(rt: HostRuntime) -> Result<(), Fail> 
         residue: 0,
     };
     assert_eq!(rt; engine.step(0)?, finished);
-    assert_eq!(rt; engine.read(0x201E, 4)?.as_slice(), [0x11, 0x22, 0x33, 0x44].as_slice());
+    assert_eq!(rt;
+        engine.read(0x201E, 4)?.as_slice(),
+        [0x11, 0x22, 0x33, 0x44].as_slice()
+    );
     Ok(())
 }
 
 #[test]
 fn one_event_lets_one_waiter_pass(rt: HostRuntime) -> Result<(), Fail> {
     let mut engine = Engine::new(rt.alloc(), 0x400, 2)?;
-    submitted(&mut engine, 0, with_events(rt.alloc(), 0x200, Some(3), None)?)?;
-    submitted(&mut engine, 1, with_events(rt.alloc(), 0x300, Some(3), None)?)?;
+    submitted(
+        &mut engine,
+        0,
+        with_events(rt.alloc(), 0x200, Some(3), None)?,
+    )?;
+    submitted(
+        &mut engine,
+        1,
+        with_events(rt.alloc(), 0x300, Some(3), None)?,
+    )?;
     assert_eq!(rt; engine.issue(0)?, 1);
     assert_eq!(rt; engine.issue(1)?, 1);
     assert_eq!(rt; engine.step(0)?, Turn::Started(1));
@@ -281,8 +305,16 @@ fn one_event_lets_one_waiter_pass(rt: HostRuntime) -> Result<(), Fail> {
 #[test]
 fn a_signal_lets_a_waiter_pass(rt: HostRuntime) -> Result<(), Fail> {
     let mut engine = Engine::new(rt.alloc(), 0x400, 2)?;
-    submitted(&mut engine, 0, with_events(rt.alloc(), 0x200, None, Some(5))?)?;
-    submitted(&mut engine, 1, with_events(rt.alloc(), 0x300, Some(5), None)?)?;
+    submitted(
+        &mut engine,
+        0,
+        with_events(rt.alloc(), 0x200, None, Some(5))?,
+    )?;
+    submitted(
+        &mut engine,
+        1,
+        with_events(rt.alloc(), 0x300, Some(5), None)?,
+    )?;
     assert_eq!(rt; engine.issue(0)?, 1);
     assert_eq!(rt; engine.issue(1)?, 1);
     assert_eq!(rt; engine.step(0)?, Turn::Started(1));
@@ -310,10 +342,16 @@ fn a_refusal_names_its_cause(rt: HostRuntime) -> Result<(), Fail> {
     assert_eq!(rt; engine.result(0, 1), None);
     assert_eq!(rt; engine.step(9), Err(EngineFault::NoChannel));
     assert_eq!(rt; engine.issue(1), Err(EngineFault::NoChannel));
-    assert_eq!(rt; engine.write(15, &[1, 2]), Err(EngineFault::OutOfMemoryRange));
+    assert_eq!(rt;
+        engine.write(15, &[1, 2]),
+        Err(EngineFault::OutOfMemoryRange)
+    );
     assert!(rt; engine.read(16, 0)?.is_empty());
     let empty = Segment { addr: 0, len: 0 };
-    assert_eq!(rt; engine.mark(MarkKind::Writing, empty), Err(EngineFault::BadRange));
+    assert_eq!(rt;
+        engine.mark(MarkKind::Writing, empty),
+        Err(EngineFault::BadRange)
+    );
     assert_eq!(rt; engine.history().len(), 1);
     Ok(())
 }
@@ -340,5 +378,56 @@ fn a_refused_transfer_is_handed_back(rt: HostRuntime) -> Result<(), Fail> {
     assert_eq!(rt; engine.used(0), 1);
     assert_eq!(rt; engine.finished(0), 0);
     assert!(rt; !engine.paused(0));
+    Ok(())
+}
+
+// Calls of the host on memory, marks and events.
+fn host_calls(alloc: Global, calls: &mut Vec<Call>) -> Result<(), Fail> {
+    let bytes = Bytes::from_slice(alloc, &[0xAA])?;
+    calls.push(Call::Write { addr: 0x10, bytes })?;
+    calls.push(Call::Read { addr: 0x10, len: 1 })?;
+    let kind = MarkKind::Reading;
+    let segment = Segment { addr: 0, len: 1 };
+    calls.push(Call::Mark { kind, segment })?;
+    calls.push(Call::Unmark)?;
+    calls.push(Call::Raise { event: 0 })?;
+    Ok(())
+}
+
+// Calls on a channel, which start a copy and end it.
+fn channel_calls(alloc: Global, calls: &mut Vec<Call>) -> Result<(), Fail> {
+    let transfer = copy_of_four(alloc, 0x10, 0x20)?;
+    calls.push(Call::Submit { ch: 0, transfer })?;
+    calls.push(Call::Issue { ch: 0 })?;
+    calls.push(Call::Pause { ch: 0 })?;
+    calls.push(Call::Resume { ch: 0 })?;
+    calls.push(Call::Step { ch: 0 })?;
+    calls.push(Call::Status { ch: 0, cookie: 1 })?;
+    calls.push(Call::Terminate { ch: 0 })?;
+    calls.push(Call::Result { ch: 0, cookie: 1 })?;
+    Ok(())
+}
+
+fn none_refused(replies: &[Reply]) -> bool {
+    for reply in replies {
+        if let Reply::Refused(_) = reply {
+            return false;
+        }
+    }
+    true
+}
+
+#[test]
+fn every_call_is_carried_out(rt: HostRuntime) -> Result<(), Fail> {
+    let mut engine = Engine::new(rt.alloc(), 64, 1)?;
+    let mut calls = Vec::new(rt.alloc());
+    host_calls(rt.alloc(), &mut calls)?;
+    channel_calls(rt.alloc(), &mut calls)?;
+    let Ok(replies) = run(rt.alloc(), &mut engine, &calls) else {
+        return Err(Fail::from("no memory"));
+    };
+    assert_eq!(rt; replies.len(), 13);
+    assert!(rt; none_refused(&replies));
+    assert_eq!(rt; engine.history().len(), 8);
     Ok(())
 }
