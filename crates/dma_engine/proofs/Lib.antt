@@ -1,3 +1,5 @@
+-- Lemmas on histories, on what runs, on memory, queues and counts, and on what each call changes, keeps and answers; worked
+-- rows.
 pub mod Histories
 pub mod WhatRuns
 pub mod Memory
@@ -18,3 +20,4 @@ pub mod Starts
 pub mod Opening
 pub mod Chains
 pub mod Kept
+pub mod Rows

@@ -27,9 +27,10 @@ pub record View : Type 0 where
   pub steps : ℕ
   pub schedule : List ChannelSchedule
 
--- What contracts see of an engine.
+-- What contracts see of an engine: its view, and the bytes of its memory.
 pub record EngineState : Type 0 where
   pub view : View
+  pub memory : List ℕ
 
 -- a channel that isn't paused and on which nothing runs
 abbrev pub idle : ChannelSchedule

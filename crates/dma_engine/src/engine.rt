@@ -4,7 +4,7 @@ ghost use Rattle.std.specs.Prelude.{◌≡◌, ◌+◌, ◌-◌, ◌<◌, ◌≤
 ghost use Rattle.std.specs.Option.{option_map};
 ghost use Rattle.dma_mem.specs.Places.{Descriptor};
 ghost use Rattle.dma_engine.specs.Object.{channel, used, finished, unfinished, issued_front, no_transfer, aborted, is_failure};
-ghost use Rattle.dma_engine.specs.View.{size, channels, object_of, schedule_at, runs, running_on, new_fault, new_view, IsSound};
+ghost use Rattle.dma_engine.specs.View.{size, channels, object_of, schedule_at, runs, running_on, new_fault, new_view, memory_of, IsSound};
 ghost use Rattle.dma_engine.specs.Answer.{Answers, Steps, reply_of, checked, submit_fault, submit_reply, status_in, result_of, first_running, named, done_on};
 ghost use Rattle.dma_engine.specs.Ways.{is_in_the_way};
 ghost use Rattle.dma_engine.specs.Holds.{new_queue};
@@ -38,7 +38,7 @@ const END_OF_ADDRESSES: u64 = 4_294_967_296;
 /// The last cookie of a channel (profile).
 const LAST_COOKIE: usize = 2_147_483_647;
 
-/// Queues of transfers on channels over one memory. Contracts see its history, its step count and its schedule.
+/// Queues of transfers on channels over one memory. Contracts see its history, its step count, its schedule and its memory.
 #[derive(Drop)]
 pub struct Engine {
     alloc: Global,
@@ -59,7 +59,7 @@ impl Model for Engine {
     ghost use Rattle.dma_engine.specs.Holds.{view_of, Holds};
     ghost use Rattle.dma_engine.specs.Inside.{parts_of};
 
-    ghost view = { λ e. record { view = view_of (parts_of e) } };
+    ghost view = { λ e. record { view = view_of (parts_of e); memory = e.memory } };
 
     ghost invariant = { λ e. Holds (parts_of e) };
 }
@@ -121,10 +121,12 @@ impl Engine {
         self.steps
     }
 
-    /// What was done, in order.
+    /// What was done, in order. The history is legal, and the memory is its image, with the bytes that running transfers have
+    /// stored laid over their own destinations.
     pub fn history(&self) -> &[Entry]
         ensures entries { result.now ≡ self.now.view.history }
         ensures sound { IsSound self.now.view }
+        ensures memory { self.now.memory ≡ memory_of self.now.view }
     {
         self.history.as_slice()
     }

@@ -2,7 +2,7 @@
 
 ghost use Rattle.std.specs.Prelude.{◌≡◌, IfOk, OnErr};
 ghost use Rattle.dma_engine.specs.Answer.{AreAnswers, Extends, KeepsOutcomes};
-ghost use Rattle.dma_engine.specs.View.{IsSound};
+ghost use Rattle.dma_engine.specs.View.{IsSound, memory_of};
 
 use crate::call::{Call, Reply};
 use crate::engine::Engine;
@@ -17,6 +17,7 @@ pub fn run(alloc: Global, engine: &mut Engine, calls: &[Call]) -> Result<Vec<Rep
     ensures begins { Extends engine.old.view engine.new.view }
     ensures kept { KeepsOutcomes engine.old.view engine.new.view }
     ensures sound { IsSound engine.new.view }
+    ensures memory { engine.new.memory ≡ memory_of engine.new.view }
     ensures refused { OnErr result (engine.new.view ≡ engine.old.view) }
 {
     // That the history is legal is told by its reading.

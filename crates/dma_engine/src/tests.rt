@@ -1,4 +1,4 @@
-//! Each call once, with ample memory.
+//! Each call with ample memory, and the rows of the table of steps.
 
 use crate::call::{Call, Reply};
 use crate::engine::Engine;
@@ -105,5 +105,329 @@ fn a_list_of_calls(rt: HostRuntime) -> Result<(), Fail> {
         Reply::Bytes(bytes) => assert_eq!(rt; bytes.as_slice(), [0xAA].as_slice()),
         _ => assert!(rt; false),
     }
+    Ok(())
+}
+
+fn submitted(engine: &mut Engine, ch: u8, transfer: Transfer) -> Result<u32, Fail> {
+    match engine.submit(ch, transfer) {
+        Ok(cookie) => Ok(cookie),
+        Err(_) => Err(Fail::from("submit was refused")),
+    }
+}
+
+// Takes so many steps of a channel, each of which moves.
+fn moved(engine: &mut Engine, ch: u8, steps: u32) -> Result<(), Fail> {
+    for _ in 0..steps {
+        if engine.step(ch)? != Turn::Moved {
+            return Err(Fail::from("a step did not move"));
+        }
+    }
+    Ok(())
+}
+
+// An engine whose one channel runs a copy of 36 bytes, the first 32 in one burst and the last 4 in the next, from 0x1000 to
+// 0x2000. Bytes 30 to 33 are 11, 22, 33, 44 in hexadecimal.
+fn two_bursts(alloc: Global) -> Result<Engine, Fail> {
+    let mut engine = Engine::new(alloc, 0x4000, 1)?;
+    engine.write(0x101E, &[0x11, 0x22, 0x33, 0x44])?;
+    let src = [Segment {
+        addr: 0x1000,
+        len: 36,
+    }];
+    let dst = [Segment {
+        addr: 0x2000,
+        len: 36,
+    }];
+    submitted(
+        &mut engine,
+        0,
+        Transfer::new(alloc, &src, &dst, None, None)?,
+    )?;
+    Ok(engine)
+}
+
+// The copy of four bytes with an event to wait for, or to signal.
+fn with_events(
+    alloc: Global,
+    dst: u32,
+    wait: Option<u8>,
+    signal: Option<u8>,
+) -> Result<Transfer, Fail> {
+    let src = [Segment {
+        addr: 0x100,
+        len: 4,
+    }];
+    let dst = [Segment { addr: dst, len: 4 }];
+    Ok(Transfer::new(alloc, &src, &dst, wait, signal)?)
+}
+
+#[test]
+fn a_front_is_held_by_what_runs(rt: HostRuntime) -> Result<(), Fail> {
+    let mut engine = Engine::new(rt.alloc(), 0x400, 2)?;
+    submitted(&mut engine, 0, copy_of_four(rt.alloc(), 0x100, 0x200)?)?;
+    submitted(&mut engine, 1, copy_of_four(rt.alloc(), 0x200, 0x300)?)?;
+    assert_eq!(rt; engine.issue(0)?, 1);
+    assert_eq!(rt; engine.issue(1)?, 1);
+    assert_eq!(rt; engine.step(0)?, Turn::Started(1));
+    moved(&mut engine, 0, 3)?;
+    assert_eq!(rt; engine.step(1)?, Turn::Held { ch: 0, cookie: 1 });
+    let busy = EngineFault::Busy { ch: 0, cookie: 1 };
+    match engine.read(0x200, 4) {
+        Ok(_) => assert!(rt; false),
+        Err(fault) => assert_eq!(rt; fault, busy),
+    }
+    assert_eq!(rt; engine.read(0x100, 4)?.as_slice(), [0, 0, 0, 0].as_slice());
+    assert_eq!(rt; engine.write(0x100, &[0xFF]), Err(busy));
+    moved(&mut engine, 0, 4)?;
+    let finished = Turn::Finished {
+        cookie: 1,
+        result: TransResult::NoError,
+        residue: 0,
+    };
+    assert_eq!(rt; engine.step(0)?, finished);
+    assert_eq!(rt; engine.step(1)?, Turn::Started(1));
+    Ok(())
+}
+
+#[test]
+fn a_terminate_keeps_what_was_stored(rt: HostRuntime) -> Result<(), Fail> {
+    let mut engine = two_bursts(rt.alloc())?;
+    submitted(&mut engine, 0, copy_of_four(rt.alloc(), 0x1000, 0x3000)?)?;
+    assert_eq!(rt; engine.issue(0)?, 2);
+    assert_eq!(rt; engine.step(0)?, Turn::Started(1));
+    moved(&mut engine, 0, 6)?;
+    assert_eq!(rt; engine.terminate(0)?, 2);
+    let first = Outcome {
+        result: TransResult::Aborted,
+        residue: 4,
+    };
+    let second = Outcome {
+        result: TransResult::Aborted,
+        residue: 4,
+    };
+    assert_eq!(rt; engine.result(0, 1), Some(first));
+    assert_eq!(rt; engine.result(0, 2), Some(second));
+    assert_eq!(rt;
+        engine.read(0x201E, 4)?.as_slice(),
+        [0x11, 0x22, 0, 0].as_slice()
+    );
+    Ok(())
+}
+
+// The copy of two bursts with a marked byte, run for so many instructions.
+fn marked(alloc: Global, kind: MarkKind, addr: u32, steps: u32) -> Result<Engine, Fail> {
+    let mut engine = two_bursts(alloc)?;
+    engine.mark(kind, Segment { addr, len: 1 })?;
+    engine.issue(0)?;
+    engine.step(0)?;
+    moved(&mut engine, 0, steps)?;
+    Ok(engine)
+}
+
+#[test]
+fn a_load_fails_in_a_mark(rt: HostRuntime) -> Result<(), Fail> {
+    let mut engine = marked(rt.alloc(), MarkKind::Reading, 0x1020, 8)?;
+    let failed = Turn::Finished {
+        cookie: 1,
+        result: TransResult::ReadFailed,
+        residue: 4,
+    };
+    assert_eq!(rt; engine.step(0)?, failed);
+    assert!(rt; engine.halted(0));
+    assert_eq!(rt; engine.step(0)?, Turn::Halted);
+    assert_eq!(rt;
+        engine.read(0x201E, 4)?.as_slice(),
+        [0x11, 0x22, 0, 0].as_slice()
+    );
+    assert_eq!(rt; engine.terminate(0)?, 0);
+    assert_eq!(rt; engine.step(0)?, Turn::Nothing);
+    Ok(())
+}
+
+#[test]
+fn a_store_fails_in_a_mark(rt: HostRuntime) -> Result<(), Fail> {
+    let mut engine = marked(rt.alloc(), MarkKind::Writing, 0x2020, 10)?;
+    let failed = Turn::Finished {
+        cookie: 1,
+        result: TransResult::WriteFailed,
+        residue: 4,
+    };
+    assert_eq!(rt; engine.step(0)?, failed);
+    assert_eq!(rt; engine.step(0)?, Turn::Halted);
+    assert_eq!(rt;
+        engine.read(0x201E, 4)?.as_slice(),
+        [0x11, 0x22, 0, 0].as_slice()
+    );
+    Ok(())
+}
+
+#[test]
+fn a_mark_of_the_other_kind_stops_no_burst(rt: HostRuntime) -> Result<(), Fail> {
+    let mut engine = marked(rt.alloc(), MarkKind::Writing, 0x1020, 12)?;
+    let finished = Turn::Finished {
+        cookie: 1,
+        result: TransResult::NoError,
+        residue: 0,
+    };
+    assert_eq!(rt; engine.step(0)?, finished);
+    assert_eq!(rt;
+        engine.read(0x201E, 4)?.as_slice(),
+        [0x11, 0x22, 0x33, 0x44].as_slice()
+    );
+    Ok(())
+}
+
+#[test]
+fn one_event_lets_one_waiter_pass(rt: HostRuntime) -> Result<(), Fail> {
+    let mut engine = Engine::new(rt.alloc(), 0x400, 2)?;
+    submitted(
+        &mut engine,
+        0,
+        with_events(rt.alloc(), 0x200, Some(3), None)?,
+    )?;
+    submitted(
+        &mut engine,
+        1,
+        with_events(rt.alloc(), 0x300, Some(3), None)?,
+    )?;
+    assert_eq!(rt; engine.issue(0)?, 1);
+    assert_eq!(rt; engine.issue(1)?, 1);
+    assert_eq!(rt; engine.step(0)?, Turn::Started(1));
+    assert_eq!(rt; engine.step(0)?, Turn::Waiting(3));
+    assert_eq!(rt; engine.step(1)?, Turn::Started(1));
+    assert_eq!(rt; engine.step(1)?, Turn::Waiting(3));
+    engine.raise(3)?;
+    assert_eq!(rt; engine.step(0)?, Turn::Moved);
+    assert_eq!(rt; engine.step(1)?, Turn::Waiting(3));
+    Ok(())
+}
+
+#[test]
+fn a_signal_lets_a_waiter_pass(rt: HostRuntime) -> Result<(), Fail> {
+    let mut engine = Engine::new(rt.alloc(), 0x400, 2)?;
+    submitted(
+        &mut engine,
+        0,
+        with_events(rt.alloc(), 0x200, None, Some(5))?,
+    )?;
+    submitted(
+        &mut engine,
+        1,
+        with_events(rt.alloc(), 0x300, Some(5), None)?,
+    )?;
+    assert_eq!(rt; engine.issue(0)?, 1);
+    assert_eq!(rt; engine.issue(1)?, 1);
+    assert_eq!(rt; engine.step(0)?, Turn::Started(1));
+    assert_eq!(rt; engine.step(1)?, Turn::Started(1));
+    moved(&mut engine, 0, 7)?;
+    assert_eq!(rt; engine.step(1)?, Turn::Waiting(5));
+    assert_eq!(rt; engine.step(0)?, Turn::Moved);
+    assert_eq!(rt; engine.step(1)?, Turn::Moved);
+    let finished = Turn::Finished {
+        cookie: 1,
+        result: TransResult::NoError,
+        residue: 0,
+    };
+    assert_eq!(rt; engine.step(0)?, finished);
+    Ok(())
+}
+
+#[test]
+fn a_refusal_names_its_cause(rt: HostRuntime) -> Result<(), Fail> {
+    let mut engine = Engine::new(rt.alloc(), 16, 1)?;
+    assert_eq!(rt; engine.size(), 16);
+    assert_eq!(rt; engine.channels(), 1);
+    assert_eq!(rt; engine.status(0, 0), Status::Unknown);
+    assert_eq!(rt; engine.status(0, 1), Status::Unknown);
+    assert_eq!(rt; engine.result(0, 1), None);
+    assert_eq!(rt; engine.step(9), Err(EngineFault::NoChannel));
+    assert_eq!(rt; engine.issue(1), Err(EngineFault::NoChannel));
+    assert_eq!(rt;
+        engine.write(15, &[1, 2]),
+        Err(EngineFault::OutOfMemoryRange)
+    );
+    assert!(rt; engine.read(16, 0)?.is_empty());
+    let empty = Segment { addr: 0, len: 0 };
+    assert_eq!(rt;
+        engine.mark(MarkKind::Writing, empty),
+        Err(EngineFault::BadRange)
+    );
+    assert_eq!(rt; engine.history().len(), 1);
+    Ok(())
+}
+
+#[test]
+fn a_refused_transfer_is_handed_back(rt: HostRuntime) -> Result<(), Fail> {
+    let mut engine = Engine::new(rt.alloc(), 16, 1)?;
+    let transfer = copy_of_four(rt.alloc(), 0, 13)?;
+    let above = EngineFault::OutOfMemoryRange;
+    assert_eq!(rt; engine.check_submit(0, &transfer), Err(above));
+    let Err(refused) = engine.submit(0, transfer) else {
+        return Err(Fail::from("submit was not refused"));
+    };
+    assert_eq!(rt; refused.fault, above);
+    let Err(again) = engine.submit(1, refused.transfer) else {
+        return Err(Fail::from("submit was not refused"));
+    };
+    assert_eq!(rt; again.fault, EngineFault::NoChannel);
+    assert_eq!(rt; again.transfer.dst_place(3), Some(16));
+    assert_eq!(rt; engine.used(0), 0);
+    let fits = copy_of_four(rt.alloc(), 0, 12)?;
+    assert_eq!(rt; engine.check_submit(0, &fits), Ok(1));
+    assert_eq!(rt; submitted(&mut engine, 0, fits)?, 1);
+    assert_eq!(rt; engine.used(0), 1);
+    assert_eq!(rt; engine.finished(0), 0);
+    assert!(rt; !engine.paused(0));
+    Ok(())
+}
+
+// Calls of the host on memory, marks and events.
+fn host_calls(alloc: Global, calls: &mut Vec<Call>) -> Result<(), Fail> {
+    let bytes = Bytes::from_slice(alloc, &[0xAA])?;
+    calls.push(Call::Write { addr: 0x10, bytes })?;
+    calls.push(Call::Read { addr: 0x10, len: 1 })?;
+    let kind = MarkKind::Reading;
+    let segment = Segment { addr: 0, len: 1 };
+    calls.push(Call::Mark { kind, segment })?;
+    calls.push(Call::Unmark)?;
+    calls.push(Call::Raise { event: 0 })?;
+    Ok(())
+}
+
+// Calls on a channel, which start a copy and end it.
+fn channel_calls(alloc: Global, calls: &mut Vec<Call>) -> Result<(), Fail> {
+    let transfer = copy_of_four(alloc, 0x10, 0x20)?;
+    calls.push(Call::Submit { ch: 0, transfer })?;
+    calls.push(Call::Issue { ch: 0 })?;
+    calls.push(Call::Pause { ch: 0 })?;
+    calls.push(Call::Resume { ch: 0 })?;
+    calls.push(Call::Step { ch: 0 })?;
+    calls.push(Call::Status { ch: 0, cookie: 1 })?;
+    calls.push(Call::Terminate { ch: 0 })?;
+    calls.push(Call::Result { ch: 0, cookie: 1 })?;
+    Ok(())
+}
+
+fn none_refused(replies: &[Reply]) -> bool {
+    for reply in replies {
+        if let Reply::Refused(_) = reply {
+            return false;
+        }
+    }
+    true
+}
+
+#[test]
+fn every_call_is_carried_out(rt: HostRuntime) -> Result<(), Fail> {
+    let mut engine = Engine::new(rt.alloc(), 64, 1)?;
+    let mut calls = Vec::new(rt.alloc());
+    host_calls(rt.alloc(), &mut calls)?;
+    channel_calls(rt.alloc(), &mut calls)?;
+    let Ok(replies) = run(rt.alloc(), &mut engine, &calls) else {
+        return Err(Fail::from("no memory"));
+    };
+    assert_eq!(rt; replies.len(), 13);
+    assert!(rt; none_refused(&replies));
+    assert_eq!(rt; engine.history().len(), 8);
     Ok(())
 }
