@@ -1,7 +1,7 @@
 -- From what a call found to its answer.
 use Rattle.std.proofs.Common.{◌≡◌, ◌≢◌, ℕ, ◌+◌, ◌-◌, ◌<◌, ◌≤◌, List, [], ◌∷◌, ◌++◌, length, take, drop, Option, Some, None, Bool, true, false, refl, ap, sym, ◌∙◌, subst, arith, ◌||◌, not}
 use Rattle.std.specs.Prelude.{nat_lt, nat_le, ◌==◌, unwrap_or, Ok, Err}
-use Rattle.std.proofs.lemmas.Bool.{lt-ltb, le-ltb, le-leb, lt-leb, eq-eqb, ne_eqb}
+use Rattle.std.proofs.lemmas.Bool.{lt-ltb, le-ltb, le-leb, lt-leb, leb-false, eq-eqb, ne_eqb}
 use Rattle.std.proofs.lemmas.List.{length_push}
 use Rattle.dma_mem.specs.Places.{Descriptor, lies_below}
 use Rattle.dma_mem.specs.declared.marks.MarkKind.{MarkKind}
@@ -150,32 +150,26 @@ terminate-done v w ch count h n is = ap (λ x. (Count count, x)) is ∙ ap (λ k
 
 -- ---- submit
 
-pub submit-gone : (v : View) (ch : ℕ) (t : Descriptor) → channels v ≤ ch → Answers v (Submit ch t) (Refused NoChannel) v
-submit-gone v ch t h = let e : nat_le (channels v) ch ≡ true = le-leb _ _ h in rw e refl
+pub submit-done : (v w : View) (ch cookie : ℕ) (t : Descriptor) → submit_fault v ch t ≡ None → cookie ≡ used (channel (object_of v) ch) + 1 → w ≡ with_entry v (Submitted ch t cookie) → Answers v (Submit ch t) (Cookie cookie) w
+submit-done v w ch cookie t none number is =
+    let given : answer v (Submit ch t) ≡ (Cookie (used (channel (object_of v) ch) + 1), with_entry v (Submitted ch t (used (channel (object_of v) ch) + 1))) = rw none refl in
+    ap (λ x. (Cookie cookie, x)) is ∙ ap (λ k. (Cookie k, with_entry v (Submitted ch t k))) number ∙ sym given
 
-pub submit-out : (v : View) (ch : ℕ) (t : Descriptor) → ch < channels v → lies_below t (size v) ≡ false → Answers v (Submit ch t) (Refused OutOfMemoryRange) v
-submit-out v ch t h out = let e : nat_le (channels v) ch ≡ false = lt-leb _ _ h in rw (e, out) refl
+no-cause : (b : Bool) (f : EngineFault) (others : Option EngineFault) → cause b f others ≡ None → (b ≡ false) × (others ≡ None)
+no-cause true f others h = absurd cc
+no-cause false f others h = (refl, h)
 
-pub submit-spent : (v : View) (ch : ℕ) (t : Descriptor) → ch < channels v → lies_below t (size v) ≡ true → last_cookie ≤ used (channel (object_of v) ch) → Answers v (Submit ch t) (Refused CookiesSpent) v
-submit-spent v ch t h below spent =
-    let e : nat_le (channels v) ch ≡ false = lt-leb _ _ h in
-    let f : nat_le last_cookie (used (channel (object_of v) ch)) ≡ true = le-leb _ _ spent in
-    rw (e, below, f) refl
+not-false : (b : Bool) → not b ≡ false → b ≡ true
+not-false true h = refl
+not-false false h = absurd cc
 
-pub submit-answer : (v : View) (ch : ℕ) (t : Descriptor) → ch < channels v → lies_below t (size v) ≡ true → used (channel (object_of v) ch) < last_cookie → let cookie = used (channel (object_of v) ch) + 1 in answer v (Submit ch t) ≡ (Cookie cookie, with_entry v (Submitted ch t cookie))
-submit-answer v ch t h below few =
-    let e : nat_le (channels v) ch ≡ false = lt-leb _ _ h in
-    let f : nat_le last_cookie (used (channel (object_of v) ch)) ≡ false = lt-leb _ _ few in
-    rw (e, below, f) refl
-
-pub submit-starved : (v : View) (ch : ℕ) (t : Descriptor) → ch < channels v → lies_below t (size v) ≡ true → used (channel (object_of v) ch) < last_cookie → Answers v (Submit ch t) (Refused NoMemory) v
-submit-starved v ch t h below few =
-    let cookie = used (channel (object_of v) ch) + 1 in
-    starved v (Submit ch t) (Cookie cookie) _ (Submitted ch t cookie) (submit-answer v ch t h below few) refl
-
-pub submit-done : (v w : View) (ch cookie : ℕ) (t : Descriptor) → ch < channels v → lies_below t (size v) ≡ true → used (channel (object_of v) ch) < last_cookie → cookie ≡ used (channel (object_of v) ch) + 1 → w ≡ with_entry v (Submitted ch t cookie) → Answers v (Submit ch t) (Cookie cookie) w
-submit-done v w ch cookie t h below few number is =
-    ap (λ x. (Cookie cookie, x)) is ∙ ap (λ k. (Cookie k, with_entry v (Submitted ch t k))) number ∙ sym (submit-answer v ch t h below few)
+-- what holds where nothing refuses a submit
+pub submit-open : (v : View) (ch : ℕ) (t : Descriptor) → submit_fault v ch t ≡ None → (ch < channels v) × (lies_below t (size v) ≡ true) × (used (channel (object_of v) ch) < last_cookie)
+submit-open v ch t none =
+    let first = no-cause (nat_le (channels v) ch) NoChannel _ none in
+    let second = no-cause (not (lies_below t (size v))) OutOfMemoryRange _ first.1 in
+    let third = no-cause (nat_le last_cookie (used (channel (object_of v) ch))) CookiesSpent None second.1 in
+    (leb-false _ _ first.0, not-false (lies_below t (size v)) second.0, leb-false _ _ third.0)
 
 -- ---- marks and events
 
@@ -280,3 +274,7 @@ submit-wanting v ch t none =
     let cookie = used (channel (object_of v) ch) + 1 in
     let is : answer v (Submit ch t) ≡ (Cookie cookie, with_entry v (Submitted ch t cookie)) = rw none refl in
     starved v (Submit ch t) (Cookie cookie) _ (Submitted ch t cookie) is refl
+
+pub checked-cookie : (x : Option EngineFault) (n k : ℕ) → Ok k ≡ checked x n → k ≡ n
+checked-cookie None n k h = cc
+checked-cookie (Some f) n k h = absurd cc

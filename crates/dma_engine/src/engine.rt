@@ -3,6 +3,7 @@
 ghost use Rattle.std.specs.Prelude.{◌≡◌, ◌+◌, ◌-◌, ◌<◌, ◌≤◌, ℕ, MatchOption, IfOk, IfErr, OnOk, None, unwrap_or, length, take, drop, IfSome, slice_index_or, replicate, nat_lt, ◌++◌, ◌∷◌, [], if◌then◌else◌, vec_len, vec_capacity};
 ghost use Rattle.std.specs.Option.{option_map};
 ghost use Rattle.dma_mem.specs.Places.{Descriptor};
+ghost use Rattle.dma_mem.specs.Rules.{IsTransfer};
 ghost use Rattle.dma_engine.specs.Object.{channel, used, finished, unfinished, issued_front, no_transfer, aborted, is_failure};
 ghost use Rattle.dma_engine.specs.View.{size, channels, object_of, schedule_at, runs, running_on, new_fault, new_view, memory_of, IsSound};
 ghost use Rattle.dma_engine.specs.Answer.{Answers, Steps, reply_of, checked, submit_fault, submit_reply, status_in, result_of, first_running, named, done_on};
@@ -83,7 +84,8 @@ impl Engine {
         let memory = match Memory::new(alloc, size) {
             Ok(memory) => memory,
             Err(MemFault::SizeOutOfRange) => return Err(NewFault::SizeOutOfRange),
-            Err(_) => return Err(NewFault::NoMemory),
+            Err(MemFault::NoMemory) => return Err(NewFault::NoMemory),
+            Err(MemFault::OutOfMemoryRange) => unreachable!(),
         };
         let Ok(queues) = new_queues(alloc, channels) else {
             return Err(NewFault::NoMemory);
@@ -155,6 +157,7 @@ impl Engine {
     pub fn unfinished(&self, ch: u8) -> u32
         ensures { result ≡ unfinished (channel (object_of self.now.view) ch) }
     {
+        // opens what the type keeps to the proof: no more are finished than given
         let _ = &self.size;
         self.used(ch) - self.finished(ch)
     }
@@ -185,6 +188,7 @@ impl Engine {
     {
         let used = self.used(ch);
         let finished = self.finished(ch);
+        // opens what the type keeps to the proof: the board's counts are the queue's
         let _ = &self.size;
         if cookie == 0 {
             return Status::Unknown;
@@ -380,7 +384,8 @@ impl Engine {
 
     /// The cookie that `submit` would answer, or the fault that it would name before `NoMemory`. Nothing changes.
     pub fn check_submit(&self, ch: u8, transfer: &Transfer) -> Result<u32, EngineFault>
-        ensures { result ≡ checked (submit_fault self.now.view ch transfer.now) (used (channel (object_of self.now.view) ch) + 1) }
+        ensures told { result ≡ checked (submit_fault self.now.view ch transfer.now) (used (channel (object_of self.now.view) ch) + 1) }
+        ensures rules { OnOk result (IsTransfer transfer.now) }
     {
         let index = usize::from(ch);
         if index >= self.queues.len() {
@@ -404,26 +409,10 @@ impl Engine {
         ensures answer { Answers self.old.view (Call.Submit ch transfer) (submit_reply result) self.new.view }
         ensures back { IfErr result (λ refused. refused.transfer ≡ transfer) }
     {
-        let index = usize::from(ch);
-        if index >= self.queues.len() {
-            return Err(SubmitFault {
-                fault: EngineFault::NoChannel,
-                transfer,
-            });
-        }
-        if !transfer.lies_below(self.size) {
-            return Err(SubmitFault {
-                fault: EngineFault::OutOfMemoryRange,
-                transfer,
-            });
-        }
-        let given = self.queues[index].places.len();
-        if given >= LAST_COOKIE {
-            return Err(SubmitFault {
-                fault: EngineFault::CookiesSpent,
-                transfer,
-            });
-        }
+        let cookie = match self.check_submit(ch, &transfer) {
+            Ok(cookie) => cookie,
+            Err(fault) => return Err(SubmitFault { fault, transfer }),
+        };
         let Ok(()) = self.history.reserve(1) else {
             return Err(SubmitFault {
                 fault: EngineFault::NoMemory,
@@ -431,13 +420,12 @@ impl Engine {
             });
         };
         let place = self.history.len();
-        if !self.queues[index].places.add(place) {
+        if !self.queues[usize::from(ch)].places.add(place) {
             return Err(SubmitFault {
                 fault: EngineFault::NoMemory,
                 transfer,
             });
         }
-        let cookie = given as u32 + 1;
         let Ok(()) = self.history.push(Entry::Submitted {
             ch,
             transfer,
@@ -857,7 +845,7 @@ fn bytes_of(alloc: Global, memory: &Memory, addr: u32, len: u32) -> Option<Bytes
         return None;
     };
     let Ok(()) = memory.read_into(addr, &mut buffer) else {
-        return None;
+        unreachable!();
     };
     Bytes::from_slice(alloc, &buffer).ok()
 }

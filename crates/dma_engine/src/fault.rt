@@ -3,8 +3,8 @@
 use dma_mem::transfer::Transfer;
 use thiserror::Error;
 
-/// Why a call was refused, in the order of the tests. Each call names those that it may answer. A refused call changes
-/// nothing.
+/// Why a call was refused. Each call names those that it may answer, in the order in which it tests them. A refused call
+/// changes nothing.
 #[derive(Clone, Copy, Debug, PartialEq, Eq, Error)]
 pub enum EngineFault {
     /// A range ends above the memory's size.
@@ -41,10 +41,10 @@ pub enum EngineFault {
 /// Why no engine was made, in the order of the tests.
 #[derive(Clone, Copy, Debug, PartialEq, Eq, Error)]
 pub enum NewFault {
-    /// There are 1 to 8 channels.
+    /// The number of channels is 0 or above 8.
     #[error("the number of channels is not 1 to 8")]
     BadChannels,
-    /// A memory has 1 to 16,777,216 bytes.
+    /// The size is 0 or above 16,777,216 bytes.
     #[error("the size is not 1 to 16777216 bytes")]
     SizeOutOfRange,
     /// Memory was wanting.

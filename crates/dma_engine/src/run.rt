@@ -29,6 +29,7 @@ pub fn run(alloc: Global, engine: &mut Engine, calls: &[Call]) -> Result<Vec<Rep
             unreachable!();
         };
     }
+    // and so is what it is afterwards
     let _after = engine.history();
     Ok(replies)
 }

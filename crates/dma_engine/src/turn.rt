@@ -7,7 +7,7 @@ use crate::outcome::TransResult;
 pub enum Turn {
     /// There is nothing to do: no transfer is issued and unfinished.
     Nothing,
-    /// The front can't start, since a running transfer has a range in common with it: the one on the lowest such channel.
+    /// The front can't start, since it isn't free of a running transfer: the one on the lowest such channel.
     Held {
         /// The channel in the way.
         ch: u8,
