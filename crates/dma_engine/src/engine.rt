@@ -756,30 +756,30 @@ impl Engine {
         ensures { Answers self.old.view call.now result self.new.view }
     {
         match call {
-            Call::Write { addr, bytes } => done(self.write(*addr, bytes.as_slice())),
+            Call::Write { addr, bytes } => done_or_refused(self.write(*addr, bytes.as_slice())),
             Call::Read { addr, len } => match self.read(*addr, *len) {
                 Ok(bytes) => Reply::Bytes(bytes),
                 Err(fault) => Reply::Refused(fault),
             },
             Call::Submit { ch, transfer } => self.submit_copy(*ch, transfer),
-            Call::Issue { ch } => counted(self.issue(*ch)),
-            Call::Pause { ch } => done(self.pause(*ch)),
-            Call::Resume { ch } => done(self.resume(*ch)),
-            Call::Terminate { ch } => counted(self.terminate(*ch)),
+            Call::Issue { ch } => counted_or_refused(self.issue(*ch)),
+            Call::Pause { ch } => done_or_refused(self.pause(*ch)),
+            Call::Resume { ch } => done_or_refused(self.resume(*ch)),
+            Call::Terminate { ch } => counted_or_refused(self.terminate(*ch)),
             Call::Step { ch } => match self.step(*ch) {
                 Ok(turn) => Reply::Turned(turn),
                 Err(fault) => Reply::Refused(fault),
             },
             Call::Status { ch, cookie } => Reply::State(self.status(*ch, *cookie)),
             Call::Result { ch, cookie } => Reply::Result(self.result(*ch, *cookie)),
-            Call::Mark { kind, segment } => done(self.mark(*kind, *segment)),
-            Call::Unmark => done(self.unmark()),
-            Call::Raise { event } => done(self.raise(*event)),
+            Call::Mark { kind, segment } => done_or_refused(self.mark(*kind, *segment)),
+            Call::Unmark => done_or_refused(self.unmark()),
+            Call::Raise { event } => done_or_refused(self.raise(*event)),
         }
     }
 }
 
-fn done(outcome: Result<(), EngineFault>) -> Reply
+fn done_or_refused(outcome: Result<(), EngineFault>) -> Reply
     ensures { result ≡ reply_of (λ _. Reply.Done) outcome }
 {
     match outcome {
@@ -788,7 +788,7 @@ fn done(outcome: Result<(), EngineFault>) -> Reply
     }
 }
 
-fn counted(outcome: Result<u32, EngineFault>) -> Reply
+fn counted_or_refused(outcome: Result<u32, EngineFault>) -> Reply
     ensures { result ≡ reply_of (λ count. Reply.Count count) outcome }
 {
     match outcome {

@@ -6,12 +6,12 @@ pub mod call;
 pub mod engine;
 pub mod entry;
 pub mod fault;
-pub mod lists;
+mod lists;
 pub mod outcome;
-pub mod queue;
+mod queue;
 pub mod run;
 pub mod turn;
-pub mod way;
+mod way;
 
 pub use call::{Call, Reply};
 pub use dma_mem::marks::MarkKind;
