@@ -1,13 +1,13 @@
 //! The bursts of a channel: loads from memory into its buffer, and stores from its buffer to memory.
 
-ghost use Rattle.std.specs.Prelude.{◌≡◌, ℕ, ◌+◌, ◌-◌, ◌*◌, ◌≤◌, ◌<◌, ◌^◌, ◌++◌, IsTrue, Bool, List, length, take, drop, replicate, if◌then◌else◌};
-ghost use Rattle.std.specs.List.{flat_map, range_with_len};
+ghost use Rattle.std.specs.Prelude.{◌≡◌, ◌+◌, ◌-◌, ◌*◌, ◌≤◌, ◌<◌, ◌^◌, ◌++◌, IsTrue, Bool, List, length, take, drop, replicate, if◌then◌else◌};
+ghost use Rattle.std.specs.List.{flat_map};
 ghost use Rattle.circular_buffer.specs.Buffer.{buffer as ring};
 ghost use Rattle.dma_insn.specs.declared.insn.Insn.TheVariants.{Ld, St};
 ghost use Rattle.dma_mem.specs.Image.{put};
 ghost use Rattle.dma_chan.specs.Registers.{is_control, burst_at, burst_len, touched, left_by, advance, span_of, rounds_of, source_of, destination_of};
 ghost use Rattle.dma_chan.specs.Marking.{reaches};
-ghost use Rattle.dma_chan.specs.Exec.{act, state, read_at};
+ghost use Rattle.dma_chan.specs.Exec.{act, state};
 
 use crate::registers::Registers;
 use crate::turn::{ChanTurn, FaultKind};

@@ -3,8 +3,8 @@
 ghost use Rattle.std.specs.Prelude.{◌≡◌, ℕ, ◌+◌, ◌-◌, ◌≤◌, ◌<◌, Bool, IsTrue, List, length};
 ghost use Rattle.dma_insn.specs.Spelling.{spelling};
 ghost use Rattle.dma_insn.specs.declared.insn.Insn.TheVariants.{Mov, Lp, LpEnd, Sev, Wfe};
-ghost use Rattle.dma_chan.specs.Registers.{is_control, past, with_register};
-ghost use Rattle.dma_chan.specs.Exec.{act, state, State};
+ghost use Rattle.dma_chan.specs.Registers.{is_control};
+ghost use Rattle.dma_chan.specs.Exec.{act, state};
 ghost use Rattle.dma_mem.specs.Marking.{MarkList};
 
 use crate::bursts::{load_burst, store_burst};

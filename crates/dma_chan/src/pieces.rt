@@ -1,6 +1,6 @@
 //! A transfer's lists, cut into pieces that lie together at both ends.
 
-ghost use Rattle.std.specs.Prelude.{◌≡◌, List, ◌∷◌, ◌++◌, OnOk, IfOk};
+ghost use Rattle.std.specs.Prelude.{◌≡◌, ◌∷◌, ◌++◌, OnOk, IfOk};
 ghost use Rattle.std.specs.List.{AllByRecursion};
 ghost use Rattle.dma_chan.specs.Pieces.{pieces, byte_count, IsRange};
 

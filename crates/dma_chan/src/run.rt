@@ -1,6 +1,6 @@
 //! Programs run alone.
 
-ghost use Rattle.std.specs.Prelude.{◌≡◌, ℕ, ◌≤◌, length, nat_lt, if◌then◌else◌, IfOk, IfErr, OnOk, OnErr};
+ghost use Rattle.std.specs.Prelude.{◌≡◌, ◌≤◌, length, nat_lt, if◌then◌else◌, IfOk, IfErr, OnOk, OnErr};
 ghost use Rattle.dma_chan.specs.Run.{RunsAlone};
 
 use crate::channel::Channel;

@@ -19,8 +19,7 @@ pub record ChannelSchedule : Type 0 where
   pub paused : Bool
   pub taken : Option ℕ
 
--- The object from which the history begins, the history, the number of instructions executed, and for each channel its
--- schedule.
+-- The object from which the history begins, the history, the step count, and for each channel its schedule.
 pub record View : Type 0 where
   pub base : Object
   pub history : List Entry

@@ -1,6 +1,6 @@
 //! The engine.
 
-ghost use Rattle.std.specs.Prelude.{◌≡◌, ◌+◌, ◌-◌, ◌<◌, ◌≤◌, ℕ, MatchOption, IfOk, IfErr, OnOk, None, unwrap_or, length, take, drop, IfSome, slice_index_or, replicate, nat_lt, ◌++◌, ◌∷◌, [], if◌then◌else◌, vec_len, vec_capacity};
+ghost use Rattle.std.specs.Prelude.{◌≡◌, ◌+◌, ◌-◌, ◌<◌, ◌≤◌, ℕ, IfOk, IfErr, OnOk, None, unwrap_or, length, take, drop, IfSome, slice_index_or, replicate, ◌++◌, ◌∷◌, [], if◌then◌else◌};
 ghost use Rattle.std.specs.Option.{option_map};
 ghost use Rattle.dma_mem.specs.Places.{Descriptor};
 ghost use Rattle.dma_mem.specs.Rules.{IsTransfer};
@@ -116,7 +116,7 @@ impl Engine {
         self.queues.len() as u8
     }
 
-    /// How many instructions were executed.
+    /// The step count: one for each [`Turn::Moved`] and [`Turn::Finished`].
     pub fn steps(&self) -> u64
         ensures { result ≡ self.now.view.steps }
     {

@@ -1,6 +1,6 @@
 //! The codes of the instructions, written and read.
 
-ghost use Rattle.std.specs.Prelude.{◌≡◌, ℕ, ◌+◌, ◌<◌, ◌≤◌, ◌∷◌, ◌++◌, List, length, drop, take, IfOk, IfErr};
+ghost use Rattle.std.specs.Prelude.{◌≡◌, ℕ, ◌+◌, ◌<◌, ◌≤◌, ◌∷◌, ◌++◌, length, drop, IfOk, IfErr};
 ghost use Rattle.dma_insn.specs.declared.insn.Insn.{Insn};
 ghost use Rattle.dma_insn.specs.declared.insn.Insn.TheVariants.{Lp, LpEnd};
 ghost use Rattle.dma_insn.specs.Spelling.{spelling, loop_byte, loop_end_byte, register_byte, HasRanges, IsSpelledAt, IsRefusedFor, NoSpellingBeginsAnother};

@@ -2,7 +2,7 @@
 //! the source, and of a store, to the destination, moves.
 
 ghost use Rattle.std.specs.Prelude.{◌≡◌, ℕ, ◌+◌, ◌<◌, ◌≤◌, ◌^◌, ◌↔◌, Some, IsSome, IfSome, Ok, IfOk};
-ghost use Rattle.dma_insn.specs.ControlWord.{field, flag, size_code, size_of, beat_bytes, burst_bytes, end_at, end_bits, control_of, bits_of, HasEndRanges, HasFields};
+ghost use Rattle.dma_insn.specs.ControlWord.{field, size_code, size_of, beat_bytes, burst_bytes, end_at, end_bits, control_of, bits_of, HasEndRanges, HasFields};
 
 use std::marker::Model;
 use thiserror::Error;

@@ -1,11 +1,10 @@
 //! One line of assembly text: its words, and the instruction that they write.
 
-ghost use Rattle.std.specs.Prelude.{◌≡◌, ℕ, ◌+◌, ◌<◌, ◌≤◌, ◌==◌, ◌∷◌, [], List, length, position, Option, MatchOption, IfSome, Result, Ok};
+ghost use Rattle.std.specs.Prelude.{◌≡◌, ◌+◌, ◌<◌, ◌==◌, ◌∷◌, [], length, position, Option, MatchOption, IfSome, Result, Ok};
 ghost use Rattle.std.specs.List.{list_all};
-ghost use Rattle.std.specs.Option.{option_map};
 ghost use Rattle.std.specs.Str.{bytes_eq};
 ghost use Rattle.dma_insn.specs.AssemblyText.{text_lines, words_of, is_skipped};
-ghost use Rattle.dma_insn.specs.LineReading.{SeenAs, words_after, no_word, one_word, two_words, wait_words, digit_of, digits_from, number_of, number_at, hex_digit_of, hex_from, value_of, value_at, register_of, register_at, counter_at, times_at, back_at, event_at, two_numbers, loop_line, loop_end_line, signal_line, wait_line, set_line, bare_line, name_of, line_by, line_in};
+ghost use Rattle.dma_insn.specs.LineReading.{SeenAs, words_after, no_word, one_word, two_words, wait_words, digit_of, digits_from, number_at, hex_digit_of, hex_from, value_at, register_at, counter_at, times_at, back_at, event_at, two_numbers, loop_line, loop_end_line, signal_line, wait_line, set_line, bare_line, name_of, line_by, line_in};
 
 use crate::assembler::Cause;
 use crate::insn::{Counter, Event, Insn, Reg, Times};

@@ -1,7 +1,7 @@
 -- Worked scripts, computed from the definitions.
 use Rattle.std.proofs.Common.{◌≡◌, List, ℕ, [], ◌∷◌, ◌++◌, codes, Some, None, Ok, Err, refl}
 use Rattle.dma_script.specs.Statements.{run_script_of}
-use Rattle.dma_script.specs.Printing.{program_lines, read_text}
+use Rattle.dma_script.specs.Printing.{program_lines, hex_address, spaced_bytes}
 use Rattle.dma_script.specs.Pairs.{pairs_of}
 use Rattle.dma_script.specs.Plan.{plan_of}
 use Rattle.dma_script.specs.declared.fault.Cause.TheVariants.{Byte, Command, First, Words, Number, Hex, Range, SizeOutOfRange, BadChannels}
@@ -75,8 +75,14 @@ too_many_steps = refl
 no_such_mark : run_script_of (after_memory (codes "mark red 0+1")) ≡ Err (record { line = 2; cause = Words })
 no_such_mark = refl
 
-printed_read : read_text 31 (0 ∷ 170 ∷ []) ≡ codes "read 0x0000001F 00 AA"
-printed_read = refl
+printed_address : hex_address 31 ≡ codes "0000001F"
+printed_address = refl
+
+printed_bytes : spaced_bytes (0 ∷ 170 ∷ []) ≡ codes " 00 AA"
+printed_bytes = refl
+
+largest_memory : run_script_of (codes "memory 16777216 8") ≡ Ok (record { size = 16777216; channels = 8; statements = [] })
+largest_memory = refl
 
 no_program_line : program_lines [] ≡ []
 no_program_line = refl

@@ -35,10 +35,6 @@ spaced_bytes bytes = flat_map (λ b. 32 ∷ hex_byte_of b) bytes
 abbrev pub hex_address : ℕ → List ℕ
 hex_address addr = flat_map hex_byte_of (to_be_bytes w32 addr)
 
--- the line that a read prints, for its address and the bytes that stand there
-abbrev pub read_text : ℕ → List ℕ → List ℕ
-read_text addr bytes = concat (codes "read 0x" ∷ hex_address addr ∷ spaced_bytes bytes ∷ [])
-
 -- the bytes of one printed line: those of a row of the given number, from 0, sixteen to a row
 abbrev pub row_at : List ℕ → ℕ → List ℕ
 row_at bytes row = take 16 (drop (16 * row) bytes)

@@ -1,5 +1,5 @@
 //! Reading a script line by line, up to its first fault.
-ghost use Rattle.std.specs.Prelude.{◌≡◌, ◌+◌, ◌≤◌, IfOk, List, ℕ, map, length};
+ghost use Rattle.std.specs.Prelude.{◌≡◌, ◌+◌, IfOk, List, ℕ, map};
 ghost use Rattle.dma_script.specs.Lines.{LineGives, ScriptGives, after_line, after_script, first_number, is_skipped};
 
 use crate::fault::{Cause, Fault, LineError, ScriptError};

@@ -1,5 +1,5 @@
 //! The input of `dis`: pairs of hexadecimal digits.
-ghost use Rattle.std.specs.Prelude.{◌≡◌, ◌+◌, ◌++◌, ◌∷◌, ◌≤◌, [], OnErr, OnOk, List, ℕ, get_or, length, take, drop};
+ghost use Rattle.std.specs.Prelude.{◌≡◌, ◌+◌, ◌++◌, ◌∷◌, [], OnErr, OnOk};
 ghost use Rattle.dma_script.specs.Command.{text_of};
 ghost use Rattle.dma_script.specs.Words.{hex_digit_of};
 ghost use Rattle.dma_script.specs.Pairs.{PairsGives, is_gap, pair_of, pairs_fault_line, pairs_of};

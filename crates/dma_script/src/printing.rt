@@ -1,8 +1,8 @@
-//! The lines that are printed, and their parts. Each public call appends all that it says, or nothing.
-ghost use Rattle.std.specs.Prelude.{◌≡◌, ◌++◌, ◌∷◌, ◌<◌, [], IfOk, OnErr, OnOk, true, length};
+//! The lines that are printed, and their parts. A line is appended whole or not at all; what is said of a part is said of Ok.
+ghost use Rattle.std.specs.Prelude.{◌≡◌, ◌++◌, ◌∷◌, ◌<◌, [], IfOk, OnErr, OnOk, true};
 ghost use Rattle.std.specs.Fmt.{digit_glyph};
 ghost use Rattle.dma_script.specs.Command.{text_of};
-ghost use Rattle.dma_script.specs.Printing.{fault_line, hex_address, hex_byte_of, program_lines, read_text, row_line, spaced_bytes};
+ghost use Rattle.dma_script.specs.Printing.{fault_line, hex_address, hex_byte_of, program_lines, row_line, spaced_bytes};
 
 use crate::fault::Fault;
 use std::alloc::{AllocError, Global};
@@ -72,30 +72,6 @@ pub fn push_address(line: &mut Vec<u8>, addr: u32) -> Result<(), AllocError>
         push_byte(line, byte)?;
     }
     Ok(())
-}
-
-/// The line that a read prints.
-fn read_line(alloc: Global, addr: u32, bytes: &[u8]) -> Result<Vec<u8>, AllocError>
-    ensures { IfOk result (λ line. line.items ≡ read_text addr bytes.now) }
-{
-    let mut line = Vec::from_slice(alloc, b"read 0x")?;
-    push_address(&mut line, addr)?;
-    push_bytes(&mut line, bytes)?;
-    Ok(line)
-}
-
-/// Appends the line that a read prints for its address and the bytes that stand there, or nothing.
-pub fn push_read(
-    alloc: Global,
-    out: &mut Vec<u8>,
-    addr: u32,
-    bytes: &[u8],
-) -> Result<(), AllocError>
-    ensures ok { OnOk result (out.new.items ≡ out.old.items ++ text_of (read_text addr bytes.now ∷ [])) }
-    ensures err { OnErr result (out.new.items ≡ out.old.items) }
-{
-    let line = read_line(alloc, addr, bytes)?;
-    push_line(out, &line)
 }
 
 /// The bytes of a row with a space between two, at the end.

@@ -1,5 +1,5 @@
 //! What no clause says: the whole of a call over streams that fail, and that the grammar is the one that is meant.
-ghost use Rattle.std.specs.Prelude.{◌≡◌, ◌++◌, ◌∷◌, [], OnOk, OnErr, IfOk};
+ghost use Rattle.std.specs.Prelude.{◌∷◌, []};
 
 use crate::command::{Command, SUCCESS, serve};
 use crate::fakes::{FakeReader, FakeWriter};
@@ -7,7 +7,7 @@ use crate::fault::{Cause, Fault, ScriptError};
 use crate::input::{InputError, LONGEST_INPUT, read_input};
 use crate::pairs::{PairsError, push_pairs_fault, read_pairs};
 use crate::plan::{PlanLine, read_plan};
-use crate::printing::{push_fault, push_line, push_program, push_read};
+use crate::printing::{push_address, push_bytes, push_fault, push_line, push_program};
 use crate::statements::{RunScript, Statement, read_run_script};
 use dma_mem::segment::Segment;
 use std::alloc::{AllocError, Global};
@@ -360,8 +360,11 @@ fn each_statement(rt: HostRuntime) -> Result<(), Fail> {
 fn printed_lines(rt: HostRuntime) -> Result<(), Fail> {
     let mut out = Vec::new(rt.alloc());
     push_line(&mut out, b"ok")?;
-    push_read(rt.alloc(), &mut out, 0x1F, &[0x00, 0xAA, 0xBB, 0xCC, 0x09])?;
-    push_read(rt.alloc(), &mut out, 0xFEDC_BA98, &[])?;
+    push_address(&mut out, 0x1F)?;
+    push_bytes(&mut out, &[0x00, 0xAA, 0xBB, 0xCC, 0x09])?;
+    push_line(&mut out, b"")?;
+    push_address(&mut out, 0xFEDC_BA98)?;
+    push_line(&mut out, b"")?;
     for (line, cause) in [
         (0, Cause::First),
         (1, Cause::Byte),
@@ -375,7 +378,7 @@ fn printed_lines(rt: HostRuntime) -> Result<(), Fail> {
     ] {
         push_fault(rt.alloc(), &mut out, Fault { line, cause })?;
     }
-    let text = b"ok\nread 0x0000001F 00 AA BB CC 09\nread 0xFEDCBA98\n\
+    let text = b"ok\n0000001F 00 AA BB CC 09\nFEDCBA98\n\
         line 0: First\nline 1: Byte\nline 10: Command\nline 4194304: Words\nline 5: Number\n\
         line 6: Hex\nline 7: Range\nline 8: SizeOutOfRange\nline 9: BadChannels\n";
     assert_eq!(rt; out.as_slice(), text.as_slice());

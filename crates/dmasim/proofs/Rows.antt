@@ -1,7 +1,7 @@
 -- Small scripts, and what each of their lines prints, computed from the definitions.
 use Rattle.std.proofs.Common.{◌≡◌, ℕ, List, [], ◌∷◌, ◌++◌, refl}
 use Rattle.std.specs.Prelude.{codes, decimal}
-use Rattle.dma_mem.specs.Image.{put, after_moves, over}
+use Rattle.dma_mem.specs.Image.{put, after_moves}
 use Rattle.dma_mem.specs.Places.{share}
 use Rattle.dma_engine.specs.Object.{opening}
 use Rattle.dma_engine.specs.View.{running}

@@ -1,5 +1,5 @@
 -- What the lines of a script print and leave.
-use Rattle.std.proofs.Common.{◌≡◌, ◌≢◌, ℕ, ◌+◌, ◌<◌, ◌≤◌, Bool, true, false, if◌then◌else◌, codes, zero, List, [], ◌∷◌, ◌++◌, length, Option, Some, None, Result, Ok, Err, refl, ap, sym, subst, ◌∙◌, take, drop, get_or, suc, add-one, append_assoc, arith}
+use Rattle.std.proofs.Common.{◌≡◌, ◌≢◌, ℕ, ◌+◌, ◌<◌, ◌≤◌, Bool, true, false, if◌then◌else◌, codes, zero, List, [], ◌∷◌, ◌++◌, length, Option, Some, None, refl, ap, sym, subst, ◌∙◌, take, drop, get_or, suc, add-one, append_assoc, arith}
 use Rattle.std.proofs.Math.Seq.{take-add, drop-cons}
 use Rattle.std.proofs.lemmas.List.{append-nil, drop-drop}
 use Rattle.std.proofs.lemmas.List.Concat.{flat_map-append}
@@ -17,11 +17,9 @@ use Rattle.std.specs.Option.{option_map}
 use Rattle.dma_engine.specs.Object.{Object}
 use Rattle.dma_engine.specs.View.{View, ChannelSchedule, running, runs}
 use Rattle.dma_script.specs.Command.{text_of, printed_text, AppendsGroups}
-use Rattle.dma_script.specs.declared.fault.Fault.{Fault}
-use Rattle.dma_script.specs.declared.statements.RunScript.{RunScript}
 use Rattle.dma_script.specs.declared.statements.Statement.{Statement}
 use Rattle.dmasim.specs.Printed.{transfer_fault_name, refused_line}
-use Rattle.dmasim.specs.Run.{Answered, AnswersLine, copied, copied_after, is_in_use, told, totals_line, unless_unfit, line_answer, lines_answered, printed_of}
+use Rattle.dmasim.specs.Run.{Answered, AnswersLine, copied, copied_after, is_in_use, told, totals_line, unless_unfit, line_answer, lines_answered}
 
 -- ---- a transfer's rules
 

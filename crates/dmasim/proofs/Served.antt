@@ -1,13 +1,12 @@
 -- Calls in order, none of which was refused memory.
-use Rattle.std.proofs.Common.{◌≡◌, ◌≢◌, ℕ, List, [], ◌∷◌, ◌++◌, length, suc, Option, Some, None, refl, ap, sym, ◌∙◌}
+use Rattle.std.proofs.Common.{◌≡◌, ◌≢◌, List, [], ◌∷◌, ◌++◌, length, suc, refl, ap, ◌∙◌}
 use Rattle.dma_engine.specs.declared.call.Call.{Call}
 use Rattle.dma_engine.specs.declared.call.Reply.{Reply}
 use Rattle.dma_engine.specs.declared.call.Reply.TheVariants.{Done, Bytes, Cookie, Count, Turned, State, Result, Refused}
-use Rattle.dma_engine.specs.declared.fault.EngineFault.{EngineFault}
 use Rattle.dma_engine.specs.declared.fault.EngineFault.TheVariants.{OutOfMemoryRange, Busy, NoChannel, CookiesSpent, StepsSpent, BadEvent, BadRange, NoMemory}
 use Rattle.dma_engine.specs.View.{View}
 use Rattle.dma_engine.specs.Answer.{Answers, AreAnswers, answer, answers}
-use Rattle.dmasim.specs.Run.{AreServed}
+use Rattle.dmasim.specs.Counting.{AreServed}
 
 -- a reply that isn't want of memory is the answer
 pub served-one : (v : View) (call : Call) (reply : Reply) (w : View) → reply ≢ Refused NoMemory → Answers v call reply w → (reply, w) ≡ answer v call

@@ -1,5 +1,5 @@
 -- Runs of equal answers, and the lines of those before.
-use Rattle.std.proofs.Common.{◌≡◌, ℕ, ◌+◌, ◌-◌, ◌<◌, ◌≤◌, List, [], ◌∷◌, ◌++◌, length, map, codes, Bool, true, false, refl, ap, sym, ◌∙◌, zero, suc, add-one, append_assoc, arith, take}
+use Rattle.std.proofs.Common.{◌≡◌, ℕ, ◌+◌, ◌<◌, List, [], ◌∷◌, ◌++◌, map, codes, Bool, true, false, refl, ap, sym, ◌∙◌, zero, suc, add-one, append_assoc}
 use Rattle.std.specs.Prelude.{replicate, decimal}
 use Rattle.std.specs.Str.{bytes_eq}
 use Rattle.std.proofs.Math.Nat.{zero-lt-suc}
@@ -11,7 +11,8 @@ use Rattle.dma_engine.specs.declared.call.Reply.{Reply}
 use Rattle.dma_engine.specs.View.{View}
 use Rattle.dma_engine.specs.Answer.{answers}
 use Rattle.dmasim.specs.Printed.{reply_text}
-use Rattle.dmasim.specs.Run.{joined, runs_of, step_line, step_lines, text_with}
+use Rattle.dmasim.specs.Counting.{text_with}
+use Rattle.dmasim.specs.Run.{joined, runs_of, step_line, step_lines}
 use Rattle.dmasim.proofs.Served.{answers-append}
 
 -- ---- runs

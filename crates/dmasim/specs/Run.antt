@@ -1,5 +1,5 @@
 -- What `dmasim run` prints for an input.
-use Rattle.std.specs.Prelude.{◌≡◌, ◌≢◌, ℕ, ◌+◌, ◌<◌, ◌++◌, ◌∷◌, [], if◌then◌else◌, ◌||◌, Bool, true, false, nat_lt, zero, suc, Option, Some, None, Result, Ok, Err, List, length, map, replicate, codes, decimal}
+use Rattle.std.specs.Prelude.{◌≡◌, ℕ, ◌+◌, ◌++◌, ◌∷◌, [], if◌then◌else◌, ◌||◌, Bool, true, false, nat_lt, zero, suc, Option, Some, None, Result, Ok, Err, List, length, map, replicate, codes, decimal}
 use Rattle.std.specs.Str.{bytes_eq}
 use Rattle.dma_mem.specs.declared.segment.Segment.{Segment}
 use Rattle.dma_mem.specs.declared.transfer.TransferFault.{TransferFault}
@@ -9,7 +9,6 @@ use Rattle.dma_engine.specs.declared.call.Call.{Call}
 use Rattle.dma_engine.specs.declared.call.Call.TheVariants as calls
 use Rattle.dma_engine.specs.declared.call.Reply.{Reply}
 use Rattle.dma_engine.specs.declared.call.Reply.TheVariants.{Turned, Refused}
-use Rattle.dma_engine.specs.declared.fault.EngineFault.TheVariants.{NoMemory}
 use Rattle.dma_engine.specs.declared.turn.Turn.TheVariants.{Started, Moved}
 use Rattle.dma_engine.specs.Object.{channel, unfinished}
 use Rattle.dma_engine.specs.View.{View, new_view, object_of, schedule_at, running}
@@ -23,7 +22,7 @@ use Rattle.dma_script.specs.declared.statements.RunScript.{RunScript}
 use Rattle.dma_script.specs.declared.statements.Statement.{Statement}
 use Rattle.dma_script.specs.declared.statements.Statement.TheVariants.{Write, Read, Copy, Submit, Issue, Pause, Resume, Terminate, Step, Status, Result as Outcome, Mark, Unmark, Raise, Totals}
 use Rattle.dmasim.specs.declared.copies.TheConstants.{MOST_STEPS}
-use Rattle.dmasim.specs.Printed.{transfer_fault_name, fault_text, refused_line, reply_text, call_line}
+use Rattle.dmasim.specs.Printed.{transfer_fault_name, refused_line, reply_text, call_line}
 
 -- the lines that a line of the script prints, and the view after it
 abbrev pub Answered : Type 0
@@ -171,13 +170,3 @@ printed input = printed_of (run_script_of input)
 pub record AnswersLine (answered : Answered) (new : View) (out out' : List ℕ) : Type 0 where
   pub acts : new ≡ answered.1
   pub prints : out' ≡ out ++ text_of answered.0
-
--- Equal answers that follow each other are counted: with those that are still to come, the lines before and the lines of the
--- answers that are counted give this text.
-abbrev pub text_with : ℕ → List ℕ → List ℕ → ℕ → List (List ℕ) → List ℕ
-text_with ch lines answer count rest = lines ++ text_of (step_lines ch (replicate count answer ++ rest))
-
--- no reply is want of memory
-abbrev pub AreServed : List Reply → Type 0
-AreServed [] = Unit {0}
-AreServed (reply ∷ rest) = (reply ≢ Refused NoMemory) × AreServed rest

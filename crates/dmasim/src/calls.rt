@@ -1,11 +1,10 @@
-//! The lines of a script that are one call.
+//! The lines of a script that are one call, and the totals.
 ghost use Rattle.std.specs.Prelude.{◌≡◌, ◌≢◌, ◌++◌, ◌∷◌, [], Some, None, OnOk, OnErr, IfOk, length};
-ghost use Rattle.dma_mem.specs.Rules.{refusal_of};
 ghost use Rattle.dma_engine.specs.Answer.{answer};
 ghost use Rattle.dma_engine.specs.View.{object_of, running};
 ghost use Rattle.dma_script.specs.Command.{text_of};
 ghost use Rattle.dmasim.specs.Printed.{refused_line, transfer_fault_name};
-ghost use Rattle.dmasim.specs.Run.{AnswersLine, call_answer, submit_answer, told, totals_of};
+ghost use Rattle.dmasim.specs.Run.{AnswersLine, call_answer, submit_answer, totals_of};
 
 use crate::printing::{call_line, push_refused, transfer_fault_name};
 use dma_engine::run::run;
@@ -62,11 +61,7 @@ pub fn write_line(
 }
 
 /// Appends what a transfer that breaks a rule prints. Where memory was refused it prints nothing and the script ends.
-pub fn push_unfit(
-    alloc: Global,
-    out: &mut Vec<u8>,
-    fault: TransferFault,
-) -> Result<(), AllocError>
+pub fn push_unfit(alloc: Global, out: &mut Vec<u8>, fault: TransferFault) -> Result<(), AllocError>
     ensures ok { OnOk result ((fault ≢ TransferFault.NoMemory) × (out.new.items ≡ out.old.items ++ text_of (refused_line (transfer_fault_name fault) ∷ []))) }
     ensures err { OnErr result (out.new.items ≡ out.old.items) }
 {

@@ -1,7 +1,7 @@
 //! The lines of a script that copy: submitted to channel 0, issued, and stepped through.
-ghost use Rattle.std.specs.Prelude.{◌≡◌, ◌++◌, ◌∷◌, [], OnOk, OnErr, IfOk};
+ghost use Rattle.std.specs.Prelude.{◌≡◌, OnOk, OnErr, IfOk};
 ghost use Rattle.dma_engine.specs.Answer.{answer};
-ghost use Rattle.dmasim.specs.Run.{AnswersLine, carried_through, copied, copied_after, copy_answer, goes_on, is_in_use, is_refused, stepped_through};
+ghost use Rattle.dmasim.specs.Run.{AnswersLine, carried_through, copied_after, copy_answer, goes_on, is_in_use, is_refused, stepped_through};
 
 use crate::calls::{push_unfit, reply_to};
 use crate::printing::{push_refused, push_reply, push_text};
@@ -56,11 +56,7 @@ fn is_refused(reply: &Reply) -> bool
 }
 
 /// Issues what was submitted to channel 0 and steps through it.
-fn carry_through(
-    alloc: Global,
-    engine: &mut Engine,
-    out: &mut Vec<u8>,
-) -> Result<(), AllocError>
+fn carry_through(alloc: Global, engine: &mut Engine, out: &mut Vec<u8>) -> Result<(), AllocError>
     ensures ok { OnOk result (AnswersLine (carried_through engine.old.view) engine.new.view out.old.items out.new.items) }
     ensures err { OnErr result (out.new.items ≡ out.old.items) }
 {

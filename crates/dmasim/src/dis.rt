@@ -1,7 +1,7 @@
 //! The command `dis`: it prints the text of a program's bytes.
-ghost use Rattle.std.specs.Prelude.{◌≡◌, ◌≢◌, ◌≤◌, ◌+◌, ◌++◌, ◌∷◌, [], OnOk, OnErr, IfOk, IfSome};
+ghost use Rattle.std.specs.Prelude.{◌≡◌, ◌≤◌, ◌+◌, ◌++◌, ◌∷◌, [], OnOk, OnErr, IfOk, IfSome};
 ghost use Rattle.dma_insn.specs.declared.codec.DecodeFault.{DecodeFault};
-ghost use Rattle.dma_script.specs.Command.{AppendsGroups, Ends, failures, printed_text, printed_within, text_of};
+ghost use Rattle.dma_script.specs.Command.{Ends, failures, printed_text, printed_within, text_of};
 ghost use Rattle.dmasim.specs.Disassembled.{DisPrints, decode_fault_line, dis_printed, lines_from, lines_printed};
 
 use dma_insn::codec::DecodeFault;

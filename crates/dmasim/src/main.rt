@@ -1,4 +1,4 @@
-//! dmasim carries out scripts of a DMA controller.
+//! dmasim assembles, disassembles and plans channel programs, and carries out scripts of a DMA controller.
 #![tactic(auto)]
 
 mod asm;
@@ -8,9 +8,9 @@ mod dis;
 mod plan;
 mod printing;
 mod run;
-mod steps;
 #[cfg(test)]
 mod run_tests;
+mod steps;
 #[cfg(test)]
 mod tests;
 
@@ -18,17 +18,15 @@ use asm::asm_main;
 use clap::error::ErrorKind;
 use clap::{Command, Error};
 use dis::dis_main;
+use dma_script::command::{FAULT, OUT_OF_MEMORY};
 use plan::plan_main;
 use run::run_script;
 use std::alloc::Global;
 use std::process::ExitCode;
 use std::{env, io};
 
-const FAULT: u8 = 1;
-
+/// The exit status of any other command line.
 const WRONG_ARGUMENTS: u8 = 2;
-
-const OUT_OF_MEMORY: u8 = 3;
 
 /// The subcommand that the words of the command line name.
 fn subcommand<'a>(alloc: Global, words: &'a [String]) -> Result<Option<&'a str>, Error> {

@@ -57,11 +57,7 @@ pub fn push_text(line: &mut Vec<u8>, text: &str) -> Result<(), AllocError>
 }
 
 /// A refusal of a call, at the end.
-fn push_fault(
-    alloc: Global,
-    line: &mut Vec<u8>,
-    fault: EngineFault,
-) -> Result<(), AllocError>
+fn push_fault(alloc: Global, line: &mut Vec<u8>, fault: EngineFault) -> Result<(), AllocError>
     ensures { OnOk result (line.new.items ≡ line.old.items ++ fault_text fault) }
 {
     match fault {
@@ -149,11 +145,7 @@ fn push_number(alloc: Global, line: &mut Vec<u8>, number: u32) -> Result<(), All
 }
 
 /// `refused NAME`, at the end.
-fn push_refusal(
-    alloc: Global,
-    line: &mut Vec<u8>,
-    fault: EngineFault,
-) -> Result<(), AllocError>
+fn push_refusal(alloc: Global, line: &mut Vec<u8>, fault: EngineFault) -> Result<(), AllocError>
     ensures { OnOk result (line.new.items ≡ line.old.items ++ refused_line (fault_text fault)) }
 {
     push_text(line, "refused ")?;

@@ -5,7 +5,8 @@ ghost use Rattle.dma_engine.specs.declared.call.Reply.TheVariants as replies;
 ghost use Rattle.dma_engine.specs.declared.fault.EngineFault.TheVariants as faults;
 ghost use Rattle.dma_script.specs.Command.{text_of};
 ghost use Rattle.dmasim.specs.Printed.{reply_text};
-ghost use Rattle.dmasim.specs.Run.{AnswersLine, AreServed, step_answer, step_line, text_with};
+ghost use Rattle.dmasim.specs.Counting.{AreServed, text_with};
+ghost use Rattle.dmasim.specs.Run.{AnswersLine, step_answer, step_line};
 
 use crate::printing::{push_reply, push_text};
 use dma_engine::run::run;

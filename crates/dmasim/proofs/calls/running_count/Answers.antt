@@ -1,9 +1,7 @@
-use Rattle.std.proofs.Common.{◌≡◌, ℕ, ◌+◌, ◌≤◌, ◌∙◌, ap, sym, arith, length, true, false}
+use Rattle.std.proofs.Common.{◌≡◌, ◌+◌, ◌∙◌, ap, sym, arith, length, true, false}
 use Rattle.std.specs.Prelude.{is_some}
 use Rattle.std.specs.List.{filter_map, range_with_len}
-use Rattle.dma_engine.specs.View.{object_of, runs, running_on}
-use Rattle.dma_engine.specs.declared.turn.Running.{Running}
-use Rattle.dma_chan.specs.Traffic.{stored_after}
+use Rattle.dma_engine.specs.View.{object_of, runs}
 use Rattle.dmasim.proofs.RunLemmas.{counted, counted-within, is_some-told, running-is}
 use Rattle.dmasim.proofs.calls.running_count.Goals as goal
 use Rattle.dmasim.proofs.calls.running_count.Goals.{then-is_some, else-is_some}

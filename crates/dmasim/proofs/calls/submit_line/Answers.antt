@@ -1,10 +1,10 @@
-use Rattle.std.proofs.Common.{◌≡◌, ◌∙◌, ap, sym, subst, List, ℕ, None}
+use Rattle.std.proofs.Common.{◌≡◌, ◌∙◌, ap, sym, subst, None}
 use Rattle.std.specs.Prelude.{OnOk}
 use Rattle.std.proofs.lemmas.Result.{on_ok_weaker}
 use Rattle.dma_mem.specs.Places.{Descriptor}
 use Rattle.dma_mem.specs.Rules.{refusal_of}
 use Rattle.dma_engine.specs.declared.call.Call.TheVariants.{Submit}
-use Rattle.dmasim.specs.Run.{AnswersLine, call_answer, submitted, submit_answer}
+use Rattle.dmasim.specs.Run.{AnswersLine, call_answer, submitted}
 use Rattle.dmasim.proofs.RunLemmas.{unfit, unless_unfit-none}
 use Rattle.dmasim.proofs.calls.submit_line.Goals as goal
 

@@ -1,12 +1,10 @@
-use Rattle.std.proofs.Common.{◌≡◌, ◌∙◌, ap, sym, subst, List, ℕ, None, true, false, refl, if◌then◌else◌, ◌++◌, codes, Bool}
-use Rattle.std.specs.Prelude.{OnOk}
+use Rattle.std.proofs.Common.{◌≡◌, ◌∙◌, ap, sym, subst, None, true, false, refl}
 use Rattle.std.proofs.lemmas.Result.{on_ok_weaker}
 use Rattle.dma_mem.specs.Places.{Descriptor}
 use Rattle.dma_mem.specs.Rules.{refusal_of}
 use Rattle.dma_engine.specs.Answer.{answer}
 use Rattle.dma_engine.specs.declared.call.Call.TheVariants.{Submit}
-use Rattle.dmasim.specs.Printed.{refused_line}
-use Rattle.dmasim.specs.Run.{Answered, AnswersLine, copied, copied_after, is_in_use, plain_copy, told}
+use Rattle.dmasim.specs.Run.{Answered, AnswersLine, copied, copied_after, is_in_use, plain_copy}
 use Rattle.dmasim.proofs.RunLemmas.{unfit, unless_unfit-none, where_used, where_free}
 use Rattle.dmasim.proofs.copies.answer_copy.Goals as goal
 

@@ -1,4 +1,4 @@
-use Rattle.std.proofs.Common.{◌≡◌, ℕ, ◌+◌, ◌-◌, ap, sym, ◌∙◌, arith, zero, suc}
+use Rattle.std.proofs.Common.{◌≡◌, ℕ, ◌+◌, ◌-◌, ap, sym, ◌∙◌, arith, suc}
 use Rattle.std.proofs.lemmas.Result.{IfOk-weaker}
 use Rattle.dmasim.specs.declared.copies.TheConstants.{MOST_STEPS}
 use Rattle.dmasim.specs.Run.{stepped_through}

@@ -1,4 +1,4 @@
-use Rattle.std.proofs.Common.{◌++◌, ◌≡◌, ap, ◌∙◌, append_assoc, codes}
+use Rattle.std.proofs.Common.{◌++◌, ap, ◌∙◌, append_assoc, codes}
 use Rattle.std.proofs.lemmas.Result.{on_ok_weaker}
 use Rattle.dma_script.specs.Printing.{hex_address}
 use Rattle.dmasim.proofs.printing.push_call.Goals as goal

@@ -1,7 +1,5 @@
-use Rattle.std.proofs.Common.{◌++◌, ◌≡◌, ◌∙◌, List, ℕ, subst, codes, append_assoc}
-use Rattle.std.specs.Prelude.{OnOk, string_bytes, decimal}
-use Rattle.std.proofs.lemmas.List.{append-nil}
-use Rattle.dmasim.specs.Printed.{fault_text}
+use Rattle.std.proofs.Common.{◌++◌, ◌≡◌, codes, append_assoc}
+use Rattle.std.specs.Prelude.{string_bytes, decimal}
 use Rattle.dmasim.proofs.printing.push_fault.Goals as goal
 
 pub returns-in_ok-text-in-Busy : goal.returns-in_ok-text-in-Busy

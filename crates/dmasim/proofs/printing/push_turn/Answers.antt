@@ -1,6 +1,5 @@
 use Rattle.std.proofs.Common.{◌++◌, ◌≡◌, codes, append_assoc}
 use Rattle.std.specs.Prelude.{string_bytes, decimal}
-use Rattle.std.proofs.lemmas.List.{append-nil}
 use Rattle.dmasim.proofs.printing.push_turn.Goals as goal
 
 pub returns-in_ok-text-in-Held : goal.returns-in_ok-text-in-Held

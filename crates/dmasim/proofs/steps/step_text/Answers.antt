@@ -1,10 +1,7 @@
-use Rattle.std.proofs.Common.{◌≡◌, ◌≤◌, ◌+◌, ◌-◌, ◌++◌, [], ◌∙◌, List, ℕ, ap, sym, map, length, take, arith}
+use Rattle.std.proofs.Common.{◌≡◌, ◌≤◌, ◌+◌, ◌-◌, ◌++◌, [], ◌∙◌, ℕ, ap, map, length, take, arith}
 use Rattle.std.specs.Prelude.{replicate}
 use Rattle.std.proofs.lemmas.List.{append-nil, take-replicate, length-replicate}
-use Rattle.dma_engine.specs.declared.call.Call.{Call}
 use Rattle.dma_engine.specs.declared.call.Call.TheVariants.{Step}
-use Rattle.dma_engine.specs.declared.call.Reply.{Reply}
-use Rattle.dma_engine.specs.View.{View}
 use Rattle.dma_engine.specs.Answer.{answers}
 use Rattle.dma_script.specs.Command.{text_of}
 use Rattle.dmasim.specs.Printed.{reply_text}
@@ -30,7 +27,7 @@ loop-left-preserved c =
       counted = omega (arith, c.in_ok-take_steps.ensures.count, inv.counted, size, within, inv.left);
       view = c.in_ok-take_steps.ensures.view ∙ more-view v w step _ (c.args.count - left) many _ sum inv.view calls;
       text = λ rest. c.in_ok-take_steps.ensures.text rest ∙ inv.text _
-        ∙ ap (λ l. text_of (step_lines c.args.ch l)) (more-texts v w step _ (c.args.count - left) many _ rest sum inv.view calls);
+          ∙ ap (λ l. text_of (step_lines c.args.ch l)) (more-texts v w step _ (c.args.count - left) many _ rest sum inv.view calls);
     }
 
 pub returns-clause-text : goal.returns-clause-text

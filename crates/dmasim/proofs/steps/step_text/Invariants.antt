@@ -4,7 +4,8 @@ use Rattle.dma_engine.specs.declared.call.Call.TheVariants.{Step}
 use Rattle.dma_engine.specs.Answer.{answers}
 use Rattle.dma_script.specs.Command.{text_of}
 use Rattle.dmasim.specs.Printed.{reply_text}
-use Rattle.dmasim.specs.Run.{step_lines, text_with}
+use Rattle.dmasim.specs.Counting.{text_with}
+use Rattle.dmasim.specs.Run.{step_lines}
 use Rattle.dmasim.proofs.steps.step_text.Given as goal
 
 abbrev pub decreases-loop-left : goal.decreases-loop-left

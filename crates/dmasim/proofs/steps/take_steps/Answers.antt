@@ -1,9 +1,8 @@
-use Rattle.std.proofs.Common.{◌≡◌, ◌+◌, ◌≤◌, ◌++◌, List, ℕ, map, length, ap, sym, ◌∙◌, arith, subst}
+use Rattle.std.proofs.Common.{◌++◌, List, map, length, ap, ◌∙◌, arith, subst}
 use Rattle.dma_engine.specs.declared.call.Reply.{Reply}
 use Rattle.dma_engine.specs.View.{View}
-use Rattle.dma_engine.specs.Answer.{answers}
 use Rattle.dmasim.specs.Printed.{reply_text}
-use Rattle.dmasim.specs.Run.{AreServed, text_with}
+use Rattle.dmasim.specs.Counting.{AreServed, text_with}
 use Rattle.dmasim.proofs.Served.{one-each, served-all}
 use Rattle.dmasim.proofs.steps.take_steps.Goals as goal
 
@@ -23,7 +22,7 @@ returns-clause-text c =
     let served = subst AreServed c.deref.ensures.value c.in_ok-take_all.ensures.served in
     let all = ap (λ (a : List Reply × View). a.0) (served-all c.args.engine.now.view c.args.calls.now c.in-Ok.replies.items c.run.new.engine.view served c.in-Ok.ensures.answers) in
     λ rest. c.in_ok-take_all.ensures.text rest
-      ∙ ap (λ (l : List Reply). text_with c.args.ch told.lines.items told.last.items told.count (map reply_text l ++ rest)) (c.deref.ensures.value ∙ all)
+    ∙ ap (λ (l : List Reply). text_with c.args.ch told.lines.items told.last.items told.count (map reply_text l ++ rest)) (c.deref.ensures.value ∙ all)
 
 pub returns-clause-count : goal.returns-clause-count
 returns-clause-count c =

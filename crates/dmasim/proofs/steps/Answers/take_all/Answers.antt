@@ -1,8 +1,7 @@
-use Rattle.std.proofs.Common.{◌≡◌, ◌+◌, ◌≤◌, ◌++◌, ◌∷◌, [], List, ℕ, map, take, ap, sym, ◌∙◌, arith, subst, append_assoc}
+use Rattle.std.proofs.Common.{◌≡◌, ◌+◌, ◌++◌, ◌∷◌, [], List, ℕ, map, take, ap, sym, ◌∙◌, arith, subst, append_assoc}
 use Rattle.std.proofs.lemmas.List.{take_more, map-append}
-use Rattle.dma_engine.specs.declared.call.Reply.{Reply}
 use Rattle.dmasim.specs.Printed.{reply_text}
-use Rattle.dmasim.specs.Run.{AreServed, text_with}
+use Rattle.dmasim.specs.Counting.{AreServed, text_with}
 use Rattle.dmasim.proofs.Served.{AreServed-push}
 use Rattle.dmasim.proofs.steps.Answers.take_all.Goals as goal
 
@@ -15,11 +14,11 @@ loop-reply-preserved c =
     let first = c.args.self.now in
     let next : take (i + 1) replies ≡ take i replies ++ reply ∷ [] = take_more replies i reply (omega (arith, c.loop-reply-test.true)) ∙ ap (λ x. take i replies ++ x ∷ []) (sym c.reply-item.is) in
     let texts : (rest : List (List ℕ)) → map reply_text (take i replies) ++ reply_text reply ∷ rest ≡ map reply_text (take (i + 1) replies) ++ rest =
-      λ rest. sym (append_assoc (map reply_text (take i replies)) (reply_text reply ∷ []) rest)
-      ∙ ap (λ l. l ++ rest) (sym (map-append reply_text (take i replies) (reply ∷ [])) ∙ ap (map reply_text) (sym next)) in
+    λ rest. sym (append_assoc (map reply_text (take i replies)) (reply_text reply ∷ []) rest)
+    ∙ ap (λ l. l ++ rest) (sym (map-append reply_text (take i replies) (reply ∷ [])) ∙ ap (map reply_text) (sym next)) in
     record {
       served = subst AreServed (sym next) (AreServed-push (take i replies) reply inv.served c.in_ok-take.ensures.served);
       text = λ rest. c.in_ok-take.ensures.text rest ∙ inv.text (reply_text reply ∷ rest)
-        ∙ ap (λ l. text_with c.args.ch first.lines.items first.last.items first.count l) (texts rest);
+          ∙ ap (λ l. text_with c.args.ch first.lines.items first.last.items first.count l) (texts rest);
       count = omega (arith, inv.count, c.in_ok-take.ensures.count);
     }

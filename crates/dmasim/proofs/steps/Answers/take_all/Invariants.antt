@@ -1,6 +1,6 @@
 use Rattle.std.proofs.Common.{◌≡◌, ◌≤◌, ◌+◌, ◌++◌, List, ℕ, map, take}
 use Rattle.dmasim.specs.Printed.{reply_text}
-use Rattle.dmasim.specs.Run.{AreServed, text_with}
+use Rattle.dmasim.specs.Counting.{AreServed, text_with}
 use Rattle.dmasim.proofs.steps.Answers.take_all.Given as goal
 
 abbrev pub invariant-loop-reply : goal.invariant-loop-reply
