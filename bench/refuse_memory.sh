@@ -1,28 +1,33 @@
 #!/bin/sh
-# Runs the stored script with its first, second and each further request for memory refused in turn, until a run meets none.
-# Each such run must end with status 3 and print a beginning of the whole output, in whole lines. By hand: a run takes half
-# a minute, since each is built anew.
+# Runs the stored script with its first, second and each further request for memory refused in turn. A run in which a refusal
+# mattered must end with status 3 and print a beginning of the whole output, in whole lines; one that made do without must
+# end with status 0 and print it all. Ends after eight of these in a row, which is past the last request. By hand: a run takes
+# some 20 seconds, since each is built anew.
 #
 #     bench/refuse_memory.sh [FIRST]
 cd "$(dirname "$0")/../crates/dmasim" || exit 1
 number=${1:-1}
+refused=0
+without=0
+row=0
 wrong=0
 printed=$(mktemp)
-while :; do
-    rt try --fail-alloc "$number" -- run <stdin >"$printed" 2>/dev/null
-    summary=$(grep '^run=' "$printed")
-    grep -v '^run=' "$printed" >"$printed.lines"
-    case $summary in
-    *"status=0"*) break ;;
-    *"status=3"*) ;;
-    *) echo "request $number: $summary"; wrong=$((wrong + 1)) ;;
+while [ "$row" -lt 8 ]; do
+    rt try --fail-alloc "$number" -- run <stdin >"$printed" 2>"$printed.log"
+    status=$?
+    case $status in
+    3) refused=$((refused + 1)); without=$((without + row)); row=0 ;;
+    0) row=$((row + 1)) ;;
     esac
-    if ! head -c "$(wc -c <"$printed.lines")" stdout | cmp -s - "$printed.lines"; then
-        echo "request $number: not a beginning of the output"
+    size=$(wc -c <"$printed")
+    whole=$(wc -c <stdout)
+    if { [ "$status" -ne 3 ] && [ "$status" -ne 0 ]; } || { [ "$status" -eq 0 ] && [ "$size" -ne "$whole" ]; } ||
+        ! head -c "$size" stdout | cmp -s - "$printed" || { [ "$size" -gt 0 ] && [ -n "$(tail -c 1 "$printed")" ]; }; then
+        echo "request $number: status $status, $size bytes"
         wrong=$((wrong + 1))
     fi
     number=$((number + 1))
 done
-rm -f "$printed" "$printed.lines"
-echo "$((number - 1)) requests refused in turn, $wrong wrong"
+rm -f "$printed" "$printed.log"
+echo "$((refused + without)) requests: $refused ended the run, $without were made do without, $wrong wrong"
 [ "$wrong" -eq 0 ]
