@@ -2,6 +2,7 @@ pub mod RunLemmas
 pub mod Served
 pub mod StepLemmas
 pub mod CopyLemmas
+pub mod CopyEnds
 pub mod DisLemmas
 pub mod PlanLemmas
 pub mod AsmLemmas

@@ -4,14 +4,14 @@ use Rattle.std.specs.Str.{bytes_eq}
 use Rattle.dma_mem.specs.declared.segment.Segment.{Segment}
 use Rattle.dma_mem.specs.declared.transfer.TransferFault.{TransferFault}
 use Rattle.dma_mem.specs.Places.{Descriptor}
-use Rattle.dma_mem.specs.Rules.{refusal_of}
+use Rattle.dma_mem.specs.Rules.{IsTransfer, refusal_of}
 use Rattle.dma_engine.specs.declared.call.Call.{Call}
 use Rattle.dma_engine.specs.declared.call.Call.TheVariants as calls
 use Rattle.dma_engine.specs.declared.call.Reply.{Reply}
-use Rattle.dma_engine.specs.declared.call.Reply.TheVariants.{Turned, Refused}
+use Rattle.dma_engine.specs.declared.call.Reply.TheVariants.{Turned, Cookie, Refused}
 use Rattle.dma_engine.specs.declared.turn.Turn.TheVariants.{Started, Moved}
 use Rattle.dma_engine.specs.Object.{channel, unfinished}
-use Rattle.dma_engine.specs.View.{View, new_view, object_of, schedule_at, running}
+use Rattle.dma_engine.specs.View.{View, IsSound, new_view, object_of, schedule_at, running}
 use Rattle.dma_engine.specs.Answer.{answer, answers}
 use Rattle.dma_script.specs.Command.{Printed, refusal, text_of}
 use Rattle.dma_script.specs.Statements.{run_script_of}
@@ -99,8 +99,7 @@ stepped_through (suc n) v =
 abbrev pub copy_line : Reply → List ℕ
 copy_line reply = codes "copy " ++ reply_text reply
 
--- What was submitted to channel 0 is issued and stepped through. (Every transfer takes fewer steps than
--- MOST_STEPS: see `CostIs` of dma_chan.)
+-- What was submitted to channel 0 is issued and stepped through. (No copy is cut off by MOST_STEPS: see `CopiesEnd`.)
 abbrev pub carried_through : View → Answered
 carried_through v =
     let last = stepped_through MOST_STEPS (answer v (calls.Issue 0)).1 in told (copy_line last.0) last.1
@@ -122,6 +121,14 @@ plain_copy src dst = record { src = src; dst = dst; wait = None; signal = None }
 
 abbrev pub copy_answer : View → List Segment → List Segment → Answered
 copy_answer v src dst = unless_unfit (refusal_of (plain_copy src dst)) v (copied v (plain_copy src dst))
+
+-- The steps of a copy end by themselves: where channel 0 of a sound view isn't in use, and a transfer is submitted to it and
+-- issued, the last answer of its steps is one after which no copy goes on. So no copy is cut off by MOST_STEPS.
+abbrev pub CopiesEnd : Type 0
+CopiesEnd =
+    (v : View) (t : Descriptor) (cookie : ℕ) (w : View) → IsSound v → IsTransfer t → is_in_use v ≡ false →
+    answer v (calls.Submit 0 t) ≡ (Cookie cookie, w) →
+    goes_on (stepped_through MOST_STEPS (answer w (calls.Issue 0)).1).0 ≡ false
 
 -- ---- whole scripts
 

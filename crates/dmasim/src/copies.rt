@@ -1,7 +1,7 @@
 //! The lines of a script that copy: submitted to channel 0, issued, and stepped through.
 ghost use Rattle.std.specs.Prelude.{◌≡◌, OnOk, OnErr, IfOk};
 ghost use Rattle.dma_engine.specs.Answer.{answer};
-ghost use Rattle.dmasim.specs.Run.{AnswersLine, carried_through, copied_after, copy_answer, goes_on, is_in_use, is_refused, stepped_through};
+ghost use Rattle.dmasim.specs.Run.{AnswersLine, CopiesEnd, carried_through, copied_after, copy_answer, goes_on, is_in_use, is_refused, stepped_through};
 
 use crate::calls::{push_unfit, reply_to};
 use crate::printing::{push_refused, push_reply, push_text};
@@ -11,7 +11,8 @@ use dma_mem::transfer::Transfer;
 use dma_script::printing::push_line;
 use std::alloc::{AllocError, Global};
 
-/// More steps than any transfer takes, which are its start and fewer than 2^19 instructions (`dma_chan::laws::costs_little`).
+/// At least as many steps as any transfer takes, which are its start and fewer than 2^19 instructions
+/// (`dma_chan::laws::costs_little`). So no copy is cut off by it: that is the law `copies_end`.
 pub const MOST_STEPS: u32 = 524_288;
 
 /// Whether channel 0 has an unfinished cookie, or is paused or halted.
@@ -107,3 +108,8 @@ pub fn answer_copy(
     }
     copy_through(alloc, engine, transfer, out)
 }
+
+/// The law that a copy is stepped until its last answer: no copy takes so many steps that the loop ends by its own bound.
+pub fn copies_end()
+    ensures { CopiesEnd }
+{}

@@ -199,6 +199,20 @@ fn copies_of_a_controller(rt: HostRuntime) -> Result<(), Fail> {
 }
 
 #[test]
+fn the_longest_copy_from_odd_addresses(rt: HostRuntime) -> Result<(), Fail> {
+    let ran = run(
+        rt.alloc(),
+        b"memory 0x400000 1\ncopy 0x1+1048576 to 0x200001+1048576\n",
+    );
+    assert_eq!(rt; ran.0, 0);
+    assert_eq!(rt;
+        ran.1.as_slice(),
+        b"copy finished 1 NoError residue 0\n".as_slice()
+    );
+    Ok(())
+}
+
+#[test]
 fn channels_that_are_not_there(rt: HostRuntime) -> Result<(), Fail> {
     let ran = run(
         rt.alloc(),
