@@ -1,15 +1,14 @@
 //! The engine.
 
-ghost use Rattle.std.specs.Prelude.{◌≡◌, ◌+◌, ◌-◌, ◌<◌, ◌≤◌, ℕ, IfOk, IfErr, OnOk, None, unwrap_or, length, take, drop, IfSome, slice_index_or, replicate, ◌++◌, ◌∷◌, [], if◌then◌else◌};
+ghost use Rattle.std.specs.Prelude.{◌≡◌, ◌+◌, ◌-◌, ◌<◌, ◌≤◌, IfOk, IfErr, OnOk, None, unwrap_or, length, take, drop, IfSome, slice_index_or, replicate, ◌++◌, ◌∷◌, [], if◌then◌else◌};
 ghost use Rattle.std.specs.Option.{option_map};
-ghost use Rattle.dma_mem.specs.Places.{Descriptor};
 ghost use Rattle.dma_mem.specs.Rules.{IsTransfer};
-ghost use Rattle.dma_engine.specs.Object.{channel, used, finished, unfinished, issued_front, no_transfer, aborted, is_failure};
+ghost use Rattle.dma_engine.specs.Object.{channel, used, finished, unfinished, no_transfer, aborted, is_failure};
 ghost use Rattle.dma_engine.specs.View.{size, channels, object_of, schedule_at, runs, running_on, new_fault, new_view, memory_of, IsSound};
 ghost use Rattle.dma_engine.specs.Answer.{Answers, Steps, reply_of, checked, submit_fault, submit_reply, status_in, result_of, first_running, named, done_on};
 ghost use Rattle.dma_engine.specs.Ways.{is_in_the_way};
 ghost use Rattle.dma_engine.specs.Holds.{new_queue};
-ghost use Rattle.dma_engine.specs.Due.{IsDue, MayStart, Waits, Signals, GoesOn, Finishes, failure_of};
+ghost use Rattle.dma_engine.specs.Due.{front_told, running_told, IsDue, MayStart, Waits, Signals, GoesOn, Finishes, failure_of};
 
 use crate::call::{Call, Reply};
 use crate::entry::{Entry, Signaller};
@@ -281,8 +280,7 @@ impl Engine {
     // The issued front of a channel, with its cookie.
     fn front(&self, index: usize) -> Option<(&Transfer, u32)>
         requires { index < channels self.now.view }
-        ensures { option_map {U = Descriptor × ℕ} (λ p. (p.0.now, p.1)) result
-            ≡ option_map {U = Descriptor × ℕ} (λ t. (t, finished (channel (object_of self.now.view) index) + 1)) (issued_front (channel (object_of self.now.view) index)) }
+        ensures { option_map (λ p. (p.0.now, p.1)) result ≡ front_told (channel (object_of self.now.view) index) }
     {
         let queue = &self.queues[index];
         let finished = queue.outcomes.len();
@@ -302,8 +300,7 @@ impl Engine {
     // The transfer that runs on a channel, with its cookie.
     fn running_transfer(&self, index: usize) -> Option<(&Transfer, u32)>
         requires { index < channels self.now.view }
-        ensures { option_map {U = Descriptor × ℕ} (λ p. (p.0.now, p.1)) result
-            ≡ option_map {U = Descriptor × ℕ} (λ r. (r.transfer, r.cookie)) (runs (object_of self.now.view) self.now.view.schedule index) }
+        ensures { option_map (λ p. (p.0.now, p.1)) result ≡ running_told self.now.view index }
     {
         let queue = &self.queues[index];
         if queue.channel.is_loaded() {

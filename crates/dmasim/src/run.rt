@@ -25,43 +25,40 @@ fn carry_out(
     ensures ok { OnOk result (AnswersLine (line_answer engine.old.view statement.now) engine.new.view out.old.items out.new.items) }
     ensures err { OnErr result (out.new.items ≡ out.old.items) }
 {
-    match statement {
+    let call = match statement {
         Statement::Write { addr, bytes } => {
-            write_line(alloc, engine, *addr, bytes.as_slice(), out)
+            return write_line(alloc, engine, *addr, bytes.as_slice(), out);
         }
         Statement::Copy { src, dst } => {
-            answer_copy(alloc, engine, src.as_slice(), dst.as_slice(), out)
+            return answer_copy(alloc, engine, src.as_slice(), dst.as_slice(), out);
         }
-        Statement::Submit { ch, transfer } => submit_line(alloc, engine, *ch, transfer, out),
-        Statement::Step { ch, count } => answer_steps(alloc, engine, *ch, *count, out),
-        Statement::Totals => totals_line(alloc, engine, out),
-        Statement::Read(segment) => {
-            let (addr, len) = (segment.addr, segment.len);
-            answer_call(alloc, engine, &Call::Read { addr, len }, out)
-        }
-        Statement::Issue { ch } => answer_call(alloc, engine, &Call::Issue { ch: *ch }, out),
-        Statement::Pause { ch } => answer_call(alloc, engine, &Call::Pause { ch: *ch }, out),
-        Statement::Resume { ch } => answer_call(alloc, engine, &Call::Resume { ch: *ch }, out),
-        Statement::Terminate { ch } => {
-            answer_call(alloc, engine, &Call::Terminate { ch: *ch }, out)
-        }
-        Statement::Status { ch, cookie } => {
-            let (ch, cookie) = (*ch, *cookie);
-            answer_call(alloc, engine, &Call::Status { ch, cookie }, out)
-        }
-        Statement::Result { ch, cookie } => {
-            let (ch, cookie) = (*ch, *cookie);
-            answer_call(alloc, engine, &Call::Result { ch, cookie }, out)
-        }
-        Statement::Mark { kind, segment } => {
-            let (kind, segment) = (*kind, *segment);
-            answer_call(alloc, engine, &Call::Mark { kind, segment }, out)
-        }
-        Statement::Unmark => answer_call(alloc, engine, &Call::Unmark, out),
-        Statement::Raise { event } => {
-            answer_call(alloc, engine, &Call::Raise { event: *event }, out)
-        }
-    }
+        Statement::Submit { ch, transfer } => return submit_line(alloc, engine, *ch, transfer, out),
+        Statement::Step { ch, count } => return answer_steps(alloc, engine, *ch, *count, out),
+        Statement::Totals => return totals_line(alloc, engine, out),
+        Statement::Read(segment) => Call::Read {
+            addr: segment.addr,
+            len: segment.len,
+        },
+        Statement::Issue { ch } => Call::Issue { ch: *ch },
+        Statement::Pause { ch } => Call::Pause { ch: *ch },
+        Statement::Resume { ch } => Call::Resume { ch: *ch },
+        Statement::Terminate { ch } => Call::Terminate { ch: *ch },
+        Statement::Status { ch, cookie } => Call::Status {
+            ch: *ch,
+            cookie: *cookie,
+        },
+        Statement::Result { ch, cookie } => Call::Result {
+            ch: *ch,
+            cookie: *cookie,
+        },
+        Statement::Mark { kind, segment } => Call::Mark {
+            kind: *kind,
+            segment: *segment,
+        },
+        Statement::Unmark => Call::Unmark,
+        Statement::Raise { event } => Call::Raise { event: *event },
+    };
+    answer_call(alloc, engine, &call, out)
 }
 
 /// Carries out the lines of a script. Where memory is refused, what the lines before printed stands there.
