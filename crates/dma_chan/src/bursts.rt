@@ -7,7 +7,7 @@ ghost use Rattle.dma_insn.specs.declared.insn.Insn.TheVariants.{Ld, St};
 ghost use Rattle.dma_mem.specs.Image.{put};
 ghost use Rattle.dma_chan.specs.Registers.{is_control, burst_at, burst_len, touched, left_by, advance, span_of, rounds_of, source_of, destination_of};
 ghost use Rattle.dma_chan.specs.Marking.{reaches};
-ghost use Rattle.dma_chan.specs.Exec.{act, state};
+ghost use Rattle.dma_chan.specs.Exec.{act, fault_in, state};
 
 use crate::registers::Registers;
 use crate::turn::{ChanTurn, FaultKind};
@@ -195,6 +195,27 @@ pub(crate) fn load_burst(
     ChanTurn::Moved
 }
 
+// The fault that DMALD would answer.
+pub(crate) fn load_fault(
+    marks: &Marks,
+    registers: &Registers,
+    buffer: &HeapCircularBuffer<u8>,
+    memory: &Memory,
+) -> Option<FaultKind>
+    requires capacity { buffer.now.capacity ≡ 256 }
+    requires control { IsTrue (is_control registers.now.ccr) }
+    ensures { (flags : List Bool) → result ≡ fault_in (act marks.now Ld (state registers.now buffer.now.items memory.now flags)).0 }
+{
+    let burst = source_burst(registers);
+    if buffer.len() + burst.len() as usize > BUFFER_SIZE {
+        return Some(FaultKind::MfifoErr);
+    }
+    if !may_touch(MarkKind::Reading, marks, memory, burst) {
+        return Some(FaultKind::DataReadErr);
+    }
+    None
+}
+
 // Copies the oldest bytes of the buffer, as many as there is room for.
 fn copy_front(buffer: &HeapCircularBuffer<u8>, bytes: &mut [u8])
     requires { length bytes.old ≤ length buffer.now.items }
@@ -252,6 +273,26 @@ pub(crate) fn store_burst(
     registers.pc += 1;
     registers.dar += burst.advance();
     ChanTurn::Moved
+}
+
+// The fault that DMAST would answer.
+pub(crate) fn store_fault(
+    marks: &Marks,
+    registers: &Registers,
+    buffer: &HeapCircularBuffer<u8>,
+    memory: &Memory,
+) -> Option<FaultKind>
+    requires control { IsTrue (is_control registers.now.ccr) }
+    ensures { (flags : List Bool) → result ≡ fault_in (act marks.now St (state registers.now buffer.now.items memory.now flags)).0 }
+{
+    let burst = destination_burst(registers);
+    if buffer.len() < burst.len() as usize {
+        return Some(FaultKind::StDataUnavailable);
+    }
+    if !may_touch(MarkKind::Writing, marks, memory, burst) {
+        return Some(FaultKind::DataWriteErr);
+    }
+    None
 }
 
 // How many bytes a store moves now.

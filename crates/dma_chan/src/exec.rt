@@ -4,10 +4,11 @@ ghost use Rattle.std.specs.Prelude.{◌≡◌, ℕ, ◌+◌, ◌-◌, ◌≤◌,
 ghost use Rattle.dma_insn.specs.Spelling.{spelling};
 ghost use Rattle.dma_insn.specs.declared.insn.Insn.TheVariants.{Mov, Lp, LpEnd, Sev, Wfe};
 ghost use Rattle.dma_chan.specs.Registers.{is_control};
-ghost use Rattle.dma_chan.specs.Exec.{act, state};
+ghost use Rattle.dma_chan.specs.declared.registers.Registers.{Registers};
+ghost use Rattle.dma_chan.specs.Exec.{act, fault_in, state};
 ghost use Rattle.dma_mem.specs.Marking.{MarkList};
 
-use crate::bursts::{load_burst, store_burst};
+use crate::bursts::{load_burst, load_fault, store_burst, store_fault};
 use crate::registers::Registers;
 use crate::turn::{ChanTurn, FaultKind};
 use circular_buffer::HeapCircularBuffer;
@@ -154,5 +155,66 @@ pub(crate) fn execute(
         Insn::Sev(event) => signal(event, registers, events),
         Insn::Wfe { event, invalid } => wait(event, invalid, registers, events),
         Insn::End => ChanTurn::Ended,
+    }
+}
+
+// The fault that DMAMOV would answer.
+#[tactic(auto, unfolding(crate::specs::Registers::is_control))]
+fn set_fault(reg: Reg, value: u32) -> Option<FaultKind>
+    ensures { (marks : MarkList) (r : Registers) (buffer image : List ℕ) (flags : List Bool) → result ≡ fault_in (act marks (Mov reg value) (state r buffer image flags)).0 }
+{
+    match reg {
+        Reg::Sar => None,
+        Reg::Dar => None,
+        Reg::Ccr => {
+            if Control::from_bits(value).is_err() {
+                return Some(FaultKind::OperandInvalid);
+            }
+            None
+        }
+    }
+}
+
+// The fault that DMALPEND would answer.
+fn jump_fault(counter: Counter, back: u8, registers: &Registers) -> Option<FaultKind>
+    ensures { (marks : MarkList) (buffer image : List ℕ) (flags : List Bool) → result ≡ fault_in (act marks (LpEnd counter back) (state registers.now buffer image flags)).0 }
+{
+    let count = match counter {
+        Counter::Lc0 => registers.lc0,
+        Counter::Lc1 => registers.lc1,
+    };
+    if count == 0 {
+        return None;
+    }
+    if registers.pc < u32::from(back) {
+        return Some(FaultKind::InstrFetchErr);
+    }
+    None
+}
+
+// The fault that an instruction would answer. Nothing is executed.
+pub(crate) fn fault_of(
+    insn: Insn,
+    registers: &Registers,
+    buffer: &HeapCircularBuffer<u8>,
+    memory: &Memory,
+    marks: &Marks,
+) -> Option<FaultKind>
+    requires control { IsTrue (is_control registers.now.ccr) }
+    requires capacity { buffer.now.capacity ≡ 256 }
+    ensures { (flags : List Bool) → result ≡ fault_in (act marks.now insn (state registers.now buffer.now.items memory.now flags)).0 }
+{
+    match insn {
+        Insn::Mov(reg, value) => set_fault(reg, value),
+        Insn::Ld => load_fault(marks, registers, buffer, memory),
+        Insn::St => store_fault(marks, registers, buffer, memory),
+        Insn::LpEnd { counter, back } => jump_fault(counter, back, registers),
+        Insn::Rmb => None,
+        Insn::Wmb => None,
+        Insn::Nop => None,
+        Insn::Lp { .. } => None,
+        Insn::Sev(_) => None,
+        Insn::Wfe { .. } => None,
+        Insn::End => None,
     }
 }

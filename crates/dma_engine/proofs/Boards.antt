@@ -174,7 +174,7 @@ board-is o (e ∷ es) h a =
 -- ---- the readings
 
 -- what bounds a queue
-pub queue-small : (p : Parts) → Holds p → (ch : ℕ) (q : Queue) → ch < length p.queues → q ≡ slice_index_or p.queues ch q → (length q.places ≤ last_cookie) × (length q.outcomes ≤ length q.places)
+pub queue-small : (p : Parts) → Holds p → (ch : ℕ) (q : Queue) → ch < length p.queues → q ≡ slice_index_or p.queues ch q → (length q.places.items ≤ last_cookie) × (length q.outcomes.items ≤ length q.places.items)
 queue-small p h ch q less read =
     let v : View = view_of p in
     let at = holds-at p h ch q less read in

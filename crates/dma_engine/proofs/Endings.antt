@@ -120,12 +120,12 @@ can-have p h ch q less read =
     by _ refl
 
 -- the queue after a terminate
-abbrev pub queue_terminated : Queue → List Outcome → ℕ → Queue
-queue_terminated q outcomes issued =
-    record q { outcomes = q.outcomes ++ outcomes; issued = issued; paused = false; halted = false; channel = record (q.channel) { program = None } }
+abbrev pub queue_terminated : Queue → ℕ → List Outcome → ℕ → Queue
+queue_terminated q spare outcomes issued =
+    record q { outcomes = record { items = q.outcomes.items ++ outcomes; spare = spare }; issued = issued; paused = false; halted = false; channel = record (q.channel) { program = None } }
 
-pub holds-terminated : (p : Parts) (ch count issued : ℕ) (q : Queue) (outcomes : List Outcome) → Holds p → ch < length p.queues → q ≡ slice_index_or p.queues ch q → let c = channel (object_of (view_of p)) ch in let done = done_on (view_of p) ch in outcomes ≡ aborted done (drop (finished c) c.submitted) → issued ≡ length q.places → count ≡ unfinished c → Holds (changed p ch (queue_terminated q outcomes issued) p.memory p.events (p.history ++ Terminated ch done count ∷ []) p.steps)
-holds-terminated p ch count issued q outcomes h less read all_of many number =
+pub holds-terminated : (p : Parts) (ch spare count issued : ℕ) (q : Queue) (outcomes : List Outcome) → Holds p → ch < length p.queues → q ≡ slice_index_or p.queues ch q → let c = channel (object_of (view_of p)) ch in let done = done_on (view_of p) ch in outcomes ≡ aborted done (drop (finished c) c.submitted) → issued ≡ length q.places.items → count ≡ unfinished c → Holds (changed p ch (queue_terminated q spare outcomes issued) p.memory p.events (p.history ++ Terminated ch done count ∷ []) p.steps)
+holds-terminated p ch spare count issued q outcomes h less read all_of many number =
     let v : View = view_of p in
     let o = object_of v in
     let c = channel o ch in
@@ -133,7 +133,7 @@ holds-terminated p ch count issued q outcomes h less read all_of many number =
     let e = Terminated ch done count in
     let at = holds-at p h ch q less read in
     let t = at.tied in
-    let r = queue_terminated q outcomes issued in
+    let r = queue_terminated q spare outcomes issued in
     let x = schedule_of r in
     let w = after o e in
     let history = p.history ++ e ∷ [] in
@@ -159,21 +159,21 @@ holds-terminated p ch count issued q outcomes h less read all_of many number =
       machines = λ d i l k machine. machine;
     })
 
-pub view-terminated : (p : Parts) (ch count issued : ℕ) (q : Queue) (outcomes : List Outcome) → count ≡ unfinished (channel (object_of (view_of p)) ch) → view_of (changed p ch (queue_terminated q outcomes issued) p.memory p.events (p.history ++ Terminated ch (done_on (view_of p) ch) count ∷ []) p.steps) ≡ terminated (view_of p) ch
-view-terminated p ch count issued q outcomes number =
+pub view-terminated : (p : Parts) (ch spare count issued : ℕ) (q : Queue) (outcomes : List Outcome) → count ≡ unfinished (channel (object_of (view_of p)) ch) → view_of (changed p ch (queue_terminated q spare outcomes issued) p.memory p.events (p.history ++ Terminated ch (done_on (view_of p) ch) count ∷ []) p.steps) ≡ terminated (view_of p) ch
+view-terminated p ch spare count issued q outcomes number =
     let done = done_on (view_of p) ch in
-    view-changed p ch (queue_terminated q outcomes issued) p.memory p.events (p.history ++ Terminated ch done count ∷ []) p.steps
-    ∙ ap (λ n. changed_view p ch (queue_terminated q outcomes issued) (p.history ++ Terminated ch done n ∷ []) p.steps) number
+    view-changed p ch (queue_terminated q spare outcomes issued) p.memory p.events (p.history ++ Terminated ch done count ∷ []) p.steps
+    ∙ ap (λ n. changed_view p ch (queue_terminated q spare outcomes issued) (p.history ++ Terminated ch done n ∷ []) p.steps) number
 
 -- ---- a finish
 
 -- the queue after a finish
-abbrev pub queue_finished : Queue → Outcome → Bool → Queue
-queue_finished q outcome halted =
-    record q { outcomes = q.outcomes ++ outcome ∷ []; halted = halted; channel = record (q.channel) { program = None } }
+abbrev pub queue_finished : Queue → ℕ → Outcome → Bool → Queue
+queue_finished q spare outcome halted =
+    record q { outcomes = record { items = q.outcomes.items ++ outcome ∷ []; spare = spare }; halted = halted; channel = record (q.channel) { program = None } }
 
-pub holds-finished : (p : Parts) (ch steps : ℕ) (result : TransResult) (q : Queue) (outcome : Outcome) (halted : Bool) → Holds p → ch < length p.queues → q ≡ slice_index_or p.queues ch q → let c = channel (object_of (view_of p)) ch in let done = done_on (view_of p) ch in outcome ≡ outcome_of result (front_of c) done → halted ≡ is_failure result → Allows (object_of (view_of p)) (Finished ch result done) → Holds (changed p ch (queue_finished q outcome halted) p.memory p.events (p.history ++ Finished ch result done ∷ []) steps)
-holds-finished p ch steps result q outcome halted h less read told fails allowed =
+pub holds-finished : (p : Parts) (ch spare steps : ℕ) (result : TransResult) (q : Queue) (outcome : Outcome) (halted : Bool) → Holds p → ch < length p.queues → q ≡ slice_index_or p.queues ch q → let c = channel (object_of (view_of p)) ch in let done = done_on (view_of p) ch in outcome ≡ outcome_of result (front_of c) done → halted ≡ is_failure result → Allows (object_of (view_of p)) (Finished ch result done) → Holds (changed p ch (queue_finished q spare outcome halted) p.memory p.events (p.history ++ Finished ch result done ∷ []) steps)
+holds-finished p ch spare steps result q outcome halted h less read told fails allowed =
     let v : View = view_of p in
     let o = object_of v in
     let c = channel o ch in
@@ -181,7 +181,7 @@ holds-finished p ch steps result q outcome halted h less read told fails allowed
     let e = Finished ch result done in
     let at = holds-at p h ch q less read in
     let t = at.tied in
-    let r = queue_finished q outcome halted in
+    let r = queue_finished q spare outcome halted in
     let x = schedule_of r in
     let w = after o e in
     let history = p.history ++ e ∷ [] in

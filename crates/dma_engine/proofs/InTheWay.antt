@@ -26,12 +26,12 @@ some_within (x ∷ xs) zero h = (x, refl)
 some_within (x ∷ xs) (suc k) h = some_within xs k (omega arith)
 
 -- where fewer are finished than issued there is an issued front
-pub front_queued : (p : Parts) → Holds p → (ch : ℕ) (q : Queue) → ch < length p.queues → q ≡ slice_index_or p.queues ch q → length q.outcomes < q.issued → Front (channel (object_of (view_of p)) ch) (λ t. Unit {0})
+pub front_queued : (p : Parts) → Holds p → (ch : ℕ) (q : Queue) → ch < length p.queues → q ≡ slice_index_or p.queues ch q → length q.outcomes.items < q.issued → Front (channel (object_of (view_of p)) ch) (λ t. Unit {0})
 front_queued p h ch q less read open_one =
     let c = channel (object_of (view_of p)) ch in
     let at = holds-at p h ch q less read in
     let counted = counted-at p h ch in
-    let many : length q.outcomes ≡ finished c = ap length at.tied.outcomes in
+    let many : length q.outcomes.items ≡ finished c = ap length at.tied.outcomes in
     let before : finished c < c.issued = omega (arith, many, at.tied.issued) in
     let inside : finished c < used c = omega (arith, counted.issue) in
     let some = some_within c.submitted (finished c) inside in
@@ -39,20 +39,20 @@ front_queued p h ch q less read open_one =
     record { transfer = some.0; is = some.1; issued = rw e some.1; holds = tt; within = inside }
 
 -- and its entry is found in the history
-pub front_places : (p : Parts) → Holds p → (ch : ℕ) (q : Queue) (n : ℕ) → ch < length p.queues → q ≡ slice_index_or p.queues ch q → n ≡ length q.outcomes → n < q.issued → (n < length q.places) × (slice_index q.places n < length p.history)
+pub front_places : (p : Parts) → Holds p → (ch : ℕ) (q : Queue) (n : ℕ) → ch < length p.queues → q ≡ slice_index_or p.queues ch q → n ≡ length q.outcomes.items → n < q.issued → (n < length q.places.items) × (slice_index q.places.items n < length p.history)
 front_places p h ch q n less read is open_one =
     let at = holds-at p h ch q less read in
     let f = front_queued p h ch q less read (omega (arith, is)) in
     rw is (front_place ch p.history p.memory q (channel (object_of (view_of p)) ch) f.transfer at.tied f.is)
 
-pub front_entry : (p : Parts) → Holds p → (ch : ℕ) (q : Queue) (n place : ℕ) (e : Entry) → ch < length p.queues → q ≡ slice_index_or p.queues ch q → n ≡ length q.outcomes → n < q.issued → place ≡ slice_index q.places n → e ≡ slice_index_or p.history place e → (t : Descriptor) × (issued_front (channel (object_of (view_of p)) ch) ≡ Some t) × (e ≡ Submitted ch t (finished (channel (object_of (view_of p)) ch) + 1))
+pub front_entry : (p : Parts) → Holds p → (ch : ℕ) (q : Queue) (n place : ℕ) (e : Entry) → ch < length p.queues → q ≡ slice_index_or p.queues ch q → n ≡ length q.outcomes.items → n < q.issued → place ≡ slice_index q.places.items n → e ≡ slice_index_or p.history place e → (t : Descriptor) × (issued_front (channel (object_of (view_of p)) ch) ≡ Some t) × (e ≡ Submitted ch t (finished (channel (object_of (view_of p)) ch) + 1))
 front_entry p h ch q n place e less read is open_one at_place at_entry =
     let at = holds-at p h ch q less read in
     let f = front_queued p h ch q less read (omega (arith, is)) in
-    let there : place ≡ slice_index q.places (length q.outcomes) = at_place ∙ ap (slice_index q.places) is in
+    let there : place ≡ slice_index q.places.items (length q.outcomes.items) = at_place ∙ ap (slice_index q.places.items) is in
     (f.transfer, f.issued, front_read ch p.history p.memory q (channel (object_of (view_of p)) ch) f.transfer e place at.tied f.is there at_entry)
 
-pub front_found : (p : Parts) → Holds p → (ch : ℕ) (q : Queue) (n place : ℕ) (e : Entry) (other cookie : ℕ) (u : Descriptor) → ch < length p.queues → q ≡ slice_index_or p.queues ch q → n ≡ length q.outcomes → n < q.issued → place ≡ slice_index q.places n → e ≡ slice_index_or p.history place e → e ≡ Submitted other u cookie → Some (u, cookie) ≡ option_map {U = Descriptor × ℕ} (λ t. (t, finished (channel (object_of (view_of p)) ch) + 1)) (issued_front (channel (object_of (view_of p)) ch))
+pub front_found : (p : Parts) → Holds p → (ch : ℕ) (q : Queue) (n place : ℕ) (e : Entry) (other cookie : ℕ) (u : Descriptor) → ch < length p.queues → q ≡ slice_index_or p.queues ch q → n ≡ length q.outcomes.items → n < q.issued → place ≡ slice_index q.places.items n → e ≡ slice_index_or p.history place e → e ≡ Submitted other u cookie → Some (u, cookie) ≡ option_map {U = Descriptor × ℕ} (λ t. (t, finished (channel (object_of (view_of p)) ch) + 1)) (issued_front (channel (object_of (view_of p)) ch))
 front_found p h ch q n place e other cookie u less read is open_one at_place at_entry found =
     let k = finished (channel (object_of (view_of p)) ch) + 1 in
     let f = front_entry p h ch q n place e less read is open_one at_place at_entry in

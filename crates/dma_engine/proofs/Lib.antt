@@ -17,7 +17,9 @@ pub mod Stepping
 pub mod Moves
 pub mod Executed
 pub mod Starts
+pub mod Rooms
 pub mod Opening
 pub mod Chains
 pub mod Kept
 pub mod Rows
+pub mod Deeds

@@ -114,7 +114,7 @@ runs-issued : (ch : ℕ) (c : ChannelState) (taken : Option ℕ) → runs_there 
 runs-issued ch c None = refl
 runs-issued ch c (Some n) = refl
 
-pub holds-issued : (p : Parts) (ch : ℕ) (q : Queue) (n : ℕ) → Holds p → ch < length p.queues → q ≡ slice_index_or p.queues ch q → n ≡ length q.places → Holds (changed p ch (record q { issued = n }) p.memory p.events (p.history ++ Issued ch ∷ []) p.steps)
+pub holds-issued : (p : Parts) (ch : ℕ) (q : Queue) (n : ℕ) → Holds p → ch < length p.queues → q ≡ slice_index_or p.queues ch q → n ≡ length q.places.items → Holds (changed p ch (record q { issued = n }) p.memory p.events (p.history ++ Issued ch ∷ []) p.steps)
 holds-issued p ch q n h less read all =
     let v : View = view_of p in
     let o = object_of v in
@@ -191,17 +191,17 @@ run-front memory m c d same h =
     by m.program (front c) refl h
 
 -- the queue with one more place
-pub queue-submitted : (ch : ℕ) (history : List Entry) (memory : List ℕ) (q : Queue) (c : ChannelState) (t : Descriptor) (cookie : ℕ) → IsQueue ch history memory q c → cookie ≡ used c + 1 → IsQueue ch (history ++ Submitted ch t cookie ∷ []) memory (record q { places = q.places ++ length history ∷ [] }) (with_transfer c t)
-queue-submitted ch history memory q c t cookie h number = record {
-  many = omega (arith, length_push q.places (length history), length_push c.submitted t, h.many);
+pub queue-submitted : (ch spare : ℕ) (history : List Entry) (memory : List ℕ) (q : Queue) (c : ChannelState) (t : Descriptor) (cookie : ℕ) → IsQueue ch history memory q c → cookie ≡ used c + 1 → IsQueue ch (history ++ Submitted ch t cookie ∷ []) memory (record q { places = record { items = q.places.items ++ length history ∷ []; spare = spare } }) (with_transfer c t)
+queue-submitted ch spare history memory q c t cookie h number = record {
+  many = omega (arith, length_push q.places.items (length history), length_push c.submitted t, h.many);
   stands = λ k less. elim (cases_lt k (used c)) [
     | inl old ↦
-        let place = get_or_append_left q.places (length history ∷ []) 0 k (omega (arith, h.many)) in
+        let place = get_or_append_left q.places.items (length history ∷ []) 0 k (omega (arith, h.many)) in
         let is = get_or_append_left c.submitted (t ∷ []) no_transfer k old in
         rw (place, is) (slice_get-push history _ _ _ (h.stands k old))
     | inr new ↦
         let last : k ≡ used c = omega (arith, length_push c.submitted t) in
-        let place = get_or_push q.places (length history) 0 k (h.many ∙ sym last) in
+        let place = get_or_push q.places.items (length history) 0 k (h.many ∙ sym last) in
         let is = get_or_push c.submitted t no_transfer k (sym last) in
         let number' : cookie ≡ k + 1 = omega arith in
         rw (place, is, ← number') (slice_get-push_last history _ (length history) refl)
@@ -212,14 +212,14 @@ queue-submitted ch history memory q c t cookie h number = record {
   machine = run-front memory q.channel c (with_transfer c t) (λ u is. front-submitted c u t is) h.machine;
 }
 
-pub holds-submitted : (p : Parts) (ch cookie : ℕ) (t : Descriptor) (q : Queue) → Holds p → ch < length p.queues → q ≡ slice_index_or p.queues ch q → Allows (object_of (view_of p)) (Submitted ch t cookie) → Holds (changed p ch (record q { places = q.places ++ length p.history ∷ [] }) p.memory p.events (p.history ++ Submitted ch t cookie ∷ []) p.steps)
-holds-submitted p ch cookie t q h less read allowed =
+pub holds-submitted : (p : Parts) (ch spare cookie : ℕ) (t : Descriptor) (q : Queue) → Holds p → ch < length p.queues → q ≡ slice_index_or p.queues ch q → Allows (object_of (view_of p)) (Submitted ch t cookie) → Holds (changed p ch (record q { places = record { items = q.places.items ++ length p.history ∷ []; spare = spare } }) p.memory p.events (p.history ++ Submitted ch t cookie ∷ []) p.steps)
+holds-submitted p ch spare cookie t q h less read allowed =
     let v : View = view_of p in
     let o = object_of v in
     let e = Submitted ch t cookie in
     let c = channel o ch in
     let at = holds-at p h ch q less read in
-    let r = record q { places = q.places ++ length p.history ∷ [] } in
+    let r = record q { places = record { items = q.places.items ++ length p.history ∷ []; spare = spare } } in
     let history = p.history ++ e ∷ [] in
     let here : channel (after o e) ch ≡ with_transfer c t = get_or-set_same o.channels ch (with_transfer c t) new_channel at.there in
     holds-changed p ch r p.memory p.events history p.steps (after o e) h less (stays p ch q r p.events history (after o e) h less read (record {
@@ -233,10 +233,10 @@ holds-submitted p ch cookie t q h less read allowed =
       others = λ d k. get_or-set_other o.channels ch d _ new_channel k;
       agrees = rw here (agrees-submitted c t (schedule_of q).taken at.agrees);
       runs_still = ap (λ x. runs_there ch x (schedule_of q).taken) here ∙ runs-submitted ch c t (schedule_of q).taken at.agrees;
-      tied = rw here (queue-submitted ch p.history p.memory q c t cookie at.tied allowed.3);
+      tied = rw here (queue-submitted ch spare p.history p.memory q c t cookie at.tied allowed.3);
     }))
 
-pub submitted-allowed : (p : Parts) (ch given : ℕ) (t : Descriptor) (q : Queue) → Holds p → ch < length p.queues → q ≡ slice_index_or p.queues ch q → given ≡ length q.places → given < last_cookie → IsTransfer t → lies_below t (length (object_of (view_of p)).image) ≡ true → Allows (object_of (view_of p)) (Submitted ch t (given + 1))
+pub submitted-allowed : (p : Parts) (ch given : ℕ) (t : Descriptor) (q : Queue) → Holds p → ch < length p.queues → q ≡ slice_index_or p.queues ch q → given ≡ length q.places.items → given < last_cookie → IsTransfer t → lies_below t (length (object_of (view_of p)).image) ≡ true → Allows (object_of (view_of p)) (Submitted ch t (given + 1))
 submitted-allowed p ch given t q h less read many few rules below =
     let at = holds-at p h ch q less read in
     (at.there, rules, below, ap (λ n. n + 1) (many ∙ at.tied.many), omega arith)

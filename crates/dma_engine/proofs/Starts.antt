@@ -215,8 +215,8 @@ finish-allowed p ch q WriteFailed h less read d =
     (r.goes, rw (r.issued, done) (passed, not-signalled p ch q r not_end, omega (arith, store.0, store.2), hit))
 finish-allowed p ch q Aborted h less read d = absurd d.holds
 
-pub finish-answers : (p : Parts) (ch cookie residue : ℕ) (how : TransResult) (q : Queue) (outcome : Outcome) (halted : Bool) (u : Descriptor) (flags : List Bool) (memory : List ℕ) → Holds p → ch < length p.queues → q ≡ slice_index_or p.queues ch q → (d : Due p ch q (Finishes (view_of p) how)) → issued_front (channel (object_of (view_of p)) ch) ≡ Some u → cookie ≡ finished (channel (object_of (view_of p)) ch) + 1 → residue ≡ size_of u - done_on (view_of p) ch → Answers (view_of p) (Step ch) (Turned (TurnFinished cookie how residue)) (view_of (changed p ch (queue_finished q outcome halted) memory flags (p.history ++ Finished ch how (done_on (view_of p) ch) ∷ []) (p.steps + 1)))
-finish-answers p ch cookie residue how q outcome halted u flags memory h less read d some number rest =
+pub finish-answers : (p : Parts) (ch spare cookie residue : ℕ) (how : TransResult) (q : Queue) (outcome : Outcome) (halted : Bool) (u : Descriptor) (flags : List Bool) (memory : List ℕ) → Holds p → ch < length p.queues → q ≡ slice_index_or p.queues ch q → (d : Due p ch q (Finishes (view_of p) how)) → issued_front (channel (object_of (view_of p)) ch) ≡ Some u → cookie ≡ finished (channel (object_of (view_of p)) ch) + 1 → residue ≡ size_of u - done_on (view_of p) ch → Answers (view_of p) (Step ch) (Turned (TurnFinished cookie how residue)) (view_of (changed p ch (queue_finished q spare outcome halted) memory flags (p.history ++ Finished ch how (done_on (view_of p) ch) ∷ []) (p.steps + 1)))
+finish-answers p ch spare cookie residue how q outcome halted u flags memory h less read d some number rest =
     let v : View = view_of p in
     let r = d.it in
     let t = r.transfer in
@@ -225,7 +225,7 @@ finish-answers p ch cookie residue how q outcome halted u flags memory h less re
     let done : done_on v ch ≡ stored_after t n = ap done_by r.runs_is in
     let same : u ≡ t = sym (ap (λ o. unwrap_or o u) (sym r.issued ∙ some)) in
     let left : residue ≡ size_of t - stored_after t n = rest ∙ ap (λ x. size_of x - done_on v ch) same ∙ ap (λ k. size_of t - k) done in
-    let view : view_of (changed p ch (queue_finished q outcome halted) memory flags (p.history ++ Finished ch how (done_on v ch) ∷ []) (p.steps + 1)) ≡ with_step (with_taken (with_entry v (Finished ch how (stored_after t n))) ch None) = view-changed p ch (queue_finished q outcome halted) memory flags (p.history ++ Finished ch how (done_on v ch) ∷ []) (p.steps + 1) ∙ ap (λ k. record v { history = p.history ++ Finished ch how k ∷ []; steps = p.steps + 1; schedule = slice_set v.schedule ch (record { paused = q.paused; taken = None }) }) done ∙ ap (λ (x : ChannelSchedule). record v { history = p.history ++ Finished ch how (stored_after t n) ∷ []; steps = p.steps + 1; schedule = slice_set v.schedule ch (record x { taken = None }) }) (sym at.schedule_is) in
+    let view : view_of (changed p ch (queue_finished q spare outcome halted) memory flags (p.history ++ Finished ch how (done_on v ch) ∷ []) (p.steps + 1)) ≡ with_step (with_taken (with_entry v (Finished ch how (stored_after t n))) ch None) = view-changed p ch (queue_finished q spare outcome halted) memory flags (p.history ++ Finished ch how (done_on v ch) ∷ []) (p.steps + 1) ∙ ap (λ k. record v { history = p.history ++ Finished ch how k ∷ []; steps = p.steps + 1; schedule = slice_set v.schedule ch (record { paused = q.paused; taken = None }) }) done ∙ ap (λ (x : ChannelSchedule). record v { history = p.history ++ Finished ch how (stored_after t n) ∷ []; steps = p.steps + 1; schedule = slice_set v.schedule ch (record x { taken = None }) }) (sym at.schedule_is) in
     ap (λ w. (Turned (TurnFinished cookie how residue), w)) view
     ∙ ap (λ k. (Turned (TurnFinished k how residue), with_step (with_taken (with_entry v (Finished ch how (stored_after t n))) ch None))) number
     ∙ ap (λ k. (Turned (TurnFinished (front_cookie v ch) how k), with_step (with_taken (with_entry v (Finished ch how (stored_after t n))) ch None))) left

@@ -35,7 +35,8 @@ view_of p =
 
 -- a queue to which nothing was submitted
 abbrev pub new_queue : Queue
-new_queue = record { places = []; outcomes = []; issued = 0; paused = false; halted = false; channel = no_program }
+new_queue =
+    record { places = record { items = []; spare = 0 }; outcomes = record { items = []; spare = 0 }; issued = 0; paused = false; halted = false; channel = no_program }
 
 -- where a program is loaded, it is that of the channel's front
 abbrev pub IsRun : List ℕ → ChannelValue → ChannelState → Type 0
@@ -43,10 +44,10 @@ IsRun memory m c = IfSome m.program (λ _. IsSomeAnd (front c) (λ t. IsAt t m.t
 
 -- A queue is what the object knows of its channel; its places are those of the channel's Submitted entries.
 pub record IsQueue (ch : ℕ) (history : List Entry) (memory : List ℕ) (q : Queue) (c : ChannelState) : Type 0 where
-  pub many : length q.places ≡ used c
+  pub many : length q.places.items ≡ used c
   pub stands : (k : ℕ) → k < used c →
-      slice_get history (slice_index q.places k) ≡ Some (Submitted ch (slice_index_or c.submitted k no_transfer) (k + 1))
-  pub outcomes : q.outcomes ≡ c.outcomes
+      slice_get history (slice_index q.places.items k) ≡ Some (Submitted ch (slice_index_or c.submitted k no_transfer) (k + 1))
+  pub outcomes : q.outcomes.items ≡ c.outcomes
   pub issued : q.issued ≡ c.issued
   pub halted : q.halted ≡ c.halted
   pub machine : IsRun memory q.channel c

@@ -1,4 +1,7 @@
--- The parts of an engine, from its fields.
+-- The parts of an engine, and its room, from its fields.
+use Rattle.std.specs.Prelude.{◌-◌, map, vec_capacity, vec_len}
+use Rattle.dma_engine.specs.declared.queue.Queue.{Queue}
+use Rattle.dma_engine.specs.View.{QueueRoom, Room}
 use Rattle.dma_engine.specs.declared.engine.Engine.TheInside.{Inside}
 use Rattle.dma_engine.specs.Holds.{Parts}
 
@@ -13,3 +16,9 @@ parts_of e =
       history = e.history.items;
       steps = e.steps;
     }
+
+abbrev pub queue_room : Queue → QueueRoom
+queue_room q = record { places = q.places.spare; outcomes = q.outcomes.spare }
+
+abbrev pub room_of : Inside → Room
+room_of e = record { entries = vec_capacity e.history - vec_len e.history; queues = map queue_room e.queues.items }

@@ -8,4 +8,7 @@ pub mod Answer
 pub mod Ways
 pub mod Holds
 pub mod Inside
+pub mod Lists
+pub mod Found
+pub mod Room
 pub mod Due

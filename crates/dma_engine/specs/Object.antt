@@ -1,5 +1,6 @@
 -- The object that a DMA controller is for one thread, and what each entry of its history needs of it and does to it.
 use Rattle.std.specs.Prelude.{◌≡◌, ℕ, ◌+◌, ◌-◌, ◌<◌, ◌≤◌, if◌then◌else◌, Bool, true, false, nat_lt, Option, Some, None, IsSome, IsSomeAnd, MatchOption, unwrap_or, List, [], ◌∷◌, ◌++◌, length, map, take, drop, replicate, slice_get, slice_index_or, slice_set}
+use Rattle.std.specs.List.{sum_by}
 use Rattle.dma_mem.specs.Places.{Descriptor, lies_below, size_of, sources, destinations}
 use Rattle.dma_mem.specs.Rules.{IsTransfer}
 use Rattle.dma_mem.specs.Image.{put, bytes_at, laid}
@@ -68,6 +69,10 @@ finished c = length c.outcomes
 
 abbrev pub unfinished : ChannelState → ℕ
 unfinished c = used c - finished c
+
+-- how many cookies are finished on all channels together
+abbrev pub finished_all : Object → ℕ
+finished_all o = sum_by finished o.channels
 
 -- The front of a channel is its first submitted transfer without an outcome.
 abbrev pub front : ChannelState → Option Descriptor

@@ -26,10 +26,21 @@ pub record View : Type 0 where
   pub steps : ℕ
   pub schedule : List ChannelSchedule
 
--- What contracts see of an engine: its view, and the bytes of its memory.
+-- how many more places and outcomes a channel's lists have room for
+pub record QueueRoom : Type 0 where
+  pub places : ℕ
+  pub outcomes : ℕ
+
+-- how many more entries the history has room for, and the room of each channel
+pub record Room : Type 0 where
+  pub entries : ℕ
+  pub queues : List QueueRoom
+
+-- What contracts see of an engine: its view, the bytes of its memory, and the room that was made for what is to come.
 pub record EngineState : Type 0 where
   pub view : View
   pub memory : List ℕ
+  pub room : Room
 
 -- a channel that isn't paused and on which nothing runs
 abbrev pub idle : ChannelSchedule

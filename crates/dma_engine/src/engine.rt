@@ -1,13 +1,15 @@
 //! The engine.
 
-ghost use Rattle.std.specs.Prelude.{◌≡◌, ◌+◌, ◌-◌, ◌<◌, ◌≤◌, IfOk, IfErr, OnOk, None, unwrap_or, length, take, drop, IfSome, slice_index_or, replicate, ◌++◌, ◌∷◌, [], if◌then◌else◌};
+ghost use Rattle.std.specs.Prelude.{◌≡◌, ◌≢◌, ◌+◌, ◌-◌, ◌<◌, ◌≤◌, ℕ, IsTrue, vec_len, vec_capacity, IfOk, IfErr, OnOk, None, unwrap_or, length, take, drop, IfSome, slice_index_or, replicate, ◌++◌, ◌∷◌, [], if◌then◌else◌};
 ghost use Rattle.std.specs.Option.{option_map};
 ghost use Rattle.dma_mem.specs.Rules.{IsTransfer};
-ghost use Rattle.dma_engine.specs.Object.{channel, used, finished, unfinished, no_transfer, aborted, is_failure};
+ghost use Rattle.dma_engine.specs.Object.{channel, used, finished, finished_all, unfinished, is_failure};
 ghost use Rattle.dma_engine.specs.View.{size, channels, object_of, schedule_at, runs, running_on, new_fault, new_view, memory_of, IsSound};
-ghost use Rattle.dma_engine.specs.Answer.{Answers, Steps, reply_of, checked, submit_fault, submit_reply, status_in, result_of, first_running, named, done_on};
+ghost use Rattle.dma_engine.specs.Answer.{Answers, Steps, reply_of, checked, channel_fault, submit_fault, submit_reply, status_in, result_of, first_running, named, done_on};
 ghost use Rattle.dma_engine.specs.Ways.{is_in_the_way};
 ghost use Rattle.dma_engine.specs.Holds.{new_queue};
+ghost use Rattle.dma_engine.specs.Room.{HasRoom};
+ghost use Rattle.dma_engine.specs.Turn.{turn, ends};
 ghost use Rattle.dma_engine.specs.Due.{front_told, running_told, IsDue, MayStart, Waits, Signals, GoesOn, Finishes, failure_of};
 
 use crate::call::{Call, Reply};
@@ -57,9 +59,9 @@ impl Model for Engine {
     ghost Value = { EngineState };
 
     ghost use Rattle.dma_engine.specs.Holds.{view_of, Holds};
-    ghost use Rattle.dma_engine.specs.Inside.{parts_of};
+    ghost use Rattle.dma_engine.specs.Inside.{parts_of, room_of};
 
-    ghost view = { λ e. record { view = view_of (parts_of e); memory = e.memory } };
+    ghost view = { λ e. record { view = view_of (parts_of e); memory = e.memory; room = room_of e } };
 
     ghost invariant = { λ e. Holds (parts_of e) };
 }
@@ -232,18 +234,6 @@ impl Engine {
         Some(Running { cookie, stored })
     }
 
-    // The transfer of a cookie, counted from 0.
-    fn transfer(&self, index: usize, n: usize) -> &Transfer
-        requires there { index < channels self.now.view }
-        requires given { n < used (channel (object_of self.now.view) index) }
-        ensures { result.now ≡ slice_index_or (channel (object_of self.now.view) index).submitted n no_transfer }
-    {
-        match &self.history[self.queues[index].places.at(n)] {
-            Entry::Submitted { transfer, .. } => transfer,
-            _ => unreachable!(),
-        }
-    }
-
     // The bytes that a channel's front has stored, 0 where nothing runs.
     fn done(&self, index: usize) -> u32
         requires { index < channels self.now.view }
@@ -255,26 +245,6 @@ impl Engine {
         } else {
             0
         }
-    }
-
-    // The outcomes of all unfinished cookies of a channel, if they are aborted when the front has stored so many bytes.
-    fn aborted(&self, index: usize, done: u32) -> Result<Vec<Outcome>, AllocError>
-        requires { index < channels self.now.view }
-        ensures { let c = channel (object_of self.now.view) index in
-            IfOk result (λ list. list.items ≡ aborted done (drop (finished c) c.submitted)) }
-    {
-        let queue = &self.queues[index];
-        let first = queue.outcomes.len();
-        let mut list = Vec::new(self.alloc);
-        for n in first..queue.places.len() {
-            let stored = if n == first { done } else { 0 };
-            let residue = self.transfer(index, n).len().saturating_sub(stored);
-            list.push(Outcome {
-                result: TransResult::Aborted,
-                residue,
-            })?;
-        }
-        Ok(list)
     }
 
     // The issued front of a channel, with its cookie.
@@ -405,6 +375,7 @@ impl Engine {
     pub fn submit(&mut self, ch: u8, transfer: Transfer) -> Result<u32, SubmitFault>
         ensures answer { Answers self.old.view (Call.Submit ch transfer) (submit_reply result) self.new.view }
         ensures back { IfErr result (λ refused. refused.transfer ≡ transfer) }
+        ensures room { HasRoom self.old ch → IfErr result (λ refused. refused.fault ≢ EngineFault.NoMemory) }
     {
         let cookie = match self.check_submit(ch, &transfer) {
             Ok(cookie) => cookie,
@@ -438,7 +409,8 @@ impl Engine {
     ///
     /// The error is `NoChannel`, else `NoMemory`.
     pub fn issue(&mut self, ch: u8) -> Result<u32, EngineFault>
-        ensures { Answers self.old.view (Call.Issue ch) (reply_of (λ count. Reply.Count count) result) self.new.view }
+        ensures answer { Answers self.old.view (Call.Issue ch) (reply_of (λ count. Reply.Count count) result) self.new.view }
+        ensures room { HasRoom self.old ch → IfErr result (λ fault. fault ≢ EngineFault.NoMemory) }
     {
         let index = usize::from(ch);
         if index >= self.queues.len() {
@@ -489,28 +461,94 @@ impl Engine {
     ///
     /// The error is `NoChannel`, else `NoMemory`.
     pub fn terminate(&mut self, ch: u8) -> Result<u32, EngineFault>
-        ensures { Answers self.old.view (Call.Terminate ch) (reply_of (λ count. Reply.Count count) result) self.new.view }
+        ensures answer { Answers self.old.view (Call.Terminate ch) (reply_of (λ count. Reply.Count count) result) self.new.view }
+        ensures room { HasRoom self.old ch → IfErr result (λ fault. fault ≢ EngineFault.NoMemory) }
     {
         let index = usize::from(ch);
         if index >= self.queues.len() {
             return Err(EngineFault::NoChannel);
         }
         let done = self.done(index);
-        let Ok(aborted) = self.aborted(index, done) else {
-            return Err(EngineFault::NoMemory);
-        };
+        let count = self.unfinished(ch);
         let Ok(()) = self.history.reserve(1) else {
             return Err(EngineFault::NoMemory);
         };
         let queue = &mut self.queues[index];
-        if !queue.terminate(&aborted) {
+        if !queue.terminate(&self.history, done) {
             return Err(EngineFault::NoMemory);
         }
-        let count = aborted.len() as u32;
         let Ok(()) = self.history.push(Entry::Terminated { ch, done, count }) else {
             unreachable!();
         };
         Ok(count)
+    }
+
+    /// Makes room on a channel: until the engine changes again, `submit`, `issue` and `terminate` there, `raise`, and each `step`
+    /// there of a transfer that runs take no memory. Nothing else changes.
+    ///
+    /// The error is `NoChannel`, else `NoMemory`.
+    pub fn make_room(&mut self, ch: u8) -> Result<(), EngineFault>
+        ensures view { self.new.view ≡ self.old.view }
+        ensures made { OnOk result (HasRoom self.new ch) }
+        ensures answer { IfOk result (λ _. channel_fault self.old.view ch ≡ None) }
+        ensures err { IfErr result (λ fault. fault ≡ unwrap_or (channel_fault self.old.view ch) EngineFault.NoMemory) }
+    {
+        let index = usize::from(ch);
+        if index >= self.queues.len() {
+            return Err(EngineFault::NoChannel);
+        }
+        let Ok(()) = self.history.reserve(1) else {
+            return Err(EngineFault::NoMemory);
+        };
+        let queue = &mut self.queues[index];
+        if !queue.make_room() {
+            return Err(EngineFault::NoMemory);
+        }
+        Ok(())
+    }
+
+    /// Whether the next `step` of a channel answers [`Turn::Finished`], or `NoMemory` in its place.
+    pub fn ending(&self, ch: u8) -> bool
+        ensures { result ≡ ends (turn self.now.view ch).0 }
+    {
+        let index = usize::from(ch);
+        if index >= self.queues.len() {
+            return false;
+        }
+        let queue = &self.queues[index];
+        if queue.halted {
+            return false;
+        }
+        if queue.paused {
+            return false;
+        }
+        if !queue.channel.is_loaded() {
+            return false;
+        }
+        if self.steps >= u64::MAX {
+            return false;
+        }
+        let Ok(insn) = queue.channel.ahead() else {
+            unreachable!();
+        };
+        match insn {
+            Insn::End => true,
+            _ => queue
+                .channel
+                .failing(&self.memory, &self.marks)
+                .is_some(),
+        }
+    }
+
+    /// How many cookies are finished, on all channels together.
+    pub fn finished_all(&self) -> u64
+        ensures { result ≡ finished_all (object_of self.now.view) }
+    {
+        let mut all = 0;
+        for index in 0..self.queues.len() {
+            all += self.queues[index].outcomes.len() as u64;
+        }
+        all
     }
 
     /// Takes one step of a channel: the first case that applies. It is `Halted`, `Paused`, or `Nothing` where no front is issued;
@@ -520,7 +558,9 @@ impl Engine {
     /// The error is the first that holds of `NoChannel`, `StepsSpent` where an instruction is due and the count is 2^64 - 1, and
     /// `NoMemory`, which comes only at a start, a pass, a signal or a finish.
     pub fn step(&mut self, ch: u8) -> Result<Turn, EngineFault>
-        ensures { Steps self.old.view ch result self.new.view }
+        ensures answer { Steps self.old.view ch result self.new.view }
+        // With room made, memory is wanting only where nothing runs: at a start.
+        ensures room { HasRoom self.old ch → IfErr result (λ fault. fault ≡ EngineFault.NoMemory → (schedule_at self.old.view ch).taken ≡ None) }
     {
         let index = usize::from(ch);
         if index >= self.queues.len() {
@@ -574,7 +614,8 @@ impl Engine {
     fn pass(&mut self, ch: u8, event: u8) -> Result<Turn, EngineFault>
         requires event { event ≤ 31 }
         requires due { IsDue self.old.view ch (Waits event) }
-        ensures { Steps self.old.view ch result self.new.view }
+        ensures answer { Steps self.old.view ch result self.new.view }
+        ensures room { HasRoom self.old ch → IfErr result (λ fault. fault ≢ EngineFault.NoMemory) }
     {
         if !self.events.is_set(event) {
             return Ok(Turn::Waiting(event));
@@ -593,7 +634,8 @@ impl Engine {
     // Signals the front's event.
     fn signal(&mut self, ch: u8, event: u8) -> Result<Turn, EngineFault>
         requires { IsDue self.old.view ch (Signals event) }
-        ensures { Steps self.old.view ch result self.new.view }
+        ensures answer { Steps self.old.view ch result self.new.view }
+        ensures room { HasRoom self.old ch → IfErr result (λ fault. fault ≢ EngineFault.NoMemory) }
     {
         let entry = Entry::Signalled {
             by: Signaller::Channel(ch),
@@ -613,7 +655,8 @@ impl Engine {
     // Executes an instruction that neither waits nor signals nor ends. A burst that fails finishes the front.
     fn carry_on(&mut self, ch: u8) -> Result<Turn, EngineFault>
         requires { IsDue self.old.view ch GoesOn }
-        ensures { Steps self.old.view ch result self.new.view }
+        ensures answer { Steps self.old.view ch result self.new.view }
+        ensures room { HasRoom self.old ch → IfErr result (λ fault. fault ≢ EngineFault.NoMemory) }
     {
         let queue = &mut self.queues[usize::from(ch)];
         let turn = queue
@@ -632,7 +675,8 @@ impl Engine {
     // Finishes the front with this result. A failure halts the channel.
     fn finish(&mut self, ch: u8, how: TransResult) -> Result<Turn, EngineFault>
         requires { IsDue self.old.view ch (Finishes self.old.view how) }
-        ensures { Steps self.old.view ch result self.new.view }
+        ensures answer { Steps self.old.view ch result self.new.view }
+        ensures room { HasRoom self.old ch → IfErr result (λ fault. fault ≢ EngineFault.NoMemory) }
     {
         let index = usize::from(ch);
         let stored = self.done(index);
@@ -708,7 +752,8 @@ impl Engine {
     ///
     /// The error is `BadEvent` above 31, else `NoMemory`.
     pub fn raise(&mut self, event: u8) -> Result<(), EngineFault>
-        ensures { Answers self.old.view (Call.Raise event) (reply_of (λ _. Reply.Done) result) self.new.view }
+        ensures answer { Answers self.old.view (Call.Raise event) (reply_of (λ _. Reply.Done) result) self.new.view }
+        ensures room { (ch : ℕ) → HasRoom self.old ch → IfErr result (λ fault. fault ≢ EngineFault.NoMemory) }
     {
         if event > LAST_EVENT {
             return Err(EngineFault::BadEvent);
@@ -828,7 +873,8 @@ fn is_failure(how: TransResult) -> bool
 
 // Adds an entry, if there is memory for it.
 fn added(history: &mut Vec<Entry>, entry: Entry) -> bool
-    ensures { history.new.items ≡ (if result then history.old.items ++ entry ∷ [] else history.old.items) }
+    ensures items { history.new.items ≡ (if result then history.old.items ++ entry ∷ [] else history.old.items) }
+    ensures room { vec_len history.old < vec_capacity history.old → IsTrue result }
 {
     history.push(entry).is_ok()
 }

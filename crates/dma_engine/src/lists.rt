@@ -1,6 +1,6 @@
-//! Lists that contracts see as their items alone.
+//! Lists that contracts see as their items and the room for more.
 
-ghost use Rattle.std.specs.Prelude.{◌≡◌, ◌<◌, ◌++◌, ◌∷◌, [], if◌then◌else◌, length, slice_index, slice_get};
+ghost use Rattle.std.specs.Prelude.{◌≡◌, ◌+◌, ◌<◌, ◌≤◌, ◌++◌, ◌∷◌, [], if◌then◌else◌, length, slice_index, slice_get, IsTrue, false};
 
 use crate::outcome::Outcome;
 use std::alloc::Global;
@@ -13,17 +13,18 @@ pub struct Places {
 }
 
 impl Model for Places {
-    ghost use Rattle.std.specs.Prelude.{List, ℕ};
+    ghost use Rattle.std.specs.Prelude.{◌-◌, vec_capacity, vec_len};
+    ghost use Rattle.dma_engine.specs.Lists.{PlaceList};
 
-    ghost Value = { List ℕ };
+    ghost Value = { PlaceList };
 
-    ghost view = { λ p. p.items.items };
+    ghost view = { λ p. record { items = p.items.items; spare = vec_capacity p.items - vec_len p.items } };
 }
 
 impl Places {
     /// No places, which takes no memory.
     pub fn new(alloc: Global) -> Places
-        ensures { result ≡ [] }
+        ensures { result ≡ record { items = []; spare = 0 } }
     {
         Places {
             items: Vec::new(alloc),
@@ -32,24 +33,39 @@ impl Places {
 
     /// How many there are.
     pub fn len(&self) -> usize
-        ensures { result ≡ length self.now }
+        ensures { result ≡ length self.now.items }
     {
         self.items.len()
     }
 
     /// The place at an index.
     pub fn at(&self, index: usize) -> usize
-        requires { index < length self.now }
-        ensures { result ≡ slice_index self.now index }
+        requires { index < length self.now.items }
+        ensures { result ≡ slice_index self.now.items index }
     {
         self.items[index]
     }
 
+    /// Makes room for one more, and says whether there was memory for it.
+    pub fn make_room(&mut self) -> bool
+        ensures items { self.new.items ≡ self.old.items }
+        ensures room { IsTrue result → 0 < self.new.spare }
+    {
+        self.items.reserve(1).is_ok()
+    }
+
     /// Adds a place at the end, and says whether there was memory for it.
     pub fn add(&mut self, place: usize) -> bool
-        ensures { self.new ≡ (if result then self.old ++ place ∷ [] else self.old) }
+        ensures added { self.new ≡ (if result then record { items = self.old.items ++ place ∷ []; spare = self.new.spare } else self.old) }
+        ensures room { 0 < self.old.spare → IsTrue result }
     {
-        self.items.push(place).is_ok()
+        if self.items.reserve(1).is_err() {
+            return false;
+        }
+        let Ok(()) = self.items.push(place) else {
+            unreachable!();
+        };
+        true
     }
 }
 
@@ -60,18 +76,18 @@ pub struct Outcomes {
 }
 
 impl Model for Outcomes {
-    ghost use Rattle.std.specs.Prelude.{List};
-    ghost use Rattle.dma_engine.specs.declared.outcome.Outcome.{Outcome};
+    ghost use Rattle.std.specs.Prelude.{◌-◌, vec_capacity, vec_len};
+    ghost use Rattle.dma_engine.specs.Lists.{OutcomeList};
 
-    ghost Value = { List Outcome };
+    ghost Value = { OutcomeList };
 
-    ghost view = { λ o. o.items.items };
+    ghost view = { λ o. record { items = o.items.items; spare = vec_capacity o.items - vec_len o.items } };
 }
 
 impl Outcomes {
     /// No outcomes, which takes no memory.
     pub fn new(alloc: Global) -> Outcomes
-        ensures { result ≡ [] }
+        ensures { result ≡ record { items = []; spare = 0 } }
     {
         Outcomes {
             items: Vec::new(alloc),
@@ -80,29 +96,36 @@ impl Outcomes {
 
     /// How many there are.
     pub fn len(&self) -> usize
-        ensures { result ≡ length self.now }
+        ensures { result ≡ length self.now.items }
     {
         self.items.len()
     }
 
     /// The outcome at an index, if there is one.
     pub fn get(&self, index: usize) -> Option<Outcome>
-        ensures { result ≡ slice_get self.now index }
+        ensures { result ≡ slice_get self.now.items index }
     {
         self.items.get(index).copied()
     }
 
-    /// Adds an outcome at the end, and says whether there was memory for it.
-    pub fn add(&mut self, outcome: Outcome) -> bool
-        ensures { self.new ≡ (if result then self.old ++ outcome ∷ [] else self.old) }
+    /// Makes room for so many more, and says whether there was memory for them. Without it nothing changes.
+    pub fn make_room(&mut self, more: usize) -> bool
+        ensures items { self.new.items ≡ self.old.items }
+        ensures room { IsTrue result → more ≤ self.new.spare }
+        ensures none { result ≡ false → self.new ≡ self.old }
+        ensures there { more ≤ self.old.spare → IsTrue result }
     {
-        self.items.push(outcome).is_ok()
+        self.items.reserve(more).is_ok()
     }
 
-    /// Adds outcomes at the end, and says whether there was memory for them.
-    pub fn add_all(&mut self, outcomes: &[Outcome]) -> bool
-        ensures { self.new ≡ (if result then self.old ++ outcomes.now else self.old) }
+    /// Adds an outcome at the end, where there is room for one.
+    pub fn add(&mut self, outcome: Outcome)
+        requires { 0 < self.old.spare }
+        ensures items { self.new.items ≡ self.old.items ++ outcome ∷ [] }
+        ensures spare { self.old.spare ≤ self.new.spare + 1 }
     {
-        self.items.extend_from_slice(outcomes).is_ok()
+        let Ok(()) = self.items.push(outcome) else {
+            unreachable!();
+        };
     }
 }

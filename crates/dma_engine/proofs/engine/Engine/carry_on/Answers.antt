@@ -72,8 +72,8 @@ unreachable-requires c =
       ]
     ]
 
-pub returns-in-Moved : goal.returns-in-Moved
-returns-in-Moved c =
+pub returns-in-Moved-clause-answer : goal.returns-in-Moved-clause-answer
+returns-in-Moved-clause-answer c =
     let p = parts_of c.self.inside in
     let q = c.index_mut-queue.result.now in
     let asked = rw (← c.self.view_is) at c.requires in

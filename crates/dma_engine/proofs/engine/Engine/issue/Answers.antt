@@ -31,11 +31,11 @@ pub invariant_of-self-2 : goal.invariant_of-self-2
 invariant_of-self-2 c =
     let p = parts_of c.self.inside in
     let less : c.from-index.result < length p.queues = omega (arith, c.if-index-len.false, c.len.ensures, c.self.inside.queues.ok.0) in
-    rw (c.if-not-added.ensures, ← c.from-index.ensures)
+    rw (c.if-not-added.ensures.items, ← c.from-index.ensures)
     (holds-issued p c.from-index.result c.index_mut-queue.result.now c.len-after.result c.self.invariant less c.index_mut-queue.ensures.value c.len-after.ensures)
 
-pub returns : goal.returns
-returns c =
+pub returns-clause-answer : goal.returns-clause-answer
+returns-clause-answer c =
     let p = parts_of c.self.inside in
     let i = c.from-index.result in
     let q = c.index_mut-queue.result.now in
@@ -45,5 +45,5 @@ returns c =
     let at = holds-at p c.self.invariant i q less c.index_mut-queue.ensures.value in
     let counted : c.len-after.result - q.issued ≡ used (channel (object_of (view_of p)) i) - (channel (object_of (view_of p)) i).issued = omega (arith, at.tied.issued, at.tied.many, c.len-after.ensures) in
     let view = view-entered p i q (record q { issued = c.len-after.result }) p.memory p.events (Issued i) less c.index_mut-queue.ensures.value refl ∙ ap (λ (w : View). with_entry w (Issued i)) is in
-    rw (c.if-not-added.ensures, ← c.from-index.ensures)
+    rw (c.if-not-added.ensures.items, ← c.from-index.ensures)
     (issue-done c.args.self.now.view _ i _ there (counted ∙ ap (λ (w : View). used (channel (object_of w) i) - (channel (object_of w) i).issued) is) view)

@@ -4,5 +4,5 @@ use Rattle.dma_engine.proofs.engine.Engine.raise.Goals as goal
 
 pub invariant_of-self-2 : goal.invariant_of-self-2
 invariant_of-self-2 c =
-    rw (c.set.ensures, c.if-not-added.ensures)
+    rw (c.set.ensures, c.if-not-added.ensures.items)
     (holds-raised (parts_of c.self.inside) c.args.event c.self.invariant c.if-event-gt-LAST_EVENT.false)

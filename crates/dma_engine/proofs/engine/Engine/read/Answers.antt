@@ -41,7 +41,7 @@ pub returns-then-not-added : goal.returns-then-not-added
 returns-then-not-added c =
     let end = size-is (parts_of c.self.inside) ∙ ap (λ (s : EngineState). size s.view) c.self.view_is in
     let free = read-free c.args.self.now.view c.args.addr c.args.len (omega (arith, end, c.if-addr-len.false)) c.in_default.ensures in
-    rw c.if-not-added.ensures ((read-starved c.args.self.now.view c.args.addr c.args.len free).0, ap (λ (s : EngineState). s.view) c.self.view_is)
+    rw c.if-not-added.ensures.items ((read-starved c.args.self.now.view c.args.addr c.args.len free).0, ap (λ (s : EngineState). s.view) c.self.view_is)
 
 pub invariant_of-self-2 : goal.invariant_of-self-2
 invariant_of-self-2 c =
@@ -52,7 +52,7 @@ invariant_of-self-2 c =
     let free' : read_fault (view_of p) c.args.addr c.args.len ≡ None = subst (λ (w : View). read_fault w c.args.addr c.args.len ≡ None) (sym is) free in
     let read = c.in-Some-bytes_of.ensures ∙ memory-read p c.args.addr c.args.len c.self.invariant free' in
     let same = c.in-Ok.ensures ∙ c.as_slice.ensures in
-    rw (c.if-not-added.ensures, same) (holds-read p c.args.addr c.args.len c.in-Some-bytes_of.answer c.self.invariant free' read)
+    rw (c.if-not-added.ensures.items, same) (holds-read p c.args.addr c.args.len c.in-Some-bytes_of.answer c.self.invariant free' read)
 
 pub returns : goal.returns
 returns c =
@@ -64,4 +64,4 @@ returns c =
     let read = c.in-Some-bytes_of.ensures ∙ memory-read p c.args.addr c.args.len c.self.invariant free' ∙ ap (λ (w : View). take c.args.len (drop c.args.addr (object_of w).image)) is in
     let same = c.in-Ok.ensures ∙ c.as_slice.ensures in
     read-done c.args.self.now.view _ c.args.addr c.args.len c.in-Some-bytes_of.answer free read
-    (rw (c.if-not-added.ensures, same) (ap (λ (w : View). with_entry w (ReadBack c.args.addr c.in-Some-bytes_of.answer)) is))
+    (rw (c.if-not-added.ensures.items, same) (ap (λ (w : View). with_entry w (ReadBack c.args.addr c.in-Some-bytes_of.answer)) is))

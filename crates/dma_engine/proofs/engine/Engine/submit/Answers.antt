@@ -29,13 +29,13 @@ invariant_of-self-2 c =
     let free = submit-open v c.args.ch t none in
     let less : i < length p.queues = omega (arith, many-queues p c.self.invariant, ap channels is, free.0, c.from.ensures) in
     let at = holds-at p c.self.invariant i q less c.index_mut.ensures.value in
-    let many : length q.places ≡ used (channel (object_of v) c.args.ch) = at.tied.many ∙ ap (λ (w : View). used (channel (object_of w) i)) is ∙ ap (λ (n : ℕ). used (channel (object_of v) n)) c.from.ensures in
+    let many : length q.places.items ≡ used (channel (object_of v) c.args.ch) = at.tied.many ∙ ap (λ (w : View). used (channel (object_of w) i)) is ∙ ap (λ (n : ℕ). used (channel (object_of v) n)) c.from.ensures in
     let below : lies_below t (size (view_of p)) ≡ true = ap (λ (w : View). lies_below t (size w)) is ∙ free.1 in
-    let allowed = submitted-allowed p i (length q.places) t q c.self.invariant less c.index_mut.ensures.value refl (omega (arith, many, free.2)) c.in-Ok.ensures.rules below in
-    let cookie : length q.places + 1 ≡ c.in-Ok.cookie = omega (arith, many, number) in
-    let holds = holds-submitted p i c.in-Ok.cookie t q c.self.invariant less c.index_mut.ensures.value (subst (λ (n : ℕ). Allows (object_of (view_of p)) (Submitted i t n)) cookie allowed) in
+    let allowed = submitted-allowed p i (length q.places.items) t q c.self.invariant less c.index_mut.ensures.value refl (omega (arith, many, free.2)) c.in-Ok.ensures.rules below in
+    let cookie : length q.places.items + 1 ≡ c.in-Ok.cookie = omega (arith, many, number) in
+    let holds = holds-submitted p i c.add.new.self.spare c.in-Ok.cookie t q c.self.invariant less c.index_mut.ensures.value (subst (λ (n : ℕ). Allows (object_of (view_of p)) (Submitted i t n)) cookie allowed) in
     let place : c.len-place.result ≡ length p.history = omega (arith, c.len-place.ensures, c.reserve.new.self.ok.0, ap length c.reserve.ensures.items) in
-    rw (c.in-Ok-push.ensures.items, c.if-not-add.ensures, place, c.reserve.ensures.items, ← c.from.ensures) holds
+    rw (c.in-Ok-push.ensures.items, c.if-not-add.ensures.added, place, c.reserve.ensures.items, ← c.from.ensures) holds
 
 pub returns-clause-answer : goal.returns-clause-answer
 returns-clause-answer c =

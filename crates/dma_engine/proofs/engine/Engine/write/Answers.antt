@@ -32,7 +32,7 @@ pub returns-then-not-added : goal.returns-then-not-added
 returns-then-not-added c =
     let end = size-is (parts_of c.self.inside) ∙ ap (λ (s : EngineState). size s.view) c.self.view_is in
     let free = write-free c.args.self.now.view c.args.addr (length c.args.bytes.now) (omega (arith, end, c.if-addr-bytes.false)) c.in_default.ensures in
-    rw c.if-not-added.ensures ((write-starved c.args.self.now.view c.args.addr c.args.bytes.now free).0, ap (λ (s : EngineState). s.view) c.self.view_is)
+    rw c.if-not-added.ensures.items ((write-starved c.args.self.now.view c.args.addr c.args.bytes.now free).0, ap (λ (s : EngineState). s.view) c.self.view_is)
 
 pub unreachable-requires : goal.unreachable-requires
 unreachable-requires c =
@@ -50,7 +50,7 @@ invariant_of-self-2 c =
     let n = length c.args.bytes.now in
     let free = write-free c.args.self.now.view c.args.addr n (omega (arith, end, c.if-addr-bytes.false)) c.in_default.ensures in
     let free' : write_fault (view_of p) c.args.addr n ≡ None = subst (λ (w : View). write_fault w c.args.addr n ≡ None) (sym is) free in
-    rw (c.if-not-added.ensures, c.in-Ok-write.ensures.ok, c.in-Ok.ensures) (holds-wrote p c.args.addr c.args.bytes.now c.self.invariant free')
+    rw (c.if-not-added.ensures.items, c.in-Ok-write.ensures.ok, c.in-Ok.ensures) (holds-wrote p c.args.addr c.args.bytes.now c.self.invariant free')
 
 pub returns : goal.returns
 returns c =
@@ -58,4 +58,4 @@ returns c =
     let end = size-is (parts_of c.self.inside) ∙ ap size is in
     let free = write-free c.args.self.now.view c.args.addr (length c.args.bytes.now) (omega (arith, end, c.if-addr-bytes.false)) c.in_default.ensures in
     write-done c.args.self.now.view _ c.args.addr c.args.bytes.now free
-    (rw (c.if-not-added.ensures, c.in-Ok.ensures) (ap (λ (w : View). with_entry w (Wrote c.args.addr c.args.bytes.now)) is))
+    (rw (c.if-not-added.ensures.items, c.in-Ok.ensures) (ap (λ (w : View). with_entry w (Wrote c.args.addr c.args.bytes.now)) is))

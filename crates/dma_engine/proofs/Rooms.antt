@@ -1,0 +1,153 @@
+-- The room that is made before it is needed, transfers found in a history, and which steps end.
+use Rattle.std.proofs.Common.{◌≡◌, ◌≢◌, ℕ, ◌+◌, ◌-◌, ◌<◌, ◌≤◌, List, [], ◌∷◌, ◌++◌, length, map, drop, Option, Some, None, Bool, true, false, refl, ap, sym, ◌∙◌, subst, arith, zero, suc}
+use Rattle.std.specs.Prelude.{slice_get, slice_index, slice_index_or, slice_set, is_some, nat_le, ◌==◌, if◌then◌else◌}
+use Rattle.std.proofs.lemmas.Bool.{lt-leb, le-leb, eq-eqb, false≢true}
+use Rattle.std.proofs.lemmas.List.{get_or-map, map-set, get_or-set_same, length-map}
+use Rattle.dma_insn.specs.declared.insn.Insn.{Insn}
+use Rattle.dma_insn.specs.declared.insn.Insn.TheVariants.{Ld, St, End, Sev, Wfe, Mov, Rmb, Wmb, Nop, Lp, LpEnd}
+use Rattle.dma_mem.specs.Places.{Descriptor}
+use Rattle.dma_mem.specs.declared.marks.MarkKind.TheVariants.{Reading, Writing}
+use Rattle.dma_chan.specs.Exec.{fault_in}
+use Rattle.dma_chan.specs.Layer.{Shared, carried_out, meets_mark}
+use Rattle.dma_chan.specs.Traffic.{read_places, written_places}
+use Rattle.dma_chan.specs.declared.turn.ChanTurn.{ChanTurn}
+use Rattle.dma_chan.specs.declared.turn.ChanTurn.TheVariants.{Moved, Waiting, Fault}
+use Rattle.dma_chan.specs.declared.turn.FaultKind.{FaultKind}
+use Rattle.dma_chan.specs.declared.turn.FaultKind.TheVariants.{DataReadErr, DataWriteErr}
+use Rattle.dma_engine.specs.declared.entry.Entry.{Entry}
+use Rattle.dma_engine.specs.declared.entry.Entry.TheVariants.{Submitted}
+use Rattle.dma_engine.specs.declared.outcome.TransResult.{TransResult}
+use Rattle.dma_engine.specs.declared.outcome.TransResult.TheVariants.{NoError, ReadFailed, WriteFailed}
+use Rattle.dma_engine.specs.declared.queue.Queue.{Queue}
+use Rattle.dma_engine.specs.Found.{transfer_in, transfer_of}
+use Rattle.dma_engine.specs.Inside.{queue_room}
+use Rattle.dma_engine.specs.Object.{ChannelState, channel, issued_front, no_transfer, used, is_set}
+use Rattle.dma_engine.specs.Room.{no_room}
+use Rattle.dma_engine.specs.Turn.{Stepped, turn, ends, insn_turn, front_turn, start_turn, finishes, moves_on, in_the_way, last_step}
+use Rattle.dma_engine.specs.View.{View, QueueRoom, RunningTransfer, object_of, channels, schedule_at}
+use Rattle.dma_engine.specs.Holds.{Holds, IsQueue, Parts, view_of, schedule_of}
+use Rattle.dma_engine.proofs.Changes.{changed, view-changed, holds-changed, schedule-kept}
+use Rattle.dma_engine.proofs.Queues.{holds-at}
+use Rattle.dma_engine.proofs.Quiet.{stays}
+
+-- ---- room
+
+-- a queue with other room
+abbrev pub with_room : Queue → ℕ → ℕ → Queue
+with_room q a b =
+    record q { places = record { items = q.places.items; spare = a }; outcomes = record { items = q.outcomes.items; spare = b } }
+
+pub holds-room : (p : Parts) (ch a b : ℕ) (q : Queue) → Holds p → ch < length p.queues → q ≡ slice_index_or p.queues ch q → Holds (changed p ch (with_room q a b) p.memory p.events p.history p.steps)
+holds-room p ch a b q h less read =
+    let v : View = view_of p in
+    let at = holds-at p h ch q less read in
+    let t = at.tied in
+    let r = with_room q a b in
+    holds-changed p ch r p.memory p.events p.history p.steps (object_of v) h less (stays p ch q r p.events p.history (object_of v) h less read (record {
+      legal = h.sound.legal;
+      leaves = refl;
+      grows = λ k e x. x;
+      image = refl;
+      events = h.events;
+      marks = refl;
+      many = refl;
+      others = λ c d. refl;
+      agrees = at.agrees;
+      runs_still = refl;
+      tied = record { many = t.many; stands = t.stands; outcomes = t.outcomes; issued = t.issued; halted = t.halted; machine = t.machine };
+    }))
+
+pub view-room : (p : Parts) (ch a b : ℕ) (q : Queue) → ch < length p.queues → q ≡ slice_index_or p.queues ch q → view_of (changed p ch (with_room q a b) p.memory p.events p.history p.steps) ≡ view_of p
+view-room p ch a b q less read =
+    let v : View = view_of p in
+    let r = with_room q a b in
+    view-changed p ch r p.memory p.events p.history p.steps
+    ∙ ap (λ s. record { base = v.base; history = p.history; steps = p.steps; schedule = s }) (schedule-kept p ch q r less read refl)
+
+-- the room of a channel is that of its queue
+pub room-at : (queues : List Queue) (ch : ℕ) (q : Queue) → ch < length queues → q ≡ slice_index_or queues ch q → slice_index_or (map queue_room queues) ch no_room ≡ queue_room q
+room-at queues ch q less read = get_or-map queue_room queues ch q no_room less ∙ ap queue_room (sym read)
+
+pub room-set : (queues : List Queue) (ch : ℕ) (q : Queue) → ch < length queues → slice_index_or (map queue_room (slice_set queues ch q)) ch no_room ≡ queue_room q
+room-set queues ch q less =
+    ap (λ l. slice_index_or l ch no_room) (map-set queue_room queues ch q)
+    ∙ get_or-set_same (map queue_room queues) ch (queue_room q) no_room (omega (arith, less, length-map queues queue_room))
+
+-- ---- transfers that are found by their places
+
+map-same : (f : ℕ → Descriptor) (xs : List ℕ) (ts : List Descriptor) → length xs ≡ length ts → ((k : ℕ) → k < length ts → f (slice_index xs k) ≡ slice_index_or ts k no_transfer) → map f xs ≡ ts
+map-same f [] [] n h = refl
+map-same f [] (t ∷ ts) n h = absurd (omega arith)
+map-same f (x ∷ xs) [] n h = absurd (omega arith)
+map-same f (x ∷ xs) (t ∷ ts) n h =
+    let first : f x ≡ t = h 0 (omega arith) in
+    let rest = map-same f xs ts (omega (arith, n)) (λ k l. h (suc k) (omega arith)) in
+    ap (λ u. u ∷ map f xs) first ∙ ap (λ l. t ∷ l) rest
+
+pub map-dropped : (f : ℕ → Descriptor) (k : ℕ) (xs : List ℕ) → map f (drop k xs) ≡ drop k (map f xs)
+map-dropped f zero xs = refl
+map-dropped f (suc k) [] = refl
+map-dropped f (suc k) (x ∷ xs) = map-dropped f k xs
+
+-- the transfers of a queue, by the places of their entries
+pub found-all : (ch : ℕ) (history : List Entry) (memory : List ℕ) (q : Queue) (c : ChannelState) (k : ℕ) → IsQueue ch history memory q c → map (transfer_in history) (drop k q.places.items) ≡ drop k c.submitted
+found-all ch history memory q c k t =
+    map-dropped (transfer_in history) k q.places.items
+    ∙ ap (drop k) (map-same (transfer_in history) q.places.items c.submitted t.many (λ n less. ap transfer_of (t.stands n less)))
+
+-- ---- which steps end
+
+pub ends-gone : (v : View) (ch : ℕ) → channels v ≤ ch → false ≡ ends (turn v ch).0
+ends-gone v ch h = let e : nat_le (channels v) ch ≡ true = le-leb _ _ h in rw e refl
+
+pub ends-halted : (v : View) (ch : ℕ) → ch < channels v → (channel (object_of v) ch).halted ≡ true → false ≡ ends (turn v ch).0
+ends-halted v ch h halted = let e : nat_le (channels v) ch ≡ false = lt-leb _ _ h in rw (e, halted) refl
+
+pub ends-paused : (v : View) (ch : ℕ) → ch < channels v → (channel (object_of v) ch).halted ≡ false → (schedule_at v ch).paused ≡ true → false ≡ ends (turn v ch).0
+ends-paused v ch h goes paused = let e : nat_le (channels v) ch ≡ false = lt-leb _ _ h in rw (e, goes, paused) refl
+
+start-ends : (v : View) (ch : ℕ) (x : Option RunningTransfer) → false ≡ ends (start_turn v ch x).0
+start-ends v ch None = refl
+start-ends v ch (Some r) = refl
+
+front-ends : (v : View) (ch : ℕ) (o : Option Descriptor) → false ≡ ends (front_turn v ch o None).0
+front-ends v ch None = refl
+front-ends v ch (Some t) = start-ends v ch (in_the_way v t)
+
+pub ends-idle : (v : View) (ch : ℕ) → ch < channels v → (channel (object_of v) ch).halted ≡ false → (schedule_at v ch).paused ≡ false → (schedule_at v ch).taken ≡ None → false ≡ ends (turn v ch).0
+ends-idle v ch h goes unpaused none =
+    let e : nat_le (channels v) ch ≡ false = lt-leb _ _ h in
+    rw (e, goes, unpaused, none) (front-ends v ch (issued_front (channel (object_of v) ch)))
+
+pub ends-spent : (v : View) (ch n : ℕ) (t : Descriptor) → ch < channels v → (channel (object_of v) ch).halted ≡ false → (schedule_at v ch).paused ≡ false → issued_front (channel (object_of v) ch) ≡ Some t → (schedule_at v ch).taken ≡ Some n → v.steps ≡ last_step → false ≡ ends (turn v ch).0
+ends-spent v ch n t h goes unpaused issued runs spent =
+    let e : nat_le (channels v) ch ≡ false = lt-leb _ _ h in
+    let f : (v.steps == last_step) ≡ true = eq-eqb v.steps last_step spent in
+    rw (e, goes, unpaused, issued, runs, f) refl
+
+by-mark : (b : Bool) (v : View) (ch n : ℕ) (t : Descriptor) (how : TransResult) (kind : FaultKind) (m w : Shared) → ends (if◌then◌else◌ {A = Stepped} b (finishes v ch t n how) (moves_on v ch n)).0 ≡ is_some (fault_in (if◌then◌else◌ {A = ChanTurn × Shared} b (Fault kind, m) (Moved, w)).0)
+by-mark true v ch n t how kind m w = refl
+by-mark false v ch n t how kind m w = refl
+
+by-flag : (b : Bool) (x y : Stepped) → ends x.0 ≡ false → ends y.0 ≡ false → ends (if◌then◌else◌ {A = Stepped} b x y).0 ≡ false
+by-flag true x y h g = h
+by-flag false x y h g = g
+
+no-fault : (b : Bool) (e : ℕ) (m w : Shared) → is_some (fault_in (if◌then◌else◌ {A = ChanTurn × Shared} b (Moved, w) (Waiting e, m)).0) ≡ false
+no-fault true e m w = refl
+no-fault false e m w = refl
+
+-- an instruction that isn't the end finishes the front where the channel fails at it
+pub ends-insn : (v : View) (ch n : ℕ) (t : Descriptor) (m : Shared) (i : Insn) → i ≢ End → ends (insn_turn v ch t n i).0 ≡ is_some (fault_in (carried_out i (read_places t n) (written_places t n) (object_of v).marks m).0)
+ends-insn v ch n t m End h = absurd (h refl)
+ends-insn v ch n t m Ld h = by-mark (meets_mark Reading (object_of v).marks (read_places t n)) v ch n t ReadFailed DataReadErr m m
+ends-insn v ch n t m St h = by-mark (meets_mark Writing (object_of v).marks (written_places t n)) v ch n t WriteFailed DataWriteErr m _
+ends-insn v ch n t m (Sev e) h = refl
+ends-insn v ch n t m (Wfe e x) h =
+    by-flag (is_set (object_of v) e) _ _ refl refl ∙ sym (no-fault (slice_index_or m.flags e false) e m _)
+ends-insn v ch n t m (Mov a b) h = refl
+ends-insn v ch n t m Rmb h = refl
+ends-insn v ch n t m Wmb h = refl
+ends-insn v ch n t m Nop h = refl
+ends-insn v ch n t m (Lp a b) h = refl
+ends-insn v ch n t m (LpEnd a b) h = refl

@@ -1,0 +1,34 @@
+use Rattle.std.proofs.Common.{◌≡◌, ◌+◌, ◌<◌, ◌≤◌, ◌∙◌, ap, sym, arith, length, take}
+use Rattle.std.specs.Prelude.{slice_index_or}
+use Rattle.std.proofs.lemmas.List.Sums.{sum_by_more}
+use Rattle.std.proofs.lemmas.List.{take_all}
+use Rattle.std.specs.List.{sum_by}
+use Rattle.dma_engine.specs.Holds.{view_of}
+use Rattle.dma_engine.specs.Inside.{parts_of}
+use Rattle.dma_engine.specs.Object.{channel, finished, new_channel}
+use Rattle.dma_engine.specs.View.{EngineState, object_of}
+use Rattle.dma_engine.proofs.Boards.{queue-small}
+use Rattle.dma_engine.proofs.Queues.{holds-at, many-queues}
+use Rattle.dma_engine.proofs.Sizes.{few-queues}
+use Rattle.dma_engine.proofs.engine.Engine.finished_all.Goals as goal
+
+pub overflow_add-all : goal.overflow_add-all
+overflow_add-all c =
+    let p = parts_of c.self.inside in
+    let i = c.loop-index.index in
+    let less : i < length p.queues = omega (arith, c.loop-index-test.true, c.len-index-end.ensures, c.self.inside.queues.ok.0) in
+    let small = queue-small p c.self.invariant i c.index.result.now less c.index.ensures in
+    omega (arith, few-queues p c.self.invariant, less, small.0, small.1, c.len.ensures, c.loop-index.invariant.1)
+
+pub loop-index-preserved : goal.loop-index-preserved
+loop-index-preserved c =
+    let p = parts_of c.self.inside in
+    let v = c.args.self.now.view in
+    let i = c.loop-index.index in
+    let less : i < length p.queues = omega (arith, c.loop-index-test.true, c.len-index-end.ensures, c.self.inside.queues.ok.0) in
+    let small = queue-small p c.self.invariant i c.index.result.now less c.index.ensures in
+    let at = holds-at p c.self.invariant i c.index.result.now less c.index.ensures in
+    let many = many-queues p c.self.invariant ∙ ap (λ (s : EngineState). length (object_of s.view).channels) c.self.view_is in
+    let here : length c.index.result.now.outcomes.items ≡ finished (channel (object_of v) i) = ap length at.tied.outcomes ∙ ap (λ (s : EngineState). finished (channel (object_of s.view) i)) c.self.view_is in
+    let more = sum_by_more finished (object_of v).channels i new_channel (omega (arith, less, many)) in
+    (omega (arith, more, here, c.len.ensures, c.loop-index.invariant.0), omega (arith, small.0, small.1, c.len.ensures, c.loop-index.invariant.1))

@@ -1,0 +1,58 @@
+use Rattle.std.proofs.Common.{◌≡◌, ◌-◌, ◌<◌, ◌≤◌, ◌∙◌, ap, arith, length, subst, sym}
+use Rattle.std.specs.Prelude.{map, slice_index_or, slice_set}
+use Rattle.dma_engine.specs.Holds.{view_of}
+use Rattle.dma_engine.specs.Inside.{parts_of, queue_room}
+use Rattle.dma_engine.specs.Object.{channel, unfinished}
+use Rattle.dma_engine.specs.Room.{no_room}
+use Rattle.dma_engine.specs.View.{View, EngineState, object_of}
+use Rattle.dma_engine.proofs.Queues.{holds-at}
+use Rattle.dma_engine.proofs.Rooms.{holds-room, view-room, room-set}
+use Rattle.dma_engine.proofs.engine.Engine.make_room.Goals as goal
+
+pub invariant_of-self-then-not-make_room : goal.invariant_of-self-then-not-make_room
+invariant_of-self-then-not-make_room c =
+    let p = parts_of c.self.inside in
+    let less : c.from-index.result < length p.queues = omega (arith, c.if-index-len.false, c.len.ensures, c.self.inside.queues.ok.0) in
+    rw (c.reserve.ensures.items, c.make_room.ensures.same)
+    (holds-room p c.from-index.result c.make_room.new.self.places.spare c.make_room.new.self.outcomes.spare c.index_mut-queue.result.now c.self.invariant less c.index_mut-queue.ensures.value)
+
+pub returns-then-not-make_room-clause-view : goal.returns-then-not-make_room-clause-view
+returns-then-not-make_room-clause-view c =
+    let p = parts_of c.self.inside in
+    let less : c.from-index.result < length p.queues = omega (arith, c.if-index-len.false, c.len.ensures, c.self.inside.queues.ok.0) in
+    rw (c.reserve.ensures.items, c.make_room.ensures.same)
+    (view-room p c.from-index.result c.make_room.new.self.places.spare c.make_room.new.self.outcomes.spare c.index_mut-queue.result.now less c.index_mut-queue.ensures.value)
+    ∙ ap (λ (s : EngineState). s.view) c.self.view_is
+
+pub invariant_of-self-2 : goal.invariant_of-self-2
+invariant_of-self-2 c =
+    let p = parts_of c.self.inside in
+    let less : c.from-index.result < length p.queues = omega (arith, c.if-index-len.false, c.len.ensures, c.self.inside.queues.ok.0) in
+    rw (c.reserve.ensures.items, c.make_room.ensures.same)
+    (holds-room p c.from-index.result c.make_room.new.self.places.spare c.make_room.new.self.outcomes.spare c.index_mut-queue.result.now c.self.invariant less c.index_mut-queue.ensures.value)
+
+pub returns-clause-view : goal.returns-clause-view
+returns-clause-view c =
+    let p = parts_of c.self.inside in
+    let less : c.from-index.result < length p.queues = omega (arith, c.if-index-len.false, c.len.ensures, c.self.inside.queues.ok.0) in
+    rw (c.reserve.ensures.items, c.make_room.ensures.same)
+    (view-room p c.from-index.result c.make_room.new.self.places.spare c.make_room.new.self.outcomes.spare c.index_mut-queue.result.now less c.index_mut-queue.ensures.value)
+    ∙ ap (λ (s : EngineState). s.view) c.self.view_is
+
+pub returns-clause-made : goal.returns-clause-made
+returns-clause-made c =
+    let p = parts_of c.self.inside in
+    let i = c.from-index.result in
+    let q = c.index_mut-queue.result.now in
+    let r = c.make_room.new.self in
+    let less : i < length p.queues = omega (arith, c.if-index-len.false, c.len.ensures, c.self.inside.queues.ok.0) in
+    let at = holds-at p c.self.invariant i q less c.index_mut-queue.ensures.value in
+    let room : slice_index_or (map queue_room (slice_set p.queues i r)) i no_room ≡ queue_room r = room-set p.queues i r less in
+    let cookie : 0 < r.places.spare = c.make_room.ensures.cookie c.if-not-make_room.false in
+    let outcomes : length q.places.items - length q.outcomes.items ≤ r.outcomes.spare = c.make_room.ensures.outcomes c.if-not-make_room.false in
+    let old : unfinished (channel (object_of (view_of p)) i) ≤ r.outcomes.spare = omega (arith, outcomes, at.tied.many, ap length at.tied.outcomes) in
+    rw (← c.from-index.ensures) (record {
+      entry = omega (arith, c.in-Ok.ensures.ok);
+      cookie = rw room cookie;
+      outcomes = rw room (subst (λ (w : View). unfinished (channel (object_of w) i) ≤ r.outcomes.spare) (sym (returns-clause-view c)) (subst (λ (s : EngineState). unfinished (channel (object_of s.view) i) ≤ r.outcomes.spare) c.self.view_is old));
+    })

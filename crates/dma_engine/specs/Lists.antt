@@ -1,0 +1,11 @@
+-- Lists with the room that is made for more.
+use Rattle.std.specs.Prelude.{ℕ, List}
+use Rattle.dma_engine.specs.declared.outcome.Outcome.{Outcome}
+
+pub record PlaceList : Type 0 where
+  pub items : List ℕ
+  pub spare : ℕ
+
+pub record OutcomeList : Type 0 where
+  pub items : List Outcome
+  pub spare : ℕ

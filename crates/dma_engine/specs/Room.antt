@@ -1,0 +1,17 @@
+-- Room that is made before it is needed.
+use Rattle.std.specs.Prelude.{ℕ, ◌<◌, ◌≤◌, List, [], slice_index_or}
+use Rattle.dma_engine.specs.Object.{channel, unfinished}
+use Rattle.dma_engine.specs.View.{EngineState, QueueRoom, Room, object_of}
+
+-- where there is no such channel
+abbrev pub no_room : QueueRoom
+no_room = record { places = 0; outcomes = 0 }
+
+abbrev pub room_on : Room → ℕ → QueueRoom
+room_on r ch = slice_index_or r.queues ch no_room
+
+-- There is room for one more entry, for one more cookie of the channel, and for the outcomes of all its unfinished cookies.
+pub record HasRoom (e : EngineState) (ch : ℕ) : Type 0 where
+  pub entry : 0 < e.room.entries
+  pub cookie : 0 < (room_on e.room ch).places
+  pub outcomes : unfinished (channel (object_of e.view) ch) ≤ (room_on e.room ch).outcomes
