@@ -1,5 +1,5 @@
--- What each answer of the engine does to the ticks, to the step count and to the number of finished cookies.
-use Rattle.std.proofs.Common.{◌≡◌, ◌≢◌, ℕ, ◌+◌, ◌-◌, ◌<◌, ◌≤◌, List, [], ◌∷◌, ◌++◌, length, map, drop, Option, Some, None, Bool, true, false, refl, ap, sym, ◌∙◌, subst, arith, append-nil}
+-- What each answer adds to the ticks, to the step count and to the number of finished cookies.
+use Rattle.std.proofs.Common.{◌≡◌, ℕ, ◌+◌, ◌-◌, ◌<◌, ◌≤◌, List, [], ◌∷◌, ◌++◌, length, map, drop, Option, Some, None, Bool, true, false, refl, ap, sym, ◌∙◌, subst, arith, append-nil, inl, inr, ◌⊎◌}
 use Rattle.std.specs.Prelude.{if◌then◌else◌, ◌==◌, nat_le, slice_index_or, slice_set, replicate, Result, Ok, Err, sum}
 use Rattle.std.specs.List.{sum_by}
 use Rattle.std.proofs.lemmas.Bool.{leb-false}
@@ -31,6 +31,7 @@ use Rattle.dma_engine.specs.View.{View, RunningTransfer, object_of, channels, sc
 use Rattle.dma_engine.specs.Object.{issued_front, is_set}
 use Rattle.dma_engine.specs.Turn.{Stepped, turn, ends, front_turn, start_turn, insn_turn, moves_on, finishes, with_entry, in_the_way, last_step}
 use Rattle.dma_engine.specs.Answer.{Answers, Steps, answer, unless, reply_of, write_fault, read_fault, submit_fault, channel_fault, mark_fault, raise_fault, with_pause, terminated, done_on}
+use Rattle.dma_engine.specs.Laws.{Adds, Still, IsQuiet, QuietCallsKeep, StepsAdd, EndsAsTold, ticks_in, steps_in, finishes_in}
 use Rattle.dma_engine.proofs.Endings.{length-aborted}
 use Rattle.dma_engine.proofs.Histories.{object_after-append}
 
@@ -62,23 +63,17 @@ finished-same o ch c e =
 
 -- ---- what stays
 
--- the ticks, the step count and the number of finished cookies stay
-pub record Still (v w : View) : Type 0 where
-  pub ticks : ticks_of w.history ≡ ticks_of v.history
-  pub steps : w.steps ≡ v.steps
-  pub finished : finished_all (object_of w) ≡ finished_all (object_of v)
-
-pub same : (v : View) → Still v v
+same : (v : View) → Still v v
 same v = record { ticks = refl; steps = refl; finished = refl }
 
 -- an entry that gives no cookie and finishes none
-abbrev pub IsQuiet : Entry → Type 0
-IsQuiet (SubmittedEntry ch t cookie) = ⊥
-IsQuiet (FinishedEntry ch result done) = ⊥
-IsQuiet (Terminated ch done count) = ⊥
-IsQuiet _ = Unit {0}
+abbrev IsQuietEntry : Entry → Type 0
+IsQuietEntry (SubmittedEntry ch t cookie) = ⊥
+IsQuietEntry (FinishedEntry ch result done) = ⊥
+IsQuietEntry (Terminated ch done count) = ⊥
+IsQuietEntry _ = Unit {0}
 
-quiet-ticks : (e : Entry) → IsQuiet e → ticks_of (e ∷ []) ≡ []
+quiet-ticks : (e : Entry) → IsQuietEntry e → ticks_of (e ∷ []) ≡ []
 quiet-ticks (Wrote addr bytes) q = refl
 quiet-ticks (ReadBack addr bytes) q = refl
 quiet-ticks (SubmittedEntry ch t cookie) q = absurd q
@@ -90,7 +85,7 @@ quiet-ticks (Terminated ch done count) q = absurd q
 quiet-ticks (Marked kind segment) q = refl
 quiet-ticks Unmarked q = refl
 
-quiet-after : (o : Object) (e : Entry) → IsQuiet e → finished_all (after o e) ≡ finished_all o
+quiet-after : (o : Object) (e : Entry) → IsQuietEntry e → finished_all (after o e) ≡ finished_all o
 quiet-after o (Wrote addr bytes) q = refl
 quiet-after o (ReadBack addr bytes) q = refl
 quiet-after o (SubmittedEntry ch t cookie) q = absurd q
@@ -106,7 +101,7 @@ quiet-after o Unmarked q = refl
 pub object-one : (v : View) (e : Entry) → object_of (with_entry v e) ≡ after (object_of v) e
 object-one v e = object_after-append v.base v.history (e ∷ [])
 
-entry-still : (v : View) (e : Entry) → IsQuiet e → Still v (with_entry v e)
+entry-still : (v : View) (e : Entry) → IsQuietEntry e → Still v (with_entry v e)
 entry-still v e q = record {
   ticks = ticks-append v.history (e ∷ []) ∙ ap (λ l. ticks_of v.history ++ l) (quiet-ticks e q) ∙ append-nil (ticks_of v.history);
   steps = refl;
@@ -122,7 +117,7 @@ unless-still v (Some fault) x h = same v
 by-answer : (v w : View) (call : Call) (reply : Reply) (P : View → Type 0) → P (answer v call).1 → (reply, w) ≡ answer v call → P w
 by-answer v w call reply P h is = subst P (sym (ap (λ (x : Reply × View). x.1) is)) h
 
-pub answered : (v w : View) (call : Call) (reply : Reply) (P : View → Type 0) → P v → P (answer v call).1 → Answers v call reply w → P w
+answered : (v w : View) (call : Call) (reply : Reply) (P : View → Type 0) → P v → P (answer v call).1 → Answers v call reply w → P w
 answered v w call Done P o h is = by-answer v w call Done P h is
 answered v w call (Bytes b) P o h is = by-answer v w call (Bytes b) P h is
 answered v w call (Cookie n) P o h is = by-answer v w call (Cookie n) P h is
@@ -141,13 +136,7 @@ answered v w call (Refused BadRange) P o h is = by-answer v w call (Refused BadR
 
 -- ---- the calls that give no cookie and finish none
 
-abbrev pub IsQuietCall : Call → Type 0
-IsQuietCall (Submit ch t) = ⊥
-IsQuietCall (Terminate ch) = ⊥
-IsQuietCall (Step ch) = ⊥
-IsQuietCall _ = Unit {0}
-
-call-still : (v : View) (call : Call) → IsQuietCall call → Still v (answer v call).1
+call-still : (v : View) (call : Call) → IsQuiet call → Still v (answer v call).1
 call-still v (Write addr bytes) q = unless-still v (write_fault v addr (length bytes)) _ (entry-still v (Wrote addr bytes) tt)
 call-still v (Read addr len) q = unless-still v (read_fault v addr len) _ (entry-still v (ReadBack addr _) tt)
 call-still v (Submit ch t) q = absurd q
@@ -162,13 +151,13 @@ call-still v (Mark kind segment) q = unless-still v (mark_fault segment) _ (entr
 call-still v Unmark q = entry-still v Unmarked tt
 call-still v (Raise event) q = unless-still v (raise_fault event) _ (entry-still v (Signalled Host event) tt)
 
-pub quiet : (v w : View) (call : Call) (reply : Reply) → IsQuietCall call → Answers v call reply w → Still v w
-quiet v w call reply q h = answered v w call reply (Still v) (same v) (call-still v call q) h
+pub quiet_calls_keep : QuietCallsKeep
+quiet_calls_keep v w call reply q h = answered v w call reply (Still v) (same v) (call-still v call q) h
 
 -- ---- a step
 
 -- what a step's answer leaves: a finish is one tick more, one step more and one more finished; a move one step more
-abbrev pub Deed : View → ℕ → Stepped → Type 0
+abbrev Deed : View → ℕ → Stepped → Type 0
 Deed v ch (Ok (FinishedTurn cookie result residue), w) =
     (ticks_of w.history ≡ ticks_of v.history ++ Finished ch 1 ∷ []) × (w.steps ≡ v.steps + 1)
     × (finished_all (object_of w) ≡ finished_all (object_of v) + 1) × (length w.history ≡ length v.history + 1)
@@ -183,7 +172,7 @@ if-deed v ch false x y h g = g refl
 moves-deed : (v : View) (ch n : ℕ) → Deed v ch (moves_on v ch n)
 moves-deed v ch n = (refl, refl, refl)
 
-entry-moves : (v : View) (ch n : ℕ) (e : Entry) → IsQuiet e → Deed v ch (moves_on (with_entry v e) ch n)
+entry-moves : (v : View) (ch n : ℕ) (e : Entry) → IsQuietEntry e → Deed v ch (moves_on (with_entry v e) ch n)
 entry-moves v ch n e q = let s = entry-still v e q in (s.ticks, refl, s.finished)
 
 finish-deed : (v : View) (ch n : ℕ) (t : Descriptor) (how : TransResult) → ch < channels v → Deed v ch (finishes v ch t n how)
@@ -219,7 +208,7 @@ front-deed v ch None taken l = same v
 front-deed v ch (Some t) None l = start-deed v ch (in_the_way v t)
 front-deed v ch (Some t) (Some n) l = if-deed v ch (v.steps == last_step) (Err StepsSpent, v) (insn_turn v ch t n (member t n)) (λ _. same v) (λ _. insn-deed v ch n t (member t n) l)
 
-pub turn-deed : (v : View) (ch : ℕ) → Deed v ch (turn v ch)
+turn-deed : (v : View) (ch : ℕ) → Deed v ch (turn v ch)
 turn-deed v ch =
     let c = channel (object_of v) ch in
     let s = schedule_at v ch in
@@ -228,6 +217,71 @@ turn-deed v ch =
     let second : Stepped = if c.halted then (Ok Halted, v) else third in
     if-deed v ch (nat_le (channels v) ch) (Err NoChannel, v) second (λ _. same v)
     (λ there. if-deed v ch c.halted (Ok Halted, v) third (λ _. same v) (λ _. if-deed v ch s.paused (Ok Paused, v) last (λ _. same v) (λ _. front-deed v ch (issued_front c) s.taken (leb-false _ _ there))))
+
+-- ---- what a step's answer is
+
+told-ok : (x : Result Turn EngineFault) (t : Turn) → Turned t ≡ reply_of Turned x → x ≡ Ok t
+told-ok (Ok u) t h = let e : u ≡ t = cc in ap (λ y. Ok y) e
+told-ok (Err f) t h = absurd cc
+
+told-err : (x : Result Turn EngineFault) (f : EngineFault) → Refused f ≡ reply_of Turned x → x ≡ Err f
+told-err (Ok u) f h = absurd cc
+told-err (Err g) f h = let e : g ≡ f = cc in ap (λ y. Err y) e
+
+by-turn : (v w : View) (ch : ℕ) (reply : Reply) (x : Result Turn EngineFault) → (reply, w) ≡ answer v (Step ch) → (reply ≡ reply_of Turned (turn v ch).0 → (turn v ch).0 ≡ x) → turn v ch ≡ (x, w)
+by-turn v w ch reply x is inv =
+    let first : (turn v ch).0 ≡ x = inv (ap (λ (y : Reply × View). y.0) is) in
+    let second : (turn v ch).1 ≡ w = sym (ap (λ (y : Reply × View). y.1) is) in
+    ap (λ y. (y, (turn v ch).1)) first ∙ ap (λ u. (x, u)) second
+
+-- it is the turn's, or memory was wanting and nothing changed
+stepped : (v w : View) (ch : ℕ) (r : Result Turn EngineFault) → Steps v ch r w → ((r ≡ Err NoMemory) × (w ≡ v)) ⊎ (turn v ch ≡ (r, w))
+stepped v w ch (Ok t) h = inr (by-turn v w ch (Turned t) (Ok t) h (λ e. told-ok (turn v ch).0 t e))
+stepped v w ch (Err NoMemory) h = inl (refl, h.1)
+stepped v w ch (Err OutOfMemoryRange) h = inr (by-turn v w ch (Refused OutOfMemoryRange) (Err OutOfMemoryRange) h (λ e. told-err (turn v ch).0 OutOfMemoryRange e))
+stepped v w ch (Err (Busy c k)) h = inr (by-turn v w ch (Refused (Busy c k)) (Err (Busy c k)) h (λ e. told-err (turn v ch).0 (Busy c k) e))
+stepped v w ch (Err NoChannel) h = inr (by-turn v w ch (Refused NoChannel) (Err NoChannel) h (λ e. told-err (turn v ch).0 NoChannel e))
+stepped v w ch (Err CookiesSpent) h = inr (by-turn v w ch (Refused CookiesSpent) (Err CookiesSpent) h (λ e. told-err (turn v ch).0 CookiesSpent e))
+stepped v w ch (Err StepsSpent) h = inr (by-turn v w ch (Refused StepsSpent) (Err StepsSpent) h (λ e. told-err (turn v ch).0 StepsSpent e))
+stepped v w ch (Err BadEvent) h = inr (by-turn v w ch (Refused BadEvent) (Err BadEvent) h (λ e. told-err (turn v ch).0 BadEvent e))
+stepped v w ch (Err BadRange) h = inr (by-turn v w ch (Refused BadRange) (Err BadRange) h (λ e. told-err (turn v ch).0 BadRange e))
+
+-- ---- what a step adds
+
+still-adds : (v w : View) → Still v w → Adds v w [] 0 0
+still-adds v w s = record {
+  ticks = s.ticks ∙ sym (append-nil (ticks_of v.history));
+  steps = omega (arith, s.steps);
+  finished = omega (arith, s.finished);
+}
+
+deed-adds : (v w : View) (ch : ℕ) (r : Result Turn EngineFault) → Deed v ch (r, w) → Adds v w (ticks_in ch r) (steps_in r) (finishes_in r)
+deed-adds v w ch (Ok (FinishedTurn a b c)) d = record { ticks = d.0; steps = d.1; finished = d.2 }
+deed-adds v w ch (Ok Moved) d = record {
+  ticks = d.0 ∙ sym (append-nil (ticks_of v.history));
+  steps = d.1;
+  finished = omega (arith, d.2);
+}
+deed-adds v w ch (Ok Nothing) d = still-adds v w d
+deed-adds v w ch (Ok (Held a b)) d = still-adds v w d
+deed-adds v w ch (Ok (Started a)) d = still-adds v w d
+deed-adds v w ch (Ok (Waiting a)) d = still-adds v w d
+deed-adds v w ch (Ok Paused) d = still-adds v w d
+deed-adds v w ch (Ok Halted) d = still-adds v w d
+deed-adds v w ch (Err f) d = still-adds v w d
+
+pub steps_add : StepsAdd
+steps_add v w ch r h = elim (stepped v w ch r h) [
+  | inl none ↦
+      subst (λ x. Adds v w (ticks_in ch x) (steps_in x) (finishes_in x)) (sym none.0) (subst (λ u. Adds v u [] 0 0) (sym none.1) (still-adds v v (same v)))
+  | inr is ↦ deed-adds v w ch r (subst (λ (s : Stepped). Deed v ch s) is (turn-deed v ch))
+]
+
+pub ends_as_told : EndsAsTold
+ends_as_told v w ch r h = elim (stepped v w ch r h) [
+  | inl none ↦ inl none.0
+  | inr is ↦ inr (ap (λ (s : Stepped). ends s.0) (sym is))
+]
 
 -- ---- a submit and a terminate
 

@@ -23,3 +23,4 @@ pub mod Chains
 pub mod Kept
 pub mod Rows
 pub mod Deeds
+pub mod Given

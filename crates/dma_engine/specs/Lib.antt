@@ -12,3 +12,4 @@ pub mod Lists
 pub mod Found
 pub mod Room
 pub mod Due
+pub mod Laws

@@ -6,6 +6,7 @@ pub mod call;
 pub mod engine;
 pub mod entry;
 pub mod fault;
+pub mod laws;
 mod lists;
 pub mod outcome;
 mod queue;

@@ -1,0 +1,93 @@
+-- What each answer adds to the ticks, to the step count and to the number of finished cookies.
+use Rattle.std.specs.Prelude.{◌≡◌, ℕ, ◌+◌, ◌≤◌, ◌<◌, ◌⊎◌, if◌then◌else◌, Result, Ok, Err, List, [], ◌∷◌, ◌++◌, length, replicate}
+use Rattle.dma_mem.specs.Places.{Descriptor}
+use Rattle.dma_engine.specs.declared.call.Call.{Call}
+use Rattle.dma_engine.specs.declared.call.Call.TheVariants.{Submit, Terminate, Step}
+use Rattle.dma_engine.specs.declared.call.Reply.{Reply}
+use Rattle.dma_engine.specs.declared.call.Reply.TheVariants.{Cookie, Count}
+use Rattle.dma_engine.specs.declared.entry.Entry.{Entry}
+use Rattle.dma_engine.specs.declared.fault.EngineFault.{EngineFault}
+use Rattle.dma_engine.specs.declared.fault.EngineFault.TheVariants.{NoMemory}
+use Rattle.dma_engine.specs.declared.turn.Turn.{Turn}
+use Rattle.dma_engine.specs.declared.turn.Turn.TheVariants.{Moved, Finished as TurnFinished}
+use Rattle.dma_engine.specs.Object.{channel, finished, finished_all, unfinished, used}
+use Rattle.dma_engine.specs.Ticks.{Tick, Submitted, Finished, board_after, board_of, no_counts, ticks_of}
+use Rattle.dma_engine.specs.Turn.{ends, turn}
+use Rattle.dma_engine.specs.Answer.{Answers, Steps}
+use Rattle.dma_engine.specs.View.{View, IsSound, channels, object_of}
+
+-- so many steps does an answer count: one for each that moves or finishes
+abbrev pub steps_in : Result Turn EngineFault → ℕ
+steps_in (Ok Moved) = 1
+steps_in (Ok (TurnFinished cookie result residue)) = 1
+steps_in _ = 0
+
+-- so many cookies does an answer finish
+abbrev pub finishes_in : Result Turn EngineFault → ℕ
+finishes_in r = if ends r then 1 else 0
+
+-- the tick of an answer, where it finishes a cookie
+abbrev pub ticks_in : ℕ → Result Turn EngineFault → List Tick
+ticks_in ch r = if ends r then Finished ch 1 ∷ [] else []
+
+-- The later view has these ticks more, so many steps and so many finished cookies.
+pub record Adds (old new : View) (more : List Tick) (moves finishes : ℕ) : Type 0 where
+  pub ticks : ticks_of new.history ≡ ticks_of old.history ++ more
+  pub steps : new.steps ≡ old.steps + moves
+  pub finished : finished_all (object_of new) ≡ finished_all (object_of old) + finishes
+
+-- Ticks, step count and finished cookies stay.
+pub record Still (old new : View) : Type 0 where
+  pub ticks : ticks_of new.history ≡ ticks_of old.history
+  pub steps : new.steps ≡ old.steps
+  pub finished : finished_all (object_of new) ≡ finished_all (object_of old)
+
+-- a call that gives no cookie and finishes none
+abbrev pub IsQuiet : Call → Type 0
+IsQuiet (Submit ch t) = ⊥
+IsQuiet (Terminate ch) = ⊥
+IsQuiet (Step ch) = ⊥
+IsQuiet _ = Unit {0}
+
+-- Whatever such a call answers, ticks, step count and finished cookies stay.
+abbrev pub QuietCallsKeep : Type 0
+QuietCallsKeep = (v w : View) (call : Call) (reply : Reply) → IsQuiet call → Answers v call reply w → Still v w
+
+-- An accepted submit adds its tick, and its cookie is then the last one given on a channel that is there.
+abbrev pub SubmitsGive : Type 0
+SubmitsGive =
+    (v w : View) (ch cookie : ℕ) (t : Descriptor) → Answers v (Submit ch t) (Cookie cookie) w
+    → Adds v w (Submitted ch ∷ []) 0 0 × (ch < channels w) × (0 < cookie) × (cookie ≡ used (channel (object_of w) ch))
+
+-- An accepted terminate adds its tick, and all cookies of its channel are then finished.
+abbrev pub TerminatesFinish : Type 0
+TerminatesFinish =
+    (v w : View) (ch count : ℕ) → Answers v (Terminate ch) (Count count) w
+    → Adds v w (Finished ch count ∷ []) 0 count × (ch < channels w) × (count ≡ unfinished (channel (object_of v) ch))
+    × (used (channel (object_of w) ch) ≤ finished (channel (object_of w) ch))
+
+-- A step adds what its answer says.
+abbrev pub StepsAdd : Type 0
+StepsAdd =
+    (v w : View) (ch : ℕ) (r : Result Turn EngineFault) → Steps v ch r w
+    → Adds v w (ticks_in ch r) (steps_in r) (finishes_in r)
+
+-- A step finishes a cookie where the turn does, unless it is refused memory.
+abbrev pub EndsAsTold : Type 0
+EndsAsTold =
+    (v w : View) (ch : ℕ) (r : Result Turn EngineFault) → Steps v ch r w
+    → (r ≡ Err NoMemory) ⊎ (ends r ≡ ends (turn v ch).0)
+
+-- The board of the history's ticks has the counts of the object that the history leaves.
+abbrev pub BoardsCount : Type 0
+BoardsCount = (v : View) → IsSound v → board_after (board_of v.base) (ticks_of v.history) ≡ board_of (object_of v)
+
+-- Histories begin with nothing given on any of at most 8 channels.
+abbrev pub BoardsOpen : Type 0
+BoardsOpen =
+    (v : View) → IsSound v
+    → (board_of v.base ≡ replicate (channels v) no_counts) × (channels v ≤ 8)
+
+-- A history has no more ticks than entries.
+abbrev pub TicksAreFew : Type 0
+TicksAreFew = (es : List Entry) → length (ticks_of es) ≤ length es

@@ -1,0 +1,19 @@
+//! Laws of the engine's answers, for a layer that counts them. Each is the clause of a function that does nothing.
+
+ghost use Rattle.dma_engine.specs.Laws.{QuietCallsKeep, SubmitsGive, TerminatesFinish, StepsAdd, EndsAsTold, BoardsCount, BoardsOpen, TicksAreFew};
+
+/// What each call adds to the ticks, to the step count and to the number of finished cookies.
+pub fn calls_add()
+    ensures quiet { QuietCallsKeep }
+    ensures submit { SubmitsGive }
+    ensures terminate { TerminatesFinish }
+    ensures step { StepsAdd }
+    ensures ends { EndsAsTold }
+{}
+
+/// What the ticks of a history add up to.
+pub fn ticks_add_up()
+    ensures board { BoardsCount }
+    ensures opening { BoardsOpen }
+    ensures few { TicksAreFew }
+{}
