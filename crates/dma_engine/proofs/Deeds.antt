@@ -1,9 +1,8 @@
 -- What each answer adds to the ticks, to the step count and to the number of finished cookies.
-use Rattle.std.proofs.Common.{◌≡◌, ℕ, ◌+◌, ◌-◌, ◌<◌, ◌≤◌, List, [], ◌∷◌, ◌++◌, length, map, drop, Option, Some, None, Bool, true, false, refl, ap, sym, ◌∙◌, subst, arith, append-nil, inl, inr, ◌⊎◌}
-use Rattle.std.specs.Prelude.{if◌then◌else◌, ◌==◌, nat_le, slice_index_or, slice_set, replicate, Result, Ok, Err, sum}
-use Rattle.std.specs.List.{sum_by}
+use Rattle.std.proofs.Common.{◌≡◌, ℕ, ◌+◌, ◌<◌, List, [], ◌∷◌, ◌++◌, length, map, drop, Option, Some, None, Bool, true, false, refl, ap, sym, ◌∙◌, subst, arith, append-nil, inl, inr, ◌⊎◌}
+use Rattle.std.specs.Prelude.{if◌then◌else◌, ◌==◌, nat_le, slice_set, Result, Ok, Err, sum}
 use Rattle.std.proofs.lemmas.Bool.{leb-false}
-use Rattle.std.proofs.lemmas.List.{map-set, set-get_or, length-append, length_push, length-drop, get_or-set_same, get_or-replicate}
+use Rattle.std.proofs.lemmas.List.{map-set, set-get_or, length-append, length_push, length-drop}
 use Rattle.std.proofs.lemmas.List.Sums.{sum_by-set, sum-map}
 use Rattle.std.proofs.Math.ListN.{get_or-map}
 use Rattle.dma_insn.specs.declared.insn.Insn.{Insn}
@@ -26,7 +25,7 @@ use Rattle.dma_engine.specs.declared.outcome.TransResult.TheVariants.{NoError, R
 use Rattle.dma_engine.specs.declared.turn.Turn.{Turn}
 use Rattle.dma_engine.specs.declared.turn.Turn.TheVariants.{Nothing, Held, Started, Moved, Waiting, Paused, Halted, Finished as FinishedTurn}
 use Rattle.dma_engine.specs.Object.{Object, ChannelState, after, channel, new_channel, with_channel, with_flag, with_front_laid, with_outcome, with_all_aborted, finished, finished_all, unfinished, used, front_of, outcome_of, aborted}
-use Rattle.dma_engine.specs.Ticks.{Tick, Submitted, Finished, ticks_of}
+use Rattle.dma_engine.specs.Ticks.{Submitted, Finished, ticks_of}
 use Rattle.dma_engine.specs.View.{View, RunningTransfer, object_of, channels, schedule_at}
 use Rattle.dma_engine.specs.Object.{issued_front, is_set}
 use Rattle.dma_engine.specs.Turn.{Stepped, turn, ends, front_turn, start_turn, insn_turn, moves_on, finishes, with_entry, in_the_way, last_step}

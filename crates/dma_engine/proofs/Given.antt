@@ -1,8 +1,8 @@
 -- What a submit and a terminate leave on their channel, and the counts that the ticks of a history add up to.
-use Rattle.std.proofs.Common.{◌≡◌, ℕ, zero, suc, ◌+◌, ◌<◌, ◌≤◌, List, [], ◌∷◌, ◌++◌, length, map, drop, Bool, true, false, refl, ap, sym, ◌∙◌, subst, arith}
-use Rattle.std.specs.Prelude.{slice_set, replicate, nat_le, Option, Some, None}
+use Rattle.std.proofs.Common.{◌≡◌, ℕ, zero, suc, ◌+◌, ◌<◌, ◌≤◌, List, [], ◌∷◌, length, map, drop, Bool, true, false, refl, ap, sym, ◌∙◌, arith}
+use Rattle.std.specs.Prelude.{replicate, nat_le, Option, Some, None}
 use Rattle.std.proofs.lemmas.Bool.{leb-false}
-use Rattle.std.proofs.lemmas.List.{length-set, length_push, get_or-set_same, length-replicate, length-append, length-drop}
+use Rattle.std.proofs.lemmas.List.{length-set, length_push, get_or-set_same, length-append, length-drop}
 use Rattle.dma_mem.specs.Places.{Descriptor}
 use Rattle.dma_engine.specs.declared.call.Call.TheVariants.{Submit, Terminate}
 use Rattle.dma_engine.specs.declared.call.Reply.{Reply}
@@ -14,11 +14,11 @@ use Rattle.dma_engine.specs.declared.entry.Entry.TheVariants.{Wrote, ReadBack, S
 use Rattle.dma_engine.specs.declared.entry.Signaller.TheVariants.{Channel, Host}
 use Rattle.dma_engine.specs.Answer.{Answers, answer, unless, cause, channel_fault, done_on, submit_fault, terminated}
 use Rattle.dma_engine.specs.History.{object_after}
-use Rattle.dma_engine.specs.Laws.{Adds, SubmitsGive, TerminatesFinish, BoardsCount, BoardsOpen, TicksAreFew}
+use Rattle.dma_engine.specs.Laws.{SubmitsGive, TerminatesFinish, BoardsCount, BoardsOpen, TicksAreFew}
 use Rattle.dma_engine.specs.Object.{Object, after, channel, new_channel, opening, used, finished, unfinished, aborted, with_transfer, with_all_aborted}
-use Rattle.dma_engine.specs.Ticks.{Board, counts_of, no_counts, board_of, ticks_of}
+use Rattle.dma_engine.specs.Ticks.{counts_of, no_counts, board_of}
 use Rattle.dma_engine.specs.Turn.{with_entry}
-use Rattle.dma_engine.specs.View.{View, IsSound, object_of, channels}
+use Rattle.dma_engine.specs.View.{View, object_of, channels}
 use Rattle.dma_engine.proofs.Answered.{submit-open}
 use Rattle.dma_engine.proofs.Boards.{AreCounted, board-is, counted-opening}
 use Rattle.dma_engine.proofs.Deeds.{object-one, submitted, closed}
@@ -64,7 +64,7 @@ given v w ch k t none h =
     let many : channels w ≡ channels v = ap channels is ∙ ap (λ (o : Object). length o.channels) (object-one v e) ∙ channels-after (object_of v) e in (
       number,
       ap (λ (u : View). used (channel (object_of u) ch)) is ∙ ap (λ o. used (channel o ch)) (object-one v e)
-      ∙ ap used (get_or-set_same (object_of v).channels ch (with_transfer c t) new_channel less) ∙ length_push c.submitted t,
+          ∙ ap used (get_or-set_same (object_of v).channels ch (with_transfer c t) new_channel less) ∙ length_push c.submitted t,
       omega (arith, many, less),
     )
 

@@ -1,7 +1,7 @@
 -- The room that is made before it is needed, transfers found in a history, and which steps end.
-use Rattle.std.proofs.Common.{◌≡◌, ◌≢◌, ℕ, ◌+◌, ◌-◌, ◌<◌, ◌≤◌, List, [], ◌∷◌, ◌++◌, length, map, drop, Option, Some, None, Bool, true, false, refl, ap, sym, ◌∙◌, subst, arith, zero, suc}
-use Rattle.std.specs.Prelude.{slice_get, slice_index, slice_index_or, slice_set, is_some, nat_le, ◌==◌, if◌then◌else◌}
-use Rattle.std.proofs.lemmas.Bool.{lt-leb, le-leb, eq-eqb, false≢true}
+use Rattle.std.proofs.Common.{◌≡◌, ◌≢◌, ℕ, ◌<◌, ◌≤◌, List, [], ◌∷◌, length, map, drop, Option, Some, None, Bool, true, false, refl, ap, sym, ◌∙◌, arith, zero, suc}
+use Rattle.std.specs.Prelude.{slice_index, slice_index_or, slice_set, is_some, nat_le, ◌==◌, if◌then◌else◌}
+use Rattle.std.proofs.lemmas.Bool.{lt-leb, le-leb, eq-eqb}
 use Rattle.std.proofs.lemmas.List.{get_or-map, map-set, get_or-set_same, length-map}
 use Rattle.dma_insn.specs.declared.insn.Insn.{Insn}
 use Rattle.dma_insn.specs.declared.insn.Insn.TheVariants.{Ld, St, End, Sev, Wfe, Mov, Rmb, Wmb, Nop, Lp, LpEnd}
@@ -15,17 +15,16 @@ use Rattle.dma_chan.specs.declared.turn.ChanTurn.TheVariants.{Moved, Waiting, Fa
 use Rattle.dma_chan.specs.declared.turn.FaultKind.{FaultKind}
 use Rattle.dma_chan.specs.declared.turn.FaultKind.TheVariants.{DataReadErr, DataWriteErr}
 use Rattle.dma_engine.specs.declared.entry.Entry.{Entry}
-use Rattle.dma_engine.specs.declared.entry.Entry.TheVariants.{Submitted}
 use Rattle.dma_engine.specs.declared.outcome.TransResult.{TransResult}
-use Rattle.dma_engine.specs.declared.outcome.TransResult.TheVariants.{NoError, ReadFailed, WriteFailed}
+use Rattle.dma_engine.specs.declared.outcome.TransResult.TheVariants.{ReadFailed, WriteFailed}
 use Rattle.dma_engine.specs.declared.queue.Queue.{Queue}
 use Rattle.dma_engine.specs.Found.{transfer_in, transfer_of}
 use Rattle.dma_engine.specs.Inside.{queue_room}
-use Rattle.dma_engine.specs.Object.{ChannelState, channel, issued_front, no_transfer, used, is_set}
+use Rattle.dma_engine.specs.Object.{ChannelState, channel, issued_front, no_transfer, is_set}
 use Rattle.dma_engine.specs.Room.{no_room}
 use Rattle.dma_engine.specs.Turn.{Stepped, turn, ends, insn_turn, front_turn, start_turn, finishes, moves_on, in_the_way, last_step}
-use Rattle.dma_engine.specs.View.{View, QueueRoom, RunningTransfer, object_of, channels, schedule_at}
-use Rattle.dma_engine.specs.Holds.{Holds, IsQueue, Parts, view_of, schedule_of}
+use Rattle.dma_engine.specs.View.{View, RunningTransfer, object_of, channels, schedule_at}
+use Rattle.dma_engine.specs.Holds.{Holds, IsQueue, Parts, view_of}
 use Rattle.dma_engine.proofs.Changes.{changed, view-changed, holds-changed, schedule-kept}
 use Rattle.dma_engine.proofs.Queues.{holds-at}
 use Rattle.dma_engine.proofs.Quiet.{stays}

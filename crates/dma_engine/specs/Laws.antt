@@ -13,7 +13,7 @@ use Rattle.dma_engine.specs.declared.turn.Turn.TheVariants.{Moved, Finished as T
 use Rattle.dma_engine.specs.Object.{channel, finished, finished_all, unfinished, used}
 use Rattle.dma_engine.specs.Ticks.{Tick, Submitted, Finished, board_after, board_of, no_counts, ticks_of}
 use Rattle.dma_engine.specs.Turn.{ends, turn}
-use Rattle.dma_engine.specs.Answer.{Answers, Steps}
+use Rattle.dma_engine.specs.Answer.{Answers, Steps, Extends}
 use Rattle.dma_engine.specs.View.{View, IsSound, channels, object_of}
 
 -- so many steps does an answer count: one for each that moves or finishes
@@ -49,7 +49,11 @@ IsQuiet (Terminate ch) = ⊥
 IsQuiet (Step ch) = ⊥
 IsQuiet _ = Unit {0}
 
--- Whatever such a call answers, ticks, step count and finished cookies stay.
+-- Whatever a call answers, the history begins with the one from before, from the same base.
+abbrev pub CallsExtend : Type 0
+CallsExtend = (v w : View) (call : Call) (reply : Reply) → Answers v call reply w → Extends v w
+
+-- Whatever a quiet call answers, ticks, step count and finished cookies stay.
 abbrev pub QuietCallsKeep : Type 0
 QuietCallsKeep = (v w : View) (call : Call) (reply : Reply) → IsQuiet call → Answers v call reply w → Still v w
 

@@ -1,5 +1,5 @@
 -- Room that is made before it is needed.
-use Rattle.std.specs.Prelude.{ℕ, ◌<◌, ◌≤◌, List, [], slice_index_or}
+use Rattle.std.specs.Prelude.{ℕ, ◌<◌, ◌≤◌, slice_index_or}
 use Rattle.dma_engine.specs.Object.{channel, unfinished}
 use Rattle.dma_engine.specs.View.{EngineState, QueueRoom, Room, object_of}
 

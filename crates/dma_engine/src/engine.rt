@@ -533,10 +533,7 @@ impl Engine {
         };
         match insn {
             Insn::End => true,
-            _ => queue
-                .channel
-                .failing(&self.memory, &self.marks)
-                .is_some(),
+            _ => queue.channel.failing(&self.memory, &self.marks).is_some(),
         }
     }
 

@@ -1,9 +1,10 @@
 //! Laws of the engine's answers, for a layer that counts them. Each is the clause of a function that does nothing.
 
-ghost use Rattle.dma_engine.specs.Laws.{QuietCallsKeep, SubmitsGive, TerminatesFinish, StepsAdd, EndsAsTold, BoardsCount, BoardsOpen, TicksAreFew};
+ghost use Rattle.dma_engine.specs.Laws.{CallsExtend, QuietCallsKeep, SubmitsGive, TerminatesFinish, StepsAdd, EndsAsTold, BoardsCount, BoardsOpen, TicksAreFew};
 
 /// What each call adds to the ticks, to the step count and to the number of finished cookies.
 pub fn calls_add()
+    ensures extends { CallsExtend }
     ensures quiet { QuietCallsKeep }
     ensures submit { SubmitsGive }
     ensures terminate { TerminatesFinish }

@@ -15,6 +15,7 @@ pub mod turn;
 mod way;
 
 pub use call::{Call, Reply};
+pub use dma_chan::compile::NoMemory;
 pub use dma_mem::marks::MarkKind;
 pub use engine::Engine;
 pub use entry::{Entry, Signaller};

@@ -1,6 +1,7 @@
+use Rattle.dma_engine.proofs.Chains.{answers-extend}
 use Rattle.dma_engine.proofs.Deeds.{quiet_calls_keep, steps_add, ends_as_told}
 use Rattle.dma_engine.proofs.Given.{submits_give, terminates_finish}
 use Rattle.dma_engine.proofs.laws.calls_add.Goals as goal
 
 pub returns : goal.returns
-returns c = record { quiet = quiet_calls_keep; submit = submits_give; terminate = terminates_finish; step = steps_add; ends = ends_as_told }
+returns c = record { extends = answers-extend; quiet = quiet_calls_keep; submit = submits_give; terminate = terminates_finish; step = steps_add; ends = ends_as_told }

@@ -1,0 +1,216 @@
+-- What the calls keep of a desk.
+use Rattle.std.proofs.Common.{◌≡◌, ◌≢◌, ℕ, ◌+◌, ◌<◌, List, [], ◌∷◌, ◌++◌, length, true, false, refl, ap, sym, ◌∙◌, arith, append-nil, inl, inr, zero, suc}
+use Rattle.std.specs.Prelude.{if◌then◌else◌, slice_set, Result, Ok}
+use Rattle.std.proofs.lemmas.Bool.{false≢true, cases_eq}
+use Rattle.std.proofs.lemmas.List.{length-set, length-append, length-replicate, get_or-set_same, get_or-set_other}
+use Rattle.std.proofs.Math.ListN.{get_or-map}
+use Rattle.logbook.specs.Pages.{Book}
+use Rattle.dma_mem.specs.Places.{Descriptor}
+use Rattle.dma_engine.specs.declared.call.Call.{Call}
+use Rattle.dma_engine.specs.declared.call.Call.TheVariants.{Step, Submit, Terminate}
+use Rattle.dma_engine.specs.declared.call.Reply.{Reply}
+use Rattle.dma_engine.specs.declared.call.Reply.TheVariants.{Cookie, Count, Turned}
+use Rattle.dma_engine.specs.declared.fault.EngineFault.{EngineFault}
+use Rattle.dma_engine.specs.declared.turn.Turn.{Turn}
+use Rattle.dma_engine.specs.declared.turn.Turn.TheVariants.{Nothing, Held, Started, Moved, Waiting, Paused, Halted, Finished as TurnFinished}
+use Rattle.dma_engine.specs.Answer.{Answers, Steps, reply_of}
+use Rattle.dma_engine.specs.Laws.{Adds, IsQuiet, steps_in, finishes_in, ticks_in}
+use Rattle.dma_engine.specs.Object.{channel, new_channel, finished, finished_all, used}
+use Rattle.dma_engine.specs.Ticks.{Tick, Submitted, Finished, Board, Counts, added_up, board_after, board_of, counts, counts_of, no_counts, ticked, ticks_of}
+use Rattle.dma_engine.specs.Turn.{ends, turn}
+use Rattle.dma_engine.specs.View.{EngineState, IsSound, View, channels, object_of}
+use Rattle.dma_engine.proofs.Chains.{answers-extend}
+use Rattle.dma_engine.proofs.Deeds.{quiet_calls_keep, steps_add, ends_as_told}
+use Rattle.dma_engine.proofs.Given.{boards_count, boards_open, submits_give, terminates_finish, ticks_are_few}
+use Rattle.dma_work.specs.declared.totals.Totals.{Totals}
+use Rattle.dma_work.specs.Desk.{IsKept}
+use Rattle.dma_work.specs.Posted.{Posted, Publication, with_ticks}
+use Rattle.dma_work.specs.Ticks.{AreFinished, IsGiven, base_of, board_from, eight}
+
+-- ---- what the type keeps, after a call
+
+module _ (s f : ℕ) (base : Board) (log : Book) where
+  posted : List Tick → Posted
+  posted ticks = record { base = base; ticks = ticks; log = log }
+
+  -- a call that gives no cookie and finishes none
+  pub kept_quiet : (old new : EngineState) (p : Publication) (b : Totals) (call : Call) (reply : Reply) → IsQuiet call → Answers old.view call reply new.view → IsKept s f base log old p b → IsKept s f base log new p b
+  unfolding posted
+  kept_quiet old new p b call reply q h k =
+      let t = quiet_calls_keep old.view new.view call reply q h in
+      let e = (answers-extend old.view new.view call reply h).0 in
+      record {
+        shown = k.shown ∙ ap posted (sym t.ticks);
+        pending = k.pending;
+        opens = k.opens ∙ ap (λ o. eight (board_of o)) (sym e);
+        counted = k.counted ∙ sym t.steps;
+        done = k.done ∙ sym t.finished;
+      }
+
+  -- a call that adds ticks, which are published
+  pub kept_adds : (old new : EngineState) (p q : Publication) (b e : Totals) (more : List Tick) (moves finishes : ℕ) → Adds old.view new.view more moves finishes → new.view.base ≡ old.view.base → q ≡ record { shown = with_ticks p.shown more; pending = [] } → e.steps ≡ b.steps + moves → e.finished + e.terminated ≡ b.finished + b.terminated + finishes → IsKept s f base log old p b → IsKept s f base log new q e
+  unfolding posted
+  kept_adds old new p q b e more moves finishes a same is steps done k = record {
+    shown = ap (λ (x : Publication). x.shown) is ∙ ap (λ x. with_ticks x more) k.shown ∙ ap posted (sym a.ticks);
+    pending = ap (λ (x : Publication). x.pending) is;
+    opens = k.opens ∙ ap (λ o. eight (board_of o)) (sym same);
+    counted = omega (arith, k.counted, a.steps, steps);
+    done = omega (arith, k.done, a.finished, done);
+  }
+
+  -- an engine of the same view
+  pub kept_same : (old new : EngineState) (p : Publication) (b : Totals) → new.view ≡ old.view → IsKept s f base log old p b → IsKept s f base log new p b
+  unfolding posted
+  kept_same old new p b same k = record {
+    shown = k.shown ∙ ap (λ (v : View). posted (ticks_of v.history)) (sym same);
+    pending = k.pending;
+    opens = k.opens ∙ ap base_of (sym same);
+    counted = k.counted ∙ ap (λ (v : View). v.steps) (sym same);
+    done = k.done ∙ ap (λ (v : View). finished_all (object_of v)) (sym same);
+  }
+
+  -- a step that ends nothing, which publishes nothing
+  pub kept_on : (old new : EngineState) (p : Publication) (b e : Totals) (ch : ℕ) (r : Result Turn EngineFault) → ends r ≡ false → Steps old.view ch r new.view → e.steps ≡ b.steps + steps_in r → e.finished + e.terminated ≡ b.finished + b.terminated → IsKept s f base log old p b → IsKept s f base log new p e
+  unfolding posted
+  kept_on old new p b e ch r on h steps done k =
+      let a = steps_add old.view new.view ch r h in
+      let same = (answers-extend old.view new.view (Step ch) (reply_of Turned r) h).0 in
+      let none : ticks_in ch r ≡ [] = ap (λ x. if x then Finished ch 1 ∷ [] else []) on in
+      let still : ticks_of new.view.history ≡ ticks_of old.view.history = a.ticks ∙ ap (λ l. ticks_of old.view.history ++ l) none ∙ append-nil (ticks_of old.view.history) in
+      let zero : finishes_in r ≡ 0 = ap (λ x. if x then 1 else 0) on in
+      record {
+        shown = k.shown ∙ ap posted (sym still);
+        pending = k.pending;
+        opens = k.opens ∙ ap (λ o. eight (board_of o)) (sym same);
+        counted = omega (arith, k.counted, a.steps, steps);
+        done = omega (arith, k.done, a.finished, zero, done);
+      }
+
+  -- one tick more was made ready, the engine added it, and it was published
+  pub kept_next : (old m new : EngineState) (p r q : Publication) (b e : Totals) (l : List Posted) (t u : Tick) (moves finishes : ℕ) → m.view ≡ old.view → Adds m.view new.view (u ∷ []) moves finishes → new.view.base ≡ m.view.base → t ≡ u → r ≡ record { shown = p.shown; pending = l } → q ≡ record { shown = with_ticks r.shown (t ∷ []); pending = [] } → e.steps ≡ b.steps + moves → e.finished + e.terminated ≡ b.finished + b.terminated + finishes → IsKept s f base log old p b → IsKept s f base log new q e
+  kept_next old m new p r q b e l t u moves finishes same a from is ready is_published steps done k =
+      let next : Posted → Tick → Publication = λ x y. record { shown = with_ticks x (y ∷ []); pending = [] } in
+      let all : q ≡ next p.shown u = is_published ∙ ap (λ (x : Publication). next x.shown t) ready ∙ ap (next p.shown) is in
+      kept_adds m new p q b e (u ∷ []) moves finishes a from all steps done (kept_same old m p b same k)
+
+  -- there is room in 64 bits for its number
+  pub few_next : (old m new : EngineState) (p r : Publication) (b : Totals) (l : List Posted) (u : Tick) (moves finishes : ℕ) → m.view ≡ old.view → Adds m.view new.view (u ∷ []) moves finishes → r ≡ record { shown = p.shown; pending = l } → length new.view.history < 18446744073709551616 → IsKept s f base log old p b → length r.shown.ticks < 18446744073709551615
+  few_next old m new p r b l u moves finishes same a ready few k =
+      let shown : r.shown.ticks ≡ ticks_of m.view.history = ap (λ (x : Publication). x.shown.ticks) ready ∙ ap (λ (x : Posted). x.ticks) (kept_same old m p b same k).shown in
+      omega (arith, ap length shown, ap length a.ticks, length-append (ticks_of m.view.history) (u ∷ []), ticks_are_few new.view.history, few)
+
+-- ---- steps
+
+-- a step that the turn doesn't end
+pub goes_on : (v w : View) (ch : ℕ) (r : Result Turn EngineFault) → ends (turn v ch).0 ≡ false → Steps v ch r w → ends r ≡ false
+goes_on v w ch r on h = elim (ends_as_told v w ch r h) [
+  | inl starved ↦ ap ends starved
+  | inr told ↦ told ∙ on
+]
+
+-- an answer that neither moves nor finishes
+pub not_moved : (t : Turn) → t ≢ Moved → ends (Ok t) ≡ false → steps_in (Ok t) ≡ 0
+not_moved Moved h e = absurd (h refl)
+not_moved (TurnFinished a b c) h e = absurd (false≢true (sym e))
+not_moved Nothing h e = refl
+not_moved (Held a b) h e = refl
+not_moved (Started a) h e = refl
+not_moved (Waiting a) h e = refl
+not_moved Paused h e = refl
+not_moved Halted h e = refl
+
+finished_steps : (t : Turn) → ends (Ok t) ≡ true → steps_in (Ok t) ≡ 1
+finished_steps Moved e = absurd (false≢true e)
+finished_steps (TurnFinished a b c) e = refl
+finished_steps Nothing e = absurd (false≢true e)
+finished_steps (Held a b) e = absurd (false≢true e)
+finished_steps (Started a) e = absurd (false≢true e)
+finished_steps (Waiting a) e = absurd (false≢true e)
+finished_steps Paused e = absurd (false≢true e)
+finished_steps Halted e = absurd (false≢true e)
+
+-- What a step leaves that ends the front.
+pub record Ended (v w : View) (ch : ℕ) (t : Turn) : Type 0 where
+  pub adds : Adds v w (Finished ch 1 ∷ []) 1 1
+  pub base : w.base ≡ v.base
+  pub one_step : steps_in (Ok t) ≡ 1
+  pub one_finish : finishes_in (Ok t) ≡ 1
+
+pub ended : (v w : View) (ch : ℕ) (t : Turn) → ends (turn v ch).0 ≡ true → Steps v ch (Ok t) w → Ended v w ch t
+ended v w ch t over h =
+    let is : ends (Ok t) ≡ true = elim (ends_as_told v w ch (Ok t) h) [ inl starved ↦ absurd (cc starved) | inr told ↦ told ∙ over ] in
+    let a = steps_add v w ch (Ok t) h in
+    let one : ticks_in ch (Ok t) ≡ Finished ch 1 ∷ [] = ap (λ x. if x then Finished ch 1 ∷ [] else []) is in
+    let steps = finished_steps t is in
+    let finish : finishes_in (Ok t) ≡ 1 = ap (λ x. if x then 1 else 0) is in
+    record {
+      adds = record {
+        ticks = a.ticks ∙ ap (λ l. ticks_of v.history ++ l) one;
+        steps = omega (arith, a.steps, steps);
+        finished = omega (arith, a.finished, finish);
+      };
+      base = (answers-extend v w (Step ch) (reply_of Turned (Ok t)) h).0;
+      one_step = steps;
+      one_finish = finish;
+    }
+
+-- ---- boards that agree at a channel
+
+set-alike : (f : Counts → Counts) (a b : Board) (c ch : ℕ) → ch < length a → ch < length b → counts a ch ≡ counts b ch → counts (slice_set a c (f (counts a c))) ch ≡ counts (slice_set b c (f (counts b c))) ch
+set-alike f a b c ch la lb e = elim (cases_eq c ch) [
+  | inl is ↦ rw is (get_or-set_same a ch (f (counts a ch)) no_counts la ∙ ap f e ∙ sym (get_or-set_same b ch (f (counts b ch)) no_counts lb))
+  | inr apart ↦ get_or-set_other a c ch (f (counts a c)) no_counts (λ k. apart (sym k)) ∙ e ∙ sym (get_or-set_other b c ch (f (counts b c)) no_counts (λ k. apart (sym k)))
+]
+
+tick-alike : (a b : Board) (t : Tick) (ch : ℕ) → ch < length a → ch < length b → counts a ch ≡ counts b ch → counts (ticked a t) ch ≡ counts (ticked b t) ch
+tick-alike a b (Submitted c) ch la lb e = set-alike (λ x. record x { used = added_up x.used 1 }) a b c ch la lb e
+tick-alike a b (Finished c n) ch la lb e = set-alike (λ x. record x { finished = added_up x.finished n }) a b c ch la lb e
+
+ticked-length : (a : Board) (t : Tick) → length (ticked a t) ≡ length a
+ticked-length a (Submitted c) = length-set a c _
+ticked-length a (Finished c n) = length-set a c _
+
+boards-alike : (a b : Board) (ts : List Tick) (ch : ℕ) → ch < length a → ch < length b → counts a ch ≡ counts b ch → counts (board_after a ts) ch ≡ counts (board_after b ts) ch
+boards-alike a b [] ch la lb e = e
+boards-alike a b (t ∷ ts) ch la lb e =
+    boards-alike (ticked a t) (ticked b t) ts ch (omega (arith, la, ticked-length a t)) (omega (arith, lb, ticked-length b t)) (tick-alike a b t ch la lb e)
+
+counts-eight : (b : Board) (ch : ℕ) → ch < 8 → counts (eight b) ch ≡ counts b ch
+counts-eight b zero less = refl
+counts-eight b (suc zero) less = refl
+counts-eight b (suc (suc zero)) less = refl
+counts-eight b (suc (suc (suc zero))) less = refl
+counts-eight b (suc (suc (suc (suc zero)))) less = refl
+counts-eight b (suc (suc (suc (suc (suc zero))))) less = refl
+counts-eight b (suc (suc (suc (suc (suc (suc zero)))))) less = refl
+counts-eight b (suc (suc (suc (suc (suc (suc (suc zero))))))) less = refl
+counts-eight b (suc (suc (suc (suc (suc (suc (suc (suc n)))))))) less = absurd (omega arith)
+
+-- The published board has the engine's own counts of each channel.
+pub board_counts : (base : Board) (v : View) → base ≡ base_of v → IsSound v → (ch : ℕ) → ch < channels v → counts (board_from base (ticks_of v.history)) ch ≡ counts_of (channel (object_of v) ch)
+board_counts base v opens h ch less =
+    let o = boards_open v h in
+    let inside : ch < length (board_of v.base) = omega (arith, less, ap length o.0, length-replicate (channels v) no_counts) in
+    ap (λ b. counts (board_from b (ticks_of v.history)) ch) opens
+    ∙ boards-alike (eight (board_of v.base)) (board_of v.base) (ticks_of v.history) ch (omega (arith, less, o.1)) inside (counts-eight (board_of v.base) ch (omega (arith, less, o.1)))
+    ∙ ap (λ b. counts b ch) (boards_count v h)
+    ∙ get_or-map counts_of (object_of v).channels ch new_channel
+
+-- ---- what tickets tell
+
+-- in the list that is published then the cookie of a submit is given
+pub given_in : (base : Board) (v w : View) (ch cookie : ℕ) (t : Descriptor) (list : List Tick) → Answers v (Submit ch t) (Cookie cookie) w → IsSound w → base ≡ base_of w → list ≡ ticks_of w.history → IsGiven base list ch cookie
+given_in base v w ch cookie t list h sound opens is =
+    let s = submits_give v w ch cookie t h in
+    let at : (counts (board_from base list) ch).used ≡ used (channel (object_of w) ch) =
+    ap (λ l. (counts (board_from base l) ch).used) is ∙ ap (λ (x : Counts). x.used) (board_counts base w opens sound ch s.1) in
+    (s.2, omega (arith, at, s.3))
+
+-- and after a terminate all cookies of its channel are finished
+pub finished_in : (base : Board) (v w : View) (ch count through : ℕ) (list : List Tick) → Answers v (Terminate ch) (Count count) w → IsSound w → base ≡ base_of w → list ≡ ticks_of w.history → through ≡ used (channel (object_of w) ch) → AreFinished base list ch through
+finished_in base v w ch count through list h sound opens is all =
+    let s = terminates_finish v w ch count h in
+    let at = board_counts base w opens sound ch s.1 in
+    let used_at : (counts (board_from base list) ch).used ≡ used (channel (object_of w) ch) = ap (λ l. (counts (board_from base l) ch).used) is ∙ ap (λ (x : Counts). x.used) at in
+    let finished_at : (counts (board_from base list) ch).finished ≡ finished (channel (object_of w) ch) = ap (λ l. (counts (board_from base l) ch).finished) is ∙ ap (λ (x : Counts). x.finished) at in
+    (omega (arith, all, used_at), omega (arith, all, finished_at, s.3))

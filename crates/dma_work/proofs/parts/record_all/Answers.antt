@@ -1,0 +1,35 @@
+use Rattle.std.proofs.Common.{◌≡◌, ◌+◌, [], ◌∷◌, ◌++◌, take, length, ap, sym, ◌∙◌, arith}
+use Rattle.std.proofs.lemmas.List.{length-take}
+use Rattle.dma_engine.specs.Ticks.{ticks_of}
+use Rattle.dma_engine.proofs.Given.{ticks_are_few}
+use Rattle.dma_work.specs.Log.{Reached}
+use Rattle.dma_work.specs.Ticks.{board_from}
+use Rattle.dma_work.proofs.Opening.{opens_empty, ticks_more}
+use Rattle.dma_work.proofs.parts.record_all.Goals as goal
+
+pub record_one-requires-clause-few : goal.record_one-requires-clause-few
+record_one-requires-clause-few g c =
+    let n = c.loop-index.index in
+    let history = c.history-history.result.now in
+    omega (arith, ap length c.loop-index.invariant.ticks, ticks_are_few (take n history), length-take n history, c.loop-index-test.true, c.history-history.type_inv.0)
+
+pub loop-index-preserved : goal.loop-index-preserved
+loop-index-preserved g c =
+    let n = c.loop-index.index in
+    let history = c.history-history.result.now in
+    let entry = c.index-history-index.result in
+    let one = ticks_of (entry ∷ []) in
+    let all : ticks_of (take (n + 1) history) ≡ ticks_of (take n history) ++ one =
+    ticks_more history n entry c.loop-index-test.true ∙ ap (λ e. ticks_of (take n history) ++ ticks_of (e ∷ [])) (sym c.index-history-index.is) in
+    record {
+      log = ap (λ (r : Reached). r.log) c.record_one.ensures.log ∙ c.loop-index.invariant.log;
+      ticks = ap (λ (r : Reached). r.ticks) c.record_one.ensures.log ∙ ap (λ l. l ++ one) c.loop-index.invariant.ticks ∙ sym all;
+      counts = c.record_one.ensures.counts;
+    }
+
+pub returns-clause-counts : goal.returns-clause-counts
+returns-clause-counts g c =
+    c.loop-index.invariant.counts ∙ ap (λ b. board_from b c.loop-index.log.ticks) (sym (opens_empty c.args.engine.now.view c.history-history.ensures.sound))
+
+pub returns-clause-base : goal.returns-clause-base
+returns-clause-base g c = opens_empty c.args.engine.now.view c.history-history.ensures.sound

@@ -1,0 +1,64 @@
+-- What contracts see of a desk.
+use Rattle.std.specs.Prelude.{◌≡◌, ℕ, ◌+◌, List, [], ◌++◌, Result}
+use Rattle.logbook.specs.Pages.{Book}
+use Rattle.dma_engine.specs.Laws.{steps_in, finishes_in}
+use Rattle.dma_engine.specs.Object.{finished_all}
+use Rattle.dma_engine.specs.Ticks.{Board, Tick, ticks_of}
+use Rattle.dma_engine.specs.View.{EngineState, object_of}
+use Rattle.dma_engine.specs.declared.fault.EngineFault.{EngineFault}
+use Rattle.dma_engine.specs.declared.turn.Turn.{Turn}
+use Rattle.dma_work.specs.declared.totals.Totals.{Totals}
+use Rattle.dma_work.specs.Posted.{Publication}
+use Rattle.dma_work.specs.Ticks.{base_of}
+
+-- The parts of a desk: an engine, the log of its published list, and the counts from which that list's board begins.
+pub record PartsState : Type 0 where
+  pub engine : EngineState
+  pub base : Board
+  pub log : Book
+
+-- A desk: its engine, its book of totals, and the ticks that were published before those of the engine's history (none as
+-- long as an engine keeps its whole history).
+pub record DeskState : Type 0 where
+  pub engine : EngineState
+  pub book : Totals
+  pub before : List Tick
+
+-- the published list of ticks
+abbrev pub published : DeskState → List Tick
+published d = d.before ++ ticks_of d.engine.view.history
+
+-- Step count, number of finished cookies, base and log are those with which these parts begin a desk.
+abbrev pub Names : ℕ → ℕ → Board → Book → PartsState → Type 0
+Names steps finished base log p =
+    (steps ≡ p.engine.view.steps) × (finished ≡ finished_all (object_of p.engine.view)) × (base ≡ p.base) × (log ≡ p.log)
+
+-- The book stays, and so do the ticks that stand before those of the history.
+abbrev pub SameBook : DeskState → DeskState → Type 0
+SameBook old new = (new.book ≡ old.book) × (new.before ≡ old.before)
+
+-- the book with what a step's answer adds
+abbrev pub stepped_book : Totals → Result Turn EngineFault → Totals
+stepped_book b r = record b { steps = b.steps + steps_in r; finished = b.finished + finishes_in r }
+
+-- A tally: a worker's number, how many steps took the tally, how many of them executed an instruction, and how many finished
+-- a cookie.
+pub record TallyCounts : Type 0 where
+  pub worker : ℕ
+  pub turns : ℕ
+  pub steps : ℕ
+  pub finishes : ℕ
+
+-- a tally after a step with this answer, refused or not
+abbrev pub counted : Result Turn EngineFault → TallyCounts → TallyCounts
+counted r t = record t { turns = t.turns + 1; steps = t.steps + steps_in r; finishes = t.finishes + finishes_in r }
+
+-- What the type of a desk keeps, by the step count, the number of finished cookies, the base and the log that its name has:
+-- what is published is the ticks of the history, and nothing is pending; the base has the counts from which the history
+-- begins; and the book is the rise of step count and finished cookies.
+pub record IsKept (steps finished : ℕ) (base : Board) (log : Book) (engine : EngineState) (p : Publication) (book : Totals) : Type 0 where
+  pub shown : p.shown ≡ record { base = base; ticks = ticks_of engine.view.history; log = log }
+  pub pending : p.pending ≡ []
+  pub opens : base ≡ base_of engine.view
+  pub counted : steps + book.steps ≡ engine.view.steps
+  pub done : finished + (book.finished + book.terminated) ≡ finished_all (object_of engine.view)

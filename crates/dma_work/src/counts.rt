@@ -1,0 +1,106 @@
+//! How many cookies of each channel are given, and how many finished.
+
+ghost use Rattle.std.specs.Prelude.{◌≡◌, replicate};
+ghost use Rattle.dma_engine.specs.Ticks.{counts, no_counts, status_of, ticked};
+
+use crate::tick::{Change, Tick};
+use dma_engine::Status;
+use std::marker::Model;
+
+// The counts of one channel. Contracts see them as the engine's own.
+#[derive(Clone, Copy)]
+struct ChannelCounts {
+    used: u32,
+    finished: u32,
+}
+
+impl Model for ChannelCounts {
+    ghost use Rattle.dma_engine.specs.Ticks.{Counts};
+
+    ghost Value = { Counts };
+
+    ghost view = { λ c. record { used = c.used; finished = c.finished } };
+
+    ghost inverse = { λ c. record { used = c.used; finished = c.finished } };
+}
+
+/// The counts of the channels 0 to 7. Contracts see them as a board.
+#[derive(Clone, Copy)]
+pub(crate) struct Counts {
+    channels: [ChannelCounts; 8],
+}
+
+impl Model for Counts {
+    ghost use Rattle.std.specs.Prelude.{◌≡◌, length};
+    ghost use Rattle.dma_engine.specs.Ticks.{Board};
+
+    ghost Value = { Board };
+
+    ghost view = { λ c. c.channels };
+
+    ghost invariant = { λ c. length c.channels ≡ 8 };
+
+    ghost inverse = { λ b. record { channels = b } };
+}
+
+impl Counts {
+    /// Nothing was given.
+    pub(crate) fn new() -> Counts
+        ensures { result ≡ replicate 8 no_counts }
+    {
+        let none = ChannelCounts {
+            used: 0,
+            finished: 0,
+        };
+        Counts {
+            channels: [none; 8],
+        }
+    }
+
+    /// Adds a tick. A count stops at 4,294,967,295.
+    #[tactic(auto, using(crate::proofs::Counting::ticked_past))]
+    pub(crate) fn add(&mut self, tick: Tick)
+        ensures { self.new ≡ ticked self.old tick }
+    {
+        let at = usize::from(tick.ch);
+        let channels = &mut self.channels;
+        if at >= channels.len() {
+            return;
+        }
+        let before = channels[at];
+        channels[at] = match tick.change {
+            Change::Given => ChannelCounts {
+                used: before.used.saturating_add(1),
+                finished: before.finished,
+            },
+            Change::Finished(count) => ChannelCounts {
+                used: before.used,
+                finished: before.finished.saturating_add(count),
+            },
+        };
+    }
+
+    /// How far a cookie is.
+    #[tactic(auto, using(crate::proofs::Counting::status_past))]
+    pub(crate) fn status(&self, ch: u8, cookie: u32) -> Status
+        ensures { result ≡ status_of self.now ch cookie }
+    {
+        let at = usize::from(ch);
+        let channels = &self.channels;
+        if at >= channels.len() {
+            return Status::Unknown;
+        }
+        let counts = channels[at];
+        if cookie == 0 {
+            return Status::Unknown;
+        }
+        if counts.used < cookie {
+            return Status::Unknown;
+        }
+        if cookie <= counts.finished {
+            Status::Complete
+        } else {
+            Status::InProgress
+        }
+    }
+}

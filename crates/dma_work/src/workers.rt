@@ -1,0 +1,190 @@
+//! Workers that step the channels of one desk.
+
+ghost use Rattle.std.specs.Prelude.{◌≡◌, ◌<◌, ◌≤◌, ℕ, IfOk, length, slice_index_or, vec_capacity, vec_len};
+ghost use Rattle.dma_work.specs.Desk.{TallyCounts};
+ghost use Rattle.dma_work.specs.declared.job.Job.{Job};
+ghost use Rattle.dma_work.specs.Begun.{IsBegun, IsOf, IsOwed};
+
+use crate::desk::Tally;
+use crate::job::Job;
+use crate::names::DeskName;
+use crate::shared::Shared;
+use core::mem::replace;
+use dma_engine::NoMemory;
+use std::alloc::Global;
+use std::sync::{MutexGuard, Wait};
+use std::thread;
+use std::thread::{Promise, PromisedHandle, Scope, Threads};
+
+/// What a worker passes before each of its turns, without the lock. It may wait.
+pub trait Gate: Sync {
+    /// Worker `worker` is about to take its turn `n`, the first of which is 1.
+    fn turn<R: Wait>(&self, rt: &R, worker: u32, n: u64);
+}
+
+/// A gate that holds nobody.
+#[derive(Clone, Copy, Debug)]
+pub struct NoGate;
+
+impl Gate for NoGate {
+    fn turn<R: Wait>(&self, _rt: &R, _worker: u32, _n: u64) {}
+}
+
+/// Takes the job's turns: in each it passes the gate, then takes the lock and steps one channel, the job's channels in rotation
+/// from the first. A refused step changes nothing but the tally's turns.
+pub fn work<N: DeskName, R: Wait, G: Gate>(
+    rt: &R,
+    shared: &Shared<N>,
+    worker: u32,
+    job: Job,
+    gate: &G,
+) -> Tally
+    ensures { (result.worker ≡ worker) × (result.turns ≡ job.turns) }
+{
+    let mut desk = shared.desk().lock(rt);
+    let mut tally = desk.tally(worker);
+    MutexGuard::unlock(desk);
+    let mut ch = job.first;
+    for n in 0..job.turns {
+        gate.turn(rt, worker, n + 1);
+        let mut desk = shared.desk().lock(rt);
+        let _ = desk.step(rt, ch, &mut tally);
+        MutexGuard::unlock(desk);
+        ch = if ch < job.last { ch + 1 } else { job.first };
+    }
+    tally
+}
+
+// What the thread of a job promises: its worker's number, and that it took the job's turns.
+#[derive(Clone, Copy)]
+struct Worked {
+    worker: u32,
+    turns: u64,
+}
+
+impl Promise<Tally> for Worked {
+    ghost use Rattle.std.specs.Prelude.{◌≡◌};
+
+    ghost kept_by = { λ p t. (t.worker ≡ p.worker) × (t.turns ≡ p.turns) };
+}
+
+// How far a job is.
+#[derive(Drop)]
+enum Begun {
+    // Its thread was started.
+    Started(PromisedHandle<Tally, Worked>),
+    // No thread could be had.
+    Refused,
+    // It was done here.
+    Done(Tally),
+}
+
+impl Begun {
+    // Does the job here, where no thread was had.
+    fn done_here<N: DeskName, R: Wait, G: Gate>(
+        &mut self,
+        rt: &R,
+        shared: &Shared<N>,
+        worker: u32,
+        job: Job,
+        gate: &G,
+    )
+        requires { IsBegun self.old worker job.turns }
+        ensures { IsOf self.new worker job.turns }
+    {
+        if let Begun::Refused = self {
+            *self = Begun::Done(work(rt, shared, worker, job, gate));
+        }
+    }
+
+    // The tally of the job, once it has ended.
+    fn end<R: Threads>(&mut self, rt: &R) -> Tally
+        requires { IsOwed self.old }
+        ensures { (worker turns : ℕ) → IsOf self.old worker turns → (result.worker ≡ worker) × (result.turns ≡ turns) }
+    {
+        match replace(self, Begun::Refused) {
+            Begun::Started(thread) => thread.join(rt),
+            Begun::Done(tally) => tally,
+            Begun::Refused => unreachable!(),
+        }
+    }
+}
+
+// Starts the thread of a job, if one can be had.
+fn begin<'s, E, N: DeskName + Send + Sync, R: Threads + Wait + Sync, G: Gate>(
+    scope: &Scope<'s, E>,
+    rt: &'s R,
+    shared: &'s Shared<N>,
+    worker: u32,
+    job: Job,
+    gate: &'s G,
+) -> Begun
+    ensures { IsBegun result worker job.turns }
+{
+    let promise = Worked {
+        worker,
+        turns: job.turns,
+    };
+    match scope.spawn_with(promise, move || work(rt, shared, worker, job, gate)) {
+        Ok(thread) => Begun::Started(thread),
+        Err(_) => Begun::Refused,
+    }
+}
+
+// Starts the threads of all jobs, does here those for which none was had, and then joins the others.
+fn in_scope<'s, E, N: DeskName + Send + Sync, R: Threads + Wait + Sync, G: Gate>(
+    scope: &Scope<'s, E>,
+    rt: &'s R,
+    shared: &'s Shared<N>,
+    jobs: &'s [Job],
+    gate: &'s G,
+    mut begun: Vec<Begun>,
+    mut tallies: Vec<Tally>,
+) -> Vec<Tally>
+    requires few { length jobs.now < 4294967296 }
+    requires empty { (vec_len begun ≡ 0) × (vec_len tallies ≡ 0) }
+    requires room { (length jobs.now ≤ vec_capacity begun) × (length jobs.now ≤ vec_capacity tallies) }
+    ensures count { vec_len result ≡ length jobs.now }
+    ensures each { (i : ℕ) (t : TallyCounts) (j : Job) → i < length jobs.now → ((slice_index_or result.items i t).worker ≡ i) × ((slice_index_or result.items i t).turns ≡ (slice_index_or jobs.now i j).turns) }
+{
+    for start in 0..jobs.len() {
+        begun.push_reserved(begin(scope, rt, shared, start as u32, jobs[start], gate));
+    }
+    for here in 0..jobs.len() {
+        begun[here].done_here(rt, shared, here as u32, jobs[here], gate);
+    }
+    for last in 0..jobs.len() {
+        tallies.push_reserved(begun[last].end(rt));
+    }
+    tallies
+}
+
+/// Runs each job in a thread of its own, with worker numbers from 0, and answers the tallies in the order of the jobs. Where a
+/// thread can't be had, its job is done on the calling thread after the others were started. There are fewer than 2^32 jobs.
+///
+/// The error comes where memory is refused; then no job has begun.
+pub fn run_workers<N: DeskName + Send + Sync, R: Threads + Wait + Sync, G: Gate>(
+    rt: &R,
+    alloc: Global,
+    shared: &Shared<N>,
+    jobs: &[Job],
+    gate: &G,
+) -> Result<Vec<Tally>, NoMemory>
+    requires { length jobs.now < 4294967296 }
+    ensures count { IfOk result (λ v. vec_len v ≡ length jobs.now) }
+    ensures each { IfOk result (λ v. (i : ℕ) (t : TallyCounts) (j : Job) → i < length jobs.now → ((slice_index_or v.items i t).worker ≡ i) × ((slice_index_or v.items i t).turns ≡ (slice_index_or jobs.now i j).turns)) }
+{
+    let begun: Vec<Begun> = Vec::with_capacity(alloc, jobs.len())?;
+    let tallies: Vec<Tally> = Vec::with_capacity(alloc, jobs.len())?;
+    Ok(thread::scope(
+        thread::scope_env(),
+        rt,
+        move |scope| -> Vec<Tally>
+            requires few { length jobs.now < 4294967296 }
+            requires empty { (vec_len begun ≡ 0) × (vec_len tallies ≡ 0) }
+            requires room { (length jobs.now ≤ vec_capacity begun) × (length jobs.now ≤ vec_capacity tallies) }
+            ensures count { vec_len result ≡ length jobs.entry.now }
+            ensures each { (i : ℕ) (t : TallyCounts) (j : Job) → i < length jobs.entry.now → ((slice_index_or result.items i t).worker ≡ i) × ((slice_index_or result.items i t).turns ≡ (slice_index_or jobs.entry.now i j).turns) }
+        { in_scope(scope, rt, shared, jobs, gate, begun, tallies) },
+    ))
+}
