@@ -19,6 +19,9 @@ mod ticket;
 mod totals;
 mod workers;
 
+#[cfg(test)]
+mod tests;
+
 pub use desk::{Desk, Tally};
 pub use job::Job;
 pub use names::DeskName;
