@@ -203,11 +203,8 @@ impl<N: DeskName> Desk<N> {
         ensures book { self.new.book ≡ stepped_book self.old.book result }
         ensures before { self.new.before ≡ self.old.before }
     {
-        if self.engine.make_room(ch).is_err() {
-            return Err(EngineFault::NoMemory);
-        }
         let tick = Tick::finished(ch, 1);
-        if !self.publisher.ready(tick) {
+        if self.engine.make_room(ch).is_err() || !self.publisher.ready(tick) {
             return Err(EngineFault::NoMemory);
         }
         let Ok(turn) = self.engine.step(ch) else {
