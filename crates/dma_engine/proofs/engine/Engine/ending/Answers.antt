@@ -1,4 +1,4 @@
-use Rattle.std.proofs.Common.{◌≡◌, ◌≢◌, ◌<◌, ◌∙◌, ap, sym, arith, length, true, refl}
+use Rattle.std.proofs.Common.{◌≡◌, ◌≢◌, ◌<◌, ◌∙◌, ap, sym, arith, length}
 use Rattle.std.specs.Prelude.{is_some}
 use Rattle.dma_insn.specs.declared.insn.Insn.TheVariants.{End}
 use Rattle.dma_chan.specs.Exec.{fault_in}

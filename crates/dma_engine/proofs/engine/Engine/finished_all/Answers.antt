@@ -1,9 +1,5 @@
-use Rattle.std.proofs.Common.{◌≡◌, ◌+◌, ◌<◌, ◌≤◌, ◌∙◌, ap, sym, arith, length, take}
-use Rattle.std.specs.Prelude.{slice_index_or}
+use Rattle.std.proofs.Common.{◌≡◌, ◌<◌, ◌∙◌, ap, arith, length}
 use Rattle.std.proofs.lemmas.List.Sums.{sum_by_more}
-use Rattle.std.proofs.lemmas.List.{take_all}
-use Rattle.std.specs.List.{sum_by}
-use Rattle.dma_engine.specs.Holds.{view_of}
 use Rattle.dma_engine.specs.Inside.{parts_of}
 use Rattle.dma_engine.specs.Object.{channel, finished, new_channel}
 use Rattle.dma_engine.specs.View.{EngineState, object_of}
