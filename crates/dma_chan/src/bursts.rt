@@ -1,13 +1,13 @@
 //! The bursts of a channel: loads from memory into its buffer, and stores from its buffer to memory.
 
-ghost use Rattle.std.specs.Prelude.{◌≡◌, ◌+◌, ◌-◌, ◌*◌, ◌≤◌, ◌<◌, ◌^◌, ◌++◌, IsTrue, Bool, List, length, take, drop, replicate, if◌then◌else◌};
+ghost use Rattle.std.specs.Prelude.{◌≡◌, ◌+◌, ◌-◌, ◌*◌, ◌≤◌, ◌<◌, ◌^◌, ◌++◌, IsTrue, IfSome, IsNone, Bool, List, length, take, drop, replicate};
 ghost use Rattle.std.specs.List.{flat_map};
 ghost use Rattle.circular_buffer.specs.Buffer.{buffer as ring};
 ghost use Rattle.dma_insn.specs.declared.insn.Insn.TheVariants.{Ld, St};
 ghost use Rattle.dma_mem.specs.Image.{put};
 ghost use Rattle.dma_chan.specs.Registers.{is_control, burst_at, burst_len, touched, left_by, advance, span_of, rounds_of, source_of, destination_of};
 ghost use Rattle.dma_chan.specs.Marking.{reaches};
-ghost use Rattle.dma_chan.specs.Exec.{act, fault_in, state};
+ghost use Rattle.dma_chan.specs.Exec.{act, fault_in, faults, state};
 
 use crate::registers::Registers;
 use crate::turn::{ChanTurn, FaultKind};
@@ -140,18 +140,15 @@ fn may_touch(kind: MarkKind, marks: &Marks, memory: &Memory, burst: Burst) -> bo
     end <= u64::from(memory.size()) && !marks.hits(kind, span)
 }
 
-// Reads the bytes that a burst touches, each once. It answers whether the burst may load them.
-fn read_span(marks: &Marks, memory: &Memory, burst: Burst, bytes: &mut [u8]) -> bool
-    requires some { (1 ≤ burst.size) × (1 ≤ burst.beats) }
-    requires limit { (burst.size ≤ 16) × (burst.beats ≤ 16) }
+// Reads the bytes that a burst touches, each once.
+fn read_span(memory: &Memory, burst: Burst, bytes: &mut [u8])
     requires span { length bytes.old ≡ span_of burst }
-    ensures exact { result ≡ reaches MarkKind.Reading marks.now (length memory.now) (touched burst) }
-    ensures within { IsTrue result → burst.addr + span_of burst ≤ length memory.now }
-    ensures below { IsTrue result → burst.addr + span_of burst < 2 ^ 32 }
-    ensures bytes { IsTrue result → bytes.new ≡ take (span_of burst) (drop burst.addr memory.now) }
+    requires within { burst.addr + span_of burst ≤ length memory.now }
+    ensures { bytes.new ≡ take (span_of burst) (drop burst.addr memory.now) }
 {
-    may_touch(MarkKind::Reading, marks, memory, burst)
-        && memory.read_into(burst.addr, bytes).is_ok()
+    let Ok(()) = memory.read_into(burst.addr, bytes) else {
+        unreachable!();
+    };
 }
 
 // Puts the bytes into the buffer so often.
@@ -162,6 +159,32 @@ fn fill(buffer: &mut HeapCircularBuffer<u8>, bytes: &[u8], rounds: u32)
     for _round in 0..rounds {
         buffer.fill_from_slice(bytes);
     }
+}
+
+// The fault that DMALD answers. Without one there is room for its bytes, and it may touch its addresses.
+pub(crate) fn load_fault(
+    marks: &Marks,
+    registers: &Registers,
+    buffer: &HeapCircularBuffer<u8>,
+    memory: &Memory,
+) -> Option<FaultKind>
+    requires capacity { buffer.now.capacity ≡ 256 }
+    requires control { IsTrue (is_control registers.now.ccr) }
+    ensures told { (flags : List Bool) → result ≡ fault_in (act marks.now Ld (state registers.now buffer.now.items memory.now flags)).0 }
+    ensures still { IfSome result (λ kind. (flags : List Bool) → act marks.now Ld (state registers.now buffer.now.items memory.now flags) ≡ faults kind (state registers.now buffer.now.items memory.now flags)) }
+    ensures room { IsNone result → length buffer.now.items + burst_len (source_of registers.now) ≤ 256 }
+    ensures reaches { IsNone result → IsTrue (reaches MarkKind.Reading marks.now (length memory.now) (touched (source_of registers.now))) }
+    ensures within { IsNone result → registers.now.sar + span_of (source_of registers.now) ≤ length memory.now }
+    ensures below { IsNone result → registers.now.sar + span_of (source_of registers.now) < 2 ^ 32 }
+{
+    let burst = source_burst(registers);
+    if buffer.len() + burst.len() as usize > BUFFER_SIZE {
+        return Some(FaultKind::MfifoErr);
+    }
+    if !may_touch(MarkKind::Reading, marks, memory, burst) {
+        return Some(FaultKind::DataReadErr);
+    }
+    None
 }
 
 // Executes DMALD.
@@ -180,40 +203,17 @@ pub(crate) fn load_burst(
     ensures control { registers.new.ccr ≡ registers.old.ccr }
     ensures pc { registers.new.pc ≤ registers.old.pc + 1 }
 {
-    let burst = source_burst(registers);
-    if buffer.len() + burst.len() as usize > BUFFER_SIZE {
-        return ChanTurn::Fault(FaultKind::MfifoErr);
+    if let Some(kind) = load_fault(marks, registers, buffer, memory) {
+        return ChanTurn::Fault(kind);
     }
+    let burst = source_burst(registers);
     let mut bytes = [0; BUFFER_SIZE];
     let bytes = &mut bytes[..burst.span().len as usize];
-    if !read_span(marks, memory, burst, bytes) {
-        return ChanTurn::Fault(FaultKind::DataReadErr);
-    }
+    read_span(memory, burst, bytes);
     fill(buffer, bytes, burst.rounds());
     registers.pc += 1;
     registers.sar += burst.advance();
     ChanTurn::Moved
-}
-
-// The fault that DMALD would answer.
-pub(crate) fn load_fault(
-    marks: &Marks,
-    registers: &Registers,
-    buffer: &HeapCircularBuffer<u8>,
-    memory: &Memory,
-) -> Option<FaultKind>
-    requires capacity { buffer.now.capacity ≡ 256 }
-    requires control { IsTrue (is_control registers.now.ccr) }
-    ensures { (flags : List Bool) → result ≡ fault_in (act marks.now Ld (state registers.now buffer.now.items memory.now flags)).0 }
-{
-    let burst = source_burst(registers);
-    if buffer.len() + burst.len() as usize > BUFFER_SIZE {
-        return Some(FaultKind::MfifoErr);
-    }
-    if !may_touch(MarkKind::Reading, marks, memory, burst) {
-        return Some(FaultKind::DataReadErr);
-    }
-    None
 }
 
 // Copies the oldest bytes of the buffer, as many as there is room for.
@@ -229,18 +229,43 @@ fn copy_front(buffer: &HeapCircularBuffer<u8>, bytes: &mut [u8])
     tail.copy_from_slice(&back[..from_back]);
 }
 
-// Writes what a burst of these bytes leaves in memory. It answers whether the burst may store them, and if not, writes nothing.
-fn write_span(marks: &Marks, memory: &mut Memory, burst: Burst, bytes: &[u8]) -> bool
+// Writes what a burst of these bytes leaves in memory.
+fn write_span(memory: &mut Memory, burst: Burst, bytes: &[u8])
     requires some { (1 ≤ burst.size) × (1 ≤ burst.beats) }
     requires limit { (burst.size ≤ 16) × (burst.beats ≤ 16) }
     requires len { length bytes.now ≡ burst_len burst }
-    ensures exact { result ≡ reaches MarkKind.Writing marks.now (length memory.old) (touched burst) }
-    ensures below { IsTrue result → burst.addr + span_of burst < 2 ^ 32 }
-    ensures written { memory.new ≡ (if result then put memory.old (left_by burst bytes.now) else memory.old) }
+    requires within { burst.addr + span_of burst ≤ length memory.old }
+    ensures { memory.new ≡ put memory.old (left_by burst bytes.now) }
 {
     let from = bytes.len() - burst.span().len as usize;
-    may_touch(MarkKind::Writing, marks, memory, burst)
-        && memory.write(burst.addr, &bytes[from..]).is_ok()
+    let Ok(()) = memory.write(burst.addr, &bytes[from..]) else {
+        unreachable!();
+    };
+}
+
+// The fault that DMAST answers. Without one the buffer has its bytes, and it may touch its addresses.
+pub(crate) fn store_fault(
+    marks: &Marks,
+    registers: &Registers,
+    buffer: &HeapCircularBuffer<u8>,
+    memory: &Memory,
+) -> Option<FaultKind>
+    requires control { IsTrue (is_control registers.now.ccr) }
+    ensures told { (flags : List Bool) → result ≡ fault_in (act marks.now St (state registers.now buffer.now.items memory.now flags)).0 }
+    ensures still { IfSome result (λ kind. (flags : List Bool) → act marks.now St (state registers.now buffer.now.items memory.now flags) ≡ faults kind (state registers.now buffer.now.items memory.now flags)) }
+    ensures bytes { IsNone result → burst_len (destination_of registers.now) ≤ length buffer.now.items }
+    ensures reaches { IsNone result → IsTrue (reaches MarkKind.Writing marks.now (length memory.now) (touched (destination_of registers.now))) }
+    ensures within { IsNone result → registers.now.dar + span_of (destination_of registers.now) ≤ length memory.now }
+    ensures below { IsNone result → registers.now.dar + span_of (destination_of registers.now) < 2 ^ 32 }
+{
+    let burst = destination_burst(registers);
+    if buffer.len() < burst.len() as usize {
+        return Some(FaultKind::StDataUnavailable);
+    }
+    if !may_touch(MarkKind::Writing, marks, memory, burst) {
+        return Some(FaultKind::DataWriteErr);
+    }
+    None
 }
 
 // Executes DMAST.
@@ -258,41 +283,19 @@ pub(crate) fn store_burst(
     ensures control { registers.new.ccr ≡ registers.old.ccr }
     ensures pc { registers.new.pc ≤ registers.old.pc + 1 }
 {
+    if let Some(kind) = store_fault(marks, registers, buffer, memory) {
+        return ChanTurn::Fault(kind);
+    }
     let burst = destination_burst(registers);
     let len = burst.len() as usize;
-    if buffer.len() < len {
-        return ChanTurn::Fault(FaultKind::StDataUnavailable);
-    }
     let mut bytes = [0; BUFFER_SIZE];
     let bytes = &mut bytes[..len];
     copy_front(buffer, bytes);
-    if !write_span(marks, memory, burst, bytes) {
-        return ChanTurn::Fault(FaultKind::DataWriteErr);
-    }
+    write_span(memory, burst, bytes);
     buffer.truncate_front(buffer.len() - len);
     registers.pc += 1;
     registers.dar += burst.advance();
     ChanTurn::Moved
-}
-
-// The fault that DMAST would answer.
-pub(crate) fn store_fault(
-    marks: &Marks,
-    registers: &Registers,
-    buffer: &HeapCircularBuffer<u8>,
-    memory: &Memory,
-) -> Option<FaultKind>
-    requires control { IsTrue (is_control registers.now.ccr) }
-    ensures { (flags : List Bool) → result ≡ fault_in (act marks.now St (state registers.now buffer.now.items memory.now flags)).0 }
-{
-    let burst = destination_burst(registers);
-    if buffer.len() < burst.len() as usize {
-        return Some(FaultKind::StDataUnavailable);
-    }
-    if !may_touch(MarkKind::Writing, marks, memory, burst) {
-        return Some(FaultKind::DataWriteErr);
-    }
-    None
 }
 
 // How many bytes a store moves now.

@@ -1,11 +1,11 @@
 //! One instruction, executed.
 
-ghost use Rattle.std.specs.Prelude.{◌≡◌, ℕ, ◌+◌, ◌-◌, ◌≤◌, ◌<◌, Bool, IsTrue, List, length};
+ghost use Rattle.std.specs.Prelude.{◌≡◌, ℕ, ◌+◌, ◌-◌, ◌≤◌, ◌<◌, Bool, IsTrue, IfSome, IsNone, List, length};
 ghost use Rattle.dma_insn.specs.Spelling.{spelling};
 ghost use Rattle.dma_insn.specs.declared.insn.Insn.TheVariants.{Mov, Lp, LpEnd, Sev, Wfe};
-ghost use Rattle.dma_chan.specs.Registers.{is_control};
+ghost use Rattle.dma_chan.specs.Registers.{is_control, counter_of};
 ghost use Rattle.dma_chan.specs.declared.registers.Registers.{Registers};
-ghost use Rattle.dma_chan.specs.Exec.{act, fault_in, state};
+ghost use Rattle.dma_chan.specs.Exec.{act, fault_in, faults, state};
 ghost use Rattle.dma_mem.specs.Marking.{MarkList};
 
 use crate::bursts::{load_burst, load_fault, store_burst, store_fault};
@@ -18,8 +18,26 @@ use dma_mem::events::Events;
 use dma_mem::marks::Marks;
 use dma_mem::memory::Memory;
 
-// Executes DMAMOV, which takes so many bytes of the program.
+// The fault that DMAMOV answers: at a control word that isn't accepted.
 #[tactic(auto, unfolding(crate::specs::Registers::is_control))]
+fn set_fault(reg: Reg, value: u32) -> Option<FaultKind>
+    ensures told { (marks : MarkList) (r : Registers) (buffer image : List ℕ) (flags : List Bool) → result ≡ fault_in (act marks (Mov reg value) (state r buffer image flags)).0 }
+    ensures still { IfSome result (λ kind. (marks : MarkList) (r : Registers) (buffer image : List ℕ) (flags : List Bool) → act marks (Mov reg value) (state r buffer image flags) ≡ faults kind (state r buffer image flags)) }
+    ensures control { IsNone result → reg ≡ Reg.Ccr → IsTrue (is_control value) }
+{
+    match reg {
+        Reg::Sar => None,
+        Reg::Dar => None,
+        Reg::Ccr => {
+            if Control::from_bits(value).is_err() {
+                return Some(FaultKind::OperandInvalid);
+            }
+            None
+        }
+    }
+}
+
+// Executes DMAMOV, which takes so many bytes of the program.
 fn set_register(reg: Reg, value: u32, len: u32, registers: &mut Registers) -> ChanTurn
     requires len { len ≡ length (spelling (Mov reg value)) }
     requires pc { registers.old.pc + len ≤ 8192 }
@@ -28,15 +46,13 @@ fn set_register(reg: Reg, value: u32, len: u32, registers: &mut Registers) -> Ch
     ensures control { IsTrue (is_control registers.new.ccr) }
     ensures pc { registers.new.pc ≤ registers.old.pc + len }
 {
+    if let Some(kind) = set_fault(reg, value) {
+        return ChanTurn::Fault(kind);
+    }
     match reg {
         Reg::Sar => registers.sar = value,
         Reg::Dar => registers.dar = value,
-        Reg::Ccr => {
-            if Control::from_bits(value).is_err() {
-                return ChanTurn::Fault(FaultKind::OperandInvalid);
-            }
-            registers.ccr = value;
-        }
+        Reg::Ccr => registers.ccr = value,
     }
     registers.pc += len;
     ChanTurn::Moved
@@ -58,6 +74,29 @@ fn begin_loop(counter: Counter, times: Times, registers: &mut Registers) -> Chan
     ChanTurn::Moved
 }
 
+// What a loop counter holds.
+fn counter_of(counter: Counter, registers: &Registers) -> u8
+    ensures { result ≡ counter_of counter registers.now }
+{
+    match counter {
+        Counter::Lc0 => registers.lc0,
+        Counter::Lc1 => registers.lc1,
+    }
+}
+
+// The fault that DMALPEND answers: where it jumps, to before the program's start.
+fn jump_fault(counter: Counter, back: u8, registers: &Registers) -> Option<FaultKind>
+    ensures told { (marks : MarkList) (buffer image : List ℕ) (flags : List Bool) → result ≡ fault_in (act marks (LpEnd counter back) (state registers.now buffer image flags)).0 }
+    ensures still { IfSome result (λ kind. (marks : MarkList) (buffer image : List ℕ) (flags : List Bool) → act marks (LpEnd counter back) (state registers.now buffer image flags) ≡ faults kind (state registers.now buffer image flags)) }
+    ensures within { IsNone result → 0 < counter_of counter registers.now → back ≤ registers.now.pc }
+{
+    let count = counter_of(counter, registers);
+    if count > 0 && registers.pc < u32::from(back) {
+        return Some(FaultKind::InstrFetchErr);
+    }
+    None
+}
+
 // Executes DMALPEND.
 #[tactic(auto, using(crate::proofs::Loops::looped_again))]
 fn end_loop(counter: Counter, back: u8, registers: &mut Registers) -> ChanTurn
@@ -66,23 +105,19 @@ fn end_loop(counter: Counter, back: u8, registers: &mut Registers) -> ChanTurn
     ensures control { registers.new.ccr ≡ registers.old.ccr }
     ensures pc { registers.new.pc ≤ registers.old.pc + 2 }
 {
-    let back = u32::from(back);
-    let count = match counter {
-        Counter::Lc0 => registers.lc0,
-        Counter::Lc1 => registers.lc1,
-    };
+    if let Some(kind) = jump_fault(counter, back, registers) {
+        return ChanTurn::Fault(kind);
+    }
+    let count = counter_of(counter, registers);
     if count == 0 {
         registers.pc += 2;
         return ChanTurn::Moved;
-    }
-    if registers.pc < back {
-        return ChanTurn::Fault(FaultKind::InstrFetchErr);
     }
     match counter {
         Counter::Lc0 => registers.lc0 = count - 1,
         Counter::Lc1 => registers.lc1 = count - 1,
     }
-    registers.pc -= back;
+    registers.pc -= u32::from(back);
     ChanTurn::Moved
 }
 
@@ -156,40 +191,6 @@ pub(crate) fn execute(
         Insn::Wfe { event, invalid } => wait(event, invalid, registers, events),
         Insn::End => ChanTurn::Ended,
     }
-}
-
-// The fault that DMAMOV would answer.
-#[tactic(auto, unfolding(crate::specs::Registers::is_control))]
-fn set_fault(reg: Reg, value: u32) -> Option<FaultKind>
-    ensures { (marks : MarkList) (r : Registers) (buffer image : List ℕ) (flags : List Bool) → result ≡ fault_in (act marks (Mov reg value) (state r buffer image flags)).0 }
-{
-    match reg {
-        Reg::Sar => None,
-        Reg::Dar => None,
-        Reg::Ccr => {
-            if Control::from_bits(value).is_err() {
-                return Some(FaultKind::OperandInvalid);
-            }
-            None
-        }
-    }
-}
-
-// The fault that DMALPEND would answer.
-fn jump_fault(counter: Counter, back: u8, registers: &Registers) -> Option<FaultKind>
-    ensures { (marks : MarkList) (buffer image : List ℕ) (flags : List Bool) → result ≡ fault_in (act marks (LpEnd counter back) (state registers.now buffer image flags)).0 }
-{
-    let count = match counter {
-        Counter::Lc0 => registers.lc0,
-        Counter::Lc1 => registers.lc1,
-    };
-    if count == 0 {
-        return None;
-    }
-    if registers.pc < u32::from(back) {
-        return Some(FaultKind::InstrFetchErr);
-    }
-    None
 }
 
 // The fault that an instruction would answer. Nothing is executed.

@@ -150,6 +150,14 @@ impl Machine {
         Some(turn)
     }
 
+    // The fault that the next step would answer.
+    fn failing(&self) -> Option<FaultKind> {
+        if !self.channel.is_loaded() {
+            return None;
+        }
+        self.channel.failing(&self.memory, &self.marks)
+    }
+
     // Whether this many instructions are executed.
     fn moves(&mut self, count: u32) -> bool {
         for _ in 0..count {
@@ -215,6 +223,22 @@ fn a_marked_load_changes_nothing(rt: HostRuntime) -> Result<(), Fail> {
     assert_eq!(rt; machine.byte(0xbf), Some(0x2f));
     assert_eq!(rt; machine.step(), Some(ChanTurn::Ended));
     assert_eq!(rt; machine.place(), (None, 28, 9, 64));
+    Ok(())
+}
+
+#[test]
+fn a_fault_is_told_before_its_step(rt: HostRuntime) -> Result<(), Fail> {
+    let mut machine = Machine::of_bytes(rt.alloc(), TWO_LOADS)?;
+    assert!(rt; machine.moves(5));
+    assert_eq!(rt; machine.failing(), None);
+    machine
+        .marks
+        .add(MarkKind::Reading, Segment { addr: 0x20, len: 1 })?;
+    assert_eq!(rt; machine.failing(), Some(FaultKind::DataReadErr));
+    assert_eq!(rt; machine.place(), (Some(Ok(Insn::Ld)), 25, 5, 0));
+    assert!(rt; machine.is_untouched());
+    let refused = Some(ChanTurn::Fault(FaultKind::DataReadErr));
+    assert_eq!(rt; machine.step(), refused);
     Ok(())
 }
 

@@ -1,8 +1,8 @@
 -- The room that is made before it is needed, transfers found in a history, and which steps end.
-use Rattle.std.proofs.Common.{◌≡◌, ◌≢◌, ℕ, ◌<◌, ◌≤◌, List, [], ◌∷◌, length, map, drop, Option, Some, None, Bool, true, false, refl, ap, sym, ◌∙◌, arith, zero, suc}
+use Rattle.std.proofs.Common.{◌≡◌, ◌≢◌, ℕ, ◌<◌, ◌≤◌, List, [], ◌∷◌, length, map, drop, Option, Some, None, Bool, true, false, refl, ap, sym, ◌∙◌, subst, arith, zero, suc, inl, inr}
 use Rattle.std.specs.Prelude.{slice_index, slice_index_or, slice_set, is_some, nat_le, ◌==◌, if◌then◌else◌}
-use Rattle.std.proofs.lemmas.Bool.{lt-leb, le-leb, eq-eqb}
-use Rattle.std.proofs.lemmas.List.{get_or-map, map-set, get_or-set_same, length-map}
+use Rattle.std.proofs.lemmas.Bool.{lt-leb, le-leb, eq-eqb, cases_eq}
+use Rattle.std.proofs.lemmas.List.{get_or-map, map-set, get_or-set_same, get_or-set_other, length-map}
 use Rattle.dma_insn.specs.declared.insn.Insn.{Insn}
 use Rattle.dma_insn.specs.declared.insn.Insn.TheVariants.{Ld, St, End, Sev, Wfe, Mov, Rmb, Wmb, Nop, Lp, LpEnd}
 use Rattle.dma_mem.specs.Places.{Descriptor}
@@ -20,10 +20,10 @@ use Rattle.dma_engine.specs.declared.outcome.TransResult.TheVariants.{ReadFailed
 use Rattle.dma_engine.specs.declared.queue.Queue.{Queue}
 use Rattle.dma_engine.specs.Found.{transfer_in, transfer_of}
 use Rattle.dma_engine.specs.Inside.{queue_room}
-use Rattle.dma_engine.specs.Object.{ChannelState, channel, issued_front, no_transfer, is_set}
-use Rattle.dma_engine.specs.Room.{no_room}
+use Rattle.dma_engine.specs.Object.{ChannelState, channel, issued_front, no_transfer, unfinished, is_set}
+use Rattle.dma_engine.specs.Room.{no_room, room_on, KeepsRoom}
 use Rattle.dma_engine.specs.Turn.{Stepped, turn, ends, insn_turn, front_turn, start_turn, finishes, moves_on, in_the_way, last_step}
-use Rattle.dma_engine.specs.View.{View, RunningTransfer, object_of, channels, schedule_at}
+use Rattle.dma_engine.specs.View.{View, EngineState, RunningTransfer, object_of, channels, schedule_at}
 use Rattle.dma_engine.specs.Holds.{Holds, IsQueue, Parts, view_of}
 use Rattle.dma_engine.proofs.Changes.{changed, view-changed, holds-changed, schedule-kept}
 use Rattle.dma_engine.proofs.Queues.{holds-at}
@@ -71,6 +71,22 @@ pub room-set : (queues : List Queue) (ch : ℕ) (q : Queue) → ch < length queu
 room-set queues ch q less =
     ap (λ l. slice_index_or l ch no_room) (map-set queue_room queues ch q)
     ∙ get_or-set_same (map queue_room queues) ch (queue_room q) no_room (omega (arith, less, length-map queues queue_room))
+
+-- room stays where the view does and no list's room falls
+pub room-grows : (e f : EngineState) → f.view ≡ e.view → e.room.entries ≤ f.room.entries → ((ch : ℕ) → ((room_on e.room ch).places ≤ (room_on f.room ch).places) × ((room_on e.room ch).outcomes ≤ (room_on f.room ch).outcomes)) → KeepsRoom e f
+room-grows e f view entries queues ch h = record {
+  entry = omega (arith, entries, h.entry);
+  cookie = omega (arith, (queues ch).0, h.cookie);
+  outcomes = subst (λ (v : View). unfinished (channel (object_of v) ch) ≤ (room_on f.room ch).outcomes) (sym view) (omega (arith, (queues ch).1, h.outcomes));
+}
+
+-- a queue in whose place one with no less room stands
+pub queues-grow : (queues : List Queue) (i : ℕ) (q r : Queue) → i < length queues → q ≡ slice_index_or queues i q → q.places.spare ≤ r.places.spare → q.outcomes.spare ≤ r.outcomes.spare → (ch : ℕ) → ((slice_index_or (map queue_room queues) ch no_room).places ≤ (slice_index_or (map queue_room (slice_set queues i r)) ch no_room).places) × ((slice_index_or (map queue_room queues) ch no_room).outcomes ≤ (slice_index_or (map queue_room (slice_set queues i r)) ch no_room).outcomes)
+queues-grow queues i q r less read places outcomes ch =
+    elim (cases_eq ch i) [
+      | inl same ↦ rw (same, room-at queues i q less read, room-set queues i r less) (places, outcomes)
+      | inr other ↦ rw (map-set queue_room queues i r, get_or-set_other (map queue_room queues) i ch (queue_room r) no_room other) (omega arith, omega arith)
+    ]
 
 -- ---- transfers that are found by their places
 

@@ -15,3 +15,7 @@ pub record HasRoom (e : EngineState) (ch : ℕ) : Type 0 where
   pub entry : 0 < e.room.entries
   pub cookie : 0 < (room_on e.room ch).places
   pub outcomes : unfinished (channel (object_of e.view) ch) ≤ (room_on e.room ch).outcomes
+
+-- Where one had room on a channel, the other has.
+abbrev pub KeepsRoom : EngineState → EngineState → Type 0
+KeepsRoom old new = (ch : ℕ) → HasRoom old ch → HasRoom new ch

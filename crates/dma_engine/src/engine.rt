@@ -1,6 +1,6 @@
 //! The engine.
 
-ghost use Rattle.std.specs.Prelude.{◌≡◌, ◌≢◌, ◌+◌, ◌-◌, ◌<◌, ◌≤◌, ℕ, IsTrue, vec_len, vec_capacity, IfOk, IfErr, OnOk, None, unwrap_or, length, take, drop, IfSome, slice_index_or, replicate, ◌++◌, ◌∷◌, [], if◌then◌else◌};
+ghost use Rattle.std.specs.Prelude.{◌≡◌, ◌≢◌, ◌+◌, ◌-◌, ◌<◌, ◌≤◌, ℕ, IsTrue, vec_len, vec_capacity, IfOk, IfErr, OnOk, OnErr, None, unwrap_or, length, take, drop, IfSome, slice_index_or, replicate, ◌++◌, ◌∷◌, [], false, if◌then◌else◌};
 ghost use Rattle.std.specs.Option.{option_map};
 ghost use Rattle.dma_mem.specs.Rules.{IsTransfer};
 ghost use Rattle.dma_engine.specs.Object.{channel, used, finished, finished_all, unfinished, is_failure};
@@ -8,7 +8,7 @@ ghost use Rattle.dma_engine.specs.View.{size, channels, object_of, schedule_at, 
 ghost use Rattle.dma_engine.specs.Answer.{Answers, Steps, reply_of, checked, channel_fault, submit_fault, submit_reply, status_in, result_of, first_running, named, done_on};
 ghost use Rattle.dma_engine.specs.Ways.{is_in_the_way};
 ghost use Rattle.dma_engine.specs.Holds.{new_queue};
-ghost use Rattle.dma_engine.specs.Room.{HasRoom};
+ghost use Rattle.dma_engine.specs.Room.{HasRoom, KeepsRoom};
 ghost use Rattle.dma_engine.specs.Turn.{turn, ends};
 ghost use Rattle.dma_engine.specs.Due.{front_told, running_told, IsDue, MayStart, Waits, Signals, GoesOn, Finishes, failure_of};
 
@@ -299,7 +299,8 @@ impl Engine {
     /// The error is the first that holds of `OutOfMemoryRange`, `Busy` where a running transfer reads or writes an address of
     /// the range, and `NoMemory`.
     pub fn write(&mut self, addr: u32, bytes: &[u8]) -> Result<(), EngineFault>
-        ensures { Answers self.old.view (Call.Write addr bytes.now) (reply_of (λ _. Reply.Done) result) self.new.view }
+        ensures answer { Answers self.old.view (Call.Write addr bytes.now) (reply_of (λ _. Reply.Done) result) self.new.view }
+        ensures kept { OnErr result (KeepsRoom self.old self.new) }
     {
         if addr as usize + bytes.len() > self.size as usize {
             return Err(EngineFault::OutOfMemoryRange);
@@ -328,7 +329,8 @@ impl Engine {
     /// The error is the first that holds of `OutOfMemoryRange`, `Busy` where a running transfer writes an address of the
     /// range, and `NoMemory`.
     pub fn read(&mut self, addr: u32, len: u32) -> Result<Bytes, EngineFault>
-        ensures { Answers self.old.view (Call.Read addr len) (reply_of (λ bytes. Reply.Bytes bytes) result) self.new.view }
+        ensures answer { Answers self.old.view (Call.Read addr len) (reply_of (λ bytes. Reply.Bytes bytes) result) self.new.view }
+        ensures kept { OnErr result (KeepsRoom self.old self.new) }
     {
         if addr as usize + len as usize > self.size as usize {
             return Err(EngineFault::OutOfMemoryRange);
@@ -376,6 +378,7 @@ impl Engine {
         ensures answer { Answers self.old.view (Call.Submit ch transfer) (submit_reply result) self.new.view }
         ensures back { IfErr result (λ refused. refused.transfer ≡ transfer) }
         ensures room { HasRoom self.old ch → IfErr result (λ refused. refused.fault ≢ EngineFault.NoMemory) }
+        ensures kept { OnErr result (KeepsRoom self.old self.new) }
     {
         let cookie = match self.check_submit(ch, &transfer) {
             Ok(cookie) => cookie,
@@ -411,6 +414,7 @@ impl Engine {
     pub fn issue(&mut self, ch: u8) -> Result<u32, EngineFault>
         ensures answer { Answers self.old.view (Call.Issue ch) (reply_of (λ count. Reply.Count count) result) self.new.view }
         ensures room { HasRoom self.old ch → IfErr result (λ fault. fault ≢ EngineFault.NoMemory) }
+        ensures kept { OnErr result (KeepsRoom self.old self.new) }
     {
         let index = usize::from(ch);
         if index >= self.queues.len() {
@@ -430,7 +434,8 @@ impl Engine {
     ///
     /// The error is `NoChannel`.
     pub fn pause(&mut self, ch: u8) -> Result<(), EngineFault>
-        ensures { Answers self.old.view (Call.Pause ch) (reply_of (λ _. Reply.Done) result) self.new.view }
+        ensures answer { Answers self.old.view (Call.Pause ch) (reply_of (λ _. Reply.Done) result) self.new.view }
+        ensures kept { OnErr result (KeepsRoom self.old self.new) }
     {
         let index = usize::from(ch);
         if index >= self.queues.len() {
@@ -445,7 +450,8 @@ impl Engine {
     ///
     /// The error is `NoChannel`.
     pub fn resume(&mut self, ch: u8) -> Result<(), EngineFault>
-        ensures { Answers self.old.view (Call.Resume ch) (reply_of (λ _. Reply.Done) result) self.new.view }
+        ensures answer { Answers self.old.view (Call.Resume ch) (reply_of (λ _. Reply.Done) result) self.new.view }
+        ensures kept { OnErr result (KeepsRoom self.old self.new) }
     {
         let index = usize::from(ch);
         if index >= self.queues.len() {
@@ -463,6 +469,7 @@ impl Engine {
     pub fn terminate(&mut self, ch: u8) -> Result<u32, EngineFault>
         ensures answer { Answers self.old.view (Call.Terminate ch) (reply_of (λ count. Reply.Count count) result) self.new.view }
         ensures room { HasRoom self.old ch → IfErr result (λ fault. fault ≢ EngineFault.NoMemory) }
+        ensures kept { OnErr result (KeepsRoom self.old self.new) }
     {
         let index = usize::from(ch);
         if index >= self.queues.len() {
@@ -483,15 +490,18 @@ impl Engine {
         Ok(count)
     }
 
-    /// Makes room on a channel: until the engine changes again, `submit`, `issue` and `terminate` there, `raise`, and each `step`
-    /// there of a transfer that runs take no memory. Nothing else changes.
+    /// Makes room on a channel: until a call changes the engine, `submit`, `issue` and `terminate` there, `raise`, and each `step`
+    /// there of a transfer that runs take no memory. Refused calls keep the room. Nothing else changes.
     ///
     /// The error is `NoChannel`, else `NoMemory`.
     pub fn make_room(&mut self, ch: u8) -> Result<(), EngineFault>
         ensures view { self.new.view ≡ self.old.view }
+        ensures memory { self.new.memory ≡ self.old.memory }
         ensures made { OnOk result (HasRoom self.new ch) }
         ensures answer { IfOk result (λ _. channel_fault self.old.view ch ≡ None) }
         ensures err { IfErr result (λ fault. fault ≡ unwrap_or (channel_fault self.old.view ch) EngineFault.NoMemory) }
+        ensures room { HasRoom self.old ch → IfErr result (λ fault. fault ≢ EngineFault.NoMemory) }
+        ensures kept { KeepsRoom self.old self.new }
     {
         let index = usize::from(ch);
         if index >= self.queues.len() {
@@ -516,10 +526,7 @@ impl Engine {
             return false;
         }
         let queue = &self.queues[index];
-        if queue.halted {
-            return false;
-        }
-        if queue.paused {
+        if queue.halted || queue.paused {
             return false;
         }
         if !queue.channel.is_loaded() {
@@ -558,6 +565,7 @@ impl Engine {
         ensures answer { Steps self.old.view ch result self.new.view }
         // With room made, memory is wanting only where nothing runs: at a start.
         ensures room { HasRoom self.old ch → IfErr result (λ fault. fault ≡ EngineFault.NoMemory → (schedule_at self.old.view ch).taken ≡ None) }
+        ensures kept { OnErr result (KeepsRoom self.old self.new) }
     {
         let index = usize::from(ch);
         if index >= self.queues.len() {
@@ -590,7 +598,8 @@ impl Engine {
     // Starts the front, unless there is none or a running transfer is in its way.
     fn start(&mut self, ch: u8) -> Result<Turn, EngineFault>
         requires { MayStart self.old.view ch }
-        ensures { Steps self.old.view ch result self.new.view }
+        ensures answer { Steps self.old.view ch result self.new.view }
+        ensures kept { OnErr result (KeepsRoom self.old self.new) }
     {
         let index = usize::from(ch);
         let Some((transfer, cookie)) = self.front(index) else {
@@ -613,6 +622,7 @@ impl Engine {
         requires due { IsDue self.old.view ch (Waits event) }
         ensures answer { Steps self.old.view ch result self.new.view }
         ensures room { HasRoom self.old ch → IfErr result (λ fault. fault ≢ EngineFault.NoMemory) }
+        ensures kept { OnErr result (KeepsRoom self.old self.new) }
     {
         if !self.events.is_set(event) {
             return Ok(Turn::Waiting(event));
@@ -633,6 +643,7 @@ impl Engine {
         requires { IsDue self.old.view ch (Signals event) }
         ensures answer { Steps self.old.view ch result self.new.view }
         ensures room { HasRoom self.old ch → IfErr result (λ fault. fault ≢ EngineFault.NoMemory) }
+        ensures kept { OnErr result (KeepsRoom self.old self.new) }
     {
         let entry = Entry::Signalled {
             by: Signaller::Channel(ch),
@@ -654,6 +665,7 @@ impl Engine {
         requires { IsDue self.old.view ch GoesOn }
         ensures answer { Steps self.old.view ch result self.new.view }
         ensures room { HasRoom self.old ch → IfErr result (λ fault. fault ≢ EngineFault.NoMemory) }
+        ensures kept { OnErr result (KeepsRoom self.old self.new) }
     {
         let queue = &mut self.queues[usize::from(ch)];
         let turn = queue
@@ -674,6 +686,7 @@ impl Engine {
         requires { IsDue self.old.view ch (Finishes self.old.view how) }
         ensures answer { Steps self.old.view ch result self.new.view }
         ensures room { HasRoom self.old ch → IfErr result (λ fault. fault ≢ EngineFault.NoMemory) }
+        ensures kept { OnErr result (KeepsRoom self.old self.new) }
     {
         let index = usize::from(ch);
         let stored = self.done(index);
@@ -712,7 +725,8 @@ impl Engine {
     ///
     /// The error is `BadRange` where the range is empty or ends above the last address, else `NoMemory`.
     pub fn mark(&mut self, kind: MarkKind, segment: Segment) -> Result<(), EngineFault>
-        ensures { Answers self.old.view (Call.Mark kind segment) (reply_of (λ _. Reply.Done) result) self.new.view }
+        ensures answer { Answers self.old.view (Call.Mark kind segment) (reply_of (λ _. Reply.Done) result) self.new.view }
+        ensures kept { OnErr result (KeepsRoom self.old self.new) }
     {
         if segment.len == 0 {
             return Err(EngineFault::BadRange);
@@ -736,7 +750,8 @@ impl Engine {
     ///
     /// The error is `NoMemory`.
     pub fn unmark(&mut self) -> Result<(), EngineFault>
-        ensures { Answers self.old.view Call.Unmark (reply_of (λ _. Reply.Done) result) self.new.view }
+        ensures answer { Answers self.old.view Call.Unmark (reply_of (λ _. Reply.Done) result) self.new.view }
+        ensures kept { OnErr result (KeepsRoom self.old self.new) }
     {
         if !added(&mut self.history, Entry::Unmarked) {
             return Err(EngineFault::NoMemory);
@@ -751,6 +766,7 @@ impl Engine {
     pub fn raise(&mut self, event: u8) -> Result<(), EngineFault>
         ensures answer { Answers self.old.view (Call.Raise event) (reply_of (λ _. Reply.Done) result) self.new.view }
         ensures room { (ch : ℕ) → HasRoom self.old ch → IfErr result (λ fault. fault ≢ EngineFault.NoMemory) }
+        ensures kept { OnErr result (KeepsRoom self.old self.new) }
     {
         if event > LAST_EVENT {
             return Err(EngineFault::BadEvent);
@@ -872,6 +888,8 @@ fn is_failure(how: TransResult) -> bool
 fn added(history: &mut Vec<Entry>, entry: Entry) -> bool
     ensures items { history.new.items ≡ (if result then history.old.items ++ entry ∷ [] else history.old.items) }
     ensures room { vec_len history.old < vec_capacity history.old → IsTrue result }
+    ensures len { result ≡ false → vec_len history.new ≡ vec_len history.old }
+    ensures capacity { vec_capacity history.old ≤ vec_capacity history.new }
 {
     history.push(entry).is_ok()
 }

@@ -50,6 +50,8 @@ impl Places {
     pub fn make_room(&mut self) -> bool
         ensures items { self.new.items ≡ self.old.items }
         ensures room { IsTrue result → 0 < self.new.spare }
+        ensures there { 0 < self.old.spare → IsTrue result }
+        ensures kept { self.old.spare ≤ self.new.spare }
     {
         self.items.reserve(1).is_ok()
     }
@@ -114,6 +116,7 @@ impl Outcomes {
         ensures room { IsTrue result → more ≤ self.new.spare }
         ensures none { result ≡ false → self.new ≡ self.old }
         ensures there { more ≤ self.old.spare → IsTrue result }
+        ensures kept { self.old.spare ≤ self.new.spare }
     {
         self.items.reserve(more).is_ok()
     }

@@ -381,6 +381,80 @@ fn a_refused_transfer_is_handed_back(rt: HostRuntime) -> Result<(), Fail> {
     Ok(())
 }
 
+#[test]
+fn calls_after_room_was_made(rt: HostRuntime) -> Result<(), Fail> {
+    let mut engine = Engine::new(rt.alloc(), 0x400, 1)?;
+    assert_eq!(rt; engine.make_room(1), Err(EngineFault::NoChannel));
+    engine.make_room(0)?;
+    let copy = copy_of_four(rt.alloc(), 0x100, 0x200)?;
+    assert_eq!(rt; submitted(&mut engine, 0, copy)?, 1);
+    engine.make_room(0)?;
+    assert_eq!(rt; engine.issue(0)?, 1);
+    engine.make_room(0)?;
+    assert_eq!(rt; engine.terminate(0)?, 1);
+    assert_eq!(rt; engine.history().len(), 3);
+    Ok(())
+}
+
+#[test]
+fn an_end_is_told_before_its_step(rt: HostRuntime) -> Result<(), Fail> {
+    let mut engine = Engine::new(rt.alloc(), 0x400, 1)?;
+    submitted(&mut engine, 0, copy_of_four(rt.alloc(), 0x100, 0x200)?)?;
+    assert_eq!(rt; engine.issue(0)?, 1);
+    assert!(rt; !engine.ending(0));
+    assert_eq!(rt; engine.step(0)?, Turn::Started(1));
+    for _ in 0..7 {
+        assert!(rt; !engine.ending(0));
+        assert_eq!(rt; engine.step(0)?, Turn::Moved);
+    }
+    assert!(rt; engine.ending(0));
+    let finished = Turn::Finished {
+        cookie: 1,
+        result: TransResult::NoError,
+        residue: 0,
+    };
+    assert_eq!(rt; engine.step(0)?, finished);
+    assert!(rt; !engine.ending(0));
+    Ok(())
+}
+
+#[test]
+fn a_failing_burst_is_told_as_an_end(rt: HostRuntime) -> Result<(), Fail> {
+    let mut engine = Engine::new(rt.alloc(), 0x400, 1)?;
+    submitted(&mut engine, 0, copy_of_four(rt.alloc(), 0x100, 0x200)?)?;
+    assert_eq!(rt; engine.issue(0)?, 1);
+    assert_eq!(rt; engine.step(0)?, Turn::Started(1));
+    moved(&mut engine, 0, 3)?;
+    assert!(rt; !engine.ending(0));
+    let last = Segment {
+        addr: 0x103,
+        len: 1,
+    };
+    engine.mark(MarkKind::Reading, last)?;
+    assert!(rt; engine.ending(0));
+    let failed = Turn::Finished {
+        cookie: 1,
+        result: TransResult::ReadFailed,
+        residue: 4,
+    };
+    assert_eq!(rt; engine.step(0)?, failed);
+    Ok(())
+}
+
+#[test]
+fn finished_cookies_of_all_channels(rt: HostRuntime) -> Result<(), Fail> {
+    let mut engine = Engine::new(rt.alloc(), 0x400, 2)?;
+    submitted(&mut engine, 0, copy_of_four(rt.alloc(), 0x100, 0x200)?)?;
+    submitted(&mut engine, 1, copy_of_four(rt.alloc(), 0x100, 0x200)?)?;
+    submitted(&mut engine, 1, copy_of_four(rt.alloc(), 0x100, 0x200)?)?;
+    assert_eq!(rt; engine.finished_all(), 0);
+    assert_eq!(rt; engine.terminate(1)?, 2);
+    assert_eq!(rt; engine.finished_all(), 2);
+    assert_eq!(rt; engine.terminate(0)?, 1);
+    assert_eq!(rt; engine.finished_all(), 3);
+    Ok(())
+}
+
 // Calls of the host on memory, marks and events.
 fn host_calls(alloc: Global, calls: &mut Vec<Call>) -> Result<(), Fail> {
     let bytes = Bytes::from_slice(alloc, &[0xAA])?;

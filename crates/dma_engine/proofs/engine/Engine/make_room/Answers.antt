@@ -1,12 +1,12 @@
 use Rattle.std.proofs.Common.{◌≡◌, ◌-◌, ◌<◌, ◌≤◌, ◌∙◌, ap, arith, length, subst, sym}
-use Rattle.std.specs.Prelude.{map, slice_index_or, slice_set}
+use Rattle.std.specs.Prelude.{map, slice_index_or, slice_set, vec_capacity, vec_len}
 use Rattle.dma_engine.specs.Holds.{view_of}
-use Rattle.dma_engine.specs.Inside.{parts_of, queue_room}
+use Rattle.dma_engine.specs.Inside.{parts_of, queue_room, room_of}
 use Rattle.dma_engine.specs.Object.{channel, unfinished}
-use Rattle.dma_engine.specs.Room.{no_room}
+use Rattle.dma_engine.specs.Room.{no_room, HasRoom}
 use Rattle.dma_engine.specs.View.{View, EngineState, object_of}
 use Rattle.dma_engine.proofs.Queues.{holds-at}
-use Rattle.dma_engine.proofs.Rooms.{holds-room, view-room, room-set}
+use Rattle.dma_engine.proofs.Rooms.{holds-room, view-room, room-set, room-grows, queues-grow}
 use Rattle.dma_engine.proofs.engine.Engine.make_room.Goals as goal
 
 pub invariant_of-self-then-not-make_room : goal.invariant_of-self-then-not-make_room
@@ -56,3 +56,27 @@ returns-clause-made c =
       cookie = rw room cookie;
       outcomes = rw room (subst (λ (w : View). unfinished (channel (object_of w) i) ≤ r.outcomes.spare) (sym (returns-clause-view c)) (subst (λ (s : EngineState). unfinished (channel (object_of s.view) i) ≤ r.outcomes.spare) c.self.view_is old));
     })
+
+pub returns-then-not-make_room-clause-kept : goal.returns-then-not-make_room-clause-kept
+returns-then-not-make_room-clause-kept c =
+    let p = parts_of c.self.inside in
+    let i = c.from-index.result in
+    let q = c.index_mut-queue.result.now in
+    let less : i < length p.queues = omega (arith, c.if-index-len.false, c.len.ensures, c.self.inside.queues.ok.0) in
+    let before : EngineState = record { view = view_of p; memory = p.memory; room = room_of c.self.inside } in
+    let view = returns-then-not-make_room-clause-view c ∙ sym (ap (λ (s : EngineState). s.view) c.self.view_is) in
+    let entries : before.room.entries ≤ vec_capacity c.reserve.new.self - vec_len c.reserve.new.self = omega (arith, c.reserve.ensures.capacity, c.reserve.ensures.len) in
+    let queues = queues-grow p.queues i q c.make_room.new.self less c.index_mut-queue.ensures.value c.make_room.ensures.kept.0 c.make_room.ensures.kept.1 in
+    λ ch h. room-grows before _ view entries queues ch (subst (λ (s : EngineState). HasRoom s ch) (sym c.self.view_is) h)
+
+pub returns-clause-kept : goal.returns-clause-kept
+returns-clause-kept c =
+    let p = parts_of c.self.inside in
+    let i = c.from-index.result in
+    let q = c.index_mut-queue.result.now in
+    let less : i < length p.queues = omega (arith, c.if-index-len.false, c.len.ensures, c.self.inside.queues.ok.0) in
+    let before : EngineState = record { view = view_of p; memory = p.memory; room = room_of c.self.inside } in
+    let view = returns-clause-view c ∙ sym (ap (λ (s : EngineState). s.view) c.self.view_is) in
+    let entries : before.room.entries ≤ vec_capacity c.reserve.new.self - vec_len c.reserve.new.self = omega (arith, c.reserve.ensures.capacity, c.reserve.ensures.len) in
+    let queues = queues-grow p.queues i q c.make_room.new.self less c.index_mut-queue.ensures.value c.make_room.ensures.kept.0 c.make_room.ensures.kept.1 in
+    λ ch h. room-grows before _ view entries queues ch (subst (λ (s : EngineState). HasRoom s ch) (sym c.self.view_is) h)

@@ -10,13 +10,13 @@ use Rattle.dma_engine.proofs.Entries.{holds-read, memory-read}
 use Rattle.dma_engine.proofs.Sizes.{size-is, memory-size}
 use Rattle.dma_engine.proofs.engine.Engine.read.Goals as goal
 
-pub returns-then-addr-len : goal.returns-then-addr-len
-returns-then-addr-len c =
+pub returns-then-addr-len-clause-answer : goal.returns-then-addr-len-clause-answer
+returns-then-addr-len-clause-answer c =
     let end = size-is (parts_of c.self.inside) ∙ ap (λ (s : EngineState). size s.view) c.self.view_is in
     read-out c.args.self.now.view c.args.addr c.args.len (omega (arith, end, c.if-addr-len.true))
 
-pub returns-in-Some : goal.returns-in-Some
-returns-in-Some c =
+pub returns-in-Some-clause-answer : goal.returns-in-Some-clause-answer
+returns-in-Some-clause-answer c =
     let end = size-is (parts_of c.self.inside) ∙ ap (λ (s : EngineState). size s.view) c.self.view_is in
     read-busy c.args.self.now.view c.args.addr c.args.len c.in-Some.ch c.in-Some.cookie (omega (arith, end, c.if-addr-len.false)) c.in-Some.ensures
 
@@ -25,20 +25,20 @@ bytes_of-requires c =
     let p = parts_of c.self.inside in
     omega (arith, memory-size p c.self.invariant, size-is p, c.if-addr-len.false)
 
-pub returns-in_default-bytes_of : goal.returns-in_default-bytes_of
-returns-in_default-bytes_of c =
+pub returns-in_default-bytes_of-clause-answer : goal.returns-in_default-bytes_of-clause-answer
+returns-in_default-bytes_of-clause-answer c =
     let end = size-is (parts_of c.self.inside) ∙ ap (λ (s : EngineState). size s.view) c.self.view_is in
     let free = read-free c.args.self.now.view c.args.addr c.args.len (omega (arith, end, c.if-addr-len.false)) c.in_default.ensures in
     read-starved c.args.self.now.view c.args.addr c.args.len free
 
-pub returns-in_default-from_slice : goal.returns-in_default-from_slice
-returns-in_default-from_slice c =
+pub returns-in_default-from_slice-clause-answer : goal.returns-in_default-from_slice-clause-answer
+returns-in_default-from_slice-clause-answer c =
     let end = size-is (parts_of c.self.inside) ∙ ap (λ (s : EngineState). size s.view) c.self.view_is in
     let free = read-free c.args.self.now.view c.args.addr c.args.len (omega (arith, end, c.if-addr-len.false)) c.in_default.ensures in
     read-starved c.args.self.now.view c.args.addr c.args.len free
 
-pub returns-then-not-added : goal.returns-then-not-added
-returns-then-not-added c =
+pub returns-then-not-added-clause-answer : goal.returns-then-not-added-clause-answer
+returns-then-not-added-clause-answer c =
     let end = size-is (parts_of c.self.inside) ∙ ap (λ (s : EngineState). size s.view) c.self.view_is in
     let free = read-free c.args.self.now.view c.args.addr c.args.len (omega (arith, end, c.if-addr-len.false)) c.in_default.ensures in
     rw c.if-not-added.ensures.items ((read-starved c.args.self.now.view c.args.addr c.args.len free).0, ap (λ (s : EngineState). s.view) c.self.view_is)
@@ -54,8 +54,8 @@ invariant_of-self-2 c =
     let same = c.in-Ok.ensures ∙ c.as_slice.ensures in
     rw (c.if-not-added.ensures.items, same) (holds-read p c.args.addr c.args.len c.in-Some-bytes_of.answer c.self.invariant free' read)
 
-pub returns : goal.returns
-returns c =
+pub returns-clause-answer : goal.returns-clause-answer
+returns-clause-answer c =
     let p = parts_of c.self.inside in
     let is : view_of p ≡ c.args.self.now.view = ap (λ (s : EngineState). s.view) c.self.view_is in
     let end = size-is p ∙ ap size is in

@@ -8,8 +8,8 @@ use Rattle.dma_engine.proofs.Queues.{many-queues}
 use Rattle.dma_engine.proofs.Quiet.{holds-paused, view-paused}
 use Rattle.dma_engine.proofs.engine.Engine.resume.Goals as goal
 
-pub returns-then-index-len : goal.returns-then-index-len
-returns-then-index-len c =
+pub returns-then-index-len-clause-answer : goal.returns-then-index-len-clause-answer
+returns-then-index-len-clause-answer c =
     let p = parts_of c.self.inside in
     let is : view_of p ≡ c.args.self.now.view = ap (λ (s : EngineState). s.view) c.self.view_is in
     let many = many-queues p c.self.invariant ∙ ap channels is in
@@ -21,8 +21,8 @@ invariant_of-self c =
     let less : c.from-index.result < length p.queues = omega (arith, c.if-index-len.false, c.len.ensures, c.self.inside.queues.ok.0) in
     holds-paused p c.from-index.result c.index_mut-queue.result.now false c.self.invariant less c.index_mut-queue.ensures.value
 
-pub returns : goal.returns
-returns c =
+pub returns-clause-answer : goal.returns-clause-answer
+returns-clause-answer c =
     let p = parts_of c.self.inside in
     let is : view_of p ≡ c.args.self.now.view = ap (λ (s : EngineState). s.view) c.self.view_is in
     let less : c.from-index.result < length p.queues = omega (arith, c.if-index-len.false, c.len.ensures, c.self.inside.queues.ok.0) in

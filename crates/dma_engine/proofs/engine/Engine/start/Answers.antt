@@ -7,8 +7,8 @@ use Rattle.dma_engine.proofs.Queues.{many-queues}
 use Rattle.dma_engine.proofs.Starts.{front-told, held-answers, holds-started, start-answers, way-clear}
 use Rattle.dma_engine.proofs.engine.Engine.start.Goals as goal
 
-pub returns-in-Some-first_in_the_way : goal.returns-in-Some-first_in_the_way
-returns-in-Some-first_in_the_way c =
+pub returns-in-Some-first_in_the_way-clause-answer : goal.returns-in-Some-first_in_the_way-clause-answer
+returns-in-Some-first_in_the_way-clause-answer c =
     let v = c.args.self.now.view in
     let told = rw c.from-index.ensures at c.in-Some.ensures in
     let front = front-told (issued_front (channel (object_of v) c.args.ch)) c.in-Some.transfer.now c.in-Some.cookie (finished (channel (object_of v) c.args.ch) + 1) told in
@@ -27,8 +27,8 @@ invariant_of-self c =
     rw (c.load.ensures, c.in-Ok.ensures.program, c.from-index.ensures)
     (holds-started p c.args.ch c.index_mut-queue.result.now c.in-Some.transfer.now c.self.invariant less read asked front.0 none)
 
-pub returns : goal.returns
-returns c =
+pub returns-clause-answer : goal.returns-clause-answer
+returns-clause-answer c =
     let p = parts_of c.self.inside in
     let v = view_of p in
     let asked = rw (← c.self.view_is) at c.requires in

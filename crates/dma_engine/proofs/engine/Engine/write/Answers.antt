@@ -12,24 +12,24 @@ use Rattle.dma_engine.proofs.Entries.{holds-wrote}
 use Rattle.dma_engine.proofs.Sizes.{size-is, memory-size}
 use Rattle.dma_engine.proofs.engine.Engine.write.Goals as goal
 
-pub returns-then-addr-bytes : goal.returns-then-addr-bytes
-returns-then-addr-bytes c =
+pub returns-then-addr-bytes-clause-answer : goal.returns-then-addr-bytes-clause-answer
+returns-then-addr-bytes-clause-answer c =
     let end = size-is (parts_of c.self.inside) ∙ ap (λ (s : EngineState). size s.view) c.self.view_is in
     write-out c.args.self.now.view c.args.addr c.args.bytes.now (omega (arith, end, c.if-addr-bytes.true))
 
-pub returns-in-Some : goal.returns-in-Some
-returns-in-Some c =
+pub returns-in-Some-clause-answer : goal.returns-in-Some-clause-answer
+returns-in-Some-clause-answer c =
     let end = size-is (parts_of c.self.inside) ∙ ap (λ (s : EngineState). size s.view) c.self.view_is in
     write-busy c.args.self.now.view c.args.addr c.args.bytes.now c.in-Some.ch c.in-Some.cookie (omega (arith, end, c.if-addr-bytes.false)) c.in-Some.ensures
 
-pub returns-in_default-from_slice : goal.returns-in_default-from_slice
-returns-in_default-from_slice c =
+pub returns-in_default-from_slice-clause-answer : goal.returns-in_default-from_slice-clause-answer
+returns-in_default-from_slice-clause-answer c =
     let end = size-is (parts_of c.self.inside) ∙ ap (λ (s : EngineState). size s.view) c.self.view_is in
     let free = write-free c.args.self.now.view c.args.addr (length c.args.bytes.now) (omega (arith, end, c.if-addr-bytes.false)) c.in_default.ensures in
     write-starved c.args.self.now.view c.args.addr c.args.bytes.now free
 
-pub returns-then-not-added : goal.returns-then-not-added
-returns-then-not-added c =
+pub returns-then-not-added-clause-answer : goal.returns-then-not-added-clause-answer
+returns-then-not-added-clause-answer c =
     let end = size-is (parts_of c.self.inside) ∙ ap (λ (s : EngineState). size s.view) c.self.view_is in
     let free = write-free c.args.self.now.view c.args.addr (length c.args.bytes.now) (omega (arith, end, c.if-addr-bytes.false)) c.in_default.ensures in
     rw c.if-not-added.ensures.items ((write-starved c.args.self.now.view c.args.addr c.args.bytes.now free).0, ap (λ (s : EngineState). s.view) c.self.view_is)
@@ -52,8 +52,8 @@ invariant_of-self-2 c =
     let free' : write_fault (view_of p) c.args.addr n ≡ None = subst (λ (w : View). write_fault w c.args.addr n ≡ None) (sym is) free in
     rw (c.if-not-added.ensures.items, c.in-Ok-write.ensures.ok, c.in-Ok.ensures) (holds-wrote p c.args.addr c.args.bytes.now c.self.invariant free')
 
-pub returns : goal.returns
-returns c =
+pub returns-clause-answer : goal.returns-clause-answer
+returns-clause-answer c =
     let is : view_of (parts_of c.self.inside) ≡ c.args.self.now.view = ap (λ (s : EngineState). s.view) c.self.view_is in
     let end = size-is (parts_of c.self.inside) ∙ ap size is in
     let free = write-free c.args.self.now.view c.args.addr (length c.args.bytes.now) (omega (arith, end, c.if-addr-bytes.false)) c.in_default.ensures in
