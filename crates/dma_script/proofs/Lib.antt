@@ -6,6 +6,7 @@ pub mod LineLemmas
 pub mod ListLemmas
 pub mod NumberLemmas
 pub mod PairLemmas
+pub mod RaceLemmas
 pub mod RowLemmas
 pub mod ScriptLemmas
 pub mod Rows

@@ -1,10 +1,11 @@
 -- Worked scripts, computed from the definitions.
 use Rattle.std.proofs.Common.{◌≡◌, List, ℕ, [], ◌∷◌, ◌++◌, codes, Some, None, Ok, Err, refl}
 use Rattle.dma_script.specs.Statements.{run_script_of}
+use Rattle.dma_script.specs.Race.{race_script_of}
 use Rattle.dma_script.specs.Printing.{program_lines, hex_address, spaced_bytes}
 use Rattle.dma_script.specs.Pairs.{pairs_of}
 use Rattle.dma_script.specs.Plan.{plan_of}
-use Rattle.dma_script.specs.declared.fault.Cause.TheVariants.{Byte, Command, First, Words, Number, Hex, Range, SizeOutOfRange, BadChannels}
+use Rattle.dma_script.specs.declared.fault.Cause.TheVariants.{Byte, Command, First, Words, Number, Hex, Range, SizeOutOfRange, BadChannels, Go}
 use Rattle.dma_mem.specs.declared.marks.MarkKind.TheVariants.{Reading, Writing}
 use Rattle.dma_script.specs.declared.statements.Statement.TheVariants as statements
 
@@ -113,3 +114,33 @@ wait_signal = refl
 
 event_out_of_range : plan_of (codes "1+1 to 2+1 signal 256") ≡ Err (record { line = 1; cause = Range })
 event_out_of_range = refl
+
+whole_race : race_script_of (after_memory (codes "job 0 1 20" ++ 10 ∷ codes "issue 1" ++ 10 ∷ codes "job 7 7 0" ++ 10 ∷ codes "go" ++ 10 ∷ codes "totals")) ≡ Ok (record { before = record { size = 64; channels = 1; statements = statements.Issue 1 ∷ [] }; jobs = record { first = 0; last = 1; turns = 20 } ∷ record { first = 7; last = 7; turns = 0 } ∷ []; after = statements.Totals ∷ [] })
+whole_race = refl
+
+no_go : race_script_of (after_memory (codes "read 0+1")) ≡ Err (record { line = 0; cause = Go })
+no_go = refl
+
+no_go_after_other_faults : race_script_of (after_memory (codes "job 1 0 9")) ≡ Err (record { line = 2; cause = Range })
+no_go_after_other_faults = refl
+
+no_race_line : race_script_of [] ≡ Err (record { line = 0; cause = First })
+no_race_line = refl
+
+first_that_is_no_memory : race_script_of (codes "read 0+1") ≡ Err (record { line = 1; cause = First })
+first_that_is_no_memory = refl
+
+first_that_comes_after_go : race_script_of (codes "totals") ≡ Err (record { line = 1; cause = Command })
+first_that_comes_after_go = refl
+
+steps_before_go : race_script_of (after_memory (codes "step x" ++ 10 ∷ codes "go")) ≡ Err (record { line = 2; cause = Command })
+steps_before_go = refl
+
+go_again : race_script_of (after_memory (codes "go" ++ 10 ∷ codes "go")) ≡ Err (record { line = 3; cause = Command })
+go_again = refl
+
+job_after_go : race_script_of (after_memory (codes "go" ++ 10 ∷ codes "job x")) ≡ Err (record { line = 3; cause = Command })
+job_after_go = refl
+
+memory_after_go : race_script_of (after_memory (codes "go" ++ 10 ∷ codes "memory x")) ≡ Err (record { line = 3; cause = First })
+memory_after_go = refl

@@ -1,5 +1,5 @@
 -- What a command prints for an input, and how a call of it may end.
-use Rattle.std.specs.Prelude.{◌≡◌, ◌<◌, ℕ, List, [], ◌∷◌, ◌++◌, flat_map, take, length, codes, nat_lt, if◌then◌else◌, Option}
+use Rattle.std.specs.Prelude.{◌≡◌, ◌<◌, ◌≤◌, ◌⊎◌, ℕ, List, [], ◌∷◌, ◌++◌, flat_map, take, length, codes, nat_lt, if◌then◌else◌, Option, IfSome}
 use Rattle.std.specs.Io.KnownBytes.{Appends}
 
 -- What a command prints: for each input line the lines that it prints, without their line feeds, and the exit status.
@@ -56,3 +56,39 @@ pub data Ends (reader writer : Failures) (printed : Printed) (old new : Option (
   out_of_memory : Unfailed reader → Unfailed writer → (count : ℕ) → count < length printed.groups → Appends old new (printed_text (take count printed.groups)) → status ≡ 3 → Ends reader writer printed old new status
   input_fault : reader.after → Unfailed writer → Appends old new (text_of (codes "input failed" ∷ [])) → status ≡ 1 → Ends reader writer printed old new status
   output_fault : writer.after → status ≡ 1 → Ends reader writer printed old new status
+
+-- How a text was written, and the status that came of it.
+abbrev pub Wrote : Failures → Option (List ℕ) → Option (List ℕ) → List ℕ → ℕ → ℕ → Type 0
+Wrote writer old new text status result = ((result ≡ status) × Appends old new text × Unfailed writer) ⊎ ((result ≡ 1) × writer.after)
+
+-- How a call ends that has no input to carry out.
+pub data EndsUnread (input : Option (List ℕ)) (reader writer : Failures) (old new : Option (List ℕ)) (status : ℕ) : Type 0 where
+  reader_failed : reader.after → Wrote writer old new (text_of (codes "input failed" ∷ [])) 1 status → EndsUnread input reader writer old new status
+  too_long : IfSome input (λ all. longest_input < length all) → Unfailed reader → Wrote writer old new (text_of (codes "line 0: InputTooLong" ∷ [])) 1 status → EndsUnread input reader writer old new status
+  no_memory : Unfailed reader → Unfailed writer → new ≡ old → status ≡ 3 → EndsUnread input reader writer old new status
+
+-- ---- where the input alone doesn't settle what is printed
+
+-- What may be printed for an input of any length, given what may be for one that is not too long (profile).
+abbrev pub may_print_within : (List ℕ → Printed → Type 0) → List ℕ → Printed → Type 0
+may_print_within may input printed =
+    ((longest_input < length input) × (printed ≡ refusal (codes "line 0: InputTooLong"))) ⊎ ((length input ≤ longest_input) × may input printed)
+
+-- All of something that may be printed was appended, with its status.
+pub record MayComplete (may : Printed → Type 0) (status : ℕ) (old new : List ℕ) : Type 0 where
+  pub printed : Printed
+  pub allowed : may printed
+  pub ends : status ≡ printed.status
+  pub whole : new ≡ old ++ printed_text printed.groups
+
+-- The first groups of something that may be printed were appended, at least one group being left out.
+pub record MayAppend (may : Printed → Type 0) (old new : List ℕ) : Type 0 where
+  pub printed : Printed
+  pub allowed : may printed
+  pub first : AppendsGroups printed.groups old new
+
+-- The call ends as one of a command that prints something that may be printed.
+pub record MayEnd (reader writer : Failures) (may : Printed → Type 0) (old new : Option (List ℕ)) (status : ℕ) : Type 0 where
+  pub printed : Printed
+  pub allowed : may printed
+  pub ends : Ends reader writer printed old new status

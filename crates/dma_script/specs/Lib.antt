@@ -1,10 +1,11 @@
 -- How a command ends, what words spell, how a script is read up to its first fault, what the words after the first of a line
--- say, the line of a plan, the lines of a run script, pairs of digits, and printed lines.
+-- say, the line of a plan, the lines of a run script and of a race script, pairs of digits, and printed lines.
 pub mod Command
 pub mod Words
 pub mod Lines
 pub mod Arguments
 pub mod Plan
 pub mod Statements
+pub mod Race
 pub mod Printing
 pub mod Pairs

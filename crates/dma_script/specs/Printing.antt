@@ -4,7 +4,7 @@ use Rattle.std.specs.List.{concat, range_with_len}
 use Rattle.std.specs.Fmt.{digit_glyph}
 use Rattle.std.specs.Int.{to_be_bytes, w32}
 use Rattle.dma_script.specs.declared.fault.Cause.{Cause}
-use Rattle.dma_script.specs.declared.fault.Cause.TheVariants.{Byte, Command, First, Words, Number, Hex, Range, SizeOutOfRange, BadChannels}
+use Rattle.dma_script.specs.declared.fault.Cause.TheVariants.{Byte, Command, First, Words, Number, Hex, Range, SizeOutOfRange, BadChannels, Go}
 use Rattle.dma_script.specs.declared.fault.Fault.{Fault}
 
 -- the name of a cause
@@ -18,6 +18,7 @@ cause_name Hex = codes "Hex"
 cause_name Range = codes "Range"
 cause_name SizeOutOfRange = codes "SizeOutOfRange"
 cause_name BadChannels = codes "BadChannels"
+cause_name Go = codes "Go"
 
 -- the line that a fault of a script prints
 abbrev pub fault_line : Fault → List ℕ

@@ -11,7 +11,7 @@ use std::fmt;
 pub enum Cause {
     /// A byte that is not printable ASCII, a space or a tab.
     Byte,
-    /// There is no such line.
+    /// There is no such line, or not on this side of `go`.
     Command,
     /// The first line is not the memory line, or a later one is.
     First,
@@ -27,6 +27,8 @@ pub enum Cause {
     SizeOutOfRange,
     /// There is no channel, or more than there may be.
     BadChannels,
+    /// A race script has no `go`, which is told after all lines.
+    Go,
 }
 
 // The name that is printed.
@@ -47,6 +49,7 @@ impl fmt::Display for Cause {
             Cause::Range => "Range",
             Cause::SizeOutOfRange => "SizeOutOfRange",
             Cause::BadChannels => "BadChannels",
+            Cause::Go => "Go",
         };
         f.write_str(name)
     }
@@ -55,7 +58,7 @@ impl fmt::Display for Cause {
 /// The first fault of a script.
 #[derive(Clone, Copy, Debug, PartialEq, Eq, Drop)]
 pub struct Fault {
-    /// The number of the line, from 1; 0 where the script has no line.
+    /// The number of the line, from 1; 0 where the script has no line, or a race script no `go`.
     pub line: usize,
     /// The first cause that the line has.
     pub cause: Cause,

@@ -13,6 +13,9 @@ pub mod output;
 pub mod pairs;
 pub mod plan;
 pub mod printing;
+pub mod race;
+#[cfg(test)]
+mod race_tests;
 pub mod statements;
 #[cfg(test)]
 mod tests;

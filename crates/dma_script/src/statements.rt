@@ -1,5 +1,5 @@
 //! The lines of a run script.
-ghost use Rattle.std.specs.Prelude.{◌≡◌, ◌++◌, ◌∷◌, [], IfOk, List, OnErr, OnOk, map};
+ghost use Rattle.std.specs.Prelude.{◌≡◌, ◌++◌, ◌∷◌, [], IfOk, List, None, OnErr, OnOk, map};
 
 use crate::arguments::{
     byte_alone, byte_of, bytes_at, first_and_rest, list_at, no_word, number_at, number_where,
@@ -161,7 +161,7 @@ impl Model for Statements {
 
 impl Statements {
     /// A list without statements, which takes no memory.
-    fn new(alloc: Global) -> Statements
+    pub(crate) fn new(alloc: Global) -> Statements
         ensures { result ≡ [] }
     {
         Statements {
@@ -177,7 +177,7 @@ impl Statements {
     }
 
     /// Adds a statement at the end. Without memory for it the list stays as it was.
-    fn push(&mut self, statement: Statement) -> Result<(), AllocError>
+    pub(crate) fn push(&mut self, statement: Statement) -> Result<(), AllocError>
         ensures ok { OnOk result (self.new ≡ self.old ++ statement ∷ []) }
         ensures err { OnErr result (self.new ≡ self.old) }
     {
@@ -201,7 +201,7 @@ ghost use Rattle.std.specs.Option.{ForSome};
 ghost use Rattle.dma_script.specs.Lines.{Gives, LineGives, ScriptGives};
 ghost use Rattle.dma_script.specs.Statements.{channel_and_cookie, copy_line, count_of, first_line, IsWithin, keyword_of, later_line, mark_kind_of, mark_line, memory_line, next_line, read_line, result_line, run_script_of, status_line, step_line, submit_line, write_line};
 
-fn keyword_in(word: &[u8]) -> Option<Keyword>
+pub(crate) fn keyword_in(word: &[u8]) -> Option<Keyword>
     ensures { result ≡ keyword_of word.now }
 {
     match word {
@@ -380,7 +380,11 @@ fn first_line(alloc: Global, keyword: Keyword, words: &[&[u8]]) -> Result<RunScr
 }
 
 /// A later line.
-fn later_line(alloc: Global, keyword: Keyword, words: &[&[u8]]) -> Result<Statement, LineError>
+pub(crate) fn later_line(
+    alloc: Global,
+    keyword: Keyword,
+    words: &[&[u8]],
+) -> Result<Statement, LineError>
     ensures { Gives (λ line. line) result (later_line keyword (map (λ word. word.now) words.now)) }
 {
     match keyword {
@@ -421,15 +425,28 @@ fn later_line(alloc: Global, keyword: Keyword, words: &[&[u8]]) -> Result<Statem
 
 /// What was read of a run script so far: nothing before its memory line.
 #[derive(Drop)]
-struct ReadSoFar {
-    script: Option<RunScript>,
+pub(crate) struct ReadSoFar {
+    pub(crate) script: Option<RunScript>,
     ghost within: { ForSome script IsWithin },
 }
 
 impl ReadSoFar {
+    /// Nothing yet.
+    pub(crate) fn new() -> ReadSoFar
+        ensures { result.script ≡ None }
+    {
+        ReadSoFar { script: None }
+    }
+
     /// Takes a line by its keyword and the words after that.
-    fn take(&mut self, alloc: Global, keyword: Keyword, words: &[&[u8]]) -> Result<(), LineError>
-        ensures { LineGives result self.new.script (next_line self.old.script keyword (map (λ word. word.now) words.now)) }
+    pub(crate) fn take(
+        &mut self,
+        alloc: Global,
+        keyword: Keyword,
+        words: &[&[u8]],
+    ) -> Result<(), LineError>
+        ensures line { LineGives result self.new.script (next_line self.old.script keyword (map (λ word. word.now) words.now)) }
+        ensures err { OnErr result (self.new.script ≡ self.old.script) }
     {
         match &mut self.script {
             None => self.script = Some(first_line(alloc, keyword, words)?),
@@ -469,7 +486,7 @@ pub fn read_run_script(alloc: Global, input: &[u8]) -> Result<RunScript, ScriptE
     ensures script { ScriptGives (λ script. script) result (run_script_of input.now) }
     ensures within { IfOk result IsWithin }
 {
-    let mut read = ReadSoFar { script: None };
+    let mut read = ReadSoFar::new();
     read_script(&mut read, alloc, input)?;
     read.script.ok_or(ScriptError::Fault(Fault {
         line: 0,

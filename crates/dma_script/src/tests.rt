@@ -375,12 +375,13 @@ fn printed_lines(rt: HostRuntime) -> Result<(), Fail> {
         (7, Cause::Range),
         (8, Cause::SizeOutOfRange),
         (9, Cause::BadChannels),
+        (0, Cause::Go),
     ] {
         push_fault(rt.alloc(), &mut out, Fault { line, cause })?;
     }
     let text = b"ok\n0000001F 00 AA BB CC 09\nFEDCBA98\n\
         line 0: First\nline 1: Byte\nline 10: Command\nline 4194304: Words\nline 5: Number\n\
-        line 6: Hex\nline 7: Range\nline 8: SizeOutOfRange\nline 9: BadChannels\n";
+        line 6: Hex\nline 7: Range\nline 8: SizeOutOfRange\nline 9: BadChannels\nline 0: Go\n";
     assert_eq!(rt; out.as_slice(), text.as_slice());
     Ok(())
 }

@@ -1,4 +1,5 @@
 pub mod RunLemmas
+pub mod RaceLemmas
 pub mod Served
 pub mod StepLemmas
 pub mod CopyLemmas

@@ -5,8 +5,12 @@ mod asm;
 mod calls;
 mod copies;
 mod dis;
+mod early;
 mod plan;
 mod printing;
+mod race;
+#[cfg(test)]
+mod race_tests;
 mod run;
 #[cfg(test)]
 mod run_tests;
@@ -20,9 +24,13 @@ use clap::{Command, Error};
 use dis::dis_main;
 use dma_script::command::{FAULT, OUT_OF_MEMORY};
 use plan::plan_main;
+use race::race_script;
 use run::run_script;
 use std::alloc::Global;
+use std::io::{Stdin, Stdout};
 use std::process::ExitCode;
+use std::sync::Wait;
+use std::thread::Threads;
 use std::{env, io};
 
 /// The exit status of any other command line.
@@ -37,6 +45,7 @@ fn subcommand<'a>(alloc: Global, words: &'a [String]) -> Result<Option<&'a str>,
         .subcommand(Command::new(alloc, "dis"))?
         .subcommand(Command::new(alloc, "plan"))?
         .subcommand(Command::new(alloc, "run"))?
+        .subcommand(Command::new(alloc, "race"))?
         .try_get_matches_from(words)?;
     Ok(matches.subcommand_name())
 }
@@ -50,12 +59,19 @@ fn usage(rt: &impl Print) -> u8 {
 }
 
 /// Runs the command that the words name, and gives its status.
-fn status(rt: &HostRuntime, words: &[String]) -> u8 {
-    match subcommand(rt.alloc(), words) {
-        Ok(Some("asm")) => asm_main(rt.alloc(), &mut rt.stdin(), &mut rt.stdout()),
-        Ok(Some("dis")) => dis_main(rt.alloc(), &mut rt.stdin(), &mut rt.stdout()),
-        Ok(Some("plan")) => plan_main(rt.alloc(), &mut rt.stdin(), &mut rt.stdout()),
-        Ok(Some("run")) => run_script(rt.alloc(), &mut rt.stdin(), &mut rt.stdout()),
+fn status<R: Print + Threads + Wait + Sync>(
+    rt: &R,
+    alloc: Global,
+    words: &[String],
+    reader: &mut Stdin,
+    writer: &mut Stdout,
+) -> u8 {
+    match subcommand(alloc, words) {
+        Ok(Some("asm")) => asm_main(alloc, reader, writer),
+        Ok(Some("dis")) => dis_main(alloc, reader, writer),
+        Ok(Some("plan")) => plan_main(alloc, reader, writer),
+        Ok(Some("run")) => run_script(alloc, reader, writer),
+        Ok(Some("race")) => race_script(rt, alloc, reader, writer),
         Ok(_) => usage(rt),
         Err(error) if error.kind() == ErrorKind::OutOfMemory => OUT_OF_MEMORY,
         Err(_) => usage(rt),
@@ -74,5 +90,7 @@ fn main(rt: HostRuntime) -> ExitCode {
         Ok(words) => words,
         Err(_) => return ExitCode::from(OUT_OF_MEMORY),
     };
-    ExitCode::from(status(&rt, &words))
+    let mut reader = rt.stdin();
+    let mut writer = rt.stdout();
+    ExitCode::from(status(&rt, rt.alloc(), &words, &mut reader, &mut writer))
 }

@@ -62,7 +62,7 @@ fn carry_out(
 }
 
 /// Carries out the lines of a script. Where memory is refused, what the lines before printed stands there.
-fn carry_out_all(
+pub fn carry_out_all(
     alloc: Global,
     engine: &mut Engine,
     statements: &[Statement],

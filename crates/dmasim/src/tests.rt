@@ -11,8 +11,17 @@ use std::test::Fail;
 
 /// Keeps what is written.
 #[derive(Drop)]
-struct Kept {
-    bytes: Vec<u8>,
+pub struct Kept {
+    pub bytes: Vec<u8>,
+}
+
+impl Kept {
+    /// Nothing was written yet.
+    pub fn new(alloc: Global) -> Kept {
+        Kept {
+            bytes: Vec::new(alloc),
+        }
+    }
 }
 
 impl Write for Kept {
@@ -35,9 +44,7 @@ impl Sink for Kept {
 /// The status of a run, and what it printed.
 pub fn run(alloc: Global, input: &[u8]) -> (u8, Vec<u8>) {
     let mut reader = input;
-    let mut writer = Kept {
-        bytes: Vec::new(alloc),
-    };
+    let mut writer = Kept::new(alloc);
     let status = run_script(alloc, &mut reader, &mut writer);
     (status, writer.bytes)
 }
@@ -45,9 +52,7 @@ pub fn run(alloc: Global, input: &[u8]) -> (u8, Vec<u8>) {
 /// The status of `asm`, and what it printed.
 fn asm(alloc: Global, input: &[u8]) -> (u8, Vec<u8>) {
     let mut reader = input;
-    let mut writer = Kept {
-        bytes: Vec::new(alloc),
-    };
+    let mut writer = Kept::new(alloc);
     let status = asm_main(alloc, &mut reader, &mut writer);
     (status, writer.bytes)
 }
@@ -55,9 +60,7 @@ fn asm(alloc: Global, input: &[u8]) -> (u8, Vec<u8>) {
 /// The status of `dis`, and what it printed.
 fn dis(alloc: Global, input: &[u8]) -> (u8, Vec<u8>) {
     let mut reader = input;
-    let mut writer = Kept {
-        bytes: Vec::new(alloc),
-    };
+    let mut writer = Kept::new(alloc);
     let status = dis_main(alloc, &mut reader, &mut writer);
     (status, writer.bytes)
 }
@@ -65,9 +68,7 @@ fn dis(alloc: Global, input: &[u8]) -> (u8, Vec<u8>) {
 /// The status of `plan`, and what it printed.
 fn plan(alloc: Global, input: &[u8]) -> (u8, Vec<u8>) {
     let mut reader = input;
-    let mut writer = Kept {
-        bytes: Vec::new(alloc),
-    };
+    let mut writer = Kept::new(alloc);
     let status = plan_main(alloc, &mut reader, &mut writer);
     (status, writer.bytes)
 }

@@ -1,0 +1,154 @@
+-- The lines of a race script (profile): those before `go`, with jobs among them, and those after it. A line is tested for its
+-- side of `go` before it is tested for being the first.
+use Rattle.std.specs.Prelude.{ℕ, ◌≤◌, ◌&&◌, Bool, true, false, nat_le, nat_lt, if◌then◌else◌, List, [], ◌∷◌, ◌++◌, length, Option, Some, None, IfSome, Result, Ok, Err, codes}
+use Rattle.std.specs.List.{All}
+use Rattle.std.specs.Option.{ok_or, option_map}
+use Rattle.std.specs.Str.{bytes_eq}
+use Rattle.dma_script.specs.Lines.{◌>>=◌, after_script}
+use Rattle.dma_script.specs.Arguments.{where_holds, no_word, three_of, number_at}
+use Rattle.dma_script.specs.Statements.{IsWithin, keyword_of, later_line, next_line}
+use Rattle.dma_script.specs.declared.fault.Cause.{Cause}
+use Rattle.dma_script.specs.declared.fault.Cause.TheVariants as causes
+use Rattle.dma_script.specs.declared.fault.Fault.{Fault}
+use Rattle.dma_script.specs.declared.statements.Keyword.{Keyword}
+use Rattle.dma_script.specs.declared.statements.Keyword.TheVariants.{Memory, Write, Read, Submit, Issue, Terminate, Status, Result as Outcome}
+use Rattle.dma_script.specs.declared.statements.Statement.{Statement}
+use Rattle.dma_script.specs.declared.statements.Statement.TheVariants as statements
+use Rattle.dma_script.specs.declared.statements.RunScript.{RunScript}
+use Rattle.dma_script.specs.declared.race.JobLine.{JobLine}
+use Rattle.dma_script.specs.declared.race.RaceKeyword.{RaceKeyword}
+use Rattle.dma_script.specs.declared.race.RaceKeyword.TheVariants.{Line, Job, Go}
+use Rattle.dma_script.specs.declared.race.RaceScript.{RaceScript}
+use Rattle.dma_script.specs.declared.race.TheConstants.{MAX_JOBS, LAST_CHANNEL}
+
+-- the word that begins a line: `job`, `go`, or one that a run script has too
+abbrev pub race_keyword_of : List ℕ → Option RaceKeyword
+race_keyword_of word =
+    if bytes_eq word (codes "job") then Some Job else (
+    if bytes_eq word (codes "go") then Some Go else option_map (λ keyword. Line keyword) (keyword_of word))
+
+-- which lines of a run script may stand before `go`
+abbrev pub is_early : Keyword → Bool
+is_early Memory = true
+is_early Write = true
+is_early Read = true
+is_early Submit = true
+is_early Issue = true
+is_early Terminate = true
+is_early Status = true
+is_early Outcome = true
+is_early _ = false
+
+-- `job FIRST LAST TURNS`: the channels from the first to the last, both of which there may be
+abbrev pub job_line : List (List ℕ) → Result JobLine Cause
+job_line words = do
+  w ← three_of words
+  first ← number_at w.0
+  last ← number_at w.1
+  turns ← number_at w.2
+  in_range ← where_holds (nat_le first last && nat_le last LAST_CHANNEL) causes.Range
+  Ok (record { first = first; last = last; turns = turns })
+
+-- What was read of a race script so far: the memory line with the lines before `go`, the jobs, and the lines after `go` once
+-- that was read.
+pub record RaceRead : Type 0 where
+  pub before : Option RunScript
+  pub jobs : List JobLine
+  pub after : Option (List Statement)
+
+-- nothing was read yet
+abbrev pub nothing_read : RaceRead
+nothing_read = record { before = None; jobs = []; after = None }
+
+-- only the first line is the memory line, and there is one
+abbrev pub behind_memory : Option RunScript → Result (Unit {0}) Cause
+behind_memory None = Err causes.First
+behind_memory (Some script) = Ok tt
+
+-- before `go`: a line that a run script has too, where it may stand there
+abbrev pub early_line : RaceRead → Keyword → List (List ℕ) → Result RaceRead Cause
+early_line read keyword words = if is_early keyword then (do
+  before ← next_line read.before keyword words
+  Ok (record read { before = before })) else Err causes.Command
+
+-- before `go`: a job, of which there are at most sixteen
+abbrev pub job_taken : RaceRead → List (List ℕ) → Result RaceRead Cause
+job_taken read words = do
+  behind ← behind_memory read.before
+  job ← job_line words
+  few ← where_holds (nat_lt (length read.jobs) MAX_JOBS) causes.Range
+  Ok (record read { jobs = read.jobs ++ job ∷ [] })
+
+-- `go` itself, which begins the lines after it
+abbrev pub go_taken : RaceRead → List (List ℕ) → Result RaceRead Cause
+go_taken read words = do
+  behind ← behind_memory read.before
+  none ← no_word words
+  Ok (record read { after = Some [] })
+
+-- a line before `go`, or `go`
+abbrev pub line_before_go : RaceRead → RaceKeyword → List (List ℕ) → Result RaceRead Cause
+line_before_go read (Line keyword) words = early_line read keyword words
+line_before_go read Job words = job_taken read words
+line_before_go read Go words = go_taken read words
+
+-- a line after `go`: any later line of a run script
+abbrev pub line_after_go : RaceKeyword → List (List ℕ) → Result Statement Cause
+line_after_go (Line keyword) words = later_line keyword words
+line_after_go Job words = Err causes.Command
+line_after_go Go words = Err causes.Command
+
+-- a line on its side of `go`, with the lines after `go` so far
+abbrev pub line_beside_go : Option (List Statement) → RaceRead → RaceKeyword → List (List ℕ) → Result RaceRead Cause
+line_beside_go None read keyword words = line_before_go read keyword words
+line_beside_go (Some after) read keyword words = do
+  statement ← line_after_go keyword words
+  Ok (record read { after = Some (after ++ statement ∷ []) })
+
+-- The next line of a race script, by its keyword and the words after that.
+abbrev pub next_race_line : RaceRead → RaceKeyword → List (List ℕ) → Result RaceRead Cause
+next_race_line read keyword words = line_beside_go read.after read keyword words
+
+-- the next line by its words
+abbrev pub race_step : RaceRead → List (List ℕ) → Result RaceRead Cause
+race_step read [] = Err causes.Command
+race_step read (word ∷ words) = do
+  keyword ← ok_or (race_keyword_of word) causes.Command
+  next_race_line read keyword words
+
+-- What a whole race script says, or its first fault. A script with no line has no first line; that there is no `go` is told
+-- after the faults of all lines.
+abbrev pub race_script_of : List ℕ → Result RaceScript Fault
+race_script_of input = do
+  read ← after_script race_step nothing_read input
+  before ← ok_or read.before (record { line = 0; cause = causes.First })
+  after ← ok_or read.after (record { line = 0; cause = causes.Go })
+  Ok (record { before = before; jobs = read.jobs; after = after })
+
+-- a job's channels, the first at most the last, and both such that there may be
+abbrev pub IsJob : JobLine → Type 0
+IsJob job = (job.first ≤ job.last) × (job.last ≤ LAST_CHANNEL)
+
+-- a line that may stand before `go`
+abbrev pub IsEarly : Statement → Type 0
+IsEarly (statements.Write addr bytes) = Unit {0}
+IsEarly (statements.Read segment) = Unit {0}
+IsEarly (statements.Submit ch transfer) = Unit {0}
+IsEarly (statements.Issue ch) = Unit {0}
+IsEarly (statements.Terminate ch) = Unit {0}
+IsEarly (statements.Status ch cookie) = Unit {0}
+IsEarly (statements.Result ch cookie) = Unit {0}
+IsEarly _ = ⊥
+
+-- What is known of what was read so far.
+pub record IsRead (read : RaceRead) : Type 0 where
+  pub early : IfSome read.before (λ script. All IsEarly script.statements)
+  pub jobs : All IsJob read.jobs
+  pub few : length read.jobs ≤ MAX_JOBS
+
+-- What is known of a race script that was read.
+pub record IsRace (script : RaceScript) : Type 0 where
+  pub memory : IsWithin script.before
+  pub early : All IsEarly script.before.statements
+  pub jobs : All IsJob script.jobs
+  pub few : length script.jobs ≤ MAX_JOBS

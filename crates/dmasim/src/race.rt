@@ -1,0 +1,256 @@
+//! The command `race`: the lines before `go` go through a desk, whose channels are then stepped by all jobs at once; the
+//! lines after it go to the engine that they leave.
+ghost use Rattle.std.specs.Prelude.{◌≡◌, ◌≤◌, ◌<◌, ◌+◌, ◌++◌, ◌∷◌, [], OnOk, OnErr, IfOk, IfSome, MatchOption, codes, length, vec_len};
+ghost use Rattle.std.specs.List.{All};
+ghost use Rattle.dma_engine.specs.View.{new_view};
+ghost use Rattle.dma_script.specs.Command.{MayAppend, MayComplete, MayEnd, failures, may_print_within, text_of};
+ghost use Rattle.dma_script.specs.Race.{IsEarly, IsJob, IsRace};
+ghost use Rattle.dma_script.specs.Statements.{IsWithin};
+ghost use Rattle.dma_work.specs.Desk.{Names};
+ghost use Rattle.dmasim.specs.Race.{PrintsAll, PrintsFirst, PrintsGo, PrintsMissing, PrintsRefusal, PrintsTotals, RacePrints, go_line, race_may_print};
+
+use crate::early::carry_out_early;
+use crate::printing::push_refused;
+use crate::run::carry_out_all;
+use dma_engine::{Engine, NewFault, NoMemory};
+use dma_script::command::{FAULT, OpenCommand, SUCCESS, serve_open};
+use dma_script::fault::ScriptError;
+use dma_script::input::{LONGEST_INPUT, Source};
+use dma_script::output::Sink;
+use dma_script::printing::{push_fault, push_line};
+use dma_script::race::{JobLine, MAX_JOBS, RaceScript, read_race_script};
+use dma_script::statements::Statement;
+use dma_work::{
+    DeskName, Job, MissingTally, NoGate, Parts, ShareFaultKind, Shared, StatusReader, Tally,
+    run_workers, settle,
+};
+use std::alloc::{AllocError, Global};
+use std::marker::Brand;
+use std::sync::Wait;
+use std::thread::Threads;
+
+/// The jobs of the lines.
+fn jobs_of(alloc: Global, lines: &[JobLine]) -> Result<Vec<Job>, AllocError>
+    requires { All IsJob lines.now }
+    ensures { IfOk result (λ jobs. vec_len jobs ≡ length lines.now) }
+{
+    let mut jobs = Vec::with_capacity(alloc, MAX_JOBS)?;
+    for line in lines {
+        match Job::new(line.first, line.last, u64::from(line.turns)) {
+            Some(job) => jobs.push(job)?,
+            None => unreachable!(),
+        }
+    }
+    Ok(jobs)
+}
+
+/// The engine of the memory line.
+fn engine_of(alloc: Global, script: &RaceScript) -> Result<Engine, AllocError>
+    requires { IsWithin script.now.before }
+    ensures { IfOk result (λ engine. engine.view ≡ new_view script.now.before.size script.now.before.channels) }
+{
+    match Engine::new(alloc, script.before.size, script.before.channels as u8) {
+        Ok(engine) => Ok(engine),
+        Err(NewFault::NoMemory) => Err(AllocError),
+        Err(NewFault::BadChannels | NewFault::SizeOutOfRange) => unreachable!(),
+    }
+}
+
+/// Carries out the lines before `go`, and then runs the jobs. The desk is still whole where memory is refused.
+fn until_go<N: DeskName + Send + Sync, R: Threads + Wait + Sync>(
+    rt: &R,
+    alloc: Global,
+    shared: &Shared<N>,
+    mut reader: StatusReader,
+    lines: &[Statement],
+    jobs: &[Job],
+    out: &mut Vec<u8>,
+) -> Result<Vec<Tally>, AllocError>
+    requires follows { (N.log ≡ reader.log) × (N.base ≡ reader.base) }
+    requires early { All IsEarly lines.now }
+    requires few { length jobs.now < 4294967296 }
+    ensures ok { OnOk result (PrintsAll lines.now out.old.items out.new.items) }
+    ensures err { OnErr result (PrintsFirst lines.now out.old.items out.new.items) }
+{
+    for line in lines {
+        carry_out_early(rt, alloc, shared, &mut reader, line, out)?;
+    }
+    match run_workers(rt, alloc, shared, jobs, &NoGate) {
+        Ok(tallies) => Ok(tallies),
+        Err(NoMemory) => Err(AllocError),
+    }
+}
+
+/// Appends `go steps N finished N`, or nothing.
+fn push_go(alloc: Global, out: &mut Vec<u8>, steps: u64, finished: u64) -> Result<(), AllocError>
+    ensures ok { OnOk result (out.new.items ≡ out.old.items ++ text_of (go_line steps finished ∷ [])) }
+    ensures err { OnErr result (out.new.items ≡ out.old.items) }
+{
+    let line = format!(in alloc; "go steps {steps} finished {finished}")?;
+    push_line(out, line.as_bytes())
+}
+
+/// Compares the tallies with the book, and answers the engine; or prints the refusal where a tally is missing.
+fn settled<N: DeskName, R: Wait>(
+    rt: &R,
+    alloc: Global,
+    shared: Shared<N>,
+    tallies: Vec<Tally>,
+    out: &mut Vec<u8>,
+) -> Result<Option<Engine>, AllocError>
+    requires { N.steps ≡ 0 }
+    ensures ok { IfOk result (λ left. MatchOption left
+        (PrintsRefusal (codes "MissingTally") out.old.items out.new.items)
+        (λ engine. PrintsTotals engine.view out.old.items out.new.items)) }
+    ensures err { OnErr result (out.new.items ≡ out.old.items) }
+{
+    match settle(rt, shared, tallies) {
+        Ok((engine, totals)) => {
+            push_go(alloc, out, totals.steps, totals.finished)?;
+            Ok(Some(engine))
+        }
+        Err(missing) => {
+            let MissingTally {
+                shared,
+                tallies: _,
+                book: _,
+            } = missing;
+            shared.close(rt);
+            push_refused(alloc, out, "MissingTally")?;
+            Ok(None)
+        }
+    }
+}
+
+/// The parts of a desk over an engine, and its reader; nothing where there was no place for that.
+fn parts_of<R: Wait>(
+    rt: &R,
+    alloc: Global,
+    engine: Engine,
+) -> Result<Option<(Parts, StatusReader)>, AllocError>
+    ensures { IfOk result (λ made. IfSome made (λ p. (p.0.engine ≡ engine) × (p.0.log ≡ p.1.log) × (p.0.base ≡ p.1.base))) }
+{
+    match Parts::new(rt, alloc, engine, 1) {
+        Ok((parts, mut readers)) => {
+            let Some(reader) = readers.pop() else {
+                unreachable!();
+            };
+            Ok(Some((parts, reader)))
+        }
+        Err(refused) => match refused.fault {
+            ShareFaultKind::NoReader => Ok(None),
+            ShareFaultKind::NoMemory => Err(AllocError),
+            ShareFaultKind::BadReaders => unreachable!(),
+        },
+    }
+}
+
+/// Carries out a script up to its `go` and with it. Answers the engine, or nothing where a tally is missing.
+fn raced<N: DeskName + Send + Sync, R: Threads + Wait + Sync>(
+    rt: &R,
+    alloc: Global,
+    parts: Parts,
+    reader: StatusReader,
+    lines: &[Statement],
+    jobs: &[Job],
+    out: &mut Vec<u8>,
+) -> Result<Option<Engine>, AllocError>
+    requires names { Names N.steps N.finished N.base N.log parts }
+    requires follows { (N.log ≡ reader.log) × (N.base ≡ reader.base) }
+    requires fresh { parts.engine.view.steps ≡ 0 }
+    requires early { All IsEarly lines.now }
+    requires few { length jobs.now < 4294967296 }
+    ensures ok { IfOk result (λ left. MatchOption left
+        (PrintsMissing lines.now out.old.items out.new.items)
+        (λ engine. PrintsGo lines.now engine.view out.old.items out.new.items)) }
+    ensures err { OnErr result (PrintsFirst lines.now out.old.items out.new.items) }
+{
+    let shared = Shared::<N>::new(parts);
+    match until_go(rt, alloc, &shared, reader, lines, jobs, out) {
+        Ok(tallies) => settled(rt, alloc, shared, tallies, out),
+        Err(error) => {
+            shared.close(rt);
+            Err(error)
+        }
+    }
+}
+
+/// Carries out a script, and gives the status.
+fn carry_out_race<R: Threads + Wait + Sync>(
+    rt: &R,
+    alloc: Global,
+    script: &RaceScript,
+    out: &mut Vec<u8>,
+) -> Result<u8, AllocError>
+    requires { IsRace script.now }
+    ensures complete { IfOk result (λ status. MayComplete (RacePrints script.now) status out.old.items out.new.items) }
+    ensures refused { OnErr result (MayAppend (RacePrints script.now) out.old.items out.new.items) }
+{
+    let engine = engine_of(alloc, script)?;
+    let jobs = jobs_of(alloc, script.jobs.as_slice())?;
+    let Some((parts, reader)) = parts_of(rt, alloc, engine)? else {
+        push_refused(alloc, out, "NoReader")?;
+        return Ok(FAULT);
+    };
+    let lines = script.before.statements.as_slice();
+    match raced::<Brand, _>(rt, alloc, parts, reader, lines, &jobs, out)? {
+        Some(mut engine) => {
+            carry_out_all(alloc, &mut engine, script.after.as_slice(), out)?;
+            Ok(SUCCESS)
+        }
+        None => Ok(FAULT),
+    }
+}
+
+/// The command `race`.
+#[derive(Drop)]
+struct Race;
+
+impl OpenCommand for Race {
+    ghost use Rattle.std.specs.Prelude.{[], Ok, Err, codes, refl};
+    ghost use Rattle.std.proofs.Math.Nat.{zero-lt-suc};
+    ghost use Rattle.dma_script.specs.Command.{refusal};
+    ghost use Rattle.dma_script.specs.Printing.{fault_line};
+    ghost use Rattle.dma_script.specs.Race.{race_script_of};
+    ghost use Rattle.dmasim.specs.Race.{no_reader, race_may_print, race_prints_of, raced_refused};
+
+    ghost may_print = { race_may_print };
+
+    fn answer<H: Threads + Wait + Sync>(
+        &self,
+        rt: &H,
+        alloc: Global,
+        input: &[u8],
+        out: &mut Vec<u8>,
+    ) -> Result<u8, AllocError> {
+        match read_race_script(alloc, input) {
+            Ok(script) => carry_out_race(rt, alloc, &script, out),
+            Err(ScriptError::Fault(fault)) => {
+                push_fault(alloc, out, fault)?;
+                Ok(FAULT)
+            }
+            Err(ScriptError::NoMemory) => Err(AllocError),
+        }
+    }
+
+    ghost some_print = { λ input. elim (race_script_of input) as (λ read. MayAppend (race_prints_of read) [] []) [
+      | Ok script ↦ record { printed = raced_refused [] (codes "NoReader"); allowed = no_reader refl; first = record { count = 0; some_left = zero-lt-suc _; whole = refl } }
+      | Err fault ↦ record { printed = refusal (fault_line fault); allowed = refl; first = record { count = 0; some_left = zero-lt-suc _; whole = refl } }
+    ] };
+}
+
+/// Reads a race script, carries it out, writes what it prints and nothing else, and gives the exit status: 0, or 1 for a
+/// fault of the script, a failing stream, no place for a reader or a missing tally, or 3 for want of memory.
+pub fn race_script<R: Threads + Wait + Sync, I: Source, W: Sink>(
+    rt: &R,
+    alloc: Global,
+    reader: &mut I,
+    writer: &mut W,
+) -> u8
+    ensures ends { IfSome (I.remaining reader.old) (λ input. MayEnd
+        (failures I.has_failed reader.old reader.new) (failures W.has_failed writer.old writer.new)
+        (may_print_within race_may_print input) (W.contents writer.old) (W.contents writer.new) result) }
+    ensures reads { I.reads reader.new ≤ I.reads reader.old + (LONGEST_INPUT + 1) }
+{
+    serve_open(rt, &Race, alloc, reader, writer)
+}

@@ -1,0 +1,185 @@
+//! Whole race scripts over a desk, its workers and its reader: what is printed for an input, whatever the schedule.
+use crate::race::race_script;
+use crate::tests::{Kept, run};
+use std::alloc::{AllocError, Global};
+use std::sync::Wait;
+use std::test::Fail;
+use std::thread::Threads;
+
+/// The status of a race, and what it printed.
+fn race<R: Threads + Wait + Sync>(rt: &R, alloc: Global, input: &[u8]) -> (u8, Vec<u8>) {
+    let mut reader = input;
+    let mut writer = Kept::new(alloc);
+    let status = race_script(rt, alloc, &mut reader, &mut writer);
+    (status, writer.bytes)
+}
+
+#[test]
+fn two_jobs_and_two_channels(rt: HostRuntime) -> Result<(), Fail> {
+    let ran = race(
+        &rt,
+        rt.alloc(),
+        b"memory 0x400 2\nwrite 0x100 0A 0B 0C 0D\nsubmit 0 0x100+4 to 0x200+4\nsubmit 1 0x100+4 to 0x300+4\nissue 0\nissue 1\nstatus 1 1\njob 0 0 9\njob 1 1 9\ngo\nread 0x200+4\nread 0x300+4\ntotals",
+    );
+    assert_eq!(rt; ran.0, 0);
+    assert_eq!(rt;
+        ran.1.as_slice(),
+        b"ok\ncookie 1\ncookie 1\nissued 1\nissued 1\nstatus InProgress\ngo steps 16 finished 2\nread 0x00000200 0A 0B 0C 0D\nread 0x00000300 0A 0B 0C 0D\ntotals entries 9 steps 16 running 0\n".as_slice()
+    );
+    Ok(())
+}
+
+#[test]
+fn two_jobs_over_both_channels(rt: HostRuntime) -> Result<(), Fail> {
+    let ran = race(
+        &rt,
+        rt.alloc(),
+        b"memory 0x400 2\nwrite 0x100 0A 0B 0C 0D\nsubmit 0 0x100+4 to 0x200+4\nsubmit 1 0x100+4 to 0x300+4\nissue 0\nissue 1\nstatus 1 1\njob 0 1 20\njob 0 1 20\ngo\nread 0x200+4\nread 0x300+4\ntotals",
+    );
+    assert_eq!(rt; ran.0, 0);
+    assert_eq!(rt;
+        ran.1.as_slice(),
+        b"ok\ncookie 1\ncookie 1\nissued 1\nissued 1\nstatus InProgress\ngo steps 16 finished 2\nread 0x00000200 0A 0B 0C 0D\nread 0x00000300 0A 0B 0C 0D\ntotals entries 9 steps 16 running 0\n".as_slice()
+    );
+    Ok(())
+}
+
+#[test]
+fn faults_alone(rt: HostRuntime) -> Result<(), Fail> {
+    let cases: [(&[u8], &[u8]); 16] = [
+        (b"", b"line 0: First\n"),
+        (b"memory 16 1\nread 0+1", b"line 0: Go\n"),
+        (b"memory 16 1\njob 0 0 1\nread 0", b"line 3: Number\n"),
+        (b"read 0+1\ngo", b"line 1: First\n"),
+        (b"job 0 0 1", b"line 1: First\n"),
+        (b"step 0", b"line 1: Command\n"),
+        (b"memory 16 1\nstep 0\ngo", b"line 2: Command\n"),
+        (b"memory 16 1\ngo\ngo", b"line 3: Command\n"),
+        (b"memory 16 1\ngo\njob 0 0 1", b"line 3: Command\n"),
+        (b"memory 16 1\ngo\nmemory 16 1", b"line 3: First\n"),
+        (b"memory 16 1\njob 1 0 1\ngo", b"line 2: Range\n"),
+        (b"memory 16 1\njob 0 8 1\ngo", b"line 2: Range\n"),
+        (b"memory 16 1\njob 0 0\ngo", b"line 2: Words\n"),
+        (b"memory 16 1\njob 0 x 1\ngo", b"line 2: Number\n"),
+        (b"memory 16 1\ngo now", b"line 2: Words\n"),
+        (b"memory 16 9\ngo", b"line 1: BadChannels\n"),
+    ];
+    for (input, text) in cases {
+        let ran = race(&rt, rt.alloc(), input);
+        assert_eq!(rt; ran.0, 1);
+        assert_eq!(rt; ran.1.as_slice(), text);
+    }
+    Ok(())
+}
+
+#[test]
+fn a_seventeenth_job(rt: HostRuntime) -> Result<(), Fail> {
+    let mut input = b"memory 16 1\n".to_vec(rt.alloc())?;
+    for _ in 0..16 {
+        input.extend_from_slice(b"job 0 0 1\n")?;
+    }
+    let mut more = input.as_slice().to_vec(rt.alloc())?;
+    more.extend_from_slice(b"job 0 0 1\ngo\n")?;
+    input.extend_from_slice(b"go\n")?;
+    let ran = race(&rt, rt.alloc(), &input);
+    assert_eq!(rt; ran.0, 0);
+    assert_eq!(rt; ran.1.as_slice(), b"go steps 0 finished 0\n".as_slice());
+    let ran = race(&rt, rt.alloc(), &more);
+    assert_eq!(rt; ran.0, 1);
+    assert_eq!(rt; ran.1.as_slice(), b"line 18: Range\n".as_slice());
+    Ok(())
+}
+
+#[test]
+fn refused_before_and_after_go(rt: HostRuntime) -> Result<(), Fail> {
+    let ran = race(
+        &rt,
+        rt.alloc(),
+        b"memory 16 1\nwrite 14 01 02 03\nread 17+0\nsubmit 0 0+0 to 8+4\nsubmit 1 0+4 to 8+4\nsubmit 0 0+4 to 13+4\nissue 1\nterminate 1\nstatus 1 1\nresult 1 1\njob 5 7 3\ngo\nwrite 14 01 02 03\nsubmit 1 0+4 to 8+4\npause 1\nraise 32\nstep 1\ncopy 0+4 to 13+4",
+    );
+    assert_eq!(rt; ran.0, 0);
+    assert_eq!(rt;
+        ran.1.as_slice(),
+        b"refused OutOfMemoryRange\nrefused OutOfMemoryRange\nrefused EmptySegment\nrefused NoChannel\nrefused OutOfMemoryRange\nrefused NoChannel\nrefused NoChannel\nstatus Unknown\nresult none\ngo steps 0 finished 0\nrefused OutOfMemoryRange\nrefused NoChannel\nrefused NoChannel\nrefused BadEvent\nstep 1 refused NoChannel x1\nrefused OutOfMemoryRange\n".as_slice()
+    );
+    Ok(())
+}
+
+#[test]
+fn statuses_and_a_terminate_before_go(rt: HostRuntime) -> Result<(), Fail> {
+    // A cookie that was ended before `go` is not among its finishes.
+    let ran = race(
+        &rt,
+        rt.alloc(),
+        b"memory 0x400 2\nwrite 0x100 0A 0B 0C 0D\nstatus 0 1\nsubmit 0 0x100+4 to 0x200+4\nstatus 0 1\nstatus 0 2\nterminate 0\nstatus 0 1\nstatus 1 1\nresult 0 1\nterminate 0\nsubmit 0 0x100+4 to 0x300+4\nissue 0\nstatus 0 1\nstatus 0 2\njob 0 1 18\ngo\nstatus 0 2\nresult 0 2\nread 0x200+4\nread 0x300+4\ntotals",
+    );
+    assert_eq!(rt; ran.0, 0);
+    assert_eq!(rt;
+        ran.1.as_slice(),
+        b"ok\nstatus Unknown\ncookie 1\nstatus InProgress\nstatus Unknown\naborted 1\nstatus Complete\nstatus Unknown\nresult Aborted residue 4\naborted 0\ncookie 2\nissued 1\nstatus Complete\nstatus InProgress\ngo steps 8 finished 1\nstatus Complete\nresult NoError residue 0\nread 0x00000200 00 00 00 00\nread 0x00000300 0A 0B 0C 0D\ntotals entries 9 steps 8 running 0\n".as_slice()
+    );
+    Ok(())
+}
+
+#[test]
+fn go_without_jobs(rt: HostRuntime) -> Result<(), Fail> {
+    let ran = race(
+        &rt,
+        rt.alloc(),
+        b"memory 0x400 1\nwrite 0x100 0A 0B 0C 0D\nsubmit 0 0x100+4 to 0x200+4\nissue 0\njob 0 0 0\ngo\nstep 0 9\nread 0x200+4\ncopy 0x100+2 to 0x300+2\ntotals",
+    );
+    assert_eq!(rt; ran.0, 0);
+    assert_eq!(rt;
+        ran.1.as_slice(),
+        b"ok\ncookie 1\nissued 1\ngo steps 0 finished 0\nstep 0 started 1 x1\nstep 0 moved x7\nstep 0 finished 1 NoError residue 0 x1\nread 0x00000200 0A 0B 0C 0D\ncopy finished 2 NoError residue 0\ntotals entries 8 steps 16 running 0\n".as_slice()
+    );
+    Ok(())
+}
+
+/// Appends a write, a submit and an issue for each channel, whose copies are free of each other.
+fn push_copies(alloc: Global, script: &mut Vec<u8>) -> Result<(), AllocError> {
+    for ch in 0..8u32 {
+        let src = 0x100 + 0x10 * ch;
+        let dst = 0x400 + 0x20 * ch;
+        let lines = format!(in alloc;
+            "write {src} 0{ch} 1{ch} 2{ch} 3{ch} 4{ch}\nsubmit {ch} {src}+5 to {dst}+5\nissue {ch}\n"
+        )?;
+        script.extend_from_slice(lines.as_bytes())?;
+    }
+    Ok(())
+}
+
+#[test]
+fn sixteen_jobs_copy_as_one_thread_does(rt: HostRuntime) -> Result<(), Fail> {
+    let alloc = rt.alloc();
+    let mut raced = b"memory 0x800 8\n".to_vec(alloc)?;
+    let mut plain = b"memory 0x800 8\n".to_vec(alloc)?;
+    push_copies(alloc, &mut raced)?;
+    push_copies(alloc, &mut plain)?;
+    for _ in 0..2 {
+        for ch in 0..8u32 {
+            let job = format!(in alloc; "job 0 {ch} 400\n")?;
+            raced.extend_from_slice(job.as_bytes())?;
+        }
+    }
+    for ch in 0..8u32 {
+        let steps = format!(in alloc; "step {ch} 400\n")?;
+        plain.extend_from_slice(steps.as_bytes())?;
+    }
+    raced.extend_from_slice(b"go\n")?;
+    raced.extend_from_slice(b"read 0+0x800\n")?;
+    plain.extend_from_slice(b"read 0+0x800\n")?;
+    let raced = race(&rt, alloc, &raced);
+    let plain = run(alloc, &plain);
+    assert_eq!(rt; (raced.0, plain.0), (0, 0));
+    let raced = last_line(&raced.1).ok_or("a line of the race")?;
+    let plain = last_line(&plain.1).ok_or("a line of the run")?;
+    assert_eq!(rt; raced, plain);
+    Ok(())
+}
+
+/// The last line of a text, without its line feed.
+fn last_line(text: &[u8]) -> Option<&[u8]> {
+    let text = text.strip_suffix(b"\n")?;
+    text.rsplit(|b| *b == b'\n').next()
+}
