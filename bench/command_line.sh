@@ -21,7 +21,7 @@ try() {
 }
 
 try 2 "$usage"
-for words in help --help -h -V --version race Run RUN copy "run x" "asm asm" "run --help" "--quiet run" ""; do
+for words in help --help -h -V --version Run RUN races copy "run x" "asm asm" "run --help" "--quiet run" ""; do
     # the words of each case apart
     try 2 "$usage" $words
 done
