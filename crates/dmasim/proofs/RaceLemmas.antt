@@ -1,5 +1,5 @@
 -- What the lines of a race script may print.
-use Rattle.std.proofs.Common.{◌≡◌, ◌≢◌, ℕ, ◌+◌, ◌<◌, ◌≤◌, List, [], ◌∷◌, ◌++◌, length, map, take, drop, get_or, codes, zero, suc, Option, Some, None, Result, Ok, Err, lit<, inl, inr, refl, ap, sym, subst, ◌∙◌, arith, append_assoc}
+use Rattle.std.proofs.Common.{◌≡◌, ◌≢◌, ℕ, ◌+◌, ◌<◌, ◌≤◌, List, [], ◌∷◌, ◌++◌, length, take, drop, get_or, codes, suc, Option, Some, None, Result, Ok, Err, lit<, inl, refl, ap, sym, subst, ◌∙◌, arith, append_assoc}
 use Rattle.std.specs.List.{All}
 use Rattle.std.proofs.Math.Seq.{take-append_seam, take-append-add}
 use Rattle.std.proofs.lemmas.List.{append-nil, length-append, length-map, map-append, take-append-drop, take-append-le, take_all, take_more, take-map}
@@ -24,7 +24,7 @@ use Rattle.dma_script.specs.declared.race.RaceScript.{RaceScript}
 use Rattle.dma_script.specs.declared.statements.Statement.{Statement}
 use Rattle.dma_script.specs.declared.statements.Statement.TheVariants.{Write, Read, Copy, Submit, Issue, Pause, Resume, Terminate, Step, Status, Result as Outcome, Mark, Unmark, Raise, Totals}
 use Rattle.dmasim.specs.Printed.{call_line, refused_line, transfer_fault_name}
-use Rattle.dmasim.specs.Run.{Answered, call_answer, line_answer, lines_answered, submitted, unless_unfit}
+use Rattle.dmasim.specs.Run.{Answered, call_answer, lines_answered, submitted, unless_unfit}
 use Rattle.dmasim.specs.Race.{EachPrints, EarlyPrints, PrintsAll, PrintsCall, PrintsEarly, PrintsFirst, PrintsGo, PrintsMissing, PrintsRefusal, PrintsTotals, RacePrints, alone, go_line, race_may_print, race_prints_of, missing_tally, no_reader, raced_refused, raced_whole, whole}
 use Rattle.dmasim.proofs.RunLemmas.{printed_text-append}
 use Rattle.dmasim.proofs.Served.{served-one}

@@ -1,6 +1,6 @@
 -- What the program may print for a race script (profile). The workers take their turns in any order, so the input alone does
 -- not settle it. What it does settle: how many lines there are, and of each what it may be.
-use Rattle.std.specs.Prelude.{◌≡◌, ℕ, ◌+◌, ◌≤◌, ◌⊎◌, List, [], ◌∷◌, ◌++◌, map, take, length, Result, Ok, Err, codes, decimal}
+use Rattle.std.specs.Prelude.{◌≡◌, ℕ, ◌≤◌, ◌⊎◌, List, [], ◌∷◌, ◌++◌, map, take, length, Result, Ok, Err, codes, decimal}
 use Rattle.dma_engine.specs.declared.call.Call.{Call}
 use Rattle.dma_engine.specs.declared.call.Call.TheVariants as calls
 use Rattle.dma_engine.specs.declared.call.Reply.TheVariants.{State}

@@ -1,4 +1,5 @@
-//! The lines of a race script before `go`: each takes the desk's lock once for its one call, and prints after that.
+//! The lines of a race script before `go`: each takes the desk's lock once for its one call, and prints after that; a status
+//! asks the reader.
 ghost use Rattle.std.specs.Prelude.{◌≡◌, ◌≢◌, ◌++◌, ◌∷◌, [], OnOk, OnErr};
 ghost use Rattle.dma_engine.specs.Answer.{reply_of};
 ghost use Rattle.dma_script.specs.Command.{text_of};

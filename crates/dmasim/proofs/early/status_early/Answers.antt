@@ -1,8 +1,5 @@
 use Rattle.std.proofs.Common.{refl, inl, inr, codes}
 use Rattle.std.proofs.lemmas.Result.{on_ok_weaker}
-use Rattle.dma_engine.specs.declared.call.Call.TheVariants as calls
-use Rattle.dma_script.specs.declared.statements.Statement.TheVariants as statements
-use Rattle.dmasim.proofs.RaceLemmas.{early_call}
 use Rattle.dmasim.proofs.early.status_early.Goals as goal
 
 pub returns-in-Some-clause-ok : goal.returns-in-Some-clause-ok
