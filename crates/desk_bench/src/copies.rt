@@ -1,0 +1,91 @@
+//! The copies that are stepped.
+
+ghost use Rattle.std.specs.Prelude.{◌≤◌};
+
+use dma_engine::Engine;
+use dma_mem::segment::Segment;
+use dma_mem::transfer::Transfer;
+use std::alloc::Global;
+
+// 1 MiB
+const LONG: u32 = 0x10_0000;
+
+// each channel's copies go from its first MiB to its second
+const CHANNEL: u32 = 0x20_0000;
+
+// for two channels
+const MEMORY: u32 = 0x40_0000;
+
+/// How long the copies are.
+#[derive(Clone, Copy, Debug)]
+pub enum Copies {
+    /// 1 MiB, by bursts of 16 beats of 16 bytes.
+    Long,
+    /// 4 bytes.
+    Short,
+}
+
+impl Copies {
+    /// How many bytes a copy has.
+    fn len(self) -> u32
+        ensures { result ≤ 1048576 }
+    {
+        match self {
+            Copies::Long => LONG,
+            Copies::Short => 4,
+        }
+    }
+
+    /// How many turns a copy takes, from its start to its end.
+    fn turns(self) -> u64
+        ensures { result ≤ 1048576 }
+    {
+        match self {
+            Copies::Long => 20_518,
+            Copies::Short => 9,
+        }
+    }
+
+    /// How many copies a worker submits before it steps them.
+    pub fn in_a_round(self) -> u32 {
+        match self {
+            Copies::Long => 1,
+            Copies::Short => 32,
+        }
+    }
+
+    /// How many turns so many copies take.
+    pub fn turns_of(self, count: u32) -> u64 {
+        self.turns() * u64::from(count)
+    }
+
+    /// A copy on a channel. Copies on different channels are free of each other.
+    pub fn transfer(self, alloc: Global, ch: u8) -> Option<Transfer> {
+        let addr = u32::from(ch) * CHANNEL;
+        let len = self.len();
+        let src = [Segment { addr, len }];
+        let dst = [Segment {
+            addr: addr + LONG,
+            len,
+        }];
+        Transfer::new(alloc, &src, &dst, None, None).ok()
+    }
+}
+
+/// An engine with so many copies issued on each of its channels, of which there are at most two.
+pub fn loaded(alloc: Global, copies: Copies, channels: u8, count: u32) -> Option<Engine> {
+    let mut engine = Engine::new(alloc, MEMORY, channels).ok()?;
+    for ch in 0..channels {
+        load(alloc, &mut engine, ch, copies, count)?;
+    }
+    Some(engine)
+}
+
+/// Issues so many copies on a channel.
+pub fn load(alloc: Global, engine: &mut Engine, ch: u8, copies: Copies, count: u32) -> Option<()> {
+    for _ in 0..count {
+        engine.submit(ch, copies.transfer(alloc, ch)?).ok()?;
+    }
+    engine.issue(ch).ok()?;
+    Some(())
+}

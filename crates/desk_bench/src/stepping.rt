@@ -1,0 +1,108 @@
+//! Steps, alone and through a desk.
+
+ghost use Rattle.std.specs.Prelude.{◌<◌, length};
+ghost use Rattle.dma_work.specs.Desk.{Names};
+
+use crate::plan::{Measured, Times, since};
+use dma_engine::Engine;
+use dma_work::{
+    DeskName, Job, MissingTally, NoGate, Parts, Shared, Tally, Totals, run_workers, settle,
+};
+use std::alloc::Global;
+use std::io;
+use std::rt::Clock;
+use std::sync::Wait;
+use std::thread::Threads;
+use std::time::{CpuClock, Duration, Instant};
+
+// When something started, by the clock and by the processor time of the whole program.
+#[derive(Drop)]
+struct Watch {
+    clock: io::Result<Instant>,
+    processors: io::Result<Duration>,
+}
+
+impl Watch {
+    fn started<R: Clock + CpuClock>(rt: &R) -> Watch {
+        Watch {
+            clock: Instant::now(rt),
+            processors: rt.process_cpu_time(),
+        }
+    }
+
+    fn times<R: Clock + CpuClock>(self, rt: &R) -> Option<Times> {
+        let took = since(rt, self.clock)?;
+        let busy = rt
+            .process_cpu_time()
+            .ok()?
+            .checked_sub(self.processors.ok()?)?;
+        Some(Times { took, busy })
+    }
+}
+
+/// Takes so many steps of channel 0.
+pub fn step_often(engine: &mut Engine, turns: u64) {
+    for _ in 0..turns {
+        let _ = engine.step(0);
+    }
+}
+
+/// How long so many steps of channel 0 take with no desk.
+pub fn time_engine<R: Clock + CpuClock>(
+    rt: &R,
+    mut engine: Engine,
+    turns: u64,
+) -> Option<Measured> {
+    let watch = Watch::started(rt);
+    step_often(&mut engine, turns);
+    let times = watch.times(rt)?;
+    Some(Measured {
+        answers: 0,
+        steps: engine.steps(),
+        finished: engine.finished_all(),
+        times,
+    })
+}
+
+/// How long the workers take for these jobs.
+pub fn time_workers<N: DeskName + Send + Sync, R: Threads + Wait + Clock + CpuClock + Sync>(
+    rt: &R,
+    alloc: Global,
+    parts: Parts,
+    jobs: &[Job],
+) -> Option<Measured>
+    requires few { length jobs.now < 4294967296 }
+    requires parts { Names N.steps N.finished N.base N.log parts }
+{
+    let shared = Shared::<N>::new(parts);
+    let watch = Watch::started(rt);
+    let tallies = run_workers(rt, alloc, &shared, jobs, &NoGate);
+    let times = watch.times(rt);
+    let totals = settled(rt, shared, tallies.unwrap_or(Vec::new(alloc)))?;
+    Some(Measured {
+        answers: 0,
+        steps: totals.steps,
+        finished: totals.finished,
+        times: times?,
+    })
+}
+
+/// Ends the desk: the totals, where the tallies add up.
+pub fn settled<N: DeskName, R: Wait>(
+    rt: &R,
+    shared: Shared<N>,
+    tallies: Vec<Tally>,
+) -> Option<Totals> {
+    match settle(rt, shared, tallies) {
+        Ok((_engine, totals)) => Some(totals),
+        Err(missing) => {
+            let MissingTally {
+                shared,
+                tallies: _,
+                book: _,
+            } = missing;
+            drop(shared.close(rt));
+            None
+        }
+    }
+}
