@@ -2,7 +2,8 @@
 use Rattle.std.proofs.Common.{◌≡◌, ℕ, zero, suc, ◌+◌, ◌<◌, ◌≤◌, List, [], ◌∷◌, length, map, drop, Bool, true, false, refl, ap, sym, ◌∙◌, arith}
 use Rattle.std.specs.Prelude.{replicate, nat_le, Option, Some, None}
 use Rattle.std.proofs.lemmas.Bool.{leb-false}
-use Rattle.std.proofs.lemmas.List.{length-set, length_push, get_or-set_same, length-append, length-drop}
+use Rattle.std.proofs.lemmas.List.{length-map, length-set, length_push, get_or-set_same, length-append, length-drop}
+use Rattle.std.proofs.Math.ListN.{get_or-map}
 use Rattle.dma_mem.specs.Places.{Descriptor}
 use Rattle.dma_engine.specs.declared.call.Call.TheVariants.{Submit, Terminate}
 use Rattle.dma_engine.specs.declared.call.Reply.{Reply}
@@ -16,9 +17,9 @@ use Rattle.dma_engine.specs.Answer.{Answers, answer, unless, cause, channel_faul
 use Rattle.dma_engine.specs.History.{object_after}
 use Rattle.dma_engine.specs.Laws.{SubmitsGive, TerminatesFinish, BoardsCount, BoardsOpen, TicksAreFew}
 use Rattle.dma_engine.specs.Object.{Object, after, channel, new_channel, opening, used, finished, unfinished, aborted, with_transfer, with_all_aborted}
-use Rattle.dma_engine.specs.Ticks.{counts_of, no_counts, board_of}
+use Rattle.dma_engine.specs.Ticks.{Counts, counts_of, no_counts, board_of}
 use Rattle.dma_engine.specs.Turn.{with_entry}
-use Rattle.dma_engine.specs.View.{View, object_of, channels}
+use Rattle.dma_engine.specs.View.{View, IsSound, object_of, channels}
 use Rattle.dma_engine.proofs.Answered.{submit-open}
 use Rattle.dma_engine.proofs.Boards.{AreCounted, board-is, counted-opening}
 use Rattle.dma_engine.proofs.Deeds.{object-one, submitted, closed}
@@ -131,11 +132,22 @@ opens-empty : (bytes many : ℕ) → board_of (opening bytes many) ≡ replicate
 unfolding opening
 opens-empty bytes many = map-replicate counts_of many new_channel
 
+-- today a history begins with nothing given
+pub boards_empty : (v : View) → IsSound v → board_of v.base ≡ replicate (channels v) no_counts
+boards_empty v h =
+    let many : channels v ≡ length v.base.channels = channels-object v.base v.history in
+    ap board_of h.opens ∙ opens-empty (length v.base.image) (length v.base.channels) ∙ ap (λ n. replicate n no_counts) (sym many)
+
 pub boards_open : BoardsOpen
 boards_open v h =
-    let many : channels v ≡ length v.base.channels = channels-object v.base v.history in (
-      ap board_of h.opens ∙ opens-empty (length v.base.image) (length v.base.channels) ∙ ap (λ n. replicate n no_counts) (sym many),
+    let many : channels v ≡ length v.base.channels = channels-object v.base v.history in
+    let counted : AreCounted v.base = rw h.opens (counted-opening (length v.base.image) (length v.base.channels)) in (
+      omega (arith, many, length-map v.base.channels counts_of),
       omega (arith, many, (made (length v.base.image) (length v.base.channels) h.makes).0),
+      (λ ch.
+          let at = get_or-map counts_of v.base.channels ch new_channel in
+          let c = counted ch in
+          (omega (arith, ap (λ (x : Counts). x.used) at, c.give), omega (arith, ap (λ (x : Counts). x.finished) at, c.finish, c.give))),
     )
 
 pub ticks_are_few : TicksAreFew

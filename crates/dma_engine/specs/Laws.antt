@@ -1,5 +1,5 @@
 -- What each answer adds to the ticks, to the step count and to the number of finished cookies.
-use Rattle.std.specs.Prelude.{◌≡◌, ℕ, ◌+◌, ◌≤◌, ◌<◌, ◌⊎◌, if◌then◌else◌, Result, Ok, Err, List, [], ◌∷◌, ◌++◌, length, replicate}
+use Rattle.std.specs.Prelude.{◌≡◌, ℕ, ◌+◌, ◌≤◌, ◌<◌, ◌⊎◌, if◌then◌else◌, Result, Ok, Err, List, [], ◌∷◌, ◌++◌, length}
 use Rattle.dma_mem.specs.Places.{Descriptor}
 use Rattle.dma_engine.specs.declared.call.Call.{Call}
 use Rattle.dma_engine.specs.declared.call.Call.TheVariants.{Submit, Terminate, Step}
@@ -10,8 +10,8 @@ use Rattle.dma_engine.specs.declared.fault.EngineFault.{EngineFault}
 use Rattle.dma_engine.specs.declared.fault.EngineFault.TheVariants.{NoMemory}
 use Rattle.dma_engine.specs.declared.turn.Turn.{Turn}
 use Rattle.dma_engine.specs.declared.turn.Turn.TheVariants.{Moved, Finished as TurnFinished}
-use Rattle.dma_engine.specs.Object.{channel, finished, finished_all, unfinished, used}
-use Rattle.dma_engine.specs.Ticks.{Tick, Submitted, Finished, board_after, board_of, no_counts, ticks_of}
+use Rattle.dma_engine.specs.Object.{channel, finished, finished_all, last_cookie, unfinished, used}
+use Rattle.dma_engine.specs.Ticks.{Tick, Submitted, Finished, board_after, board_of, counts, ticks_of}
 use Rattle.dma_engine.specs.Turn.{ends, turn}
 use Rattle.dma_engine.specs.Answer.{Answers, Steps, Extends}
 use Rattle.dma_engine.specs.View.{View, IsSound, channels, object_of}
@@ -86,11 +86,12 @@ EndsAsTold =
 abbrev pub BoardsCount : Type 0
 BoardsCount = (v : View) → IsSound v → board_after (board_of v.base) (ticks_of v.history) ≡ board_of (object_of v)
 
--- Histories begin with nothing given on any of at most 8 channels.
+-- A history begins with the counts of at most 8 channels, none above the last cookie.
 abbrev pub BoardsOpen : Type 0
 BoardsOpen =
     (v : View) → IsSound v
-    → (board_of v.base ≡ replicate (channels v) no_counts) × (channels v ≤ 8)
+    → (length (board_of v.base) ≡ channels v) × (channels v ≤ 8)
+    × ((ch : ℕ) → ((counts (board_of v.base) ch).used ≤ last_cookie) × ((counts (board_of v.base) ch).finished ≤ last_cookie))
 
 -- A history has no more ticks than entries.
 abbrev pub TicksAreFew : Type 0

@@ -2,7 +2,7 @@
 use Rattle.std.proofs.Common.{◌≡◌, ◌≢◌, ℕ, ◌+◌, ◌<◌, List, [], ◌∷◌, ◌++◌, length, true, false, refl, ap, sym, ◌∙◌, arith, append-nil, inl, inr, zero, suc}
 use Rattle.std.specs.Prelude.{if◌then◌else◌, slice_set, Result, Ok}
 use Rattle.std.proofs.lemmas.Bool.{false≢true, cases_eq}
-use Rattle.std.proofs.lemmas.List.{length-set, length-append, length-replicate, get_or-set_same, get_or-set_other}
+use Rattle.std.proofs.lemmas.List.{length-set, length-append, get_or-set_same, get_or-set_other}
 use Rattle.std.proofs.Math.ListN.{get_or-map}
 use Rattle.logbook.specs.Pages.{Book}
 use Rattle.dma_mem.specs.Places.{Descriptor}
@@ -34,7 +34,7 @@ module _ (s f : ℕ) (base : Board) (log : Book) where
   posted ticks = record { base = base; ticks = ticks; log = log }
 
   -- a call that gives no cookie and finishes none
-  pub kept_quiet : (old new : EngineState) (p : Publication) (b : Totals) (call : Call) (reply : Reply) → IsQuiet call → Answers old.view call reply new.view → IsKept s f base log old p b → IsKept s f base log new p b
+  pub kept_quiet : (old new : EngineState) (p : Publication) (b : Totals) (call : Call) (reply : Reply) → IsQuiet call → Answers old.view call reply new.view → IsKept s f base log [] old p b → IsKept s f base log [] new p b
   unfolding posted
   kept_quiet old new p b call reply q h k =
       let t = quiet_calls_keep old.view new.view call reply q h in
@@ -48,7 +48,7 @@ module _ (s f : ℕ) (base : Board) (log : Book) where
       }
 
   -- a call that adds ticks, which are published
-  pub kept_adds : (old new : EngineState) (p q : Publication) (b e : Totals) (more : List Tick) (moves finishes : ℕ) → Adds old.view new.view more moves finishes → new.view.base ≡ old.view.base → q ≡ record { shown = with_ticks p.shown more; pending = [] } → e.steps ≡ b.steps + moves → e.finished + e.terminated ≡ b.finished + b.terminated + finishes → IsKept s f base log old p b → IsKept s f base log new q e
+  pub kept_adds : (old new : EngineState) (p q : Publication) (b e : Totals) (more : List Tick) (moves finishes : ℕ) → Adds old.view new.view more moves finishes → new.view.base ≡ old.view.base → q ≡ record { shown = with_ticks p.shown more; pending = [] } → e.steps ≡ b.steps + moves → e.finished + e.terminated ≡ b.finished + b.terminated + finishes → IsKept s f base log [] old p b → IsKept s f base log [] new q e
   unfolding posted
   kept_adds old new p q b e more moves finishes a same is steps done k = record {
     shown = ap (λ (x : Publication). x.shown) is ∙ ap (λ x. with_ticks x more) k.shown ∙ ap posted (sym a.ticks);
@@ -59,7 +59,7 @@ module _ (s f : ℕ) (base : Board) (log : Book) where
   }
 
   -- an engine of the same view
-  pub kept_same : (old new : EngineState) (p : Publication) (b : Totals) → new.view ≡ old.view → IsKept s f base log old p b → IsKept s f base log new p b
+  pub kept_same : (old new : EngineState) (p : Publication) (b : Totals) → new.view ≡ old.view → IsKept s f base log [] old p b → IsKept s f base log [] new p b
   unfolding posted
   kept_same old new p b same k = record {
     shown = k.shown ∙ ap (λ (v : View). posted (ticks_of v.history)) (sym same);
@@ -70,7 +70,7 @@ module _ (s f : ℕ) (base : Board) (log : Book) where
   }
 
   -- a step that ends nothing, which publishes nothing
-  pub kept_on : (old new : EngineState) (p : Publication) (b e : Totals) (ch : ℕ) (r : Result Turn EngineFault) → ends r ≡ false → Steps old.view ch r new.view → e.steps ≡ b.steps + steps_in r → e.finished + e.terminated ≡ b.finished + b.terminated → IsKept s f base log old p b → IsKept s f base log new p e
+  pub kept_on : (old new : EngineState) (p : Publication) (b e : Totals) (ch : ℕ) (r : Result Turn EngineFault) → ends r ≡ false → Steps old.view ch r new.view → e.steps ≡ b.steps + steps_in r → e.finished + e.terminated ≡ b.finished + b.terminated → IsKept s f base log [] old p b → IsKept s f base log [] new p e
   unfolding posted
   kept_on old new p b e ch r on h steps done k =
       let a = steps_add old.view new.view ch r h in
@@ -87,14 +87,14 @@ module _ (s f : ℕ) (base : Board) (log : Book) where
       }
 
   -- one tick more was made ready, the engine added it, and it was published
-  pub kept_next : (old m new : EngineState) (p r q : Publication) (b e : Totals) (l : List Posted) (t u : Tick) (moves finishes : ℕ) → m.view ≡ old.view → Adds m.view new.view (u ∷ []) moves finishes → new.view.base ≡ m.view.base → t ≡ u → r ≡ record { shown = p.shown; pending = l } → q ≡ record { shown = with_ticks r.shown (t ∷ []); pending = [] } → e.steps ≡ b.steps + moves → e.finished + e.terminated ≡ b.finished + b.terminated + finishes → IsKept s f base log old p b → IsKept s f base log new q e
+  pub kept_next : (old m new : EngineState) (p r q : Publication) (b e : Totals) (l : List Posted) (t u : Tick) (moves finishes : ℕ) → m.view ≡ old.view → Adds m.view new.view (u ∷ []) moves finishes → new.view.base ≡ m.view.base → t ≡ u → r ≡ record { shown = p.shown; pending = l } → q ≡ record { shown = with_ticks r.shown (t ∷ []); pending = [] } → e.steps ≡ b.steps + moves → e.finished + e.terminated ≡ b.finished + b.terminated + finishes → IsKept s f base log [] old p b → IsKept s f base log [] new q e
   kept_next old m new p r q b e l t u moves finishes same a from is ready is_published steps done k =
       let next : Posted → Tick → Publication = λ x y. record { shown = with_ticks x (y ∷ []); pending = [] } in
       let all : q ≡ next p.shown u = is_published ∙ ap (λ (x : Publication). next x.shown t) ready ∙ ap (next p.shown) is in
       kept_adds m new p q b e (u ∷ []) moves finishes a from all steps done (kept_same old m p b same k)
 
   -- there is room in 64 bits for its number
-  pub few_next : (old m new : EngineState) (p r : Publication) (b : Totals) (l : List Posted) (u : Tick) (moves finishes : ℕ) → m.view ≡ old.view → Adds m.view new.view (u ∷ []) moves finishes → r ≡ record { shown = p.shown; pending = l } → length new.view.history < 18446744073709551616 → IsKept s f base log old p b → length r.shown.ticks < 18446744073709551615
+  pub few_next : (old m new : EngineState) (p r : Publication) (b : Totals) (l : List Posted) (u : Tick) (moves finishes : ℕ) → m.view ≡ old.view → Adds m.view new.view (u ∷ []) moves finishes → r ≡ record { shown = p.shown; pending = l } → length new.view.history < 18446744073709551616 → IsKept s f base log [] old p b → length r.shown.ticks < 18446744073709551615
   few_next old m new p r b l u moves finishes same a ready few k =
       let shown : r.shown.ticks ≡ ticks_of m.view.history = ap (λ (x : Publication). x.shown.ticks) ready ∙ ap (λ (x : Posted). x.ticks) (kept_same old m p b same k).shown in
       omega (arith, ap length shown, ap length a.ticks, length-append (ticks_of m.view.history) (u ∷ []), ticks_are_few new.view.history, few)
@@ -190,7 +190,7 @@ counts-eight b (suc (suc (suc (suc (suc (suc (suc (suc n)))))))) less = absurd (
 pub board_counts : (base : Board) (v : View) → base ≡ base_of v → IsSound v → (ch : ℕ) → ch < channels v → counts (board_from base (ticks_of v.history)) ch ≡ counts_of (channel (object_of v) ch)
 board_counts base v opens h ch less =
     let o = boards_open v h in
-    let inside : ch < length (board_of v.base) = omega (arith, less, ap length o.0, length-replicate (channels v) no_counts) in
+    let inside : ch < length (board_of v.base) = omega (arith, less, o.0) in
     ap (λ b. counts (board_from b (ticks_of v.history)) ch) opens
     ∙ boards-alike (eight (board_of v.base)) (board_of v.base) (ticks_of v.history) ch (omega (arith, less, o.1)) inside (counts-eight (board_of v.base) ch (omega (arith, less, o.1)))
     ∙ ap (λ b. counts b ch) (boards_count v h)

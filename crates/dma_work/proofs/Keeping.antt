@@ -1,10 +1,9 @@
 -- What keeps the rule of what is published.
-use Rattle.std.proofs.Common.{◌≡◌, ◌≢◌, ℕ, Option, Some, None, List, [], ◌∷◌, ◌++◌, set, refl, sym, ◌∙◌, subst, ⊎_elim}
+use Rattle.std.proofs.Common.{◌≡◌, ◌≢◌, ℕ, Option, Some, None, List, [], ◌∷◌, set, refl, sym, ◌∙◌, subst, ⊎_elim}
 use mathlib.Core.Option.{some, some-ne-none}
 use lib.ListN.{get_elem?}
 use Rattle.crossbeam_utils.specs.Register.{Admits, TurnsAt, Forks, Merges}
 use Rattle.atomic_table.proofs.Lists.{at_set, at_snoc}
-use Rattle.dma_engine.specs.Ticks.{Tick}
 use Rattle.dma_work.specs.Posted.{Posted, Later}
 use Rattle.dma_work.specs.Rule.{IsSeen, Keeps, Sees}
 use Rattle.dma_work.proofs.Fronts.{prefix_self, prefix_trans}
@@ -14,10 +13,6 @@ later_self p = record { base = refl; log = refl; ticks = prefix_self p.ticks }
 
 pub later_trans : (p q r : Posted) → Later p q → Later q r → Later p r
 later_trans p q r a b = record { base = b.base ∙ a.base; log = b.log ∙ a.log; ticks = prefix_trans p.ticks q.ticks r.ticks a.ticks b.ticks }
-
--- with one tick more a list is a later time of itself
-pub later_more : (p q : Posted) (more : List Tick) → q ≡ record p { ticks = p.ticks ++ more } → Later p q
-later_more p q more is = subst (Later p) (sym is) (record { base = refl; log = refl; ticks = (more, refl) })
 
 seen_later : (x y : Posted) (view : Option Posted) → IsSeen x view → Later x y → IsSeen y view
 seen_later x y None h l = tt

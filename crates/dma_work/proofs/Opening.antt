@@ -7,7 +7,7 @@ use Rattle.dma_engine.specs.declared.entry.Entry.{Entry}
 use Rattle.dma_engine.specs.Ticks.{Counts, counts, no_counts, ticks_of}
 use Rattle.dma_engine.specs.View.{View, IsSound, channels}
 use Rattle.dma_engine.proofs.Deeds.{ticks-append}
-use Rattle.dma_engine.proofs.Given.{boards_open}
+use Rattle.dma_engine.proofs.Given.{boards_empty}
 use Rattle.dma_work.specs.Laws.{AreCounts}
 use Rattle.dma_work.specs.Ticks.{base_of, eight, no_counts_yet}
 
@@ -23,7 +23,7 @@ eight-none n =
 
 -- no cookie is given where a history begins
 pub opens_empty : (v : View) → IsSound v → base_of v ≡ no_counts_yet
-opens_empty v h = ap eight (boards_open v h).0 ∙ eight-none (channels v)
+opens_empty v h = ap eight (boards_empty v h) ∙ eight-none (channels v)
 
 -- the ticks of one entry more
 pub ticks_more : (es : List Entry) (i : ℕ) (d : Entry) → i < length es → ticks_of (take (i + 1) es) ≡ ticks_of (take i es) ++ ticks_of (slice_index_or es i d ∷ [])

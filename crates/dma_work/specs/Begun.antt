@@ -3,19 +3,19 @@ use Rattle.std.specs.Prelude.{◌≡◌, ℕ}
 use Rattle.dma_work.specs.declared.workers.Begun.{Begun}
 use Rattle.dma_work.specs.declared.workers.Begun.TheVariants.{Started, Refused, Done}
 
--- it is a job of this worker with so many turns, in a thread or done
+-- A job of this worker with so many turns is in a thread or done.
 abbrev pub IsOf : Begun → ℕ → ℕ → Type 0
 IsOf (Started thread) worker turns = (thread.promise.worker ≡ worker) × (thread.promise.turns ≡ turns)
 IsOf (Done tally) worker turns = (tally.worker ≡ worker) × (tally.turns ≡ turns)
 IsOf Refused worker turns = ⊥
 
--- or one for which no thread was had
+-- The same, or no thread was had for it.
 abbrev pub IsBegun : Begun → ℕ → ℕ → Type 0
 IsBegun (Started thread) worker turns = IsOf (Started thread) worker turns
 IsBegun (Done tally) worker turns = IsOf (Done tally) worker turns
 IsBegun Refused worker turns = Unit {0}
 
--- its tally is owed
+-- It is in a thread or done.
 abbrev pub IsOwed : Begun → Type 0
 IsOwed (Started thread) = Unit {0}
 IsOwed (Done tally) = Unit {0}

@@ -38,11 +38,12 @@ board_from base ticks = board_after base ticks
 abbrev pub status_in : Board → List Tick → ℕ → ℕ → Status
 status_in base ticks ch cookie = status_of (board_from base ticks) ch cookie
 
--- The board of the channels 0 to 7 from which the history of an engine begins.
+-- the counts of the channels 0 to 7
 abbrev pub eight : Board → Board
 eight b =
     counts b 0 ∷ counts b 1 ∷ counts b 2 ∷ counts b 3 ∷ counts b 4 ∷ counts b 5 ∷ counts b 6 ∷ counts b 7 ∷ []
 
+-- The counts from which an engine's history begins.
 abbrev pub base_of : View → Board
 base_of v = eight (board_of v.base)
 

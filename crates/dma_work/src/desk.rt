@@ -7,7 +7,8 @@ ghost use Rattle.dma_engine.specs.Object.{channel, finished_all, used};
 ghost use Rattle.dma_engine.specs.Turn.{ends, turn};
 ghost use Rattle.dma_engine.specs.View.{IsSound, memory_of, object_of};
 ghost use Rattle.dma_work.specs.Desk.{Names, SameBook, counted, published, stepped_book};
-ghost use Rattle.dma_work.specs.Ticks.{AreFinished, IsGiven};
+ghost use Rattle.dma_work.specs.Laws.{AreCounts};
+ghost use Rattle.dma_work.specs.Ticks.{AreFinished, IsGiven, base_of, board_from};
 
 use crate::names::DeskName;
 use crate::parts::Parts;
@@ -45,7 +46,7 @@ impl<N: DeskName> Model for Desk<N> {
 
     ghost view = { λ d. record { engine = d.engine; book = d.book; before = [] } };
 
-    ghost invariant = { λ d. IsKept N.steps N.finished N.base N.log d.engine d.publisher d.book };
+    ghost invariant = { λ d. IsKept N.steps N.finished N.base N.log [] d.engine d.publisher d.book };
 }
 
 impl<N: DeskName> Desk<N> {
@@ -67,12 +68,18 @@ impl<N: DeskName> Desk<N> {
         }
     }
 
-    /// The engine. Its view is sound, and its memory is the history's image with running transfers laid over it.
+    /// The engine. Its view is sound, its memory is the history's image with running transfers laid over it, and the book is the
+    /// rise of its step count and finished cookies.
     pub fn engine(&self) -> &Engine
         ensures engine { result.now ≡ self.now.engine }
+        ensures counted { N.steps + self.now.book.steps ≡ self.now.engine.view.steps }
+        ensures done { N.finished + (self.now.book.finished + self.now.book.terminated) ≡ finished_all (object_of self.now.engine.view) }
+        ensures opens { board_from N.base self.now.before ≡ base_of self.now.engine.view }
+        ensures counts { AreCounts N.base }
         ensures sound { IsSound self.now.engine.view }
         ensures memory { self.now.engine.memory ≡ memory_of self.now.engine.view }
     {
+        // opens to the proof what the engine's type keeps
         let _history = self.engine.history();
         &self.engine
     }
@@ -189,6 +196,7 @@ impl<N: DeskName> Desk<N> {
         ensures before { self.new.before ≡ self.old.before }
     {
         let turn = self.engine.step(ch)?;
+        // bounds the book to the proof
         let _steps = self.engine.steps();
         if let Turn::Moved = turn {
             self.book.steps += 1;
@@ -210,6 +218,7 @@ impl<N: DeskName> Desk<N> {
         let Ok(turn) = self.engine.step(ch) else {
             unreachable!();
         };
+        // bound the book and the number of ticks to the proof
         let _steps = self.engine.steps();
         let _finished = self.engine.finished_all();
         let _entries = self.engine.history().len();
@@ -265,6 +274,7 @@ impl<N: DeskName> Desk<N> {
         let Ok(cookie) = self.engine.submit(ch, transfer) else {
             unreachable!();
         };
+        // bounds the number of ticks to the proof
         let _entries = self.engine.history().len();
         let told = self.publisher.publish(rt, tick);
         Ok(receipt(ch, cookie, Ticket::new(told)))
@@ -290,6 +300,7 @@ impl<N: DeskName> Desk<N> {
         let Ok(count) = self.engine.terminate(ch) else {
             unreachable!();
         };
+        // bound the number of ticks and the book to the proof
         let _entries = self.engine.history().len();
         let _finished = self.engine.finished_all();
         self.book.terminated += u64::from(count);
@@ -314,6 +325,7 @@ impl<N: DeskName> Desk<N> {
             of: _,
         } = self;
         publisher.end(rt);
+        // opens to the proof what the engine's type keeps
         let _history = engine.history();
         (engine, book)
     }

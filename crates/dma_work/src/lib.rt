@@ -14,13 +14,12 @@ mod publisher;
 mod reader;
 mod rule;
 mod shared;
+#[cfg(test)]
+mod tests;
 mod tick;
 mod ticket;
 mod totals;
 mod workers;
-
-#[cfg(test)]
-mod tests;
 
 pub use desk::{Desk, Tally};
 pub use job::Job;

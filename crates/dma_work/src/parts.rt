@@ -19,7 +19,7 @@ use std::alloc::Global;
 use std::marker::Model;
 use std::sync::Wait;
 
-/// The most status readers.
+/// The most status readers (profile).
 pub const MAX_READERS: usize = 8;
 
 /// An engine, and the writer that has published the ticks of its history. A `Desk` or a `Shared` is made of it.
@@ -67,7 +67,7 @@ pub struct ShareFault {
 impl Parts {
     /// Publishes the ticks of the engine's history, and answers so many readers that have seen them.
     ///
-    /// The fault is `BadReaders` above [`MAX_READERS`], else `NoReader` or `NoMemory`.
+    /// The fault is `BadReaders` above [`MAX_READERS`], else `NoMemory`, or `NoReader` where no place for a reader was free.
     pub fn new<R: Wait>(
         rt: &R,
         alloc: Global,

@@ -170,20 +170,20 @@ fn whole_day<N: DeskName + Send + Sync, R: Threads + Wait + Sync>(
                 book,
             } = missing;
             day.missing = Some(book);
-            day.settled = settled(rt, shared, tallies);
+            day.settled = settled(rt, shared, tallies).map(|told| told.0);
         }
     }
     (day, reader.status(0, 1))
 }
 
-// The totals, where the tallies add up.
+// The totals and the number of entries, where the tallies add up.
 fn settled<N: DeskName, R: Wait>(
     rt: &R,
     shared: Shared<N>,
     tallies: Vec<Tally>,
-) -> Option<Totals> {
+) -> Option<(Totals, usize)> {
     match settle(rt, shared, tallies) {
-        Ok((_engine, totals)) => Some(totals),
+        Ok((engine, totals)) => Some((totals, engine.history().len())),
         Err(missing) => {
             let MissingTally {
                 shared,
@@ -309,6 +309,7 @@ impl Gate for Turns {
 struct Done {
     turns: [u64; 2],
     totals: Totals,
+    entries: usize,
 }
 
 // Runs two jobs through a gate, and settles.
@@ -330,8 +331,12 @@ fn through_gate<N: DeskName + Send + Sync, R: Threads + Wait + Sync, G: Gate>(
         [first, second] => [first.turns(), second.turns()],
         _ => [0, 0],
     };
-    let totals = settled(rt, shared, tallies)?;
-    Some(Done { turns, totals })
+    let (totals, entries) = settled(rt, shared, tallies)?;
+    Some(Done {
+        turns,
+        totals,
+        entries,
+    })
 }
 
 fn nine_turns_each() -> Result<[Job; 2], Fail> {
@@ -347,6 +352,8 @@ const BOTH_DONE: Done = Done {
         finished: 2,
         terminated: 0,
     },
+    // a write, two submits, two issues and two finishes
+    entries: 7,
 };
 
 #[test]
@@ -396,6 +403,21 @@ fn a_gate_is_called_with_each_turn(rt: HostRuntime) -> Result<(), Fail> {
     let Turns { last, wrong } = gate;
     assert_eq!(rt; last.into_inner(), [9, 9]);
     assert!(rt; !wrong.into_inner());
+    Ok(())
+}
+
+#[test]
+fn two_workers_share_two_channels(rt: HostRuntime) -> Result<(), Fail> {
+    let first = Job::new(0, 1, 20).ok_or("no job")?;
+    let second = Job::new(0, 1, 20).ok_or("no job")?;
+    let made = Parts::new(&rt, rt.alloc(), two_copies(rt.alloc())?, 0);
+    let (parts, _readers) = made.map_err(|_fault| "no parts")?;
+    let done = through_gate::<Brand, _, _>(&rt, rt.alloc(), parts, [first, second], &NoGate);
+    let wanted = Done {
+        turns: [20, 20],
+        ..BOTH_DONE
+    };
+    assert_eq!(rt; done, Some(wanted));
     Ok(())
 }
 
@@ -477,6 +499,8 @@ fn closing_answers_the_engine(rt: HostRuntime) -> Result<(), Fail> {
     let (parts, _readers) = made.map_err(|_fault| "no parts")?;
     let engine = closed_after_a_submit::<Brand, _>(&rt, parts, transfer);
     assert_eq!(rt; engine.used(0), 1);
+    assert_eq!(rt; engine.unfinished(0), 1);
+    assert_eq!(rt; engine.history().len(), 1);
     Ok(())
 }
 

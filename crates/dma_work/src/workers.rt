@@ -1,8 +1,7 @@
 //! Workers that step the channels of one desk.
 
-ghost use Rattle.std.specs.Prelude.{◌≡◌, ◌<◌, ◌≤◌, ℕ, IfOk, length, slice_index_or, vec_capacity, vec_len};
-ghost use Rattle.dma_work.specs.Desk.{TallyCounts};
-ghost use Rattle.dma_work.specs.declared.job.Job.{Job};
+ghost use Rattle.std.specs.Prelude.{◌≡◌, ◌<◌, ◌≤◌, ℕ, IfOk, length, vec_capacity, vec_len};
+ghost use Rattle.dma_work.specs.Desk.{AreTallies};
 ghost use Rattle.dma_work.specs.Begun.{IsBegun, IsOf, IsOwed};
 
 use crate::desk::Tally;
@@ -31,7 +30,7 @@ impl Gate for NoGate {
 }
 
 /// Takes the job's turns: in each it passes the gate, then takes the lock and steps one channel, the job's channels in rotation
-/// from the first. A refused step changes nothing but the tally's turns.
+/// from the first (profile). A refused step changes nothing but the tally's turns.
 pub fn work<N: DeskName, R: Wait, G: Gate>(
     rt: &R,
     shared: &Shared<N>,
@@ -145,7 +144,7 @@ fn in_scope<'s, E, N: DeskName + Send + Sync, R: Threads + Wait + Sync, G: Gate>
     requires empty { (vec_len begun ≡ 0) × (vec_len tallies ≡ 0) }
     requires room { (length jobs.now ≤ vec_capacity begun) × (length jobs.now ≤ vec_capacity tallies) }
     ensures count { vec_len result ≡ length jobs.now }
-    ensures each { (i : ℕ) (t : TallyCounts) (j : Job) → i < length jobs.now → ((slice_index_or result.items i t).worker ≡ i) × ((slice_index_or result.items i t).turns ≡ (slice_index_or jobs.now i j).turns) }
+    ensures each { AreTallies result.items jobs.now }
 {
     for start in 0..jobs.len() {
         begun.push_reserved(begin(scope, rt, shared, start as u32, jobs[start], gate));
@@ -172,7 +171,7 @@ pub fn run_workers<N: DeskName + Send + Sync, R: Threads + Wait + Sync, G: Gate>
 ) -> Result<Vec<Tally>, NoMemory>
     requires { length jobs.now < 4294967296 }
     ensures count { IfOk result (λ v. vec_len v ≡ length jobs.now) }
-    ensures each { IfOk result (λ v. (i : ℕ) (t : TallyCounts) (j : Job) → i < length jobs.now → ((slice_index_or v.items i t).worker ≡ i) × ((slice_index_or v.items i t).turns ≡ (slice_index_or jobs.now i j).turns)) }
+    ensures each { IfOk result (λ v. AreTallies v.items jobs.now) }
 {
     let begun: Vec<Begun> = Vec::with_capacity(alloc, jobs.len())?;
     let tallies: Vec<Tally> = Vec::with_capacity(alloc, jobs.len())?;
@@ -184,7 +183,7 @@ pub fn run_workers<N: DeskName + Send + Sync, R: Threads + Wait + Sync, G: Gate>
             requires empty { (vec_len begun ≡ 0) × (vec_len tallies ≡ 0) }
             requires room { (length jobs.now ≤ vec_capacity begun) × (length jobs.now ≤ vec_capacity tallies) }
             ensures count { vec_len result ≡ length jobs.entry.now }
-            ensures each { (i : ℕ) (t : TallyCounts) (j : Job) → i < length jobs.entry.now → ((slice_index_or result.items i t).worker ≡ i) × ((slice_index_or result.items i t).turns ≡ (slice_index_or jobs.entry.now i j).turns) }
+            ensures each { AreTallies result.items jobs.entry.now }
         { in_scope(scope, rt, shared, jobs, gate, begun, tallies) },
     ))
 }

@@ -6,7 +6,7 @@ ghost use Rattle.dma_work.specs.Desk.{counted};
 use dma_engine::{EngineFault, Turn};
 use std::marker::Model;
 
-/// What the steps that took it did. A desk alone makes it and raises it, and there is one of it.
+/// A worker's counts of the steps that took it. A desk alone makes it and raises it, and there is one of it.
 #[derive(Drop)]
 pub struct Tally {
     worker: u32,
