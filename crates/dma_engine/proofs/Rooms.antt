@@ -20,7 +20,7 @@ use Rattle.dma_engine.specs.declared.outcome.TransResult.TheVariants.{ReadFailed
 use Rattle.dma_engine.specs.declared.queue.Queue.{Queue}
 use Rattle.dma_engine.specs.Found.{transfer_in, transfer_of}
 use Rattle.dma_engine.specs.Inside.{queue_room}
-use Rattle.dma_engine.specs.Object.{ChannelState, channel, issued_front, no_transfer, unfinished, is_set}
+use Rattle.dma_engine.specs.Object.{Object, ChannelState, channel, issued_front, no_transfer, unfinished, is_set}
 use Rattle.dma_engine.specs.Room.{no_room, room_on, KeepsRoom}
 use Rattle.dma_engine.specs.Turn.{Stepped, turn, ends, insn_turn, front_turn, start_turn, finishes, moves_on, in_the_way, last_step}
 use Rattle.dma_engine.specs.View.{View, EngineState, RunningTransfer, object_of, channels, schedule_at}
@@ -72,12 +72,12 @@ room-set queues ch q less =
     ap (λ l. slice_index_or l ch no_room) (map-set queue_room queues ch q)
     ∙ get_or-set_same (map queue_room queues) ch (queue_room q) no_room (omega (arith, less, length-map queues queue_room))
 
--- room stays where the view does and no list's room falls
-pub room-grows : (e f : EngineState) → f.view ≡ e.view → e.room.entries ≤ f.room.entries → ((ch : ℕ) → ((room_on e.room ch).places ≤ (room_on f.room ch).places) × ((room_on e.room ch).outcomes ≤ (room_on f.room ch).outcomes)) → KeepsRoom e f
-room-grows e f view entries queues ch h = record {
+-- room stays where the object does and no list's room falls
+pub room-grows : (e f : EngineState) → object_of f.view ≡ object_of e.view → e.room.entries ≤ f.room.entries → ((ch : ℕ) → ((room_on e.room ch).places ≤ (room_on f.room ch).places) × ((room_on e.room ch).outcomes ≤ (room_on f.room ch).outcomes)) → KeepsRoom e f
+room-grows e f object entries queues ch h = record {
   entry = omega (arith, entries, h.entry);
   cookie = omega (arith, (queues ch).0, h.cookie);
-  outcomes = subst (λ (v : View). unfinished (channel (object_of v) ch) ≤ (room_on f.room ch).outcomes) (sym view) (omega (arith, (queues ch).1, h.outcomes));
+  outcomes = subst (λ (o : Object). unfinished (channel o ch) ≤ (room_on f.room ch).outcomes) (sym object) (omega (arith, (queues ch).1, h.outcomes));
 }
 
 -- a queue in whose place one with no less room stands

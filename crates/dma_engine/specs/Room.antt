@@ -1,5 +1,8 @@
 -- Room that is made before it is needed.
-use Rattle.std.specs.Prelude.{ℕ, ◌<◌, ◌≤◌, slice_index_or}
+use Rattle.std.specs.Prelude.{ℕ, ◌<◌, ◌≤◌, Result, Ok, slice_index_or}
+use Rattle.dma_engine.specs.declared.fault.EngineFault.{EngineFault}
+use Rattle.dma_engine.specs.declared.turn.Turn.{Turn}
+use Rattle.dma_engine.specs.declared.turn.Turn.TheVariants.{Started, Moved, Finished}
 use Rattle.dma_engine.specs.Object.{channel, unfinished}
 use Rattle.dma_engine.specs.View.{EngineState, QueueRoom, Room, object_of}
 
@@ -15,6 +18,13 @@ pub record HasRoom (e : EngineState) (ch : ℕ) : Type 0 where
   pub entry : 0 < e.room.entries
   pub cookie : 0 < (room_on e.room ch).places
   pub outcomes : unfinished (channel (object_of e.view) ch) ≤ (room_on e.room ch).outcomes
+
+-- An answer to a step that changed nothing: a refusal, or a turn that neither starts, moves nor finishes.
+abbrev pub IsIdle : Result Turn EngineFault → Type 0
+IsIdle (Ok (Started cookie)) = ⊥
+IsIdle (Ok Moved) = ⊥
+IsIdle (Ok (Finished cookie result residue)) = ⊥
+IsIdle _ = Unit {0}
 
 -- Where one had room on a channel, the other has.
 abbrev pub KeepsRoom : EngineState → EngineState → Type 0

@@ -8,7 +8,7 @@ ghost use Rattle.dma_engine.specs.View.{size, channels, object_of, schedule_at, 
 ghost use Rattle.dma_engine.specs.Answer.{Answers, Steps, reply_of, checked, channel_fault, submit_fault, submit_reply, status_in, result_of, first_running, named, done_on};
 ghost use Rattle.dma_engine.specs.Ways.{is_in_the_way};
 ghost use Rattle.dma_engine.specs.Holds.{new_queue};
-ghost use Rattle.dma_engine.specs.Room.{HasRoom, KeepsRoom};
+ghost use Rattle.dma_engine.specs.Room.{HasRoom, IsIdle, KeepsRoom};
 ghost use Rattle.dma_engine.specs.Turn.{turn, ends};
 ghost use Rattle.dma_engine.specs.Due.{front_told, running_told, IsDue, MayStart, Waits, Signals, GoesOn, Finishes, failure_of};
 
@@ -435,7 +435,7 @@ impl Engine {
     /// The error is `NoChannel`.
     pub fn pause(&mut self, ch: u8) -> Result<(), EngineFault>
         ensures answer { Answers self.old.view (Call.Pause ch) (reply_of (λ _. Reply.Done) result) self.new.view }
-        ensures kept { OnErr result (KeepsRoom self.old self.new) }
+        ensures kept { KeepsRoom self.old self.new }
     {
         let index = usize::from(ch);
         if index >= self.queues.len() {
@@ -451,7 +451,7 @@ impl Engine {
     /// The error is `NoChannel`.
     pub fn resume(&mut self, ch: u8) -> Result<(), EngineFault>
         ensures answer { Answers self.old.view (Call.Resume ch) (reply_of (λ _. Reply.Done) result) self.new.view }
-        ensures kept { OnErr result (KeepsRoom self.old self.new) }
+        ensures kept { KeepsRoom self.old self.new }
     {
         let index = usize::from(ch);
         if index >= self.queues.len() {
@@ -491,7 +491,8 @@ impl Engine {
     }
 
     /// Makes room on a channel: until a call changes the engine, `submit`, `issue` and `terminate` there, `raise`, and each `step`
-    /// there of a transfer that runs take no memory. Refused calls keep the room. Nothing else changes.
+    /// there of a transfer that runs take no memory. Refused calls, steps that neither start, move nor finish, pauses and
+    /// resumes keep the room. Nothing else changes.
     ///
     /// The error is `NoChannel`, else `NoMemory`.
     pub fn make_room(&mut self, ch: u8) -> Result<(), EngineFault>
@@ -565,7 +566,7 @@ impl Engine {
         ensures answer { Steps self.old.view ch result self.new.view }
         // With room made, memory is wanting only where nothing runs: at a start.
         ensures room { HasRoom self.old ch → IfErr result (λ fault. fault ≡ EngineFault.NoMemory → (schedule_at self.old.view ch).taken ≡ None) }
-        ensures kept { OnErr result (KeepsRoom self.old self.new) }
+        ensures kept { IsIdle result → KeepsRoom self.old self.new }
     {
         let index = usize::from(ch);
         if index >= self.queues.len() {
@@ -599,7 +600,7 @@ impl Engine {
     fn start(&mut self, ch: u8) -> Result<Turn, EngineFault>
         requires { MayStart self.old.view ch }
         ensures answer { Steps self.old.view ch result self.new.view }
-        ensures kept { OnErr result (KeepsRoom self.old self.new) }
+        ensures kept { IsIdle result → KeepsRoom self.old self.new }
     {
         let index = usize::from(ch);
         let Some((transfer, cookie)) = self.front(index) else {
@@ -622,7 +623,7 @@ impl Engine {
         requires due { IsDue self.old.view ch (Waits event) }
         ensures answer { Steps self.old.view ch result self.new.view }
         ensures room { HasRoom self.old ch → IfErr result (λ fault. fault ≢ EngineFault.NoMemory) }
-        ensures kept { OnErr result (KeepsRoom self.old self.new) }
+        ensures kept { IsIdle result → KeepsRoom self.old self.new }
     {
         if !self.events.is_set(event) {
             return Ok(Turn::Waiting(event));
@@ -643,7 +644,7 @@ impl Engine {
         requires { IsDue self.old.view ch (Signals event) }
         ensures answer { Steps self.old.view ch result self.new.view }
         ensures room { HasRoom self.old ch → IfErr result (λ fault. fault ≢ EngineFault.NoMemory) }
-        ensures kept { OnErr result (KeepsRoom self.old self.new) }
+        ensures kept { IsIdle result → KeepsRoom self.old self.new }
     {
         let entry = Entry::Signalled {
             by: Signaller::Channel(ch),
@@ -665,7 +666,7 @@ impl Engine {
         requires { IsDue self.old.view ch GoesOn }
         ensures answer { Steps self.old.view ch result self.new.view }
         ensures room { HasRoom self.old ch → IfErr result (λ fault. fault ≢ EngineFault.NoMemory) }
-        ensures kept { OnErr result (KeepsRoom self.old self.new) }
+        ensures kept { IsIdle result → KeepsRoom self.old self.new }
     {
         let queue = &mut self.queues[usize::from(ch)];
         let turn = queue
@@ -686,7 +687,7 @@ impl Engine {
         requires { IsDue self.old.view ch (Finishes self.old.view how) }
         ensures answer { Steps self.old.view ch result self.new.view }
         ensures room { HasRoom self.old ch → IfErr result (λ fault. fault ≢ EngineFault.NoMemory) }
-        ensures kept { OnErr result (KeepsRoom self.old self.new) }
+        ensures kept { IsIdle result → KeepsRoom self.old self.new }
     {
         let index = usize::from(ch);
         let stored = self.done(index);

@@ -67,7 +67,7 @@ returns-then-not-make_room-clause-kept c =
     let view = returns-then-not-make_room-clause-view c ∙ sym (ap (λ (s : EngineState). s.view) c.self.view_is) in
     let entries : before.room.entries ≤ vec_capacity c.reserve.new.self - vec_len c.reserve.new.self = omega (arith, c.reserve.ensures.capacity, c.reserve.ensures.len) in
     let queues = queues-grow p.queues i q c.make_room.new.self less c.index_mut-queue.ensures.value c.make_room.ensures.kept.0 c.make_room.ensures.kept.1 in
-    λ ch h. room-grows before _ view entries queues ch (subst (λ (s : EngineState). HasRoom s ch) (sym c.self.view_is) h)
+    λ ch h. room-grows before _ (ap object_of view) entries queues ch (subst (λ (s : EngineState). HasRoom s ch) (sym c.self.view_is) h)
 
 pub returns-clause-kept : goal.returns-clause-kept
 returns-clause-kept c =
@@ -79,4 +79,4 @@ returns-clause-kept c =
     let view = returns-clause-view c ∙ sym (ap (λ (s : EngineState). s.view) c.self.view_is) in
     let entries : before.room.entries ≤ vec_capacity c.reserve.new.self - vec_len c.reserve.new.self = omega (arith, c.reserve.ensures.capacity, c.reserve.ensures.len) in
     let queues = queues-grow p.queues i q c.make_room.new.self less c.index_mut-queue.ensures.value c.make_room.ensures.kept.0 c.make_room.ensures.kept.1 in
-    λ ch h. room-grows before _ view entries queues ch (subst (λ (s : EngineState). HasRoom s ch) (sym c.self.view_is) h)
+    λ ch h. room-grows before _ (ap object_of view) entries queues ch (subst (λ (s : EngineState). HasRoom s ch) (sym c.self.view_is) h)
