@@ -1,77 +1,163 @@
-"""Times dmasim on the scripts of this folder, each beside a plain memcpy of as many bytes in the same run.
+"""Times dmasim on inputs of each kind, each beside memcpy or cat of as many bytes in the same run.
 
-    python3 bench/run.py
+    python3 bench/run.py [--beside PROGRAM] [--rounds N] [--only CASE,...]
+
+PROGRAM is another dmasim, an older build say: both must print the same bytes, and the last columns are its
+time and ours over its. Every round does each case once with each program, in turn; a figure is the median
+of the rounds, by the clock, less the median of a script of one line. Only ratios within one run mean
+anything. The last lines are the most memory that some runs hold.
 """
+import argparse
 import os
+import statistics
 import subprocess
-import sys
 import tempfile
 import time
 
 HERE = os.path.dirname(os.path.abspath(__file__))
 PROGRAM = os.path.join(HERE, "..", "crates", "dmasim", "out", "dmasim")
-TURNS = 5
+MIB = 1 << 20
+LONGEST_INPUT = 4 * MIB
 
 
-def script(name, *words):
-    command = [sys.executable, os.path.join(HERE, name)] + [str(word) for word in words]
-    return subprocess.run(command, check=True, stdout=subprocess.PIPE).stdout
+def script(size, channels, lines):
+    return "\n".join(["memory %d %d" % (size, channels)] + lines + [""]).encode()
 
 
-def best(action):
-    times = []
-    for _ in range(TURNS):
-        start = time.perf_counter()
-        action()
-        times.append(time.perf_counter() - start)
-    return min(times)
+def copies(count, offset):
+    lines = ["copy %d+%d to %d+%d" % (offset, MIB, 2 * MIB + offset, MIB)] * count
+    return script(4 * MIB, 1, lines)
 
 
-def run(text):
-    done = subprocess.run([PROGRAM, "run"], input=text, stdout=subprocess.PIPE)
-    assert done.returncode == 0, done.returncode
+def step_lines(count):
+    lines = ["submit 0 0+%d to %d+%d" % (MIB, 2 * MIB, MIB), "issue 0", "step 0 20518"] * count
+    return script(4 * MIB, 1, lines)
+
+
+def turns(count):
+    lines = []
+    for ch in range(8):
+        lines += ["submit %d %d+0x20000 to %d+0x20000" % (ch, ch * 0x40000, ch * 0x40000 + 0x20000), "issue %d" % ch]
+    return script(2 * MIB, 8, lines + ["step %d" % (i % 8) for i in range(count)])
+
+
+def submits(count):
+    return script(64, 1, ["submit 0 0+4 to 8+4", "issue 0", "step 0 9"] * count)
+
+
+def writes(count):
+    return script(MIB, 1, ["write %d 00 11 22 33 44 55 66 77" % (i % 0xF0000) for i in range(count)])
+
+
+def long_writes(count):
+    line = " ".join([bytes(range(256)).hex(" ").upper()] * 16)
+    return script(MIB, 1, ["write %d %s" % (0x100 * i, line) for i in range(count)])
+
+
+def reads(count):
+    return script(MIB, 1, ["read %d+16" % i for i in range(count)])
+
+
+def comment():
+    return b"memory 1 1\n#" + b" x" * (LONGEST_INPUT // 2 - 100)
+
+
+def assembly():
+    program = b"DMANOP\n" * 8192
+    comments = b"# a comment that is skipped and counted\n"
+    return program + comments * ((LONGEST_INPUT - len(program)) // len(comments))
+
+
+ONE_LINE = b"memory 1 1\n"
+# The subcommand, its input, and the blocks that memcpy moves beside it; none: cat of the input.
+CASES = {
+    "one line": ("run", ONE_LINE, None),
+    "copies": ("run", copies(100, 0), (MIB, 100)),
+    "odd copies": ("run", copies(20, 1), (MIB, 20)),
+    "step lines": ("run", step_lines(20), (MIB, 20)),
+    "turns": ("run", turns(200_000), None),
+    "submits": ("run", submits(20_000), None),
+    "writes": ("run", writes(110_000), None),
+    "long writes": ("run", long_writes(340), None),
+    "reads": ("run", reads(150_000), None),
+    "comment": ("run", comment(), None),
+    "asm": ("asm", assembly(), None),
+    "dis": ("dis", b"BC 00 78 56 34 12\n" * (LONGEST_INPUT // 18), None),
+}
+
+
+def timed(action):
+    start = time.perf_counter()
+    value = action()
+    return time.perf_counter() - start, value
+
+
+def spawn(command, text):
+    done = subprocess.run(command, stdin=text, stdout=subprocess.PIPE, check=True)
     return done.stdout
 
 
-def peak(text):
-    """The most memory that a run holds, in MiB."""
-    with tempfile.TemporaryFile() as script_file:
-        script_file.write(text)
-        script_file.seek(0)
-        done = subprocess.Popen([PROGRAM, "run"], stdin=script_file, stdout=subprocess.DEVNULL)
-        return os.wait4(done.pid, 0)[2].ru_maxrss / 1024
-
-
 def memcpy(size, count):
-    """`count` copies of `size` bytes between two blocks, by slice assignment, which is memmove."""
-    source = bytearray(os.urandom(4096) * (size // 4096 + 1))[:size]
-    target = bytearray(size)
-    return best(lambda: [target.__setitem__(slice(None), source) for _ in range(count)])
+    source, target = bytearray(os.urandom(4096) * (size // 4096)), bytearray(size)
+    for _ in range(count):
+        target[:] = source
 
 
-def report(name, seconds, plain, what):
-    print("%-28s %8.1f ms   %s %8.3f ms   ratio %.1f" % (name, 1000 * seconds, what, 1000 * plain, seconds / plain))
+def one_round(programs, chosen, folder, times):
+    for name in chosen:
+        subcommand, _, blocks = CASES[name]
+        printed = []
+        for program in programs:
+            with open(os.path.join(folder, name), "rb") as text:
+                took, out = timed(lambda: spawn([program, subcommand], text))
+            times[name, program].append(took)
+            printed.append(out)
+        assert len(set(printed)) == 1, "%s: the programs print different bytes" % name
+        with open(os.path.join(folder, name), "rb") as text:
+            plain = timed(lambda: memcpy(*blocks) if blocks else spawn(["cat"], text))[0]
+        times[name, "plain"].append(plain)
+
+
+def show(programs, chosen, times):
+    middle = {key: statistics.median(found) for key, found in times.items()}
+    for name in chosen:
+        start = [middle["one line", program] if name != "one line" else 0 for program in programs]
+        took = [middle[name, program] - less for program, less in zip(programs, start)]
+        plain, word = middle[name, "plain"], "memcpy" if CASES[name][2] else "cat"
+        line = "%-12s %8.2f ms   %-6s %8.2f ms   ratio %6.2f" % (name, 1e3 * took[0], word, 1e3 * plain, took[0] / plain)
+        if len(took) > 1:
+            line += "   beside %8.2f ms   ratio %5.2f" % (1e3 * took[1], took[0] / took[1])
+        print(line)
+
+
+def most_memory(program, text):
+    """The most memory that a run holds, in MiB, as GNU time tells it: a child of Python itself counts Python's memory."""
+    command = ["/usr/bin/time", "-f", "%M", program, "run"]
+    done = subprocess.run(command, input=text, stdout=subprocess.DEVNULL, stderr=subprocess.PIPE, check=True)
+    return int(done.stderr) / 1024
 
 
 def main():
+    parser = argparse.ArgumentParser(description=__doc__.splitlines()[0])
+    parser.add_argument("--beside", help="another dmasim, timed in the same rounds")
+    parser.add_argument("--rounds", type=int, default=5)
+    parser.add_argument("--only", help="cases, with commas between")
+    options = parser.parse_args()
     subprocess.run([os.path.join(HERE, "..", "dmasim")], input=b"", stdout=subprocess.DEVNULL)
-    empty = best(lambda: run(b"memory 1 1\n"))
-    print("%-28s %8.1f ms" % ("a script of one line", 1000 * empty))
-    writes = script("write_script.py")
-    lines = writes.count(b"\n") - 1
-    print("%-28s %8.1f MiB" % ("memory of a script of one line", peak(b"memory 1 1\n")))
-    print("%-28s %8.1f MiB" % ("memory of 4 MiB of writes", peak(writes)))
-    assert run(writes) == b"ok\n" * lines
-    report("4 MiB of write lines", best(lambda: run(writes)), memcpy(len(writes), 1), "memcpy of the script")
-    copies = script("copy_script.py")
-    assert run(copies).count(b"finished") == 100
-    print("%-28s %8.1f MiB (its memory line has 16 MiB)" % ("memory of 100 copies", peak(copies)))
-    report("100 copies of 1 MiB", best(lambda: run(copies)), memcpy(1 << 20, 100), "memcpy 100 x 1 MiB   ")
-    for count in (1000, 10000, 100000):
-        submits = script("submit_script.py", count)
-        assert run(submits).count(b"finished") == count
-        seconds = best(lambda: run(submits)) - empty
-        print("%6d submits of 4 bytes %10.1f ms   %.2f us for each" % (count, 1000 * seconds, 1e6 * seconds / count))
+    programs = [PROGRAM] + ([options.beside] if options.beside else [])
+    only = options.only.split(",") if options.only else list(CASES)
+    chosen = [name for name in CASES if name == "one line" or name in only]
+    times = {(name, who): [] for name in chosen for who in programs + ["plain"]}
+    with tempfile.TemporaryDirectory() as folder:
+        for name in chosen:
+            with open(os.path.join(folder, name), "wb") as text:
+                text.write(CASES[name][1])
+        for _ in range(options.rounds):
+            one_round(programs, chosen, folder, times)
+    show(programs, chosen, times)
+    print("medians of %d rounds, %d processors, load %.1f" % (options.rounds, os.cpu_count(), os.getloadavg()[0]))
+    for name in ("one line", "writes", "comment"):
+        print("most memory of %-9s %6.1f MiB" % (name, most_memory(PROGRAM, CASES[name][1])))
 
 
 main()

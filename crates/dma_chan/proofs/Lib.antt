@@ -19,3 +19,4 @@ pub mod Shape
 pub mod Acts
 pub mod Layers
 pub mod Alone
+pub mod Parts

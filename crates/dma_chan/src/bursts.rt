@@ -7,7 +7,7 @@ ghost use Rattle.dma_insn.specs.declared.insn.Insn.TheVariants.{Ld, St};
 ghost use Rattle.dma_mem.specs.Image.{put};
 ghost use Rattle.dma_chan.specs.Registers.{is_control, burst_at, burst_len, touched, left_by, advance, span_of, rounds_of, source_of, destination_of};
 ghost use Rattle.dma_chan.specs.Marking.{reaches};
-ghost use Rattle.dma_chan.specs.Exec.{act, fault_in, faults, state};
+ghost use Rattle.dma_chan.specs.Exec.{act, fault_in, faults, read_at, state};
 
 use crate::registers::Registers;
 use crate::turn::{ChanTurn, FaultKind};
@@ -140,17 +140,6 @@ fn may_touch(kind: MarkKind, marks: &Marks, memory: &Memory, burst: Burst) -> bo
     end <= u64::from(memory.size()) && !marks.hits(kind, span)
 }
 
-// Reads the bytes that a burst touches, each once.
-fn read_span(memory: &Memory, burst: Burst, bytes: &mut [u8])
-    requires span { length bytes.old ≡ span_of burst }
-    requires within { burst.addr + span_of burst ≤ length memory.now }
-    ensures { bytes.new ≡ take (span_of burst) (drop burst.addr memory.now) }
-{
-    let Ok(()) = memory.read_into(burst.addr, bytes) else {
-        unreachable!();
-    };
-}
-
 // Puts the bytes into the buffer so often.
 fn fill(buffer: &mut HeapCircularBuffer<u8>, bytes: &[u8], rounds: u32)
     requires { length buffer.old.items + rounds * length bytes.now ≤ buffer.old.capacity }
@@ -159,6 +148,18 @@ fn fill(buffer: &mut HeapCircularBuffer<u8>, bytes: &[u8], rounds: u32)
     for _round in 0..rounds {
         buffer.fill_from_slice(bytes);
     }
+}
+
+// Loads the bytes of a burst into the buffer.
+#[tactic(auto, using(crate::proofs::Rounds::read_touched))]
+fn load_span(burst: Burst, buffer: &mut HeapCircularBuffer<u8>, memory: &Memory)
+    requires limit { (burst.size ≤ 16) × (burst.beats ≤ 16) }
+    requires room { length buffer.old.items + burst_len burst ≤ buffer.old.capacity }
+    requires within { burst.addr + span_of burst ≤ length memory.now }
+    ensures { buffer.new ≡ ring (buffer.old.items ++ read_at memory.now (touched burst)) buffer.old.capacity }
+{
+    let bytes = memory.slice(burst.addr, burst.span().len);
+    fill(buffer, bytes, burst.rounds());
 }
 
 // The fault that DMALD answers. Without one there is room for its bytes, and it may touch its addresses.
@@ -188,7 +189,6 @@ pub(crate) fn load_fault(
 }
 
 // Executes DMALD.
-#[tactic(auto, using(crate::proofs::Rounds::read_touched))]
 pub(crate) fn load_burst(
     marks: &Marks,
     registers: &mut Registers,
@@ -207,40 +207,47 @@ pub(crate) fn load_burst(
         return ChanTurn::Fault(kind);
     }
     let burst = source_burst(registers);
-    let mut bytes = [0; BUFFER_SIZE];
-    let bytes = &mut bytes[..burst.span().len as usize];
-    read_span(memory, burst, bytes);
-    fill(buffer, bytes, burst.rounds());
+    load_span(burst, buffer, memory);
     registers.pc += 1;
     registers.sar += burst.advance();
     ChanTurn::Moved
 }
 
-// Copies the oldest bytes of the buffer, as many as there is room for.
-fn copy_front(buffer: &HeapCircularBuffer<u8>, bytes: &mut [u8])
-    requires { length bytes.old ≤ length buffer.now.items }
-    ensures { bytes.new ≡ take (length bytes.old) buffer.now.items }
+// The first bytes of two slices that follow each other.
+fn first_of<'a>(front: &'a [u8], back: &'a [u8], count: usize) -> (&'a [u8], &'a [u8])
+    requires { count ≤ length (front.now ++ back.now) }
+    ensures bytes { result.0.now ++ result.1.now ≡ take count (front.now ++ back.now) }
+    ensures len { length result.0.now + length result.1.now ≡ count }
 {
-    let (front, back) = buffer.as_slices();
-    let from_front = front.len().min(bytes.len());
-    let (head, tail) = bytes.split_at_mut(from_front);
-    let from_back = tail.len();
-    head.copy_from_slice(&front[..from_front]);
-    tail.copy_from_slice(&back[..from_back]);
+    let of_front = front.len().min(count);
+    (&front[..of_front], &back[..count - of_front])
 }
 
-// Writes what a burst of these bytes leaves in memory.
-fn write_span(memory: &mut Memory, burst: Burst, bytes: &[u8])
+// What follows the first bytes of two slices that follow each other.
+fn past<'a>(front: &'a [u8], back: &'a [u8], count: usize) -> (&'a [u8], &'a [u8])
+    requires { count ≤ length (front.now ++ back.now) }
+    ensures bytes { result.0.now ++ result.1.now ≡ drop count (front.now ++ back.now) }
+    ensures len { length result.0.now + length result.1.now + count ≡ length front.now + length back.now }
+{
+    let of_front = front.len().min(count);
+    (&front[of_front..], &back[count - of_front..])
+}
+
+// Stores the oldest bytes of the buffer as a burst. What it would overwrite itself isn't written.
+fn store_span(burst: Burst, buffer: &mut HeapCircularBuffer<u8>, memory: &mut Memory)
     requires some { (1 ≤ burst.size) × (1 ≤ burst.beats) }
     requires limit { (burst.size ≤ 16) × (burst.beats ≤ 16) }
-    requires len { length bytes.now ≡ burst_len burst }
+    requires bytes { burst_len burst ≤ length buffer.old.items }
     requires within { burst.addr + span_of burst ≤ length memory.old }
-    ensures { memory.new ≡ put memory.old (left_by burst bytes.now) }
+    ensures written { memory.new ≡ put memory.old (left_by burst (take (burst_len burst) buffer.old.items)) }
+    ensures taken { buffer.new ≡ ring (drop (burst_len burst) buffer.old.items) buffer.old.capacity }
 {
-    let from = bytes.len() - burst.span().len as usize;
-    let Ok(()) = memory.write(burst.addr, &bytes[from..]) else {
-        unreachable!();
-    };
+    let len = burst.len() as usize;
+    let (front, back) = buffer.as_slices();
+    let (front, back) = first_of(front, back, len);
+    let (front, back) = past(front, back, len - burst.span().len as usize);
+    memory.write_parts(burst.addr, front, back);
+    buffer.truncate_front(buffer.len() - len);
 }
 
 // The fault that DMAST answers. Without one the buffer has its bytes, and it may touch its addresses.
@@ -287,12 +294,7 @@ pub(crate) fn store_burst(
         return ChanTurn::Fault(kind);
     }
     let burst = destination_burst(registers);
-    let len = burst.len() as usize;
-    let mut bytes = [0; BUFFER_SIZE];
-    let bytes = &mut bytes[..len];
-    copy_front(buffer, bytes);
-    write_span(memory, burst, bytes);
-    buffer.truncate_front(buffer.len() - len);
+    store_span(burst, buffer, memory);
     registers.pc += 1;
     registers.dar += burst.advance();
     ChanTurn::Moved

@@ -8,6 +8,7 @@ pub mod compile;
 mod compile_tests;
 mod exec;
 pub mod laws;
+pub mod next;
 mod pieces;
 pub mod program;
 mod registers;

@@ -158,6 +158,21 @@ impl Machine {
         self.channel.failing(&self.memory, &self.marks)
     }
 
+    // The next instruction, the fault that it would answer, and its answer, read from the program once.
+    fn read_once(&mut self) -> Option<(Insn, Option<FaultKind>, ChanTurn)> {
+        if !self.channel.is_loaded() || self.channel.taken() == u32::MAX {
+            return None;
+        }
+        let Ok(next) = self.channel.next() else {
+            return None;
+        };
+        let fault = self.channel.failing_at(next, &self.memory, &self.marks);
+        let turn = self
+            .channel
+            .execute(next, &mut self.memory, &mut self.events, &self.marks);
+        Some((next.insn(), fault, turn))
+    }
+
     // Whether this many instructions are executed.
     fn moves(&mut self, count: u32) -> bool {
         for _ in 0..count {
@@ -239,6 +254,23 @@ fn a_fault_is_told_before_its_step(rt: HostRuntime) -> Result<(), Fail> {
     assert!(rt; machine.is_untouched());
     let refused = Some(ChanTurn::Fault(FaultKind::DataReadErr));
     assert_eq!(rt; machine.step(), refused);
+    Ok(())
+}
+
+#[test]
+fn an_instruction_is_executed_as_it_was_read(rt: HostRuntime) -> Result<(), Fail> {
+    let mut machine = Machine::of_bytes(rt.alloc(), TWO_LOADS)?;
+    assert!(rt; machine.moves(6));
+    let turn = machine.read_once();
+    assert_eq!(rt; turn, Some((Insn::St, None, ChanTurn::Moved)));
+    assert_eq!(rt; machine.place(), (Some(Ok(Insn::St)), 27, 7, 32));
+    assert_eq!(rt; machine.byte(0x80), Some(0x40));
+    assert_eq!(rt; machine.byte(0x9f), Some(0x5f));
+    assert!(rt; machine.moves(1));
+    let turn = machine.read_once();
+    assert_eq!(rt; turn, Some((Insn::End, None, ChanTurn::Ended)));
+    let turn = machine.read_once();
+    assert_eq!(rt; turn, None);
     Ok(())
 }
 

@@ -5,6 +5,7 @@ pub mod Ticks
 pub mod View
 pub mod Turn
 pub mod Answer
+pub mod Advance
 pub mod Ways
 pub mod Holds
 pub mod Inside

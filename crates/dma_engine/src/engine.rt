@@ -1,6 +1,6 @@
 //! The engine.
 
-ghost use Rattle.std.specs.Prelude.{◌≡◌, ◌≢◌, ◌+◌, ◌-◌, ◌<◌, ◌≤◌, ℕ, IsTrue, vec_len, vec_capacity, IfOk, IfErr, OnOk, OnErr, None, unwrap_or, length, take, drop, IfSome, slice_index_or, replicate, ◌++◌, ◌∷◌, [], false, if◌then◌else◌};
+ghost use Rattle.std.specs.Prelude.{◌≡◌, ◌≢◌, ◌+◌, ◌-◌, ◌<◌, ◌≤◌, ℕ, IsTrue, IsNone, IsSome, vec_len, vec_capacity, Ok, IfOk, IfErr, OnOk, OnErr, None, unwrap_or, length, take, drop, IfSome, slice_index_or, replicate, ◌++◌, ◌∷◌, [], false, if◌then◌else◌};
 ghost use Rattle.std.specs.Option.{option_map};
 ghost use Rattle.dma_mem.specs.Rules.{IsTransfer};
 ghost use Rattle.dma_engine.specs.Object.{channel, used, finished, finished_all, unfinished, is_failure};
@@ -10,7 +10,7 @@ ghost use Rattle.dma_engine.specs.Ways.{is_in_the_way};
 ghost use Rattle.dma_engine.specs.Holds.{new_queue};
 ghost use Rattle.dma_engine.specs.Room.{HasRoom, IsIdle, KeepsRoom};
 ghost use Rattle.dma_engine.specs.Turn.{turn, ends};
-ghost use Rattle.dma_engine.specs.Due.{front_told, running_told, IsDue, MayStart, Waits, Signals, GoesOn, Finishes, failure_of};
+ghost use Rattle.dma_engine.specs.Due.{front_told, running_told, IsAny, IsDue, IsNext, IsOther, MayStart, Waits, Signals, Finishes, failure_of};
 
 use crate::call::{Call, Reply};
 use crate::entry::{Entry, Signaller};
@@ -20,6 +20,7 @@ use crate::queue::Queue;
 use crate::turn::{Running, Status, Turn};
 use crate::way::Way;
 use dma_chan::compile::compile;
+use dma_chan::next::Next;
 use dma_chan::turn::{ChanTurn, FaultKind};
 use dma_insn::insn::Insn;
 use dma_mem::events::Events;
@@ -339,7 +340,7 @@ impl Engine {
         if let Some((ch, cookie)) = self.first_in_the_way(&Way::Read(range)) {
             return Err(EngineFault::Busy { ch, cookie });
         }
-        let Some(answer) = bytes_of(self.alloc, &self.memory, addr, len) else {
+        let Ok(answer) = Bytes::from_slice(self.alloc, self.memory.slice(addr, len)) else {
             return Err(EngineFault::NoMemory);
         };
         let Ok(kept) = Bytes::from_slice(self.alloc, answer.as_slice()) else {
@@ -380,10 +381,21 @@ impl Engine {
         ensures room { HasRoom self.old ch → IfErr result (λ refused. refused.fault ≢ EngineFault.NoMemory) }
         ensures kept { OnErr result (KeepsRoom self.old self.new) }
     {
-        let cookie = match self.check_submit(ch, &transfer) {
-            Ok(cookie) => cookie,
-            Err(fault) => return Err(SubmitFault { fault, transfer }),
-        };
+        match self.check_submit(ch, &transfer) {
+            Ok(cookie) => self.submit_here(ch, transfer, cookie),
+            Err(fault) => Err(SubmitFault { fault, transfer }),
+        }
+    }
+
+    // The same where nothing but want of memory can refuse it, with the cookie that is next.
+    fn submit_here(&mut self, ch: u8, transfer: Transfer, cookie: u32) -> Result<u32, SubmitFault>
+        requires told { Ok cookie ≡ checked (submit_fault self.old.view ch transfer) (used (channel (object_of self.old.view) ch) + 1) }
+        requires rules { IsTransfer transfer }
+        ensures answer { Answers self.old.view (Call.Submit ch transfer) (submit_reply result) self.new.view }
+        ensures back { IfErr result (λ refused. refused.transfer ≡ transfer) }
+        ensures room { HasRoom self.old ch → IfErr result (λ refused. refused.fault ≢ EngineFault.NoMemory) }
+        ensures kept { OnErr result (KeepsRoom self.old self.new) }
+    {
         let Ok(()) = self.history.reserve(1) else {
             return Err(SubmitFault {
                 fault: EngineFault::NoMemory,
@@ -522,26 +534,18 @@ impl Engine {
     pub fn ending(&self, ch: u8) -> bool
         ensures { result ≡ ends (turn self.now.view ch).0 }
     {
-        let index = usize::from(ch);
-        if index >= self.queues.len() {
+        let Some(next) = self.due(ch) else {
             return false;
-        }
-        let queue = &self.queues[index];
-        if queue.halted || queue.paused {
-            return false;
-        }
-        if !queue.channel.is_loaded() {
-            return false;
-        }
-        if self.steps >= u64::MAX {
-            return false;
-        }
-        let Ok(insn) = queue.channel.ahead() else {
-            unreachable!();
         };
-        match insn {
+        match next.insn() {
             Insn::End => true,
-            _ => queue.channel.failing(&self.memory, &self.marks).is_some(),
+            _ => {
+                let queue = &self.queues[usize::from(ch)];
+                queue
+                    .channel
+                    .failing_at(next, &self.memory, &self.marks)
+                    .is_some()
+            }
         }
     }
 
@@ -568,6 +572,53 @@ impl Engine {
         ensures room { HasRoom self.old ch → IfErr result (λ fault. fault ≡ EngineFault.NoMemory → (schedule_at self.old.view ch).taken ≡ None) }
         ensures kept { IsIdle result → KeepsRoom self.old self.new }
     {
+        if self.moves(ch) {
+            return Ok(Turn::Moved);
+        }
+        self.rare_step(ch)
+    }
+
+    // The next instruction of a channel, if a step may execute it: its front runs, is neither halted nor paused, and the step
+    // count isn't at its end.
+    fn due(&self, ch: u8) -> Option<Next>
+        ensures due { IfSome result (λ next. IsDue self.now.view ch (IsNext next)) }
+        ensures none { IsNone result → IsDue self.now.view ch IsAny → ⊥ }
+        ensures no_end { IsNone result → ends (turn self.now.view ch).0 ≡ false }
+    {
+        let index = usize::from(ch);
+        if index >= self.queues.len() {
+            return None;
+        }
+        let queue = &self.queues[index];
+        if queue.halted || queue.paused || !queue.channel.is_loaded() || self.steps >= u64::MAX {
+            return None;
+        }
+        let Ok(next) = queue.channel.next() else {
+            unreachable!();
+        };
+        Some(next)
+    }
+
+    // Takes the most frequent step, if it is that: an instruction that neither waits, signals, ends nor fails. Else nothing
+    // changes. The answer is one bit, so that no step of a burst hands a larger value on.
+    #[inline(always)]
+    pub(crate) fn moves(&mut self, ch: u8) -> bool
+        ensures moved { IsTrue result → Steps self.old.view ch (Ok Turn.Moved) self.new.view }
+        ensures still { (result ≡ false) → (self.new ≡ self.old) }
+    {
+        match self.due(ch) {
+            Some(next) => goes_on(next.insn()) && self.move_on(ch, next).is_none(),
+            None => false,
+        }
+    }
+
+    // Any step: the table of cases, in its order.
+    #[inline(never)]
+    pub(crate) fn rare_step(&mut self, ch: u8) -> Result<Turn, EngineFault>
+        ensures answer { Steps self.old.view ch result self.new.view }
+        ensures room { HasRoom self.old ch → IfErr result (λ fault. fault ≡ EngineFault.NoMemory → (schedule_at self.old.view ch).taken ≡ None) }
+        ensures kept { IsIdle result → KeepsRoom self.old self.new }
+    {
         let index = usize::from(ch);
         if index >= self.queues.len() {
             return Err(EngineFault::NoChannel);
@@ -582,17 +633,14 @@ impl Engine {
         if !queue.channel.is_loaded() {
             return self.start(ch);
         }
-        if self.steps == u64::MAX {
+        let Some(next) = self.due(ch) else {
             return Err(EngineFault::StepsSpent);
-        }
-        let Ok(insn) = queue.channel.ahead() else {
-            unreachable!();
         };
-        match insn {
+        match next.insn() {
             Insn::Wfe { event, .. } => self.pass(ch, event.number()),
             Insn::Sev(event) => self.signal(ch, event.number()),
             Insn::End => self.finish(ch, TransResult::NoError),
-            _ => self.carry_on(ch),
+            _ => self.carry_on(ch, next),
         }
     }
 
@@ -661,23 +709,38 @@ impl Engine {
         Ok(Turn::Moved)
     }
 
-    // Executes an instruction that neither waits nor signals nor ends. A burst that fails finishes the front.
-    fn carry_on(&mut self, ch: u8) -> Result<Turn, EngineFault>
-        requires { IsDue self.old.view ch GoesOn }
+    // Executes an instruction that neither waits, signals nor ends. A burst that fails finishes the front.
+    fn carry_on(&mut self, ch: u8, next: Next) -> Result<Turn, EngineFault>
+        requires due { IsDue self.old.view ch (IsNext next) }
+        requires other { IsOther next }
         ensures answer { Steps self.old.view ch result self.new.view }
         ensures room { HasRoom self.old ch → IfErr result (λ fault. fault ≢ EngineFault.NoMemory) }
         ensures kept { IsIdle result → KeepsRoom self.old self.new }
     {
+        match self.move_on(ch, next) {
+            None => Ok(Turn::Moved),
+            Some(kind) => self.finish(ch, failure_of(kind)),
+        }
+    }
+
+    // The same without the end of a burst that fails: nothing changes then, and the answer is how it fails.
+    fn move_on(&mut self, ch: u8, next: Next) -> Option<FaultKind>
+        requires due { IsDue self.old.view ch (IsNext next) }
+        requires other { IsOther next }
+        ensures moved { IsNone result → Steps self.old.view ch (Ok Turn.Moved) self.new.view }
+        ensures fails { IfSome result (λ kind. IsDue self.old.view ch (Finishes self.old.view (failure_of kind))) }
+        ensures still { IsSome result → (self.new ≡ self.old) }
+    {
         let queue = &mut self.queues[usize::from(ch)];
         let turn = queue
             .channel
-            .step(&mut self.memory, &mut self.events, &self.marks);
+            .execute(next, &mut self.memory, &mut self.events, &self.marks);
         match turn {
             ChanTurn::Moved => {
                 self.steps += 1;
-                Ok(Turn::Moved)
+                None
             }
-            ChanTurn::Fault(kind) => self.finish(ch, failure_of(kind)),
+            ChanTurn::Fault(kind) => Some(kind),
             _ => unreachable!(),
         }
     }
@@ -788,26 +851,28 @@ impl Engine {
         ensures { Answers self.old.view (Call.Submit ch transfer.now) result self.new.view }
     {
         match self.check_submit(ch, transfer) {
-            Ok(_) => self.submit_checked(ch, transfer),
+            Ok(cookie) => self.submit_checked(ch, transfer, cookie),
             Err(fault) => Reply::Refused(fault),
         }
     }
 
-    // The same where nothing but want of memory can refuse it.
-    fn submit_checked(&mut self, ch: u8, transfer: &Transfer) -> Reply
-        requires { submit_fault self.old.view ch transfer.now ≡ None }
+    // The same where nothing but want of memory can refuse it, with the cookie that is next.
+    fn submit_checked(&mut self, ch: u8, transfer: &Transfer, cookie: u32) -> Reply
+        requires told { Ok cookie ≡ checked (submit_fault self.old.view ch transfer.now) (used (channel (object_of self.old.view) ch) + 1) }
+        requires rules { IsTransfer transfer.now }
         ensures { Answers self.old.view (Call.Submit ch transfer.now) result self.new.view }
     {
         let Ok(copy) = transfer.try_copy() else {
             return Reply::Refused(EngineFault::NoMemory);
         };
-        match self.submit(ch, copy) {
+        match self.submit_here(ch, copy, cookie) {
             Ok(cookie) => Reply::Cookie(cookie),
             Err(refused) => Reply::Refused(refused.fault),
         }
     }
 
     /// Carries a call out: the method of its name.
+    #[inline(never)]
     pub fn carry_out(&mut self, call: &Call) -> Reply
         ensures { Answers self.old.view call.now result self.new.view }
     {
@@ -865,6 +930,13 @@ fn new_queues(alloc: Global, count: u8) -> Result<Vec<Queue>, AllocError>
     Ok(queues)
 }
 
+// Whether an instruction neither waits, signals nor ends.
+fn goes_on(insn: Insn) -> bool
+    ensures { IsTrue result → IsOther insn }
+{
+    !matches!(insn, Insn::Wfe { .. } | Insn::Sev(_) | Insn::End)
+}
+
 // How the front finishes whose channel fails so: a load that fails is told as one, a store as the other.
 fn failure_of(kind: FaultKind) -> TransResult
     ensures { result ≡ failure_of kind }
@@ -893,18 +965,4 @@ fn added(history: &mut Vec<Entry>, entry: Entry) -> bool
     ensures capacity { vec_capacity history.old ≤ vec_capacity history.new }
 {
     history.push(entry).is_ok()
-}
-
-// The bytes of a memory from an address on, if there is memory for them.
-fn bytes_of(alloc: Global, memory: &Memory, addr: u32, len: u32) -> Option<Bytes>
-    requires { addr + len ≤ length memory.now }
-    ensures { IfSome result (λ bytes. bytes ≡ take len (drop addr memory.now)) }
-{
-    let Ok(mut buffer) = vec![in alloc; 0u8; len as usize] else {
-        return None;
-    };
-    let Ok(()) = memory.read_into(addr, &mut buffer) else {
-        unreachable!();
-    };
-    Bytes::from_slice(alloc, &buffer).ok()
 }

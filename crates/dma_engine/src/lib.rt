@@ -2,6 +2,7 @@
 //! of what was done.
 #![tactic(auto)]
 
+pub mod advance;
 pub mod call;
 pub mod engine;
 pub mod entry;

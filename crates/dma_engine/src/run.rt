@@ -1,11 +1,12 @@
 //! Calls carried out in order.
 
-ghost use Rattle.std.specs.Prelude.{◌≡◌, IfOk, OnErr};
-ghost use Rattle.dma_engine.specs.Answer.{AreAnswers, Extends, KeepsOutcomes};
+ghost use Rattle.std.specs.Prelude.{◌≡◌, ◌+◌, ◌-◌, ◌<◌, ◌≤◌, ◌++◌, ◌∷◌, [], length, take, drop, IfOk, IsOk, OnOk, OnErr, vec_capacity, vec_len};
+ghost use Rattle.dma_engine.specs.Answer.{Answers, AreAnswers, Extends, KeepsOutcomes};
 ghost use Rattle.dma_engine.specs.View.{IsSound, memory_of};
 
 use crate::call::{Call, Reply};
 use crate::engine::Engine;
+use crate::turn::Turn;
 use dma_chan::compile::NoMemory;
 use std::alloc::Global;
 
@@ -20,16 +21,60 @@ pub fn run(alloc: Global, engine: &mut Engine, calls: &[Call]) -> Result<Vec<Rep
     ensures memory { engine.new.memory ≡ memory_of engine.new.view }
     ensures refused { OnErr result (engine.new.view ≡ engine.old.view) }
 {
+    let mut replies = Vec::new(alloc);
+    run_into(engine, calls, &mut replies)?;
+    Ok(replies)
+}
+
+/// The same, with the replies added at the end of a list that is there.
+///
+/// Room for all replies is taken first. The error comes where it is refused; then no call was carried out, and none is added.
+pub fn run_into(
+    engine: &mut Engine,
+    calls: &[Call],
+    replies: &mut Vec<Reply>,
+) -> Result<(), NoMemory>
+    // What was in the list stays there, before what is added.
+    ensures before { take (length replies.old.items) replies.new.items ≡ replies.old.items }
+    ensures answers { OnOk result (AreAnswers engine.old.view calls.now (drop (length replies.old.items) replies.new.items) engine.new.view) }
+    ensures begins { Extends engine.old.view engine.new.view }
+    ensures kept { KeepsOutcomes engine.old.view engine.new.view }
+    ensures sound { IsSound engine.new.view }
+    ensures memory { engine.new.memory ≡ memory_of engine.new.view }
+
+    ensures refused { OnErr result (engine.new.view ≡ engine.old.view) }
+    ensures none { OnErr result (replies.new.items ≡ replies.old.items) }
+    ensures room { length calls.now ≤ vec_capacity replies.old - vec_len replies.old → IsOk result }
+{
     // That the history is legal is told by its reading.
     let _before = engine.history();
-    let mut replies = Vec::with_capacity(alloc, calls.len())?;
+    replies.reserve(calls.len())?;
     for call in calls {
-        let reply = engine.carry_out(call);
-        let Ok(()) = replies.push(reply) else {
-            unreachable!();
-        };
+        add_reply(engine, call, replies);
     }
     // and so is what it is afterwards
     let _after = engine.history();
-    Ok(replies)
+    Ok(())
+}
+
+// Carries a call out, and adds its reply. A step that moves is by far the most frequent call, and its reply is made where it is
+// put, so that none is handed on.
+fn add_reply(engine: &mut Engine, call: &Call, replies: &mut Vec<Reply>)
+    requires { vec_len replies.old < vec_capacity replies.old }
+    ensures answered { (reply : Reply) × (replies.new.items ≡ replies.old.items ++ reply ∷ []) × Answers engine.old.view call.now reply engine.new.view }
+    ensures len { vec_len replies.new ≡ vec_len replies.old + 1 }
+    ensures capacity { vec_capacity replies.old ≤ vec_capacity replies.new }
+{
+    if let Call::Step { ch } = call {
+        if engine.moves(*ch) {
+            let Ok(()) = replies.push(Reply::Turned(Turn::Moved)) else {
+                unreachable!();
+            };
+            return;
+        }
+    }
+    let reply = engine.carry_out(call);
+    let Ok(()) = replies.push(reply) else {
+        unreachable!();
+    };
 }

@@ -1,10 +1,11 @@
 //! Each call with ample memory, and the rows of the table of steps.
 
+use crate::advance::{Advanced, advance};
 use crate::call::{Call, Reply};
 use crate::engine::Engine;
 use crate::fault::EngineFault;
 use crate::outcome::{Outcome, TransResult};
-use crate::run::run;
+use crate::run::{run, run_into};
 use crate::turn::{Running, Status, Turn};
 use dma_mem::lists::Bytes;
 use dma_mem::marks::MarkKind;
@@ -59,6 +60,41 @@ fn a_copy_from_submit_to_result(rt: HostRuntime) -> Result<(), Fail> {
 }
 
 #[test]
+fn steps_in_a_row(rt: HostRuntime) -> Result<(), Fail> {
+    let mut engine = Engine::new(rt.alloc(), 0x3000, 1)?;
+    let Ok(_) = engine.submit(0, copy_of_four(rt.alloc(), 0x1000, 0x2000)?) else {
+        return Err(Fail::from("submit was refused"));
+    };
+    engine.issue(0)?;
+    let started = Advanced {
+        moved: 0,
+        last: Some(Ok(Turn::Started(1))),
+    };
+    assert_eq!(rt; advance(&mut engine, 0, 100), started);
+    let all_moved = Advanced {
+        moved: 3,
+        last: None,
+    };
+    assert_eq!(rt; advance(&mut engine, 0, 3), all_moved);
+    let finished = Advanced {
+        moved: 4,
+        last: Some(Ok(Turn::Finished {
+            cookie: 1,
+            result: TransResult::NoError,
+            residue: 0,
+        })),
+    };
+    assert_eq!(rt; advance(&mut engine, 0, 100), finished);
+    let refused = Advanced {
+        moved: 0,
+        last: Some(Err(EngineFault::NoChannel)),
+    };
+    assert_eq!(rt; advance(&mut engine, 1, 1), refused);
+    assert_eq!(rt; engine.steps(), 8);
+    Ok(())
+}
+
+#[test]
 fn pause_resume_and_terminate(rt: HostRuntime) -> Result<(), Fail> {
     let mut engine = Engine::new(rt.alloc(), 0x400, 1)?;
     let Ok(_) = engine.submit(0, copy_of_four(rt.alloc(), 0x100, 0x200)?) else {
@@ -105,6 +141,22 @@ fn a_list_of_calls(rt: HostRuntime) -> Result<(), Fail> {
         Reply::Bytes(bytes) => assert_eq!(rt; bytes.as_slice(), [0xAA].as_slice()),
         _ => assert!(rt; false),
     }
+    Ok(())
+}
+
+#[test]
+fn replies_at_the_end_of_a_list(rt: HostRuntime) -> Result<(), Fail> {
+    let mut engine = Engine::new(rt.alloc(), 64, 1)?;
+    let mut calls = Vec::new(rt.alloc());
+    calls.push(Call::Step { ch: 0 })?;
+    let mut replies = Vec::new(rt.alloc());
+    replies.push(Reply::Count(7))?;
+    let Ok(()) = run_into(&mut engine, &calls, &mut replies) else {
+        return Err(Fail::from("no memory"));
+    };
+    assert_eq!(rt; replies.len(), 2);
+    assert!(rt; matches!(replies[0], Reply::Count(7)));
+    assert!(rt; matches!(replies[1], Reply::Turned(Turn::Nothing)));
     Ok(())
 }
 

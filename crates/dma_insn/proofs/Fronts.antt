@@ -28,6 +28,10 @@ pub record WrittenFront (bytes : List ℕ) (offset : ℕ) (text : List ℕ) : Ty
   pub offset_is : offset ≡ length (joined insns)
   pub text_is : text ≡ text_of insns
 
+-- a front that is written is one
+pub front_of : (bytes : List ℕ) (offset : ℕ) (text : List ℕ) → WrittenFront bytes offset text → Front bytes offset
+front_of bytes offset text f = record { insns = f.insns; in_range = f.in_range; bytes_are = f.bytes_are; offset_is = f.offset_is }
+
 all_push : (is : List Insn) (i : Insn) → AllInRange is → HasRanges i → AllInRange (is ++ i ∷ [])
 all_push [] i a h = (h, tt)
 all_push (j ∷ is) i a h = (a.0, all_push is i a.1 h)
@@ -129,18 +133,6 @@ stops bytes offset fault within f fault_is refused none =
       none = none_here;
       longest = λ others more ranges e. let most = longest_front f.insns others rest more f.in_range ranges (sym f.bytes_are ∙ e) none_here in omega arith;
     }
-
--- Behind a front of bytes that are spellings joined, some instruction stands.
-pub never_stops : (bytes text : List ℕ) (offset : ℕ) → offset < length bytes → AreSpelled bytes → WrittenFront bytes offset text
-    → ((i : Insn) (n : ℕ) → IsSpelledAt (take (length bytes - offset) (drop offset bytes)) i n → ⊥) → ⊥
-never_stops bytes text offset within all f none =
-    let rest = drop offset bytes in
-    let none_here : (i : Insn) (n : ℕ) → IsSpelledAt rest i n → ⊥ = λ i n h. none i n (subst (λ (l : List ℕ). IsSpelledAt l i n) (sym (take_rest bytes offset)) h) in
-    let whole : joined f.insns ++ rest ≡ joined all.insns ++ [] = sym f.bytes_are ∙ all.bytes_are ∙ sym (append-nil (joined all.insns)) in
-    let most = longest_front f.insns all.insns rest [] f.in_range all.in_range whole none_here in
-    let size : length bytes ≡ length (joined all.insns) = ap length all.bytes_are in
-    let at = f.offset_is in
-    omega arith
 
 -- Bytes that stop have no text.
 pub stops_none : (bytes text : List ℕ) (offset : ℕ) (fault : DecodeFault) → StopsAt bytes offset fault → Disassembles bytes text → ⊥

@@ -7,3 +7,4 @@ pub mod ProgramLaws
 pub mod Fronts
 mod Texts
 mod OneText
+pub mod FirstBytes

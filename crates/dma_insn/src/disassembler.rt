@@ -1,14 +1,15 @@
 //! A program's bytes, written as its text.
 
-ghost use Rattle.std.specs.Prelude.{◌≡◌, ℕ, ◌++◌, ◌∷◌, [], List, MatchResult, MatchOption, Ok, Err, IfOk, IfErr, OnOk, string_bytes, ◌<◌, true};
+ghost use Rattle.std.specs.Prelude.{◌≡◌, ℕ, ◌++◌, ◌∷◌, [], List, MatchResult, MatchOption, IfSome, IfOk, IfErr, OnOk, ◌<◌, codes, decimal, true};
 ghost use Rattle.std.specs.Fmt.{digit_glyph};
 ghost use Rattle.dma_insn.specs.AssemblyText.{register_word, hex_digits};
 ghost use Rattle.dma_insn.specs.Disassembly.{counter_number, insn_text, AreSpelled, Disassembles, IsDisFault, StopsAt, DisassemblyAssembles, DisassemblyTells};
 ghost use Rattle.dma_insn.specs.declared.disassembler.DisFault.TheVariants.{NoMemory};
-ghost use Rattle.dma_insn.specs.declared.insn.Insn.TheVariants.{Mov};
+ghost use Rattle.dma_insn.specs.declared.insn.Insn.TheVariants.{Mov, Wfe};
 
 use crate::codec::{DecodeFault, decode};
-use crate::insn::{Counter, Insn, Reg};
+use crate::insn::{Counter, Event, Insn, Reg};
+use itoa::Buffer;
 use std::alloc::{AllocError, Global};
 use thiserror::Error;
 
@@ -32,11 +33,13 @@ pub fn disassemble(alloc: Global, bytes: &[u8]) -> Result<Vec<u8>, DisFault>
     ensures only { (text : List ℕ) → Disassembles bytes.now text
         → MatchResult result (λ written. written.items ≡ text) (λ fault. fault ≡ NoMemory) }
 {
-    match fault_of(bytes) {
-        Some((offset, fault)) => Err(DisFault::Decode { offset, fault }),
-        None => match write_all(alloc, bytes) {
-            Err(_) => Err(DisFault::NoMemory),
-            Ok(text) => Ok(text.into_bytes()),
+    match write_all(alloc, bytes) {
+        Ok(text) => Ok(text),
+        Err(Some((offset, fault))) => Err(DisFault::Decode { offset, fault }),
+        // Want of memory is told only where the rest has no fault.
+        Err(None) => match fault_of(bytes) {
+            Some((offset, fault)) => Err(DisFault::Decode { offset, fault }),
+            None => Err(DisFault::NoMemory),
         },
     }
 }
@@ -66,32 +69,26 @@ fn fault_of(bytes: &[u8]) -> Option<(usize, DecodeFault)>
     None
 }
 
-// The text of bytes that are spellings joined.
-fn write_all(alloc: Global, bytes: &[u8]) -> Result<String, AllocError>
-    requires { AreSpelled bytes.now }
-    ensures { IfOk result (λ text. Disassembles bytes.now (string_bytes text)) }
+// The text of bytes that are spellings joined, or the first place where no instruction stands with its refusal, or neither where
+// memory is refused before that is known.
+fn write_all(alloc: Global, bytes: &[u8]) -> Result<Vec<u8>, Option<(usize, DecodeFault)>>
+    ensures text { IfOk result (λ text. Disassembles bytes.now text.items) }
+    ensures stops { IfErr result (λ found. IfSome found (λ stop. StopsAt bytes.now stop.0 stop.1)) }
 {
-    let mut text = String::new(alloc);
+    let mut text = Vec::new(alloc);
     let mut offset = 0;
     while offset < bytes.len() {
-        let Ok((insn, count)) = decode(&bytes[offset..]) else {
-            unreachable!()
-        };
-        push_line(&mut text, insn)?;
-        offset += count;
+        match decode(&bytes[offset..]) {
+            Ok((insn, count)) => {
+                let Ok(()) = push_line(&mut text, insn) else {
+                    return Err(None);
+                };
+                offset += count;
+            }
+            Err(fault) => return Err(Some((offset, fault))),
+        }
     }
     Ok(text)
-}
-
-// The name of a register.
-fn register_name(reg: Reg) -> &'static str
-    ensures { result.now ≡ register_word reg }
-{
-    match reg {
-        Reg::Sar => "SAR",
-        Reg::Ccr => "CCR",
-        Reg::Dar => "DAR",
-    }
 }
 
 fn number_of(counter: Counter) -> u8
@@ -103,83 +100,110 @@ fn number_of(counter: Counter) -> u8
     }
 }
 
+// Adds a number in decimal digits.
+fn push_decimal(text: &mut Vec<u8>, number: u16) -> Result<(), AllocError>
+    ensures { OnOk result (text.new.items ≡ text.old.items ++ decimal number) }
+{
+    text.extend_from_slice(Buffer::new().format(number).as_bytes())
+}
+
 // Adds the line of an instruction.
-fn push_line(text: &mut String, insn: Insn) -> Result<(), AllocError>
-    ensures { OnOk result (string_bytes text.new ≡ string_bytes text.old ++ (insn_text insn ++ 10 ∷ [])) }
+fn push_line(text: &mut Vec<u8>, insn: Insn) -> Result<(), AllocError>
+    ensures { OnOk result (text.new.items ≡ text.old.items ++ (insn_text insn ++ 10 ∷ [])) }
 {
     match insn {
-        Insn::End => text.push_str("DMAEND\n"),
-        Insn::Ld => text.push_str("DMALD\n"),
-        Insn::St => text.push_str("DMAST\n"),
-        Insn::Rmb => text.push_str("DMARMB\n"),
-        Insn::Wmb => text.push_str("DMAWMB\n"),
-        Insn::Nop => text.push_str("DMANOP\n"),
+        Insn::End => text.extend_from_slice(b"DMAEND\n"),
+        Insn::Ld => text.extend_from_slice(b"DMALD\n"),
+        Insn::St => text.extend_from_slice(b"DMAST\n"),
+        Insn::Rmb => text.extend_from_slice(b"DMARMB\n"),
+        Insn::Wmb => text.extend_from_slice(b"DMAWMB\n"),
+        Insn::Nop => text.extend_from_slice(b"DMANOP\n"),
         Insn::Lp { counter, times } => {
-            let number = number_of(counter);
-            let times = times.number();
-            writeln!(text, "DMALP {number} {times}")
+            text.extend_from_slice(b"DMALP ")?;
+            push_pair(text, number_of(counter), times.number())
         }
         Insn::LpEnd { counter, back } => {
-            let number = number_of(counter);
-            writeln!(text, "DMALPEND {number} {back}")
+            text.extend_from_slice(b"DMALPEND ")?;
+            push_pair(text, number_of(counter), u16::from(back))
         }
         Insn::Sev(event) => {
-            let event = event.number();
-            writeln!(text, "DMASEV {event}")
+            text.extend_from_slice(b"DMASEV ")?;
+            push_decimal(text, u16::from(event.number()))?;
+            text.extend_from_slice(b"\n")
         }
-        Insn::Wfe { event, invalid } => {
-            let event = event.number();
-            if invalid {
-                writeln!(text, "DMAWFE {event} invalid")
-            } else {
-                writeln!(text, "DMAWFE {event}")
-            }
-        }
+        Insn::Wfe { event, invalid } => push_wait(text, event, invalid),
         Insn::Mov(reg, value) => push_value(text, reg, value),
     }
 }
 
+// Adds a loop's counter and its times or its jump, and ends the line.
+fn push_pair(text: &mut Vec<u8>, counter: u8, count: u16) -> Result<(), AllocError>
+    ensures { OnOk result (text.new.items ≡ text.old.items ++ (decimal counter ++ (32 ∷ (decimal count ++ 10 ∷ [])))) }
+{
+    push_decimal(text, u16::from(counter))?;
+    text.extend_from_slice(b" ")?;
+    push_decimal(text, count)?;
+    text.extend_from_slice(b"\n")
+}
+
+// Adds the line of DMAWFE.
+fn push_wait(text: &mut Vec<u8>, event: Event, invalid: bool) -> Result<(), AllocError>
+    ensures { OnOk result (text.new.items ≡ text.old.items ++ (insn_text (Wfe event invalid) ++ 10 ∷ [])) }
+{
+    text.extend_from_slice(b"DMAWFE ")?;
+    push_decimal(text, u16::from(event.number()))?;
+    if invalid {
+        text.extend_from_slice(b" invalid\n")
+    } else {
+        text.extend_from_slice(b"\n")
+    }
+}
+
+// What stands before the digits of DMAMOV.
+fn value_front(reg: Reg) -> &'static str
+    ensures { result.now ≡ codes "DMAMOV " ++ (register_word reg ++ codes " 0x") }
+{
+    match reg {
+        Reg::Sar => "DMAMOV SAR 0x",
+        Reg::Ccr => "DMAMOV CCR 0x",
+        Reg::Dar => "DMAMOV DAR 0x",
+    }
+}
+
 // Adds the line of DMAMOV.
-fn push_value(text: &mut String, reg: Reg, value: u32) -> Result<(), AllocError>
-    ensures { OnOk result (string_bytes text.new ≡ string_bytes text.old ++ (insn_text (Mov reg value) ++ 10 ∷ [])) }
+fn push_value(text: &mut Vec<u8>, reg: Reg, value: u32) -> Result<(), AllocError>
+    ensures { OnOk result (text.new.items ≡ text.old.items ++ (insn_text (Mov reg value) ++ 10 ∷ [])) }
 {
-    let name = register_name(reg);
-    write!(text, "DMAMOV {name} 0x")?;
-    push_digits(text, value)?;
-    text.push_str("\n")
+    text.extend_from_slice(value_front(reg).as_bytes())?;
+    text.extend_from_slice(&hex_digits(value))?;
+    text.extend_from_slice(b"\n")
 }
 
-// Adds eight hexadecimal digits.
-fn push_digits(text: &mut String, value: u32) -> Result<(), AllocError>
-    ensures { OnOk result (string_bytes text.new ≡ string_bytes text.old ++ hex_digits value) }
+// Eight hexadecimal digits in capitals.
+fn hex_digits(value: u32) -> [u8; 8]
+    ensures { result ≡ hex_digits value }
 {
-    push_digit(text, value / 0x1000_0000 % 16)?;
-    push_digit(text, value / 0x100_0000 % 16)?;
-    push_digit(text, value / 0x10_0000 % 16)?;
-    push_digit(text, value / 0x1_0000 % 16)?;
-    push_digit(text, value / 0x1000 % 16)?;
-    push_digit(text, value / 0x100 % 16)?;
-    push_digit(text, value / 0x10 % 16)?;
-    push_digit(text, value % 16)
+    [
+        glyph(value / 0x1000_0000 % 16),
+        glyph(value / 0x100_0000 % 16),
+        glyph(value / 0x10_0000 % 16),
+        glyph(value / 0x1_0000 % 16),
+        glyph(value / 0x1000 % 16),
+        glyph(value / 0x100 % 16),
+        glyph(value / 0x10 % 16),
+        glyph(value % 16),
+    ]
 }
 
-// Adds one hexadecimal digit.
-fn push_digit(text: &mut String, digit: u32) -> Result<(), AllocError>
+// A hexadecimal digit in capitals.
+fn glyph(digit: u32) -> u8
     requires { digit < 16 }
-    ensures { OnOk result (string_bytes text.new ≡ string_bytes text.old ++ digit_glyph true digit ∷ []) }
-{
-    text.push(hex_char(digit as u8))
-}
-
-fn hex_char(digit: u8) -> char
-    requires { digit < 16 }
-    ensures value { result ≡ digit_glyph true digit }
-    ensures ascii { result < 128 }
+    ensures { result ≡ digit_glyph true digit }
 {
     if digit < 10 {
-        char::from(b'0' + digit)
+        b'0' + digit as u8
     } else {
-        char::from(b'A' + (digit - 10))
+        b'A' + (digit as u8 - 10)
     }
 }
 

@@ -8,6 +8,7 @@ ghost use Rattle.dma_insn.specs.LineReading.{SeenAs, words_after, no_word, one_w
 
 use crate::assembler::Cause;
 use crate::insn::{Counter, Event, Insn, Reg, Times};
+use memchr::memchr;
 
 /// The name that a line begins with.
 #[derive(Clone, Copy, PartialEq, Eq, Debug)]
@@ -26,10 +27,11 @@ pub enum Name {
 }
 
 // Where a byte stands first.
+#[tactic(auto, using(crate::proofs::FirstBytes::first_place))]
 fn place_of(byte: u8, bytes: &[u8]) -> Option<usize>
     ensures { result ≡ position (λ b. b == byte) bytes.now }
 {
-    bytes.iter().position(|b| *b == byte)
+    memchr(byte, bytes)
 }
 
 /// The first line of a text, without its line feed, and what follows it.

@@ -1,11 +1,12 @@
 -- Bytes put from an address on.
-use Rattle.std.proofs.Common.{◌≡◌, ℕ, ◌+◌, ◌-◌, ◌<◌, ◌≤◌, List, [], ◌∷◌, ◌++◌, length, get_or, take, drop, Option, Some, None, refl, ap, sym, ◌∙◌, arith, inl, inr, zero, suc}
+use Rattle.std.proofs.Common.{◌≡◌, ℕ, ◌+◌, ◌-◌, ◌<◌, ◌≤◌, List, [], ◌∷◌, ◌++◌, length, get_or, take, drop, Option, Some, None, refl, ap, sym, ◌∙◌, arith, inl, inr, ◌⊎◌, zero, suc}
 use Rattle.std.specs.Prelude.{unwrap_or, nat_eq}
 use Rattle.std.specs.Map.{lookup}
+use Rattle.std.specs.Option.{option_or}
 use Rattle.std.proofs.lemmas.Bool.{cases_lt, eq-eqb, ne_eqb}
 use Rattle.std.proofs.lemmas.List.{ext_get_or, length-take, length-drop, length-append, get_or-take, get_or-drop, get_or_append_left, get_or-append_right}
 use Rattle.dma_mem.specs.Image.{put, bytes_at}
-use Rattle.dma_mem.proofs.Puts.{length-put, get_or-put}
+use Rattle.dma_mem.proofs.Puts.{length-put, get_or-put, lookup-append, put-put, put-same}
 
 -- ---- what is found at an address
 
@@ -41,3 +42,32 @@ put-bytes_at image a bs h =
             shows None (lookup-bytes_past a bs k past) ∙ sym (get_or-append_right left (bs ++ right) a k 0 long after ∙ get_or-append_right bs right (length bs) (k - a) 0 refl (omega arith) ∙ get_or-drop (a + length bs) image (k - a - length bs) 0 ∙ ap (λ n. get_or image n 0) back)
       ]
     ])
+
+-- ---- bytes put in two parts, one behind the other
+
+bytes_at-append : (a : ℕ) (front back : List ℕ) → bytes_at a (front ++ back) ≡ bytes_at a front ++ bytes_at (a + length front) back
+bytes_at-append a [] back = let e : a ≡ a + 0 = omega arith in ap (λ n. bytes_at n back) e
+bytes_at-append a (b ∷ front) back =
+    let e : (a + 1) + length front ≡ a + length (b ∷ front) = omega arith in
+    ap (λ es. (a, b) ∷ es) (bytes_at-append (a + 1) front back ∙ ap (λ n. bytes_at (a + 1) front ++ bytes_at n back) e)
+
+swapped : (o p : Option ℕ) → (o ≡ None) ⊎ (p ≡ None) → option_or p o ≡ option_or o p
+swapped None None h = refl
+swapped None (Some y) h = refl
+swapped (Some x) None h = refl
+swapped (Some x) (Some y) h = elim h [ inl e ↦ cc | inr e ↦ cc ]
+
+pub put_parts : (image : List ℕ) (a : ℕ) (front back : List ℕ) → put (put image (bytes_at a front)) (bytes_at (a + length front) back) ≡ put image (bytes_at a (front ++ back))
+put_parts image a front back =
+    let xs = bytes_at a front in
+    let ys = bytes_at (a + length front) back in
+    let one : (x : ℕ) → (lookup (nat_eq x) xs ≡ None) ⊎ (lookup (nat_eq x) ys ≡ None) = λ x. elim (cases_lt x (a + length front)) [
+      | inl before ↦ inr (lookup-bytes_before (a + length front) back x before)
+      | inr past ↦ inl (lookup-bytes_past a front x past)
+    ] in
+    put-put image xs ys
+    ∙ put-same image (ys ++ xs) (bytes_at a (front ++ back)) (λ x.
+    lookup-append (nat_eq x) ys xs
+    ∙ swapped (lookup (nat_eq x) xs) (lookup (nat_eq x) ys) (one x)
+    ∙ sym (lookup-append (nat_eq x) xs ys)
+    ∙ ap (lookup (nat_eq x)) (sym (bytes_at-append a front back)))

@@ -30,6 +30,14 @@ impl Bytes {
         }
     }
 
+    /// A list without bytes, with room for this many.
+    pub fn with_capacity(alloc: Global, capacity: usize) -> Result<Bytes, AllocError>
+        ensures { IfOk result (λ list. list ≡ []) }
+    {
+        let bytes = Vec::with_capacity(alloc, capacity)?;
+        Ok(Bytes { bytes })
+    }
+
     /// A copy of these bytes.
     pub fn from_slice(alloc: Global, bytes: &[u8]) -> Result<Bytes, AllocError>
         ensures { IfOk result (λ list. list ≡ bytes.now) }
@@ -158,6 +166,10 @@ mod tests {
         assert_eq!(rt; copy.as_slice(), [Segment { addr: 4, len: 5 }].as_slice());
         assert!(rt; Bytes::new(rt.alloc()).is_empty());
         assert_eq!(rt; bytes.len(), 3);
+        let mut roomy = Bytes::with_capacity(rt.alloc(), 2)?;
+        assert!(rt; roomy.is_empty());
+        roomy.push(6)?;
+        assert_eq!(rt; roomy.as_slice(), [6].as_slice());
         Ok(())
     }
 }

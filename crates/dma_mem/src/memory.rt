@@ -1,6 +1,6 @@
 //! A memory of bytes.
 
-ghost use Rattle.std.specs.Prelude.{◌≡◌, ◌+◌, ◌≤◌, length, take, drop, replicate, slice_get, nat_lt, if◌then◌else◌, IsTrue, IfOk, IfErr, OnOk, OnErr};
+ghost use Rattle.std.specs.Prelude.{◌≡◌, ◌+◌, ◌≤◌, length, ◌++◌, take, drop, replicate, slice_get, nat_lt, if◌then◌else◌, IsTrue, IfOk, IfErr, OnOk, OnErr};
 ghost use Rattle.dma_mem.specs.Image.{put, bytes_at};
 ghost use Rattle.dma_mem.specs.Sizes.{is_size};
 
@@ -45,6 +45,19 @@ fn put_bytes(all: &mut [u8], start: usize, bytes: &[u8])
     ensures { all.new ≡ put all.old (bytes_at start bytes.now) }
 {
     all[start..start + bytes.len()].copy_from_slice(bytes);
+}
+
+/// Puts the bytes of two slices, those of the second behind those of the first, at `start` and after it.
+#[tactic(auto, using(crate::proofs::Ranges::put_parts))]
+fn put_parts(all: &mut [u8], start: usize, front: &[u8], back: &[u8])
+    requires { start + length front.now + length back.now ≤ length all.old }
+    ensures { all.new ≡ put all.old (bytes_at start (front.now ++ back.now)) }
+{
+    put_bytes(all, start, front);
+    // The second is mostly empty, and a copy of no bytes would still be a call.
+    if !back.is_empty() {
+        put_bytes(all, start + front.len(), back);
+    }
 }
 
 impl Memory {
@@ -97,6 +110,23 @@ impl Memory {
         Ok(())
     }
 
+    /// The bytes from an address on, so many.
+    pub fn slice(&self, addr: u32, len: u32) -> &[u8]
+        requires { addr + len ≤ length self.now }
+        ensures { result.now ≡ take len (drop addr self.now) }
+    {
+        let start = addr as usize;
+        &self.bytes[start..start + len as usize]
+    }
+
+    /// Writes the bytes of two slices, those of the second behind those of the first, from an address on.
+    pub fn write_parts(&mut self, addr: u32, front: &[u8], back: &[u8])
+        requires { addr + length front.now + length back.now ≤ length self.old }
+        ensures { self.new ≡ put self.old (bytes_at addr (front.now ++ back.now)) }
+    {
+        put_parts(&mut self.bytes, addr as usize, front, back);
+    }
+
     /// Writes the bytes from an address on.
     ///
     /// The error is `OutOfMemoryRange` where the address plus the number of bytes is above the size. The memory then stays
@@ -130,6 +160,17 @@ mod tests {
         assert_eq!(rt; memory.size(), 64);
         assert_eq!(rt; memory.byte(0x22), Some(0xCC));
         assert_eq!(rt; memory.byte(64), None);
+        Ok(())
+    }
+
+    #[test]
+    fn lends_and_takes_bytes_in_place(rt: HostRuntime) -> Result<(), Fail> {
+        let mut memory = Memory::new(rt.alloc(), 64)?;
+        memory.write_parts(0x20, &[0xAA, 0xBB], &[0xCC]);
+        assert!(rt; memory.size() == 64);
+        let around = [0, 0xAA, 0xBB, 0xCC, 0];
+        assert_eq!(rt; memory.slice(0x1F, 5), around.as_slice());
+        assert!(rt; memory.slice(64, 0).is_empty());
         Ok(())
     }
 

@@ -1,5 +1,5 @@
--- Lemmas on how a command ends, on lines, numbers, hexadecimal words and lists of segments, and on the reading of a script;
--- worked scripts.
+-- Lemmas on how a command ends, on lines, their words, and which are skipped, on numbers, hexadecimal words and lists of
+-- segments; worked scripts.
 pub mod EndLemmas
 pub mod HexLemmas
 pub mod LineLemmas
@@ -8,5 +8,6 @@ pub mod NumberLemmas
 pub mod PairLemmas
 pub mod RaceLemmas
 pub mod RowLemmas
-pub mod ScriptLemmas
 pub mod Rows
+pub mod Extends
+pub mod Skipped

@@ -1,5 +1,6 @@
 //! What the words after the first of a line say.
-ghost use Rattle.std.specs.Prelude.{◌≡◌, ◌==◌, map};
+ghost use Rattle.std.specs.Prelude.{◌≡◌, ◌==◌, None, Some, if◌then◌else◌, map, nat_lt};
+ghost use Rattle.std.specs.Char.{digit_value};
 ghost use Rattle.std.specs.Option.{option_map};
 ghost use Rattle.dma_script.specs.Words.{hex_digit_of};
 ghost use Rattle.dma_script.specs.Lines.{Gives, LineGives, seen_by};
@@ -156,16 +157,30 @@ pub(crate) fn list_at(alloc: Global, word: &[u8]) -> Result<Segments, LineError>
     Ok(list)
 }
 
+/// Whether a byte is a hexadecimal digit.
+fn is_hex_digit(byte: u8) -> bool
+    ensures { result ≡ nat_lt (digit_value byte) 16 }
+{
+    let decimal = (b'0'..=b'9').contains(&byte);
+    let upper = (b'A'..=b'F').contains(&byte);
+    let lower = (b'a'..=b'f').contains(&byte);
+    decimal | upper | lower
+}
+
+/// The value of a hexadecimal digit, and a larger number for any other byte. It's reckoned without a branch, since branches
+/// on digits are often guessed wrong: the last four bits, nine more for a letter, and 64 more for what is no digit.
+fn digit_or_more(byte: u8) -> u8
+    ensures { hex_digit_of byte ≡ (if nat_lt result 16 then Some result else None) }
+{
+    byte % 16 + 9 * (byte / 64) + 64 * u8::from(!is_hex_digit(byte))
+}
+
 /// The value of a hexadecimal digit.
 pub(crate) fn digit_in(byte: u8) -> Option<u8>
     ensures { result ≡ hex_digit_of byte }
 {
-    match byte {
-        b'0'..=b'9' => Some(byte - b'0'),
-        b'a'..=b'f' => Some(byte - b'a' + 10),
-        b'A'..=b'F' => Some(byte - b'A' + 10),
-        _ => None,
-    }
+    let value = digit_or_more(byte);
+    if value < 16 { Some(value) } else { None }
 }
 
 /// Appends the bytes of a word of hexadecimal digits.
@@ -186,11 +201,20 @@ fn push_hex(bytes: &mut Bytes, word: &[u8]) -> Result<(), LineError>
     }
 }
 
+/// How many bytes words of hexadecimal digits spell, for the room of their list.
+fn bytes_of(words: &[&[u8]]) -> usize {
+    let mut count = 0usize;
+    for word in words {
+        count = count.saturating_add(word.len() / 2);
+    }
+    count
+}
+
 /// The bytes that words of hexadecimal digits spell, joined.
 pub(crate) fn bytes_at(alloc: Global, words: &[&[u8]]) -> Result<Bytes, LineError>
     ensures { Gives (λ bytes. bytes) result (bytes_at (map (λ word. word.now) words.now)) }
 {
-    let mut bytes = Bytes::new(alloc);
+    let mut bytes = Bytes::with_capacity(alloc, bytes_of(words))?;
     for word in words {
         push_hex(&mut bytes, word)?;
     }

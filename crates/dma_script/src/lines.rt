@@ -1,10 +1,11 @@
 //! Reading a script line by line, up to its first fault.
-ghost use Rattle.std.specs.Prelude.{◌≡◌, ◌+◌, IfOk, List, ℕ, map};
+ghost use Rattle.std.specs.Prelude.{◌≡◌, ◌+◌, List, ℕ, map};
 ghost use Rattle.dma_script.specs.Lines.{LineGives, ScriptGives, after_line, after_script, first_number, is_skipped};
+ghost use Rattle.dma_script.specs.Words.{words_of};
 
 use crate::fault::{Cause, Fault, LineError, ScriptError};
-use crate::words::{is_plain_line, split_line, words};
-use std::alloc::{AllocError, Global};
+use crate::words::{is_blank, is_plain_line, split_line, split_words};
+use std::alloc::Global;
 
 /// A kind of script, as what was read of it so far.
 pub trait Script {
@@ -23,28 +24,36 @@ pub trait Script {
         ensures { LineGives result (view self.new) (step (view self.old) (map (λ word. word.now) words.now)) };
 }
 
-/// Whether a line is skipped and only counted: it has no words, or is a comment.
-fn is_skipped(words: &[&[u8]]) -> bool
-    ensures { result ≡ is_skipped (map (λ word. word.now) words.now) }
+/// Whether a line is skipped and only counted: it has no words, or is a comment. Only its first word is looked for, so a
+/// comment takes no memory.
+fn is_skipped(line: &[u8]) -> bool
+    ensures { result ≡ is_skipped (words_of line.now) }
 {
-    match words {
-        [] => true,
-        [first, ..] => first.first() == Some(&b'#'),
+    for b in line {
+        if !is_blank(*b) {
+            return *b == b'#';
+        }
     }
+    true
 }
 
-/// Reads one line.
-fn read_line<S: Script>(script: &mut S, alloc: Global, line: &[u8]) -> Result<(), LineError>
+/// Reads one line, with a list for its words that is there already.
+fn read_line<'a, S: Script>(
+    script: &mut S,
+    alloc: Global,
+    words: &mut Vec<&'a [u8]>,
+    line: &'a [u8],
+) -> Result<(), LineError>
     ensures { LineGives result (S.view script.new) (after_line S.step (S.view script.old) line.now) }
 {
-    let words = words(alloc, line)?;
-    if is_skipped(&words) {
+    if is_skipped(line) {
         return Ok(());
     }
     if !is_plain_line(line) {
         return Err(LineError::Fault(Cause::Byte));
     }
-    script.take_line(alloc, &words)
+    split_words(words, line)?;
+    script.take_line(alloc, words)
 }
 
 /// Reads a whole script, up to its first fault. After an `Err` nothing is known of what was read.
@@ -57,10 +66,11 @@ pub fn read_script<S: Script>(
 {
     let mut rest = input;
     let mut number = 0usize;
+    let mut words = Vec::new(alloc);
     while !rest.is_empty() {
         let (line, after) = split_line(rest);
         number += 1;
-        match read_line(script, alloc, line) {
+        match read_line(script, alloc, &mut words, line) {
             Ok(()) => rest = after,
             Err(LineError::NoMemory) => return Err(ScriptError::NoMemory),
             Err(LineError::Fault(cause)) => {
@@ -75,19 +85,18 @@ pub fn read_script<S: Script>(
 }
 
 /// The number of the first line that is not skipped, from 1; one more than the number of lines where all are skipped.
-pub fn first_number(alloc: Global, input: &[u8]) -> Result<usize, AllocError>
-    ensures { IfOk result (λ n. n ≡ first_number input.now) }
+pub fn first_number(input: &[u8]) -> usize
+    ensures { result ≡ first_number input.now }
 {
     let mut rest = input;
     let mut number = 1usize;
     while !rest.is_empty() {
         let (line, after) = split_line(rest);
-        let words = words(alloc, line)?;
-        if !is_skipped(&words) {
-            return Ok(number);
+        if !is_skipped(line) {
+            return number;
         }
         number += 1;
         rest = after;
     }
-    Ok(number)
+    number
 }

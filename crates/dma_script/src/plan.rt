@@ -189,11 +189,8 @@ pub fn read_plan(alloc: Global, input: &[u8]) -> Result<PlanLine, ScriptError>
         let cause = Cause::First;
         return Err(ScriptError::Fault(Fault { line: 0, cause }));
     };
-    let Ok(line) = first_number(alloc, input) else {
-        return Err(ScriptError::NoMemory);
-    };
     Ok(PlanLine {
-        line,
+        line: first_number(input),
         src,
         dst,
         wait,

@@ -1,10 +1,11 @@
 //! The lines that are printed, and their parts. A line is appended whole or not at all; what is said of a part is said of Ok.
-ghost use Rattle.std.specs.Prelude.{◌≡◌, ◌++◌, ◌∷◌, ◌<◌, [], IfOk, OnErr, OnOk, true};
+ghost use Rattle.std.specs.Prelude.{◌≡◌, ◌++◌, ◌∷◌, ◌<◌, [], IfOk, OnErr, OnOk, decimal, true};
 ghost use Rattle.std.specs.Fmt.{digit_glyph};
 ghost use Rattle.dma_script.specs.Command.{text_of};
 ghost use Rattle.dma_script.specs.Printing.{fault_line, hex_address, hex_byte_of, program_lines, row_line, spaced_bytes};
 
 use crate::fault::Fault;
+use itoa::Buffer;
 use std::alloc::{AllocError, Global};
 
 /// The most bytes of a program that are printed in one line (profile).
@@ -30,6 +31,13 @@ pub fn push_fault(alloc: Global, out: &mut Vec<u8>, fault: Fault) -> Result<(), 
     push_line(out, line.as_bytes())
 }
 
+/// A number in decimal digits, at the end. The digits are made on the stack.
+pub fn push_decimal(line: &mut Vec<u8>, number: u64) -> Result<(), AllocError>
+    ensures { OnOk result (line.new.items ≡ line.old.items ++ decimal number) }
+{
+    line.extend_from_slice(Buffer::new().format(number).as_bytes())
+}
+
 /// A hexadecimal digit in capitals.
 fn glyph(digit: u8) -> u8
     requires { digit < 16 }
@@ -47,19 +55,16 @@ pub fn push_byte(line: &mut Vec<u8>, byte: u8) -> Result<(), AllocError>
     ensures ok { OnOk result (line.new.items ≡ line.old.items ++ hex_byte_of byte) }
     ensures err { OnErr result (line.new.items ≡ line.old.items) }
 {
-    line.reserve(2)?;
-    line.push(glyph(byte / 16))?;
-    line.push(glyph(byte % 16))?;
-    Ok(())
+    line.extend_from_slice(&[glyph(byte / 16), glyph(byte % 16)])
 }
 
 /// Bytes with a space before each, at the end.
 pub fn push_bytes(line: &mut Vec<u8>, bytes: &[u8]) -> Result<(), AllocError>
     ensures { OnOk result (line.new.items ≡ line.old.items ++ spaced_bytes bytes.now) }
 {
+    line.reserve(bytes.len().saturating_mul(3))?;
     for byte in bytes {
-        line.push(b' ')?;
-        push_byte(line, *byte)?;
+        line.extend_from_slice(&[b' ', glyph(*byte / 16), glyph(*byte % 16)])?;
     }
     Ok(())
 }
@@ -68,6 +73,7 @@ pub fn push_bytes(line: &mut Vec<u8>, bytes: &[u8]) -> Result<(), AllocError>
 pub fn push_address(line: &mut Vec<u8>, addr: u32) -> Result<(), AllocError>
     ensures { OnOk result (line.new.items ≡ line.old.items ++ hex_address addr) }
 {
+    line.reserve(8)?;
     for byte in addr.to_be_bytes() {
         push_byte(line, byte)?;
     }

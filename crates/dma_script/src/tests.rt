@@ -7,7 +7,9 @@ use crate::fault::{Cause, Fault, ScriptError};
 use crate::input::{InputError, LONGEST_INPUT, read_input};
 use crate::pairs::{PairsError, push_pairs_fault, read_pairs};
 use crate::plan::{PlanLine, read_plan};
-use crate::printing::{push_address, push_bytes, push_fault, push_line, push_program};
+use crate::printing::{
+    push_address, push_bytes, push_decimal, push_fault, push_line, push_program,
+};
 use crate::statements::{RunScript, Statement, read_run_script};
 use dma_mem::segment::Segment;
 use std::alloc::{AllocError, Global};
@@ -365,6 +367,10 @@ fn printed_lines(rt: HostRuntime) -> Result<(), Fail> {
     push_line(&mut out, b"")?;
     push_address(&mut out, 0xFEDC_BA98)?;
     push_line(&mut out, b"")?;
+    push_decimal(&mut out, 0)?;
+    push_line(&mut out, b"")?;
+    push_decimal(&mut out, u64::MAX)?;
+    push_line(&mut out, b"")?;
     for (line, cause) in [
         (0, Cause::First),
         (1, Cause::Byte),
@@ -379,7 +385,7 @@ fn printed_lines(rt: HostRuntime) -> Result<(), Fail> {
     ] {
         push_fault(rt.alloc(), &mut out, Fault { line, cause })?;
     }
-    let text = b"ok\n0000001F 00 AA BB CC 09\nFEDCBA98\n\
+    let text = b"ok\n0000001F 00 AA BB CC 09\nFEDCBA98\n0\n18446744073709551615\n\
         line 0: First\nline 1: Byte\nline 10: Command\nline 4194304: Words\nline 5: Number\n\
         line 6: Hex\nline 7: Range\nline 8: SizeOutOfRange\nline 9: BadChannels\nline 0: Go\n";
     assert_eq!(rt; out.as_slice(), text.as_slice());

@@ -1,12 +1,13 @@
 //! The words of a line, and what a word spells.
-ghost use Rattle.std.specs.Prelude.{◌≡◌, ◌==◌, ◌∷◌, ◌<◌, ◌≤◌, position, map, length, IfOk};
+ghost use Rattle.std.specs.Prelude.{◌≡◌, ◌==◌, ◌∷◌, ◌<◌, ◌≤◌, position, map, length, OnOk};
 ghost use Rattle.std.specs.List.{list_all};
 ghost use Rattle.std.specs.Str.{bytes_eq};
 ghost use Rattle.std.specs.Str.Lines.{lines, strip_carriage_return};
 ghost use Rattle.dma_script.specs.Words.{is_blank, is_plain, segment_of, words_of, number_of, number_in};
 
 use dma_mem::segment::Segment;
-use std::alloc::{AllocError, Global};
+use memchr::memchr;
+use std::alloc::AllocError;
 
 /// The line less a carriage return at its end.
 fn without_return(line: &[u8]) -> &[u8]
@@ -25,6 +26,13 @@ fn place_of(bytes: &[u8], byte: u8) -> Option<usize>
     bytes.iter().position(|b| *b == byte)
 }
 
+/// Where the first line feed stands, looked for in many bytes at once.
+fn line_end(input: &[u8]) -> Option<usize>
+    ensures { result ≡ position (λ b. b == 10) input.now }
+{
+    memchr(b'\n', input)
+}
+
 /// The first line, without its line feed and a carriage return before that, and what follows it. A last line without a
 /// line feed keeps its carriage return.
 pub fn split_line(input: &[u8]) -> (&[u8], &[u8])
@@ -32,26 +40,25 @@ pub fn split_line(input: &[u8]) -> (&[u8], &[u8])
     ensures first { lines input.now ≡ result.0.now ∷ lines result.1.now }
     ensures shorter { length result.1.now < length input.now }
 {
-    match place_of(input, b'\n') {
+    match line_end(input) {
         Some(end) => (without_return(&input[..end]), &input[end + 1..]),
         None => (input, &[]),
     }
 }
 
 /// A space or a tab.
-fn is_blank(byte: u8) -> bool
+pub(crate) fn is_blank(byte: u8) -> bool
     ensures { result ≡ is_blank byte }
 {
     byte == b' ' || byte == b'\t'
 }
 
-/// The words of a line: what stands between its blanks.
-pub fn words(alloc: Global, line: &[u8]) -> Result<Vec<&[u8]>, AllocError>
-    ensures { IfOk result (λ v. map (λ word. word.now) v.items ≡ words_of line.now) }
+/// The words of a line, what stands between its blanks, in a list that is there already, in place of what it had.
+pub fn split_words<'a>(words: &mut Vec<&'a [u8]>, line: &'a [u8]) -> Result<(), AllocError>
+    ensures { OnOk result (map (λ word. word.now) words.new.items ≡ words_of line.now) }
 {
-    line.split(|b| is_blank(*b))
-        .filter(|word| !word.is_empty())
-        .collect(alloc)
+    words.clear();
+    words.extend(line.split(|b| is_blank(*b)).filter(|word| !word.is_empty()))
 }
 
 /// A printable ASCII character, a space or a tab.
@@ -65,7 +72,12 @@ fn is_plain(byte: u8) -> bool
 pub fn is_plain_line(line: &[u8]) -> bool
     ensures { result ≡ list_all is_plain line.now }
 {
-    line.iter().all(|b| is_plain(*b))
+    // No early end: so the loop looks at many bytes at once.
+    let mut plain = true;
+    for b in line {
+        plain &= is_plain(*b);
+    }
+    plain
 }
 
 /// Whether a word is a text.

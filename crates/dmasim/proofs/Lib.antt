@@ -1,6 +1,7 @@
 pub mod RunLemmas
 pub mod RaceLemmas
 pub mod Served
+pub mod Advances
 pub mod StepLemmas
 pub mod CopyLemmas
 pub mod CopyEnds

@@ -38,11 +38,6 @@ told_so call reply v w old new is prints =
     record { view = v; line = call_line call reply; told = ap (λ (a : Reply × View). call_line call a.0 ∷ []) (sym same); text = prints.1 }
 
 -- The same by the text that was printed.
-pub told_text : (call : Call) (reply : Reply) (v w : View) (old new line : List ℕ) → Answers v call reply w → reply ≢ Refused NoMemory → line ≡ call_line call reply → new ≡ old ++ text_of (line ∷ []) → PrintsCall call old new
-told_text call reply v w old new line is served same prints =
-    told_so call reply v w old new is (served, prints ∙ ap (λ l. old ++ text_of (l ∷ [])) same)
-
--- The same of the line of a script that is that call.
 pub early_call : (s : Statement) (call : Call) → ((v : View) (line : List ℕ) → (call_answer v call).0 ≡ line ∷ [] → EarlyPrints s line) → (reply reply' : Reply) (v w : View) (old new : List ℕ) → reply' ≡ reply → Answers v call reply w → (reply' ≢ Refused NoMemory) × (new ≡ old ++ text_of (call_line call reply' ∷ [])) → PrintsEarly s old new
 early_call s call is_line reply reply' v w old new same is prints =
     let one = told_so call reply' v w old new (subst (λ r. Answers v call r w) (sym same) is) prints in

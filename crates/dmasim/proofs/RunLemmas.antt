@@ -3,7 +3,7 @@ use Rattle.std.proofs.Common.{◌≡◌, ◌≢◌, ℕ, ◌+◌, ◌<◌, ◌�
 use Rattle.std.proofs.Math.Seq.{take-add, drop-cons}
 use Rattle.std.proofs.lemmas.List.{append-nil, drop-drop}
 use Rattle.std.proofs.lemmas.List.Concat.{flat_map-append}
-use Rattle.std.specs.Prelude.{unwrap_or, is_some, decimal}
+use Rattle.std.specs.Prelude.{unwrap_or, is_some}
 use Rattle.std.specs.List.{filter_map, range_with_len, cons_option}
 use Rattle.std.proofs.lemmas.List.{length-append}
 use Rattle.std.proofs.lemmas.List.Elements.{filter_map-append}
@@ -19,7 +19,7 @@ use Rattle.dma_engine.specs.View.{View, ChannelSchedule, running, runs}
 use Rattle.dma_script.specs.Command.{text_of, printed_text, AppendsGroups}
 use Rattle.dma_script.specs.declared.statements.Statement.{Statement}
 use Rattle.dmasim.specs.Printed.{transfer_fault_name, refused_line}
-use Rattle.dmasim.specs.Run.{Answered, AnswersLine, copied, copied_after, is_in_use, told, totals_line, unless_unfit, line_answer, lines_answered}
+use Rattle.dmasim.specs.Run.{Answered, AnswersLine, copied, copied_after, is_in_use, told, unless_unfit, line_answer, lines_answered}
 
 -- ---- a transfer's rules
 
@@ -82,16 +82,10 @@ pub is_some-told : {X Y : Type 0} (f : X → Y) (x : Option X) → is_some (opti
 is_some-told f None = refl
 is_some-told f (Some x) = refl
 
--- the line of the totals, grouped from the right
-pub totals-parts : (entries steps running : ℕ) → codes "totals entries " ++ (decimal entries ++ (codes " steps " ++ (decimal steps ++ (codes " running " ++ decimal running)))) ≡ totals_line entries steps running
-totals-parts entries steps running =
-    let e = decimal entries in
-    let s = decimal steps in
-    let r = decimal running in
-    ap (λ l. codes "totals entries " ++ l)
-    (sym (append_assoc e (codes " steps ") (s ++ (codes " running " ++ r)))
-    ∙ sym (append_assoc (e ++ codes " steps ") s (codes " running " ++ r))
-    ∙ sym (append_assoc (e ++ codes " steps " ++ s) (codes " running ") r))
+-- two parts more, which are one
+pub two-more : (line first word number : List ℕ) → line ++ first ++ (word ++ number) ≡ line ++ (first ++ word ++ number)
+two-more line first word number =
+    append_assoc line first (word ++ number) ∙ ap (λ l. line ++ l) (sym (append_assoc first word number))
 
 -- ---- the lines of a script, one after another
 

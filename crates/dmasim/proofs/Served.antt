@@ -1,8 +1,9 @@
 -- Calls in order, none of which was refused memory.
-use Rattle.std.proofs.Common.{◌≡◌, ◌≢◌, List, [], ◌∷◌, ◌++◌, length, suc, refl, ap, ◌∙◌}
+use Rattle.std.proofs.Common.{◌≡◌, ◌≢◌, List, [], ◌∷◌, ◌++◌, refl, ap, ◌∙◌}
 use Rattle.dma_engine.specs.declared.call.Call.{Call}
 use Rattle.dma_engine.specs.declared.call.Reply.{Reply}
 use Rattle.dma_engine.specs.declared.call.Reply.TheVariants.{Done, Bytes, Cookie, Count, Turned, State, Result, Refused}
+use Rattle.dma_engine.specs.declared.fault.EngineFault.{EngineFault}
 use Rattle.dma_engine.specs.declared.fault.EngineFault.TheVariants.{OutOfMemoryRange, Busy, NoChannel, CookiesSpent, StepsSpent, BadEvent, BadRange, NoMemory}
 use Rattle.dma_engine.specs.View.{View}
 use Rattle.dma_engine.specs.Answer.{Answers, AreAnswers, answer, answers}
@@ -39,19 +40,16 @@ served-all v (call ∷ calls) (reply ∷ replies) w served is =
     ap (λ (a : Reply × View). (a.0 ∷ replies, w)) one
     ∙ ap (λ (b : List Reply × View). ((answer v call).0 ∷ b.0, b.1)) (rest ∙ later)
 
-pub AreServed-push : (replies : List Reply) (reply : Reply) → AreServed replies → reply ≢ Refused NoMemory → AreServed (replies ++ reply ∷ [])
-AreServed-push [] reply all one = (one, tt)
-AreServed-push (first ∷ replies) reply all one = (all.0, AreServed-push replies reply all.1 one)
-
 -- calls in two parts
 pub answers-append : (v : View) (xs ys : List Call) → answers v (xs ++ ys) ≡ (let a = answers v xs in let b = answers a.1 ys in (a.0 ++ b.0, b.1))
 answers-append v [] ys = refl
 answers-append v (call ∷ xs) ys =
     ap (λ (a : List Reply × View). ((answer v call).0 ∷ a.0, a.1)) (answers-append (answer v call).1 xs ys)
 
--- one reply for each call
-pub one-each : (v : View) (calls : List Call) (replies : List Reply) (w : View) → AreAnswers v calls replies w → length replies ≡ length calls
-one-each v [] [] w is = refl
-one-each v [] (reply ∷ replies) w is = absurd is
-one-each v (call ∷ calls) [] w is = absurd is
-one-each v (call ∷ calls) (reply ∷ replies) w is = ap (λ n. suc n) (one-each is.0 calls replies w is.2)
+abbrev fault-of : Reply → EngineFault
+fault-of (Refused fault) = fault
+fault-of _ = NoMemory
+
+-- a refusal of a call that isn't want of memory
+pub refused-served : (fault : EngineFault) → fault ≢ NoMemory → Refused fault ≢ Refused NoMemory
+refused-served fault other = λ is. other (ap fault-of is)

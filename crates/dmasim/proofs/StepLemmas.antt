@@ -1,6 +1,6 @@
 -- Runs of equal answers, and the lines of those before.
-use Rattle.std.proofs.Common.{◌≡◌, ℕ, ◌+◌, ◌<◌, List, [], ◌∷◌, ◌++◌, map, codes, Bool, true, false, refl, ap, sym, ◌∙◌, zero, suc, add-one, append_assoc}
-use Rattle.std.specs.Prelude.{replicate, decimal}
+use Rattle.std.proofs.Common.{◌≡◌, ℕ, ◌+◌, ◌<◌, List, [], ◌∷◌, ◌++◌, map, Bool, true, false, refl, ap, sym, ◌∙◌, zero, suc, add-one, append_assoc, arith}
+use Rattle.std.specs.Prelude.{replicate}
 use Rattle.std.specs.Str.{bytes_eq}
 use Rattle.std.proofs.Math.Nat.{zero-lt-suc}
 use Rattle.std.proofs.lemmas.List.{append-nil, map-append, replicate-append-replicate}
@@ -46,38 +46,31 @@ runs-alone (suc n) t =
     let one : joined t ((t, suc n) ∷ []) ≡ (t, suc n + 1) ∷ [] = rw (bytes_eq-refl t) refl in
     ap (joined t) (runs-alone n t) ∙ one ∙ ap (λ k. (t, k) ∷ []) (add-one (suc n))
 
-replicate-shift : {X : Type 0} (n : ℕ) (x : X) (rest : List X) → replicate (n + 1) x ++ rest ≡ replicate n x ++ x ∷ rest
-replicate-shift n x rest = ap (λ l. l ++ rest) (sym (replicate-append-replicate n 1 x)) ∙ append_assoc (replicate n x) (x ∷ []) rest
+replicate-shift : {X : Type 0} (n m : ℕ) (x : X) (rest : List X) → replicate (n + m) x ++ rest ≡ replicate n x ++ (replicate m x ++ rest)
+replicate-shift n m x rest = ap (λ l. l ++ rest) (sym (replicate-append-replicate n m x)) ∙ append_assoc (replicate n x) (replicate m x) rest
 
--- ---- one answer more
+-- ---- equal answers more
 
-pub take-equal : (ch : ℕ) (lines last : List ℕ) (count : ℕ) (text : List ℕ) (rest : List (List ℕ)) → bytes_eq last text ≡ true → text_with ch lines last (count + 1) rest ≡ text_with ch lines last count (text ∷ rest)
-take-equal ch lines last count text rest same =
-    ap (λ l. lines ++ text_of (step_lines ch l)) (replicate-shift count last rest ∙ ap (λ t. replicate count last ++ t ∷ rest) ((bytes_eq-Decides last text).0 same))
+pub take-equal : (ch : ℕ) (lines last : List ℕ) (count many : ℕ) (text : List ℕ) (rest : List (List ℕ)) → bytes_eq last text ≡ true → text_with ch lines last (count + many) rest ≡ text_with ch lines last count (replicate many text ++ rest)
+take-equal ch lines last count many text rest same =
+    ap (λ l. lines ++ text_of (step_lines ch l)) (replicate-shift count many last rest ∙ ap (λ t. replicate count last ++ (replicate many t ++ rest)) ((bytes_eq-Decides last text).0 same))
 
 line-then : (line : List ℕ) (lines : List (List ℕ)) → text_of (line ∷ lines) ≡ text_of (line ∷ []) ++ text_of lines
 line-then line lines = ap (λ l. l ++ text_of lines) (sym (append-nil (line ++ 10 ∷ [])))
 
-pub take-other : (ch : ℕ) (lines lines' last : List ℕ) (count : ℕ) (text : List ℕ) (rest : List (List ℕ)) → bytes_eq last text ≡ false → (count ≡ 0 → lines' ≡ lines) → (0 < count → lines' ≡ lines ++ text_of (step_line ch (last, count) ∷ [])) → text_with ch lines' text 1 rest ≡ text_with ch lines last count (text ∷ rest)
-take-other ch lines lines' last zero text rest other none line =
+one-other : (ch : ℕ) (lines lines' last : List ℕ) (count : ℕ) (text : List ℕ) (rest : List (List ℕ)) → bytes_eq last text ≡ false → (count ≡ 0 → lines' ≡ lines) → (0 < count → lines' ≡ lines ++ text_of (step_line ch (last, count) ∷ [])) → text_with ch lines' text 1 rest ≡ text_with ch lines last count (text ∷ rest)
+one-other ch lines lines' last zero text rest other none line =
     ap (λ l. l ++ text_of (step_lines ch (text ∷ rest))) (none refl)
-take-other ch lines lines' last (suc n) text rest other none line =
+one-other ch lines lines' last (suc n) text rest other none line =
     ap (λ l. l ++ text_of (step_lines ch (text ∷ rest))) (line (zero-lt-suc n))
     ∙ append_assoc lines (text_of (step_line ch (last, suc n) ∷ [])) (text_of (step_lines ch (text ∷ rest)))
     ∙ ap (λ l. lines ++ l) (sym (line-then (step_line ch (last, suc n)) (step_lines ch (text ∷ rest))))
     ∙ ap (λ r. lines ++ text_of (map (step_line ch) r)) (sym (runs-more n last text rest other))
 
-regroup : {X : Type 0} (l a t x n e : List X) → l ++ a ++ t ++ (x ++ n ++ e) ≡ l ++ (a ++ t ++ x ++ n ++ e)
-regroup l a t x n e =
-    ap (λ m. m ++ (x ++ n ++ e)) (append_assoc l a t) ∙ append_assoc l (a ++ t) (x ++ n ++ e)
-    ∙ ap (λ m. l ++ m) (sym (append_assoc (a ++ t) (x ++ n) e) ∙ ap (λ m. m ++ e) (sym (append_assoc (a ++ t) x n)))
-
--- a line, written in three parts
-pub line-parts : (ch : ℕ) (lines front last back : List ℕ) (count : ℕ) → front ≡ codes "step " ++ decimal ch ++ codes " " → back ≡ codes " x" ++ decimal count ++ codes "\n" → lines ++ front ++ last ++ back ≡ lines ++ text_of (step_line ch (last, count) ∷ [])
-line-parts ch lines front last back count is is' =
-    ap (λ f. lines ++ f ++ last ++ back) is ∙ ap (λ b. lines ++ (codes "step " ++ decimal ch ++ codes " ") ++ last ++ b) is'
-    ∙ regroup lines (codes "step " ++ decimal ch ++ codes " ") last (codes " x") (decimal count) (codes "\n")
-    ∙ ap (λ l. lines ++ l) (sym (append-nil (step_line ch (last, count) ++ 10 ∷ [])))
+pub take-other : (ch : ℕ) (lines lines' last : List ℕ) (count many : ℕ) (text : List ℕ) (rest : List (List ℕ)) → bytes_eq last text ≡ false → 0 < many → (count ≡ 0 → lines' ≡ lines) → (0 < count → lines' ≡ lines ++ text_of (step_line ch (last, count) ∷ [])) → text_with ch lines' text many rest ≡ text_with ch lines last count (replicate many text ++ rest)
+take-other ch lines lines' last count zero text rest other some none line = absurd (omega (arith, some))
+take-other ch lines lines' last count (suc n) text rest other some none line =
+    one-other ch lines lines' last count text (replicate n text ++ rest) other none line
 
 -- the lines with the last one ended
 pub ended : (ch : ℕ) (lines lines' last : List ℕ) (count : ℕ) → (count ≡ 0 → lines' ≡ lines) → (0 < count → lines' ≡ lines ++ text_of (step_line ch (last, count) ∷ [])) → lines' ≡ text_with ch lines last count []
@@ -85,7 +78,7 @@ ended ch lines lines' last zero none line = none refl ∙ sym (append-nil lines)
 ended ch lines lines' last (suc n) none line =
     line (zero-lt-suc n) ∙ ap (λ r. lines ++ text_of (map (step_line ch) r)) (sym (runs-alone n last))
 
--- ---- steps in lists of calls
+-- ---- steps in rows
 
 -- after so many steps, and then more
 pub steps-more : (v : View) (step : Call) (m n k : ℕ) → m + n ≡ k → answers v (replicate k step) ≡ (let a = answers v (replicate m step) in let b = answers a.1 (replicate n step) in (a.0 ++ b.0, b.1))

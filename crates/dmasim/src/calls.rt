@@ -1,73 +1,90 @@
 //! The lines of a script that are one call, and the totals.
-ghost use Rattle.std.specs.Prelude.{◌≡◌, ◌≢◌, ◌++◌, ◌∷◌, [], Some, None, OnOk, OnErr, IfOk, length};
+ghost use Rattle.std.specs.Prelude.{◌≡◌, ◌≢◌, ◌++◌, ◌∷◌, [], OnOk, OnErr, IfOk, length};
 ghost use Rattle.dma_engine.specs.Answer.{answer};
 ghost use Rattle.dma_engine.specs.View.{object_of, running};
 ghost use Rattle.dma_script.specs.Command.{text_of};
 ghost use Rattle.dmasim.specs.Printed.{refused_line, transfer_fault_name};
-ghost use Rattle.dmasim.specs.Run.{AnswersLine, call_answer, submit_answer, totals_of};
+ghost use Rattle.dmasim.specs.Run.{AnswersLine, call_answer, submit_answer, totals_line, totals_of};
 
-use crate::printing::{call_line, push_refused, transfer_fault_name};
-use dma_engine::run::run;
+use crate::printing::{
+    push_cookie, push_refused, push_refused_call, push_told, push_worded, transfer_fault_name,
+};
 use dma_engine::{Call, Engine, EngineFault, Reply};
-use dma_mem::lists::Bytes;
 use dma_mem::transfer::{Transfer, TransferFault};
 use dma_script::plan::TransferLine;
 use dma_script::printing::push_line;
 use std::alloc::{AllocError, Global};
-use std::slice;
 
 /// Carries out one call. Where memory is refused the error comes.
-pub fn reply_to(alloc: Global, engine: &mut Engine, call: &Call) -> Result<Reply, AllocError>
+pub fn reply_to(engine: &mut Engine, call: &Call) -> Result<Reply, AllocError>
     ensures { IfOk result (λ reply. (reply, engine.new.view) ≡ answer engine.old.view call.now) }
 {
-    let Ok(mut replies) = run(alloc, engine, slice::from_ref(call)) else {
-        return Err(AllocError);
-    };
-    match replies.pop() {
-        Some(Reply::Refused(EngineFault::NoMemory)) => Err(AllocError),
-        Some(reply) => Ok(reply),
-        None => unreachable!(),
+    match engine.carry_out(call) {
+        Reply::Refused(EngineFault::NoMemory) => Err(AllocError),
+        reply => Ok(reply),
     }
 }
 
 /// Carries out one call, and appends its line or nothing.
 pub fn answer_call(
-    alloc: Global,
     engine: &mut Engine,
     call: &Call,
+    line: &mut Vec<u8>,
     out: &mut Vec<u8>,
 ) -> Result<(), AllocError>
     ensures ok { OnOk result (AnswersLine (call_answer engine.old.view call.now) engine.new.view out.old.items out.new.items) }
     ensures err { OnErr result (out.new.items ≡ out.old.items) }
 {
-    let reply = reply_to(alloc, engine, call)?;
-    let line = call_line(alloc, call, &reply)?;
-    push_line(out, &line)
+    let reply = reply_to(engine, call)?;
+    push_told(line, call, &reply, out)
 }
 
 /// Carries out `write ADDR HEX`.
 pub fn write_line(
-    alloc: Global,
     engine: &mut Engine,
     addr: u32,
     bytes: &[u8],
+    line: &mut Vec<u8>,
     out: &mut Vec<u8>,
 ) -> Result<(), AllocError>
     ensures ok { OnOk result (AnswersLine (call_answer engine.old.view (Call.Write addr bytes.now)) engine.new.view out.old.items out.new.items) }
     ensures err { OnErr result (out.new.items ≡ out.old.items) }
 {
-    let bytes = Bytes::from_slice(alloc, bytes)?;
-    answer_call(alloc, engine, &Call::Write { addr, bytes }, out)
+    match engine.write(addr, bytes) {
+        Ok(()) => push_line(out, b"ok"),
+        Err(fault) => push_refused_call(line, fault, out),
+    }
 }
 
 /// Appends what a transfer that breaks a rule prints. Where memory was refused it prints nothing and the script ends.
-pub fn push_unfit(alloc: Global, out: &mut Vec<u8>, fault: TransferFault) -> Result<(), AllocError>
+pub fn push_unfit(
+    line: &mut Vec<u8>,
+    fault: TransferFault,
+    out: &mut Vec<u8>,
+) -> Result<(), AllocError>
     ensures ok { OnOk result ((fault ≢ TransferFault.NoMemory) × (out.new.items ≡ out.old.items ++ text_of (refused_line (transfer_fault_name fault) ∷ []))) }
     ensures err { OnErr result (out.new.items ≡ out.old.items) }
 {
     match fault {
         TransferFault::NoMemory => Err(AllocError),
-        _ => push_refused(alloc, out, transfer_fault_name(fault)),
+        _ => push_refused(line, transfer_fault_name(fault), out),
+    }
+}
+
+/// Gives a transfer to a channel.
+fn submit(
+    engine: &mut Engine,
+    ch: u8,
+    transfer: Transfer,
+    line: &mut Vec<u8>,
+    out: &mut Vec<u8>,
+) -> Result<(), AllocError>
+    ensures ok { OnOk result (AnswersLine (call_answer engine.old.view (Call.Submit ch transfer)) engine.new.view out.old.items out.new.items) }
+    ensures err { OnErr result (out.new.items ≡ out.old.items) }
+{
+    match engine.submit(ch, transfer) {
+        Ok(cookie) => push_cookie(line, cookie, out),
+        Err(refused) => push_refused_call(line, refused.fault, out),
     }
 }
 
@@ -76,22 +93,23 @@ pub fn submit_line(
     alloc: Global,
     engine: &mut Engine,
     ch: u8,
-    line: &TransferLine,
+    words: &TransferLine,
+    line: &mut Vec<u8>,
     out: &mut Vec<u8>,
 ) -> Result<(), AllocError>
-    ensures ok { OnOk result (AnswersLine (submit_answer engine.old.view ch line.now) engine.new.view out.old.items out.new.items) }
+    ensures ok { OnOk result (AnswersLine (submit_answer engine.old.view ch words.now) engine.new.view out.old.items out.new.items) }
     ensures err { OnErr result (out.new.items ≡ out.old.items) }
 {
     let built = Transfer::new(
         alloc,
-        line.src.as_slice(),
-        line.dst.as_slice(),
-        line.wait,
-        line.signal,
+        words.src.as_slice(),
+        words.dst.as_slice(),
+        words.wait,
+        words.signal,
     );
     match built {
-        Ok(transfer) => answer_call(alloc, engine, &Call::Submit { ch, transfer }, out),
-        Err(fault) => push_unfit(alloc, out, fault),
+        Ok(transfer) => submit(engine, ch, transfer, line, out),
+        Err(fault) => push_unfit(line, fault, out),
     }
 }
 
@@ -108,14 +126,28 @@ fn running_count(engine: &Engine) -> usize
     count
 }
 
+/// `totals entries N steps N running N`, at the end.
+fn push_totals(line: &mut Vec<u8>, entries: u64, steps: u64, running: u64) -> Result<(), AllocError>
+    ensures { OnOk result (line.new.items ≡ line.old.items ++ totals_line entries steps running) }
+{
+    push_worded(line, "totals entries ", entries)?;
+    push_worded(line, " steps ", steps)?;
+    push_worded(line, " running ", running)
+}
+
 /// Carries out `totals`.
-pub fn totals_line(alloc: Global, engine: &Engine, out: &mut Vec<u8>) -> Result<(), AllocError>
+pub fn answer_totals(
+    engine: &Engine,
+    line: &mut Vec<u8>,
+    out: &mut Vec<u8>,
+) -> Result<(), AllocError>
     ensures ok { OnOk result (out.new.items ≡ out.old.items ++ text_of (totals_of engine.now.view ∷ [])) }
     ensures err { OnErr result (out.new.items ≡ out.old.items) }
 {
     let entries = engine.history().len();
     let steps = engine.steps();
     let running = running_count(engine);
-    let line = format!(in alloc; "totals entries {entries} steps {steps} running {running}")?;
-    push_line(out, line.as_bytes())
+    line.clear();
+    push_totals(line, entries as u64, steps, running as u64)?;
+    push_line(out, line)
 }

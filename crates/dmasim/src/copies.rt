@@ -1,14 +1,15 @@
 //! The lines of a script that copy: submitted to channel 0, issued, and stepped through.
 ghost use Rattle.std.specs.Prelude.{◌≡◌, OnOk, OnErr, IfOk};
 ghost use Rattle.dma_engine.specs.Answer.{answer};
-ghost use Rattle.dmasim.specs.Run.{AnswersLine, CopiesEnd, carried_through, copied_after, copy_answer, goes_on, is_in_use, is_refused, stepped_through};
+ghost use Rattle.dmasim.specs.Run.{AnswersLine, CopiesEnd, carried_through, copied_after, copy_answer, goes_on, is_in_use, stepped_through};
 
 use crate::calls::{push_unfit, reply_to};
-use crate::printing::{push_refused, push_reply, push_text};
+use crate::printing::{push_after, push_refused, push_refused_call};
+use crate::steps::step_reply;
+use dma_engine::advance::advance;
 use dma_engine::{Call, Engine, Reply, Turn};
 use dma_mem::segment::Segment;
 use dma_mem::transfer::Transfer;
-use dma_script::printing::push_line;
 use std::alloc::{AllocError, Global};
 
 /// At least as many steps as any transfer takes, which are its start and fewer than 2^19 instructions
@@ -29,63 +30,53 @@ fn goes_on(reply: &Reply) -> bool
     matches!(reply, Reply::Turned(Turn::Started(_) | Turn::Moved))
 }
 
-/// Steps channel 0 once.
-fn step_once(alloc: Global, engine: &mut Engine) -> Result<Reply, AllocError>
-    ensures { IfOk result (λ reply. (reply, engine.new.view) ≡ answer engine.old.view (Call.Step 0)) }
-{
-    reply_to(alloc, engine, &Call::Step { ch: 0 })
-}
-
 /// Steps channel 0 until an answer is neither Started nor Moved.
-fn step_through(alloc: Global, engine: &mut Engine) -> Result<Reply, AllocError>
+fn step_through(engine: &mut Engine) -> Result<Reply, AllocError>
     ensures { IfOk result (λ reply. (reply, engine.new.view) ≡ stepped_through MOST_STEPS engine.old.view) }
 {
-    for _turn in 0..MOST_STEPS {
-        let reply = step_once(alloc, engine)?;
-        if !goes_on(&reply) {
-            return Ok(reply);
+    let mut left = MOST_STEPS;
+    while left > 0 {
+        let steps = advance(engine, 0, left);
+        left -= steps.moved;
+        if let Some(last) = steps.last {
+            let reply = step_reply(last)?;
+            if !goes_on(&reply) {
+                return Ok(reply);
+            }
+            left -= 1;
         }
     }
-    step_once(alloc, engine)
-}
-
-/// Whether a call was refused.
-fn is_refused(reply: &Reply) -> bool
-    ensures { result ≡ is_refused reply.now }
-{
-    matches!(reply, Reply::Refused(_))
+    reply_to(engine, &Call::Step { ch: 0 })
 }
 
 /// Issues what was submitted to channel 0 and steps through it.
-fn carry_through(alloc: Global, engine: &mut Engine, out: &mut Vec<u8>) -> Result<(), AllocError>
+fn carry_through(
+    engine: &mut Engine,
+    line: &mut Vec<u8>,
+    out: &mut Vec<u8>,
+) -> Result<(), AllocError>
     ensures ok { OnOk result (AnswersLine (carried_through engine.old.view) engine.new.view out.old.items out.new.items) }
     ensures err { OnErr result (out.new.items ≡ out.old.items) }
 {
-    reply_to(alloc, engine, &Call::Issue { ch: 0 })?;
-    let last = step_through(alloc, engine)?;
-    let mut line = Vec::new(alloc);
-    push_text(&mut line, "copy ")?;
-    push_reply(alloc, &mut line, &last)?;
-    push_line(out, &line)
+    reply_to(engine, &Call::Issue { ch: 0 })?;
+    let last = step_through(engine)?;
+    push_after(line, "copy ", &last, out)
 }
 
 /// Submits a transfer to channel 0, issues it and steps through it.
 fn copy_through(
-    alloc: Global,
     engine: &mut Engine,
     transfer: Transfer,
+    line: &mut Vec<u8>,
     out: &mut Vec<u8>,
 ) -> Result<(), AllocError>
     ensures ok { OnOk result (AnswersLine (copied_after (answer engine.old.view (Call.Submit 0 transfer))) engine.new.view out.old.items out.new.items) }
     ensures err { OnErr result (out.new.items ≡ out.old.items) }
 {
-    let reply = reply_to(alloc, engine, &Call::Submit { ch: 0, transfer })?;
-    if !is_refused(&reply) {
-        return carry_through(alloc, engine, out);
+    match engine.submit(0, transfer) {
+        Ok(_) => carry_through(engine, line, out),
+        Err(refused) => push_refused_call(line, refused.fault, out),
     }
-    let mut line = Vec::new(alloc);
-    push_reply(alloc, &mut line, &reply)?;
-    push_line(out, &line)
 }
 
 /// Carries out `copy LIST to LIST`.
@@ -94,6 +85,7 @@ pub fn answer_copy(
     engine: &mut Engine,
     src: &[Segment],
     dst: &[Segment],
+    line: &mut Vec<u8>,
     out: &mut Vec<u8>,
 ) -> Result<(), AllocError>
     ensures ok { OnOk result (AnswersLine (copy_answer engine.old.view src.now dst.now) engine.new.view out.old.items out.new.items) }
@@ -101,12 +93,12 @@ pub fn answer_copy(
 {
     let transfer = match Transfer::new(alloc, src, dst, None, None) {
         Ok(transfer) => transfer,
-        Err(fault) => return push_unfit(alloc, out, fault),
+        Err(fault) => return push_unfit(line, fault, out),
     };
     if is_in_use(engine) {
-        return push_refused(alloc, out, "ChannelInUse");
+        return push_refused(line, "ChannelInUse", out);
     }
-    copy_through(alloc, engine, transfer, out)
+    copy_through(engine, transfer, line, out)
 }
 
 /// The law that a copy is stepped until its last answer: no copy takes so many steps that the loop ends by its own bound.

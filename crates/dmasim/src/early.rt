@@ -8,7 +8,7 @@ ghost use Rattle.dmasim.specs.Printed.{call_line};
 ghost use Rattle.dmasim.specs.Race.{PrintsCall, PrintsEarly};
 
 use crate::calls::push_unfit;
-use crate::printing::call_line;
+use crate::printing::{push_cookie, push_refused_call, push_told};
 use dma_engine::{Call, EngineFault, Reply};
 use dma_mem::lists::Bytes;
 use dma_mem::segment::Segment;
@@ -19,16 +19,6 @@ use dma_script::statements::Statement;
 use dma_work::{DeskName, Shared, StatusReader};
 use std::alloc::{AllocError, Global};
 use std::sync::{MutexGuard, Wait};
-
-/// The reply of a call that answers nothing.
-fn done_reply(done: Result<(), EngineFault>) -> Reply
-    ensures { result ≡ reply_of (λ _. Reply.Done) done }
-{
-    match done {
-        Ok(()) => Reply::Done,
-        Err(fault) => Reply::Refused(fault),
-    }
-}
 
 /// The reply of a call that answers bytes.
 fn bytes_reply(bytes: Result<Bytes, EngineFault>) -> Reply
@@ -52,7 +42,7 @@ fn count_reply(count: Result<u32, EngineFault>) -> Reply
 
 /// Appends the line of a call, or nothing. Where memory was refused it prints nothing and the script ends.
 fn push_answer(
-    alloc: Global,
+    line: &mut Vec<u8>,
     call: &Call,
     reply: &Reply,
     out: &mut Vec<u8>,
@@ -63,36 +53,36 @@ fn push_answer(
     if let Reply::Refused(EngineFault::NoMemory) = reply {
         return Err(AllocError);
     }
-    let line = call_line(alloc, call, reply)?;
-    push_line(out, &line)
+    push_told(line, call, reply, out)
 }
 
 /// Carries out `write ADDR HEX`.
 fn write_early<N: DeskName, R: Wait>(
     rt: &R,
-    alloc: Global,
     shared: &Shared<N>,
     addr: u32,
     bytes: &[u8],
+    line: &mut Vec<u8>,
     out: &mut Vec<u8>,
 ) -> Result<(), AllocError>
     ensures ok { OnOk result (PrintsEarly (Statement.Write addr bytes.now) out.old.items out.new.items) }
     ensures err { OnErr result (out.new.items ≡ out.old.items) }
 {
-    let bytes = Bytes::from_slice(alloc, bytes)?;
     let mut desk = shared.desk().lock(rt);
-    let written = desk.write(addr, bytes.as_slice());
+    let written = desk.write(addr, bytes);
     MutexGuard::unlock(desk);
-    let reply = done_reply(written);
-    push_answer(alloc, &Call::Write { addr, bytes }, &reply, out)
+    match written {
+        Ok(()) => push_line(out, b"ok"),
+        Err(fault) => push_refused_call(line, fault, out),
+    }
 }
 
 /// Carries out `read SEG`.
 fn read_early<N: DeskName, R: Wait>(
     rt: &R,
-    alloc: Global,
     shared: &Shared<N>,
     segment: Segment,
+    line: &mut Vec<u8>,
     out: &mut Vec<u8>,
 ) -> Result<(), AllocError>
     ensures ok { OnOk result (PrintsEarly (Statement.Read segment) out.old.items out.new.items) }
@@ -103,17 +93,17 @@ fn read_early<N: DeskName, R: Wait>(
     let read = desk.read(addr, len);
     MutexGuard::unlock(desk);
     let reply = bytes_reply(read);
-    push_answer(alloc, &Call::Read { addr, len }, &reply, out)
+    push_answer(line, &Call::Read { addr, len }, &reply, out)
 }
 
 /// Gives a transfer to a channel, and tells the reader of it.
 fn submit_transfer<N: DeskName, R: Wait>(
     rt: &R,
-    alloc: Global,
     shared: &Shared<N>,
     reader: &mut StatusReader,
     ch: u8,
     transfer: Transfer,
+    line: &mut Vec<u8>,
     out: &mut Vec<u8>,
 ) -> Result<(), AllocError>
     requires follows { (N.log ≡ reader.old.log) × (N.base ≡ reader.old.base) }
@@ -127,17 +117,9 @@ fn submit_transfer<N: DeskName, R: Wait>(
     match submitted {
         Ok(receipt) => {
             reader.learn(receipt.ticket);
-            let cookie = receipt.cookie;
-            let line = format!(in alloc; "cookie {cookie}")?;
-            push_line(out, line.as_bytes())
+            push_cookie(line, receipt.cookie, out)
         }
-        Err(refused) => {
-            let call = Call::Submit {
-                ch,
-                transfer: refused.transfer,
-            };
-            push_answer(alloc, &call, &Reply::Refused(refused.fault), out)
-        }
+        Err(refused) => push_refused_call(line, refused.fault, out),
     }
 }
 
@@ -148,33 +130,34 @@ fn submit_early<N: DeskName, R: Wait>(
     shared: &Shared<N>,
     reader: &mut StatusReader,
     ch: u8,
-    line: &TransferLine,
+    words: &TransferLine,
+    line: &mut Vec<u8>,
     out: &mut Vec<u8>,
 ) -> Result<(), AllocError>
     requires follows { (N.log ≡ reader.old.log) × (N.base ≡ reader.old.base) }
-    ensures ok { OnOk result (PrintsEarly (Statement.Submit ch line.now) out.old.items out.new.items) }
+    ensures ok { OnOk result (PrintsEarly (Statement.Submit ch words.now) out.old.items out.new.items) }
     ensures err { OnErr result (out.new.items ≡ out.old.items) }
     ensures follows { (N.log ≡ reader.new.log) × (N.base ≡ reader.new.base) }
 {
     let built = Transfer::new(
         alloc,
-        line.src.as_slice(),
-        line.dst.as_slice(),
-        line.wait,
-        line.signal,
+        words.src.as_slice(),
+        words.dst.as_slice(),
+        words.wait,
+        words.signal,
     );
     match built {
-        Ok(transfer) => submit_transfer(rt, alloc, shared, reader, ch, transfer, out),
-        Err(fault) => push_unfit(alloc, out, fault),
+        Ok(transfer) => submit_transfer(rt, shared, reader, ch, transfer, line, out),
+        Err(fault) => push_unfit(line, fault, out),
     }
 }
 
 /// Carries out `issue CH`.
 fn issue_early<N: DeskName, R: Wait>(
     rt: &R,
-    alloc: Global,
     shared: &Shared<N>,
     ch: u8,
+    line: &mut Vec<u8>,
     out: &mut Vec<u8>,
 ) -> Result<(), AllocError>
     ensures ok { OnOk result (PrintsEarly (Statement.Issue ch) out.old.items out.new.items) }
@@ -184,16 +167,16 @@ fn issue_early<N: DeskName, R: Wait>(
     let issued = desk.issue(ch);
     MutexGuard::unlock(desk);
     let reply = count_reply(issued);
-    push_answer(alloc, &Call::Issue { ch }, &reply, out)
+    push_answer(line, &Call::Issue { ch }, &reply, out)
 }
 
 /// Carries out `terminate CH`, and tells the reader of what it ended.
 fn terminate_early<N: DeskName, R: Wait>(
     rt: &R,
-    alloc: Global,
     shared: &Shared<N>,
     reader: &mut StatusReader,
     ch: u8,
+    line: &mut Vec<u8>,
     out: &mut Vec<u8>,
 ) -> Result<(), AllocError>
     requires follows { (N.log ≡ reader.old.log) × (N.base ≡ reader.old.base) }
@@ -208,19 +191,19 @@ fn terminate_early<N: DeskName, R: Wait>(
     match closed {
         Ok(closed) => {
             reader.learn(closed.ticket);
-            push_answer(alloc, &call, &Reply::Count(closed.count), out)
+            push_answer(line, &call, &Reply::Count(closed.count), out)
         }
-        Err(fault) => push_answer(alloc, &call, &Reply::Refused(fault), out),
+        Err(fault) => push_answer(line, &call, &Reply::Refused(fault), out),
     }
 }
 
 /// Carries out `result CH COOKIE`.
 fn result_early<N: DeskName, R: Wait>(
     rt: &R,
-    alloc: Global,
     shared: &Shared<N>,
     ch: u8,
     cookie: u32,
+    line: &mut Vec<u8>,
     out: &mut Vec<u8>,
 ) -> Result<(), AllocError>
     ensures ok { OnOk result (PrintsEarly (Statement.Result ch cookie) out.old.items out.new.items) }
@@ -230,7 +213,7 @@ fn result_early<N: DeskName, R: Wait>(
     let outcome = desk.result(ch, cookie);
     MutexGuard::unlock(desk);
     push_answer(
-        alloc,
+        line,
         &Call::Result { ch, cookie },
         &Reply::Result(outcome),
         out,
@@ -239,10 +222,10 @@ fn result_early<N: DeskName, R: Wait>(
 
 /// Carries out `status CH COOKIE`, which asks the reader and takes no lock.
 fn status_early(
-    alloc: Global,
     reader: &mut StatusReader,
     ch: u8,
     cookie: u32,
+    line: &mut Vec<u8>,
     out: &mut Vec<u8>,
 ) -> Result<(), AllocError>
     ensures ok { OnOk result (PrintsEarly (Statement.Status ch cookie) out.old.items out.new.items) }
@@ -251,7 +234,7 @@ fn status_early(
 {
     match reader.status(ch, cookie) {
         Some(status) => push_answer(
-            alloc,
+            line,
             &Call::Status { ch, cookie },
             &Reply::State(status),
             out,
@@ -267,6 +250,7 @@ pub fn carry_out_early<N: DeskName, R: Wait>(
     shared: &Shared<N>,
     reader: &mut StatusReader,
     statement: &Statement,
+    line: &mut Vec<u8>,
     out: &mut Vec<u8>,
 ) -> Result<(), AllocError>
     requires early { IsEarly statement.now }
@@ -277,16 +261,16 @@ pub fn carry_out_early<N: DeskName, R: Wait>(
 {
     match statement {
         Statement::Write { addr, bytes } => {
-            write_early(rt, alloc, shared, *addr, bytes.as_slice(), out)
+            write_early(rt, shared, *addr, bytes.as_slice(), line, out)
         }
-        Statement::Read(segment) => read_early(rt, alloc, shared, *segment, out),
+        Statement::Read(segment) => read_early(rt, shared, *segment, line, out),
         Statement::Submit { ch, transfer } => {
-            submit_early(rt, alloc, shared, reader, *ch, transfer, out)
+            submit_early(rt, alloc, shared, reader, *ch, transfer, line, out)
         }
-        Statement::Issue { ch } => issue_early(rt, alloc, shared, *ch, out),
-        Statement::Terminate { ch } => terminate_early(rt, alloc, shared, reader, *ch, out),
-        Statement::Status { ch, cookie } => status_early(alloc, reader, *ch, *cookie, out),
-        Statement::Result { ch, cookie } => result_early(rt, alloc, shared, *ch, *cookie, out),
+        Statement::Issue { ch } => issue_early(rt, shared, *ch, line, out),
+        Statement::Terminate { ch } => terminate_early(rt, shared, reader, *ch, line, out),
+        Statement::Status { ch, cookie } => status_early(reader, *ch, *cookie, line, out),
+        Statement::Result { ch, cookie } => result_early(rt, shared, *ch, *cookie, line, out),
         Statement::Copy { .. }
         | Statement::Pause { .. }
         | Statement::Resume { .. }

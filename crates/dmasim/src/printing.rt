@@ -1,12 +1,12 @@
 //! What is printed of refusals, calls and replies.
-ghost use Rattle.std.specs.Prelude.{◌≡◌, ◌++◌, ◌∷◌, [], OnOk, OnErr, IfOk, decimal};
+ghost use Rattle.std.specs.Prelude.{◌≡◌, ◌≢◌, ◌++◌, ◌∷◌, [], OnOk, OnErr, codes, decimal};
 ghost use Rattle.dma_script.specs.Command.{text_of};
 ghost use Rattle.dmasim.specs.Printed.{call_line, call_words, fault_text, outcome_text, refused_line, reply_text, residue_text, result_name, status_name, transfer_fault_name, turn_text};
 
 use dma_engine::{Call, EngineFault, Outcome, Reply, Status, TransResult, Turn};
 use dma_mem::transfer::TransferFault;
-use dma_script::printing::{push_address, push_bytes, push_line};
-use std::alloc::{AllocError, Global};
+use dma_script::printing::{push_address, push_bytes, push_decimal, push_line};
+use std::alloc::AllocError;
 
 /// The name of a refusal of a transfer's rules.
 pub fn transfer_fault_name(fault: TransferFault) -> &'static str
@@ -56,15 +56,32 @@ pub fn push_text(line: &mut Vec<u8>, text: &str) -> Result<(), AllocError>
     line.extend_from_slice(text.as_bytes())
 }
 
+/// A word and two numbers, at the end.
+fn push_pair(line: &mut Vec<u8>, word: &str, first: u64, second: u64) -> Result<(), AllocError>
+    ensures { OnOk result (line.new.items ≡ line.old.items ++ (word.now ++ decimal first ++ codes " " ++ decimal second)) }
+{
+    push_text(line, word)?;
+    push_decimal(line, first)?;
+    push_text(line, " ")?;
+    push_decimal(line, second)
+}
+
+/// A word and a number, at the end.
+pub fn push_worded(line: &mut Vec<u8>, word: &str, number: u64) -> Result<(), AllocError>
+    ensures { OnOk result (line.new.items ≡ line.old.items ++ (word.now ++ decimal number)) }
+{
+    push_text(line, word)?;
+    push_decimal(line, number)
+}
+
 /// A refusal of a call, at the end.
-fn push_fault(alloc: Global, line: &mut Vec<u8>, fault: EngineFault) -> Result<(), AllocError>
+fn push_fault(line: &mut Vec<u8>, fault: EngineFault) -> Result<(), AllocError>
     ensures { OnOk result (line.new.items ≡ line.old.items ++ fault_text fault) }
 {
     match fault {
         EngineFault::OutOfMemoryRange => push_text(line, "OutOfMemoryRange"),
         EngineFault::Busy { ch, cookie } => {
-            let text = format!(in alloc; "Busy {ch} {cookie}")?;
-            push_text(line, &text)
+            push_pair(line, "Busy ", u64::from(ch), u64::from(cookie))
         }
         EngineFault::NoChannel => push_text(line, "NoChannel"),
         EngineFault::CookiesSpent => push_text(line, "CookiesSpent"),
@@ -76,94 +93,84 @@ fn push_fault(alloc: Global, line: &mut Vec<u8>, fault: EngineFault) -> Result<(
 }
 
 /// `NAME residue N`, at the end.
-fn push_residue(
-    alloc: Global,
-    line: &mut Vec<u8>,
-    outcome: TransResult,
-    residue: u32,
-) -> Result<(), AllocError>
+fn push_residue(line: &mut Vec<u8>, outcome: TransResult, residue: u32) -> Result<(), AllocError>
     ensures { OnOk result (line.new.items ≡ line.old.items ++ residue_text outcome residue) }
 {
-    let name = result_name(outcome);
-    let text = format!(in alloc; "{name} residue {residue}")?;
-    push_text(line, &text)
+    push_text(line, result_name(outcome))?;
+    push_worded(line, " residue ", u64::from(residue))
 }
 
 /// How a cookie finished, if it did, at the end.
-fn push_outcome(
-    alloc: Global,
-    line: &mut Vec<u8>,
-    outcome: Option<Outcome>,
-) -> Result<(), AllocError>
+fn push_outcome(line: &mut Vec<u8>, outcome: Option<Outcome>) -> Result<(), AllocError>
     ensures { OnOk result (line.new.items ≡ line.old.items ++ outcome_text outcome) }
 {
     match outcome {
         None => push_text(line, "none"),
-        Some(outcome) => push_residue(alloc, line, outcome.result, outcome.residue),
+        Some(outcome) => push_residue(line, outcome.result, outcome.residue),
     }
 }
 
-/// What a step did, at the end. A step that moved takes no memory but for its text.
-fn push_turn(alloc: Global, line: &mut Vec<u8>, turn: Turn) -> Result<(), AllocError>
+/// That a cookie finished and how, at the end.
+fn push_finished(
+    line: &mut Vec<u8>,
+    cookie: u32,
+    outcome: TransResult,
+    residue: u32,
+) -> Result<(), AllocError>
+    ensures { OnOk result (line.new.items ≡ line.old.items ++ turn_text (Turn.Finished cookie outcome residue)) }
+{
+    push_worded(line, "finished ", u64::from(cookie))?;
+    push_text(line, " ")?;
+    push_residue(line, outcome, residue)
+}
+
+/// What a step did, at the end.
+fn push_turn(line: &mut Vec<u8>, turn: Turn) -> Result<(), AllocError>
     ensures { OnOk result (line.new.items ≡ line.old.items ++ turn_text turn) }
 {
     match turn {
         Turn::Nothing => push_text(line, "nothing"),
-        Turn::Held { ch, cookie } => {
-            let text = format!(in alloc; "held {ch} {cookie}")?;
-            push_text(line, &text)
-        }
-        Turn::Started(cookie) => {
-            let text = format!(in alloc; "started {cookie}")?;
-            push_text(line, &text)
-        }
+        Turn::Held { ch, cookie } => { push_pair(line, "held ", u64::from(ch), u64::from(cookie)) }
+        Turn::Started(cookie) => push_worded(line, "started ", u64::from(cookie)),
         Turn::Moved => push_text(line, "moved"),
-        Turn::Waiting(event) => {
-            let text = format!(in alloc; "waiting {event}")?;
-            push_text(line, &text)
-        }
+        Turn::Waiting(event) => push_worded(line, "waiting ", u64::from(event)),
         Turn::Paused => push_text(line, "paused"),
         Turn::Halted => push_text(line, "halted"),
         Turn::Finished {
             cookie,
             result,
             residue,
-        } => {
-            let text = format!(in alloc; "finished {cookie} ")?;
-            push_text(line, &text)?;
-            push_residue(alloc, line, result, residue)
-        }
+        } => push_finished(line, cookie, result, residue),
     }
 }
 
-/// A number, at the end.
-fn push_number(alloc: Global, line: &mut Vec<u8>, number: u32) -> Result<(), AllocError>
-    ensures { OnOk result (line.new.items ≡ line.old.items ++ decimal number) }
+/// What stands before the name of a refusal, at the end.
+fn begin_refusal(line: &mut Vec<u8>) -> Result<(), AllocError>
+    ensures { OnOk result (line.new.items ≡ line.old.items ++ codes "refused ") }
 {
-    let text = format!(in alloc; "{number}")?;
-    push_text(line, &text)
+    push_text(line, "refused ")
 }
 
 /// `refused NAME`, at the end.
-fn push_refusal(alloc: Global, line: &mut Vec<u8>, fault: EngineFault) -> Result<(), AllocError>
+fn push_refusal(line: &mut Vec<u8>, fault: EngineFault) -> Result<(), AllocError>
     ensures { OnOk result (line.new.items ≡ line.old.items ++ refused_line (fault_text fault)) }
 {
-    push_text(line, "refused ")?;
-    push_fault(alloc, line, fault)
+    begin_refusal(line)?;
+    push_fault(line, fault)
 }
 
 /// What is printed of a reply, at the end.
-pub fn push_reply(alloc: Global, line: &mut Vec<u8>, reply: &Reply) -> Result<(), AllocError>
+pub fn push_reply(line: &mut Vec<u8>, reply: &Reply) -> Result<(), AllocError>
     ensures { OnOk result (line.new.items ≡ line.old.items ++ reply_text reply.now) }
 {
     match reply {
         Reply::Done => push_text(line, "ok"),
         Reply::Bytes(bytes) => push_bytes(line, bytes.as_slice()),
-        Reply::Cookie(number) | Reply::Count(number) => push_number(alloc, line, *number),
-        Reply::Turned(turn) => push_turn(alloc, line, *turn),
+        Reply::Cookie(number) | Reply::Count(number) => push_decimal(line, u64::from(*number)),
+        Reply::Turned(turn) => push_turn(line, *turn),
         Reply::State(status) => push_text(line, status_name(*status)),
-        Reply::Result(outcome) => push_outcome(alloc, line, *outcome),
-        Reply::Refused(fault) => push_refusal(alloc, line, *fault),
+        Reply::Result(outcome) => push_outcome(line, *outcome),
+        Reply::Refused(fault) => push_refusal(line, *fault),
     }
 }
 
@@ -191,26 +198,85 @@ fn push_call(line: &mut Vec<u8>, call: &Call) -> Result<(), AllocError>
     }
 }
 
-/// The line that a call prints, by its reply.
-pub fn call_line(alloc: Global, call: &Call, reply: &Reply) -> Result<Vec<u8>, AllocError>
-    ensures { IfOk result (λ line. line.items ≡ call_line call.now reply.now) }
+/// The line that a call prints, by its reply, at the end.
+fn push_call_line(line: &mut Vec<u8>, call: &Call, reply: &Reply) -> Result<(), AllocError>
+    ensures { OnOk result (line.new.items ≡ line.old.items ++ call_line call.now reply.now) }
 {
-    let mut line = Vec::new(alloc);
-    match reply {
-        Reply::Refused(fault) => push_refusal(alloc, &mut line, *fault)?,
-        _ => {
-            push_call(&mut line, call)?;
-            push_reply(alloc, &mut line, reply)?;
-        }
+    if let Reply::Refused(fault) = reply {
+        return push_refusal(line, *fault);
     }
-    Ok(line)
+    push_call(line, call)?;
+    push_reply(line, reply)
+}
+
+// Each of these appends a line whole or nothing. It is written first in a buffer, whose bytes it replaces: a caller keeps one
+// for all lines, so that a line takes no memory but for its place at the end.
+
+/// Appends the line that a call prints, by its reply, or nothing.
+pub fn push_told(
+    line: &mut Vec<u8>,
+    call: &Call,
+    reply: &Reply,
+    out: &mut Vec<u8>,
+) -> Result<(), AllocError>
+    ensures ok { OnOk result (out.new.items ≡ out.old.items ++ text_of (call_line call.now reply.now ∷ [])) }
+    ensures err { OnErr result (out.new.items ≡ out.old.items) }
+{
+    line.clear();
+    push_call_line(line, call, reply)?;
+    push_line(out, line)
+}
+
+/// Appends what is printed of a reply after a word, or nothing.
+pub fn push_after(
+    line: &mut Vec<u8>,
+    word: &str,
+    reply: &Reply,
+    out: &mut Vec<u8>,
+) -> Result<(), AllocError>
+    ensures ok { OnOk result (out.new.items ≡ out.old.items ++ text_of ((word.now ++ reply_text reply.now) ∷ [])) }
+    ensures err { OnErr result (out.new.items ≡ out.old.items) }
+{
+    line.clear();
+    push_text(line, word)?;
+    push_reply(line, reply)?;
+    push_line(out, line)
+}
+
+/// Appends `cookie N`, or nothing.
+pub fn push_cookie(line: &mut Vec<u8>, cookie: u32, out: &mut Vec<u8>) -> Result<(), AllocError>
+    ensures ok { OnOk result (out.new.items ≡ out.old.items ++ text_of ((codes "cookie " ++ decimal cookie) ∷ [])) }
+    ensures err { OnErr result (out.new.items ≡ out.old.items) }
+{
+    line.clear();
+    push_worded(line, "cookie ", u64::from(cookie))?;
+    push_line(out, line)
+}
+
+/// Appends the line of a refusal, or nothing. Where memory was refused it prints nothing and the script ends.
+pub fn push_refused_call(
+    line: &mut Vec<u8>,
+    fault: EngineFault,
+    out: &mut Vec<u8>,
+) -> Result<(), AllocError>
+    ensures ok { OnOk result ((fault ≢ EngineFault.NoMemory) × (out.new.items ≡ out.old.items ++ text_of (refused_line (fault_text fault) ∷ []))) }
+    ensures err { OnErr result (out.new.items ≡ out.old.items) }
+{
+    if let EngineFault::NoMemory = fault {
+        return Err(AllocError);
+    }
+    line.clear();
+    push_refusal(line, fault)?;
+    push_line(out, line)
 }
 
 /// Appends `refused NAME`, or nothing.
-pub fn push_refused(alloc: Global, out: &mut Vec<u8>, name: &str) -> Result<(), AllocError>
+pub fn push_refused(line: &mut Vec<u8>, name: &str, out: &mut Vec<u8>) -> Result<(), AllocError>
     ensures ok { OnOk result (out.new.items ≡ out.old.items ++ text_of (refused_line name.now ∷ [])) }
     ensures err { OnErr result (out.new.items ≡ out.old.items) }
 {
-    let line = format!(in alloc; "refused {name}")?;
-    push_line(out, line.as_bytes())
+    line.clear();
+    begin_refusal(line)?;
+    push_text(line, name)?;
+    push_line(out, line)
 }

@@ -10,7 +10,7 @@ ghost use Rattle.dma_work.specs.Desk.{Names};
 ghost use Rattle.dmasim.specs.Race.{PrintsAll, PrintsFirst, PrintsGo, PrintsMissing, PrintsRefusal, PrintsTotals, RacePrints, go_line, race_may_print};
 
 use crate::early::carry_out_early;
-use crate::printing::push_refused;
+use crate::printing::{push_refused, push_worded};
 use crate::run::carry_out_all;
 use dma_engine::{Engine, NewFault, NoMemory};
 use dma_script::command::{FAULT, OpenCommand, SUCCESS, serve_open};
@@ -72,8 +72,9 @@ fn until_go<N: DeskName + Send + Sync, R: Threads + Wait + Sync>(
     ensures ok { OnOk result (PrintsAll lines.now out.old.items out.new.items) }
     ensures err { OnErr result (PrintsFirst lines.now out.old.items out.new.items) }
 {
+    let mut text = Vec::new(alloc);
     for line in lines {
-        carry_out_early(rt, alloc, shared, &mut reader, line, out)?;
+        carry_out_early(rt, alloc, shared, &mut reader, line, &mut text, out)?;
     }
     match run_workers(rt, alloc, shared, jobs, &NoGate) {
         Ok(tallies) => Ok(tallies),
@@ -86,8 +87,10 @@ fn push_go(alloc: Global, out: &mut Vec<u8>, steps: u64, finished: u64) -> Resul
     ensures ok { OnOk result (out.new.items ≡ out.old.items ++ text_of (go_line steps finished ∷ [])) }
     ensures err { OnErr result (out.new.items ≡ out.old.items) }
 {
-    let line = format!(in alloc; "go steps {steps} finished {finished}")?;
-    push_line(out, line.as_bytes())
+    let mut line = Vec::new(alloc);
+    push_worded(&mut line, "go steps ", steps)?;
+    push_worded(&mut line, " finished ", finished)?;
+    push_line(out, &line)
 }
 
 /// Compares the tallies with the book, and answers the engine; or prints the refusal where a tally is missing.
@@ -116,7 +119,7 @@ fn settled<N: DeskName, R: Wait>(
                 book: _,
             } = missing;
             shared.close(rt);
-            push_refused(alloc, out, "MissingTally")?;
+            push_refused(&mut Vec::new(alloc), "MissingTally", out)?;
             Ok(None)
         }
     }
@@ -189,7 +192,7 @@ fn carry_out_race<R: Threads + Wait + Sync>(
     let engine = engine_of(alloc, script)?;
     let jobs = jobs_of(alloc, script.jobs.as_slice())?;
     let Some((parts, reader)) = parts_of(rt, alloc, engine)? else {
-        push_refused(alloc, out, "NoReader")?;
+        push_refused(&mut Vec::new(alloc), "NoReader", out)?;
         return Ok(FAULT);
     };
     let lines = script.before.statements.as_slice();

@@ -3,9 +3,9 @@ ghost use Rattle.std.specs.Prelude.{◌≡◌, ◌≤◌, ◌+◌, ◌++◌, OnO
 ghost use Rattle.dma_script.specs.Command.{AppendsGroups, Ends, failures, printed_text, printed_within};
 ghost use Rattle.dmasim.specs.Run.{line_answer, lines_answered, printed, AnswersLine};
 
-use crate::calls::{answer_call, submit_line, totals_line, write_line};
+use crate::calls::{answer_call, answer_totals, submit_line, write_line};
 use crate::copies::answer_copy;
-use crate::steps::answer_steps;
+use crate::steps::{Answers, answer_steps};
 use dma_engine::{Call, Engine, NewFault};
 use dma_script::command::{Command, FAULT, SUCCESS, serve};
 use dma_script::fault::ScriptError;
@@ -20,6 +20,7 @@ fn carry_out(
     alloc: Global,
     engine: &mut Engine,
     statement: &Statement,
+    told: &mut Answers,
     out: &mut Vec<u8>,
 ) -> Result<(), AllocError>
     ensures ok { OnOk result (AnswersLine (line_answer engine.old.view statement.now) engine.new.view out.old.items out.new.items) }
@@ -27,14 +28,23 @@ fn carry_out(
 {
     let call = match statement {
         Statement::Write { addr, bytes } => {
-            return write_line(alloc, engine, *addr, bytes.as_slice(), out);
+            return write_line(engine, *addr, bytes.as_slice(), &mut told.lines, out);
         }
         Statement::Copy { src, dst } => {
-            return answer_copy(alloc, engine, src.as_slice(), dst.as_slice(), out);
+            return answer_copy(
+                alloc,
+                engine,
+                src.as_slice(),
+                dst.as_slice(),
+                &mut told.lines,
+                out,
+            );
         }
-        Statement::Submit { ch, transfer } => return submit_line(alloc, engine, *ch, transfer, out),
-        Statement::Step { ch, count } => return answer_steps(alloc, engine, *ch, *count, out),
-        Statement::Totals => return totals_line(alloc, engine, out),
+        Statement::Submit { ch, transfer } => {
+            return submit_line(alloc, engine, *ch, transfer, &mut told.lines, out);
+        }
+        Statement::Step { ch, count } => return answer_steps(engine, *ch, *count, told, out),
+        Statement::Totals => return answer_totals(engine, &mut told.lines, out),
         Statement::Read(segment) => Call::Read {
             addr: segment.addr,
             len: segment.len,
@@ -58,7 +68,7 @@ fn carry_out(
         Statement::Unmark => Call::Unmark,
         Statement::Raise { event } => Call::Raise { event: *event },
     };
-    answer_call(alloc, engine, &call, out)
+    answer_call(engine, &call, &mut told.lines, out)
 }
 
 /// Carries out the lines of a script. Where memory is refused, what the lines before printed stands there.
@@ -71,8 +81,9 @@ pub fn carry_out_all(
     ensures ok { OnOk result (out.new.items ≡ out.old.items ++ printed_text (lines_answered engine.old.view statements.now)) }
     ensures err { OnErr result (AppendsGroups (lines_answered engine.old.view statements.now) out.old.items out.new.items) }
 {
+    let mut told = Answers::new(alloc);
     for statement in statements {
-        carry_out(alloc, engine, statement, out)?;
+        carry_out(alloc, engine, statement, &mut told, out)?;
     }
     Ok(())
 }

@@ -9,5 +9,5 @@ loop-word-preserved c =
 
 pub returns-in_err-push_hex : goal.returns-in_err-push_hex
 returns-in_err-push_hex c =
-    let p = err_from_is_err_and c.from_residual.result c.from_residual.ensures.1 in
+    let p = err_from_is_err_and c.from_residual-in_err-push_hex.result c.from_residual-in_err-push_hex.ensures.1 in
     rw (p.1, p.2) (bytes_at_fault (λ word. word.now) c.args.words.now c.loop-word.word-index _ c.loop-word.bytes c.push_hex.new.bytes c.in_err-push_hex.field-0.0 c.loop-word-test.true c.loop-word.invariant c.in_err-push_hex.ensures)

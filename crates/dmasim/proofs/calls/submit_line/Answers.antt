@@ -11,17 +11,17 @@ use Rattle.dmasim.proofs.calls.submit_line.Goals as goal
 pub returns-in-Ok-clause-ok : goal.returns-in-Ok-clause-ok
 returns-in-Ok-clause-ok c =
     let v = c.args.engine.now.view in
-    let t = submitted c.args.line.now in
+    let t = submitted c.args.words.now in
     let is : c.in-Ok.transfer ≡ t = rw (← c.as_slice.ensures, ← c.as_slice-2.ensures) c.in-Ok.ensures.ok in
     let fits : refusal_of t ≡ None = ap refusal_of (sym is) ∙ c.in-Ok.ensures.accepted in
     let out = c.args.out.now.items in
     rw (unless_unfit-none (refusal_of t) v (call_answer v (Submit c.args.ch t)) fits)
-    (subst (λ (u : Descriptor). OnOk c.answer_call.result (AnswersLine (call_answer v (Submit c.args.ch u)) c.answer_call.new.engine.view out c.answer_call.new.out.items)) is c.answer_call.ensures.ok)
+    (subst (λ (u : Descriptor). OnOk c.submit.result (AnswersLine (call_answer v (Submit c.args.ch u)) c.submit.new.engine.view out c.submit.new.out.items)) is c.submit.ensures.ok)
 
 pub returns-in-Err-clause-ok : goal.returns-in-Err-clause-ok
 returns-in-Err-clause-ok c =
     let v = c.args.engine.now.view in
-    let t = submitted c.args.line.now in
+    let t = submitted c.args.words.now in
     on_ok_weaker c.push_unfit.result
     (unfit v c.args.out.now.items c.push_unfit.new.out.items (refusal_of t) c.in-Err.fault (call_answer v (Submit c.args.ch t)) (rw (← c.as_slice.ensures, ← c.as_slice-2.ensures) c.in-Err.ensures.err))
     c.push_unfit.ensures.ok

@@ -1,8 +1,11 @@
-use Rattle.std.proofs.Common.{◌≡◌, ◌-◌}
+use Rattle.std.proofs.Common.{◌≡◌}
 use Rattle.dmasim.specs.declared.copies.TheConstants.{MOST_STEPS}
 use Rattle.dmasim.specs.Run.{stepped_through}
 use Rattle.dmasim.proofs.copies.step_through.Given as goal
 
-abbrev pub invariant-loop-turn : goal.invariant-loop-turn
-invariant-loop-turn l =
-    stepped_through MOST_STEPS l.initial.engine.view ≡ stepped_through (MOST_STEPS - l._turn) l.engine.view
+abbrev pub decreases-loop-left : goal.decreases-loop-left
+decreases-loop-left l = l.left
+
+abbrev pub invariant-loop-left : goal.invariant-loop-left
+invariant-loop-left l =
+    stepped_through MOST_STEPS l.initial.engine.view ≡ stepped_through l.left l.engine.view

@@ -1,6 +1,6 @@
-use Rattle.std.proofs.Common.{◌≡◌, ◌≤◌, ◌+◌, ◌-◌, ◌++◌, [], ◌∙◌, ℕ, ap, map, length, take, arith}
+use Rattle.std.proofs.Common.{◌≡◌, ◌≤◌, ◌+◌, ◌-◌, ◌++◌, [], ◌∙◌, ℕ, ap, map, arith, refl}
 use Rattle.std.specs.Prelude.{replicate}
-use Rattle.std.proofs.lemmas.List.{append-nil, take-replicate, length-replicate}
+use Rattle.std.proofs.lemmas.List.{append-nil}
 use Rattle.dma_engine.specs.declared.call.Call.TheVariants.{Step}
 use Rattle.dma_engine.specs.Answer.{answers}
 use Rattle.dma_script.specs.Command.{text_of}
@@ -16,18 +16,15 @@ loop-left-preserved c =
     let step = Step c.args.ch in
     let inv = c.loop-left.invariant in
     let left = c.loop-left.left in
-    let many = c.min-many.result in
-    let within : many ≤ left = omega (arith, c.min-many.ensures) in
-    let few : many ≤ c.min.result = omega (arith, c.min-many.ensures, c.min.ensures, inv.left) in
+    let many = c.in_ok-many.many in
+    let within : many ≤ left = c.in_ok-many.ensures.many.1 in
     let sum : (c.args.count - left) + many ≡ c.args.count - (left - many) = omega (arith, within, inv.left) in
-    let calls : take many c.deref.result.now ≡ replicate many step = ap (take many) (c.deref.ensures.value ∙ c.in_ok-calls.ensures) ∙ take-replicate many c.min.result step few in
-    let size : length (take many c.deref.result.now) ≡ many = ap length calls ∙ length-replicate many step in
     record {
       left = omega (arith, inv.left);
-      counted = omega (arith, c.in_ok-take_steps.ensures.count, inv.counted, size, within, inv.left);
-      view = c.in_ok-take_steps.ensures.view ∙ more-view v w step _ (c.args.count - left) many _ sum inv.view calls;
-      text = λ rest. c.in_ok-take_steps.ensures.text rest ∙ inv.text _
-          ∙ ap (λ l. text_of (step_lines c.args.ch l)) (more-texts v w step _ (c.args.count - left) many _ rest sum inv.view calls);
+      counted = omega (arith, c.in_ok-many.ensures.count, inv.counted, within, inv.left);
+      view = c.in_ok-many.ensures.view ∙ more-view v w step _ (c.args.count - left) many _ sum inv.view refl;
+      text = λ rest. c.in_ok-many.ensures.text rest ∙ inv.text _
+          ∙ ap (λ l. text_of (step_lines c.args.ch l)) (more-texts v w step _ (c.args.count - left) many _ rest sum inv.view refl);
     }
 
 pub returns-clause-text : goal.returns-clause-text

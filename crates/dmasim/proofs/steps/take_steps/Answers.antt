@@ -1,30 +1,53 @@
-use Rattle.std.proofs.Common.{◌++◌, List, map, length, ap, ◌∙◌, arith, subst}
+use Rattle.std.proofs.Common.{◌≡◌, ◌+◌, ◌++◌, ◌∙◌, List, ap, sym, inl, inr, true}
+use Rattle.std.specs.Prelude.{replicate, ◌⊎◌}
+use Rattle.dma_engine.specs.declared.call.Call.TheVariants.{Step}
 use Rattle.dma_engine.specs.declared.call.Reply.{Reply}
+use Rattle.dma_engine.specs.declared.call.Reply.TheVariants.{Turned}
+use Rattle.dma_engine.specs.declared.turn.Turn.TheVariants.{Moved}
+use Rattle.dma_engine.specs.Answer.{answers}
 use Rattle.dma_engine.specs.View.{View}
 use Rattle.dmasim.specs.Printed.{reply_text}
-use Rattle.dmasim.specs.Counting.{AreServed, text_with}
-use Rattle.dmasim.proofs.Served.{one-each, served-all}
+use Rattle.dmasim.specs.Counting.{comes_again, text_with}
+use Rattle.dmasim.proofs.Advances.{all-moved, all-texts, both-texts, moved-then}
 use Rattle.dmasim.proofs.steps.take_steps.Goals as goal
+use Rattle.dmasim.proofs.steps.take_steps.Goals.{then-comes_again, else-comes_again}
 
-pub take_all-requires : goal.take_all-requires
-take_all-requires c =
-    let many = one-each c.args.engine.now.view c.args.calls.now c.in-Ok.replies.items c.run.new.engine.view c.in-Ok.ensures.answers in
-    omega (arith, c.requires, many, ap length c.deref.ensures.value)
+pub returns-in_default-clause-view : goal.returns-in_default-clause-view
+returns-in_default-clause-view c =
+    ap (λ (a : List Reply × View). a.1) (all-moved c.args.engine.now.view c.advance-moved.new.engine.view c.args.ch c.advance-moved.result c.advance-moved.ensures.answers c.in_default.is)
+
+pub returns-in_default-clause-text : goal.returns-in_default-clause-text
+returns-in_default-clause-text c =
+    let told = c.args.told.now in
+    let v = c.args.engine.now.view in
+    let w = c.advance-moved.new.engine.view in
+    let n = c.advance-moved.result.moved in
+    let all = all-moved v w c.args.ch c.advance-moved.result c.advance-moved.ensures.answers c.in_default.is in
+    λ rest. c.in_ok-take.ensures.text rest
+    ∙ ap (text_with c.args.ch told.lines.items told.last.items told.count) (all-texts n (Turned Moved) w (answers v (replicate n (Step c.args.ch))) rest all)
 
 pub returns-clause-view : goal.returns-clause-view
 returns-clause-view c =
-    let served = subst AreServed c.deref.ensures.value c.in_ok-take_all.ensures.served in
-    ap (λ (a : List Reply × View). a.1) (served-all c.args.engine.now.view c.args.calls.now c.in-Ok.replies.items c.run.new.engine.view served c.in-Ok.ensures.answers)
+    let many = c.if-comes_again.many in
+    let times : (many ≡ 1) ⊎ (comes_again c.in_ok-reply.reply ≡ true) = elim c.if-comes_again.branch [
+      | then-comes_again w ↦ inr (sym c.comes_again.ensures ∙ w.if-comes_again.true)
+      | else-comes_again w ↦ inl w.many-is
+    ] in
+    ap (λ (a : List Reply × View). a.1) (moved-then c.args.engine.now.view c.advance-moved.new.engine.view c.args.ch c.advance-moved.result many c.in-Some.last c.in_ok-reply.reply c.advance-moved.ensures.answers c.in-Some.is c.in_ok-reply.ensures times)
 
 pub returns-clause-text : goal.returns-clause-text
 returns-clause-text c =
     let told = c.args.told.now in
-    let served = subst AreServed c.deref.ensures.value c.in_ok-take_all.ensures.served in
-    let all = ap (λ (a : List Reply × View). a.0) (served-all c.args.engine.now.view c.args.calls.now c.in-Ok.replies.items c.run.new.engine.view served c.in-Ok.ensures.answers) in
-    λ rest. c.in_ok-take_all.ensures.text rest
-    ∙ ap (λ (l : List Reply). text_with c.args.ch told.lines.items told.last.items told.count (map reply_text l ++ rest)) (c.deref.ensures.value ∙ all)
-
-pub returns-clause-count : goal.returns-clause-count
-returns-clause-count c =
-    let many = one-each c.args.engine.now.view c.args.calls.now c.in-Ok.replies.items c.run.new.engine.view c.in-Ok.ensures.answers in
-    omega (arith, c.in_ok-take_all.ensures.count, many, ap length c.deref.ensures.value)
+    let v = c.args.engine.now.view in
+    let w = c.advance-moved.new.engine.view in
+    let n = c.advance-moved.result.moved in
+    let many = c.if-comes_again.many in
+    let reply = c.in_ok-reply.reply in
+    let times : (many ≡ 1) ⊎ (comes_again reply ≡ true) = elim c.if-comes_again.branch [
+      | then-comes_again w ↦ inr (sym c.comes_again.ensures ∙ w.if-comes_again.true)
+      | else-comes_again w ↦ inl w.many-is
+    ] in
+    let all = moved-then v w c.args.ch c.advance-moved.result many c.in-Some.last reply c.advance-moved.ensures.answers c.in-Some.is c.in_ok-reply.ensures times in
+    λ rest. c.in_ok-take-2.ensures.text rest
+    ∙ c.in_ok-take.ensures.text (replicate many (reply_text reply) ++ rest)
+    ∙ ap (text_with c.args.ch told.lines.items told.last.items told.count) (both-texts n many (Turned Moved) reply w (answers v (replicate (n + many) (Step c.args.ch))) rest all)

@@ -1,0 +1,75 @@
+//! What stands at a place of a program.
+
+ghost use Rattle.std.specs.Prelude.{◌≡◌, ◌≤◌, length};
+ghost use Rattle.dma_insn.specs.Spelling.{spelling};
+ghost use Rattle.dma_chan.specs.Exec.{fetch_fault, next_of};
+
+use crate::turn::FaultKind;
+use dma_insn::codec::{DecodeFault, decode};
+use dma_insn::insn::Insn;
+use std::marker::Model;
+
+/// An instruction, and how many bytes of a program it takes. Contracts see the instruction.
+#[derive(Clone, Copy, PartialEq, Eq, Debug)]
+pub struct Next {
+    insn: Insn,
+    len: u32,
+}
+
+impl Model for Next {
+    ghost use Rattle.std.specs.Prelude.{◌≡◌, length};
+    ghost use Rattle.std.proofs.Common.{ap, sym};
+    ghost use Rattle.dma_insn.specs.declared.insn.Insn.{Insn};
+    ghost use Rattle.dma_insn.specs.Spelling.{spelling};
+
+    ghost Value = { Insn };
+
+    ghost view = { λ n. n.insn };
+
+    ghost invariant = { λ n. n.len ≡ length (spelling n.insn) };
+
+    ghost inverse = { λ i. record { insn = i; len = length (spelling i) } };
+
+    ghost inverse_ok = { λ n h. ap (λ k. record { insn = n.insn; len = k }) (sym h) };
+}
+
+fn fetch_fault(fault: DecodeFault) -> FaultKind
+    ensures { result ≡ fetch_fault fault }
+{
+    match fault {
+        DecodeFault::Cut => FaultKind::InstrFetchErr,
+        DecodeFault::Unknown(_) => FaultKind::UndefInstr,
+        DecodeFault::BadField => FaultKind::OperandInvalid,
+    }
+}
+
+impl Next {
+    // What stands at a place of a program, or the fault of fetching it.
+    pub(crate) fn at(program: &[u8], pc: u32) -> Result<Next, FaultKind>
+        requires place { pc ≤ length program.now }
+        requires limit { length program.now ≤ 8192 }
+        ensures { result ≡ next_of program.now pc }
+    {
+        match decode(&program[pc as usize..]) {
+            Ok((insn, len)) => Ok(Next {
+                insn,
+                len: len as u32,
+            }),
+            Err(fault) => Err(fetch_fault(fault)),
+        }
+    }
+
+    /// The instruction.
+    pub fn insn(self) -> Insn
+        ensures { result ≡ self }
+    {
+        self.insn
+    }
+
+    // How many bytes of the program it takes.
+    pub(crate) fn len(self) -> u32
+        ensures { result ≡ length (spelling self) }
+    {
+        self.len
+    }
+}
