@@ -45,6 +45,7 @@ fn fetch_fault(fault: DecodeFault) -> FaultKind
 
 impl Next {
     // What stands at a place of a program, or the fault of fetching it.
+    #[inline(always)]
     pub(crate) fn at(program: &[u8], pc: u32) -> Result<Next, FaultKind>
         requires place { pc ≤ length program.now }
         requires limit { length program.now ≤ 8192 }

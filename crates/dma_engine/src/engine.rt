@@ -580,6 +580,7 @@ impl Engine {
 
     // The next instruction of a channel, if a step may execute it: its front runs, is neither halted nor paused, and the step
     // count isn't at its end.
+    #[inline(always)]
     fn due(&self, ch: u8) -> Option<Next>
         ensures due { IfSome result (λ next. IsDue self.now.view ch (IsNext next)) }
         ensures none { IsNone result → IsDue self.now.view ch IsAny → ⊥ }
@@ -724,6 +725,7 @@ impl Engine {
     }
 
     // The same without the end of a burst that fails: nothing changes then, and the answer is how it fails.
+    #[inline(always)]
     fn move_on(&mut self, ch: u8, next: Next) -> Option<FaultKind>
         requires due { IsDue self.old.view ch (IsNext next) }
         requires other { IsOther next }

@@ -102,6 +102,7 @@ fn register_code(reg: Reg) -> u8
 
 /// Reads the instruction at the front of the bytes, and how many of them it takes. Others may follow. An immediate may have
 /// any value: whether a control word is one is not asked here.
+#[inline(always)]
 pub fn decode(bytes: &[u8]) -> Result<(Insn, usize), DecodeFault>
     // What is read is spelled so, in as many bytes.
     ensures found { IfOk result (λ found. IsSpelledAt bytes.now found.0 found.1) }
@@ -118,6 +119,7 @@ pub fn decode(bytes: &[u8]) -> Result<(Insn, usize), DecodeFault>
 }
 
 // One instruction, by its first byte.
+#[inline(always)]
 fn read(bytes: &[u8]) -> Result<(Insn, usize), DecodeFault>
     ensures { result ≡ decoded bytes.now }
 {

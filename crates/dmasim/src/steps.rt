@@ -25,7 +25,10 @@ pub struct Answers {
 
 impl Answers {
     /// No answers, which take no memory.
-    pub fn new(alloc: Global) -> Answers {
+    pub fn new(alloc: Global) -> Answers
+        ensures lines { result.lines.items ≡ [] }
+        ensures count { result.count ≡ 0 }
+    {
         Answers {
             lines: Vec::new(alloc),
             last: Vec::new(alloc),
