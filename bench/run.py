@@ -69,6 +69,18 @@ def assembly():
 
 
 ONE_LINE = b"memory 1 1\n"
+# What a run that did its work prints, and how often.
+PRINTED = {
+    "copies": (b" NoError residue 0", 100),
+    "odd copies": (b" NoError residue 0", 20),
+    "step lines": (b" NoError residue 0", 20),
+    "turns": (b" NoError residue 0", 8),
+    "submits": (b" NoError residue 0", 20_000),
+    "writes": (b"ok\n", 110_000),
+    "long writes": (b"ok\n", 340),
+    "reads": (b"read 0x", 150_000),
+    "dis": (b"DMAMOV ", LONGEST_INPUT // 18),
+}
 # The subcommand, its input, and the blocks that memcpy moves beside it; none: cat of the input.
 CASES = {
     "one line": ("run", ONE_LINE, None),
@@ -113,6 +125,8 @@ def one_round(programs, chosen, folder, times):
             times[name, program].append(took)
             printed.append(out)
         assert len(set(printed)) == 1, "%s: the programs print different bytes" % name
+        text, count = PRINTED.get(name, (b"", 0))
+        assert not text or printed[0].count(text) == count, "%s: %d of %r" % (name, printed[0].count(text), text)
         with open(os.path.join(folder, name), "rb") as text:
             plain = timed(lambda: memcpy(*blocks) if blocks else spawn(["cat"], text))[0]
         times[name, "plain"].append(plain)
@@ -146,6 +160,7 @@ def main():
     subprocess.run([os.path.join(HERE, "..", "dmasim")], input=b"", stdout=subprocess.DEVNULL)
     programs = [PROGRAM] + ([options.beside] if options.beside else [])
     only = options.only.split(",") if options.only else list(CASES)
+    assert set(only) <= set(CASES), "the cases are %s" % ", ".join(CASES)
     chosen = [name for name in CASES if name == "one line" or name in only]
     times = {(name, who): [] for name in chosen for who in programs + ["plain"]}
     with tempfile.TemporaryDirectory() as folder:
