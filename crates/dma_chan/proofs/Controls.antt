@@ -1,29 +1,37 @@
--- What an accepted control word's fields are.
-use Rattle.std.proofs.Common.{◌≡◌, ℕ, ◌<◌, true, Result, Ok, Err, arith, IsTrue, ap, refl}
-use Rattle.std.specs.Prelude.{is_ok}
-use Rattle.dma_insn.specs.declared.control.Control.{Control}
-use Rattle.dma_insn.specs.declared.control.ControlFault.{ControlFault}
-use Rattle.dma_insn.specs.ControlWord.{field, control_of, end_at, HasFields}
-use Rattle.dma_insn.proofs.ControlLaws.{size_code-le, control_of_fields, control_of_again}
-use Rattle.dma_chan.specs.Registers.{is_control}
+-- A burst by the fields of one end of a control word.
+use Rattle.std.proofs.Common.{◌≡◌, ℕ, ◌+◌, ◌^◌, Option, Some, None, refl, ap, ◌∙◌}
+use Rattle.std.specs.Option.{option_map}
+use Rattle.dma_insn.specs.declared.control.BeatSize.{BeatSize}
+use Rattle.dma_insn.specs.declared.control.BeatSize.TheVariants.{One, Two, Four, Eight, Sixteen}
+use Rattle.dma_insn.specs.declared.control.BurstEnd.{BurstEnd}
+use Rattle.dma_insn.specs.ControlWord.{field, size_code, size_of, beat_bytes, end_with, end_at}
+use Rattle.dma_insn.proofs.ControlLaws.{size_code-size_of}
+use Rattle.dma_chan.specs.declared.bursts.Burst.{Burst}
+use Rattle.dma_chan.specs.Registers.{burst_at}
 
-codes_of : (w : ℕ) (r : Result Control ControlFault) → control_of w ≡ r → IsTrue (is_ok r) → (field 1 3 w < 5) × (field 15 3 w < 5)
-codes_of w (Ok c) e h =
-    let f = control_of_fields w c e in
-    (omega (arith, f.src_size, size_code-le c.src.size), omega (arith, f.dst_size, size_code-le c.dst.size))
-codes_of w (Err x) e h = cc
+-- the bytes of a beat are a power of two, by its code
+beat_bytes-power : (s : BeatSize) → beat_bytes s ≡ 2 ^ size_code s
+beat_bytes-power One = refl
+beat_bytes-power Two = refl
+beat_bytes-power Four = refl
+beat_bytes-power Eight = refl
+beat_bytes-power Sixteen = refl
 
--- no size code of an accepted word is reserved
-pub size_codes : (w : ℕ) → IsTrue (is_control w) → (field 1 3 w < 5) × (field 15 3 w < 5)
-unfolding is_control
-size_codes w h = codes_of w (control_of w) refl h
+abbrev burst_of : ℕ → BurstEnd → Burst
+burst_of addr e = record { addr = addr; increments = e.increments; size = beat_bytes e.size; beats = e.beats }
 
--- a word with fields is accepted
-pub is_control-fields : (w : ℕ) (c : Control) → HasFields w c → is_control w ≡ true
-unfolding is_control
-is_control-fields w c h = ap is_ok (control_of_again w c h)
+some_same : (a b : BurstEnd) → Some a ≡ Some b → a ≡ b
+some_same a b e = cc
 
--- the word that a channel begins with is accepted
-pub is_control-zero : IsTrue (is_control 0)
-unfolding is_control control_of end_at
-is_control-zero = refl
+of_size : (k addr w : ℕ) (o : Option BeatSize) (e : BurstEnd) → size_of (field (k + 1) 3 w) ≡ o → option_map (end_with k w) o ≡ Some e → burst_of addr e ≡ burst_at k addr w
+unfolding burst_at
+of_size k addr w None e is h = absurd (cc)
+of_size k addr w (Some s) e is h =
+    let same : end_with k w s ≡ e = some_same (end_with k w s) e h in
+    let size : beat_bytes s ≡ 2 ^ field (k + 1) 3 w = beat_bytes-power s ∙ ap (λ (n : ℕ). 2 ^ n) (size_code-size_of (field (k + 1) 3 w) s is) in
+    rw (← same, size) refl
+
+-- the burst of the end whose lowest bit is bit k
+pub burst_of_end : (k addr w : ℕ) (e : BurstEnd) → end_at k w ≡ Some e → record { addr = addr; increments = e.increments; size = beat_bytes e.size; beats = e.beats } ≡ burst_at k addr w
+unfolding end_at
+burst_of_end k addr w e h = of_size k addr w (size_of (field (k + 1) 3 w)) e refl h

@@ -2,10 +2,11 @@
 use Rattle.std.proofs.Common.{◌≡◌, ℕ, ◌+◌, ◌-◌, ◌*◌, ◌/◌, ◌%◌, ◌^◌, ◌≤◌, ◌<◌, Bool, true, false, cond, zero, suc, refl, arith, Some}
 use Rattle.dma_insn.specs.declared.control.BeatSize.{BeatSize}
 use Rattle.dma_insn.specs.declared.control.BeatSize.TheVariants.{One, Two, Four, Eight, Sixteen}
-use Rattle.dma_insn.specs.ControlWord.{control_of, end_at, size_of}
+use Rattle.dma_insn.specs.declared.control.BurstEnd.{BurstEnd}
+use Rattle.dma_insn.specs.ControlWord.{control_of, is_control, end_at, size_of, beat_bytes, bits_of, end_bits}
 use Rattle.dma_chan.specs.declared.pieces.Piece.{Piece}
 use Rattle.dma_chan.specs.Compiled.{beat_of, control_word, size_code}
-use Rattle.dma_chan.specs.Registers.{is_control, burst_at, burst_len}
+use Rattle.dma_chan.specs.Registers.{burst_at, burst_len}
 
 -- bursts of n bytes at both ends, with both increments
 pub record Moves (w n : ℕ) : Type 0 where
@@ -69,3 +70,16 @@ beat_right p =
 
 pub one_beat : IsBeat 1
 one_beat = beat 1 0 refl (omega arith) refl (omega arith) (omega arith)
+
+-- one end of such bursts
+abbrev rising : BeatSize → ℕ → BurstEnd
+rising s k = record { increments = true; size = s; beats = k; protection = 0; cache = 0 }
+
+-- the word of two such ends
+pub both_ends : (s : BeatSize) (k : ℕ) → bits_of (record { src = rising s k; dst = rising s k }) ≡ control_word (beat_bytes s) k
+unfolding bits_of end_bits
+both_ends One k = omega arith
+both_ends Two k = omega arith
+both_ends Four k = omega arith
+both_ends Eight k = omega arith
+both_ends Sixteen k = omega arith

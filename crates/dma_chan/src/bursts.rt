@@ -4,14 +4,16 @@ ghost use Rattle.std.specs.Prelude.{◌≡◌, ◌+◌, ◌-◌, ◌*◌, ◌≤
 ghost use Rattle.std.specs.List.{flat_map};
 ghost use Rattle.circular_buffer.specs.Buffer.{buffer as ring};
 ghost use Rattle.dma_insn.specs.declared.insn.Insn.TheVariants.{Ld, St};
+ghost use Rattle.dma_insn.specs.ControlWord.{beat_bytes};
 ghost use Rattle.dma_mem.specs.Image.{put};
-ghost use Rattle.dma_chan.specs.Registers.{is_control, burst_at, burst_len, touched, left_by, advance, span_of, rounds_of, source_of, destination_of};
+ghost use Rattle.dma_chan.specs.Registers.{burst_len, touched, left_by, advance, span_of, rounds_of, source_of, destination_of};
 ghost use Rattle.dma_chan.specs.Marking.{reaches};
 ghost use Rattle.dma_chan.specs.Exec.{act, fault_in, faults, read_at, state};
 
 use crate::registers::Registers;
 use crate::turn::{ChanTurn, FaultKind};
 use circular_buffer::HeapCircularBuffer;
+use dma_insn::control::BurstEnd;
 use dma_mem::marks::{MarkKind, Marks};
 use dma_mem::memory::Memory;
 use dma_mem::segment::Segment;
@@ -29,6 +31,20 @@ pub struct Burst {
 }
 
 impl Burst {
+    // The burst of one end of a control word, from this address on.
+    fn of(addr: u32, end: BurstEnd) -> Burst
+        ensures value { result ≡ record { addr = addr; increments = end.increments; size = beat_bytes end.size; beats = end.beats } }
+        ensures some { (1 ≤ result.size) × (1 ≤ result.beats) }
+        ensures limit { (result.size ≤ 16) × (result.beats ≤ 16) }
+    {
+        Burst {
+            addr,
+            increments: end.increments,
+            size: end.beat_bytes(),
+            beats: u32::from(end.beats.number()),
+        }
+    }
+
     // How many bytes it moves.
     fn len(self) -> u32
         requires { (self.size ≤ 16) × (self.beats ≤ 16) }
@@ -74,56 +90,24 @@ impl Burst {
     }
 }
 
-// The bytes of a beat, by its code.
-fn beat_size(code: u32) -> u32
-    requires { code < 5 }
-    ensures value { result ≡ 2 ^ code }
-    ensures some { 1 ≤ result }
-    ensures limit { result ≤ 16 }
-{
-    match code {
-        0 => 1,
-        1 => 2,
-        2 => 4,
-        3 => 8,
-        _ => 16,
-    }
-}
-
 // The burst of a load.
-#[tactic(auto, unfolding(crate::specs::Registers::burst_at), using(crate::proofs::Controls::size_codes))]
 fn source_burst(registers: &Registers) -> Burst
-    requires { IsTrue (is_control registers.now.ccr) }
     ensures value { result ≡ source_of registers.now }
     ensures addr { result.addr ≡ registers.now.sar }
     ensures some { (1 ≤ result.size) × (1 ≤ result.beats) }
     ensures limit { (result.size ≤ 16) × (result.beats ≤ 16) }
 {
-    let ccr = registers.ccr;
-    Burst {
-        addr: registers.sar,
-        increments: ccr % 2 == 1,
-        size: beat_size(ccr / 2 % 8),
-        beats: ccr / 16 % 16 + 1,
-    }
+    Burst::of(registers.sar, registers.ccr.source())
 }
 
 // The burst of a store.
-#[tactic(auto, unfolding(crate::specs::Registers::burst_at), using(crate::proofs::Controls::size_codes))]
 fn destination_burst(registers: &Registers) -> Burst
-    requires { IsTrue (is_control registers.now.ccr) }
     ensures value { result ≡ destination_of registers.now }
     ensures addr { result.addr ≡ registers.now.dar }
     ensures some { (1 ≤ result.size) × (1 ≤ result.beats) }
     ensures limit { (result.size ≤ 16) × (result.beats ≤ 16) }
 {
-    let ccr = registers.ccr;
-    Burst {
-        addr: registers.dar,
-        increments: ccr / 0x4000 % 2 == 1,
-        size: beat_size(ccr / 0x8000 % 8),
-        beats: ccr / 0x4_0000 % 16 + 1,
-    }
+    Burst::of(registers.dar, registers.ccr.destination())
 }
 
 // Whether a burst may touch its addresses: they lie in the memory and in no mark of the kind.
@@ -170,7 +154,6 @@ pub(crate) fn load_fault(
     memory: &Memory,
 ) -> Option<FaultKind>
     requires capacity { buffer.now.capacity ≡ 256 }
-    requires control { IsTrue (is_control registers.now.ccr) }
     ensures told { (flags : List Bool) → result ≡ fault_in (act marks.now Ld (state registers.now buffer.now.items memory.now flags)).0 }
     ensures still { IfSome result (λ kind. (flags : List Bool) → act marks.now Ld (state registers.now buffer.now.items memory.now flags) ≡ faults kind (state registers.now buffer.now.items memory.now flags)) }
     ensures room { IsNone result → length buffer.now.items + burst_len (source_of registers.now) ≤ 256 }
@@ -196,11 +179,9 @@ pub(crate) fn load_burst(
     memory: &Memory,
 ) -> ChanTurn
     requires capacity { buffer.old.capacity ≡ 256 }
-    requires control { IsTrue (is_control registers.old.ccr) }
     requires pc { registers.old.pc < 8192 }
     ensures exact { (flags : List Bool) → act marks.now Ld (state registers.old buffer.old.items memory.now flags) ≡ (result, state registers.new buffer.new.items memory.now flags) }
     ensures capacity { buffer.new.capacity ≡ 256 }
-    ensures control { registers.new.ccr ≡ registers.old.ccr }
     ensures pc { registers.new.pc ≤ registers.old.pc + 1 }
 {
     if let Some(kind) = load_fault(marks, registers, buffer, memory) {
@@ -257,7 +238,6 @@ pub(crate) fn store_fault(
     buffer: &HeapCircularBuffer<u8>,
     memory: &Memory,
 ) -> Option<FaultKind>
-    requires control { IsTrue (is_control registers.now.ccr) }
     ensures told { (flags : List Bool) → result ≡ fault_in (act marks.now St (state registers.now buffer.now.items memory.now flags)).0 }
     ensures still { IfSome result (λ kind. (flags : List Bool) → act marks.now St (state registers.now buffer.now.items memory.now flags) ≡ faults kind (state registers.now buffer.now.items memory.now flags)) }
     ensures bytes { IsNone result → burst_len (destination_of registers.now) ≤ length buffer.now.items }
@@ -283,11 +263,9 @@ pub(crate) fn store_burst(
     memory: &mut Memory,
 ) -> ChanTurn
     requires capacity { buffer.old.capacity ≡ 256 }
-    requires control { IsTrue (is_control registers.old.ccr) }
     requires pc { registers.old.pc < 8192 }
     ensures exact { (flags : List Bool) → act marks.now St (state registers.old buffer.old.items memory.old flags) ≡ (result, state registers.new buffer.new.items memory.new flags) }
     ensures capacity { buffer.new.capacity ≡ 256 }
-    ensures control { registers.new.ccr ≡ registers.old.ccr }
     ensures pc { registers.new.pc ≤ registers.old.pc + 1 }
 {
     if let Some(kind) = store_fault(marks, registers, buffer, memory) {
@@ -302,7 +280,6 @@ pub(crate) fn store_burst(
 
 // How many bytes a store moves now.
 pub(crate) fn stored_len(registers: &Registers) -> u32
-    requires { IsTrue (is_control registers.now.ccr) }
     ensures value { result ≡ burst_len (destination_of registers.now) }
     ensures limit { result ≤ 256 }
 {

@@ -2,14 +2,16 @@
 
 ghost use Rattle.std.specs.Prelude.{ℕ, ◌≡◌, ◌+◌, ◌-◌, ◌*◌, ◌≤◌, ◌<◌, ◌^◌, ◌++◌, length, IfOk, IfSome, OnOk, map, All};
 ghost use Rattle.dma_insn.specs.Spelling.{spelling};
+ghost use Rattle.dma_insn.specs.ControlWord.{beat_bytes};
 ghost use Rattle.dma_chan.specs.Tree.{bytes_of, cost_of, in_order, Repeat};
-ghost use Rattle.dma_chan.specs.Compiled.{where_some, body, bursts, under, fits, beat_of, control_word, size_code, parts, piece_tree, wait_tree, signal_tree, tree_of, cost, compiled};
+ghost use Rattle.dma_chan.specs.Compiled.{where_some, body, bursts, under, fits, beat_of, control_word, parts, piece_tree, wait_tree, signal_tree, tree_of, cost, compiled};
 ghost use Rattle.dma_chan.specs.Pieces.{pieces_of};
 ghost use Rattle.dma_mem.specs.Rules.{IsTransfer};
 
 use crate::pieces::{Piece, cut};
 use crate::program::Program;
 use dma_insn::codec::encode;
+use dma_insn::control::{BeatSize, Beats, BurstEnd, Cache, Control, Protection};
 use dma_insn::insn::{Counter, Event, Insn, Reg, Times};
 use dma_mem::transfer::Transfer;
 use std::alloc::{AllocError, Global};
@@ -132,39 +134,38 @@ fn push_piece(code: &mut Vec<u8>, piece: Piece) -> Result<(), AllocError>
     requires { piece.len ≤ 2 ^ 20 }
     ensures ok { OnOk result (code.new.items ≡ code.old.items ++ bytes_of (piece_tree piece)) }
 {
-    let beat = beat_of(piece);
+    let size = beat_of(piece);
     push(code, Insn::Mov(Reg::Sar, piece.src))?;
     push(code, Insn::Mov(Reg::Dar, piece.dst))?;
-    push_parts(code, beat, piece.len)?;
+    push_parts(code, size, piece.len)?;
     Ok(())
 }
 
 // Appends what copies so many bytes from where the registers point.
 #[tactic(auto, unfolding(crate::specs::Compiled::parts))]
-fn push_parts(code: &mut Vec<u8>, beat: u32, len: u32) -> Result<(), AllocError>
-    requires low { 1 ≤ beat }
-    requires high { beat ≤ 16 }
-    requires len { len ≤ 2 ^ 20 }
-    ensures ok { OnOk result (code.new.items ≡ code.old.items ++ bytes_of (parts beat len)) }
+fn push_parts(code: &mut Vec<u8>, size: BeatSize, len: u32) -> Result<(), AllocError>
+    requires { len ≤ 2 ^ 20 }
+    ensures ok { OnOk result (code.new.items ≡ code.old.items ++ bytes_of (parts (beat_bytes size) len)) }
 {
+    let beat = size.bytes();
     let whole = 16 * beat;
     let left = len % whole;
-    push_whole_bursts(code, beat, len / whole)?;
-    push_burst(code, beat, left / beat)?;
-    push_burst(code, 1, left % beat)?;
+    push_whole_bursts(code, size, len / whole)?;
+    push_burst(code, size, left / beat)?;
+    push_burst(code, BeatSize::One, left % beat)?;
     Ok(())
 }
 
 // Appends bursts of 16 beats, where there are any.
 #[tactic(auto, using(crate::proofs::Where::where_some_there, crate::proofs::Where::where_some_none))]
-fn push_whole_bursts(code: &mut Vec<u8>, beat: u32, count: u32) -> Result<(), AllocError>
+fn push_whole_bursts(code: &mut Vec<u8>, size: BeatSize, count: u32) -> Result<(), AllocError>
     requires { count ≤ 65536 }
-    ensures ok { OnOk result (code.new.items ≡ code.old.items ++ bytes_of (where_some count (under (control_word beat 16) (bursts count)))) }
+    ensures ok { OnOk result (code.new.items ≡ code.old.items ++ bytes_of (where_some count (under (control_word (beat_bytes size) 16) (bursts count)))) }
 {
     if count == 0 {
         return Ok(());
     }
-    push(code, Insn::Mov(Reg::Ccr, control_word(beat, 16)))?;
+    push(code, Insn::Mov(Reg::Ccr, control_word(size, 16)))?;
     push_bursts(code, count)
 }
 
@@ -245,14 +246,14 @@ fn push_loop(code: &mut Vec<u8>, turns: u16) -> Result<(), AllocError>
 
 // Appends one burst of so many beats, where there are any.
 #[tactic(auto, using(crate::proofs::Where::where_some_there, crate::proofs::Where::where_some_none))]
-fn push_burst(code: &mut Vec<u8>, beat: u32, beats: u32) -> Result<(), AllocError>
+fn push_burst(code: &mut Vec<u8>, size: BeatSize, beats: u32) -> Result<(), AllocError>
     requires { beats ≤ 16 }
-    ensures ok { OnOk result (code.new.items ≡ code.old.items ++ bytes_of (where_some beats (under (control_word beat beats) body))) }
+    ensures ok { OnOk result (code.new.items ≡ code.old.items ++ bytes_of (where_some beats (under (control_word (beat_bytes size) beats) body))) }
 {
     if beats == 0 {
         return Ok(());
     }
-    push(code, Insn::Mov(Reg::Ccr, control_word(beat, beats)))?;
+    push(code, Insn::Mov(Reg::Ccr, control_word(size, beats)))?;
     push_body(code)
 }
 
@@ -277,57 +278,48 @@ fn push(code: &mut Vec<u8>, insn: Insn) -> Result<(), AllocError>
     Ok(())
 }
 
-// Whether beats of so many bytes fit a piece.
-fn fits(beat: u32, piece: Piece) -> bool
-    requires { 0 < beat }
-    ensures { result ≡ fits beat piece }
+// Whether beats of a size fit a piece.
+fn fits(size: BeatSize, piece: Piece) -> bool
+    ensures { result ≡ fits (beat_bytes size) piece }
 {
+    let beat = size.bytes();
     piece.src % beat == 0 && piece.dst % beat == 0 && beat <= piece.len
 }
 
-// The bytes a beat of a piece.
+// The size of a piece's beats.
 #[tactic(auto, unfolding(crate::specs::Compiled::beat_of))]
-fn beat_of(piece: Piece) -> u32
-    ensures value { result ≡ beat_of piece }
-    ensures low { 1 ≤ result }
-    ensures high { result ≤ 16 }
+fn beat_of(piece: Piece) -> BeatSize
+    ensures { beat_bytes result ≡ beat_of piece }
 {
-    if fits(16, piece) {
-        16
-    } else if fits(8, piece) {
-        8
-    } else if fits(4, piece) {
-        4
-    } else if fits(2, piece) {
-        2
+    if fits(BeatSize::Sixteen, piece) {
+        BeatSize::Sixteen
+    } else if fits(BeatSize::Eight, piece) {
+        BeatSize::Eight
+    } else if fits(BeatSize::Four, piece) {
+        BeatSize::Four
+    } else if fits(BeatSize::Two, piece) {
+        BeatSize::Two
     } else {
-        1
+        BeatSize::One
     }
 }
 
-// The control word's code of a beat's size.
-fn size_code(beat: u32) -> u32
-    ensures value { result ≡ size_code beat }
-    ensures limit { result ≤ 4 }
-{
-    match beat {
-        16 => 4,
-        8 => 3,
-        4 => 2,
-        2 => 1,
-        _ => 0,
-    }
-}
-
-// The control word of bursts of so many beats, with both increments.
-fn control_word(beat: u32, beats: u32) -> u32
+// The control word of bursts of so many beats of a size, with both increments.
+#[tactic(auto, using(crate::proofs::Words::both_ends))]
+fn control_word(size: BeatSize, beats: u32) -> u32
     requires low { 1 ≤ beats }
     requires high { beats ≤ 16 }
-    ensures { result ≡ control_word beat beats }
+    ensures { result ≡ control_word (beat_bytes size) beats }
 {
-    let code = size_code(beat);
-    let length = beats - 1;
-    1 + 2 * code + 16 * length + 0x4000 + 0x8000 * code + 0x4_0000 * length
+    let src = BurstEnd {
+        increments: true,
+        size,
+        beats: Beats::of_number(beats as u8),
+        protection: Protection::of_code(0),
+        cache: Cache::of_code(0),
+    };
+    let dst = src;
+    Control { src, dst }.bits()
 }
 
 // How many instructions the code of pieces executes.
@@ -352,7 +344,7 @@ fn piece_cost(piece: Piece) -> u32
     ensures value { result ≡ cost_of (piece_tree piece) }
     ensures limit { result ≤ 400000 }
 {
-    let beat = beat_of(piece);
+    let beat = beat_of(piece).bytes();
     let whole = 16 * beat;
     let left = piece.len % whole;
     2 + whole_bursts_cost(piece.len / whole) + burst_cost(left / beat) + burst_cost(left % beat)

@@ -1,9 +1,9 @@
 //! One instruction, executed.
 
-ghost use Rattle.std.specs.Prelude.{◌≡◌, ℕ, ◌+◌, ◌-◌, ◌≤◌, ◌<◌, Bool, IsTrue, IfSome, IsNone, List, length};
+ghost use Rattle.std.specs.Prelude.{◌≡◌, ℕ, ◌+◌, ◌-◌, ◌≤◌, ◌<◌, Bool, IfSome, IsNone, List, length};
 ghost use Rattle.dma_insn.specs.Spelling.{spelling};
 ghost use Rattle.dma_insn.specs.declared.insn.Insn.TheVariants.{Mov, Lp, LpEnd, Sev, Wfe};
-ghost use Rattle.dma_chan.specs.Registers.{is_control, counter_of};
+ghost use Rattle.dma_chan.specs.Registers.{counter_of};
 ghost use Rattle.dma_chan.specs.declared.registers.Registers.{Registers};
 ghost use Rattle.dma_chan.specs.Exec.{act, fault_in, faults, state};
 ghost use Rattle.dma_mem.specs.Marking.{MarkList};
@@ -12,24 +12,21 @@ use crate::bursts::{load_burst, load_fault, store_burst, store_fault};
 use crate::registers::Registers;
 use crate::turn::{ChanTurn, FaultKind};
 use circular_buffer::HeapCircularBuffer;
-use dma_insn::control::Control;
+use dma_insn::control::ControlWord;
 use dma_insn::insn::{Counter, Event, Insn, Reg, Times};
 use dma_mem::events::Events;
 use dma_mem::marks::Marks;
 use dma_mem::memory::Memory;
 
 // The fault that DMAMOV answers: at a control word that isn't accepted.
-#[tactic(auto, unfolding(crate::specs::Registers::is_control))]
 fn set_fault(reg: Reg, value: u32) -> Option<FaultKind>
-    ensures told { (marks : MarkList) (r : Registers) (buffer image : List ℕ) (flags : List Bool) → result ≡ fault_in (act marks (Mov reg value) (state r buffer image flags)).0 }
-    ensures still { IfSome result (λ kind. (marks : MarkList) (r : Registers) (buffer image : List ℕ) (flags : List Bool) → act marks (Mov reg value) (state r buffer image flags) ≡ faults kind (state r buffer image flags)) }
-    ensures control { IsNone result → reg ≡ Reg.Ccr → IsTrue (is_control value) }
+    ensures { (marks : MarkList) (r : Registers) (buffer image : List ℕ) (flags : List Bool) → result ≡ fault_in (act marks (Mov reg value) (state r buffer image flags)).0 }
 {
     match reg {
         Reg::Sar => None,
         Reg::Dar => None,
         Reg::Ccr => {
-            if Control::from_bits(value).is_err() {
+            if ControlWord::from_bits(value).is_err() {
                 return Some(FaultKind::OperandInvalid);
             }
             None
@@ -41,18 +38,18 @@ fn set_fault(reg: Reg, value: u32) -> Option<FaultKind>
 fn set_register(reg: Reg, value: u32, len: u32, registers: &mut Registers) -> ChanTurn
     requires len { len ≡ length (spelling (Mov reg value)) }
     requires pc { registers.old.pc + len ≤ 8192 }
-    requires control { IsTrue (is_control registers.old.ccr) }
     ensures exact { (marks : MarkList) (buffer image : List ℕ) (flags : List Bool) → act marks (Mov reg value) (state registers.old buffer image flags) ≡ (result, state registers.new buffer image flags) }
-    ensures control { IsTrue (is_control registers.new.ccr) }
     ensures pc { registers.new.pc ≤ registers.old.pc + len }
 {
-    if let Some(kind) = set_fault(reg, value) {
-        return ChanTurn::Fault(kind);
-    }
     match reg {
         Reg::Sar => registers.sar = value,
         Reg::Dar => registers.dar = value,
-        Reg::Ccr => registers.ccr = value,
+        Reg::Ccr => {
+            let Ok(word) = ControlWord::from_bits(value) else {
+                return ChanTurn::Fault(FaultKind::OperandInvalid);
+            };
+            registers.ccr = word;
+        }
     }
     registers.pc += len;
     ChanTurn::Moved
@@ -62,7 +59,6 @@ fn set_register(reg: Reg, value: u32, len: u32, registers: &mut Registers) -> Ch
 fn begin_loop(counter: Counter, times: Times, registers: &mut Registers) -> ChanTurn
     requires pc { registers.old.pc + 2 ≤ 8192 }
     ensures exact { (marks : MarkList) (buffer image : List ℕ) (flags : List Bool) → act marks (Lp counter times) (state registers.old buffer image flags) ≡ (result, state registers.new buffer image flags) }
-    ensures control { registers.new.ccr ≡ registers.old.ccr }
     ensures pc { registers.new.pc ≤ registers.old.pc + 2 }
 {
     let again = (times.number() - 1) as u8;
@@ -102,7 +98,6 @@ fn jump_fault(counter: Counter, back: u8, registers: &Registers) -> Option<Fault
 fn end_loop(counter: Counter, back: u8, registers: &mut Registers) -> ChanTurn
     requires pc { registers.old.pc + 2 ≤ 8192 }
     ensures exact { (marks : MarkList) (buffer image : List ℕ) (flags : List Bool) → act marks (LpEnd counter back) (state registers.old buffer image flags) ≡ (result, state registers.new buffer image flags) }
-    ensures control { registers.new.ccr ≡ registers.old.ccr }
     ensures pc { registers.new.pc ≤ registers.old.pc + 2 }
 {
     if let Some(kind) = jump_fault(counter, back, registers) {
@@ -125,7 +120,6 @@ fn end_loop(counter: Counter, back: u8, registers: &mut Registers) -> ChanTurn
 fn signal(event: Event, registers: &mut Registers, events: &mut Events) -> ChanTurn
     requires pc { registers.old.pc + 2 ≤ 8192 }
     ensures exact { (marks : MarkList) (buffer image : List ℕ) → act marks (Sev event) (state registers.old buffer image events.old) ≡ (result, state registers.new buffer image events.new) }
-    ensures control { registers.new.ccr ≡ registers.old.ccr }
     ensures pc { registers.new.pc ≤ registers.old.pc + 2 }
 {
     events.set(event.number());
@@ -137,7 +131,6 @@ fn signal(event: Event, registers: &mut Registers, events: &mut Events) -> ChanT
 fn wait(event: Event, invalid: bool, registers: &mut Registers, events: &mut Events) -> ChanTurn
     requires pc { registers.old.pc + 2 ≤ 8192 }
     ensures exact { (marks : MarkList) (buffer image : List ℕ) → act marks (Wfe event invalid) (state registers.old buffer image events.old) ≡ (result, state registers.new buffer image events.new) }
-    ensures control { registers.new.ccr ≡ registers.old.ccr }
     ensures pc { registers.new.pc ≤ registers.old.pc + 2 }
 {
     let number = event.number();
@@ -171,10 +164,8 @@ pub(crate) fn execute(
 ) -> ChanTurn
     requires len { len ≡ length (spelling insn) }
     requires pc { registers.old.pc + len ≤ 8192 }
-    requires control { IsTrue (is_control registers.old.ccr) }
     requires capacity { buffer.old.capacity ≡ 256 }
     ensures exact { act marks.now insn (state registers.old buffer.old.items memory.old events.old) ≡ (result, state registers.new buffer.new.items memory.new events.new) }
-    ensures control { IsTrue (is_control registers.new.ccr) }
     ensures capacity { buffer.new.capacity ≡ 256 }
     ensures pc { registers.new.pc ≤ registers.old.pc + len }
 {
@@ -201,7 +192,6 @@ pub(crate) fn fault_of(
     memory: &Memory,
     marks: &Marks,
 ) -> Option<FaultKind>
-    requires control { IsTrue (is_control registers.now.ccr) }
     requires capacity { buffer.now.capacity ≡ 256 }
     ensures { (flags : List Bool) → result ≡ fault_in (act marks.now insn (state registers.now buffer.now.items memory.now flags)).0 }
 {

@@ -1,25 +1,22 @@
 -- From what a call found to its answer.
-use Rattle.std.proofs.Common.{◌≡◌, ◌≢◌, ℕ, ◌+◌, ◌-◌, ◌<◌, ◌≤◌, List, [], ◌∷◌, ◌++◌, length, take, drop, Option, Some, None, Bool, true, false, refl, ap, sym, ◌∙◌, subst, arith, ◌||◌, not}
-use Rattle.std.specs.Prelude.{nat_lt, nat_le, ◌==◌, unwrap_or, Ok, Err}
-use Rattle.std.proofs.lemmas.Bool.{lt-ltb, le-ltb, le-leb, lt-leb, leb-false, eq-eqb, ne_eqb}
+use Rattle.std.proofs.Common.{◌≡◌, ℕ, ◌+◌, ◌-◌, ◌<◌, ◌≤◌, List, [], ◌∷◌, ◌++◌, length, take, drop, Option, Some, None, Bool, true, false, refl, ap, sym, ◌∙◌, subst, arith, ◌||◌, not}
+use Rattle.std.specs.Prelude.{nat_lt, nat_le, unwrap_or, Ok, Err, if◌then◌else◌}
+use Rattle.std.proofs.lemmas.Bool.{lt-ltb, le-ltb, le-leb, lt-leb, leb-false}
 use Rattle.std.proofs.lemmas.List.{length_push}
 use Rattle.dma_mem.specs.Places.{Descriptor, lies_below}
-use Rattle.dma_mem.specs.declared.marks.MarkKind.{MarkKind}
-use Rattle.dma_mem.specs.declared.segment.Segment.{Segment}
 use Rattle.dma_engine.specs.declared.call.Call.{Call}
-use Rattle.dma_engine.specs.declared.call.Call.TheVariants.{Write, Read, Submit, Issue, Pause, Resume, Mark, Unmark, Raise, Terminate}
+use Rattle.dma_engine.specs.declared.call.Call.TheVariants.{Write, Read, Submit, Issue, Pause, Resume, Terminate}
 use Rattle.dma_engine.specs.declared.call.Reply.{Reply}
 use Rattle.dma_engine.specs.declared.call.Reply.TheVariants.{Done, Bytes, Cookie, Count, Refused}
 use Rattle.dma_engine.specs.declared.entry.Entry.{Entry}
-use Rattle.dma_engine.specs.declared.entry.Entry.TheVariants.{Wrote, ReadBack, Submitted, Issued, Signalled, Marked, Unmarked, Terminated}
-use Rattle.dma_engine.specs.declared.entry.Signaller.TheVariants.{Host}
+use Rattle.dma_engine.specs.declared.entry.Entry.TheVariants.{Wrote, ReadBack, Submitted, Issued}
 use Rattle.dma_engine.specs.declared.fault.EngineFault.{EngineFault}
 use Rattle.dma_engine.specs.declared.fault.EngineFault.TheVariants.{OutOfMemoryRange, Busy, NoChannel, CookiesSpent, StepsSpent, BadEvent, BadRange, NoMemory}
 use Rattle.dma_engine.specs.declared.way.Way.TheVariants.{Write as WriteWay, Read as ReadWay}
 use Rattle.dma_engine.specs.Object.{channel, used, unfinished, last_cookie}
 use Rattle.dma_engine.specs.View.{View, RunningTransfer, object_of, size, channels}
 use Rattle.dma_engine.specs.Turn.{with_entry}
-use Rattle.dma_engine.specs.Answer.{Answers, answer, takes_memory, write_fault, read_fault, channel_fault, submit_fault, mark_fault, cause, checked, busy, first_running, named, with_pause, is_started, terminated, done_on}
+use Rattle.dma_engine.specs.Answer.{Answers, answer, takes_memory, write_fault, read_fault, channel_fault, submit_fault, cause, checked, busy, first_running, named, with_pause, is_started, terminated}
 use Rattle.dma_engine.specs.Ways.{is_in_the_way}
 
 -- ---- a call that adds an entry takes memory
@@ -111,39 +108,22 @@ channel-gone v ch h = let e : nat_le (channels v) ch ≡ true = le-leb _ _ h in 
 pub channel-there : (v : View) (ch : ℕ) → ch < channels v → channel_fault v ch ≡ None
 channel-there v ch h = let e : nat_le (channels v) ch ≡ false = lt-leb _ _ h in rw e refl
 
-pub issue-gone : (v : View) (ch : ℕ) → channels v ≤ ch → Answers v (Issue ch) (Refused NoChannel) v
-issue-gone v ch h = rw (channel-gone v ch h) refl
-
 pub issue-answer : (v : View) (ch : ℕ) → ch < channels v → let c = channel (object_of v) ch in answer v (Issue ch) ≡ (Count (used c - c.issued), with_entry v (Issued ch))
 issue-answer v ch h = rw (channel-there v ch h) refl
-
-pub issue-starved : (v : View) (ch : ℕ) → ch < channels v → Answers v (Issue ch) (Refused NoMemory) v
-issue-starved v ch h = starved v (Issue ch) _ _ (Issued ch) (issue-answer v ch h) refl
 
 pub issue-done : (v w : View) (ch count : ℕ) → ch < channels v → count ≡ used (channel (object_of v) ch) - (channel (object_of v) ch).issued → w ≡ with_entry v (Issued ch) → Answers v (Issue ch) (Count count) w
 issue-done v w ch count h n is = ap (λ x. (Count count, x)) is ∙ ap (λ k. (Count k, with_entry v (Issued ch))) n ∙ sym (issue-answer v ch h)
 
-pub pause-gone : (v : View) (ch : ℕ) → channels v ≤ ch → Answers v (Pause ch) (Refused NoChannel) v
-pause-gone v ch h = rw (channel-gone v ch h) refl
+pub paused-gone : (v : View) (ch : ℕ) (paused : Bool) → channels v ≤ ch → Answers v (if paused then Pause ch else Resume ch) (Refused NoChannel) v
+paused-gone v ch true h = rw (channel-gone v ch h) refl
+paused-gone v ch false h = rw (channel-gone v ch h) refl
 
-pub resume-gone : (v : View) (ch : ℕ) → channels v ≤ ch → Answers v (Resume ch) (Refused NoChannel) v
-resume-gone v ch h = rw (channel-gone v ch h) refl
-
-pub pause-done : (v w : View) (ch : ℕ) → ch < channels v → w ≡ with_pause v ch true → Answers v (Pause ch) Done w
-pause-done v w ch h is = rw (channel-there v ch h, is) refl
-
-pub resume-done : (v w : View) (ch : ℕ) → ch < channels v → w ≡ with_pause v ch false → Answers v (Resume ch) Done w
-resume-done v w ch h is = rw (channel-there v ch h, is) refl
-
-pub terminate-gone : (v : View) (ch : ℕ) → channels v ≤ ch → Answers v (Terminate ch) (Refused NoChannel) v
-terminate-gone v ch h = rw (channel-gone v ch h) refl
+pub paused-done : (v w : View) (ch : ℕ) (paused : Bool) → ch < channels v → w ≡ with_pause v ch paused → Answers v (if paused then Pause ch else Resume ch) Done w
+paused-done v w ch true h is = rw (channel-there v ch h, is) refl
+paused-done v w ch false h is = rw (channel-there v ch h, is) refl
 
 pub terminate-answer : (v : View) (ch : ℕ) → ch < channels v → answer v (Terminate ch) ≡ (Count (unfinished (channel (object_of v) ch)), terminated v ch)
 terminate-answer v ch h = rw (channel-there v ch h) refl
-
-pub terminate-starved : (v : View) (ch : ℕ) → ch < channels v → Answers v (Terminate ch) (Refused NoMemory) v
-terminate-starved v ch h =
-    starved v (Terminate ch) _ _ (Terminated ch (done_on v ch) (unfinished (channel (object_of v) ch))) (terminate-answer v ch h) refl
 
 pub terminate-done : (v w : View) (ch count : ℕ) → ch < channels v → count ≡ unfinished (channel (object_of v) ch) → w ≡ terminated v ch → Answers v (Terminate ch) (Count count) w
 terminate-done v w ch count h n is = ap (λ x. (Count count, x)) is ∙ ap (λ k. (Count k, terminated v ch)) n ∙ sym (terminate-answer v ch h)
@@ -170,51 +150,6 @@ submit-open v ch t none =
     let second = no-cause (not (lies_below t (size v))) OutOfMemoryRange _ first.1 in
     let third = no-cause (nat_le last_cookie (used (channel (object_of v) ch))) CookiesSpent None second.1 in
     (leb-false _ _ first.0, not-false (lies_below t (size v)) second.0, leb-false _ _ third.0)
-
--- ---- marks and events
-
-or-false : (a b : Bool) → a ≡ false → b ≡ false → (a || b) ≡ false
-or-false a b h g = rw (h, g) refl
-
-pub mark-empty : (v : View) (kind : MarkKind) (s : Segment) → s.len ≡ 0 → Answers v (Mark kind s) (Refused BadRange) v
-mark-empty v kind s h = let e : (s.len == 0) ≡ true = eq-eqb s.len 0 h in rw e refl
-
-pub mark-wraps : (v : View) (kind : MarkKind) (s : Segment) → 4294967296 < s.addr + s.len → Answers v (Mark kind s) (Refused BadRange) v
-mark-wraps v kind s h =
-    let e : (s.len == 0 || nat_lt 4294967296 (s.addr + s.len)) ≡ true = ap (λ b. s.len == 0 || b) (lt-ltb 4294967296 (s.addr + s.len) h) ∙ or-true (s.len == 0) in
-    rw e refl
-
-mark-fits : (s : Segment) → s.len ≢ 0 → s.addr + s.len ≤ 4294967296 → mark_fault s ≡ None
-mark-fits s some within =
-    let e = or-false (s.len == 0) (nat_lt 4294967296 (s.addr + s.len)) (ne_eqb s.len 0 some) (le-ltb 4294967296 (s.addr + s.len) within) in
-    rw e refl
-
-pub mark-answer : (v : View) (kind : MarkKind) (s : Segment) → s.len ≢ 0 → s.addr + s.len ≤ 4294967296 → answer v (Mark kind s) ≡ (Done, with_entry v (Marked kind s))
-mark-answer v kind s some within = rw (mark-fits s some within) refl
-
-pub mark-starved : (v : View) (kind : MarkKind) (s : Segment) → s.len ≢ 0 → s.addr + s.len ≤ 4294967296 → Answers v (Mark kind s) (Refused NoMemory) v
-mark-starved v kind s some within = starved v (Mark kind s) Done _ (Marked kind s) (mark-answer v kind s some within) refl
-
-pub mark-done : (v w : View) (kind : MarkKind) (s : Segment) → s.len ≢ 0 → s.addr + s.len ≤ 4294967296 → w ≡ with_entry v (Marked kind s) → Answers v (Mark kind s) Done w
-mark-done v w kind s some within is = ap (λ x. (Done, x)) is ∙ sym (mark-answer v kind s some within)
-
-pub unmark-starved : (v : View) → Answers v Unmark (Refused NoMemory) v
-unmark-starved v = starved v Unmark Done (with_entry v Unmarked) Unmarked refl refl
-
-pub unmark-done : (v w : View) → w ≡ with_entry v Unmarked → Answers v Unmark Done w
-unmark-done v w is = ap (λ x. (Done, x)) is
-
-pub raise-bad : (v : View) (event : ℕ) → 31 < event → Answers v (Raise event) (Refused BadEvent) v
-raise-bad v event h = let e : nat_lt 31 event ≡ true = lt-ltb 31 event h in rw e refl
-
-pub raise-answer : (v : View) (event : ℕ) → event ≤ 31 → answer v (Raise event) ≡ (Done, with_entry v (Signalled Host event))
-raise-answer v event h = let e : nat_lt 31 event ≡ false = le-ltb 31 event h in rw e refl
-
-pub raise-starved : (v : View) (event : ℕ) → event ≤ 31 → Answers v (Raise event) (Refused NoMemory) v
-raise-starved v event h = starved v (Raise event) Done _ (Signalled Host event) (raise-answer v event h) refl
-
-pub raise-done : (v w : View) (event : ℕ) → event ≤ 31 → w ≡ with_entry v (Signalled Host event) → Answers v (Raise event) Done w
-raise-done v w event h is = ap (λ x. (Done, x)) is ∙ sym (raise-answer v event h)
 
 -- ---- a submit that is checked first
 
@@ -268,12 +203,6 @@ submit-checked v ch n t fault h =
     let second = named-cause (not (lies_below t (size v))) OutOfMemoryRange _ fault tt third in
     let first = named-cause (nat_le (channels v) ch) NoChannel _ fault tt second in
     refused-as v (Submit ch t) fault (first is) (rw is refl)
-
-pub submit-wanting : (v : View) (ch : ℕ) (t : Descriptor) → submit_fault v ch t ≡ None → Answers v (Submit ch t) (Refused NoMemory) v
-submit-wanting v ch t none =
-    let cookie = used (channel (object_of v) ch) + 1 in
-    let is : answer v (Submit ch t) ≡ (Cookie cookie, with_entry v (Submitted ch t cookie)) = rw none refl in
-    starved v (Submit ch t) (Cookie cookie) _ (Submitted ch t cookie) is refl
 
 pub checked-cookie : (x : Option EngineFault) (n k : ℕ) → Ok k ≡ checked x n → k ≡ n
 checked-cookie None n k h = cc

@@ -10,12 +10,11 @@ use Rattle.dma_engine.specs.declared.entry.Entry.{Entry}
 use Rattle.dma_engine.specs.declared.entry.Entry.TheVariants.{Submitted}
 use Rattle.dma_engine.specs.declared.queue.Queue.{Queue}
 use Rattle.dma_engine.specs.Object.{Object, ChannelState, channel, front, issued_front, finished, used}
-use Rattle.dma_engine.specs.View.{ChannelSchedule, RunningTransfer, Agrees, object_of, runs, runs_there, running, idle}
+use Rattle.dma_engine.specs.View.{ChannelSchedule, RunningTransfer, object_of, runs, runs_there, running, idle}
 use Rattle.dma_engine.specs.Answer.{named}
 use Rattle.dma_engine.specs.Holds.{Holds, Parts, view_of, taken_of}
 use Rattle.dma_engine.proofs.Boards.{counted-at}
-use Rattle.dma_engine.proofs.Entries.{taken-some}
-use Rattle.dma_engine.proofs.Queues.{Front, front_where, front_place, front_read, holds-at, runs_front}
+use Rattle.dma_engine.proofs.Queues.{Front, front_place, front_read, holds-at}
 use Rattle.dma_engine.proofs.WhatRuns.{below, find-here}
 
 -- ---- the issued front
@@ -64,18 +63,6 @@ front_found p h ch q n place e other cookie u less read is open_one at_place at_
     pair ∙ sym (ap (option_map {U = Descriptor × ℕ} (λ x. (x, k))) f.1)
 
 -- ---- what runs
-
--- what runs is the issued front
-pub running_front : (p : Parts) → Holds p → (ch : ℕ) (q : Queue) → ch < length p.queues → q ≡ slice_index_or p.queues ch q → is_some q.channel.program ≡ true → option_map {U = Descriptor × ℕ} (λ t. (t, finished (channel (object_of (view_of p)) ch) + 1)) (issued_front (channel (object_of (view_of p)) ch)) ≡ option_map {U = Descriptor × ℕ} (λ r. (r.transfer, r.cookie)) (runs (object_of (view_of p)) (view_of p).schedule ch)
-running_front p h ch q less read loaded =
-    let c = channel (object_of (view_of p)) ch in
-    let at = holds-at p h ch q less read in
-    let taken = taken-some q.channel loaded in
-    let agrees : Agrees c (Some q.channel.taken) = rw taken at at.agrees in
-    let f = front_where c _ agrees.1 in
-    let here = at.runs_is ∙ ap (runs_there ch c) taken ∙ runs_front ch c f.transfer q.channel.taken f.is in
-    ap (option_map {U = Descriptor × ℕ} (λ t. (t, finished c + 1))) f.issued
-    ∙ sym (ap (option_map {U = Descriptor × ℕ} (λ r. (r.transfer, r.cookie))) here)
 
 pub taken-none : (m : ChannelValue) → is_some m.program ≡ false → taken_of m ≡ None
 taken-none m h =

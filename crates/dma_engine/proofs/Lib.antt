@@ -24,3 +24,4 @@ pub mod Kept
 pub mod Rows
 pub mod Deeds
 pub mod Given
+pub mod Idle

@@ -101,11 +101,6 @@ slice_get-push [] y x k h = absurd cc
 slice_get-push (z ∷ xs) y x zero h = h
 slice_get-push (z ∷ xs) y x (suc k) h = slice_get-push xs y x k h
 
-pub slice_get-push_within : {X : Type 0} (xs : List X) (y : X) (k : ℕ) → k < length xs → slice_get (xs ++ y ∷ []) k ≡ slice_get xs k
-slice_get-push_within [] y k h = absurd (omega arith)
-slice_get-push_within (x ∷ xs) y zero h = refl
-slice_get-push_within (x ∷ xs) y (suc k) h = slice_get-push_within xs y k (omega arith)
-
 pub slice_get-push_last : {X : Type 0} (xs : List X) (y : X) (k : ℕ) → k ≡ length xs → slice_get (xs ++ y ∷ []) k ≡ Some y
 slice_get-push_last [] y k h = rw h refl
 slice_get-push_last (x ∷ xs) y zero h = absurd (omega arith)

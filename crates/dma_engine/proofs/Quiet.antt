@@ -240,10 +240,3 @@ pub submitted-allowed : (p : Parts) (ch given : ℕ) (t : Descriptor) (q : Queue
 submitted-allowed p ch given t q h less read many few rules below =
     let at = holds-at p h ch q less read in
     (at.there, rules, below, ap (λ n. n + 1) (many ∙ at.tied.many), omega arith)
-
--- a queue put back where it was read
-pub view-same : (p : Parts) (ch : ℕ) (q : Queue) (history : List Entry) → ch < length p.queues → q ≡ slice_index_or p.queues ch q → view_of (changed p ch q p.memory p.events history p.steps) ≡ record (view_of p) { history = history }
-view-same p ch q history less read =
-    let v : View = view_of p in
-    view-changed p ch q p.memory p.events history p.steps
-    ∙ ap (λ s. record { base = v.base; history = history; steps = p.steps; schedule = s }) (schedule-kept p ch q q less read refl)

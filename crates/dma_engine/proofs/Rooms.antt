@@ -1,7 +1,7 @@
 -- The room that is made before it is needed, transfers found in a history, and which steps end.
 use Rattle.std.proofs.Common.{◌≡◌, ◌≢◌, ℕ, ◌<◌, ◌≤◌, List, [], ◌∷◌, length, map, drop, Option, Some, None, Bool, true, false, refl, ap, sym, ◌∙◌, subst, arith, zero, suc, inl, inr}
-use Rattle.std.specs.Prelude.{slice_index, slice_index_or, slice_set, is_some, nat_le, ◌==◌, if◌then◌else◌}
-use Rattle.std.proofs.lemmas.Bool.{lt-leb, le-leb, eq-eqb, cases_eq}
+use Rattle.std.specs.Prelude.{slice_index, slice_index_or, slice_set, is_some, if◌then◌else◌}
+use Rattle.std.proofs.lemmas.Bool.{cases_eq}
 use Rattle.std.proofs.lemmas.List.{get_or-map, map-set, get_or-set_same, get_or-set_other, length-map}
 use Rattle.dma_insn.specs.declared.insn.Insn.{Insn}
 use Rattle.dma_insn.specs.declared.insn.Insn.TheVariants.{Ld, St, End, Sev, Wfe, Mov, Rmb, Wmb, Nop, Lp, LpEnd}
@@ -20,10 +20,10 @@ use Rattle.dma_engine.specs.declared.outcome.TransResult.TheVariants.{ReadFailed
 use Rattle.dma_engine.specs.declared.queue.Queue.{Queue}
 use Rattle.dma_engine.specs.Found.{transfer_in, transfer_of}
 use Rattle.dma_engine.specs.Inside.{queue_room}
-use Rattle.dma_engine.specs.Object.{Object, ChannelState, channel, issued_front, no_transfer, unfinished, is_set}
+use Rattle.dma_engine.specs.Object.{Object, ChannelState, channel, no_transfer, unfinished, is_set}
 use Rattle.dma_engine.specs.Room.{no_room, room_on, KeepsRoom}
-use Rattle.dma_engine.specs.Turn.{Stepped, turn, ends, insn_turn, front_turn, start_turn, finishes, moves_on, in_the_way, last_step}
-use Rattle.dma_engine.specs.View.{View, EngineState, RunningTransfer, object_of, channels, schedule_at}
+use Rattle.dma_engine.specs.Turn.{Stepped, ends, insn_turn, front_turn, start_turn, finishes, moves_on, in_the_way}
+use Rattle.dma_engine.specs.View.{View, EngineState, RunningTransfer, object_of}
 use Rattle.dma_engine.specs.Holds.{Holds, IsQueue, Parts, view_of}
 use Rattle.dma_engine.proofs.Changes.{changed, view-changed, holds-changed, schedule-kept}
 use Rattle.dma_engine.proofs.Queues.{holds-at}
@@ -112,15 +112,6 @@ found-all ch history memory q c k t =
 
 -- ---- which steps end
 
-pub ends-gone : (v : View) (ch : ℕ) → channels v ≤ ch → false ≡ ends (turn v ch).0
-ends-gone v ch h = let e : nat_le (channels v) ch ≡ true = le-leb _ _ h in rw e refl
-
-pub ends-halted : (v : View) (ch : ℕ) → ch < channels v → (channel (object_of v) ch).halted ≡ true → false ≡ ends (turn v ch).0
-ends-halted v ch h halted = let e : nat_le (channels v) ch ≡ false = lt-leb _ _ h in rw (e, halted) refl
-
-pub ends-paused : (v : View) (ch : ℕ) → ch < channels v → (channel (object_of v) ch).halted ≡ false → (schedule_at v ch).paused ≡ true → false ≡ ends (turn v ch).0
-ends-paused v ch h goes paused = let e : nat_le (channels v) ch ≡ false = lt-leb _ _ h in rw (e, goes, paused) refl
-
 start-ends : (v : View) (ch : ℕ) (x : Option RunningTransfer) → false ≡ ends (start_turn v ch x).0
 start-ends v ch None = refl
 start-ends v ch (Some r) = refl
@@ -128,17 +119,6 @@ start-ends v ch (Some r) = refl
 front-ends : (v : View) (ch : ℕ) (o : Option Descriptor) → false ≡ ends (front_turn v ch o None).0
 front-ends v ch None = refl
 front-ends v ch (Some t) = start-ends v ch (in_the_way v t)
-
-pub ends-idle : (v : View) (ch : ℕ) → ch < channels v → (channel (object_of v) ch).halted ≡ false → (schedule_at v ch).paused ≡ false → (schedule_at v ch).taken ≡ None → false ≡ ends (turn v ch).0
-ends-idle v ch h goes unpaused none =
-    let e : nat_le (channels v) ch ≡ false = lt-leb _ _ h in
-    rw (e, goes, unpaused, none) (front-ends v ch (issued_front (channel (object_of v) ch)))
-
-pub ends-spent : (v : View) (ch n : ℕ) (t : Descriptor) → ch < channels v → (channel (object_of v) ch).halted ≡ false → (schedule_at v ch).paused ≡ false → issued_front (channel (object_of v) ch) ≡ Some t → (schedule_at v ch).taken ≡ Some n → v.steps ≡ last_step → false ≡ ends (turn v ch).0
-ends-spent v ch n t h goes unpaused issued runs spent =
-    let e : nat_le (channels v) ch ≡ false = lt-leb _ _ h in
-    let f : (v.steps == last_step) ≡ true = eq-eqb v.steps last_step spent in
-    rw (e, goes, unpaused, issued, runs, f) refl
 
 by-mark : (b : Bool) (v : View) (ch n : ℕ) (t : Descriptor) (how : TransResult) (kind : FaultKind) (m w : Shared) → ends (if◌then◌else◌ {A = Stepped} b (finishes v ch t n how) (moves_on v ch n)).0 ≡ is_some (fault_in (if◌then◌else◌ {A = ChanTurn × Shared} b (Fault kind, m) (Moved, w)).0)
 by-mark true v ch n t how kind m w = refl

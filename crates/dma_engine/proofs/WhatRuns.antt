@@ -40,10 +40,6 @@ All-find {X} p (x ∷ xs) h =
 
 -- ---- what runs
 
-pub All-running : (P : RunningTransfer → Type 0) (o : Object) (schedule : List ChannelSchedule) → ((ch : ℕ) → ch < length o.channels → IfSome (runs o schedule ch) P) → All P (running o schedule)
-unfolding running
-All-running P o schedule h = All-filter_map P (runs o schedule) 0 (length o.channels) (λ c l m. h c (omega arith))
-
 -- what runs below a channel, and above it
 abbrev pub below : Object → List ChannelSchedule → ℕ → List RunningTransfer
 below o schedule ch = filter_map (runs o schedule) (range_with_len 0 ch)

@@ -4,7 +4,7 @@ use Rattle.dma_mem.specs.Places.{Descriptor}
 use Rattle.dma_engine.specs.declared.call.Call.{Call}
 use Rattle.dma_engine.specs.declared.call.Call.TheVariants.{Submit, Terminate, Step}
 use Rattle.dma_engine.specs.declared.call.Reply.{Reply}
-use Rattle.dma_engine.specs.declared.call.Reply.TheVariants.{Cookie, Count}
+use Rattle.dma_engine.specs.declared.call.Reply.TheVariants.{Cookie, Count, Turned}
 use Rattle.dma_engine.specs.declared.entry.Entry.{Entry}
 use Rattle.dma_engine.specs.declared.fault.EngineFault.{EngineFault}
 use Rattle.dma_engine.specs.declared.fault.EngineFault.TheVariants.{NoMemory}
@@ -13,7 +13,8 @@ use Rattle.dma_engine.specs.declared.turn.Turn.TheVariants.{Moved, Finished as T
 use Rattle.dma_engine.specs.Object.{channel, finished, finished_all, last_cookie, unfinished, used}
 use Rattle.dma_engine.specs.Ticks.{Tick, Submitted, Finished, board_after, board_of, counts, ticks_of}
 use Rattle.dma_engine.specs.Turn.{ends, turn}
-use Rattle.dma_engine.specs.Answer.{Answers, Steps, Extends}
+use Rattle.dma_engine.specs.Answer.{Answers, Steps, Extends, answer, reply_of}
+use Rattle.dma_engine.specs.Room.{IsIdle}
 use Rattle.dma_engine.specs.View.{View, IsSound, channels, object_of}
 
 -- so many steps does an answer count: one for each that moves or finishes
@@ -96,3 +97,7 @@ BoardsOpen =
 -- A history has no more ticks than entries.
 abbrev pub TicksAreFew : Type 0
 TicksAreFew = (es : List Entry) → length (ticks_of es) ≤ length es
+
+-- Where the answer to a step is idle, the view is the one before.
+abbrev pub IdleStepsStay : Type 0
+IdleStepsStay = (v w : View) (ch : ℕ) (r : Result Turn EngineFault) → IsIdle r → (reply_of Turned r, w) ≡ answer v (Step ch) → w ≡ v

@@ -1,7 +1,10 @@
 //! Steps of one channel in a row.
 
-ghost use Rattle.std.specs.Prelude.{◌≡◌, ◌≢◌, ◌<◌, IsTrue, IsNone, IfSome, Ok, false};
+ghost use Rattle.std.specs.Prelude.{◌≡◌, ◌≢◌, ◌<◌, IsTrue, IsNone, None, IfSome, IfErr, Ok, false};
 ghost use Rattle.dma_engine.specs.Advance.{IsAdvance};
+ghost use Rattle.dma_engine.specs.Answer.{Extends, KeepsOutcomes};
+ghost use Rattle.dma_engine.specs.Room.{HasRoom, IsIdle, KeepsRoom};
+ghost use Rattle.dma_engine.specs.View.{IsSound, memory_of, schedule_at};
 
 use crate::engine::Engine;
 use crate::fault::EngineFault;
@@ -24,12 +27,33 @@ fn has_moved(turn: Result<Turn, EngineFault>) -> bool
     matches!(turn, Ok(Turn::Moved))
 }
 
-/// Steps a channel until an answer is not [`Turn::Moved`], at most `most` times. Each is a step as `Engine::step` takes it, in
-/// time and memory that don't grow with their number: no list of replies is made.
+/// Steps a channel until an answer is not [`Turn::Moved`], at most `most` times. Each is a step as [`Engine::step`] takes it. It
+/// takes time in proportion to the steps and the bytes that they move, and no memory of its own: no list of replies is made.
 pub fn advance(engine: &mut Engine, ch: u8, most: u32) -> Advanced
     ensures answers { IsAdvance engine.old.view ch result engine.new.view }
     ensures all { IsNone result.last → result.moved ≡ most }
     ensures other { IfSome result.last (λ last. (result.moved < most) × (last ≢ Ok Turn.Moved)) }
+    ensures begins { Extends engine.old.view engine.new.view }
+    ensures outcomes { KeepsOutcomes engine.old.view engine.new.view }
+    ensures sound { IsSound engine.new.view }
+    ensures memory { engine.new.memory ≡ memory_of engine.new.view }
+    // With room made, the first step is refused memory only where nothing runs, as a step alone is.
+    ensures room { HasRoom engine.old ch → result.moved ≡ 0 → IfSome result.last (λ last. IfErr last (λ fault. fault ≡ EngineFault.NoMemory → (schedule_at engine.old.view ch).taken ≡ None)) }
+    ensures kept { result.moved ≡ 0 → IfSome result.last (λ last. IsIdle last → KeepsRoom engine.old engine.new) }
+{
+    let advanced = take_steps(engine, ch, most);
+    // That the history is legal is told by its reading.
+    let _history = engine.history();
+    advanced
+}
+
+// The same, by what the steps themselves tell.
+fn take_steps(engine: &mut Engine, ch: u8, most: u32) -> Advanced
+    ensures answers { IsAdvance engine.old.view ch result engine.new.view }
+    ensures all { IsNone result.last → result.moved ≡ most }
+    ensures other { IfSome result.last (λ last. (result.moved < most) × (last ≢ Ok Turn.Moved)) }
+    ensures room { HasRoom engine.old ch → result.moved ≡ 0 → IfSome result.last (λ last. IfErr last (λ fault. fault ≡ EngineFault.NoMemory → (schedule_at engine.old.view ch).taken ≡ None)) }
+    ensures kept { result.moved ≡ 0 → IfSome result.last (λ last. IsIdle last → KeepsRoom engine.old engine.new) }
 {
     for moved in 0..most {
         if !engine.moves(ch) {

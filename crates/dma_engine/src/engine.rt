@@ -1,6 +1,6 @@
 //! The engine.
 
-ghost use Rattle.std.specs.Prelude.{◌≡◌, ◌≢◌, ◌+◌, ◌-◌, ◌<◌, ◌≤◌, ℕ, IsTrue, IsNone, IsSome, vec_len, vec_capacity, Ok, IfOk, IfErr, OnOk, OnErr, None, unwrap_or, length, take, drop, IfSome, slice_index_or, replicate, ◌++◌, ◌∷◌, [], false, if◌then◌else◌};
+ghost use Rattle.std.specs.Prelude.{◌≡◌, ◌≢◌, ◌+◌, ◌-◌, ◌<◌, ◌≤◌, ℕ, IsTrue, IsNone, IsSome, is_none, vec_len, vec_capacity, Ok, IfOk, IfErr, OnOk, OnErr, None, unwrap_or, take, IfSome, replicate, ◌++◌, ◌∷◌, [], false, if◌then◌else◌};
 ghost use Rattle.std.specs.Option.{option_map};
 ghost use Rattle.dma_mem.specs.Rules.{IsTransfer};
 ghost use Rattle.dma_engine.specs.Object.{channel, used, finished, finished_all, unfinished, is_failure};
@@ -449,13 +449,7 @@ impl Engine {
         ensures answer { Answers self.old.view (Call.Pause ch) (reply_of (λ _. Reply.Done) result) self.new.view }
         ensures kept { KeepsRoom self.old self.new }
     {
-        let index = usize::from(ch);
-        if index >= self.queues.len() {
-            return Err(EngineFault::NoChannel);
-        }
-        let queue = &mut self.queues[index];
-        queue.paused = true;
-        Ok(())
+        self.set_paused(ch, true)
     }
 
     /// Ends the pause of a channel; one that isn't paused stays so. It adds no entry and takes no memory.
@@ -465,12 +459,20 @@ impl Engine {
         ensures answer { Answers self.old.view (Call.Resume ch) (reply_of (λ _. Reply.Done) result) self.new.view }
         ensures kept { KeepsRoom self.old self.new }
     {
+        self.set_paused(ch, false)
+    }
+
+    // What `pause` and `resume` do.
+    fn set_paused(&mut self, ch: u8, paused: bool) -> Result<(), EngineFault>
+        ensures answer { Answers self.old.view (if paused then Call.Pause ch else Call.Resume ch) (reply_of (λ _. Reply.Done) result) self.new.view }
+        ensures kept { KeepsRoom self.old self.new }
+    {
         let index = usize::from(ch);
         if index >= self.queues.len() {
             return Err(EngineFault::NoChannel);
         }
         let queue = &mut self.queues[index];
-        queue.paused = false;
+        queue.paused = paused;
         Ok(())
     }
 
@@ -578,6 +580,26 @@ impl Engine {
         self.rare_step(ch)
     }
 
+    /// Takes one step of a channel, as [`Engine::step`] does, unless it would answer [`Turn::Finished`]. Then the answer is none,
+    /// and nothing changes: so a caller can first make ready what a finish needs. It is `ending` and then `step`, with the
+    /// instruction of a step that moves read once.
+    #[inline(always)]
+    pub fn step_unless_ending(&mut self, ch: u8) -> Option<Result<Turn, EngineFault>>
+        ensures answer { IfSome result (λ answer. Steps self.old.view ch answer self.new.view) }
+        ensures ends { is_none result ≡ ends (turn self.old.view ch).0 }
+        ensures still { IsNone result → (self.new ≡ self.old) }
+        ensures room { HasRoom self.old ch → IfSome result (λ answer. IfErr answer (λ fault. fault ≡ EngineFault.NoMemory → (schedule_at self.old.view ch).taken ≡ None)) }
+        ensures kept { IfSome result (λ answer. IsIdle answer → KeepsRoom self.old self.new) }
+    {
+        if self.moves(ch) {
+            return Some(Ok(Turn::Moved));
+        }
+        if self.ending(ch) {
+            return None;
+        }
+        Some(self.rare_step(ch))
+    }
+
     // The next instruction of a channel, if a step may execute it: its front runs, is neither halted nor paused, and the step
     // count isn't at its end.
     #[inline(always)]
@@ -638,8 +660,8 @@ impl Engine {
             return Err(EngineFault::StepsSpent);
         };
         match next.insn() {
-            Insn::Wfe { event, .. } => self.pass(ch, event.number()),
-            Insn::Sev(event) => self.signal(ch, event.number()),
+            Insn::Wfe { event, .. } => self.pass(ch, next, event.number()),
+            Insn::Sev(event) => self.signal(ch, next, event.number()),
             Insn::End => self.finish(ch, TransResult::NoError),
             _ => self.carry_on(ch, next),
         }
@@ -667,9 +689,10 @@ impl Engine {
     }
 
     // Goes on past the event that the front waits for, if its flag is set.
-    fn pass(&mut self, ch: u8, event: u8) -> Result<Turn, EngineFault>
+    fn pass(&mut self, ch: u8, next: Next, event: u8) -> Result<Turn, EngineFault>
         requires event { event ≤ 31 }
-        requires due { IsDue self.old.view ch (Waits event) }
+        requires due { IsDue self.old.view ch (IsNext next) }
+        requires waits { IsDue self.old.view ch (Waits event) }
         ensures answer { Steps self.old.view ch result self.new.view }
         ensures room { HasRoom self.old ch → IfErr result (λ fault. fault ≢ EngineFault.NoMemory) }
         ensures kept { IsIdle result → KeepsRoom self.old self.new }
@@ -683,14 +706,15 @@ impl Engine {
         let queue = &mut self.queues[usize::from(ch)];
         queue
             .channel
-            .step(&mut self.memory, &mut self.events, &self.marks);
+            .execute(next, &mut self.memory, &mut self.events, &self.marks);
         self.steps += 1;
         Ok(Turn::Moved)
     }
 
     // Signals the front's event.
-    fn signal(&mut self, ch: u8, event: u8) -> Result<Turn, EngineFault>
-        requires { IsDue self.old.view ch (Signals event) }
+    fn signal(&mut self, ch: u8, next: Next, event: u8) -> Result<Turn, EngineFault>
+        requires due { IsDue self.old.view ch (IsNext next) }
+        requires signals { IsDue self.old.view ch (Signals event) }
         ensures answer { Steps self.old.view ch result self.new.view }
         ensures room { HasRoom self.old ch → IfErr result (λ fault. fault ≢ EngineFault.NoMemory) }
         ensures kept { IsIdle result → KeepsRoom self.old self.new }
@@ -705,7 +729,7 @@ impl Engine {
         let queue = &mut self.queues[usize::from(ch)];
         queue
             .channel
-            .step(&mut self.memory, &mut self.events, &self.marks);
+            .execute(next, &mut self.memory, &mut self.events, &self.marks);
         self.steps += 1;
         Ok(Turn::Moved)
     }

@@ -1,6 +1,6 @@
-//! Laws of the engine's answers, for a layer that counts them. Each is the clause of a function that does nothing.
+//! Laws of the engine's answers, for the layers above. Each is the clause of a function that does nothing.
 
-ghost use Rattle.dma_engine.specs.Laws.{CallsExtend, QuietCallsKeep, SubmitsGive, TerminatesFinish, StepsAdd, EndsAsTold, BoardsCount, BoardsOpen, TicksAreFew};
+ghost use Rattle.dma_engine.specs.Laws.{CallsExtend, QuietCallsKeep, SubmitsGive, TerminatesFinish, StepsAdd, EndsAsTold, BoardsCount, BoardsOpen, TicksAreFew, IdleStepsStay};
 
 /// What each call adds to the ticks, to the step count and to the number of finished cookies.
 pub fn calls_add()
@@ -17,4 +17,9 @@ pub fn ticks_add_up()
     ensures board { BoardsCount }
     ensures opening { BoardsOpen }
     ensures few { TicksAreFew }
+{}
+
+/// An answer to a step that changed nothing comes again with the next step.
+pub fn idle_steps_stay()
+    ensures { IdleStepsStay }
 {}

@@ -41,7 +41,6 @@ pub fn run_into(
     ensures kept { KeepsOutcomes engine.old.view engine.new.view }
     ensures sound { IsSound engine.new.view }
     ensures memory { engine.new.memory ≡ memory_of engine.new.view }
-
     ensures refused { OnErr result (engine.new.view ≡ engine.old.view) }
     ensures none { OnErr result (replies.new.items ≡ replies.old.items) }
     ensures room { length calls.now ≤ vec_capacity replies.old - vec_len replies.old → IsOk result }

@@ -1,5 +1,5 @@
 -- The channel control word (PL330 manual, channel control registers).
-use Rattle.std.specs.Prelude.{◌≡◌, ℕ, ◌+◌, ◌-◌, ◌*◌, ◌/◌, ◌%◌, ◌^◌, ◌<◌, ◌≤◌, Bool, true, false, ◌==◌, if◌then◌else◌, Option, Some, None, Result, Ok, Err}
+use Rattle.std.specs.Prelude.{◌≡◌, ℕ, ◌+◌, ◌-◌, ◌*◌, ◌/◌, ◌%◌, ◌^◌, ◌<◌, ◌≤◌, Bool, true, false, ◌==◌, if◌then◌else◌, Option, Some, None, Result, Ok, Err, is_ok}
 use Rattle.std.specs.Option.{option_map}
 use Rattle.dma_insn.specs.declared.control.BeatSize.{BeatSize}
 use Rattle.dma_insn.specs.declared.control.BeatSize.TheVariants.{One, Two, Four, Eight, Sixteen}
@@ -88,6 +88,10 @@ with_ends w (Some s) (Some d) =
 -- The fields of a word, or the first refusal: a reserved size, a swap that is not 0, bit 31.
 unfoldable pub control_of : ℕ → Result Control ControlFault
 control_of w = with_ends w (end_at 0 w) (end_at 14 w)
+
+-- The words that are accepted: those that are refused for no reserved size, no swap and no bit 31 (profile).
+unfoldable pub is_control : ℕ → Bool
+is_control w = is_ok (control_of w)
 
 -- the fourteen bits of one end
 unfoldable pub end_bits : BurstEnd → ℕ

@@ -1,8 +1,8 @@
 //! The channel control word, which DMAMOV CCR sets (PL330 manual, channel control registers): what one burst of a load, from
 //! the source, and of a store, to the destination, moves.
 
-ghost use Rattle.std.specs.Prelude.{◌≡◌, ℕ, ◌+◌, ◌<◌, ◌≤◌, ◌^◌, ◌↔◌, Some, IsSome, IfSome, Ok, IfOk};
-ghost use Rattle.dma_insn.specs.ControlWord.{field, size_code, size_of, beat_bytes, burst_bytes, end_at, end_bits, control_of, bits_of, HasEndRanges, HasFields};
+ghost use Rattle.std.specs.Prelude.{◌≡◌, ℕ, ◌+◌, ◌<◌, ◌≤◌, ◌^◌, ◌↔◌, Some, IsSome, IfSome, Ok, Err, IfOk, IfErr, IsTrue, is_ok};
+ghost use Rattle.dma_insn.specs.ControlWord.{field, size_code, size_of, beat_bytes, burst_bytes, end_at, end_bits, control_of, bits_of, is_control, HasEndRanges, HasFields};
 
 use std::marker::Model;
 use thiserror::Error;
@@ -317,6 +317,75 @@ impl Control {
     }
 }
 
+/// A control word that is accepted: no size is reserved, no swap is asked for, and bit 31 is clear. A contract sees the word.
+#[derive(Clone, Copy, PartialEq, Eq, Debug)]
+pub struct ControlWord {
+    bits: u32,
+}
+
+impl Model for ControlWord {
+    ghost use Rattle.std.specs.Prelude.{ℕ, IsTrue};
+    ghost use Rattle.dma_insn.specs.ControlWord.{is_control};
+
+    ghost Value = { ℕ };
+
+    ghost view = { λ w. w.bits };
+
+    ghost invariant = { λ w. IsTrue (is_control w.bits) };
+
+    ghost inverse = { λ n. record { bits = n } };
+}
+
+impl ControlWord {
+    /// The word whose bits are all 0: at both ends a burst of one byte, whose address stays.
+    #[tactic(auto, unfolding(crate::specs::ControlWord::is_control, crate::specs::ControlWord::control_of, crate::specs::ControlWord::end_at))]
+    pub fn zero() -> ControlWord
+        ensures { result ≡ 0 }
+    {
+        ControlWord { bits: 0 }
+    }
+
+    /// The word of these bits; it is refused where `Control::from_bits` refuses them, and by the same name.
+    #[tactic(auto, unfolding(crate::specs::ControlWord::is_control))]
+    pub fn from_bits(bits: u32) -> Result<ControlWord, ControlFault>
+        ensures ok { IfOk result (λ word. word ≡ bits) }
+        ensures accepted { is_ok result ≡ is_control bits }
+        ensures refused { IfErr result (λ fault. control_of bits ≡ Err fault) }
+    {
+        read(bits)?;
+        Ok(ControlWord { bits })
+    }
+
+    pub fn bits(self) -> u32
+        ensures value { result ≡ self }
+        ensures accepted { IsTrue (is_control self) }
+    {
+        self.bits
+    }
+
+    /// How a load reads the source.
+    #[tactic(auto, unfolding(crate::specs::ControlWord::is_control, crate::specs::ControlWord::control_of))]
+    pub fn source(self) -> BurstEnd
+        ensures { end_at 0 self ≡ Some result }
+    {
+        let Some(end) = BurstEnd::at(self.bits, 0) else {
+            unreachable!()
+        };
+        end
+    }
+
+    /// How a store writes the destination.
+    #[tactic(auto, unfolding(crate::specs::ControlWord::is_control, crate::specs::ControlWord::control_of))]
+    pub fn destination(self) -> BurstEnd
+        ensures { end_at 14 self ≡ Some result }
+    {
+        let Some(end) = BurstEnd::at(self.bits, 14) else {
+            unreachable!()
+        };
+        end
+    }
+}
+
 #[tactic(auto, unfolding(crate::specs::ControlWord::control_of))]
 fn read(bits: u32) -> Result<Control, ControlFault>
     ensures { result ≡ control_of bits }
@@ -413,6 +482,23 @@ mod tests {
         assert_eq!(rt; (src.increments, dst.increments), (true, false));
         assert_eq!(rt; (src.protection.code(), dst.cache.code()), (7, 7));
         assert_eq!(rt; bits, 0x0ffd_bff7);
+        Ok(())
+    }
+
+    #[test]
+    fn an_accepted_word_has_its_ends(rt: HostRuntime) -> Result<(), Fail> {
+        let word = ControlWord::from_bits(0x0ffd_bff7)
+            .ok()
+            .ok_or("a control word")?;
+        let (src, dst) = (word.source(), word.destination());
+        assert_eq!(rt; word.bits(), 0x0ffd_bff7);
+        assert_eq!(rt; (src.burst_bytes(), dst.burst_bytes()), (128, 128));
+        assert_eq!(rt; (src.increments, dst.increments), (true, false));
+        assert_eq!(rt; ControlWord::zero().source().burst_bytes(), 1);
+        assert_eq!(rt;
+            ControlWord::from_bits(0x0000_000b),
+            Err(ControlFault::ReservedSize)
+        );
         Ok(())
     }
 

@@ -238,6 +238,29 @@ impl Transfer {
         })
     }
 
+    /// The same of lists that it takes for itself, so that no memory is asked for. The errors are those of [`Transfer::new`] in
+    /// their order, without `NoMemory`.
+    pub fn from_lists(
+        src: Segments,
+        dst: Segments,
+        wait: Option<u8>,
+        signal: Option<u8>,
+    ) -> Result<Transfer, TransferFault>
+        ensures ok { IfOk result (λ t. t ≡ record { src = src; dst = dst; wait = wait; signal = signal }) }
+        ensures accepted { IfOk result (λ t. refusal_of t ≡ None) }
+        ensures rules { IfOk result (λ t. IsTransfer t) }
+        ensures err { IfErr result (λ fault. refusal_of (record { src = src; dst = dst; wait = wait; signal = signal }) ≡ Some fault) }
+    {
+        let len = checked_len(src.as_slice(), dst.as_slice(), wait, signal)?;
+        Ok(Transfer {
+            src,
+            dst,
+            wait,
+            signal,
+            len,
+        })
+    }
+
     /// The source segments, in order.
     pub fn src(&self) -> &[Segment]
         ensures segments { result.now ≡ self.now.src }
@@ -472,6 +495,24 @@ mod tests {
         assert_eq!(rt; t.src().len(), 64);
         assert_eq!(rt; t.wait(), Some(31));
         assert_eq!(rt; t.signal(), Some(31));
+        Ok(())
+    }
+
+    #[test]
+    fn takes_lists_for_itself(rt: HostRuntime) -> Result<(), Fail> {
+        let src = Segments::from_slice(rt.alloc(), &[seg((0x10, 3)), seg((0x21, 5))])?;
+        let dst = Segments::from_slice(rt.alloc(), &[seg((0x40, 8))])?;
+        let t = Transfer::from_lists(src, dst, None, Some(3))?;
+        assert_eq!(rt; t.src(), [seg((0x10, 3)), seg((0x21, 5))].as_slice());
+        assert_eq!(rt; (t.len(), t.signal()), (8, Some(3)));
+        let none = Segments::new(rt.alloc());
+        let refused = Transfer::from_lists(
+            none,
+            repeated(rt.alloc(), seg((0, 1)), 65)?,
+            None,
+            None,
+        );
+        assert_eq!(rt; refused.err(), Some(TransferFault::EmptyList));
         Ok(())
     }
 

@@ -1,6 +1,6 @@
 -- The bytes of a hexadecimal word, pair by pair.
 use Rattle.std.proofs.Common.{◌≡◌, ℕ, ◌<◌, ◌≤◌, ◌+◌, ◌*◌, List, [], ◌∷◌, ◌++◌, length, map, drop, get_or, refl, ap, ◌∙◌, sym, arith, add-one, drop-cons, append_assoc, Option, Some, None, Result, Ok, Err}
-use Rattle.std.specs.Option.{ok_or, option_map}
+use Rattle.std.specs.Option.{ok_or, option_map, option_and_then}
 use Rattle.dma_script.specs.Words.{bytes_in, hex_digit_of}
 use Rattle.dma_script.specs.Lines.{◌>>=◌, LineGives, Gives}
 use Rattle.dma_script.specs.Arguments.{hex_at, hex_after, bytes_at}
@@ -13,11 +13,18 @@ joined : (before : List ℕ) (b : ℕ) (rest : Option (List ℕ)) → (ok_or res
 joined before b None = refl
 joined before b (Some more) = ap Ok (append_assoc before (b ∷ []) more)
 
+-- What two digits add, before any other bytes of the word.
+pair_read : (high low : Option ℕ) (before bytes : List ℕ) (more : Option (List ℕ)) → (ok_or (option_and_then (λ h. option_map (λ l. (16 * h + l) ∷ []) low) high) Hex >>= (λ m. Ok (before ++ m))) ≡ Ok bytes
+    → (ok_or more Hex >>= (λ m. Ok (bytes ++ m))) ≡ (ok_or (option_and_then (λ h. option_and_then (λ l. option_map (λ m. (16 * h + l) ∷ m) more) low) high) Hex >>= (λ m. Ok (before ++ m)))
+pair_read None low before bytes more is = absurd (let bad : Err Hex ≡ Ok bytes = is in cc)
+pair_read (Some h) None before bytes more is = absurd (let bad : Err Hex ≡ Ok bytes = is in cc)
+pair_read (Some h) (Some l) before bytes more is = let same : bytes ≡ before ++ (16 * h + l) ∷ [] = cc in rw same (joined before (16 * h + l) more)
+
 -- One more pair.
-pub hex_after_pair : (before rest : List ℕ) (high low : ℕ) → 2 ≤ length rest → hex_digit_of (get_or rest 0 0) ≡ Some high → hex_digit_of (get_or rest 1 0) ≡ Some low → hex_after (before ++ (16 * high + low) ∷ []) (drop 2 rest) ≡ hex_after before rest
-hex_after_pair before [] high low two h l = absurd (omega arith)
-hex_after_pair before (a ∷ []) high low two h l = absurd (omega arith)
-hex_after_pair before (a ∷ b ∷ rest) high low two h l = rw (h, l) (joined before (16 * high + low) (bytes_in rest))
+pub hex_after_pair : (before bytes rest : List ℕ) → 2 ≤ length rest → hex_after before (get_or rest 0 0 ∷ get_or rest 1 0 ∷ []) ≡ Ok bytes → hex_after bytes (drop 2 rest) ≡ hex_after before rest
+hex_after_pair before bytes [] two is = absurd (omega arith)
+hex_after_pair before bytes (a ∷ []) two is = absurd (omega arith)
+hex_after_pair before bytes (a ∷ b ∷ rest) two is = pair_read (hex_digit_of a) (hex_digit_of b) before bytes (bytes_in rest) is
 
 -- The bytes behind those read before, for the words from here on.
 abbrev pub bytes_after : List ℕ → List (List ℕ) → Result (List ℕ) Cause

@@ -1,5 +1,6 @@
 -- Lemmas on how a command ends, on lines, their words, and which are skipped, on numbers, hexadecimal words and lists of
 -- segments; worked scripts.
+pub mod Digits
 pub mod EndLemmas
 pub mod HexLemmas
 pub mod LineLemmas
@@ -9,5 +10,5 @@ pub mod PairLemmas
 pub mod RaceLemmas
 pub mod RowLemmas
 pub mod Rows
-pub mod Extends
 pub mod Skipped
+pub mod WordLemmas

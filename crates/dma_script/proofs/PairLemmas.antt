@@ -1,11 +1,10 @@
 -- Pairs of digits, one after another.
-use Rattle.std.proofs.Common.{◌≡◌, ℕ, ◌≤◌, ◌+◌, List, [], ◌∷◌, ◌++◌, length, drop, get_or, refl, ap, ◌∙◌, sym, arith, append_assoc, append-nil, true, false, eqb, eq-eqb, Result, Ok, Err}
-use Rattle.std.proofs.lemmas.Bool.{ne_eqb}
-use Rattle.dma_script.specs.Words.{hex_digit_of}
+use Rattle.std.proofs.Common.{◌≡◌, ℕ, ◌≤◌, ◌+◌, ◌*◌, ◌⊎◌, inl, inr, Bool, ◌||◌, Option, Some, None, List, [], ◌∷◌, ◌++◌, length, drop, get_or, refl, ap, ◌∙◌, sym, arith, append_assoc, append-nil, true, false, eqb, eq-eqb, Result, Ok, Err}
+use Rattle.std.proofs.lemmas.Bool.{eqb-true, ne_eqb, false_from_ne_true}
+use Rattle.std.specs.Option.{option_and_then, option_map}
+use Rattle.dma_script.specs.Words.{hex_digit_of, hex_pair_of}
 use Rattle.dma_script.specs.Lines.{◌>>=◌}
-use Rattle.dma_script.specs.Pairs.{is_gap, pair_of, pairs_from, pairs_of, PairsGives}
-use Rattle.dma_script.specs.declared.pairs.PairsError.{PairsError}
-use Rattle.dma_script.specs.declared.pairs.PairsError.TheVariants.{NoMemory, Line}
+use Rattle.dma_script.specs.Pairs.{is_gap, pair_of, pairs_from}
 
 -- The bytes behind those read before, from a line on.
 abbrev pub pairs_after : List ℕ → ℕ → List ℕ → Result (List ℕ) ℕ
@@ -28,22 +27,58 @@ joined : (before : List ℕ) (b : ℕ) (rest : Result (List ℕ) ℕ) → (rest 
 joined before b (Err line) = refl
 joined before b (Ok more) = ap Ok (append_assoc before (b ∷ []) more)
 
+or_cases : (p q : Bool) → (p || q) ≡ true → (p ≡ true) ⊎ (q ≡ true)
+or_cases true q e = inl refl
+or_cases false q e = inr e
+
+no_digit_at : (b gap : ℕ) → hex_digit_of gap ≡ None → eqb b gap ≡ true → hex_digit_of b ≡ None
+no_digit_at b gap none is = ap hex_digit_of (eqb-true b gap is) ∙ none
+
+-- A gap is no digit.
+no_digit : (b : ℕ) → is_gap b ≡ true → hex_digit_of b ≡ None
+no_digit b gap = elim (or_cases (eqb b 32 || eqb b 9) (eqb b 13 || eqb b 10) gap) [
+  | inl blank ↦ elim (or_cases (eqb b 32) (eqb b 9) blank) [ inl is ↦ no_digit_at b 32 refl is | inr is ↦ no_digit_at b 9 refl is ]
+  | inr end ↦ elim (or_cases (eqb b 13) (eqb b 10) end) [ inl is ↦ no_digit_at b 13 refl is | inr is ↦ no_digit_at b 10 refl is ]
+]
+
+-- A pair of digits does not begin with a gap.
+no_gap : (a b byte : ℕ) → hex_pair_of a b ≡ Some byte → is_gap a ≡ false
+no_gap a b byte is = false_from_ne_true (is_gap a) (λ gap. absurd (let bad : None ≡ Some byte = sym (ap (λ high. option_and_then (λ h. option_map (λ l. 16 * h + l) (hex_digit_of b)) high) (no_digit a gap)) ∙ is in cc))
+
+-- What two digits spell.
+pair_spelled : (line : ℕ) (high low : Option ℕ) (byte : ℕ) → option_and_then (λ h. option_map (λ l. 16 * h + l) low) high ≡ Some byte → pair_of line high low ≡ Ok byte
+pair_spelled line None low byte is = absurd (let bad : None ≡ Some byte = is in cc)
+pair_spelled line (Some h) None byte is = absurd (let bad : None ≡ Some byte = is in cc)
+pair_spelled line (Some h) (Some l) byte is = let same : 16 * h + l ≡ byte = cc in ap Ok same
+
+pair_refused : (line : ℕ) (high low : Option ℕ) → option_and_then (λ h. option_map (λ l. 16 * h + l) low) high ≡ None → pair_of line high low ≡ Err line
+pair_refused line None None is = refl
+pair_refused line None (Some l) is = refl
+pair_refused line (Some h) None is = refl
+pair_refused line (Some h) (Some l) is = absurd (let bad : Some (16 * h + l) ≡ None = is in cc)
+
 -- One more pair.
-pub pairs_after_pair : (before : List ℕ) (line byte : ℕ) (rest : List ℕ) → 2 ≤ length rest → is_gap (get_or rest 0 0) ≡ false → pair_of line (hex_digit_of (get_or rest 0 0)) (hex_digit_of (get_or rest 1 0)) ≡ Ok byte → pairs_after (before ++ byte ∷ []) line (drop 2 rest) ≡ pairs_after before line rest
-pairs_after_pair before line byte [] two gap is = absurd (omega arith)
-pairs_after_pair before line byte (a ∷ []) two gap is = absurd (omega arith)
-pairs_after_pair before line byte (a ∷ b ∷ rest) two gap is = rw (gap, is) (joined before byte (pairs_from line rest))
+pub pairs_after_pair : (before : List ℕ) (line byte : ℕ) (rest : List ℕ) → 2 ≤ length rest → hex_pair_of (get_or rest 0 0) (get_or rest 1 0) ≡ Some byte → pairs_after (before ++ byte ∷ []) line (drop 2 rest) ≡ pairs_after before line rest
+pairs_after_pair before line byte [] two is = absurd (omega arith)
+pairs_after_pair before line byte (a ∷ []) two is = absurd (omega arith)
+pairs_after_pair before line byte (a ∷ b ∷ rest) two is =
+    rw (no_gap a b byte is, pair_spelled line (hex_digit_of a) (hex_digit_of b) byte is) (joined before byte (pairs_from line rest))
 
--- A pair that is none.
-pub pairs_after_fault : (before : List ℕ) (line at : ℕ) (rest : List ℕ) → 2 ≤ length rest → is_gap (get_or rest 0 0) ≡ false → pair_of line (hex_digit_of (get_or rest 0 0)) (hex_digit_of (get_or rest 1 0)) ≡ Err at → pairs_after before line rest ≡ Err at
-pairs_after_fault before line at [] two gap is = absurd (omega arith)
-pairs_after_fault before line at (a ∷ []) two gap is = absurd (omega arith)
-pairs_after_fault before line at (a ∷ b ∷ rest) two gap is = rw (gap, is) refl
+-- Two bytes that are no pair, the first of them no gap.
+pub pairs_after_fault : (before : List ℕ) (line : ℕ) (rest : List ℕ) → 2 ≤ length rest → is_gap (get_or rest 0 0) ≡ false → hex_pair_of (get_or rest 0 0) (get_or rest 1 0) ≡ None → pairs_after before line rest ≡ Err line
+pairs_after_fault before line [] two gap is = absurd (omega arith)
+pairs_after_fault before line (a ∷ []) two gap is = absurd (omega arith)
+pairs_after_fault before line (a ∷ b ∷ rest) two gap is = rw (gap, pair_refused line (hex_digit_of a) (hex_digit_of b) is) refl
 
--- The fault of a pair is the fault of the input.
-pub pairs_fault : {X : Type 0} (view : X → List ℕ) (before : List ℕ) (line : ℕ) (rest input : List ℕ) (e : PairsError) → 2 ≤ length rest → is_gap (get_or rest 0 0) ≡ false → pairs_after before line rest ≡ pairs_of input → PairsGives (λ (byte : ℕ). byte) (Err e) (pair_of line (hex_digit_of (get_or rest 0 0)) (hex_digit_of (get_or rest 1 0))) → PairsGives view (Err e) (pairs_of input)
-pairs_fault view before line rest input NoMemory two gap so_far fault = tt
-pairs_fault view before line rest input (Line at) two gap so_far fault = sym so_far ∙ pairs_after_fault before line at rest two gap fault
+-- A space changes nothing.
+pub pairs_past_space : (line : ℕ) (rest : List ℕ) → 1 ≤ length rest → get_or rest 0 0 ≡ 32 → pairs_from line (drop 1 rest) ≡ pairs_from line rest
+pairs_past_space line [] one is = absurd (omega arith)
+pairs_past_space line (a ∷ []) one is = rw is refl
+pairs_past_space line (a ∷ b ∷ rest) one is = rw is refl
+
+-- The same of what follows a pair and a space.
+pub pairs_after_same : (before : List ℕ) (line : ℕ) (rest shorter : List ℕ) → pairs_from line shorter ≡ pairs_from line rest → pairs_after before line shorter ≡ pairs_after before line rest
+pairs_after_same before line rest shorter same = ap (λ read. read >>= (λ more. Ok (before ++ more))) same
 
 -- A byte that is alone at the end.
 pub pairs_after_alone : (before : List ℕ) (line : ℕ) (rest : List ℕ) → length rest ≡ 1 → is_gap (get_or rest 0 0) ≡ false → pairs_after before line rest ≡ Err line

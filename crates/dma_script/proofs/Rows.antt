@@ -19,7 +19,7 @@ no_line = refl
 only_skipped : run_script_of (codes "# note" ++ 13 ∷ 10 ∷ 32 ∷ 9 ∷ []) ≡ Err (record { line = 0; cause = First })
 only_skipped = refl
 
-first_run : run_script_of (after_memory (codes "write 0x10 AA bb" ++ 13 ∷ 10 ∷ codes "copy 0x10+3 to 0x20+1,33+2" ++ 10 ∷ codes "read 0x1F+5" ++ 10 ∷ [])) ≡ Ok (record { size = 64; channels = 1; statements = statements.Write 16 (170 ∷ 187 ∷ []) ∷ statements.Copy (record { addr = 16; len = 3 } ∷ []) (record { addr = 32; len = 1 } ∷ record { addr = 33; len = 2 } ∷ []) ∷ statements.Read (record { addr = 31; len = 5 }) ∷ [] })
+first_run : run_script_of (after_memory (codes "write 0x10 AA bb" ++ 13 ∷ 10 ∷ codes "copy 0x10+3 to 0x20+1,33+2" ++ 10 ∷ codes "read 0x1F+5" ++ 10 ∷ [])) ≡ Ok (record { size = 64; channels = 1; statements = statements.Write 16 (170 ∷ 187 ∷ []) ∷ statements.Copy (record { src = record { addr = 16; len = 3 } ∷ []; dst = record { addr = 32; len = 1 } ∷ record { addr = 33; len = 2 } ∷ [] }) ∷ statements.Read (record { addr = 31; len = 5 }) ∷ [] })
 first_run = refl
 
 too_many_words : run_script_of (after_memory (codes "read 4+ 5")) ≡ Err (record { line = 2; cause = Words })

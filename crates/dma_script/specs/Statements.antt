@@ -75,7 +75,7 @@ copy_line words = do
   fixed ← where_holds (bytes_eq w.1 (codes "to")) causes.Words
   src ← list_at w.0
   dst ← list_at w.2
-  Ok (statements.Copy src dst)
+  Ok (statements.Copy (record { src = src; dst = dst }))
 
 -- `submit CH LIST to LIST [wait E] [signal E]`
 abbrev pub submit_line : List (List ℕ) → Result Statement Cause

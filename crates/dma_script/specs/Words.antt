@@ -18,6 +18,10 @@ is_blank b = b == 32 || b == 9
 abbrev pub is_plain : ℕ → Bool
 is_plain b = b == 9 || (nat_le 32 b && nat_le b 126)
 
+-- a part of a line as a list: a part without a byte is no word
+abbrev pub kept_part : List ℕ → List (List ℕ)
+kept_part part = filter (λ word. not (length word == 0)) (part ∷ [])
+
 -- what stands between the blanks
 abbrev pub words_of : List ℕ → List (List ℕ)
 words_of line = filter (λ word. not (length word == 0)) (slice_split is_blank line)
@@ -47,6 +51,10 @@ list_of word = each_of (map segment_of (parts_at 44 word))
 -- the value of a hexadecimal digit in either case
 abbrev pub hex_digit_of : ℕ → Option ℕ
 hex_digit_of b = if nat_lt (digit_value b) 16 then Some (digit_value b) else None
+
+-- the byte that two hexadecimal digits spell
+abbrev pub hex_pair_of : ℕ → ℕ → Option ℕ
+hex_pair_of a b = option_and_then (λ high. option_map (λ low. 16 * high + low) (hex_digit_of b)) (hex_digit_of a)
 
 -- the bytes of a word of hexadecimal digits, two for each byte
 abbrev pub bytes_in : List ℕ → Option (List ℕ)

@@ -1,8 +1,7 @@
 //! What the words after the first of a line say.
-ghost use Rattle.std.specs.Prelude.{◌≡◌, ◌==◌, None, Some, if◌then◌else◌, map, nat_lt};
-ghost use Rattle.std.specs.Char.{digit_value};
+ghost use Rattle.std.specs.Prelude.{◌≡◌, ◌==◌, ◌∷◌, [], None, Some, if◌then◌else◌, map, nat_lt};
 ghost use Rattle.std.specs.Option.{option_map};
-ghost use Rattle.dma_script.specs.Words.{hex_digit_of};
+ghost use Rattle.dma_script.specs.Words.{hex_digit_of, hex_pair_of};
 ghost use Rattle.dma_script.specs.Lines.{Gives, LineGives, seen_by};
 ghost use Rattle.dma_script.specs.Arguments.{no_word, one_of, two_of, three_of, one_or_two, first_and_rest, one_and_more, number_at, number_where, byte_of, byte_where, byte_alone, segment_at, list_at, hex_after, bytes_at};
 
@@ -157,41 +156,70 @@ pub(crate) fn list_at(alloc: Global, word: &[u8]) -> Result<Segments, LineError>
     Ok(list)
 }
 
-/// Whether a byte is a hexadecimal digit.
-fn is_hex_digit(byte: u8) -> bool
-    ensures { result ≡ nat_lt (digit_value byte) 16 }
-{
-    let decimal = (b'0'..=b'9').contains(&byte);
-    let upper = (b'A'..=b'F').contains(&byte);
-    let lower = (b'a'..=b'f').contains(&byte);
-    decimal | upper | lower
-}
+/// What stands for no digit in the table below.
+const NO: u8 = 255;
 
-/// The value of a hexadecimal digit, and a larger number for any other byte. It's reckoned without a branch, since branches
-/// on digits are often guessed wrong: the last four bits, nine more for a letter, and 64 more for what is no digit.
+/// The value of each byte as a hexadecimal digit, 16 bytes to a row. It's a table, since a branch on digits is often guessed
+/// wrong, and arithmetic without a branch takes many steps.
+const DIGIT_VALUES: [u8; 256] = [
+    NO, NO, NO, NO, NO, NO, NO, NO, NO, NO, NO, NO, NO, NO, NO, NO, // 0x00
+    NO, NO, NO, NO, NO, NO, NO, NO, NO, NO, NO, NO, NO, NO, NO, NO, // 0x10
+    NO, NO, NO, NO, NO, NO, NO, NO, NO, NO, NO, NO, NO, NO, NO, NO, // 0x20
+    0, 1, 2, 3, 4, 5, 6, 7, 8, 9, NO, NO, NO, NO, NO, NO, // 0x30
+    NO, 10, 11, 12, 13, 14, 15, NO, NO, NO, NO, NO, NO, NO, NO, NO, // 0x40
+    NO, NO, NO, NO, NO, NO, NO, NO, NO, NO, NO, NO, NO, NO, NO, NO, // 0x50
+    NO, 10, 11, 12, 13, 14, 15, NO, NO, NO, NO, NO, NO, NO, NO, NO, // 0x60
+    NO, NO, NO, NO, NO, NO, NO, NO, NO, NO, NO, NO, NO, NO, NO, NO, // 0x70
+    NO, NO, NO, NO, NO, NO, NO, NO, NO, NO, NO, NO, NO, NO, NO, NO, // 0x80
+    NO, NO, NO, NO, NO, NO, NO, NO, NO, NO, NO, NO, NO, NO, NO, NO, // 0x90
+    NO, NO, NO, NO, NO, NO, NO, NO, NO, NO, NO, NO, NO, NO, NO, NO, // 0xa0
+    NO, NO, NO, NO, NO, NO, NO, NO, NO, NO, NO, NO, NO, NO, NO, NO, // 0xb0
+    NO, NO, NO, NO, NO, NO, NO, NO, NO, NO, NO, NO, NO, NO, NO, NO, // 0xc0
+    NO, NO, NO, NO, NO, NO, NO, NO, NO, NO, NO, NO, NO, NO, NO, NO, // 0xd0
+    NO, NO, NO, NO, NO, NO, NO, NO, NO, NO, NO, NO, NO, NO, NO, NO, // 0xe0
+    NO, NO, NO, NO, NO, NO, NO, NO, NO, NO, NO, NO, NO, NO, NO, NO, // 0xf0
+];
+
+/// The value of a hexadecimal digit, and a number above 15 for any other byte.
 fn digit_or_more(byte: u8) -> u8
     ensures { hex_digit_of byte ≡ (if nat_lt result 16 then Some result else None) }
 {
-    byte % 16 + 9 * (byte / 64) + 64 * u8::from(!is_hex_digit(byte))
+    DIGIT_VALUES[usize::from(byte)]
 }
 
-/// The value of a hexadecimal digit.
-pub(crate) fn digit_in(byte: u8) -> Option<u8>
-    ensures { result ≡ hex_digit_of byte }
+/// The byte that two hexadecimal digits spell.
+pub(crate) fn byte_in(high: u8, low: u8) -> Option<u8>
+    ensures { result ≡ hex_pair_of high low }
 {
-    let value = digit_or_more(byte);
-    if value < 16 { Some(value) } else { None }
+    let high = digit_or_more(high);
+    let low = digit_or_more(low);
+    if high < 16 && low < 16 {
+        Some(16 * high + low)
+    } else {
+        None
+    }
+}
+
+/// Appends the byte that two hexadecimal digits spell.
+fn push_pair(bytes: &mut Bytes, high: u8, low: u8) -> Result<(), LineError>
+    ensures { LineGives result bytes.new (hex_after bytes.old (high ∷ low ∷ [])) }
+{
+    let byte = byte_in(high, low).ok_or(LineError::Fault(Cause::Hex))?;
+    bytes.push(byte)?;
+    Ok(())
 }
 
 /// Appends the bytes of a word of hexadecimal digits.
 fn push_hex(bytes: &mut Bytes, word: &[u8]) -> Result<(), LineError>
     ensures { LineGives result bytes.new (hex_after bytes.old word.now) }
 {
+    // Most words are one byte.
+    if let [high, low] = word {
+        return push_pair(bytes, *high, *low);
+    }
     let mut rest = word;
     while let [high, low, after @ ..] = rest {
-        let high = digit_in(*high).ok_or(LineError::Fault(Cause::Hex))?;
-        let low = digit_in(*low).ok_or(LineError::Fault(Cause::Hex))?;
-        bytes.push(16 * high + low)?;
+        push_pair(bytes, *high, *low)?;
         rest = after;
     }
     if rest.is_empty() {

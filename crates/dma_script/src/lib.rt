@@ -2,6 +2,7 @@
 //! lines that are printed.
 #![tactic(auto)]
 
+pub mod apart;
 mod arguments;
 pub mod command;
 #[cfg(test)]

@@ -1,10 +1,9 @@
 //! The input of `dis`: pairs of hexadecimal digits.
-ghost use Rattle.std.specs.Prelude.{◌≡◌, ◌+◌, ◌++◌, ◌∷◌, [], OnErr, OnOk};
+ghost use Rattle.std.specs.Prelude.{◌≡◌, ◌≤◌, ◌+◌, ◌++◌, ◌∷◌, [], ℕ, length, OnErr, OnOk};
 ghost use Rattle.dma_script.specs.Command.{text_of};
-ghost use Rattle.dma_script.specs.Words.{hex_digit_of};
-ghost use Rattle.dma_script.specs.Pairs.{PairsGives, is_gap, pair_of, pairs_fault_line, pairs_of};
+ghost use Rattle.dma_script.specs.Pairs.{PairsGives, is_gap, pairs_fault_line, pairs_from, pairs_of};
 
-use crate::arguments::digit_in;
+use crate::arguments::byte_in;
 use crate::fault::{Cause, Fault};
 use crate::printing::push_fault;
 use std::alloc::{AllocError, AllocFailed, Global};
@@ -45,13 +44,14 @@ fn is_gap(byte: u8) -> bool
     matches!(byte, b' ' | b'\t' | b'\r' | b'\n')
 }
 
-/// The byte that two digits spell, or the line where they stand.
-fn pair_in(line: usize, high: u8, low: u8) -> Result<u8, PairsError>
-    ensures { PairsGives (λ byte. byte) result (pair_of line (hex_digit_of high) (hex_digit_of low)) }
+/// What follows a space, which mostly stands behind a pair; else all.
+fn past_space(rest: &[u8]) -> &[u8]
+    ensures same { (line : ℕ) → pairs_from line result.now ≡ pairs_from line rest.now }
+    ensures within { length result.now ≤ length rest.now }
 {
-    match (digit_in(high), digit_in(low)) {
-        (Some(high), Some(low)) => Ok(16 * high + low),
-        _ => Err(PairsError::Line(line)),
+    match rest {
+        [first, after @ ..] if *first == b' ' => after,
+        _ => rest,
     }
 }
 
@@ -60,24 +60,27 @@ fn pair_in(line: usize, high: u8, low: u8) -> Result<u8, PairsError>
 pub fn read_pairs(alloc: Global, input: &[u8]) -> Result<Vec<u8>, PairsError>
     ensures { PairsGives (λ bytes. bytes.items) result (pairs_of input.now) }
 {
-    let mut bytes = Vec::new(alloc);
+    // A pair takes two bytes of the input at least, so there is room for all from the start.
+    let mut bytes = Vec::with_capacity(alloc, input.len() / 2)?;
     let mut line = 1usize;
     let mut rest = input;
-    while let [first, after @ ..] = rest {
-        if is_gap(*first) {
-            if *first == b'\n' {
+    while let [high, low, after @ ..] = rest {
+        if let Some(byte) = byte_in(*high, *low) {
+            bytes.push(byte)?;
+            rest = past_space(after);
+        } else if is_gap(*high) {
+            if *high == b'\n' {
                 line += 1;
             }
-            rest = after;
+            rest = &rest[1..];
         } else {
-            let [high, low, after @ ..] = rest else {
-                return Err(PairsError::Line(line));
-            };
-            bytes.push(pair_in(line, *high, *low)?)?;
-            rest = after;
+            return Err(PairsError::Line(line));
         }
     }
-    Ok(bytes)
+    match rest {
+        [last] if !is_gap(*last) => Err(PairsError::Line(line)),
+        _ => Ok(bytes),
+    }
 }
 
 /// Appends the line of a fault of the pairs, or nothing.

@@ -38,16 +38,15 @@ pub fn push_decimal(line: &mut Vec<u8>, number: u64) -> Result<(), AllocError>
     line.extend_from_slice(Buffer::new().format(number).as_bytes())
 }
 
+/// The hexadecimal digits in capitals. They're a table, since a branch on digits is often guessed wrong.
+const GLYPHS: [u8; 16] = *b"0123456789ABCDEF";
+
 /// A hexadecimal digit in capitals.
 fn glyph(digit: u8) -> u8
     requires { digit < 16 }
     ensures { result ≡ digit_glyph true digit }
 {
-    if digit < 10 {
-        b'0' + digit
-    } else {
-        b'A' + (digit - 10)
-    }
+    GLYPHS[usize::from(digit)]
 }
 
 /// Appends a byte in two capital digits, or nothing.

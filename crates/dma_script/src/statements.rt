@@ -1,6 +1,7 @@
 //! The lines of a run script.
 ghost use Rattle.std.specs.Prelude.{◌≡◌, ◌++◌, ◌∷◌, [], IfOk, List, None, OnErr, OnOk, map};
 
+use crate::apart::Apart;
 use crate::arguments::{
     byte_alone, byte_of, bytes_at, first_and_rest, list_at, no_word, number_at, number_where,
     one_and_more, one_of, one_or_two, segment_at, three_of, two_of,
@@ -59,6 +60,15 @@ pub enum Keyword {
     Totals,
 }
 
+/// The lists of a copy line.
+#[derive(Debug, Drop)]
+pub struct CopyLine {
+    /// Where the bytes come from.
+    pub src: Segments,
+    /// Where they go.
+    pub dst: Segments,
+}
+
 /// A line of a run script after its first.
 #[derive(Debug, Drop)]
 pub enum Statement {
@@ -72,18 +82,13 @@ pub enum Statement {
     /// Reads the bytes of a segment.
     Read(Segment),
     /// Copies the bytes of one list of segments to another.
-    Copy {
-        /// Where the bytes come from.
-        src: Segments,
-        /// Where they go.
-        dst: Segments,
-    },
+    Copy(Apart<CopyLine>),
     /// Submits a transfer on a channel.
     Submit {
         /// The channel.
         ch: u8,
         /// The transfer, with its events.
-        transfer: TransferLine,
+        transfer: Apart<TransferLine>,
     },
     /// Issues what was submitted on a channel.
     Issue {
@@ -174,6 +179,14 @@ impl Statements {
         ensures { result.now ≡ self.now }
     {
         self.items.as_slice()
+    }
+
+    /// The statements, for one who is done with the list.
+    pub fn into_vec(self) -> Vec<Statement>
+        ensures { result.items ≡ self }
+    {
+        let Statements { items } = self;
+        items
     }
 
     /// Adds a statement at the end. Without memory for it the list stays as it was.
@@ -274,7 +287,7 @@ fn copy_line(alloc: Global, words: &[&[u8]]) -> Result<Statement, LineError>
     }
     let src = list_at(alloc, src)?;
     let dst = list_at(alloc, dst)?;
-    Ok(Statement::Copy { src, dst })
+    Ok(Statement::Copy(Apart::new(alloc, CopyLine { src, dst })?))
 }
 
 /// `submit CH LIST to LIST [wait E] [signal E]`
@@ -286,7 +299,7 @@ fn submit_line(alloc: Global, words: &[&[u8]]) -> Result<Statement, LineError>
     let number = number_at(ch)?;
     let numbers = transfer_numbers(alloc, words)?;
     let ch = byte_of(number)?;
-    let transfer = transfer_of(numbers)?;
+    let transfer = Apart::new(alloc, transfer_of(numbers)?)?;
     Ok(Statement::Submit { ch, transfer })
 }
 

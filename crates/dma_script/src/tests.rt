@@ -10,7 +10,7 @@ use crate::plan::{PlanLine, read_plan};
 use crate::printing::{
     push_address, push_bytes, push_decimal, push_fault, push_line, push_program,
 };
-use crate::statements::{RunScript, Statement, read_run_script};
+use crate::statements::{CopyLine, RunScript, Statement, read_run_script};
 use dma_mem::segment::Segment;
 use std::alloc::{AllocError, Global};
 use std::test::Fail;
@@ -287,12 +287,13 @@ fn statements(rt: HostRuntime) -> Result<(), Fail> {
     assert_eq!(rt; (size, channels), (64, 1));
     let [
         Statement::Write { addr, bytes },
-        Statement::Copy { src, dst },
+        Statement::Copy(lists),
         Statement::Read(segment),
     ] = statements.as_slice()
     else {
         return Err(Fail::from("three statements"));
     };
+    let CopyLine { src, dst } = lists.get();
     assert_eq!(rt; *addr, 0x10);
     assert_eq!(rt; bytes.as_slice(), [0xAA, 0xBB, 0xCC].as_slice());
     assert_eq!(rt; src.as_slice(), [Segment { addr: 0x10, len: 3 }].as_slice());

@@ -1,9 +1,9 @@
 //! The words of a line, and what a word spells.
-ghost use Rattle.std.specs.Prelude.{◌≡◌, ◌==◌, ◌∷◌, ◌<◌, ◌≤◌, position, map, length, OnOk};
+ghost use Rattle.std.specs.Prelude.{◌≡◌, ◌==◌, ◌∷◌, ◌++◌, ◌<◌, ◌≤◌, position, map, length, OnOk};
 ghost use Rattle.std.specs.List.{list_all};
 ghost use Rattle.std.specs.Str.{bytes_eq};
 ghost use Rattle.std.specs.Str.Lines.{lines, strip_carriage_return};
-ghost use Rattle.dma_script.specs.Words.{is_blank, is_plain, segment_of, words_of, number_of, number_in};
+ghost use Rattle.dma_script.specs.Words.{is_blank, is_plain, kept_part, segment_of, words_of, number_of, number_in};
 
 use dma_mem::segment::Segment;
 use memchr::memchr;
@@ -53,12 +53,29 @@ pub(crate) fn is_blank(byte: u8) -> bool
     byte == b' ' || byte == b'\t'
 }
 
+/// Adds a word at the end, unless it has no byte.
+fn push_word<'a>(words: &mut Vec<&'a [u8]>, word: &'a [u8]) -> Result<(), AllocError>
+    ensures { OnOk result (map (λ word. word.now) words.new.items ≡ map (λ word. word.now) words.old.items ++ kept_part word.now) }
+{
+    if !word.is_empty() {
+        words.push(word)?;
+    }
+    Ok(())
+}
+
 /// The words of a line, what stands between its blanks, in a list that is there already, in place of what it had.
 pub fn split_words<'a>(words: &mut Vec<&'a [u8]>, line: &'a [u8]) -> Result<(), AllocError>
     ensures { OnOk result (map (λ word. word.now) words.new.items ≡ words_of line.now) }
 {
     words.clear();
-    words.extend(line.split(|b| is_blank(*b)).filter(|word| !word.is_empty()))
+    let mut start = 0;
+    for end in 0..line.len() {
+        if is_blank(line[end]) {
+            push_word(words, &line[start..end])?;
+            start = end + 1;
+        }
+    }
+    push_word(words, &line[start..])
 }
 
 /// A printable ASCII character, a space or a tab.

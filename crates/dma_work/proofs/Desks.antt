@@ -1,6 +1,6 @@
 -- What the calls keep of a desk.
 use Rattle.std.proofs.Common.{◌≡◌, ◌≢◌, ℕ, ◌+◌, ◌<◌, List, [], ◌∷◌, ◌++◌, length, true, false, refl, ap, sym, ◌∙◌, arith, append-nil, inl, inr, zero, suc}
-use Rattle.std.specs.Prelude.{if◌then◌else◌, slice_set, Result, Ok}
+use Rattle.std.specs.Prelude.{if◌then◌else◌, slice_set, Result, Ok, Err}
 use Rattle.std.proofs.lemmas.Bool.{false≢true, cases_eq}
 use Rattle.std.proofs.lemmas.List.{length-set, length-append, get_or-set_same, get_or-set_other}
 use Rattle.std.proofs.Math.ListN.{get_or-map}
@@ -109,15 +109,16 @@ goes_on v w ch r on h = elim (ends_as_told v w ch r h) [
 ]
 
 -- an answer that neither moves nor finishes
-pub not_moved : (t : Turn) → t ≢ Moved → ends (Ok t) ≡ false → steps_in (Ok t) ≡ 0
-not_moved Moved h e = absurd (h refl)
-not_moved (TurnFinished a b c) h e = absurd (false≢true (sym e))
-not_moved Nothing h e = refl
-not_moved (Held a b) h e = refl
-not_moved (Started a) h e = refl
-not_moved (Waiting a) h e = refl
-not_moved Paused h e = refl
-not_moved Halted h e = refl
+pub not_moved : (r : Result Turn EngineFault) → r ≢ Ok Moved → ends r ≡ false → steps_in r ≡ 0
+not_moved (Err f) h e = refl
+not_moved (Ok Moved) h e = absurd (h refl)
+not_moved (Ok (TurnFinished a b c)) h e = absurd (false≢true (sym e))
+not_moved (Ok Nothing) h e = refl
+not_moved (Ok (Held a b)) h e = refl
+not_moved (Ok (Started a)) h e = refl
+not_moved (Ok (Waiting a)) h e = refl
+not_moved (Ok Paused) h e = refl
+not_moved (Ok Halted) h e = refl
 
 finished_steps : (t : Turn) → ends (Ok t) ≡ true → steps_in (Ok t) ≡ 1
 finished_steps Moved e = absurd (false≢true e)

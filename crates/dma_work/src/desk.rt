@@ -1,6 +1,6 @@
 //! The desk: an engine, a book of totals, and the writer of what status readers see.
 
-ghost use Rattle.std.specs.Prelude.{◌≡◌, ◌+◌, ◌<◌, [], ◌∷◌, ◌++◌, IfOk, IfErr, OnOk, true, false};
+ghost use Rattle.std.specs.Prelude.{◌≡◌, ◌+◌, ◌<◌, [], ◌∷◌, ◌++◌, IfOk, IfErr, IfSome, IsNone, is_none, OnOk, true};
 ghost use Rattle.dma_mem.specs.Rules.{IsTransfer};
 ghost use Rattle.dma_engine.specs.Answer.{Answers, Steps, checked, reply_of, submit_fault};
 ghost use Rattle.dma_engine.specs.Object.{channel, finished_all, used};
@@ -188,20 +188,23 @@ impl<N: DeskName> Desk<N> {
         self.engine.raise(event)
     }
 
-    // A step that doesn't end the front. It publishes nothing.
-    fn step_on(&mut self, ch: u8) -> Result<Turn, EngineFault>
-        requires { ends (turn self.old.engine.view ch).0 ≡ false }
-        ensures answer { Steps self.old.engine.view ch result self.new.engine.view }
-        ensures book { self.new.book ≡ stepped_book self.old.book result }
+    // A step, unless it would end the front: then the answer is none, and nothing changes. It publishes nothing.
+    fn step_on(&mut self, ch: u8) -> Option<Result<Turn, EngineFault>>
+        ensures answer { IfSome result (λ answer. Steps self.old.engine.view ch answer self.new.engine.view) }
+        ensures book { IfSome result (λ answer. self.new.book ≡ stepped_book self.old.book answer) }
         ensures before { self.new.before ≡ self.old.before }
+        ensures ends { is_none result ≡ ends (turn self.old.engine.view ch).0 }
+        ensures still { IsNone result → (self.new ≡ self.old) }
     {
-        let turn = self.engine.step(ch)?;
+        let answer = self.engine.step_unless_ending(ch)?;
         // bounds the book to the proof
         let _steps = self.engine.steps();
-        if let Turn::Moved = turn {
-            self.book.steps += 1;
+        if let Ok(turn) = answer {
+            if let Turn::Moved = turn {
+                self.book.steps += 1;
+            }
         }
-        Ok(turn)
+        Some(answer)
     }
 
     // A step that ends the front, or is refused memory. Its growths come first, so that a refusal changes nothing.
@@ -239,10 +242,9 @@ impl<N: DeskName> Desk<N> {
         ensures before { self.new.before ≡ self.old.before }
         ensures tally { tally.new ≡ counted result tally.old }
     {
-        let answer = if self.engine.ending(ch) {
-            self.step_to_end(rt, ch)
-        } else {
-            self.step_on(ch)
+        let answer = match self.step_on(ch) {
+            Some(answer) => answer,
+            None => self.step_to_end(rt, ch),
         };
         tally.count(&answer);
         answer

@@ -24,70 +24,29 @@ use Rattle.dma_engine.specs.Answer.{AreAnswers, Answers, answer, answers, reply_
 use Rattle.dma_engine.specs.Object.{channel, issued_front, is_set}
 use Rattle.dma_engine.specs.View.{View, RunningTransfer, object_of, channels, schedule_at}
 use Rattle.dma_engine.specs.Turn.{Stepped, finishes, front_turn, in_the_way, insn_turn, last_step, moves_on, start_turn, turn, with_entry}
-use Rattle.dmasim.specs.Counting.{AreServed, comes_again}
 use Rattle.dmasim.specs.Printed.{reply_text}
-use Rattle.dmasim.proofs.Served.{answers-append, served-all, served-one}
+use Rattle.dma_engine.specs.Room.{IsIdle}
+use Rattle.dma_engine.proofs.Idle.{idle_steps_stay}
+use Rattle.dmasim.proofs.Served.{AreServed, answers-append, served-all, served-one}
 
--- ---- an answer that comes again leaves the view
+-- ---- an idle answer comes again
 
-abbrev Stays : View → Stepped → Type 0
-Stays v x = comes_again (reply_of Turned x.0) ≡ true → x.1 ≡ v
-
-if-stays : (v : View) (b : Bool) (x y : Stepped) → Stays v x → Stays v y → Stays v (if b then x else y)
-if-stays v true x y h g = h
-if-stays v false x y h g = g
-
-insn-stays : (v : View) (ch n : ℕ) (t : Descriptor) (i : Insn) → Stays v (insn_turn v ch t n i)
-insn-stays v ch n t (Wfe event invalid) = if-stays v (is_set (object_of v) event) (moves_on (with_entry v (Passed ch event)) ch n) (Ok (Waiting event), v) (λ is. absurd cc) (λ is. refl)
-insn-stays v ch n t (Sev event) = λ is. absurd cc
-insn-stays v ch n t End = λ is. absurd cc
-insn-stays v ch n t Ld = if-stays v (meets_mark Reading (object_of v).marks (read_places t n)) (finishes v ch t n ReadFailed) (moves_on v ch n) (λ is. absurd cc) (λ is. absurd cc)
-insn-stays v ch n t St = if-stays v (meets_mark Writing (object_of v).marks (written_places t n)) (finishes v ch t n WriteFailed) (moves_on v ch n) (λ is. absurd cc) (λ is. absurd cc)
-insn-stays v ch n t (Mov a b) = λ is. absurd cc
-insn-stays v ch n t Rmb = λ is. absurd cc
-insn-stays v ch n t Wmb = λ is. absurd cc
-insn-stays v ch n t Nop = λ is. absurd cc
-insn-stays v ch n t (Lp a b) = λ is. absurd cc
-insn-stays v ch n t (LpEnd a b) = λ is. absurd cc
-
-start-stays : (v : View) (ch : ℕ) (x : Option RunningTransfer) → Stays v (start_turn v ch x)
-start-stays v ch None = λ is. absurd cc
-start-stays v ch (Some r) = λ is. refl
-
-front-stays : (v : View) (ch : ℕ) (x : Option Descriptor) (taken : Option ℕ) → Stays v (front_turn v ch x taken)
-front-stays v ch None taken = λ is. refl
-front-stays v ch (Some t) None = start-stays v ch (in_the_way v t)
-front-stays v ch (Some t) (Some n) = if-stays v (v.steps == last_step) (Err StepsSpent, v) (insn_turn v ch t n (member t n)) (λ is. refl) (insn-stays v ch n t (member t n))
-
-turn-stays : (v : View) (ch : ℕ) → Stays v (turn v ch)
-turn-stays v ch =
-    let c = channel (object_of v) ch in
-    let s = schedule_at v ch in
-    let last = front_turn v ch (issued_front c) s.taken in
-    let third : Stepped = if s.paused then (Ok Paused, v) else last in
-    let second : Stepped = if c.halted then (Ok Halted, v) else third in
-    if-stays v (nat_le (channels v) ch) (Err NoChannel, v) second (λ is. refl)
-    (if-stays v c.halted (Ok Halted, v) third (λ is. refl) (if-stays v s.paused (Ok Paused, v) last (λ is. refl) (front-stays v ch (issued_front c) s.taken)))
-
--- the view after such an answer
-left-as-it-was : (v w : View) (ch : ℕ) (reply : Reply) → (reply, w) ≡ answer v (Step ch) → comes_again reply ≡ true → w ≡ v
-left-as-it-was v w ch reply is idle =
-    ap (λ (a : Reply × View). a.1) is ∙ turn-stays v ch (ap comes_again (sym (ap (λ (a : Reply × View). a.0) is)) ∙ idle)
-
--- and it comes again
 again : (v : View) (call : Call) (reply : Reply) (n : ℕ) → (reply, v) ≡ answer v call → answers v (replicate n call) ≡ (replicate n reply, v)
 again v call reply zero is = refl
 again v call reply (suc n) is =
     ap (λ (a : Reply × View). (let rest = answers a.1 (replicate n call) in (a.0 ∷ rest.0, rest.1))) (sym is)
     ∙ ap (λ (rest : List Reply × View). (reply ∷ rest.0, rest.1)) (again v call reply n is)
 
+once-or-same : (A B C : Type 0) → (B → C) → A ⊎ B → A ⊎ C
+once-or-same A B C f (inl a) = inl a
+once-or-same A B C f (inr b) = inr (f b)
+
 -- the last answer, so many times
-last-steps : (v w : View) (ch : ℕ) (reply : Reply) (many : ℕ) → (reply, w) ≡ answer v (Step ch) → (many ≡ 1) ⊎ (comes_again reply ≡ true) → answers v (replicate many (Step ch)) ≡ (replicate many reply, w)
+last-steps : (v w : View) (ch : ℕ) (reply : Reply) (many : ℕ) → (reply, w) ≡ answer v (Step ch) → (many ≡ 1) ⊎ (w ≡ v) → answers v (replicate many (Step ch)) ≡ (replicate many reply, w)
 last-steps v w ch reply many is (inl one) =
     ap (λ (n : ℕ). answers v (replicate n (Step ch))) one ∙ ap (λ (a : Reply × View). (a.0 ∷ [], a.1)) (sym is)
     ∙ ap (λ (n : ℕ). (replicate n reply, w)) (sym one)
-last-steps v w ch reply many is (inr idle) =
-    let same = left-as-it-was v w ch reply is idle in
+last-steps v w ch reply many is (inr same) =
     again v (Step ch) reply many (ap (λ (u : View). (reply, u)) (sym same) ∙ is) ∙ ap (λ (u : View). (replicate many reply, u)) (sym same)
 
 -- ---- steps that moved, and the last
@@ -131,14 +90,15 @@ last-answer v w ch told last reply h some is =
     (u, parts.1, served-one u (Step ch) reply w is.1 answer-is)
 
 -- and the answers of all, where the last comes so many times
-pub moved-then : (v w : View) (ch : ℕ) (told : Advanced) (many : ℕ) (last : Result Turn EngineFault) (reply : Reply) → IsAdvance v ch told w → told.last ≡ Some last → (reply ≡ reply_of Turned last) × (reply ≢ Refused NoMemory) → (many ≡ 1) ⊎ (comes_again reply ≡ true) → (replicate told.moved (Turned Moved) ++ replicate many reply, w) ≡ answers v (replicate (told.moved + many) (Step ch))
+pub moved-then : (v w : View) (ch : ℕ) (told : Advanced) (many : ℕ) (last : Result Turn EngineFault) (reply : Reply) → IsAdvance v ch told w → told.last ≡ Some last → (reply ≡ reply_of Turned last) × (reply ≢ Refused NoMemory) → (many ≡ 1) ⊎ IsIdle last → (replicate told.moved (Turned Moved) ++ replicate many reply, w) ≡ answers v (replicate (told.moved + many) (Step ch))
 moved-then v w ch told many last reply h some is times =
     let n = told.moved in
     let all = last-answer v w ch told last reply h some is in
     let u = all.0 in
     let step = Step ch in
     let first = moved-steps v u ch n all.1 in
-    let rest = last-steps u w ch reply many all.2 times in
+    let stays : IsIdle last → w ≡ u = λ idle. idle_steps_stay u w ch last idle (ap (λ (r : Reply). (r, w)) (sym is.0) ∙ all.2) in
+    let rest = last-steps u w ch reply many all.2 (once-or-same (many ≡ 1) (IsIdle last) (w ≡ u) stays times) in
     sym (ap (answers v) (sym (replicate-append-replicate n many step)) ∙ answers-append v (replicate n step) (replicate many step)
     ∙ ap (λ (a : List Reply × View). (let b = answers a.1 (replicate many step) in (a.0 ++ b.0, b.1))) (sym first)
     ∙ ap (λ (b : List Reply × View). (replicate n (Turned Moved) ++ b.0, b.1)) rest)

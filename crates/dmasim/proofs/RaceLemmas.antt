@@ -73,7 +73,7 @@ early_some : (statement : Statement) → IsEarly statement → (line : List ℕ)
 unfolding of_call
 early_some (Write addr bytes) early = (of_call (calls.Write addr bytes), (some_view, refl))
 early_some (Read segment) early = (of_call (calls.Read segment.addr segment.len), (some_view, refl))
-early_some (Copy src dst) early = absurd early
+early_some (Copy lists) early = absurd early
 early_some (Submit ch transfer) early =
     let one = submit_some (refusal_of (submitted transfer)) (call_answer some_view (calls.Submit ch (submitted transfer))) (of_call (calls.Submit ch (submitted transfer))) refl in
     (one.0, (some_view, one.1))

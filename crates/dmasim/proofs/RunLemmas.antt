@@ -3,7 +3,7 @@ use Rattle.std.proofs.Common.{◌≡◌, ◌≢◌, ℕ, ◌+◌, ◌<◌, ◌�
 use Rattle.std.proofs.Math.Seq.{take-add, drop-cons}
 use Rattle.std.proofs.lemmas.List.{append-nil, drop-drop}
 use Rattle.std.proofs.lemmas.List.Concat.{flat_map-append}
-use Rattle.std.specs.Prelude.{unwrap_or, is_some}
+use Rattle.std.specs.Prelude.{is_some}
 use Rattle.std.specs.List.{filter_map, range_with_len, cons_option}
 use Rattle.std.proofs.lemmas.List.{length-append}
 use Rattle.std.proofs.lemmas.List.Elements.{filter_map-append}
@@ -27,12 +27,8 @@ pub unless_unfit-none : (fault : Option TransferFault) (v : View) (answered : An
 unless_unfit-none fault v answered none = rw none refl
 
 -- a transfer that breaks a rule
-pub unfit : (v : View) (out out' : List ℕ) (fault : Option TransferFault) (e : TransferFault) (answered : Answered) → e ≡ unwrap_or fault transfers.NoMemory → (e ≢ transfers.NoMemory) × (out' ≡ out ++ text_of (refused_line (transfer_fault_name e) ∷ [])) → AnswersLine (unless_unfit fault v answered) v out out'
-unfit v out out' None e answered is prints = absurd (prints.0 is)
-unfit v out out' (Some fault) e answered is prints = record {
-  acts = refl;
-  prints = prints.1 ∙ ap (λ f. out ++ text_of (refused_line (transfer_fault_name f) ∷ [])) is;
-}
+pub unfit : (v : View) (out out' : List ℕ) (fault : Option TransferFault) (e : TransferFault) (answered : Answered) → fault ≡ Some e → (e ≢ transfers.NoMemory) × (out' ≡ out ++ text_of (refused_line (transfer_fault_name e) ∷ [])) → AnswersLine (unless_unfit fault v answered) v out out'
+unfit v out out' fault e answered is prints = rw is (record { acts = refl; prints = prints.1 })
 
 -- channel 0 in use or not
 pub where_used : (v : View) (t : Descriptor) → is_in_use v ≡ true → copied v t ≡ told (refused_line (codes "ChannelInUse")) v

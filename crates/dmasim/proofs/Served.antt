@@ -7,7 +7,11 @@ use Rattle.dma_engine.specs.declared.fault.EngineFault.{EngineFault}
 use Rattle.dma_engine.specs.declared.fault.EngineFault.TheVariants.{OutOfMemoryRange, Busy, NoChannel, CookiesSpent, StepsSpent, BadEvent, BadRange, NoMemory}
 use Rattle.dma_engine.specs.View.{View}
 use Rattle.dma_engine.specs.Answer.{Answers, AreAnswers, answer, answers}
-use Rattle.dmasim.specs.Counting.{AreServed}
+
+-- no reply is want of memory
+abbrev pub AreServed : List Reply → Type 0
+AreServed [] = Unit {0}
+AreServed (reply ∷ rest) = (reply ≢ Refused NoMemory) × AreServed rest
 
 -- a reply that isn't want of memory is the answer
 pub served-one : (v : View) (call : Call) (reply : Reply) (w : View) → reply ≢ Refused NoMemory → Answers v call reply w → (reply, w) ≡ answer v call

@@ -144,7 +144,7 @@ totals_of v = totals_line (length v.history) v.steps (length (running (object_of
 abbrev pub line_answer : View → Statement → Answered
 line_answer v (Write addr bytes) = call_answer v (calls.Write addr bytes)
 line_answer v (Read segment) = call_answer v (calls.Read segment.addr segment.len)
-line_answer v (Copy src dst) = copy_answer v src dst
+line_answer v (Copy lists) = copy_answer v lists.src lists.dst
 line_answer v (Submit ch transfer) = submit_answer v ch transfer
 line_answer v (Issue ch) = call_answer v (calls.Issue ch)
 line_answer v (Pause ch) = call_answer v (calls.Pause ch)

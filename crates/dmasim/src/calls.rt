@@ -1,6 +1,6 @@
 //! The lines of a script that are one call, and the totals.
 ghost use Rattle.std.specs.Prelude.{◌≡◌, ◌≢◌, ◌++◌, ◌∷◌, [], OnOk, OnErr, IfOk, length};
-ghost use Rattle.dma_engine.specs.Answer.{answer};
+ghost use Rattle.dma_engine.specs.Answer.{Answers, answer};
 ghost use Rattle.dma_engine.specs.View.{object_of, running};
 ghost use Rattle.dma_script.specs.Command.{text_of};
 ghost use Rattle.dmasim.specs.Printed.{refused_line, transfer_fault_name};
@@ -13,11 +13,12 @@ use dma_engine::{Call, Engine, EngineFault, Reply};
 use dma_mem::transfer::{Transfer, TransferFault};
 use dma_script::plan::TransferLine;
 use dma_script::printing::push_line;
-use std::alloc::{AllocError, Global};
+use std::alloc::AllocError;
 
 /// Carries out one call. Where memory is refused the error comes.
 pub fn reply_to(engine: &mut Engine, call: &Call) -> Result<Reply, AllocError>
-    ensures { IfOk result (λ reply. (reply, engine.new.view) ≡ answer engine.old.view call.now) }
+    ensures answer { IfOk result (λ reply. (reply, engine.new.view) ≡ answer engine.old.view call.now) }
+    ensures refused { OnErr result (Answers engine.old.view call.now (Reply.Refused EngineFault.NoMemory) engine.new.view) }
 {
     match engine.carry_out(call) {
         Reply::Refused(EngineFault::NoMemory) => Err(AllocError),
@@ -88,26 +89,24 @@ fn submit(
     }
 }
 
-/// Carries out `submit CH LIST to LIST [wait E] [signal E]`.
+/// Carries out `submit CH LIST to LIST [wait E] [signal E]`. The transfer takes the line's lists for itself.
 pub fn submit_line(
-    alloc: Global,
     engine: &mut Engine,
     ch: u8,
-    words: &TransferLine,
+    words: TransferLine,
     line: &mut Vec<u8>,
     out: &mut Vec<u8>,
 ) -> Result<(), AllocError>
-    ensures ok { OnOk result (AnswersLine (submit_answer engine.old.view ch words.now) engine.new.view out.old.items out.new.items) }
+    ensures ok { OnOk result (AnswersLine (submit_answer engine.old.view ch words) engine.new.view out.old.items out.new.items) }
     ensures err { OnErr result (out.new.items ≡ out.old.items) }
 {
-    let built = Transfer::new(
-        alloc,
-        words.src.as_slice(),
-        words.dst.as_slice(),
-        words.wait,
-        words.signal,
-    );
-    match built {
+    let TransferLine {
+        src,
+        dst,
+        wait,
+        signal,
+    } = words;
+    match Transfer::from_lists(src, dst, wait, signal) {
         Ok(transfer) => submit(engine, ch, transfer, line, out),
         Err(fault) => push_unfit(line, fault, out),
     }

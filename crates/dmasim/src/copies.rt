@@ -8,9 +8,9 @@ use crate::printing::{push_after, push_refused, push_refused_call};
 use crate::steps::step_reply;
 use dma_engine::advance::advance;
 use dma_engine::{Call, Engine, Reply, Turn};
-use dma_mem::segment::Segment;
 use dma_mem::transfer::Transfer;
-use std::alloc::{AllocError, Global};
+use dma_script::statements::CopyLine;
+use std::alloc::AllocError;
 
 /// At least as many steps as any transfer takes, which are its start and fewer than 2^19 instructions
 /// (`dma_chan::laws::costs_little`). So no copy is cut off by it: that is the law `copies_end`.
@@ -79,19 +79,18 @@ fn copy_through(
     }
 }
 
-/// Carries out `copy LIST to LIST`.
+/// Carries out `copy LIST to LIST`. The transfer takes the line's lists for itself.
 pub fn answer_copy(
-    alloc: Global,
     engine: &mut Engine,
-    src: &[Segment],
-    dst: &[Segment],
+    lists: CopyLine,
     line: &mut Vec<u8>,
     out: &mut Vec<u8>,
 ) -> Result<(), AllocError>
-    ensures ok { OnOk result (AnswersLine (copy_answer engine.old.view src.now dst.now) engine.new.view out.old.items out.new.items) }
+    ensures ok { OnOk result (AnswersLine (copy_answer engine.old.view lists.src lists.dst) engine.new.view out.old.items out.new.items) }
     ensures err { OnErr result (out.new.items ≡ out.old.items) }
 {
-    let transfer = match Transfer::new(alloc, src, dst, None, None) {
+    let CopyLine { src, dst } = lists;
+    let transfer = match Transfer::from_lists(src, dst, None, None) {
         Ok(transfer) => transfer,
         Err(fault) => return push_unfit(line, fault, out),
     };

@@ -52,6 +52,18 @@ fn push_decode_fault(
     push_line(out, &line)
 }
 
+/// Appends a text, or nothing. Where nothing was there, the text itself takes the place: a long one is not copied.
+fn push_whole(out: &mut Vec<u8>, text: Vec<u8>) -> Result<(), AllocError>
+    ensures ok { OnOk result (out.new.items ≡ out.old.items ++ text.items) }
+    ensures err { OnErr result (out.new.items ≡ out.old.items) }
+{
+    if out.is_empty() {
+        *out = text;
+        return Ok(());
+    }
+    out.extend_from_slice(&text)
+}
+
 /// Appends the text of a program's bytes or the line of their first fault, and gives the status; or appends nothing.
 fn push_text(alloc: Global, out: &mut Vec<u8>, bytes: &[u8]) -> Result<u8, AllocError>
     ensures text { OnOk result (out.new.items ≡ out.old.items ++ printed_text (lines_printed (lines_from 0 0 bytes.now)).groups) }
@@ -60,7 +72,7 @@ fn push_text(alloc: Global, out: &mut Vec<u8>, bytes: &[u8]) -> Result<u8, Alloc
 {
     match disassemble(alloc, bytes) {
         Ok(text) => {
-            out.extend_from_slice(&text)?;
+            push_whole(out, text)?;
             Ok(SUCCESS)
         }
         Err(DisFault::Decode { offset, fault }) => {

@@ -265,13 +265,13 @@ pub fn carry_out_early<N: DeskName, R: Wait>(
         }
         Statement::Read(segment) => read_early(rt, shared, *segment, line, out),
         Statement::Submit { ch, transfer } => {
-            submit_early(rt, alloc, shared, reader, *ch, transfer, line, out)
+            submit_early(rt, alloc, shared, reader, *ch, transfer.get(), line, out)
         }
         Statement::Issue { ch } => issue_early(rt, shared, *ch, line, out),
         Statement::Terminate { ch } => terminate_early(rt, shared, reader, *ch, line, out),
         Statement::Status { ch, cookie } => status_early(reader, *ch, *cookie, line, out),
         Statement::Result { ch, cookie } => result_early(rt, shared, *ch, *cookie, line, out),
-        Statement::Copy { .. }
+        Statement::Copy(_)
         | Statement::Pause { .. }
         | Statement::Resume { .. }
         | Statement::Step { .. }

@@ -182,14 +182,14 @@ fn raced<N: DeskName + Send + Sync, R: Threads + Wait + Sync>(
 fn carry_out_race<R: Threads + Wait + Sync>(
     rt: &R,
     alloc: Global,
-    script: &RaceScript,
+    script: RaceScript,
     out: &mut Vec<u8>,
 ) -> Result<u8, AllocError>
-    requires { IsRace script.now }
-    ensures complete { IfOk result (λ status. MayComplete (RacePrints script.now) status out.old.items out.new.items) }
-    ensures refused { OnErr result (MayAppend (RacePrints script.now) out.old.items out.new.items) }
+    requires { IsRace script }
+    ensures complete { IfOk result (λ status. MayComplete (RacePrints script) status out.old.items out.new.items) }
+    ensures refused { OnErr result (MayAppend (RacePrints script) out.old.items out.new.items) }
 {
-    let engine = engine_of(alloc, script)?;
+    let engine = engine_of(alloc, &script)?;
     let jobs = jobs_of(alloc, script.jobs.as_slice())?;
     let Some((parts, reader)) = parts_of(rt, alloc, engine)? else {
         push_refused(&mut Vec::new(alloc), "NoReader", out)?;
@@ -198,7 +198,7 @@ fn carry_out_race<R: Threads + Wait + Sync>(
     let lines = script.before.statements.as_slice();
     match raced::<Brand, _>(rt, alloc, parts, reader, lines, &jobs, out)? {
         Some(mut engine) => {
-            carry_out_all(alloc, &mut engine, script.after.as_slice(), out)?;
+            carry_out_all(alloc, &mut engine, script.after, out)?;
             Ok(SUCCESS)
         }
         None => Ok(FAULT),
@@ -227,7 +227,7 @@ impl OpenCommand for Race {
         out: &mut Vec<u8>,
     ) -> Result<u8, AllocError> {
         match read_race_script(alloc, input) {
-            Ok(script) => carry_out_race(rt, alloc, &script, out),
+            Ok(script) => carry_out_race(rt, alloc, script, out),
             Err(ScriptError::Fault(fault)) => {
                 push_fault(alloc, out, fault)?;
                 Ok(FAULT)

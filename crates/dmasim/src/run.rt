@@ -7,83 +7,64 @@ use crate::calls::{answer_call, answer_totals, submit_line, write_line};
 use crate::copies::answer_copy;
 use crate::steps::{Answers, answer_steps};
 use dma_engine::{Call, Engine, NewFault};
+use dma_mem::segment::Segment;
 use dma_script::command::{Command, FAULT, SUCCESS, serve};
 use dma_script::fault::ScriptError;
 use dma_script::input::{LONGEST_INPUT, Source};
 use dma_script::output::Sink;
 use dma_script::printing::push_fault;
-use dma_script::statements::{Statement, read_run_script};
+use dma_script::statements::{Statement, Statements, read_run_script};
 use std::alloc::{AllocError, Global};
 
 /// Carries out a line, and appends what it prints or nothing.
 fn carry_out(
-    alloc: Global,
     engine: &mut Engine,
-    statement: &Statement,
+    statement: Statement,
     told: &mut Answers,
     out: &mut Vec<u8>,
 ) -> Result<(), AllocError>
-    ensures ok { OnOk result (AnswersLine (line_answer engine.old.view statement.now) engine.new.view out.old.items out.new.items) }
+    ensures ok { OnOk result (AnswersLine (line_answer engine.old.view statement) engine.new.view out.old.items out.new.items) }
     ensures err { OnErr result (out.new.items ≡ out.old.items) }
 {
+    let line = &mut told.lines;
     let call = match statement {
         Statement::Write { addr, bytes } => {
-            return write_line(engine, *addr, bytes.as_slice(), &mut told.lines, out);
+            return write_line(engine, addr, bytes.as_slice(), line, out);
         }
-        Statement::Copy { src, dst } => {
-            return answer_copy(
-                alloc,
-                engine,
-                src.as_slice(),
-                dst.as_slice(),
-                &mut told.lines,
-                out,
-            );
-        }
+        Statement::Copy(lists) => return answer_copy(engine, lists.into_inner(), line, out),
         Statement::Submit { ch, transfer } => {
-            return submit_line(alloc, engine, *ch, transfer, &mut told.lines, out);
+            return submit_line(engine, ch, transfer.into_inner(), line, out);
         }
-        Statement::Step { ch, count } => return answer_steps(engine, *ch, *count, told, out),
-        Statement::Totals => return answer_totals(engine, &mut told.lines, out),
-        Statement::Read(segment) => Call::Read {
-            addr: segment.addr,
-            len: segment.len,
-        },
-        Statement::Issue { ch } => Call::Issue { ch: *ch },
-        Statement::Pause { ch } => Call::Pause { ch: *ch },
-        Statement::Resume { ch } => Call::Resume { ch: *ch },
-        Statement::Terminate { ch } => Call::Terminate { ch: *ch },
-        Statement::Status { ch, cookie } => Call::Status {
-            ch: *ch,
-            cookie: *cookie,
-        },
-        Statement::Result { ch, cookie } => Call::Result {
-            ch: *ch,
-            cookie: *cookie,
-        },
-        Statement::Mark { kind, segment } => Call::Mark {
-            kind: *kind,
-            segment: *segment,
-        },
+        Statement::Step { ch, count } => return answer_steps(engine, ch, count, told, out),
+        Statement::Totals => return answer_totals(engine, line, out),
+        Statement::Read(Segment { addr, len }) => Call::Read { addr, len },
+        Statement::Issue { ch } => Call::Issue { ch },
+        Statement::Pause { ch } => Call::Pause { ch },
+        Statement::Resume { ch } => Call::Resume { ch },
+        Statement::Terminate { ch } => Call::Terminate { ch },
+        Statement::Status { ch, cookie } => Call::Status { ch, cookie },
+        Statement::Result { ch, cookie } => Call::Result { ch, cookie },
+        Statement::Mark { kind, segment } => Call::Mark { kind, segment },
         Statement::Unmark => Call::Unmark,
-        Statement::Raise { event } => Call::Raise { event: *event },
+        Statement::Raise { event } => Call::Raise { event },
     };
-    answer_call(engine, &call, &mut told.lines, out)
+    answer_call(engine, &call, line, out)
 }
 
-/// Carries out the lines of a script. Where memory is refused, what the lines before printed stands there.
+/// Carries out the lines of a script, each of which is done with then. Where memory is refused, what the lines before printed
+/// stands there.
 pub fn carry_out_all(
     alloc: Global,
     engine: &mut Engine,
-    statements: &[Statement],
+    statements: Statements,
     out: &mut Vec<u8>,
 ) -> Result<(), AllocError>
-    ensures ok { OnOk result (out.new.items ≡ out.old.items ++ printed_text (lines_answered engine.old.view statements.now)) }
-    ensures err { OnErr result (AppendsGroups (lines_answered engine.old.view statements.now) out.old.items out.new.items) }
+    ensures ok { OnOk result (out.new.items ≡ out.old.items ++ printed_text (lines_answered engine.old.view statements)) }
+    ensures err { OnErr result (AppendsGroups (lines_answered engine.old.view statements) out.old.items out.new.items) }
 {
     let mut told = Answers::new(alloc);
-    for statement in statements {
-        carry_out(alloc, engine, statement, &mut told, out)?;
+    for statement in statements.into_vec() {
+        carry_out(engine, statement, &mut told, out)?;
     }
     Ok(())
 }
@@ -108,7 +89,7 @@ impl Command for Run {
                     Err(NewFault::NoMemory) => return Err(AllocError),
                     Err(NewFault::BadChannels | NewFault::SizeOutOfRange) => unreachable!(),
                 };
-                carry_out_all(alloc, &mut engine, script.statements.as_slice(), out)?;
+                carry_out_all(alloc, &mut engine, script.statements, out)?;
                 Ok(SUCCESS)
             }
             Err(ScriptError::Fault(fault)) => {

@@ -1,10 +1,11 @@
 //! The lines of a script that step a channel. Equal answers that follow each other are counted in one printed line.
-ghost use Rattle.std.specs.Prelude.{◌≡◌, ◌≢◌, ◌≤◌, ◌<◌, ◌+◌, ◌++◌, ◌∷◌, [], List, ℕ, OnOk, OnErr, IfOk, map, replicate};
+ghost use Rattle.std.specs.Prelude.{◌≡◌, ◌≢◌, ◌≤◌, ◌<◌, ◌+◌, ◌++◌, ◌∷◌, [], List, ℕ, OnOk, OnErr, IfOk, IsTrue, Err, map, replicate};
 ghost use Rattle.dma_engine.specs.Answer.{answers, reply_of};
+ghost use Rattle.dma_engine.specs.Room.{IsIdle};
 ghost use Rattle.dma_engine.specs.declared.call.Call.TheVariants as calls;
 ghost use Rattle.dma_script.specs.Command.{text_of};
 ghost use Rattle.dmasim.specs.Printed.{reply_text};
-ghost use Rattle.dmasim.specs.Counting.{comes_again, text_with};
+ghost use Rattle.dmasim.specs.Counting.{text_with};
 ghost use Rattle.dmasim.specs.Run.{AnswersLine, step_answer, step_line};
 
 use crate::printing::{push_reply, push_text, push_worded};
@@ -80,7 +81,8 @@ impl Answers {
 
 /// The reply of a step. Where memory is refused the error comes.
 pub fn step_reply(turn: Result<Turn, EngineFault>) -> Result<Reply, AllocError>
-    ensures { IfOk result (λ reply. (reply ≡ reply_of (λ turn. Reply.Turned turn) turn) × (reply ≢ Reply.Refused EngineFault.NoMemory)) }
+    ensures reply { IfOk result (λ reply. (reply ≡ reply_of (λ turn. Reply.Turned turn) turn) × (reply ≢ Reply.Refused EngineFault.NoMemory)) }
+    ensures refused { OnErr result (turn ≡ Err EngineFault.NoMemory) }
 {
     match turn {
         Ok(turn) => Ok(Reply::Turned(turn)),
@@ -89,14 +91,15 @@ pub fn step_reply(turn: Result<Turn, EngineFault>) -> Result<Reply, AllocError>
     }
 }
 
-/// Whether such an answer to a step comes again with the next, since the step changed nothing.
-fn comes_again(reply: &Reply) -> bool
-    ensures { result ≡ comes_again reply.now }
+/// Whether such an answer to a step changed nothing, so that it comes again with the next step.
+fn is_idle(turn: Result<Turn, EngineFault>) -> bool
+    ensures idle { IsTrue result → IsIdle turn }
+    ensures all { IsIdle turn → IsTrue result }
 {
-    match reply {
-        Reply::Turned(Turn::Started(_) | Turn::Moved | Turn::Finished { .. }) => false,
-        _ => true,
-    }
+    !matches!(
+        turn,
+        Ok(Turn::Started(_) | Turn::Moved | Turn::Finished { .. })
+    )
 }
 
 /// Steps a channel at most so often, until one doesn't move, and takes the answers. One that comes again is taken for all
@@ -116,7 +119,7 @@ fn take_steps(engine: &mut Engine, ch: u8, most: u32, told: &mut Answers) -> Res
         return Ok(moved);
     };
     let reply = step_reply(last)?;
-    let many = if comes_again(&reply) { most - moved } else { 1 };
+    let many = if is_idle(last) { most - moved } else { 1 };
     told.take(ch, &reply, many)?;
     Ok(moved + many)
 }

@@ -1,5 +1,6 @@
-use Rattle.dma_chan.proofs.Controls.{size_codes}
+use Rattle.std.proofs.Common.{◌∙◌}
+use Rattle.dma_chan.proofs.Controls.{burst_of_end}
 use Rattle.dma_chan.proofs.bursts.destination_burst.Goals as goal
 
-pub beat_size-requires : goal.beat_size-requires
-beat_size-requires c = (size_codes _ c.requires).1
+pub returns-clause-value : goal.returns-clause-value
+returns-clause-value c = c.of.ensures.value ∙ burst_of_end 14 c.args.registers.now.dar c.args.registers.now.ccr c.destination.result c.destination.ensures

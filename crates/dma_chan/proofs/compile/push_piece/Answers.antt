@@ -3,4 +3,4 @@ use Rattle.dma_chan.proofs.compile.push_piece.Goals as goal
 
 pub returns : goal.returns
 returns c =
-    rw (← c.beat_of-beat.ensures.value) (record { ok = appended _ _ _ _ _ _ _ c.in_ok-push.ensures.ok c.in_ok-push-2.ensures.ok c.in_ok-push_parts.ensures.ok })
+    rw (← c.beat_of-size.ensures) (record { ok = appended _ _ _ _ _ _ _ c.in_ok-push.ensures.ok c.in_ok-push-2.ensures.ok c.in_ok-push_parts.ensures.ok })

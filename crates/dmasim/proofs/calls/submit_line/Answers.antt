@@ -11,8 +11,8 @@ use Rattle.dmasim.proofs.calls.submit_line.Goals as goal
 pub returns-in-Ok-clause-ok : goal.returns-in-Ok-clause-ok
 returns-in-Ok-clause-ok c =
     let v = c.args.engine.now.view in
-    let t = submitted c.args.words.now in
-    let is : c.in-Ok.transfer ≡ t = rw (← c.as_slice.ensures, ← c.as_slice-2.ensures) c.in-Ok.ensures.ok in
+    let t = submitted c.args.words in
+    let is : c.in-Ok.transfer ≡ t = c.in-Ok.ensures.ok in
     let fits : refusal_of t ≡ None = ap refusal_of (sym is) ∙ c.in-Ok.ensures.accepted in
     let out = c.args.out.now.items in
     rw (unless_unfit-none (refusal_of t) v (call_answer v (Submit c.args.ch t)) fits)
@@ -21,7 +21,7 @@ returns-in-Ok-clause-ok c =
 pub returns-in-Err-clause-ok : goal.returns-in-Err-clause-ok
 returns-in-Err-clause-ok c =
     let v = c.args.engine.now.view in
-    let t = submitted c.args.words.now in
+    let t = submitted c.args.words in
     on_ok_weaker c.push_unfit.result
-    (unfit v c.args.out.now.items c.push_unfit.new.out.items (refusal_of t) c.in-Err.fault (call_answer v (Submit c.args.ch t)) (rw (← c.as_slice.ensures, ← c.as_slice-2.ensures) c.in-Err.ensures.err))
+    (unfit v c.args.out.now.items c.push_unfit.new.out.items (refusal_of t) c.in-Err.fault (call_answer v (Submit c.args.ch t)) c.in-Err.ensures.err)
     c.push_unfit.ensures.ok

@@ -11,7 +11,7 @@ use Rattle.dmasim.proofs.copies.answer_copy.Goals as goal
 pub returns-in-Err-clause-ok : goal.returns-in-Err-clause-ok
 returns-in-Err-clause-ok c =
     let v = c.args.engine.now.view in
-    let t = plain_copy c.args.src.now c.args.dst.now in
+    let t = plain_copy c.args.lists.src c.args.lists.dst in
     on_ok_weaker c.push_unfit.result
     (unfit v c.args.out.now.items c.push_unfit.new.out.items (refusal_of t) c.in-Err.fault (copied v t) c.in-Err.ensures.err)
     c.push_unfit.ensures.ok
@@ -20,7 +20,7 @@ pub returns-then-is_in_use-clause-ok : goal.returns-then-is_in_use-clause-ok
 returns-then-is_in_use-clause-ok c =
     let v = c.args.engine.now.view in
     let out = c.args.out.now.items in
-    let t = plain_copy c.args.src.now c.args.dst.now in
+    let t = plain_copy c.args.lists.src c.args.lists.dst in
     let fits : refusal_of t ≡ None = ap refusal_of (sym c.in-Ok.ensures.ok) ∙ c.in-Ok.ensures.accepted in
     let used : is_in_use v ≡ true = sym c.is_in_use.ensures ∙ c.if-is_in_use.true in
     on_ok_weaker c.push_refused.result
@@ -32,7 +32,7 @@ pub returns-clause-ok : goal.returns-clause-ok
 returns-clause-ok c =
     let v = c.args.engine.now.view in
     let out = c.args.out.now.items in
-    let t = plain_copy c.args.src.now c.args.dst.now in
+    let t = plain_copy c.args.lists.src c.args.lists.dst in
     let is : c.in-Ok.transfer ≡ t = c.in-Ok.ensures.ok in
     let fits : refusal_of t ≡ None = ap refusal_of (sym is) ∙ c.in-Ok.ensures.accepted in
     let free : is_in_use v ≡ false = sym c.is_in_use.ensures ∙ c.if-is_in_use.false in

@@ -9,7 +9,7 @@ returns-then-not-goes_on c =
     let n = c.advance-steps.result.moved in
     let few = rw c.in-Some.is at c.advance-steps.ensures.other in
     let all : n + (c.loop-left.left - n) ≡ c.loop-left.left = omega (arith, few.0) in
-    advanced-end c.loop-left.engine.view c.advance-steps.new.engine.view c.advance-steps.result c.in-Some.last c.in_ok-reply.reply (c.loop-left.left - n) c.loop-left.left all c.advance-steps.ensures.answers c.in-Some.is c.in_ok-reply.ensures (sym c.goes_on.ensures ∙ c.if-not-goes_on.true)
+    advanced-end c.loop-left.engine.view c.advance-steps.new.engine.view c.advance-steps.result c.in-Some.last c.in_ok-reply.reply (c.loop-left.left - n) c.loop-left.left all c.advance-steps.ensures.answers c.in-Some.is c.in_ok-reply.ensures.reply (sym c.goes_on.ensures ∙ c.if-not-goes_on.true)
     ∙ sym c.loop-left.invariant
 
 pub loop-left-preserved-else-not-goes_on-2 : goal.loop-left-preserved-else-not-goes_on-2
@@ -19,7 +19,7 @@ loop-left-preserved-else-not-goes_on-2 c =
     let left = c.loop-left.left - n - 1 in
     let all : n + suc left ≡ c.loop-left.left = omega (arith, few.0) in
     c.loop-left.invariant
-    ∙ advanced-on c.loop-left.engine.view c.advance-steps.new.engine.view c.advance-steps.result c.in-Some.last c.in_ok-reply.reply left c.loop-left.left all c.advance-steps.ensures.answers c.in-Some.is c.in_ok-reply.ensures (sym c.goes_on.ensures ∙ c.if-not-goes_on.false)
+    ∙ advanced-on c.loop-left.engine.view c.advance-steps.new.engine.view c.advance-steps.result c.in-Some.last c.in_ok-reply.reply left c.loop-left.left all c.advance-steps.ensures.answers c.in-Some.is c.in_ok-reply.ensures.reply (sym c.goes_on.ensures ∙ c.if-not-goes_on.false)
 
 pub loop-left-preserved : goal.loop-left-preserved
 loop-left-preserved c =
@@ -34,4 +34,4 @@ returns c =
     let none : c.loop-left.left ≡ 0 = omega (arith, c.loop-left-test.false) in
     IfOk-weaker c.reply_to.result _ _
     (λ reply is. is ∙ stepped-last c.loop-left.engine.view ∙ ap (λ (k : ℕ). stepped_through k c.loop-left.engine.view) (sym none) ∙ sym c.loop-left.invariant)
-    c.reply_to.ensures
+    c.reply_to.ensures.answer

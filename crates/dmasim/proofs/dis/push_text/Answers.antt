@@ -4,13 +4,13 @@ use Rattle.dma_script.specs.Command.{Printed, printed_text}
 use Rattle.dmasim.proofs.DisLemmas.{printed-text, printed-stops}
 use Rattle.dmasim.proofs.dis.push_text.Goals as goal
 
-pub returns-in_ok-extend_from_slice-in-Ok-clause-text : goal.returns-in_ok-extend_from_slice-in-Ok-clause-text
-returns-in_ok-extend_from_slice-in-Ok-clause-text c =
-    c.in_ok-extend_from_slice-in-Ok.ensures.items
-    ∙ ap (λ text. c.args.out.now.items ++ text) (c.deref.ensures.value ∙ sym (printed-text c.args.bytes.now c.in-Ok.text.items c.in-Ok.ensures.text).0)
+pub returns-in_ok-push_whole-in-Ok-clause-text : goal.returns-in_ok-push_whole-in-Ok-clause-text
+returns-in_ok-push_whole-in-Ok-clause-text c =
+    c.in_ok-push_whole-in-Ok.ensures.ok
+    ∙ ap (λ text. c.args.out.now.items ++ text) (sym (printed-text c.args.bytes.now c.in-Ok.text.items c.in-Ok.ensures.text).0)
 
-pub returns-in_ok-extend_from_slice-in-Ok-clause-status : goal.returns-in_ok-extend_from_slice-in-Ok-clause-status
-returns-in_ok-extend_from_slice-in-Ok-clause-status c = sym (printed-text c.args.bytes.now c.in-Ok.text.items c.in-Ok.ensures.text).1
+pub returns-in_ok-push_whole-in-Ok-clause-status : goal.returns-in_ok-push_whole-in-Ok-clause-status
+returns-in_ok-push_whole-in-Ok-clause-status c = sym (printed-text c.args.bytes.now c.in-Ok.text.items c.in-Ok.ensures.text).1
 
 pub returns-in_ok-push_decode_fault-in-Err-Decode-clause-text : goal.returns-in_ok-push_decode_fault-in-Err-Decode-clause-text
 returns-in_ok-push_decode_fault-in-Err-Decode-clause-text c =

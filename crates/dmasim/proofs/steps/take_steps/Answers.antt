@@ -7,10 +7,11 @@ use Rattle.dma_engine.specs.declared.turn.Turn.TheVariants.{Moved}
 use Rattle.dma_engine.specs.Answer.{answers}
 use Rattle.dma_engine.specs.View.{View}
 use Rattle.dmasim.specs.Printed.{reply_text}
-use Rattle.dmasim.specs.Counting.{comes_again, text_with}
+use Rattle.dma_engine.specs.Room.{IsIdle}
+use Rattle.dmasim.specs.Counting.{text_with}
 use Rattle.dmasim.proofs.Advances.{all-moved, all-texts, both-texts, moved-then}
 use Rattle.dmasim.proofs.steps.take_steps.Goals as goal
-use Rattle.dmasim.proofs.steps.take_steps.Goals.{then-comes_again, else-comes_again}
+use Rattle.dmasim.proofs.steps.take_steps.Goals.{then-is_idle, else-is_idle}
 
 pub returns-in_default-clause-view : goal.returns-in_default-clause-view
 returns-in_default-clause-view c =
@@ -28,12 +29,12 @@ returns-in_default-clause-text c =
 
 pub returns-clause-view : goal.returns-clause-view
 returns-clause-view c =
-    let many = c.if-comes_again.many in
-    let times : (many ≡ 1) ⊎ (comes_again c.in_ok-reply.reply ≡ true) = elim c.if-comes_again.branch [
-      | then-comes_again w ↦ inr (sym c.comes_again.ensures ∙ w.if-comes_again.true)
-      | else-comes_again w ↦ inl w.many-is
+    let many = c.if-is_idle.many in
+    let times : (many ≡ 1) ⊎ IsIdle c.in-Some.last = elim c.if-is_idle.branch [
+      | then-is_idle w ↦ inr (c.is_idle.ensures.idle w.if-is_idle.true)
+      | else-is_idle w ↦ inl w.many-is
     ] in
-    ap (λ (a : List Reply × View). a.1) (moved-then c.args.engine.now.view c.advance-moved.new.engine.view c.args.ch c.advance-moved.result many c.in-Some.last c.in_ok-reply.reply c.advance-moved.ensures.answers c.in-Some.is c.in_ok-reply.ensures times)
+    ap (λ (a : List Reply × View). a.1) (moved-then c.args.engine.now.view c.advance-moved.new.engine.view c.args.ch c.advance-moved.result many c.in-Some.last c.in_ok-reply.reply c.advance-moved.ensures.answers c.in-Some.is c.in_ok-reply.ensures.reply times)
 
 pub returns-clause-text : goal.returns-clause-text
 returns-clause-text c =
@@ -41,13 +42,13 @@ returns-clause-text c =
     let v = c.args.engine.now.view in
     let w = c.advance-moved.new.engine.view in
     let n = c.advance-moved.result.moved in
-    let many = c.if-comes_again.many in
+    let many = c.if-is_idle.many in
     let reply = c.in_ok-reply.reply in
-    let times : (many ≡ 1) ⊎ (comes_again reply ≡ true) = elim c.if-comes_again.branch [
-      | then-comes_again w ↦ inr (sym c.comes_again.ensures ∙ w.if-comes_again.true)
-      | else-comes_again w ↦ inl w.many-is
+    let times : (many ≡ 1) ⊎ IsIdle c.in-Some.last = elim c.if-is_idle.branch [
+      | then-is_idle w ↦ inr (c.is_idle.ensures.idle w.if-is_idle.true)
+      | else-is_idle w ↦ inl w.many-is
     ] in
-    let all = moved-then v w c.args.ch c.advance-moved.result many c.in-Some.last reply c.advance-moved.ensures.answers c.in-Some.is c.in_ok-reply.ensures times in
+    let all = moved-then v w c.args.ch c.advance-moved.result many c.in-Some.last reply c.advance-moved.ensures.answers c.in-Some.is c.in_ok-reply.ensures.reply times in
     λ rest. c.in_ok-take-2.ensures.text rest
     ∙ c.in_ok-take.ensures.text (replicate many (reply_text reply) ++ rest)
     ∙ ap (text_with c.args.ch told.lines.items told.last.items told.count) (both-texts n many (Turned Moved) reply w (answers v (replicate (n + many) (Step c.args.ch))) rest all)

@@ -1,31 +1,25 @@
-use Rattle.std.proofs.Common.{rules, ◌≢◌, ◌<◌, ◌∙◌, ap, sym, arith, length}
-use Rattle.std.specs.Prelude.{is_some, Ok}
+use Rattle.std.proofs.Common.{rules, ◌≢◌, ◌∙◌, ap, sym}
+use Rattle.std.specs.Prelude.{is_some}
 use Rattle.dma_insn.specs.declared.insn.Insn.TheVariants.{End}
 use Rattle.dma_chan.specs.Exec.{fault_in}
 use Rattle.dma_chan.specs.Layer.{carried_out}
 use Rattle.dma_chan.specs.Traffic.{member, read_places, written_places}
-use Rattle.dma_chan.proofs.Layers.{ahead_is}
 use Rattle.dma_engine.specs.Due.{IsNext}
 use Rattle.dma_engine.specs.Holds.{view_of}
 use Rattle.dma_engine.specs.Inside.{parts_of}
 use Rattle.dma_engine.specs.Turn.{Stepped, ends, turn}
 use Rattle.dma_engine.specs.View.{EngineState}
 use Rattle.dma_engine.proofs.Executed.{the_step, shared}
-use Rattle.dma_engine.proofs.Queues.{many-queues}
 use Rattle.dma_engine.proofs.Rooms.{ends-insn}
-use Rattle.dma_engine.proofs.Stepping.{due}
+use Rattle.dma_engine.proofs.Stepping.{due, due-ahead}
 use Rattle.dma_engine.proofs.engine.Engine.ending.Goals as goal
 
 pub failing_at-requires : goal.failing_at-requires
 failing_at-requires c =
     let p = parts_of c.self.inside in
     let q = c.index-queue.result.now in
-    let asked = rw (← c.self.view_is) at c.in-Some.ensures.due in
-    let less : c.args.ch < length p.queues = omega (arith, asked.0, many-queues p c.self.invariant) in
-    let read = rw c.from.ensures at c.index-queue.ensures in
-    let d = due p c.self.invariant c.args.ch q (IsNext c.in-Some.next) less read asked in
-    let r = d.it in
-    ahead_is r.transfer q.channel.taken p.memory q.channel r.rules r.machine ∙ ap (λ i. Ok i) d.holds
+    due-ahead p c.args.ch q c.in-Some.next
+    (due p c.self.invariant c.args.ch _ q (IsNext c.in-Some.next) c.from.ensures c.index-queue.ensures (rw (← c.self.view_is) at c.in-Some.ensures.due))
 
 pub returns-in_default-insn : goal.returns-in_default-insn
 returns-in_default-insn c =
@@ -34,10 +28,7 @@ returns-in_default-insn c =
     let ch = c.args.ch in
     let q = c.index-queue.result.now in
     let n = q.channel.taken in
-    let asked = rw (← c.self.view_is) at c.in-Some.ensures.due in
-    let less : ch < length p.queues = omega (arith, asked.0, many-queues p c.self.invariant) in
-    let read = rw c.from.ensures at c.index-queue.ensures in
-    let d = due p c.self.invariant ch q (IsNext c.in-Some.next) less read asked in
+    let d = due p c.self.invariant ch _ q (IsNext c.in-Some.next) c.from.ensures c.index-queue.ensures (rw (← c.self.view_is) at c.in-Some.ensures.due) in
     let t = d.it.transfer in
     let not_end : member t n ≢ End = λ e. c.in_default-insn.not-End (c.insn.ensures ∙ sym d.holds ∙ e) in
     let one = the_step p c.self.invariant ch q d.it in

@@ -1,36 +1,26 @@
-use Rattle.std.proofs.Common.{◌≡◌, ◌<◌, ◌∙◌, ap, sym, arith, length, inl, inr}
+use Rattle.std.proofs.Common.{◌≡◌, ◌∙◌, refl, sym, inl, inr}
 use Rattle.dma_chan.specs.Layer.{step_at}
 use Rattle.dma_chan.specs.declared.turn.ChanTurn.TheVariants.{Moved, Fault}
 use Rattle.dma_chan.specs.declared.turn.FaultKind.TheVariants.{DataReadErr, DataWriteErr}
-use Rattle.dma_chan.proofs.Layers.{ahead_is}
-use Rattle.std.specs.Prelude.{Ok}
-use Rattle.dma_engine.specs.Due.{IsDue, IsNext, GoesOn, Finishes, failure_of}
+use Rattle.dma_engine.specs.Due.{IsDue, IsNext, Finishes, failure_of}
 use Rattle.dma_engine.specs.Holds.{view_of}
 use Rattle.dma_engine.specs.Inside.{parts_of}
 use Rattle.dma_engine.proofs.Executed.{taken-small, the_step, shared, went_on, went_on-answers, failed, only-so}
-use Rattle.dma_engine.proofs.Queues.{many-queues}
-use Rattle.dma_engine.proofs.Stepping.{due, due-other}
+use Rattle.dma_engine.proofs.Stepping.{GoesOn, due, due-ahead, due-other}
 use Rattle.dma_engine.proofs.engine.Engine.move_on.Goals as goal
 
 pub execute-turn-requires-clause-next : goal.execute-turn-requires-clause-next
 execute-turn-requires-clause-next c =
     let p = parts_of c.self.inside in
     let q = c.index_mut-queue.result.now in
-    let asked = rw (← c.self.view_is) at c.requires.due in
-    let less : c.args.ch < length p.queues = omega (arith, asked.0, many-queues p c.self.invariant) in
-    let read = rw c.from.ensures at c.index_mut-queue.ensures.value in
-    let d = due p c.self.invariant c.args.ch q (IsNext c.args.next) less read asked in
-    let r = d.it in
-    ahead_is r.transfer q.channel.taken p.memory q.channel r.rules r.machine ∙ ap (λ i. Ok i) d.holds
+    let d = due p c.self.invariant c.args.ch _ q (IsNext c.args.next) c.from.ensures c.index_mut-queue.ensures.value (rw (← c.self.view_is) at c.requires.due) in
+    due-ahead p c.args.ch q c.args.next d
 
 pub execute-turn-requires-clause-count : goal.execute-turn-requires-clause-count
 execute-turn-requires-clause-count c =
     let p = parts_of c.self.inside in
     let q = c.index_mut-queue.result.now in
-    let asked = rw (← c.self.view_is) at c.requires.due in
-    let less : c.args.ch < length p.queues = omega (arith, asked.0, many-queues p c.self.invariant) in
-    let read = rw c.from.ensures at c.index_mut-queue.ensures.value in
-    let d = due p c.self.invariant c.args.ch q (IsNext c.args.next) less read asked in
+    let d = due p c.self.invariant c.args.ch _ q (IsNext c.args.next) c.from.ensures c.index_mut-queue.ensures.value (rw (← c.self.view_is) at c.requires.due) in
     taken-small p c.args.ch q d.it
 
 pub invariant_of-self : goal.invariant_of-self
@@ -38,23 +28,20 @@ invariant_of-self c =
     let p = parts_of c.self.inside in
     let q = c.index_mut-queue.result.now in
     let asked = due-other (view_of p) c.args.ch c.args.next c.requires.other (rw (← c.self.view_is) at c.requires.due) in
-    let less : c.args.ch < length p.queues = omega (arith, asked.0, many-queues p c.self.invariant) in
     let read = rw c.from.ensures at c.index_mut-queue.ensures.value in
-    let d = due p c.self.invariant c.args.ch q GoesOn less read asked in
+    let d = due p c.self.invariant c.args.ch c.args.ch q GoesOn refl read asked in
     let one = the_step p c.self.invariant c.args.ch q d.it in
     let moved : (step_at d.it.transfer q.channel.taken p.marks (shared p)).0 ≡ Moved = sym one.turn ∙ sym c.execute-turn.ensures.turn ∙ c.in-Moved.is in
     let memory = c.execute-turn.ensures.memory ∙ one.image in
     let flags = c.execute-turn.ensures.events ∙ one.flags in
-    rw (memory, flags, c.execute-turn.ensures.channel, c.from.ensures) (went_on p c.args.ch q c.self.invariant less read d moved).holds
+    rw (memory, flags, c.execute-turn.ensures.channel, c.from.ensures) (went_on p c.args.ch q c.self.invariant d.less d.read d moved).holds
 
 pub unreachable-requires : goal.unreachable-requires
 unreachable-requires c =
     let p = parts_of c.self.inside in
     let q = c.index_mut-queue.result.now in
     let asked = due-other (view_of p) c.args.ch c.args.next c.requires.other (rw (← c.self.view_is) at c.requires.due) in
-    let less : c.args.ch < length p.queues = omega (arith, asked.0, many-queues p c.self.invariant) in
-    let read = rw c.from.ensures at c.index_mut-queue.ensures.value in
-    let d = due p c.self.invariant c.args.ch q GoesOn less read asked in
+    let d = due p c.self.invariant c.args.ch _ q GoesOn c.from.ensures c.index_mut-queue.ensures.value asked in
     let one = the_step p c.self.invariant c.args.ch q d.it in
     let is = c.execute-turn.ensures.turn ∙ one.turn in
     elim (only-so p d.it.transfer q.channel.taken d.holds) [
@@ -70,13 +57,11 @@ returns-in-Moved-clause-moved c =
     let p = parts_of c.self.inside in
     let q = c.index_mut-queue.result.now in
     let asked = due-other (view_of p) c.args.ch c.args.next c.requires.other (rw (← c.self.view_is) at c.requires.due) in
-    let less : c.args.ch < length p.queues = omega (arith, asked.0, many-queues p c.self.invariant) in
-    let read = rw c.from.ensures at c.index_mut-queue.ensures.value in
-    let d = due p c.self.invariant c.args.ch q GoesOn less read asked in
+    let d = due p c.self.invariant c.args.ch _ q GoesOn c.from.ensures c.index_mut-queue.ensures.value asked in
     let one = the_step p c.self.invariant c.args.ch q d.it in
     let moved : (step_at d.it.transfer q.channel.taken p.marks (shared p)).0 ≡ Moved = sym one.turn ∙ sym c.execute-turn.ensures.turn ∙ c.in-Moved.is in
     λ _. rw (← c.self.view_is, c.execute-turn.ensures.channel, c.from.ensures)
-    (went_on-answers p c.args.ch q c.execute-turn.new.memory c.execute-turn.new.events c.self.invariant less read d moved)
+    (went_on-answers p c.args.ch q c.execute-turn.new.memory c.execute-turn.new.events c.self.invariant d.less d.read d moved)
 
 pub returns-in-Fault-clause-fails : goal.returns-in-Fault-clause-fails
 returns-in-Fault-clause-fails c =
@@ -85,9 +70,7 @@ returns-in-Fault-clause-fails c =
     let q = c.index_mut-queue.result.now in
     let kind = c.in-Fault.kind in
     let asked = due-other (view_of p) ch c.args.next c.requires.other (rw (← c.self.view_is) at c.requires.due) in
-    let less : ch < length p.queues = omega (arith, asked.0, many-queues p c.self.invariant) in
-    let read = rw c.from.ensures at c.index_mut-queue.ensures.value in
-    let d = due p c.self.invariant ch q GoesOn less read asked in
+    let d = due p c.self.invariant ch _ q GoesOn c.from.ensures c.index_mut-queue.ensures.value asked in
     let one = the_step p c.self.invariant ch q d.it in
     let fails : (step_at d.it.transfer q.channel.taken p.marks (shared p)).0 ≡ Fault kind = sym one.turn ∙ sym c.execute-turn.ensures.turn ∙ c.in-Fault.is in
     let finishes : Finishes (view_of p) (failure_of kind) d.it.transfer q.channel.taken = failed p d.it.transfer q.channel.taken kind c.self.invariant d.holds fails in

@@ -1,0 +1,64 @@
+-- The words of a line, cut off one after another.
+use Rattle.std.proofs.Common.{◌≡◌, ◌==◌, ◌∙◌, ℕ, ◌+◌, ◌-◌, ◌<◌, ◌≤◌, true, false, not, List, [], ◌∷◌, ◌++◌, length, take, drop, filter, get_or, refl, sym, ap, arith, add-one, append_assoc, drop-cons, drop-drop, length-drop, inl, inr, Result, Ok, Err}
+use Rattle.std.specs.Prelude.{OnOk}
+use Rattle.std.proofs.lemmas.List.{take_rest, length-take-le, take-append-drop, get_or-drop, get_or-take}
+use Rattle.std.proofs.lemmas.Bool.{cases_lt, ne_eqb}
+use Rattle.std.proofs.lemmas.Grind.{get_or_default_zero}
+use Rattle.std.proofs.lemmas.List.Splits.{slice_split_at, slice_split_none}
+use Rattle.std.specs.List.{slice_split}
+use Rattle.dma_script.specs.Words.{is_blank, kept_part, words_of}
+
+-- No byte is a blank from one place on up to another.
+abbrev pub NoBlank : List ℕ → ℕ → ℕ → Type 0
+NoBlank line start end = (k : ℕ) → start ≤ k → k < end → is_blank (get_or line k 0) ≡ false
+
+-- One part and others.
+kept_first : (part : List ℕ) (parts : List (List ℕ)) → filter (λ word. not (length word == 0)) (part ∷ parts) ≡ kept_part part ++ filter (λ word. not (length word == 0)) parts
+kept_first [] parts = refl
+kept_first (b ∷ part) parts = let some : (length (b ∷ part) == 0) ≡ false = ne_eqb (length (b ∷ part)) 0 (λ z. omega arith) in rw some refl
+
+-- One more byte that is no blank.
+pub no_blank_more : (line : List ℕ) (start end : ℕ) → NoBlank line start end → is_blank (get_or line end 0) ≡ false → NoBlank line start (end + 1)
+no_blank_more line start end none other k after below = elim (cases_lt k end) [
+  | inl less ↦ none k after less
+  | inr more ↦ let same : k ≡ end = omega arith in rw same other
+]
+
+-- What was read before, a part that is added and the words behind it.
+pub words_joined : (before added part rest all : List (List ℕ)) → added ≡ before ++ part → before ++ (part ++ rest) ≡ all → added ++ rest ≡ all
+words_joined before added part rest all is e = ap (λ (l : List (List ℕ)). l ++ rest) is ∙ append_assoc before part rest ∙ e
+
+-- A part without a blank.
+no_blank_in : (line : List ℕ) (start end : ℕ) (part : List ℕ) → length part ≡ end - start → ((j : ℕ) → j < end - start → get_or part j 0 ≡ get_or line (start + j) 0) → NoBlank line start end → (k d : ℕ) → k < length part → is_blank (get_or part k d) ≡ false
+no_blank_in line start end part size same none k d h =
+    ap is_blank (get_or_default_zero part k d h ∙ same k (omega arith)) ∙ none (start + k) (omega arith) (omega arith)
+
+-- The line from a place on is what stands before a later place, the byte there, and the line behind it.
+cut_at : (line : List ℕ) (start end : ℕ) → start ≤ end → end < length line → drop start line ≡ take (end - start) (drop start line) ++ get_or line end 0 ∷ drop (end + 1) line
+cut_at line start end after within =
+    let place : start + (end - start) ≡ end = omega arith in
+    let behind : drop (end - start) (drop start line) ≡ drop end line = drop-drop (end - start) start line ∙ ap (λ (n : ℕ). drop n line) place in
+    let first : drop end line ≡ get_or line end 0 ∷ drop (end + 1) line = rw (add-one, drop-cons line end 0 within) refl in
+    sym (take-append-drop (end - start) (drop start line)) ∙ ap (λ (rest : List ℕ). take (end - start) (drop start line) ++ rest) (behind ∙ first)
+
+-- What ends at a blank, with no blank before that, is a part, and the words behind the blank follow.
+pub words_at : (line : List ℕ) (start end : ℕ) → start ≤ end → end < length line → NoBlank line start end → is_blank (get_or line end 0) ≡ true → words_of (drop start line) ≡ kept_part (take (end - start) (drop start line)) ++ words_of (drop (end + 1) line)
+words_at line start end after within none blank =
+    let part = take (end - start) (drop start line) in
+    let size : length part ≡ end - start = length-take-le (end - start) (drop start line) (omega (arith, length-drop start line)) in
+    let split = slice_split_at is_blank part (get_or line end 0) (drop (end + 1) line) (λ k d h. no_blank_in line start end part size (λ j less. get_or-take (end - start) (drop start line) j 0 less ∙ get_or-drop start line j 0) none k d h) blank in
+    ap words_of (cut_at line start end after within) ∙ ap (filter (λ word. not (length word == 0))) split ∙ kept_first part (slice_split is_blank (drop (end + 1) line))
+
+-- Where no blank is left, the rest is the last part.
+pub words_last : (line : List ℕ) (start : ℕ) → NoBlank line start (length line) → words_of (drop start line) ≡ kept_part (drop start line)
+words_last line start none = ap (filter (λ word. not (length word == 0))) (slice_split_none is_blank (drop start line) (λ k d h. no_blank_in line start (length line) (drop start line) (length-drop start line) (λ j less. get_or-drop start line j 0) none k d h))
+
+-- The last part is added, and all words are there.
+pub words_all : (line : List ℕ) (start : ℕ) (before added : List (List ℕ)) → NoBlank line start (length line) → before ++ words_of (drop start line) ≡ words_of line → added ≡ before ++ kept_part (take (length line - start) (drop start line)) → added ≡ words_of line
+words_all line start before added none e is =
+    is ∙ ap (λ (rest : List ℕ). before ++ kept_part rest) (take_rest line start) ∙ ap (λ (l : List (List ℕ)). before ++ l) (sym (words_last line start none)) ∙ e
+
+-- What holds on Ok.
+pub on_ok : {T E P Q : Type 0} (r : Result T E) → (P → Q) → OnOk r P → OnOk r Q
+on_ok (Ok x) f p = f p
+on_ok (Err e) f p = p
