@@ -2,6 +2,7 @@
 
     python3 bench/channel.py
 """
+import argparse
 import os
 import re
 import subprocess
@@ -26,6 +27,7 @@ def measure():
 
 
 def main():
+    argparse.ArgumentParser(description=__doc__, formatter_class=argparse.RawDescriptionHelpFormatter).parse_args()
     subprocess.run(["rt", "run"], cwd=CRATE, stdout=subprocess.DEVNULL, stderr=subprocess.DEVNULL)
     into, out, bursts, nops, compiled = (min(times) for times in zip(*[measure() for _ in range(TURNS)]))
     size = 160 * (1 << 20)

@@ -4,6 +4,7 @@ less. A rate or a ratio is the median of the turns; behind a ratio by the clock 
 
     python3 bench/status.py
 """
+import argparse
 import os
 import re
 import statistics
@@ -77,6 +78,7 @@ def tell_steps(turns):
 
 
 def main():
+    argparse.ArgumentParser(description=__doc__, formatter_class=argparse.RawDescriptionHelpFormatter).parse_args()
     subprocess.run(["rt", "run"], cwd=CRATE, stdout=subprocess.DEVNULL, stderr=subprocess.DEVNULL)
     before = os.getloadavg()[0]
     turns = [measure_all() for _ in range(TURNS)]

@@ -91,6 +91,7 @@ impl Burst {
 }
 
 // The burst of a load.
+#[tactic(auto, using(crate::proofs::Controls::burst_of_end))]
 fn source_burst(registers: &Registers) -> Burst
     ensures value { result ≡ source_of registers.now }
     ensures addr { result.addr ≡ registers.now.sar }
@@ -101,6 +102,7 @@ fn source_burst(registers: &Registers) -> Burst
 }
 
 // The burst of a store.
+#[tactic(auto, using(crate::proofs::Controls::burst_of_end))]
 fn destination_burst(registers: &Registers) -> Burst
     ensures value { result ≡ destination_of registers.now }
     ensures addr { result.addr ≡ registers.now.dar }

@@ -39,7 +39,7 @@ pub fn advance(engine: &mut Engine, ch: u8, most: u32) -> Advanced
     ensures memory { engine.new.memory ≡ memory_of engine.new.view }
     // With room made, the first step is refused memory only where nothing runs, as a step alone is.
     ensures room { HasRoom engine.old ch → result.moved ≡ 0 → IfSome result.last (λ last. IfErr last (λ fault. fault ≡ EngineFault.NoMemory → (schedule_at engine.old.view ch).taken ≡ None)) }
-    ensures kept { result.moved ≡ 0 → IfSome result.last (λ last. IsIdle last → KeepsRoom engine.old engine.new) }
+    ensures kept { result.moved ≡ 0 → IfSome result.last (λ last. IsIdle last) → KeepsRoom engine.old engine.new }
 {
     let advanced = take_steps(engine, ch, most);
     // That the history is legal is told by its reading.
@@ -53,7 +53,7 @@ fn take_steps(engine: &mut Engine, ch: u8, most: u32) -> Advanced
     ensures all { IsNone result.last → result.moved ≡ most }
     ensures other { IfSome result.last (λ last. (result.moved < most) × (last ≢ Ok Turn.Moved)) }
     ensures room { HasRoom engine.old ch → result.moved ≡ 0 → IfSome result.last (λ last. IfErr last (λ fault. fault ≡ EngineFault.NoMemory → (schedule_at engine.old.view ch).taken ≡ None)) }
-    ensures kept { result.moved ≡ 0 → IfSome result.last (λ last. IsIdle last → KeepsRoom engine.old engine.new) }
+    ensures kept { result.moved ≡ 0 → IfSome result.last (λ last. IsIdle last) → KeepsRoom engine.old engine.new }
 {
     for moved in 0..most {
         if !engine.moves(ch) {

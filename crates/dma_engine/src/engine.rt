@@ -1,10 +1,10 @@
 //! The engine.
 
-ghost use Rattle.std.specs.Prelude.{◌≡◌, ◌≢◌, ◌+◌, ◌-◌, ◌<◌, ◌≤◌, ℕ, IsTrue, IsNone, IsSome, is_none, vec_len, vec_capacity, Ok, IfOk, IfErr, OnOk, OnErr, None, unwrap_or, take, IfSome, replicate, ◌++◌, ◌∷◌, [], false, if◌then◌else◌};
+ghost use Rattle.std.specs.Prelude.{◌≡◌, ◌≢◌, ◌+◌, ◌-◌, ◌<◌, ◌≤◌, ℕ, IsTrue, IsNone, IsSome, is_none, vec_len, vec_capacity, Ok, IfOk, IfErr, OnOk, OnErr, None, unwrap_or, IfSome, replicate, ◌++◌, ◌∷◌, [], false, if◌then◌else◌};
 ghost use Rattle.std.specs.Option.{option_map};
 ghost use Rattle.dma_mem.specs.Rules.{IsTransfer};
 ghost use Rattle.dma_engine.specs.Object.{channel, used, finished, finished_all, unfinished, is_failure};
-ghost use Rattle.dma_engine.specs.View.{size, channels, object_of, schedule_at, runs, running_on, new_fault, new_view, memory_of, IsSound};
+ghost use Rattle.dma_engine.specs.View.{size, channels, object_of, schedule_at, running_on, new_fault, new_view, memory_of, IsSound};
 ghost use Rattle.dma_engine.specs.Answer.{Answers, Steps, reply_of, checked, channel_fault, submit_fault, submit_reply, status_in, result_of, first_running, named, done_on};
 ghost use Rattle.dma_engine.specs.Ways.{is_in_the_way};
 ghost use Rattle.dma_engine.specs.Holds.{new_queue};
@@ -583,11 +583,11 @@ impl Engine {
     /// Takes one step of a channel, as [`Engine::step`] does, unless it would answer [`Turn::Finished`]. Then the answer is none,
     /// and nothing changes: so a caller can first make ready what a finish needs. It is `ending` and then `step`, with the
     /// instruction of a step that moves read once.
-    #[inline(always)]
     pub fn step_unless_ending(&mut self, ch: u8) -> Option<Result<Turn, EngineFault>>
         ensures answer { IfSome result (λ answer. Steps self.old.view ch answer self.new.view) }
         ensures ends { is_none result ≡ ends (turn self.old.view ch).0 }
         ensures still { IsNone result → (self.new ≡ self.old) }
+        // As of a step.
         ensures room { HasRoom self.old ch → IfSome result (λ answer. IfErr answer (λ fault. fault ≡ EngineFault.NoMemory → (schedule_at self.old.view ch).taken ≡ None)) }
         ensures kept { IfSome result (λ answer. IsIdle answer → KeepsRoom self.old self.new) }
     {

@@ -19,7 +19,7 @@ pub fn ticks_add_up()
     ensures few { TicksAreFew }
 {}
 
-/// An answer to a step that changed nothing comes again with the next step.
+/// A step whose answer is idle leaves the view as it was, so the next step answers the same.
 pub fn idle_steps_stay()
     ensures { IdleStepsStay }
 {}

@@ -471,6 +471,20 @@ fn an_end_is_told_before_its_step(rt: HostRuntime) -> Result<(), Fail> {
 }
 
 #[test]
+fn each_step_but_the_one_that_ends(rt: HostRuntime) -> Result<(), Fail> {
+    let mut engine = Engine::new(rt.alloc(), 0x400, 1)?;
+    submitted(&mut engine, 0, copy_of_four(rt.alloc(), 0x100, 0x200)?)?;
+    assert_eq!(rt; engine.issue(0)?, 1);
+    assert_eq!(rt; engine.step_unless_ending(0), Some(Ok(Turn::Started(1))));
+    for _ in 0..7 {
+        assert_eq!(rt; engine.step_unless_ending(0), Some(Ok(Turn::Moved)));
+    }
+    assert_eq!(rt; engine.step_unless_ending(0), None);
+    assert_eq!(rt; engine.finished(0), 0);
+    Ok(())
+}
+
+#[test]
 fn a_failing_burst_is_told_as_an_end(rt: HostRuntime) -> Result<(), Fail> {
     let mut engine = Engine::new(rt.alloc(), 0x400, 1)?;
     submitted(&mut engine, 0, copy_of_four(rt.alloc(), 0x100, 0x200)?)?;

@@ -63,13 +63,7 @@ impl BeatSize {
         ensures value { result ≡ beat_bytes self }
         ensures range { (1 ≤ result) × (result ≤ 16) }
     {
-        match self {
-            BeatSize::One => 1,
-            BeatSize::Two => 2,
-            BeatSize::Four => 4,
-            BeatSize::Eight => 8,
-            BeatSize::Sixteen => 16,
-        }
+        1 << self.code()
     }
 }
 
@@ -356,6 +350,7 @@ impl ControlWord {
         Ok(ControlWord { bits })
     }
 
+    /// The word, as `from_bits` took it.
     pub fn bits(self) -> u32
         ensures value { result ≡ self }
         ensures accepted { IsTrue (is_control self) }

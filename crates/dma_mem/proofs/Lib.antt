@@ -7,3 +7,5 @@ pub mod Accepted
 pub mod Positions
 pub mod Passes
 pub mod Marked
+pub mod Tables
+pub mod Paging

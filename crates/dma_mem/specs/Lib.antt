@@ -4,3 +4,4 @@ pub mod Image
 pub mod Sizes
 pub mod Rules
 pub mod Marking
+pub mod Pages

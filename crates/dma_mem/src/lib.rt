@@ -5,5 +5,7 @@ pub mod events;
 pub mod lists;
 pub mod marks;
 pub mod memory;
+pub mod pages;
 pub mod segment;
+mod table;
 pub mod transfer;

@@ -49,7 +49,7 @@ fn put_bytes(all: &mut [u8], start: usize, bytes: &[u8])
 
 /// Puts the bytes of two slices, those of the second behind those of the first, at `start` and after it.
 #[tactic(auto, using(crate::proofs::Ranges::put_parts))]
-fn put_parts(all: &mut [u8], start: usize, front: &[u8], back: &[u8])
+pub(crate) fn put_parts(all: &mut [u8], start: usize, front: &[u8], back: &[u8])
     requires { start + length front.now + length back.now ≤ length all.old }
     ensures { all.new ≡ put all.old (bytes_at start (front.now ++ back.now)) }
 {

@@ -348,8 +348,8 @@ fn each_statement(rt: HostRuntime) -> Result<(), Fail> {
         (b"totals", "Totals"),
         (
             b"submit 1 0+4 to 8+4 wait 3 signal 255",
-            "Submit { ch: 1, transfer: TransferLine { src: Segments { segments: [Segment { addr: 0, len: 4 }] }, \
-                dst: Segments { segments: [Segment { addr: 8, len: 4 }] }, wait: Some(3), signal: Some(255) } }",
+            "Submit { ch: 1, transfer: Apart { part: TransferLine { src: Segments { segments: [Segment { addr: 0, len: 4 }] }, \
+                dst: Segments { segments: [Segment { addr: 8, len: 4 }] }, wait: Some(3), signal: Some(255) } } }",
         ),
     ];
     for (line, text) in cases {

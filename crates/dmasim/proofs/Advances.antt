@@ -1,29 +1,19 @@
 -- Steps of one channel in a row.
-use Rattle.std.proofs.Common.{◌≡◌, ◌≢◌, ℕ, ◌+◌, List, [], ◌∷◌, ◌++◌, Bool, true, false, map, refl, ap, sym, ◌∙◌, subst, zero, suc, inl, inr, append_assoc}
-use Rattle.std.specs.Prelude.{replicate, if◌then◌else◌, ◌==◌, ◌⊎◌, nat_le, Option, Some, None, Result, Ok, Err}
+use Rattle.std.proofs.Common.{◌≡◌, ◌≢◌, ℕ, ◌+◌, List, [], ◌∷◌, ◌++◌, map, refl, ap, sym, ◌∙◌, subst, zero, suc, inl, inr, append_assoc}
+use Rattle.std.specs.Prelude.{replicate, ◌⊎◌, Option, Some, None, Result}
 use Rattle.std.proofs.lemmas.List.{map-append, replicate-append-replicate}
-use Rattle.dma_insn.specs.declared.insn.Insn.{Insn}
-use Rattle.dma_insn.specs.declared.insn.Insn.TheVariants.{Ld, St, End, Sev, Wfe, Mov, Rmb, Wmb, Nop, Lp, LpEnd}
-use Rattle.dma_mem.specs.Places.{Descriptor}
-use Rattle.dma_mem.specs.declared.marks.MarkKind.TheVariants.{Reading, Writing}
-use Rattle.dma_chan.specs.Layer.{meets_mark}
-use Rattle.dma_chan.specs.Traffic.{member, read_places, written_places}
 use Rattle.dma_engine.specs.declared.advance.Advanced.{Advanced}
 use Rattle.dma_engine.specs.declared.call.Call.{Call}
 use Rattle.dma_engine.specs.declared.call.Call.TheVariants.{Step}
 use Rattle.dma_engine.specs.declared.call.Reply.{Reply}
 use Rattle.dma_engine.specs.declared.call.Reply.TheVariants.{Turned, Refused}
-use Rattle.dma_engine.specs.declared.entry.Entry.TheVariants.{Passed}
 use Rattle.dma_engine.specs.declared.fault.EngineFault.{EngineFault}
-use Rattle.dma_engine.specs.declared.fault.EngineFault.TheVariants.{NoChannel, StepsSpent, NoMemory}
-use Rattle.dma_engine.specs.declared.outcome.TransResult.TheVariants.{ReadFailed, WriteFailed}
+use Rattle.dma_engine.specs.declared.fault.EngineFault.TheVariants.{NoMemory}
 use Rattle.dma_engine.specs.declared.turn.Turn.{Turn}
-use Rattle.dma_engine.specs.declared.turn.Turn.TheVariants.{Moved, Paused, Halted, Waiting}
+use Rattle.dma_engine.specs.declared.turn.Turn.TheVariants.{Moved}
 use Rattle.dma_engine.specs.Advance.{IsAdvance, last_call, last_reply}
 use Rattle.dma_engine.specs.Answer.{AreAnswers, Answers, answer, answers, reply_of}
-use Rattle.dma_engine.specs.Object.{channel, issued_front, is_set}
-use Rattle.dma_engine.specs.View.{View, RunningTransfer, object_of, channels, schedule_at}
-use Rattle.dma_engine.specs.Turn.{Stepped, finishes, front_turn, in_the_way, insn_turn, last_step, moves_on, start_turn, turn, with_entry}
+use Rattle.dma_engine.specs.View.{View}
 use Rattle.dmasim.specs.Printed.{reply_text}
 use Rattle.dma_engine.specs.Room.{IsIdle}
 use Rattle.dma_engine.proofs.Idle.{idle_steps_stay}

@@ -1,4 +1,4 @@
-use Rattle.std.proofs.Common.{◌≡◌, Ok, replicate, refl, sym, subst, append-nil, arith}
+use Rattle.std.proofs.Common.{◌≡◌, ◌∙◌, Ok, replicate, refl, sym, subst, append-nil, arith}
 use Rattle.std.proofs.lemmas.List.{replicate-append-replicate}
 use Rattle.dma_engine.specs.declared.call.Call.TheVariants.{Step}
 use Rattle.dma_engine.specs.declared.call.Reply.TheVariants.{Turned}
@@ -38,3 +38,8 @@ loop-moved-preserved c =
     ] in
     let chain = AreAnswers-push v c.loop-moved.engine.view next.view (replicate n call) (replicate n (Turned Moved)) call (Turned Moved) c.loop-moved.invariant.0 moved in
     (rw (← replicate-append-replicate n 1 call, ← replicate-append-replicate n 1 (Turned Moved)) chain, λ none. absurd (omega (arith, none)))
+
+pub returns-clause-kept : goal.returns-clause-kept
+returns-clause-kept c =
+    let most : c.loop-moved.moved ≡ c.args.most = omega (arith, c.loop-moved-test.false, c.loop-moved.auto.moved-end) in
+    λ none idle. rw (c.loop-moved.invariant.1 (most ∙ none)) (λ ch room. room)

@@ -1,8 +1,7 @@
-use Rattle.std.proofs.Common.{◌++◌, ◌∙◌, ap, sym, subst}
+use Rattle.std.proofs.Common.{sym, subst}
 use Rattle.std.proofs.lemmas.Result.{MatchResult-from_err}
-use Rattle.dma_script.specs.Command.{AppendsGroups, MayAppend, printed_text}
+use Rattle.dma_script.specs.Command.{MayAppend}
 use Rattle.dmasim.specs.Race.{PrintsFirst, PrintsGo, PrintsMissing, RacePrints}
-use Rattle.dmasim.specs.Run.{lines_answered}
 use Rattle.dmasim.proofs.RaceLemmas.{first_append, missing_complete, none_append, unread_complete, whole_append, whole_complete}
 use Rattle.dmasim.proofs.race.carry_out_race.Goals as goal
 

@@ -1,4 +1,4 @@
-use Rattle.std.proofs.Common.{◌≡◌, ◌+◌, ◌++◌, ◌∙◌, List, ap, sym, inl, inr, true}
+use Rattle.std.proofs.Common.{◌≡◌, ◌+◌, ◌++◌, ◌∙◌, List, ap, inl, inr}
 use Rattle.std.specs.Prelude.{replicate, ◌⊎◌}
 use Rattle.dma_engine.specs.declared.call.Call.TheVariants.{Step}
 use Rattle.dma_engine.specs.declared.call.Reply.{Reply}

@@ -1,0 +1,478 @@
+//! A table of pages by number, each of them made when it is first needed.
+
+ghost use Rattle.std.specs.Prelude.{◌≡◌, ◌≢◌, ℕ, ◌+◌, ◌*◌, ◌/◌, ◌%◌, ◌<◌, ◌≤◌, ◌++◌, ◌↔◌, ◌^◌, [], length, take, drop, slice_index, slice_index_or, nat_lt, true, false, IfOk, IfSome, IsSome, OnOk, OnErr};
+ghost use Rattle.dma_mem.specs.Image.{put, bytes_at};
+ghost use Rattle.dma_mem.specs.Pages.{page_at, IsLaid, image_of};
+
+use crate::memory::put_parts;
+use std::alloc::{AllocError, Global};
+use std::marker::Model;
+
+/// How many bytes a page has.
+pub(crate) const PAGE_SIZE: usize = 4096;
+
+// How many pages stand in one group of the table.
+const GROUP_SIZE: usize = 1024;
+
+// So many zeros.
+#[inline(never)]
+fn zeros(alloc: Global, len: usize) -> Result<Vec<u8>, AllocError>
+    ensures len { IfOk result (λ v. length v.items ≡ len) }
+    ensures zero { IfOk result (λ v. (k : ℕ) → slice_index v.items k ≡ 0) }
+{
+    vec![in alloc; 0u8; len]
+}
+
+// A page: 4,096 bytes where it is made, else none.
+#[derive(Debug, Drop)]
+struct Page {
+    bytes: Vec<u8>,
+}
+
+impl Model for Page {
+    ghost use Rattle.std.specs.Prelude.{List, ℕ, ◌≤◌, ◌<◌, length};
+
+    ghost Value = { List ℕ };
+
+    ghost view = { λ p. p.bytes.items };
+
+    ghost invariant = { λ p. (0 < length p.bytes.items → 4096 ≤ length p.bytes.items) × (length p.bytes.items ≤ 4096) };
+}
+
+impl Page {
+    // A page that isn't made, which takes no memory.
+    fn new(alloc: Global) -> Page
+        ensures { result ≡ [] }
+    {
+        Page {
+            bytes: Vec::new(alloc),
+        }
+    }
+
+    fn as_slice(&self) -> &[u8]
+        ensures bytes { result.now ≡ self.now }
+        ensures whole { 0 < length self.now → length self.now ≡ 4096 }
+    {
+        self.bytes.as_slice()
+    }
+
+    // Makes it, if it isn't, of zeros.
+    fn make(&mut self) -> Result<(), AllocError>
+        ensures whole { OnOk result (length self.new ≡ 4096) }
+        ensures bytes { (k : ℕ) → slice_index self.new k ≡ slice_index self.old k }
+        ensures kept { 0 < length self.old → self.new ≡ self.old }
+        ensures short { OnErr result (length self.old ≡ 0) }
+        ensures err { OnErr result (self.new ≡ self.old) }
+    {
+        if self.bytes.is_empty() {
+            self.bytes = zeros(*self.bytes.allocator(), PAGE_SIZE)?;
+        }
+        Ok(())
+    }
+
+    // Puts the bytes of two slices into it, those of the second behind those of the first, from an offset on.
+    fn put(&mut self, offset: usize, front: &[u8], back: &[u8])
+        requires fits { offset + length front.now + length back.now ≤ 4096 }
+        requires made { 0 < length self.old }
+        ensures whole { length self.new ≡ 4096 }
+        ensures len { length self.new ≡ length self.old }
+        ensures bytes { self.new ≡ put self.old (bytes_at offset (front.now ++ back.now)) }
+    {
+        put_parts(&mut self.bytes, offset, front, back);
+    }
+
+    // Makes it, if it isn't, and puts bytes into it from an offset on.
+    fn write(&mut self, offset: usize, bytes: &[u8]) -> Result<(), AllocError>
+        requires { offset + length bytes.now ≤ 4096 }
+        ensures whole { OnOk result (length self.new ≡ 4096) }
+        ensures bytes { OnOk result (IsLaid self.old offset bytes.now self.new) }
+        ensures short { OnErr result (length self.old ≡ 0) }
+        ensures err { OnErr result (self.new ≡ self.old) }
+    {
+        self.make()?;
+        self.put(offset, bytes, &[]);
+        Ok(())
+    }
+
+    // The same page again, in memory of its own.
+    fn try_copy(&self) -> Result<Page, AllocError>
+        ensures { IfOk result (λ copy. copy ≡ self.now) }
+    {
+        let bytes = Vec::from_slice(*self.bytes.allocator(), self.bytes.as_slice())?;
+        Ok(Page { bytes })
+    }
+}
+
+// The pages of 1,024 numbers that follow each other: a list as long, or without an item where none of them is made.
+#[derive(Debug, Drop)]
+struct Group {
+    pages: Vec<Page>,
+}
+
+impl Model for Group {
+    ghost use Rattle.std.specs.Prelude.{List, ℕ, ◌≤◌, ◌<◌, length};
+
+    ghost Value = { List (List ℕ) };
+
+    ghost view = { λ g. g.pages.items };
+
+    ghost invariant = { λ g. 0 < length g.pages.items → 1024 ≤ length g.pages.items };
+}
+
+// Pages, none of them made.
+#[inline(never)]
+fn no_pages(alloc: Global, count: usize) -> Result<Vec<Page>, AllocError>
+    ensures len { IfOk result (λ v. length v.items ≡ count) }
+    ensures none { IfOk result (λ v. (p : ℕ) → page_at v.items p ≡ []) }
+{
+    let mut pages = Vec::with_capacity(alloc, count)?;
+    for _page in 0..count {
+        pages.push(Page::new(alloc))?;
+    }
+    Ok(pages)
+}
+
+impl Group {
+    // Pages that aren't made, which take no memory.
+    fn new(alloc: Global) -> Group
+        ensures { result ≡ [] }
+    {
+        Group {
+            pages: Vec::new(alloc),
+        }
+    }
+
+    // The bytes of a page, none where it isn't made.
+    fn page(&self, index: usize) -> &[u8]
+        ensures bytes { result.now ≡ page_at self.now index }
+        ensures whole { 0 < length result.now → length result.now ≡ 4096 }
+    {
+        match self.pages.get(index) {
+            Some(page) => page.as_slice(),
+            None => &[],
+        }
+    }
+
+    // Gets its list of pages, if it has none.
+    fn open(&mut self) -> Result<(), AllocError>
+        ensures long { OnOk result (1024 ≤ length self.new) }
+        ensures pages { (p : ℕ) → page_at self.new p ≡ page_at self.old p }
+        ensures kept { 0 < length self.old → (result ≡ Ok tt) × (self.new ≡ self.old) }
+    {
+        if self.pages.is_empty() {
+            self.pages = no_pages(*self.pages.allocator(), GROUP_SIZE)?;
+        }
+        Ok(())
+    }
+
+    // Makes a page, if it isn't.
+    fn make(&mut self, index: usize) -> Result<(), AllocError>
+        requires { index < 1024 }
+        ensures whole { OnOk result (length (page_at self.new index) ≡ 4096) }
+        ensures bytes { (k : ℕ) → slice_index (page_at self.new index) k ≡ slice_index (page_at self.old index) k }
+        ensures others { (p : ℕ) → p ≢ index → page_at self.new p ≡ page_at self.old p }
+        ensures kept { 0 < length (page_at self.old index) → (p : ℕ) → page_at self.new p ≡ page_at self.old p }
+        ensures short { OnErr result (length (page_at self.old index) ≡ 0) }
+        ensures err { OnErr result ((p : ℕ) → page_at self.new p ≡ page_at self.old p) }
+    {
+        self.open()?;
+        let page = &mut self.pages[index];
+        page.make()
+    }
+
+    // Puts the bytes of two slices into a page that is made, from an offset on.
+    fn put(&mut self, index: usize, offset: usize, front: &[u8], back: &[u8])
+        requires fits { offset + length front.now + length back.now ≤ 4096 }
+        requires made { 0 < length (page_at self.old index) }
+        ensures len { length (page_at self.new index) ≡ length (page_at self.old index) }
+        ensures bytes { IsLaid (page_at self.old index) offset (front.now ++ back.now) (page_at self.new index) }
+        ensures others { (p : ℕ) → p ≢ index → page_at self.new p ≡ page_at self.old p }
+    {
+        let page = &mut self.pages[index];
+        page.put(offset, front, back);
+    }
+
+    // Makes a page, if it isn't, and puts bytes into it from an offset on.
+    fn write(&mut self, index: usize, offset: usize, bytes: &[u8]) -> Result<(), AllocError>
+        requires within { index < 1024 }
+        requires fits { offset + length bytes.now ≤ 4096 }
+        ensures whole { OnOk result (length (page_at self.new index) ≡ 4096) }
+        ensures bytes { OnOk result (IsLaid (page_at self.old index) offset bytes.now (page_at self.new index)) }
+        ensures others { (p : ℕ) → p ≢ index → page_at self.new p ≡ page_at self.old p }
+        ensures short { OnErr result (length (page_at self.old index) ≡ 0) }
+        ensures err { OnErr result ((p : ℕ) → page_at self.new p ≡ page_at self.old p) }
+    {
+        self.open()?;
+        let page = &mut self.pages[index];
+        page.write(offset, bytes)
+    }
+
+    // The same pages again, in memory of their own.
+    fn try_copy(&self) -> Result<Group, AllocError>
+        ensures { IfOk result (λ copy. copy ≡ self.now) }
+    {
+        let mut pages = Vec::with_capacity(*self.pages.allocator(), self.pages.len())?;
+        for page in &self.pages {
+            pages.push(page.try_copy()?)?;
+        }
+        Ok(Group { pages })
+    }
+}
+
+// Groups in which no page is made.
+fn no_groups(alloc: Global, count: usize) -> Result<Vec<Group>, AllocError>
+    ensures len { IfOk result (λ v. length v.items ≡ count) }
+    ensures none { IfOk result (λ v. (g : ℕ) → slice_index_or v.items g [] ≡ []) }
+{
+    let mut groups = Vec::with_capacity(alloc, count)?;
+    for _group in 0..count {
+        groups.push(Group::new(alloc))?;
+    }
+    Ok(groups)
+}
+
+/// A table of pages, by number. Contracts see the bytes of each page, none where it isn't made.
+#[derive(Debug, Drop)]
+pub(crate) struct Table {
+    groups: Vec<Group>,
+}
+
+impl Model for Table {
+    ghost use Rattle.std.specs.Prelude.{List, ℕ};
+    ghost use Rattle.dma_mem.specs.Pages.{flat};
+
+    ghost Value = { List (List ℕ) };
+
+    ghost view = { λ t. flat t.groups.items };
+}
+
+impl Table {
+    /// At least so many pages, none of them made.
+    pub(crate) fn new(alloc: Global, count: usize) -> Result<Table, AllocError>
+        ensures enough { IfOk result (λ table. count ≤ length table) }
+        ensures none { IfOk result (λ table. (p : ℕ) → page_at table p ≡ []) }
+    {
+        let groups = no_groups(alloc, count.div_ceil(GROUP_SIZE))?;
+        Ok(Table { groups })
+    }
+
+    // The bytes of a page, none where it isn't made.
+    fn page(&self, number: usize) -> &[u8]
+        ensures bytes { result.now ≡ page_at self.now number }
+        ensures whole { 0 < length result.now → length result.now ≡ 4096 }
+    {
+        match self.groups.get(number / GROUP_SIZE) {
+            Some(group) => group.page(number % GROUP_SIZE),
+            None => &[],
+        }
+    }
+
+    // Makes a page, if it isn't, of zeros.
+    fn make_page(&mut self, number: usize) -> Result<(), AllocError>
+        requires { number < length self.old }
+        ensures count { length self.new ≡ length self.old }
+        ensures whole { OnOk result (length (page_at self.new number) ≡ 4096) }
+        ensures bytes { (k : ℕ) → slice_index (page_at self.new number) k ≡ slice_index (page_at self.old number) k }
+        ensures others { (p : ℕ) → p ≢ number → page_at self.new p ≡ page_at self.old p }
+        ensures kept { 0 < length (page_at self.old number) → self.new ≡ self.old }
+        ensures short { OnErr result (length (page_at self.old number) ≡ 0) }
+        ensures err { OnErr result (self.new ≡ self.old) }
+    {
+        let group = &mut self.groups[number / GROUP_SIZE];
+        group.make(number % GROUP_SIZE)
+    }
+
+    // Puts the bytes of two slices into a page that is made, from an offset on.
+    fn put_in_page(&mut self, number: usize, offset: usize, front: &[u8], back: &[u8])
+        requires fits { offset + length front.now + length back.now ≤ 4096 }
+        requires made { 0 < length (page_at self.old number) }
+        ensures count { length self.new ≡ length self.old }
+        ensures len { length (page_at self.new number) ≡ length (page_at self.old number) }
+        ensures bytes { IsLaid (page_at self.old number) offset (front.now ++ back.now) (page_at self.new number) }
+        ensures others { (p : ℕ) → p ≢ number → page_at self.new p ≡ page_at self.old p }
+    {
+        let group = &mut self.groups[number / GROUP_SIZE];
+        group.put(number % GROUP_SIZE, offset, front, back);
+    }
+
+    // Makes a page, if it isn't, and puts bytes into it from an offset on: one look-up for both.
+    fn write_in_page(
+        &mut self,
+        number: usize,
+        offset: usize,
+        bytes: &[u8],
+    ) -> Result<(), AllocError>
+        requires within { number < length self.old }
+        requires fits { offset + length bytes.now ≤ 4096 }
+        ensures count { length self.new ≡ length self.old }
+        ensures whole { OnOk result (length (page_at self.new number) ≡ 4096) }
+        ensures bytes { OnOk result (IsLaid (page_at self.old number) offset bytes.now (page_at self.new number)) }
+        ensures others { (p : ℕ) → p ≢ number → page_at self.new p ≡ page_at self.old p }
+        ensures short { OnErr result (length (page_at self.old number) ≡ 0) }
+        ensures err { OnErr result (self.new ≡ self.old) }
+    {
+        let group = &mut self.groups[number / GROUP_SIZE];
+        group.write(number % GROUP_SIZE, offset, bytes)
+    }
+
+    /// The same table again, in memory of its own.
+    pub(crate) fn try_copy(&self) -> Result<Table, AllocError>
+        ensures { IfOk result (λ copy. copy ≡ self.now) }
+    {
+        let mut groups = Vec::with_capacity(*self.groups.allocator(), self.groups.len())?;
+        for group in &self.groups {
+            groups.push(group.try_copy()?)?;
+        }
+        Ok(Table { groups })
+    }
+}
+
+// Fills the slice with the bytes of a page from an offset on, with zeros where it isn't made.
+fn read_page(page: &[u8], offset: usize, part: &mut [u8])
+    requires whole { 0 < length page.now → length page.now ≡ 4096 }
+    requires fits { offset + length part.old ≤ 4096 }
+    ensures { (k : ℕ) → k < length part.new → slice_index part.new k ≡ slice_index page.now (offset + k) }
+{
+    if page.is_empty() {
+        part.fill(0);
+    } else {
+        part.copy_from_slice(&page[offset..offset + part.len()]);
+    }
+}
+
+// By addresses: page after page, each of 4,096 bytes.
+impl Table {
+    /// The bytes from `start` on, so many, where they stand on one page that is made.
+    pub(crate) fn part(&self, start: usize, len: usize) -> Option<&[u8]>
+        requires { start + len < 2 ^ 33 }
+        ensures bytes { IfSome result (λ part. (part.now ≡ take len (drop (start % 4096) (page_at self.now (start / 4096)))) × (start % 4096 + len ≤ length (page_at self.now (start / 4096)))) }
+        ensures whole { length (page_at self.now (start / 4096)) ≤ 4096 }
+        ensures some { 0 < length (page_at self.now (start / 4096)) → start % 4096 + len ≤ 4096 → IsSome result }
+    {
+        let page = self.page(start / PAGE_SIZE);
+        let offset = start % PAGE_SIZE;
+        if offset + len > page.len() {
+            return None;
+        }
+        Some(&page[offset..offset + len])
+    }
+
+    /// Fills the slice with the bytes from `start` on.
+    #[inline(never)]
+    pub(crate) fn read(&self, start: usize, buf: &mut [u8])
+        requires { start + length buf.old < 2 ^ 33 }
+        ensures { (k : ℕ) → k < length buf.new → slice_index buf.new k ≡ slice_index (page_at self.now ((start + k) / 4096)) ((start + k) % 4096) }
+    {
+        let mut done = 0;
+        while done < buf.len() {
+            let at = start + done;
+            let offset = at % PAGE_SIZE;
+            let count = (PAGE_SIZE - offset).min(buf.len() - done);
+            read_page(
+                self.page(at / PAGE_SIZE),
+                offset,
+                &mut buf[done..done + count],
+            );
+            done += count;
+        }
+    }
+
+    /// Makes the pages of the addresses from `start` to before `end`.
+    #[inline(never)]
+    pub(crate) fn make(&mut self, start: usize, end: usize) -> Result<(), AllocError>
+        requires order { start ≤ end }
+        requires within { end ≤ 4096 * length self.old }
+        requires limit { end < 2 ^ 33 }
+        ensures count { length self.new ≡ length self.old }
+        ensures made { OnOk result ((a : ℕ) → start ≤ a → a < end → 0 < length (page_at self.new (a / 4096))) }
+        ensures short { OnErr result ((a : ℕ) × (start ≤ a) × (a < end) × (length (page_at self.new (a / 4096)) ≡ 0)) }
+        ensures bytes { (p k : ℕ) → slice_index (page_at self.new p) k ≡ slice_index (page_at self.old p) k }
+        ensures kept { (p : ℕ) → 0 < length (page_at self.old p) → page_at self.new p ≡ page_at self.old p }
+        ensures others { (p : ℕ) → ((a : ℕ) → start ≤ a → a < end → a / 4096 ≢ p) → page_at self.new p ≡ page_at self.old p }
+    {
+        if start == end {
+            return Ok(());
+        }
+        for number in start / PAGE_SIZE..(end - 1) / PAGE_SIZE + 1 {
+            self.make_page(number)?;
+        }
+        Ok(())
+    }
+
+    /// Whether the pages of the addresses from `start` to before `end` are made.
+    pub(crate) fn are_made(&self, start: usize, end: usize) -> bool
+        requires order { start < end }
+        requires limit { end < 2 ^ 33 }
+        ensures yes { result ≡ true → (a : ℕ) → start ≤ a → a < end → 0 < length (page_at self.now (a / 4096)) }
+        ensures no { result ≡ false → (a : ℕ) × (start ≤ a) × (a < end) × (length (page_at self.now (a / 4096)) ≡ 0) }
+    {
+        for number in start / PAGE_SIZE..(end - 1) / PAGE_SIZE + 1 {
+            if self.page(number).is_empty() {
+                return false;
+            }
+        }
+        true
+    }
+
+    // Puts the bytes at `start` and after it, on pages that are made: one look-up for each page.
+    #[inline(never)]
+    fn put(&mut self, start: usize, bytes: &[u8])
+        requires limit { start + length bytes.now < 2 ^ 33 }
+        requires made { (a : ℕ) → start ≤ a → a < start + length bytes.now → 0 < length (page_at self.old (a / 4096)) }
+        ensures len { (p : ℕ) → length (page_at self.new p) ≡ length (page_at self.old p) }
+        ensures count { length self.new ≡ length self.old }
+        ensures image { (size : ℕ) → image_of size self.new ≡ put (image_of size self.old) (bytes_at start bytes.now) }
+    {
+        let mut done = 0;
+        while done < bytes.len() {
+            let at = start + done;
+            let offset = at % PAGE_SIZE;
+            let count = (PAGE_SIZE - offset).min(bytes.len() - done);
+            self.put_in_page(at / PAGE_SIZE, offset, &bytes[done..done + count], &[]);
+            done += count;
+        }
+    }
+
+    /// Puts the bytes of two slices, those of the second behind those of the first, at `start` and after it, on pages that
+    /// are made: one look-up where they stand on one page.
+    pub(crate) fn put_parts(&mut self, start: usize, front: &[u8], back: &[u8])
+        requires limit { start + length front.now + length back.now < 2 ^ 33 }
+        requires made { (a : ℕ) → start ≤ a → a < start + length front.now + length back.now → 0 < length (page_at self.old (a / 4096)) }
+        ensures len { (p : ℕ) → length (page_at self.new p) ≡ length (page_at self.old p) }
+        ensures count { length self.new ≡ length self.old }
+        ensures image { (size : ℕ) → image_of size self.new ≡ put (image_of size self.old) (bytes_at start (front.now ++ back.now)) }
+    {
+        let offset = start % PAGE_SIZE;
+        let len = front.len() + back.len();
+        if len > 0 && offset + len <= PAGE_SIZE {
+            self.put_in_page(start / PAGE_SIZE, offset, front, back);
+        } else {
+            self.put(start, front);
+            self.put(start + front.len(), back);
+        }
+    }
+
+    /// Puts the bytes at `start` and after it, and makes their pages first: one look-up where they stand on one page.
+    pub(crate) fn write(&mut self, start: usize, bytes: &[u8]) -> Result<(), AllocError>
+        requires within { start + length bytes.now ≤ 4096 * length self.old }
+        requires limit { start + length bytes.now < 2 ^ 33 }
+        ensures count { length self.new ≡ length self.old }
+        ensures made { OnOk result ((a : ℕ) → start ≤ a → a < start + length bytes.now → 0 < length (page_at self.new (a / 4096))) }
+        ensures short { OnErr result ((a : ℕ) × (start ≤ a) × (a < start + length bytes.now) × (length (page_at self.new (a / 4096)) ≡ 0)) }
+        ensures ok { OnOk result ((size : ℕ) → image_of size self.new ≡ put (image_of size self.old) (bytes_at start bytes.now)) }
+        ensures err { OnErr result ((p k : ℕ) → slice_index (page_at self.new p) k ≡ slice_index (page_at self.old p) k) }
+        ensures kept { (p : ℕ) → 0 < length (page_at self.old p) → 0 < length (page_at self.new p) }
+        ensures others { (p : ℕ) → ((a : ℕ) → start ≤ a → a < start + length bytes.now → a / 4096 ≢ p) → length (page_at self.new p) ≡ length (page_at self.old p) }
+    {
+        if bytes.is_empty() {
+            return Ok(());
+        }
+        let offset = start % PAGE_SIZE;
+        if offset + bytes.len() <= PAGE_SIZE {
+            return self.write_in_page(start / PAGE_SIZE, offset, bytes);
+        }
+        self.make(start, start + bytes.len())?;
+        self.put(start, bytes);
+        Ok(())
+    }
+}
