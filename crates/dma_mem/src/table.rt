@@ -15,7 +15,6 @@ pub(crate) const PAGE_SIZE: usize = 4096;
 const GROUP_SIZE: usize = 1024;
 
 // So many zeros.
-#[inline(never)]
 fn zeros(alloc: Global, len: usize) -> Result<Vec<u8>, AllocError>
     ensures len { IfOk result (λ v. length v.items ≡ len) }
     ensures zero { IfOk result (λ v. (k : ℕ) → slice_index v.items k ≡ 0) }
@@ -120,7 +119,6 @@ impl Model for Group {
 }
 
 // Pages, none of them made.
-#[inline(never)]
 fn no_pages(alloc: Global, count: usize) -> Result<Vec<Page>, AllocError>
     ensures len { IfOk result (λ v. length v.items ≡ count) }
     ensures none { IfOk result (λ v. (p : ℕ) → page_at v.items p ≡ []) }
@@ -358,7 +356,6 @@ impl Table {
     }
 
     /// Fills the slice with the bytes from `start` on.
-    #[inline(never)]
     pub(crate) fn read(&self, start: usize, buf: &mut [u8])
         requires { start + length buf.old < 2 ^ 33 }
         ensures { (k : ℕ) → k < length buf.new → slice_index buf.new k ≡ slice_index (page_at self.now ((start + k) / 4096)) ((start + k) % 4096) }
@@ -378,7 +375,6 @@ impl Table {
     }
 
     /// Makes the pages of the addresses from `start` to before `end`.
-    #[inline(never)]
     pub(crate) fn make(&mut self, start: usize, end: usize) -> Result<(), AllocError>
         requires order { start ≤ end }
         requires within { end ≤ 4096 * length self.old }
@@ -415,7 +411,6 @@ impl Table {
     }
 
     // Puts the bytes at `start` and after it, on pages that are made: one look-up for each page.
-    #[inline(never)]
     fn put(&mut self, start: usize, bytes: &[u8])
         requires limit { start + length bytes.now < 2 ^ 33 }
         requires made { (a : ℕ) → start ≤ a → a < start + length bytes.now → 0 < length (page_at self.old (a / 4096)) }

@@ -4,7 +4,7 @@ use Rattle.std.specs.List.{All}
 use Rattle.std.proofs.Math.Seq.{take-append_seam, take-append-add}
 use Rattle.std.proofs.lemmas.List.{append-nil, length-append, length-map, map-append, take-append-drop, take-append-le, take_all, take_more, take-map}
 use Rattle.std.proofs.lemmas.List.Elements.{All-drop, All-head, All-tail}
-use Rattle.std.specs.Prelude.{MatchOption, unwrap_or}
+use Rattle.std.specs.Prelude.{MatchOption}
 use Rattle.dma_mem.specs.declared.transfer.TransferFault.{TransferFault}
 use Rattle.dma_mem.specs.declared.transfer.TransferFault.TheVariants as transfers
 use Rattle.dma_script.specs.declared.plan.TransferLine.{TransferLine}
@@ -51,17 +51,13 @@ submit_some : (fault : Option TransferFault) (answered : Answered) (line : List 
 submit_some None answered line is = (line, is)
 submit_some (Some fault) answered line is = (refused_line (transfer_fault_name fault), refl)
 
-unfit_line : (fault : Option TransferFault) (answered : Answered) (e : TransferFault) → e ≡ unwrap_or fault transfers.NoMemory → e ≢ transfers.NoMemory → (unless_unfit fault some_view answered).0 ≡ refused_line (transfer_fault_name e) ∷ []
-unfit_line None answered e is some = absurd (some is)
-unfit_line (Some fault) answered e is some = ap (λ f. refused_line (transfer_fault_name f) ∷ []) (sym is)
-
 -- A submit line whose transfer breaks a rule.
-pub unfit_early : (ch : ℕ) (line : TransferLine) (e : TransferFault) (old new : List ℕ) → e ≡ unwrap_or (refusal_of (submitted line)) transfers.NoMemory → (e ≢ transfers.NoMemory) × (new ≡ old ++ text_of (refused_line (transfer_fault_name e) ∷ [])) → PrintsEarly (Submit ch line) old new
+pub unfit_early : (ch : ℕ) (line : TransferLine) (e : TransferFault) (old new : List ℕ) → refusal_of (submitted line) ≡ Some e → (e ≢ transfers.NoMemory) × (new ≡ old ++ text_of (refused_line (transfer_fault_name e) ∷ [])) → PrintsEarly (Submit ch line) old new
 unfit_early ch line e old new is prints =
     let t = submitted line in
     record {
       line = refused_line (transfer_fault_name e);
-      allowed = (some_view, unfit_line (refusal_of t) (call_answer some_view (calls.Submit ch t)) e is prints.0);
+      allowed = (some_view, ap (λ fault. (unless_unfit fault some_view (call_answer some_view (calls.Submit ch t))).0) is);
       text = prints.1;
     }
 
@@ -130,6 +126,10 @@ all_more statements i s old mid new within at before one =
 -- All lines were carried out.
 pub all_whole : (statements : List Statement) (i : ℕ) (old new : List ℕ) → length statements ≤ i → PrintsAll (take i statements) old new → PrintsAll statements old new
 all_whole statements i old new past all = subst (λ xs. PrintsAll xs old new) (take_all i statements past) all
+
+-- The line at a place may stand before `go`, where each of them may.
+pub early_at : (statements : List Statement) (i : ℕ) (s : Statement) → i < length statements → s ≡ get_or statements i s → All IsEarly statements → IsEarly s
+early_at statements i s within at early = subst IsEarly (sym at) (early i s within)
 
 -- Some were, and the others may print something.
 pub all_first : (statements : List Statement) (i : ℕ) (old new : List ℕ) → All IsEarly statements → PrintsAll (take i statements) old new → PrintsFirst statements old new

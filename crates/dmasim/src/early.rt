@@ -17,7 +17,7 @@ use dma_script::plan::TransferLine;
 use dma_script::printing::push_line;
 use dma_script::statements::Statement;
 use dma_work::{DeskName, Shared, StatusReader};
-use std::alloc::{AllocError, Global};
+use std::alloc::AllocError;
 use std::sync::{MutexGuard, Wait};
 
 /// The reply of a call that answers bytes.
@@ -123,30 +123,28 @@ fn submit_transfer<N: DeskName, R: Wait>(
     }
 }
 
-/// Carries out `submit CH LIST to LIST [wait E] [signal E]`.
+/// Carries out `submit CH LIST to LIST [wait E] [signal E]`. The transfer takes the line's lists for itself.
 fn submit_early<N: DeskName, R: Wait>(
     rt: &R,
-    alloc: Global,
     shared: &Shared<N>,
     reader: &mut StatusReader,
     ch: u8,
-    words: &TransferLine,
+    words: TransferLine,
     line: &mut Vec<u8>,
     out: &mut Vec<u8>,
 ) -> Result<(), AllocError>
     requires follows { (N.log ≡ reader.old.log) × (N.base ≡ reader.old.base) }
-    ensures ok { OnOk result (PrintsEarly (Statement.Submit ch words.now) out.old.items out.new.items) }
+    ensures ok { OnOk result (PrintsEarly (Statement.Submit ch words) out.old.items out.new.items) }
     ensures err { OnErr result (out.new.items ≡ out.old.items) }
     ensures follows { (N.log ≡ reader.new.log) × (N.base ≡ reader.new.base) }
 {
-    let built = Transfer::new(
-        alloc,
-        words.src.as_slice(),
-        words.dst.as_slice(),
-        words.wait,
-        words.signal,
-    );
-    match built {
+    let TransferLine {
+        src,
+        dst,
+        wait,
+        signal,
+    } = words;
+    match Transfer::from_lists(src, dst, wait, signal) {
         Ok(transfer) => submit_transfer(rt, shared, reader, ch, transfer, line, out),
         Err(fault) => push_unfit(line, fault, out),
     }
@@ -243,34 +241,33 @@ fn status_early(
     }
 }
 
-/// Carries out a line before `go`, and appends what it prints or nothing.
+/// Carries out a line before `go`, which is done with then, and appends what it prints or nothing.
 pub fn carry_out_early<N: DeskName, R: Wait>(
     rt: &R,
-    alloc: Global,
     shared: &Shared<N>,
     reader: &mut StatusReader,
-    statement: &Statement,
+    statement: Statement,
     line: &mut Vec<u8>,
     out: &mut Vec<u8>,
 ) -> Result<(), AllocError>
-    requires early { IsEarly statement.now }
+    requires early { IsEarly statement }
     requires follows { (N.log ≡ reader.old.log) × (N.base ≡ reader.old.base) }
-    ensures ok { OnOk result (PrintsEarly (statement.now) out.old.items out.new.items) }
+    ensures ok { OnOk result (PrintsEarly statement out.old.items out.new.items) }
     ensures err { OnErr result (out.new.items ≡ out.old.items) }
     ensures follows { (N.log ≡ reader.new.log) × (N.base ≡ reader.new.base) }
 {
     match statement {
         Statement::Write { addr, bytes } => {
-            write_early(rt, shared, *addr, bytes.as_slice(), line, out)
+            write_early(rt, shared, addr, bytes.as_slice(), line, out)
         }
-        Statement::Read(segment) => read_early(rt, shared, *segment, line, out),
+        Statement::Read(segment) => read_early(rt, shared, segment, line, out),
         Statement::Submit { ch, transfer } => {
-            submit_early(rt, alloc, shared, reader, *ch, transfer.get(), line, out)
+            submit_early(rt, shared, reader, ch, transfer.into_inner(), line, out)
         }
-        Statement::Issue { ch } => issue_early(rt, shared, *ch, line, out),
-        Statement::Terminate { ch } => terminate_early(rt, shared, reader, *ch, line, out),
-        Statement::Status { ch, cookie } => status_early(reader, *ch, *cookie, line, out),
-        Statement::Result { ch, cookie } => result_early(rt, shared, *ch, *cookie, line, out),
+        Statement::Issue { ch } => issue_early(rt, shared, ch, line, out),
+        Statement::Terminate { ch } => terminate_early(rt, shared, reader, ch, line, out),
+        Statement::Status { ch, cookie } => status_early(reader, ch, cookie, line, out),
+        Statement::Result { ch, cookie } => result_early(rt, shared, ch, cookie, line, out),
         Statement::Copy(_)
         | Statement::Pause { .. }
         | Statement::Resume { .. }

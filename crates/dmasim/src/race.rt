@@ -19,7 +19,7 @@ use dma_script::input::{LONGEST_INPUT, Source};
 use dma_script::output::Sink;
 use dma_script::printing::{push_fault, push_line};
 use dma_script::race::{JobLine, MAX_JOBS, RaceScript, read_race_script};
-use dma_script::statements::Statement;
+use dma_script::statements::Statements;
 use dma_work::{
     DeskName, Job, MissingTally, NoGate, Parts, ShareFaultKind, Shared, StatusReader, Tally,
     run_workers, settle,
@@ -56,25 +56,25 @@ fn engine_of(alloc: Global, script: &RaceScript) -> Result<Engine, AllocError>
     }
 }
 
-/// Carries out the lines before `go`, and then runs the jobs. The desk is still whole where memory is refused.
+/// Carries out the lines before `go`, each of which is done with then, and runs the jobs. The desk is still whole where memory is refused.
 fn until_go<N: DeskName + Send + Sync, R: Threads + Wait + Sync>(
     rt: &R,
     alloc: Global,
     shared: &Shared<N>,
     mut reader: StatusReader,
-    lines: &[Statement],
+    lines: Statements,
     jobs: &[Job],
     out: &mut Vec<u8>,
 ) -> Result<Vec<Tally>, AllocError>
     requires follows { (N.log ≡ reader.log) × (N.base ≡ reader.base) }
-    requires early { All IsEarly lines.now }
+    requires early { All IsEarly lines }
     requires few { length jobs.now < 4294967296 }
-    ensures ok { OnOk result (PrintsAll lines.now out.old.items out.new.items) }
-    ensures err { OnErr result (PrintsFirst lines.now out.old.items out.new.items) }
+    ensures ok { OnOk result (PrintsAll lines out.old.items out.new.items) }
+    ensures err { OnErr result (PrintsFirst lines out.old.items out.new.items) }
 {
     let mut text = Vec::new(alloc);
-    for line in lines {
-        carry_out_early(rt, alloc, shared, &mut reader, line, &mut text, out)?;
+    for line in lines.into_vec() {
+        carry_out_early(rt, shared, &mut reader, line, &mut text, out)?;
     }
     match run_workers(rt, alloc, shared, jobs, &NoGate) {
         Ok(tallies) => Ok(tallies),
@@ -154,19 +154,19 @@ fn raced<N: DeskName + Send + Sync, R: Threads + Wait + Sync>(
     alloc: Global,
     parts: Parts,
     reader: StatusReader,
-    lines: &[Statement],
+    lines: Statements,
     jobs: &[Job],
     out: &mut Vec<u8>,
 ) -> Result<Option<Engine>, AllocError>
     requires names { Names N.steps N.finished N.base N.log parts }
     requires follows { (N.log ≡ reader.log) × (N.base ≡ reader.base) }
     requires fresh { parts.engine.view.steps ≡ 0 }
-    requires early { All IsEarly lines.now }
+    requires early { All IsEarly lines }
     requires few { length jobs.now < 4294967296 }
     ensures ok { IfOk result (λ left. MatchOption left
-        (PrintsMissing lines.now out.old.items out.new.items)
-        (λ engine. PrintsGo lines.now engine.view out.old.items out.new.items)) }
-    ensures err { OnErr result (PrintsFirst lines.now out.old.items out.new.items) }
+        (PrintsMissing lines out.old.items out.new.items)
+        (λ engine. PrintsGo lines engine.view out.old.items out.new.items)) }
+    ensures err { OnErr result (PrintsFirst lines out.old.items out.new.items) }
 {
     let shared = Shared::<N>::new(parts);
     match until_go(rt, alloc, &shared, reader, lines, jobs, out) {
@@ -195,10 +195,11 @@ fn carry_out_race<R: Threads + Wait + Sync>(
         push_refused(&mut Vec::new(alloc), "NoReader", out)?;
         return Ok(FAULT);
     };
-    let lines = script.before.statements.as_slice();
+    let RaceScript { before, after, .. } = script;
+    let lines = before.statements;
     match raced::<Brand, _>(rt, alloc, parts, reader, lines, &jobs, out)? {
         Some(mut engine) => {
-            carry_out_all(alloc, &mut engine, script.after, out)?;
+            carry_out_all(alloc, &mut engine, after, out)?;
             Ok(SUCCESS)
         }
         None => Ok(FAULT),

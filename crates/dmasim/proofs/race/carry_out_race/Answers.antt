@@ -1,7 +1,7 @@
 use Rattle.std.proofs.Common.{sym, subst}
 use Rattle.std.proofs.lemmas.Result.{MatchResult-from_err}
 use Rattle.dma_script.specs.Command.{MayAppend}
-use Rattle.dmasim.specs.Race.{PrintsFirst, PrintsGo, PrintsMissing, RacePrints}
+use Rattle.dmasim.specs.Race.{RacePrints}
 use Rattle.dmasim.proofs.RaceLemmas.{first_append, missing_complete, none_append, unread_complete, whole_append, whole_complete}
 use Rattle.dmasim.proofs.race.carry_out_race.Goals as goal
 
@@ -34,7 +34,7 @@ returns-in_err-engine-2-clause-refused g c =
     let old = c.args.out.now.items in
     let new = c.raced.new.out.items in
     MatchResult-from_err c.from_residual-in_err-engine-2.result _ _ c.from_residual-in_err-engine-2.ensures.0
-    (λ _. first_append script old new (subst (λ s. PrintsFirst s old new) c.as_slice-lines.ensures c.in_err-engine-2.ensures.err))
+    (λ _. first_append script old new c.in_err-engine-2.ensures.err)
 
 pub returns-in_err-carry_out_all-in-Some-2-clause-refused : goal.returns-in_err-carry_out_all-in-Some-2-clause-refused
 returns-in_err-carry_out_all-in-Some-2-clause-refused g c =
@@ -45,22 +45,22 @@ returns-in_err-carry_out_all-in-Some-2-clause-refused g c =
     let v = c.in-Some-2.engine.view in
     let go = rw c.in-Some-2.is at c.in_ok-engine-2.ensures.ok in
     MatchResult-from_err c.from_residual-in_err-carry_out_all-in-Some-2.result _ _ c.from_residual-in_err-carry_out_all-in-Some-2.ensures.0
-    (λ _. whole_append script v old mid new (subst (λ s. PrintsGo s v old mid) c.as_slice-lines.ensures go) c.in_err-carry_out_all-in-Some-2.ensures.err)
+    (λ _. whole_append script v old mid new go c.in_err-carry_out_all-in-Some-2.ensures.err)
 
-pub returns-in_ok-carry_out_all-in-Some-2-clause-complete : goal.returns-in_ok-carry_out_all-in-Some-2-clause-complete
-returns-in_ok-carry_out_all-in-Some-2-clause-complete g c =
+pub returns-in-Some-2-clause-complete : goal.returns-in-Some-2-clause-complete
+returns-in-Some-2-clause-complete g c =
     let script = c.args.script in
     let old = c.args.out.now.items in
     let mid = c.raced.new.out.items in
     let v = c.in-Some-2.engine.view in
     let go = rw c.in-Some-2.is at c.in_ok-engine-2.ensures.ok in
-    whole_complete script v old mid c.carry_out_all.new.out.items (subst (λ s. PrintsGo s v old mid) c.as_slice-lines.ensures go)
+    whole_complete script v old mid c.carry_out_all.new.out.items go
     c.in_ok-carry_out_all-in-Some-2.ensures.ok
 
-pub returns-in-None-clause-complete : goal.returns-in-None-clause-complete
-returns-in-None-clause-complete g c =
+pub returns-clause-complete : goal.returns-clause-complete
+returns-clause-complete g c =
     let script = c.args.script in
     let old = c.args.out.now.items in
     let new = c.raced.new.out.items in
     let missing = rw c.in-None.is at c.in_ok-engine-2.ensures.ok in
-    missing_complete script old new (subst (λ s. PrintsMissing s old new) c.as_slice-lines.ensures missing)
+    missing_complete script old new missing
