@@ -1,4 +1,5 @@
-"""Times a channel beside plain copies of as many bytes in the same run: bytes by bursts, and instructions.
+"""Times a channel beside plain copies of as many bytes in the same run: bytes by bursts, and instructions. Then blocks of
+256 bytes at places all over a memory of 16 MiB, beside the same blocks of a plain list.
 
     python3 bench/channel.py
 """
@@ -29,13 +30,16 @@ def measure():
 def main():
     argparse.ArgumentParser(description=__doc__, formatter_class=argparse.RawDescriptionHelpFormatter).parse_args()
     subprocess.run(["rt", "run"], cwd=CRATE, stdout=subprocess.DEVNULL, stderr=subprocess.DEVNULL)
-    into, out, bursts, nops, compiled = (min(times) for times in zip(*[measure() for _ in range(TURNS)]))
+    least = [min(times) for times in zip(*[measure() for _ in range(TURNS)])]
+    into, out, bursts, nops, compiled = least[:5]
+    writes, plain_writes, reads, plain_reads = (min(least[at::4]) for at in range(5, 9))
     size = 160 * (1 << 20)
     copy = (into + out) / 2  # two plain copies were timed, of blocks of 8 MiB
     print("bursts of 256 bytes    %6.2f GB/s, a plain copy %6.2f GB/s, ratio %.2f"
           % (size / bursts / 1e9, size / copy / 1e9, copy / bursts))
     print("compiled copies of 1 MiB %4.2f GB/s, ratio to the loop of bursts %.2f" % (size / compiled / 1e9, bursts / compiled))
     print("instructions           %6.1f million a second (DMANOP, its loops and ends)" % (INSTRUCTIONS / nops / 1e6))
+    print("blocks written         ratio to a plain copy %.2f, read %.2f" % (plain_writes / writes, plain_reads / reads))
 
 
 main()

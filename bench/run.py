@@ -69,6 +69,8 @@ def assembly():
 
 
 ONE_LINE = b"memory 1 1\n"
+# A page at the end of the largest memory, and a copy of its last bytes to the ends of two more.
+LARGEST = script(4294963200, 1, ["write 0xFFFFEFFC 01 02 03 04", "copy 0xFFFFEFFC+4 to 0xFFE+4"])
 # What a run that did its work prints, and how often.
 PRINTED = {
     "copies": (b" NoError residue 0", 100),
@@ -171,8 +173,9 @@ def main():
             one_round(programs, chosen, folder, times)
     show(programs, chosen, times)
     print("medians of %d rounds, %d processors, load %.1f" % (options.rounds, os.cpu_count(), os.getloadavg()[0]))
-    for name in ("one line", "writes", "comment"):
-        print("most memory of %-9s %6.1f MiB" % (name, most_memory(PROGRAM, CASES[name][1])))
+    texts = [(name, CASES[name][1]) for name in ("one line", "writes", "comment")] + [("largest", LARGEST)]
+    for name, text in texts:
+        print("most memory of %-9s %6.1f MiB" % (name, most_memory(PROGRAM, text)))
 
 
 main()

@@ -1,5 +1,8 @@
-//! Times a loop of bursts, a loop of DMANOP, a compiled copy, and copies of blocks. It does nothing unless it is given an argument.
+//! Times a loop of bursts, a loop of DMANOP, a compiled copy, and blocks of a memory. It does nothing unless it is given an
+//! argument.
 #![tactic(auto)]
+
+mod blocks;
 
 use dma_chan::compile::compile;
 use dma_chan::run::run_program;
@@ -55,7 +58,39 @@ fn main(rt: HostRuntime) -> io::Result<()> {
     if env::args(&rt)?.count() < 2 {
         return Ok(());
     }
-    measure(&rt)
+    measure(&rt)?;
+    measure_blocks(&rt)
+}
+
+// so often that the least of each is of no other's making
+fn measure_blocks(rt: &HostRuntime) -> io::Result<()> {
+    let Ok(mut memory) = Memory::new(rt.alloc(), 16777216) else {
+        return Ok(());
+    };
+    let Ok(mut plain) = vec![in rt.alloc(); 7u8; 16777216] else {
+        return Ok(());
+    };
+    let Ok(mut block) = vec![in rt.alloc(); 0u8; 256] else {
+        return Ok(());
+    };
+    let Ok(places) = blocks::places(rt.alloc()) else {
+        return Ok(());
+    };
+    for _ in 0..9u32 {
+        let start = Instant::now(rt)?;
+        blocks::write(&mut memory, &places);
+        tell(rt, "65536 blocks into a memory of 16 MiB", start)?;
+        let start = Instant::now(rt)?;
+        blocks::write_plain(&mut plain, &places);
+        tell(rt, "65536 blocks into a list of 16 MiB", start)?;
+        let start = Instant::now(rt)?;
+        blocks::read(&memory, &places, &mut block);
+        tell(rt, "65536 blocks out of a memory of 16 MiB", start)?;
+        let start = Instant::now(rt)?;
+        blocks::read_plain(&plain, &places, &mut block);
+        tell(rt, "65536 blocks out of a list of 16 MiB", start)?;
+    }
+    Ok(())
 }
 
 fn measure(rt: &HostRuntime) -> io::Result<()> {

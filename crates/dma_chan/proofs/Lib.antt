@@ -20,3 +20,4 @@ pub mod Acts
 pub mod Layers
 pub mod Alone
 pub mod Parts
+pub mod Readies

@@ -10,3 +10,5 @@ pub mod Pieces
 pub mod Compiled
 pub mod Traffic
 pub mod Layer
+pub mod Ready
+pub mod Fails

@@ -1,13 +1,15 @@
 //! The bursts of a channel: loads from memory into its buffer, and stores from its buffer to memory.
 
-ghost use Rattle.std.specs.Prelude.{◌≡◌, ◌+◌, ◌-◌, ◌*◌, ◌≤◌, ◌<◌, ◌^◌, ◌++◌, IsTrue, IfSome, IsNone, Bool, List, length, take, drop, replicate};
+ghost use Rattle.std.specs.Prelude.{◌≡◌, ◌+◌, ◌-◌, ◌*◌, ◌≤◌, ◌<◌, ◌^◌, ◌++◌, min, IsTrue, IfSome, IsNone, OnOk, OnErr, Bool, false, List, length, take, drop, replicate};
 ghost use Rattle.std.specs.List.{flat_map};
 ghost use Rattle.circular_buffer.specs.Buffer.{buffer as ring};
 ghost use Rattle.dma_insn.specs.declared.insn.Insn.TheVariants.{Ld, St};
 ghost use Rattle.dma_insn.specs.ControlWord.{beat_bytes};
 ghost use Rattle.dma_mem.specs.Image.{put};
+ghost use Rattle.dma_mem.specs.Pages.{Keeps};
 ghost use Rattle.dma_chan.specs.Registers.{burst_len, touched, left_by, advance, span_of, rounds_of, source_of, destination_of};
 ghost use Rattle.dma_chan.specs.Marking.{reaches};
+ghost use Rattle.dma_chan.specs.Ready.{none_missing};
 ghost use Rattle.dma_chan.specs.Exec.{act, fault_in, faults, read_at, state};
 
 use crate::registers::Registers;
@@ -15,7 +17,7 @@ use crate::turn::{ChanTurn, FaultKind};
 use circular_buffer::HeapCircularBuffer;
 use dma_insn::control::BurstEnd;
 use dma_mem::marks::{MarkKind, Marks};
-use dma_mem::memory::Memory;
+use dma_mem::memory::{MemFault, Memory};
 use dma_mem::segment::Segment;
 
 /// The most bytes that a channel's buffer holds (profile), and the most of one burst (PL330 manual: 16 beats of 16 bytes).
@@ -117,8 +119,8 @@ fn destination_burst(registers: &Registers) -> Burst
 fn may_touch(kind: MarkKind, marks: &Marks, memory: &Memory, burst: Burst) -> bool
     requires some { (1 ≤ burst.size) × (1 ≤ burst.beats) }
     requires limit { (burst.size ≤ 16) × (burst.beats ≤ 16) }
-    ensures exact { result ≡ reaches kind marks.now (length memory.now) (touched burst) }
-    ensures within { IsTrue result → burst.addr + span_of burst ≤ length memory.now }
+    ensures exact { result ≡ reaches kind marks.now (length memory.now.image) (touched burst) }
+    ensures within { IsTrue result → burst.addr + span_of burst ≤ length memory.now.image }
     ensures below { IsTrue result → burst.addr + span_of burst < 2 ^ 32 }
 {
     let span = burst.span();
@@ -136,16 +138,24 @@ fn fill(buffer: &mut HeapCircularBuffer<u8>, bytes: &[u8], rounds: u32)
     }
 }
 
-// Loads the bytes of a burst into the buffer.
+// Loads the bytes of a burst into the buffer: those of one page in place, and by a block those that lie on two pages, or on
+// one that isn't made.
 #[tactic(auto, using(crate::proofs::Rounds::read_touched))]
 fn load_span(burst: Burst, buffer: &mut HeapCircularBuffer<u8>, memory: &Memory)
     requires limit { (burst.size ≤ 16) × (burst.beats ≤ 16) }
     requires room { length buffer.old.items + burst_len burst ≤ buffer.old.capacity }
-    requires within { burst.addr + span_of burst ≤ length memory.now }
-    ensures { buffer.new ≡ ring (buffer.old.items ++ read_at memory.now (touched burst)) buffer.old.capacity }
+    requires within { burst.addr + span_of burst ≤ length memory.now.image }
+    ensures { buffer.new ≡ ring (buffer.old.items ++ read_at memory.now.image (touched burst)) buffer.old.capacity }
 {
-    let bytes = memory.slice(burst.addr, burst.span().len);
-    fill(buffer, bytes, burst.rounds());
+    let len = burst.span().len;
+    match memory.part(burst.addr, len) {
+        Some(bytes) => fill(buffer, bytes, burst.rounds()),
+        None => {
+            let mut block = [0; BUFFER_SIZE];
+            let bytes = memory.bytes(burst.addr, &mut block[..len as usize]);
+            fill(buffer, bytes, burst.rounds());
+        }
+    }
 }
 
 // The fault that DMALD answers. Without one there is room for its bytes, and it may touch its addresses.
@@ -156,11 +166,11 @@ pub(crate) fn load_fault(
     memory: &Memory,
 ) -> Option<FaultKind>
     requires capacity { buffer.now.capacity ≡ 256 }
-    ensures told { (flags : List Bool) → result ≡ fault_in (act marks.now Ld (state registers.now buffer.now.items memory.now flags)).0 }
-    ensures still { IfSome result (λ kind. (flags : List Bool) → act marks.now Ld (state registers.now buffer.now.items memory.now flags) ≡ faults kind (state registers.now buffer.now.items memory.now flags)) }
+    ensures told { (flags : List Bool) → result ≡ fault_in (act marks.now Ld (state registers.now buffer.now.items memory.now.image flags)).0 }
+    ensures still { IfSome result (λ kind. (flags : List Bool) → act marks.now Ld (state registers.now buffer.now.items memory.now.image flags) ≡ faults kind (state registers.now buffer.now.items memory.now.image flags)) }
     ensures room { IsNone result → length buffer.now.items + burst_len (source_of registers.now) ≤ 256 }
-    ensures reaches { IsNone result → IsTrue (reaches MarkKind.Reading marks.now (length memory.now) (touched (source_of registers.now))) }
-    ensures within { IsNone result → registers.now.sar + span_of (source_of registers.now) ≤ length memory.now }
+    ensures reaches { IsNone result → IsTrue (reaches MarkKind.Reading marks.now (length memory.now.image) (touched (source_of registers.now))) }
+    ensures within { IsNone result → registers.now.sar + span_of (source_of registers.now) ≤ length memory.now.image }
     ensures below { IsNone result → registers.now.sar + span_of (source_of registers.now) < 2 ^ 32 }
 {
     let burst = source_burst(registers);
@@ -182,7 +192,7 @@ pub(crate) fn load_burst(
 ) -> ChanTurn
     requires capacity { buffer.old.capacity ≡ 256 }
     requires pc { registers.old.pc < 8192 }
-    ensures exact { (flags : List Bool) → act marks.now Ld (state registers.old buffer.old.items memory.now flags) ≡ (result, state registers.new buffer.new.items memory.now flags) }
+    ensures exact { (flags : List Bool) → act marks.now Ld (state registers.old buffer.old.items memory.now.image flags) ≡ (result, state registers.new buffer.new.items memory.now.image flags) }
     ensures capacity { buffer.new.capacity ≡ 256 }
     ensures pc { registers.new.pc ≤ registers.old.pc + 1 }
 {
@@ -221,8 +231,10 @@ fn store_span(burst: Burst, buffer: &mut HeapCircularBuffer<u8>, memory: &mut Me
     requires some { (1 ≤ burst.size) × (1 ≤ burst.beats) }
     requires limit { (burst.size ≤ 16) × (burst.beats ≤ 16) }
     requires bytes { burst_len burst ≤ length buffer.old.items }
-    requires within { burst.addr + span_of burst ≤ length memory.old }
-    ensures written { memory.new ≡ put memory.old (left_by burst (take (burst_len burst) buffer.old.items)) }
+    requires within { burst.addr + span_of burst ≤ length memory.old.image }
+    requires ready { IsTrue (none_missing memory.old (touched burst)) }
+    ensures written { memory.new.image ≡ put memory.old.image (left_by burst (take (burst_len burst) buffer.old.items)) }
+    ensures pages { memory.new.made ≡ memory.old.made }
     ensures taken { buffer.new ≡ ring (drop (burst_len burst) buffer.old.items) buffer.old.capacity }
 {
     let len = burst.len() as usize;
@@ -240,11 +252,11 @@ pub(crate) fn store_fault(
     buffer: &HeapCircularBuffer<u8>,
     memory: &Memory,
 ) -> Option<FaultKind>
-    ensures told { (flags : List Bool) → result ≡ fault_in (act marks.now St (state registers.now buffer.now.items memory.now flags)).0 }
-    ensures still { IfSome result (λ kind. (flags : List Bool) → act marks.now St (state registers.now buffer.now.items memory.now flags) ≡ faults kind (state registers.now buffer.now.items memory.now flags)) }
+    ensures told { (flags : List Bool) → result ≡ fault_in (act marks.now St (state registers.now buffer.now.items memory.now.image flags)).0 }
+    ensures still { IfSome result (λ kind. (flags : List Bool) → act marks.now St (state registers.now buffer.now.items memory.now.image flags) ≡ faults kind (state registers.now buffer.now.items memory.now.image flags)) }
     ensures bytes { IsNone result → burst_len (destination_of registers.now) ≤ length buffer.now.items }
-    ensures reaches { IsNone result → IsTrue (reaches MarkKind.Writing marks.now (length memory.now) (touched (destination_of registers.now))) }
-    ensures within { IsNone result → registers.now.dar + span_of (destination_of registers.now) ≤ length memory.now }
+    ensures reaches { IsNone result → IsTrue (reaches MarkKind.Writing marks.now (length memory.now.image) (touched (destination_of registers.now))) }
+    ensures within { IsNone result → registers.now.dar + span_of (destination_of registers.now) ≤ length memory.now.image }
     ensures below { IsNone result → registers.now.dar + span_of (destination_of registers.now) < 2 ^ 32 }
 {
     let burst = destination_burst(registers);
@@ -266,7 +278,9 @@ pub(crate) fn store_burst(
 ) -> ChanTurn
     requires capacity { buffer.old.capacity ≡ 256 }
     requires pc { registers.old.pc < 8192 }
-    ensures exact { (flags : List Bool) → act marks.now St (state registers.old buffer.old.items memory.old flags) ≡ (result, state registers.new buffer.new.items memory.new flags) }
+    requires ready { IsTrue (none_missing memory.old (touched (destination_of registers.old))) }
+    ensures exact { (flags : List Bool) → act marks.now St (state registers.old buffer.old.items memory.old.image flags) ≡ (result, state registers.new buffer.new.items memory.new.image flags) }
+    ensures pages { memory.new.made ≡ memory.old.made }
     ensures capacity { buffer.new.capacity ≡ 256 }
     ensures pc { registers.new.pc ≤ registers.old.pc + 1 }
 {
@@ -278,6 +292,41 @@ pub(crate) fn store_burst(
     registers.pc += 1;
     registers.dar += burst.advance();
     ChanTurn::Moved
+}
+
+// The part of a burst's span that lies below the memory's size, empty where none of it does.
+fn part_below(span: Segment, memory: &Memory) -> Segment
+    ensures addr { result.addr ≡ min span.addr (length memory.now.image) }
+    ensures len { result.len ≡ min span.len (length memory.now.image - span.addr) }
+{
+    let size = memory.size();
+    Segment {
+        addr: span.addr.min(size),
+        len: span.len.min(size.saturating_sub(span.addr)),
+    }
+}
+
+// Whether a store finds the pages that it writes.
+pub(crate) fn store_finds_pages(registers: &Registers, memory: &Memory) -> bool
+    ensures { result ≡ none_missing memory.now (touched (destination_of registers.now)) }
+{
+    let part = part_below(destination_burst(registers).span(), memory);
+    memory.made(part)
+}
+
+// Makes the pages that a store writes. The error is `NoMemory`, and some of them may have been made.
+pub(crate) fn prepare_store(registers: &Registers, memory: &mut Memory) -> Result<(), MemFault>
+    ensures ok { OnOk result (IsTrue (none_missing memory.new (touched (destination_of registers.now)))) }
+    ensures short { OnErr result (none_missing memory.new (touched (destination_of registers.now)) ≡ false) }
+    ensures image { memory.new.image ≡ memory.old.image }
+    ensures keeps { Keeps memory.old memory.new }
+{
+    // Most are made, and to look is less than the call that makes them.
+    if store_finds_pages(registers, memory) {
+        return Ok(());
+    }
+    let part = part_below(destination_burst(registers).span(), memory);
+    memory.prepare(part)
 }
 
 // How many bytes a store moves now.

@@ -1,11 +1,12 @@
 //! One instruction, executed.
 
-ghost use Rattle.std.specs.Prelude.{◌≡◌, ℕ, ◌+◌, ◌-◌, ◌≤◌, ◌<◌, Bool, IfSome, IsNone, List, length};
+ghost use Rattle.std.specs.Prelude.{◌≡◌, ℕ, ◌+◌, ◌-◌, ◌≤◌, ◌<◌, Bool, IsTrue, IfSome, IsNone, List, length, Ok};
 ghost use Rattle.dma_insn.specs.Spelling.{spelling};
 ghost use Rattle.dma_insn.specs.declared.insn.Insn.TheVariants.{Mov, Lp, LpEnd, Sev, Wfe};
 ghost use Rattle.dma_chan.specs.Registers.{counter_of};
 ghost use Rattle.dma_chan.specs.declared.registers.Registers.{Registers};
 ghost use Rattle.dma_chan.specs.Exec.{act, fault_in, faults, state};
+ghost use Rattle.dma_chan.specs.Ready.{finds_pages};
 ghost use Rattle.dma_mem.specs.Marking.{MarkList};
 
 use crate::bursts::{load_burst, load_fault, store_burst, store_fault};
@@ -165,7 +166,9 @@ pub(crate) fn execute(
     requires len { len ≡ length (spelling insn) }
     requires pc { registers.old.pc + len ≤ 8192 }
     requires capacity { buffer.old.capacity ≡ 256 }
-    ensures exact { act marks.now insn (state registers.old buffer.old.items memory.old events.old) ≡ (result, state registers.new buffer.new.items memory.new events.new) }
+    requires ready { IsTrue (finds_pages (Ok insn) registers.old memory.old) }
+    ensures exact { act marks.now insn (state registers.old buffer.old.items memory.old.image events.old) ≡ (result, state registers.new buffer.new.items memory.new.image events.new) }
+    ensures pages { memory.new.made ≡ memory.old.made }
     ensures capacity { buffer.new.capacity ≡ 256 }
     ensures pc { registers.new.pc ≤ registers.old.pc + len }
 {
@@ -193,7 +196,7 @@ pub(crate) fn fault_of(
     marks: &Marks,
 ) -> Option<FaultKind>
     requires capacity { buffer.now.capacity ≡ 256 }
-    ensures { (flags : List Bool) → result ≡ fault_in (act marks.now insn (state registers.now buffer.now.items memory.now flags)).0 }
+    ensures { (flags : List Bool) → result ≡ fault_in (act marks.now insn (state registers.now buffer.now.items memory.now.image flags)).0 }
 {
     match insn {
         Insn::Mov(reg, value) => set_fault(reg, value),

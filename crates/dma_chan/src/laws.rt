@@ -1,6 +1,7 @@
 //! Laws of transfers' programs. Each is the clause of a function that does nothing.
 
 ghost use Rattle.dma_chan.specs.Layer.{StartsAt, AheadIs, LeftIs, StepIs, TurnTells, Survives, ShapeIs, CostIs, StoredIs, CopiesAlone};
+ghost use Rattle.dma_chan.specs.Ready.{ReadyIs};
 
 /// What the channel does that runs a transfer's program, step by step, by the places of the transfer alone.
 pub fn runs_in_step()
@@ -10,6 +11,11 @@ pub fn runs_in_step()
     ensures step { StepIs }
     ensures tells { TurnTells }
     ensures survives { Survives }
+{}
+
+/// A transfer whose destinations all lie on pages finds those that it writes at each instruction.
+pub fn finds_its_pages()
+    ensures { ReadyIs }
 {}
 
 /// Which instructions a transfer's program executes, and how the bytes stored grow.

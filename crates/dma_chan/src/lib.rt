@@ -9,6 +9,8 @@ mod compile_tests;
 mod exec;
 pub mod laws;
 pub mod next;
+#[cfg(test)]
+mod page_tests;
 mod pieces;
 pub mod program;
 mod registers;

@@ -1,7 +1,9 @@
 //! Programs run alone.
 
-ghost use Rattle.std.specs.Prelude.{◌≡◌, ◌≤◌, length, nat_lt, if◌then◌else◌, IfOk, IfErr, OnOk, OnErr};
+ghost use Rattle.std.specs.Prelude.{◌≡◌, ◌≤◌, ℕ, length, nat_lt, if◌then◌else◌, true, IfOk, IfErr, OnOk};
+ghost use Rattle.dma_mem.specs.Pages.{has_page};
 ghost use Rattle.dma_chan.specs.Run.{RunsAlone};
+ghost use Rattle.dma_chan.specs.Fails.{RunFails};
 
 use crate::channel::Channel;
 use crate::program::{Program, ProgramFault};
@@ -26,11 +28,16 @@ pub enum RunEnd {
     Fault { kind: FaultKind, pc: u32 },
 }
 
-/// Why a program wasn't run. Nothing of it has run then.
+/// Why a program wasn't run to its end.
 #[derive(Clone, Copy, Debug, PartialEq, Eq, Error)]
 pub enum RunFault {
     #[error("the program has more than {} bytes", crate::program::MAX_BYTES)]
     ProgramTooLong,
+    /// So many instructions have run, and memory is what they leave. The next is a store, and a page that it writes was
+    /// refused.
+    #[error("out of memory for a page, after {turns} instructions")]
+    PageRefused { turns: u32 },
+    /// Nothing of it has run.
     #[error("out of memory")]
     NoMemory,
 }
@@ -55,39 +62,51 @@ fn run_on(
     alloc: Global,
     memory: &mut Memory,
     limit: u32,
-) -> RunEnd
-    ensures { RunsAlone program.bytes memory.old limit result memory.new }
+) -> Result<RunEnd, RunFault>
+    requires { length program.bytes ≤ 8192 }
+    ensures ok { IfOk result (λ how. RunsAlone program.bytes memory.old.image limit how memory.new.image) }
+    ensures err { IfErr result (λ fault. RunFails program.bytes memory.old limit fault memory.new) }
+    ensures pages { (p : ℕ) → has_page memory.old p ≡ true → has_page memory.new p ≡ true }
 {
     channel.load(program);
     let mut events = Events::new();
     let marks = Marks::new(alloc);
     for turn in 0..limit {
         let pc = channel.pc();
-        match channel.step(memory, &mut events, &marks) {
+        let next = match channel.next() {
+            Ok(next) => next,
+            Err(kind) => return Ok(RunEnd::Fault { kind, pc }),
+        };
+        if channel.prepare(next, memory).is_err() {
+            return Err(RunFault::PageRefused { turns: turn });
+        }
+        match channel.execute(next, memory, &mut events, &marks) {
             ChanTurn::Moved => {}
-            ChanTurn::Waiting(event) => return RunEnd::Waiting(event),
-            ChanTurn::Ended => return RunEnd::Ended { turns: turn + 1 },
-            ChanTurn::Fault(kind) => return RunEnd::Fault { kind, pc },
+            ChanTurn::Waiting(event) => return Ok(RunEnd::Waiting(event)),
+            ChanTurn::Ended => return Ok(RunEnd::Ended { turns: turn + 1 }),
+            ChanTurn::Fault(kind) => return Ok(RunEnd::Fault { kind, pc }),
         }
     }
-    RunEnd::OutOfTurns
+    Ok(RunEnd::OutOfTurns)
 }
 
-/// Runs the bytes alone on a channel of their own, with no marks and all flags clear, for at most `limit` instructions.
+/// Runs the bytes alone on a channel of their own, with no marks and all flags clear, for at most `limit` instructions. The
+/// pages that a store writes are made as it comes, and those that are made stay.
 ///
-/// The error is `ProgramTooLong` above [`MAX_BYTES`](crate::program::MAX_BYTES), else `NoMemory`. Nothing has run then.
+/// The error is `ProgramTooLong` above [`MAX_BYTES`](crate::program::MAX_BYTES), else `NoMemory`, and nothing has run then,
+/// or `PageRefused`: memory is what the instructions before that store leave.
 pub fn run_program(
     alloc: Global,
     bytes: &[u8],
     memory: &mut Memory,
     limit: u32,
 ) -> Result<RunEnd, RunFault>
-    ensures ok { IfOk result (λ how. RunsAlone bytes.now memory.old limit how memory.new) }
+    ensures ok { IfOk result (λ how. RunsAlone bytes.now memory.old.image limit how memory.new.image) }
     ensures fits { OnOk result (length bytes.now ≤ 8192) }
-    ensures err { IfErr result (λ fault. fault ≡ (if nat_lt 8192 (length bytes.now) then RunFault.ProgramTooLong else RunFault.NoMemory)) }
-    ensures unchanged { OnErr result (memory.new ≡ memory.old) }
+    ensures err { IfErr result (λ fault. RunFails bytes.now memory.old limit fault memory.new) }
+    ensures pages { (p : ℕ) → has_page memory.old p ≡ true → has_page memory.new p ≡ true }
 {
     let program = program_of(alloc, bytes)?;
     let channel = Channel::new(alloc).map_err(|_| RunFault::NoMemory)?;
-    Ok(run_on(channel, program, alloc, memory, limit))
+    run_on(channel, program, alloc, memory, limit)
 }

@@ -141,7 +141,10 @@ impl Machine {
     }
 
     fn step(&mut self) -> Option<ChanTurn> {
-        if !self.channel.is_loaded() || self.channel.taken() == u32::MAX {
+        if !self.channel.is_loaded()
+            || self.channel.taken() == u32::MAX
+            || !self.channel.ready(&self.memory)
+        {
             return None;
         }
         let turn = self
@@ -160,7 +163,10 @@ impl Machine {
 
     // The next instruction, the fault that it would answer, and its answer, read from the program once.
     fn read_once(&mut self) -> Option<(Insn, Option<FaultKind>, ChanTurn)> {
-        if !self.channel.is_loaded() || self.channel.taken() == u32::MAX {
+        if !self.channel.is_loaded()
+            || self.channel.taken() == u32::MAX
+            || !self.channel.ready(&self.memory)
+        {
             return None;
         }
         let Ok(next) = self.channel.next() else {

@@ -1,5 +1,5 @@
 -- What an engine keeps when an entry is added, or one channel changes.
-use Rattle.std.proofs.Common.{◌≡◌, ◌≢◌, ℕ, ◌<◌, List, [], ◌∷◌, ◌++◌, length, Option, Some, None, Bool, true, refl, ap, sym, ◌∙◌, subst, arith, inl, inr}
+use Rattle.std.proofs.Common.{◌≡◌, ◌≢◌, ℕ, ◌<◌, ◌/◌, false, List, [], ◌∷◌, ◌++◌, length, Option, Some, None, Bool, true, refl, ap, sym, ◌∙◌, subst, arith, inl, inr}
 use Rattle.std.specs.Prelude.{slice_get, slice_index, slice_index_or, slice_set, is_some, IfSome, IsSomeAnd}
 use Rattle.std.specs.List.{Contains}
 use Rattle.std.proofs.lemmas.Bool.{cases_eq}
@@ -14,10 +14,10 @@ use Rattle.dma_chan.specs.Programs.{ProgramValue}
 use Rattle.dma_chan.proofs.Layers.{survives}
 use Rattle.dma_engine.specs.declared.entry.Entry.{Entry}
 use Rattle.dma_engine.specs.declared.queue.Queue.{Queue}
-use Rattle.dma_engine.specs.Object.{Object, ChannelState, channel, after, Allows, front}
+use Rattle.dma_engine.specs.Object.{Object, ChannelState, channel, new_channel, after, Allows, front}
 use Rattle.dma_engine.specs.History.{object_after, IsLegal}
 use Rattle.dma_engine.specs.View.{View, ChannelSchedule, RunningTransfer, Fits, Agrees, AreFree, IsSound, runs_there, runs, idle, object_of, memory_of, memory_shown}
-use Rattle.dma_engine.specs.Holds.{Holds, IsQueue, IsRun, Parts, view_of, schedule_of}
+use Rattle.dma_engine.specs.Holds.{Holds, IsPrepared, IsQueue, IsRun, Parts, view_of, schedule_of}
 use Rattle.dma_engine.proofs.Histories.{object_after-append, IsLegal-append}
 use Rattle.dma_engine.proofs.Queues.{slice_get-push}
 
@@ -105,7 +105,29 @@ holds-entered p e memory events marks h w =
       each = λ ch d less.
           let kept = queue-kept ch p.history (p.history ++ e ∷ []) p.memory memory (slice_index_or p.queues ch d) (channel o ch) (λ k x. slice_get-push p.history e x k) (w.machines ch d less (h.each ch d less).machine) (h.each ch d less) in
           rw (step, w.stay) kept;
+      prepared = λ ch.
+          let channels = ap (λ (x : Object). x.channels) step ∙ w.stay in
+          let same : runs (object_of u) u.schedule ch ≡ runs o v.schedule ch = ap (λ l. runs_there ch (slice_index_or l ch new_channel) (slice_index_or v.schedule ch idle).taken) channels in
+          subst (IsPrepared p.made) (sym same) (h.prepared ch);
     }
+
+-- ---- pages
+
+-- a transfer that finds its pages finds them where more are made
+pub prepared-more : (made more : List Bool) (x : Option RunningTransfer) → ((page : ℕ) → slice_index_or made page false ≡ true → slice_index_or more page false ≡ true) → IsPrepared made x → IsPrepared more x
+prepared-more made more None keeps h = tt
+prepared-more made more (Some r) keeps h = λ a i. keeps (a / 4096) (h a i)
+
+-- pages that are made change nothing else
+pub holds-pages : (p : Parts) (more : List Bool) → Holds p → ((page : ℕ) → slice_index_or p.made page false ≡ true → slice_index_or more page false ≡ true) → Holds (record p { made = more })
+holds-pages p more h keeps = record {
+  sound = h.sound;
+  shown = h.shown;
+  events = h.events;
+  marks = h.marks;
+  each = h.each;
+  prepared = λ ch. prepared-more p.made more (runs (object_of (view_of p)) (view_of p).schedule ch) keeps (h.prepared ch);
+}
 
 -- ---- one channel changes
 
@@ -150,7 +172,7 @@ fits-changed o p s ch x h w =
 
 -- the parts after a change of one queue
 abbrev pub changed : Parts → ℕ → Queue → List ℕ → List Bool → List Entry → ℕ → Parts
-changed p ch q memory events history steps = record { size = p.size; memory = memory; events = events; marks = p.marks; queues = slice_set p.queues ch q; history = history; steps = steps }
+changed p ch q memory events history steps = record { size = p.size; memory = memory; made = p.made; events = events; marks = p.marks; queues = slice_set p.queues ch q; history = history; steps = steps }
 
 -- their view
 abbrev pub changed_view : Parts → ℕ → Queue → List Entry → ℕ → View
@@ -172,6 +194,7 @@ pub record ChangesTo (p : Parts) (ch : ℕ) (q : Queue) (memory : List ℕ) (fla
   pub events : flags ≡ o.events
   pub marks : (object_of (view_of p)).marks ≡ o.marks
   pub tied : IsQueue ch history memory q (channel o ch)
+  pub prepared : IsPrepared p.made (runs_there ch (channel o ch) (schedule_of q).taken)
   pub machines : (c : ℕ) (d : Queue) → c < length p.queues → c ≢ ch →
       IsRun p.memory (slice_index_or p.queues c d).channel (channel (object_of (view_of p)) c) →
       IsRun memory (slice_index_or p.queues c d).channel (channel (object_of (view_of p)) c)
@@ -202,6 +225,16 @@ holds-changed p ch q memory events history steps o h less w =
             let kept = queue-kept c p.history history p.memory memory (slice_index_or p.queues c d) (channel (object_of v) c) w.grows (w.machines c d l' f old.machine) old in
             rw (leaves, get_or-set_other p.queues ch c q d f, w.fits.others c f) kept
       ];
+      prepared = λ c.
+          let x : ChannelSchedule = schedule_of q in
+          let within : ch < length v.schedule = omega (arith, h.sound.fits.many, w.fits.there) in
+          let new : runs (object_of (view_of r)) (view_of r).schedule c ≡ runs o (slice_set v.schedule ch x) c = ap (λ (y : View). runs (object_of y) y.schedule c) (sym is) ∙ ap (λ (y : Object). runs y (slice_set v.schedule ch x) c) w.leaves in
+          elim (cases_eq c ch) [
+            | inl e ↦
+                let here : runs o (slice_set v.schedule ch x) c ≡ runs_there ch (channel o ch) x.taken = ap (runs o (slice_set v.schedule ch x)) e ∙ runs-here o v.schedule ch x within in
+                subst (IsPrepared p.made) (sym (new ∙ here)) w.prepared
+            | inr f ↦ subst (IsPrepared p.made) (sym (new ∙ runs-other (object_of v) o v.schedule ch c x f (w.fits.others c f))) (h.prepared c)
+          ];
     }
 
 -- the schedule stays where a queue's does

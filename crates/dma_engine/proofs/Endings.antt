@@ -156,6 +156,7 @@ holds-terminated p ch spare count issued q outcomes h less read all_of many numb
         halted = refl;
         machine = tt;
       });
+      prepared = tt;
       machines = λ d i l k machine. machine;
     })
 
@@ -204,6 +205,7 @@ holds-finished p ch spare steps result q outcome halted h less read told fails a
         halted = fails;
         machine = tt;
       });
+      prepared = tt;
       machines = λ d i l k machine. machine;
     })
 

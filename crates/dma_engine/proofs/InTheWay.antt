@@ -1,20 +1,20 @@
 -- The fronts that are found by their entries, and the first running transfer that is in the way.
-use Rattle.std.proofs.Common.{◌≡◌, ℕ, ◌+◌, ◌<◌, List, [], ◌∷◌, length, Option, Some, None, Bool, true, false, cond, refl, ap, sym, ◌∙◌, arith, suc, zero}
-use Rattle.std.specs.Prelude.{find, slice_get, slice_index, slice_index_or, unwrap_or, is_some, nat_lt}
+use Rattle.std.proofs.Common.{◌≡◌, ℕ, ◌+◌, ◌<◌, ◌≤◌, List, [], ◌∷◌, length, Option, Some, None, Bool, true, false, cond, refl, ap, sym, ◌∙◌, arith, suc, zero}
+use Rattle.std.specs.Prelude.{find, slice_get, slice_index_or, unwrap_or, is_some, nat_lt}
 use Rattle.std.specs.Option.{option_map, option_to_list}
-use Rattle.std.proofs.lemmas.Bool.{lt-ltb, false≢true}
+use Rattle.std.proofs.lemmas.Bool.{lt-ltb, ltb-true, false≢true}
 use Rattle.dma_mem.specs.Places.{Descriptor}
 use Rattle.dma_chan.specs.Channel.{ChannelValue}
 use Rattle.dma_chan.specs.Programs.{ProgramValue}
-use Rattle.dma_engine.specs.declared.entry.Entry.{Entry}
-use Rattle.dma_engine.specs.declared.entry.Entry.TheVariants.{Submitted}
 use Rattle.dma_engine.specs.declared.queue.Queue.{Queue}
-use Rattle.dma_engine.specs.Object.{Object, ChannelState, channel, front, issued_front, finished, used}
+use Rattle.dma_engine.specs.Object.{Object, ChannelState, channel, front, finished, used}
 use Rattle.dma_engine.specs.View.{ChannelSchedule, RunningTransfer, object_of, runs, runs_there, running, idle}
 use Rattle.dma_engine.specs.Answer.{named}
+use Rattle.dma_engine.specs.Due.{front_told}
+use Rattle.dma_engine.specs.Found.{front_in, given_by}
 use Rattle.dma_engine.specs.Holds.{Holds, Parts, view_of, taken_of}
 use Rattle.dma_engine.proofs.Boards.{counted-at}
-use Rattle.dma_engine.proofs.Queues.{Front, front_place, front_read, holds-at}
+use Rattle.dma_engine.proofs.Queues.{Front, HoldsAt, front_stands, holds-at}
 use Rattle.dma_engine.proofs.WhatRuns.{below, find-here}
 
 -- ---- the issued front
@@ -38,29 +38,32 @@ front_queued p h ch q less read open_one =
     record { transfer = some.0; is = some.1; issued = rw e some.1; holds = tt; within = inside }
 
 -- and its entry is found in the history
-pub front_places : (p : Parts) → Holds p → (ch : ℕ) (q : Queue) (n : ℕ) → ch < length p.queues → q ≡ slice_index_or p.queues ch q → n ≡ length q.outcomes.items → n < q.issued → (n < length q.places.items) × (slice_index q.places.items n < length p.history)
-front_places p h ch q n less read is open_one =
-    let at = holds-at p h ch q less read in
-    let f = front_queued p h ch q less read (omega (arith, is)) in
-    rw is (front_place ch p.history p.memory q (channel (object_of (view_of p)) ch) f.transfer at.tied f.is)
+pub front_found : (p : Parts) → Holds p → (ch : ℕ) (q : Queue) → ch < length p.queues → q ≡ slice_index_or p.queues ch q → front_in q p.history ≡ front_told (channel (object_of (view_of p)) ch)
+front_found p h ch q less read = by (nat_lt (length q.outcomes.items) q.issued) refl where
+  c : ChannelState
+  c = channel (object_of (view_of p)) ch
 
-pub front_entry : (p : Parts) → Holds p → (ch : ℕ) (q : Queue) (n place : ℕ) (e : Entry) → ch < length p.queues → q ≡ slice_index_or p.queues ch q → n ≡ length q.outcomes.items → n < q.issued → place ≡ slice_index q.places.items n → e ≡ slice_index_or p.history place e → (t : Descriptor) × (issued_front (channel (object_of (view_of p)) ch) ≡ Some t) × (e ≡ Submitted ch t (finished (channel (object_of (view_of p)) ch) + 1))
-front_entry p h ch q n place e less read is open_one at_place at_entry =
-    let at = holds-at p h ch q less read in
-    let f = front_queued p h ch q less read (omega (arith, is)) in
-    let there : place ≡ slice_index q.places.items (length q.outcomes.items) = at_place ∙ ap (slice_index q.places.items) is in
-    (f.transfer, f.issued, front_read ch p.history p.memory q (channel (object_of (view_of p)) ch) f.transfer e place at.tied f.is there at_entry)
+  at : HoldsAt p ch q
+  at = holds-at p h ch q less read
 
-pub front_found : (p : Parts) → Holds p → (ch : ℕ) (q : Queue) (n place : ℕ) (e : Entry) (other cookie : ℕ) (u : Descriptor) → ch < length p.queues → q ≡ slice_index_or p.queues ch q → n ≡ length q.outcomes.items → n < q.issued → place ≡ slice_index q.places.items n → e ≡ slice_index_or p.history place e → e ≡ Submitted other u cookie → Some (u, cookie) ≡ option_map {U = Descriptor × ℕ} (λ t. (t, finished (channel (object_of (view_of p)) ch) + 1)) (issued_front (channel (object_of (view_of p)) ch))
-front_found p h ch q n place e other cookie u less read is open_one at_place at_entry found =
-    let k = finished (channel (object_of (view_of p)) ch) + 1 in
-    let f = front_entry p h ch q n place e less read is open_one at_place at_entry in
-    let t : Descriptor = f.0 in
-    let entry : e ≡ Submitted ch t k = f.2 in
-    let same : u ≡ t = cc in
-    let number : cookie ≡ k = cc in
-    let pair : Some (u, cookie) ≡ Some (t, k) = rw (same, number) refl in
-    pair ∙ sym (ap (option_map {U = Descriptor × ℕ} (λ x. (x, k))) f.1)
+  same : nat_lt (finished c) c.issued ≡ nat_lt (length q.outcomes.items) q.issued
+  same = ap (λ l. nat_lt (length l) c.issued) (sym at.tied.outcomes) ∙ ap (nat_lt (length q.outcomes.items)) (sym at.tied.issued)
+
+  by : (b : Bool) → nat_lt (length q.outcomes.items) q.issued ≡ b → front_in q p.history ≡ front_told c
+  by true e =
+      let f = front_queued p h ch q less read (ltb-true _ _ e) in
+      let stands = front_stands ch p.history p.memory q c f.transfer at.tied f.is in
+      rw (e, f.issued) (ap given_by stands)
+  by false e =
+      let d : nat_lt (finished c) c.issued ≡ false = same ∙ e in
+      rw (e, d) refl
+
+-- no more are issued than there are places
+pub few-issued : (p : Parts) → Holds p → (ch : ℕ) (q : Queue) → ch < length p.queues → q ≡ slice_index_or p.queues ch q → q.issued ≤ length q.places.items
+few-issued p h ch q less read =
+    let at = holds-at p h ch q less read in
+    let counted = counted-at p h ch in
+    omega (arith, at.tied.issued, at.tied.many, counted.issue)
 
 -- ---- what runs
 

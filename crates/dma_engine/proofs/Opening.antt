@@ -1,6 +1,6 @@
 -- What a new engine keeps.
 use Rattle.std.proofs.Common.{◌≡◌, ◌≢◌, ℕ, ◌+◌, ◌<◌, ◌≤◌, [], ◌∷◌, ◌++◌, length, map, Option, None, true, false, refl, ap, sym, ◌∙◌, subst, arith, inl, inr, zero, suc, add-one}
-use Rattle.std.specs.Prelude.{slice_index_or, replicate, nat_lt, ◌==◌}
+use Rattle.std.specs.Prelude.{List, Bool, slice_index_or, replicate, nat_lt, ◌==◌}
 use Rattle.dma_mem.specs.Sizes.{is_size}
 use Rattle.std.specs.List.{filter_map, range_with_len}
 use Rattle.std.proofs.lemmas.Bool.{cases_lt, ne_eqb, le-ltb}
@@ -9,7 +9,7 @@ use Rattle.dma_mem.specs.Image.{over, after_moves}
 use Rattle.dma_mem.specs.Marking.{all_clear}
 use Rattle.dma_engine.specs.Object.{channel, new_channel, opening}
 use Rattle.dma_engine.specs.View.{View, ChannelSchedule, RunningTransfer, Fits, runs, runs_there, running, with_stored, memory_shown, memory_of, object_of, IsSound, idle, new_fault, new_view}
-use Rattle.dma_engine.specs.Holds.{Holds, Parts, view_of, schedule_of, new_queue}
+use Rattle.dma_engine.specs.Holds.{Holds, IsPrepared, Parts, view_of, schedule_of, new_queue}
 use Rattle.dma_engine.proofs.Endings.{put-nil}
 use Rattle.dma_engine.proofs.Sizes.{opening-size, opening-many}
 
@@ -68,18 +68,18 @@ unfolding opening
 opening-marks bytes n = refl
 
 -- the parts of a new engine
-abbrev pub new_parts : ℕ → ℕ → Parts
-new_parts bytes n = record { size = bytes; memory = replicate bytes 0; events = all_clear; marks = []; queues = replicate n new_queue; history = []; steps = 0 }
+abbrev pub new_parts : ℕ → List Bool → ℕ → Parts
+new_parts bytes made n = record { size = bytes; memory = replicate bytes 0; made = made; events = all_clear; marks = []; queues = replicate n new_queue; history = []; steps = 0 }
 
-pub new-view : (bytes n : ℕ) → view_of (new_parts bytes n) ≡ new_view bytes n
-new-view bytes n =
+pub new-view : (bytes : ℕ) (made : List Bool) (n : ℕ) → view_of (new_parts bytes made n) ≡ new_view bytes n
+new-view bytes made n =
     ap (λ k. record { base = opening bytes k; history = []; steps = 0; schedule = map schedule_of (replicate n new_queue) }) (length-replicate n new_queue)
     ∙ ap (λ s. record { base = opening bytes n; history = []; steps = 0; schedule = s }) (map-same n)
 
-pub holds-new : (bytes n : ℕ) → new_fault bytes n ≡ None → Holds (new_parts bytes n)
-holds-new bytes n made =
-    let v : View = view_of (new_parts bytes n) in
-    let is : v ≡ new_view bytes n = new-view bytes n in
+pub holds-new : (bytes : ℕ) (pages : List Bool) (n : ℕ) → new_fault bytes n ≡ None → Holds (new_parts bytes pages n)
+holds-new bytes pages n made =
+    let v : View = view_of (new_parts bytes pages n) in
+    let is : v ≡ new_view bytes n = new-view bytes pages n in
     let o = opening bytes n in
     record {
       sound = subst IsSound (sym is) (record {
@@ -102,6 +102,9 @@ holds-new bytes n made =
             halted = refl;
             machine = tt;
           });
+      prepared = λ ch.
+          let none : runs (object_of v) v.schedule ch ≡ None = ap (λ (w : View). runs (object_of w) w.schedule ch) is ∙ none-runs bytes n ch in
+          subst (IsPrepared pages) (sym none) tt;
     }
 
 pub made-from : (bytes many : ℕ) → many ≢ 0 → many ≤ 8 → is_size bytes ≡ true → new_fault bytes many ≡ None

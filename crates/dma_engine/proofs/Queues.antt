@@ -81,18 +81,6 @@ front_stands ch history memory q c t tied is =
     let stands : slice_get history (slice_index q.places.items (finished c)) ≡ Some (Submitted ch (slice_index_or c.submitted (finished c) no_transfer) (finished c + 1)) = tied.stands (finished c) less in
     ap (λ n. slice_get history (slice_index q.places.items n)) many ∙ stands ∙ ap (λ u. Some (Submitted ch u (finished c + 1))) front_is
 
--- so its place is one of the queue, and one of the history
-pub front_place : (ch : ℕ) (history : List Entry) (memory : List ℕ) (q : Queue) (c : ChannelState) (t : Descriptor) → IsQueue ch history memory q c → front c ≡ Some t → (length q.outcomes.items < length q.places.items) × (slice_index q.places.items (length q.outcomes.items) < length history)
-front_place ch history memory q c t tied is =
-    let less : finished c < used c = slice_get_within c.submitted (finished c) t is in
-    let many : length q.outcomes.items ≡ finished c = ap length tied.outcomes in
-    (omega (arith, tied.many, many, less), slice_get_within history _ _ (front_stands ch history memory q c t tied is))
-
--- and what is read there is its entry
-pub front_read : (ch : ℕ) (history : List Entry) (memory : List ℕ) (q : Queue) (c : ChannelState) (t : Descriptor) (e : Entry) (place : ℕ) → IsQueue ch history memory q c → front c ≡ Some t → place ≡ slice_index q.places.items (length q.outcomes.items) → e ≡ slice_index_or history place e → e ≡ Submitted ch t (finished c + 1)
-front_read ch history memory q c t e place tied is at read =
-    read ∙ get_or_from_slice_get history place _ e (ap (slice_get history) at ∙ front_stands ch history memory q c t tied is)
-
 -- ---- lists with one more item
 
 -- an entry stands where it stood when more are added

@@ -1,5 +1,5 @@
 -- What an engine keeps where one channel changes and what runs doesn't: pause, resume, issue, submit.
-use Rattle.std.proofs.Common.{◌≡◌, ◌≢◌, ℕ, ◌+◌, ◌<◌, List, [], ◌∷◌, ◌++◌, length, map, Option, Some, None, Bool, true, false, refl, ap, sym, ◌∙◌, arith, inl, inr}
+use Rattle.std.proofs.Common.{◌≡◌, ◌≢◌, ℕ, ◌+◌, ◌<◌, List, [], ◌∷◌, ◌++◌, length, map, Option, Some, None, Bool, true, false, refl, ap, sym, ◌∙◌, subst, arith, inl, inr}
 use Rattle.std.specs.Prelude.{slice_get, slice_index_or, slice_set, nat_lt, IfSome, IsSomeAnd}
 use Rattle.std.proofs.lemmas.Bool.{cases_lt, cases_eq, lt-ltb}
 use Rattle.std.proofs.lemmas.List.{length-set, length_push, get_or-set_same, get_or-set_other, get_or_append_left, get_or_push}
@@ -17,7 +17,7 @@ use Rattle.dma_engine.specs.History.{object_after, IsLegal}
 use Rattle.dma_engine.specs.View.{View, ChannelSchedule, Agrees, runs, runs_there, running, with_stored, memory_shown, object_of, channels}
 use Rattle.dma_engine.specs.Turn.{with_entry}
 use Rattle.dma_engine.specs.Answer.{with_pause}
-use Rattle.dma_engine.specs.Holds.{Holds, IsQueue, IsRun, Parts, view_of, schedule_of}
+use Rattle.dma_engine.specs.Holds.{Holds, IsPrepared, IsQueue, IsRun, Parts, view_of, schedule_of}
 use Rattle.dma_engine.proofs.Changes.{ChangesTo, changed, view-changed, holds-changed, runs-here, runs-other, schedule-kept}
 use Rattle.dma_engine.proofs.Histories.{object_after-append, IsLegal-append}
 use Rattle.dma_engine.proofs.Queues.{front_where, holds-at, runs_front, slice_get-push, slice_get-push_last}
@@ -69,6 +69,7 @@ stays p ch q r flags history o h less read w =
       events = w.events;
       marks = w.marks;
       tied = w.tied;
+      prepared = subst (IsPrepared p.made) (at.runs_is ∙ sym w.runs_still) (h.prepared ch);
       machines = λ c d l k machine. machine;
     }
 

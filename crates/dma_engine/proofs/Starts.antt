@@ -1,5 +1,5 @@
 -- What an engine keeps where a front starts, and what it may answer where one finishes.
-use Rattle.std.proofs.Common.{◌≡◌, ◌≢◌, ℕ, ◌+◌, ◌-◌, ◌<◌, ◌≤◌, List, [], ◌∷◌, ◌++◌, length, take, drop, Option, Some, None, Bool, true, false, ◌&&◌, ◌||◌, not, refl, ap, sym, ◌∙◌, arith, zero, suc}
+use Rattle.std.proofs.Common.{◌≡◌, ◌≢◌, ℕ, ◌+◌, ◌-◌, ◌<◌, ◌≤◌, List, [], ◌∷◌, ◌++◌, length, take, drop, Option, Some, None, Bool, true, false, ◌&&◌, ◌||◌, not, refl, ap, sym, ◌∙◌, subst, arith, zero, suc}
 use Rattle.std.specs.Prelude.{slice_index_or, slice_set, is_some, nat_lt, ◌==◌, unwrap_or, IfSome, IsSome}
 use Rattle.std.specs.List.{list_any}
 use Rattle.std.specs.Option.{option_map}
@@ -10,9 +10,9 @@ use Rattle.dma_mem.specs.Places.{Descriptor, is_free_of, size_of, sources, desti
 use Rattle.dma_mem.specs.Rules.{IsTransfer}
 use Rattle.dma_mem.specs.declared.marks.MarkKind.{MarkKind}
 use Rattle.dma_mem.specs.declared.marks.MarkKind.TheVariants.{Reading, Writing}
-use Rattle.dma_chan.specs.Channel.{loaded}
-use Rattle.dma_chan.specs.Compiled.{cost, compiled}
+use Rattle.dma_chan.specs.Compiled.{cost}
 use Rattle.dma_chan.specs.Layer.{meets_mark}
+use Rattle.dma_chan.specs.Ready.{OnPages}
 use Rattle.dma_chan.specs.Traffic.{member, stored_after, burst}
 use Rattle.dma_chan.proofs.Layers.{starts_at}
 use Rattle.dma_chan.proofs.Shape.{shape_is, stored_is}
@@ -29,7 +29,7 @@ use Rattle.dma_engine.specs.View.{View, ChannelSchedule, RunningTransfer, Agrees
 use Rattle.dma_engine.specs.Turn.{front_cookie, in_the_way, start_turn, with_entry, with_step, with_taken}
 use Rattle.dma_engine.specs.Answer.{Answers, named, done_on, done_by}
 use Rattle.dma_engine.specs.Due.{MayStart, Finishes}
-use Rattle.dma_engine.specs.Holds.{Holds, Parts, view_of, schedule_of}
+use Rattle.dma_engine.specs.Holds.{Holds, IsPrepared, Parts, view_of, schedule_of, queue_started}
 use Rattle.dma_engine.proofs.Changes.{changed, view-changed, holds-changed, runs-here, runs-other}
 use Rattle.dma_engine.proofs.Endings.{queue_finished}
 use Rattle.dma_engine.proofs.Executed.{and-false}
@@ -53,9 +53,6 @@ way-none : (x : Option RunningTransfer) → None ≡ named x → x ≡ None
 way-none None h = refl
 way-none (Some r) h = absurd cc
 
-abbrev pub queue_started : Queue → Descriptor → Queue
-queue_started q t = record q { channel = loaded (compiled t) }
-
 not-free : (b : Bool) → not b ≡ false → b ≡ true
 not-free true h = refl
 not-free false h = absurd cc
@@ -74,8 +71,8 @@ free-of : (t : Descriptor) (r : RunningTransfer) (x : Option RunningTransfer) �
 free-of t r None e h = tt
 free-of t r (Some s) e h = rw e (not-free (is_free_of t s.transfer) h)
 
-pub holds-started : (p : Parts) (ch : ℕ) (q : Queue) (t : Descriptor) → Holds p → ch < length p.queues → q ≡ slice_index_or p.queues ch q → MayStart (view_of p) ch → issued_front (channel (object_of (view_of p)) ch) ≡ Some t → in_the_way (view_of p) t ≡ None → Holds (changed p ch (queue_started q t) p.memory p.events p.history p.steps)
-holds-started p ch q t h less read may some none =
+pub holds-started : (p : Parts) (ch : ℕ) (q : Queue) (t : Descriptor) → Holds p → ch < length p.queues → q ≡ slice_index_or p.queues ch q → MayStart (view_of p) ch → issued_front (channel (object_of (view_of p)) ch) ≡ Some t → in_the_way (view_of p) t ≡ None → OnPages p.made (destinations t) → Holds (changed p ch (queue_started q t) p.memory p.events p.history p.steps)
+holds-started p ch q t h less read may some none pages =
     let v : View = view_of p in
     let o = object_of v in
     let s = v.schedule in
@@ -119,6 +116,7 @@ holds-started p ch q t h less read may some none =
         halted = tied.halted;
         machine = rw is (starts_at t p.memory good.0);
       };
+      prepared = subst (IsPrepared p.made) (sym there_is) pages;
       machines = λ d i l k machine. machine;
     })
 

@@ -1,8 +1,9 @@
 -- Transfers found in a history.
-use Rattle.std.specs.Prelude.{ℕ, Option, Some, List, slice_get}
+use Rattle.std.specs.Prelude.{ℕ, if◌then◌else◌, nat_lt, Option, Some, None, List, length, slice_get, slice_index}
 use Rattle.dma_mem.specs.Places.{Descriptor}
 use Rattle.dma_engine.specs.declared.entry.Entry.{Entry}
 use Rattle.dma_engine.specs.declared.entry.Entry.TheVariants.{Submitted}
+use Rattle.dma_engine.specs.declared.queue.Queue.{Queue}
 use Rattle.dma_engine.specs.Object.{no_transfer}
 
 abbrev pub transfer_of : Option Entry → Descriptor
@@ -12,3 +13,14 @@ transfer_of _ = no_transfer
 -- the transfer whose entry stands at a place of the history
 abbrev pub transfer_in : List Entry → ℕ → Descriptor
 transfer_in history place = transfer_of (slice_get history place)
+
+-- the transfer and the cookie that an entry gives to a channel
+abbrev pub given_by : Option Entry → Option (Descriptor × ℕ)
+given_by (Some (Submitted ch t cookie)) = Some (t, cookie)
+given_by _ = None
+
+-- the issued front of a queue with its cookie, by its entry in the history
+abbrev pub front_in : Queue → List Entry → Option (Descriptor × ℕ)
+front_in q history =
+    let finished = length q.outcomes.items in
+    if nat_lt finished q.issued then given_by (slice_get history (slice_index q.places.items finished)) else None

@@ -1,19 +1,23 @@
 -- What an engine keeps: its parts are what its view says.
 use Rattle.std.specs.Prelude.{◌≡◌, ℕ, ◌+◌, ◌<◌, Bool, false, Option, Some, List, [], length, map, slice_get, slice_index, slice_index_or, IfSome, IsSomeAnd}
 use Rattle.std.specs.Option.{option_map}
-use Rattle.dma_chan.specs.Channel.{ChannelValue, new_channel as no_program}
+use Rattle.dma_chan.specs.Channel.{ChannelValue, loaded, new_channel as no_program}
+use Rattle.dma_chan.specs.Compiled.{compiled}
 use Rattle.dma_chan.specs.Layer.{IsAt}
+use Rattle.dma_chan.specs.Ready.{OnPages}
 use Rattle.dma_mem.specs.Marking.{MarkList}
+use Rattle.dma_mem.specs.Places.{Descriptor, destinations}
 use Rattle.dma_engine.specs.declared.entry.Entry.{Entry}
 use Rattle.dma_engine.specs.declared.entry.Entry.TheVariants.{Submitted}
 use Rattle.dma_engine.specs.declared.queue.Queue.{Queue}
 use Rattle.dma_engine.specs.Object.{ChannelState, channel, front, no_transfer, opening, used}
-use Rattle.dma_engine.specs.View.{View, ChannelSchedule, IsSound, object_of, memory_of}
+use Rattle.dma_engine.specs.View.{View, ChannelSchedule, RunningTransfer, IsSound, object_of, memory_of, runs}
 
--- the parts of an engine
+-- the parts of an engine: of its memory the image, and which of its pages are made
 pub record Parts : Type 0 where
   pub size : ℕ
   pub memory : List ℕ
+  pub made : List Bool
   pub events : List Bool
   pub marks : MarkList
   pub queues : List Queue
@@ -38,6 +42,10 @@ abbrev pub new_queue : Queue
 new_queue =
     record { places = record { items = []; spare = 0 }; outcomes = record { items = []; spare = 0 }; issued = 0; paused = false; halted = false; channel = no_program }
 
+-- a queue whose front, which this is, starts
+abbrev pub queue_started : Queue → Descriptor → Queue
+queue_started q t = record q { channel = loaded (compiled t) }
+
 -- where a program is loaded, it is that of the channel's front
 abbrev pub IsRun : List ℕ → ChannelValue → ChannelState → Type 0
 IsRun memory m c = IfSome m.program (λ _. IsSomeAnd (front c) (λ t. IsAt t m.taken memory m))
@@ -52,7 +60,12 @@ pub record IsQueue (ch : ℕ) (history : List Entry) (memory : List ℕ) (q : Qu
   pub halted : q.halted ≡ c.halted
   pub machine : IsRun memory q.channel c
 
--- The view is sound, the memory is what it shows, flags and marks are the object's, and each queue is its channel's.
+-- What runs, if something does, finds its pages: each of its destinations lies on one that is made.
+abbrev pub IsPrepared : List Bool → Option RunningTransfer → Type 0
+IsPrepared made x = IfSome x (λ r. OnPages made (destinations r.transfer))
+
+-- The view is sound, the memory is what it shows, flags and marks are the object's, each queue is its channel's, and what runs
+-- finds its pages.
 pub record Holds (p : Parts) : Type 0 where
   pub sound : IsSound (view_of p)
   pub shown : p.memory ≡ memory_of (view_of p)
@@ -60,3 +73,4 @@ pub record Holds (p : Parts) : Type 0 where
   pub marks : p.marks ≡ (object_of (view_of p)).marks
   pub each : (ch : ℕ) (d : Queue) → ch < length p.queues →
       IsQueue ch p.history p.memory (slice_index_or p.queues ch d) (channel (object_of (view_of p)) ch)
+  pub prepared : (ch : ℕ) → IsPrepared p.made (runs (object_of (view_of p)) (view_of p).schedule ch)

@@ -9,7 +9,8 @@ abbrev pub parts_of : Inside → Parts
 parts_of e =
     record {
       size = e.size;
-      memory = e.memory;
+      memory = e.memory.image;
+      made = e.memory.made;
       events = e.events;
       marks = e.marks;
       queues = e.queues.items;

@@ -1,6 +1,6 @@
 //! The engine.
 
-ghost use Rattle.std.specs.Prelude.{◌≡◌, ◌≢◌, ◌+◌, ◌-◌, ◌<◌, ◌≤◌, ℕ, IsTrue, IsNone, IsSome, is_none, vec_len, vec_capacity, Ok, IfOk, IfErr, OnOk, OnErr, None, unwrap_or, IfSome, replicate, ◌++◌, ◌∷◌, [], false, if◌then◌else◌};
+ghost use Rattle.std.specs.Prelude.{◌≡◌, ◌≢◌, ◌+◌, ◌-◌, ◌<◌, ◌≤◌, ℕ, IsTrue, IsNone, IsSome, is_none, vec_len, vec_capacity, Ok, IfOk, IfErr, OnOk, OnErr, None, unwrap_or, IfSome, replicate, take, drop, length, ◌++◌, ◌∷◌, [], false, if◌then◌else◌};
 ghost use Rattle.std.specs.Option.{option_map};
 ghost use Rattle.dma_mem.specs.Rules.{IsTransfer};
 ghost use Rattle.dma_engine.specs.Object.{channel, used, finished, finished_all, unfinished, is_failure};
@@ -19,7 +19,6 @@ use crate::outcome::{Outcome, TransResult};
 use crate::queue::Queue;
 use crate::turn::{Running, Status, Turn};
 use crate::way::Way;
-use dma_chan::compile::compile;
 use dma_chan::next::Next;
 use dma_chan::turn::{ChanTurn, FaultKind};
 use dma_insn::insn::Insn;
@@ -62,7 +61,7 @@ impl Model for Engine {
     ghost use Rattle.dma_engine.specs.Holds.{view_of, Holds};
     ghost use Rattle.dma_engine.specs.Inside.{parts_of, room_of};
 
-    ghost view = { λ e. record { view = view_of (parts_of e); memory = e.memory; room = room_of e } };
+    ghost view = { λ e. record { view = view_of (parts_of e); memory = e.memory.image; room = room_of e } };
 
     ghost invariant = { λ e. Holds (parts_of e) };
 }
@@ -253,19 +252,7 @@ impl Engine {
         requires { index < channels self.now.view }
         ensures { option_map (λ p. (p.0.now, p.1)) result ≡ front_told (channel (object_of self.now.view) index) }
     {
-        let queue = &self.queues[index];
-        let finished = queue.outcomes.len();
-        if finished >= queue.issued as usize {
-            return None;
-        }
-        match &self.history[queue.places.at(finished)] {
-            Entry::Submitted {
-                transfer,
-                cookie,
-                ..
-            } => Some((transfer, *cookie)),
-            _ => unreachable!(),
-        }
+        self.queues[index].front_in(&self.history)
     }
 
     // The transfer that runs on a channel, with its cookie.
@@ -316,10 +303,13 @@ impl Engine {
         let Ok(kept) = Bytes::from_slice(self.alloc, bytes) else {
             return Err(EngineFault::NoMemory);
         };
-        if !added(&mut self.history, Entry::Wrote { addr, bytes: kept }) {
+        let Ok(()) = self.history.reserve(1) else {
             return Err(EngineFault::NoMemory);
-        }
+        };
         let Ok(()) = self.memory.write(addr, bytes) else {
+            return Err(EngineFault::NoMemory);
+        };
+        let Ok(()) = self.history.push(Entry::Wrote { addr, bytes: kept }) else {
             unreachable!();
         };
         Ok(())
@@ -340,7 +330,7 @@ impl Engine {
         if let Some((ch, cookie)) = self.first_in_the_way(&Way::Read(range)) {
             return Err(EngineFault::Busy { ch, cookie });
         }
-        let Ok(answer) = Bytes::from_slice(self.alloc, self.memory.slice(addr, len)) else {
+        let Some(answer) = bytes_of(self.alloc, &self.memory, addr, len) else {
             return Err(EngineFault::NoMemory);
         };
         let Ok(kept) = Bytes::from_slice(self.alloc, answer.as_slice()) else {
@@ -680,11 +670,10 @@ impl Engine {
         if let Some((ch, cookie)) = self.first_in_the_way(&Way::Start(transfer)) {
             return Ok(Turn::Held { ch, cookie });
         }
-        let Ok(program) = compile(self.alloc, transfer) else {
-            return Err(EngineFault::NoMemory);
-        };
         let queue = &mut self.queues[index];
-        queue.channel.load(program);
+        if !queue.start(self.alloc, &self.history, &mut self.memory) {
+            return Err(EngineFault::NoMemory);
+        }
         Ok(Turn::Started(cookie))
     }
 
@@ -981,6 +970,21 @@ fn is_failure(how: TransResult) -> bool
         TransResult::ReadFailed | TransResult::WriteFailed => true,
         TransResult::NoError | TransResult::Aborted => false,
     }
+}
+
+// The bytes of a memory from an address on, if there is memory for them.
+fn bytes_of(alloc: Global, memory: &Memory, addr: u32, len: u32) -> Option<Bytes>
+    requires { addr + len ≤ length memory.now.image }
+    ensures { IfSome result (λ bytes. bytes ≡ take len (drop addr memory.now.image)) }
+{
+    if let Some(part) = memory.part(addr, len) {
+        return Bytes::from_slice(alloc, part).ok();
+    }
+    let mut bytes = vec![in alloc; 0; len as usize].ok()?;
+    let Ok(()) = memory.read_into(addr, &mut bytes) else {
+        unreachable!();
+    };
+    Some(Bytes::from_vec(bytes))
 }
 
 // Adds an entry, if there is memory for it.

@@ -44,8 +44,8 @@ pub enum NewFault {
     /// The number of channels is 0 or above 8.
     #[error("the number of channels is not 1 to 8")]
     BadChannels,
-    /// The size is 0 or above 16,777,216 bytes.
-    #[error("the size is not 1 to 16777216 bytes")]
+    /// The size is 0 or above 4,294,963,200 bytes.
+    #[error("the size is not 1 to 4294963200 bytes")]
     SizeOutOfRange,
     /// Memory was wanting.
     #[error("out of memory")]

@@ -94,6 +94,38 @@ fn steps_in_a_row(rt: HostRuntime) -> Result<(), Fail> {
     Ok(())
 }
 
+// The size stands here as a parameter, so that no proof computes with a memory of this many bytes.
+fn engine_of(alloc: Global, size: u32) -> Result<Engine, Fail> {
+    Ok(Engine::new(alloc, size, 1)?)
+}
+
+#[test]
+fn a_copy_from_the_last_addresses(rt: HostRuntime) -> Result<(), Fail> {
+    let mut engine = engine_of(rt.alloc(), 4_294_963_200)?;
+    engine.write(0xFFFF_EFFC, &[1, 2, 3, 4])?;
+    assert_eq!(rt;
+        engine.write(0xFFFF_EFFD, &[1, 2, 3, 4]),
+        Err(EngineFault::OutOfMemoryRange)
+    );
+    submitted(
+        &mut engine,
+        0,
+        copy_of_four(rt.alloc(), 0xFFFF_EFFC, 0x0FFE)?,
+    )?;
+    assert_eq!(rt; engine.issue(0)?, 1);
+    assert_eq!(rt; engine.step(0)?, Turn::Started(1));
+    assert_eq!(rt; advance(&mut engine, 0, 100).moved, 7);
+    // over two pages, which the start made
+    assert_eq!(rt;
+        engine.read(0x0FFD, 6)?.as_slice(),
+        [0, 1, 2, 3, 4, 0].as_slice()
+    );
+    // over a page that is made and one that isn't
+    assert_eq!(rt; engine.read(0x1FFF, 2)?.as_slice(), [0, 0].as_slice());
+    assert_eq!(rt; engine.read(0xFFFF_F000, 0)?.len(), 0);
+    Ok(())
+}
+
 #[test]
 fn pause_resume_and_terminate(rt: HostRuntime) -> Result<(), Fail> {
     let mut engine = Engine::new(rt.alloc(), 0x400, 1)?;

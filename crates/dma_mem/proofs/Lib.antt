@@ -9,3 +9,4 @@ pub mod Passes
 pub mod Marked
 pub mod Tables
 pub mod Paging
+pub mod Prepared

@@ -1,15 +1,20 @@
 //! A memory of bytes.
 
-ghost use Rattle.std.specs.Prelude.{◌≡◌, ◌+◌, ◌≤◌, length, ◌++◌, take, drop, replicate, slice_get, nat_lt, if◌then◌else◌, IsTrue, IfOk, IfErr, OnOk, OnErr};
+ghost use Rattle.std.specs.Prelude.{◌≡◌, ℕ, ◌+◌, ◌%◌, ◌/◌, ◌≤◌, ◌++◌, length, take, drop, replicate, slice_get, nat_lt, true, false, if◌then◌else◌, IsTrue, IfOk, IfErr, IfSome, IsSome, OnOk, OnErr};
+ghost use Rattle.std.specs.List.{list_all, range_with_len};
+ghost use Rattle.dma_mem.specs.Places.{range_of, places, all_below};
 ghost use Rattle.dma_mem.specs.Image.{put, bytes_at};
+ghost use Rattle.dma_mem.specs.Pages.{has_page, is_made, AllMade, Keeps, MakesNoOther};
 ghost use Rattle.dma_mem.specs.Sizes.{is_size};
 
-use std::alloc::Global;
+use crate::pages::{MAX_PAGED_SIZE, Pages};
+use crate::segment::Segment;
+use std::alloc::{AllocError, Global};
 use std::marker::Model;
 use thiserror::Error;
 
 /// The most bytes that a memory has.
-pub const MAX_SIZE: u32 = 16_777_216;
+pub const MAX_SIZE: u32 = MAX_PAGED_SIZE;
 
 /// Why a call on a memory was refused.
 #[derive(Clone, Copy, Debug, PartialEq, Eq, Error)]
@@ -22,74 +27,59 @@ pub enum MemFault {
     NoMemory,
 }
 
-/// Bytes at the addresses from 0 up to a size of 1 to [`MAX_SIZE`] (profile). Contracts see it as its image.
+/// Bytes at the addresses from 0 up to a size of 1 to [`MAX_SIZE`] (profile), on [`Pages`] that are made on first write.
+/// Contracts see its image, and which of its pages are made.
 #[derive(Debug, Drop)]
 pub struct Memory {
-    bytes: Vec<u8>,
+    pages: Pages,
 }
 
 impl Model for Memory {
-    ghost use Rattle.std.specs.Prelude.{List, ℕ, ◌≤◌, length};
-    ghost use Rattle.dma_mem.specs.declared.memory.TheConstants.{MAX_SIZE};
+    ghost use Rattle.dma_mem.specs.Pages.{Paged};
 
-    ghost Value = { List ℕ };
+    ghost Value = { Paged };
 
-    ghost view = { λ m. m.bytes.items };
-
-    ghost invariant = { λ m. (1 ≤ length m.bytes.items) × (length m.bytes.items ≤ MAX_SIZE) };
-}
-
-/// Puts the bytes at `start` and after it.
-fn put_bytes(all: &mut [u8], start: usize, bytes: &[u8])
-    requires { start + length bytes.now ≤ length all.old }
-    ensures { all.new ≡ put all.old (bytes_at start bytes.now) }
-{
-    all[start..start + bytes.len()].copy_from_slice(bytes);
-}
-
-/// Puts the bytes of two slices, those of the second behind those of the first, at `start` and after it.
-#[tactic(auto, using(crate::proofs::Ranges::put_parts))]
-pub(crate) fn put_parts(all: &mut [u8], start: usize, front: &[u8], back: &[u8])
-    requires { start + length front.now + length back.now ≤ length all.old }
-    ensures { all.new ≡ put all.old (bytes_at start (front.now ++ back.now)) }
-{
-    put_bytes(all, start, front);
-    // The second is mostly empty, and a copy of no bytes would still be a call.
-    if !back.is_empty() {
-        put_bytes(all, start + front.len(), back);
-    }
+    ghost view = { λ m. m.pages };
 }
 
 impl Memory {
-    /// A memory of zeros.
+    /// A memory of zeros, without a page.
     ///
     /// The error is `SizeOutOfRange` for a size of 0 or above [`MAX_SIZE`], else `NoMemory`.
     pub fn new(alloc: Global, size: u32) -> Result<Memory, MemFault>
-        ensures ok { IfOk result (λ memory. memory ≡ replicate size 0) }
+        ensures image { IfOk result (λ memory. memory.image ≡ replicate size 0) }
+        ensures none { IfOk result (λ memory. (p : ℕ) → has_page memory p ≡ false) }
         ensures size { OnOk result (IsTrue (is_size size)) }
         ensures err { IfErr result (λ fault. fault ≡ (if is_size size then MemFault.NoMemory else MemFault.SizeOutOfRange)) }
     {
         if size == 0 || size > MAX_SIZE {
             return Err(MemFault::SizeOutOfRange);
         }
-        let bytes = vec![in alloc; 0u8; size as usize].map_err(|_| MemFault::NoMemory)?;
-        Ok(Memory { bytes })
+        match Pages::new(alloc, size) {
+            Ok(pages) => Ok(Memory { pages }),
+            Err(_) => Err(MemFault::NoMemory),
+        }
     }
 
     /// How many bytes it has.
     pub fn size(&self) -> u32
-        ensures size { result ≡ length self.now }
+        ensures size { result ≡ length self.now.image }
         ensures low { 1 ≤ result }
         ensures high { result ≤ MAX_SIZE }
     {
-        self.bytes.len() as u32
+        self.pages.size()
     }
 
     /// The byte at an address, or none at or above the size.
     pub fn byte(&self, addr: u32) -> Option<u8>
-        ensures { result ≡ slice_get self.now addr }
+        ensures { result ≡ slice_get self.now.image addr }
     {
-        self.bytes.get(addr as usize).copied()
+        if addr >= self.pages.size() {
+            return None;
+        }
+        let mut byte = [0];
+        self.pages.read_into(addr, &mut byte);
+        Some(byte[0])
     }
 
     /// Fills the slice with the bytes from an address on.
@@ -97,51 +87,126 @@ impl Memory {
     /// The error is `OutOfMemoryRange` where the address plus the slice's length is above the size. The slice then stays
     /// as it was.
     pub fn read_into(&self, addr: u32, buf: &mut [u8]) -> Result<(), MemFault>
-        ensures result { result ≡ (if nat_lt (length self.now) (addr + length buf.old) then Err MemFault.OutOfMemoryRange else Ok tt) }
-        ensures ok { OnOk result (buf.new ≡ take (length buf.old) (drop addr self.now)) }
+        ensures result { result ≡ (if nat_lt (length self.now.image) (addr + length buf.old) then Err MemFault.OutOfMemoryRange else Ok tt) }
+        ensures ok { OnOk result (buf.new ≡ take (length buf.old) (drop addr self.now.image)) }
         ensures err { OnErr result (buf.new ≡ buf.old) }
     {
-        let start = addr as usize;
-        let end = start + buf.len();
-        if end > self.bytes.len() {
+        if addr as usize + buf.len() > self.pages.size() as usize {
             return Err(MemFault::OutOfMemoryRange);
         }
-        buf.copy_from_slice(&self.bytes[start..end]);
+        self.pages.read_into(addr, buf);
         Ok(())
     }
 
-    /// The bytes from an address on, so many.
-    pub fn slice(&self, addr: u32, len: u32) -> &[u8]
-        requires { addr + len ≤ length self.now }
-        ensures { result.now ≡ take len (drop addr self.now) }
-    {
-        let start = addr as usize;
-        &self.bytes[start..start + len as usize]
-    }
-
-    /// Writes the bytes of two slices, those of the second behind those of the first, from an address on.
-    pub fn write_parts(&mut self, addr: u32, front: &[u8], back: &[u8])
-        requires { addr + length front.now + length back.now ≤ length self.old }
-        ensures { self.new ≡ put self.old (bytes_at addr (front.now ++ back.now)) }
-    {
-        put_parts(&mut self.bytes, addr as usize, front, back);
-    }
-
-    /// Writes the bytes from an address on.
+    /// Makes the pages of a segment, of zeros, where they aren't made.
     ///
-    /// The error is `OutOfMemoryRange` where the address plus the number of bytes is above the size. The memory then stays
-    /// as it was.
-    pub fn write(&mut self, addr: u32, bytes: &[u8]) -> Result<(), MemFault>
-        ensures result { result ≡ (if nat_lt (length self.old) (addr + length bytes.now) then Err MemFault.OutOfMemoryRange else Ok tt) }
-        ensures ok { OnOk result (self.new ≡ put self.old (bytes_at addr bytes.now)) }
-        ensures err { OnErr result (self.new ≡ self.old) }
+    /// The error is `OutOfMemoryRange` where the segment ends above the size, and nothing has changed; else `NoMemory`, and
+    /// some of its pages may have been made.
+    pub fn prepare(&mut self, segment: Segment) -> Result<(), MemFault>
+        ensures ok { OnOk result (AllMade self.new (range_of segment)) }
+        ensures within { OnOk result (segment.addr + segment.len ≤ length self.old.image) }
+        ensures short { segment.addr + segment.len ≤ length self.old.image → OnErr result (¬ AllMade self.new (range_of segment)) }
+        ensures image { self.new.image ≡ self.old.image }
+        ensures keeps { Keeps self.old self.new }
+        ensures others { MakesNoOther self.old self.new (range_of segment) }
+        ensures err { IfErr result (λ fault. fault ≡ (if nat_lt (length self.old.image) (segment.addr + segment.len) then MemFault.OutOfMemoryRange else MemFault.NoMemory)) }
+        ensures refused { nat_lt (length self.old.image) (segment.addr + segment.len) ≡ true → self.new ≡ self.old }
     {
-        let start = addr as usize;
-        if start + bytes.len() > self.bytes.len() {
+        if segment.addr as usize + segment.len as usize > self.pages.size() as usize {
             return Err(MemFault::OutOfMemoryRange);
         }
-        put_bytes(&mut self.bytes, start, bytes);
+        match self.pages.prepare(segment) {
+            Ok(()) => Ok(()),
+            Err(_) => Err(MemFault::NoMemory),
+        }
+    }
+
+    /// Makes the pages of all segments of a list, one after another.
+    ///
+    /// The error is that of the first that is refused, and some pages may have been made.
+    pub fn prepare_all(&mut self, list: &[Segment]) -> Result<(), MemFault>
+        ensures ok { OnOk result (AllMade self.new (places list.now)) }
+        ensures short { all_below list.now (length self.old.image) ≡ true → OnErr result (¬ AllMade self.new (places list.now)) }
+        ensures image { self.new.image ≡ self.old.image }
+        ensures keeps { Keeps self.old self.new }
+        ensures others { MakesNoOther self.old self.new (places list.now) }
+        ensures err { all_below list.now (length self.old.image) ≡ true → IfErr result (λ fault. fault ≡ MemFault.NoMemory) }
+    {
+        for s in list {
+            match self.prepare(*s) {
+                Ok(()) => {}
+                Err(fault) => return Err(fault),
+            }
+        }
         Ok(())
+    }
+
+    /// Whether each address of a segment lies below the size and on a page.
+    pub fn made(&self, segment: Segment) -> bool
+        ensures { result ≡ list_all (is_made self.now) (range_of segment) }
+    {
+        self.pages.made(segment)
+    }
+
+    /// The bytes from an address on, so many, in place, where one page that is made has them all: a look-up and no copy.
+    pub fn part(&self, addr: u32, len: u32) -> Option<&[u8]>
+        requires { addr + len ≤ length self.now.image }
+        ensures bytes { IfSome result (λ part. part.now ≡ take len (drop addr self.now.image)) }
+        ensures some { has_page self.now (addr / 4096) ≡ true → addr % 4096 + len ≤ 4096 → IsSome result }
+    {
+        self.pages.part(addr, len)
+    }
+
+    /// The bytes from an address on, as many as the block has: in place where one page that is made has them all, else the
+    /// block, filled with them.
+    pub fn bytes<'a>(&'a self, addr: u32, block: &'a mut [u8]) -> &'a [u8]
+        requires { addr + length block.old ≤ length self.now.image }
+        ensures { result.now ≡ take (length block.old) (drop addr self.now.image) }
+    {
+        self.pages.bytes(addr, block)
+    }
+
+    /// Writes the bytes of two slices, those of the second behind those of the first, from an address on, to pages that
+    /// are made.
+    pub fn write_parts(&mut self, addr: u32, front: &[u8], back: &[u8])
+        requires within { addr + length front.now + length back.now ≤ length self.old.image }
+        requires made { AllMade self.old (range_with_len addr (length front.now + length back.now)) }
+        ensures image { self.new.image ≡ put self.old.image (bytes_at addr (front.now ++ back.now)) }
+        ensures made { self.new.made ≡ self.old.made }
+    {
+        self.pages.write_parts(addr, front, back);
+    }
+
+    /// Writes the bytes from an address on, and makes their pages first.
+    ///
+    /// The error is `OutOfMemoryRange` where the address plus the number of bytes is above the size, and nothing has changed;
+    /// else `NoMemory`: the image is as it was, and some of the pages may have been made.
+    pub fn write(&mut self, addr: u32, bytes: &[u8]) -> Result<(), MemFault>
+        ensures ok { OnOk result (self.new.image ≡ put self.old.image (bytes_at addr bytes.now)) }
+        ensures err { OnErr result (self.new.image ≡ self.old.image) }
+        ensures fault { IfErr result (λ fault. fault ≡ (if nat_lt (length self.old.image) (addr + length bytes.now) then MemFault.OutOfMemoryRange else MemFault.NoMemory)) }
+        ensures within { OnOk result (addr + length bytes.now ≤ length self.old.image) }
+        ensures made { OnOk result (AllMade self.new (range_with_len addr (length bytes.now))) }
+        ensures short { addr + length bytes.now ≤ length self.old.image → OnErr result (¬ AllMade self.new (range_with_len addr (length bytes.now))) }
+        ensures keeps { Keeps self.old self.new }
+        ensures others { MakesNoOther self.old self.new (range_with_len addr (length bytes.now)) }
+        ensures refused { nat_lt (length self.old.image) (addr + length bytes.now) ≡ true → self.new ≡ self.old }
+    {
+        if addr as usize + bytes.len() > self.pages.size() as usize {
+            return Err(MemFault::OutOfMemoryRange);
+        }
+        match self.pages.write(addr, bytes) {
+            Ok(()) => Ok(()),
+            Err(_) => Err(MemFault::NoMemory),
+        }
+    }
+
+    /// The same memory again, in memory of its own.
+    pub fn try_copy(&self) -> Result<Memory, AllocError>
+        ensures { IfOk result (λ copy. copy ≡ self.now) }
+    {
+        let pages = self.pages.try_copy()?;
+        Ok(Memory { pages })
     }
 }
 
@@ -166,11 +231,53 @@ mod tests {
     #[test]
     fn lends_and_takes_bytes_in_place(rt: HostRuntime) -> Result<(), Fail> {
         let mut memory = Memory::new(rt.alloc(), 64)?;
+        memory.prepare(Segment { addr: 0x20, len: 3 })?;
+        assert!(rt; memory.size() == 64);
         memory.write_parts(0x20, &[0xAA, 0xBB], &[0xCC]);
         assert!(rt; memory.size() == 64);
         let around = [0, 0xAA, 0xBB, 0xCC, 0];
-        assert_eq!(rt; memory.slice(0x1F, 5), around.as_slice());
-        assert!(rt; memory.slice(64, 0).is_empty());
+        assert_eq!(rt; memory.part(0x1F, 5), Some(around.as_slice()));
+        let mut block = [9; 5];
+        assert_eq!(rt; memory.bytes(0x1F, &mut block), around.as_slice());
+        Ok(())
+    }
+
+    #[test]
+    fn makes_the_pages_of_a_segment(rt: HostRuntime) -> Result<(), Fail> {
+        let mut memory = Memory::new(rt.alloc(), 0x4000)?;
+        let first = Segment {
+            addr: 0x1000,
+            len: 1,
+        };
+        assert!(rt; !memory.made(first));
+        memory.prepare_all(&[Segment {
+            addr: 0x1FFF,
+            len: 2,
+        }])?;
+        assert!(rt; memory.made(first));
+        let copy = memory.try_copy()?;
+        assert!(rt; copy.made(first));
+        assert_eq!(rt;
+            memory.prepare(Segment {
+                addr: 0x4000,
+                len: 1
+            }),
+            Err(MemFault::OutOfMemoryRange)
+        );
+        Ok(())
+    }
+
+    #[test]
+    fn writes_up_to_the_last_address(rt: HostRuntime) -> Result<(), Fail> {
+        let mut memory = Memory::new(rt.alloc(), MAX_SIZE)?;
+        memory.write(0xFFFF_EFFC, &[1, 2, 3, 4])?;
+        assert_eq!(rt;
+            memory.write(0xFFFF_EFFD, &[1, 2, 3, 4]),
+            Err(MemFault::OutOfMemoryRange)
+        );
+        let mut buf = [9; 6];
+        memory.read_into(0xFFFF_EFFA, &mut buf)?;
+        assert_eq!(rt; buf, [0, 0, 1, 2, 3, 4]);
         Ok(())
     }
 
@@ -197,15 +304,18 @@ mod tests {
     }
 
     #[test]
-    fn has_1_to_16_777_216_bytes(rt: HostRuntime) -> Result<(), Fail> {
+    fn has_1_to_4_294_963_200_bytes(rt: HostRuntime) -> Result<(), Fail> {
         assert_eq!(rt;
             Memory::new(rt.alloc(), 0).err(),
             Some(MemFault::SizeOutOfRange)
         );
         assert_eq!(rt; Memory::new(rt.alloc(), 1)?.size(), 1);
-        assert_eq!(rt; Memory::new(rt.alloc(), 16_777_216)?.size(), 16_777_216);
         assert_eq!(rt;
-            Memory::new(rt.alloc(), 16_777_217).err(),
+            Memory::new(rt.alloc(), 4_294_963_200)?.size(),
+            4_294_963_200
+        );
+        assert_eq!(rt;
+            Memory::new(rt.alloc(), 4_294_963_201).err(),
             Some(MemFault::SizeOutOfRange)
         );
         Ok(())

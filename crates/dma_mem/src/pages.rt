@@ -93,6 +93,19 @@ impl Pages {
         self.table.part(addr as usize, len as usize)
     }
 
+    /// The bytes from an address on, as many as the block has: in place where one page that is made has them all, else the
+    /// block, filled with them.
+    pub fn bytes<'a>(&'a self, addr: u32, block: &'a mut [u8]) -> &'a [u8]
+        requires { addr + length block.old ≤ length self.now.image }
+        ensures { result.now ≡ take (length block.old) (drop addr self.now.image) }
+    {
+        if let Some(part) = self.table.part(addr as usize, block.len()) {
+            return part;
+        }
+        self.table.read(addr as usize, block);
+        block
+    }
+
     /// Fills the slice with the bytes from an address on.
     pub fn read_into(&self, addr: u32, buf: &mut [u8])
         requires { addr + length buf.old ≤ length self.now.image }

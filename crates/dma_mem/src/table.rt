@@ -4,7 +4,6 @@ ghost use Rattle.std.specs.Prelude.{◌≡◌, ◌≢◌, ℕ, ◌+◌, ◌*◌,
 ghost use Rattle.dma_mem.specs.Image.{put, bytes_at};
 ghost use Rattle.dma_mem.specs.Pages.{page_at, IsLaid, image_of};
 
-use crate::memory::put_parts;
 use std::alloc::{AllocError, Global};
 use std::marker::Model;
 
@@ -20,6 +19,27 @@ fn zeros(alloc: Global, len: usize) -> Result<Vec<u8>, AllocError>
     ensures zero { IfOk result (λ v. (k : ℕ) → slice_index v.items k ≡ 0) }
 {
     vec![in alloc; 0u8; len]
+}
+
+// Puts the bytes at `start` and after it.
+fn put_bytes(all: &mut [u8], start: usize, bytes: &[u8])
+    requires { start + length bytes.now ≤ length all.old }
+    ensures { all.new ≡ put all.old (bytes_at start bytes.now) }
+{
+    all[start..start + bytes.len()].copy_from_slice(bytes);
+}
+
+// Puts the bytes of two slices, those of the second behind those of the first, at `start` and after it.
+#[tactic(auto, using(crate::proofs::Ranges::put_parts))]
+fn put_parts(all: &mut [u8], start: usize, front: &[u8], back: &[u8])
+    requires { start + length front.now + length back.now ≤ length all.old }
+    ensures { all.new ≡ put all.old (bytes_at start (front.now ++ back.now)) }
+{
+    put_bytes(all, start, front);
+    // The second is mostly empty, and a copy of no bytes would still be a call.
+    if !back.is_empty() {
+        put_bytes(all, start + front.len(), back);
+    }
 }
 
 // A page: 4,096 bytes where it is made, else none.

@@ -34,7 +34,7 @@ memory_again = refl
 size_before_channels : run_script_of (codes "memory 0 9") ≡ Err (record { line = 1; cause = SizeOutOfRange })
 size_before_channels = refl
 
-too_large : run_script_of (codes "memory 16777217 1") ≡ Err (record { line = 1; cause = SizeOutOfRange })
+too_large : run_script_of (codes "memory 4294963201 1") ≡ Err (record { line = 1; cause = SizeOutOfRange })
 too_large = refl
 
 channels_out_of_range : run_script_of (codes "memory 64 300" ++ 10 ∷ 128 ∷ []) ≡ Err (record { line = 1; cause = BadChannels })
@@ -82,7 +82,7 @@ printed_address = refl
 printed_bytes : spaced_bytes (0 ∷ 170 ∷ []) ≡ codes " 00 AA"
 printed_bytes = refl
 
-largest_memory : run_script_of (codes "memory 16777216 8") ≡ Ok (record { size = 16777216; channels = 8; statements = [] })
+largest_memory : run_script_of (codes "memory 4294963200 8") ≡ Ok (record { size = 4294963200; channels = 8; statements = [] })
 largest_memory = refl
 
 no_program_line : program_lines [] ≡ []

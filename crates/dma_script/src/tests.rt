@@ -103,9 +103,10 @@ fn longest_inputs(rt: HostRuntime) -> Result<(), Fail> {
 
 #[test]
 fn no_faults(rt: HostRuntime) -> Result<(), Fail> {
-    let cases: [&[u8]; 16] = [
+    let cases: [&[u8]; 17] = [
         b"memory 1 1",
-        b"memory 16777216 8\n",
+        b"memory 16777217 1",
+        b"memory 4294963200 8\n",
         b"\n \t\n# any bytes: \x00\x80\xFF\r\r\n#\n\t memory\t 0x40  0x1 \r\nread 0+0",
         b"memory 64 1\r\nread 0x1F+5\r\n",
         b"memory 00064 0001\nread 0000000000000000000031+0x0000000000000000000005\n",
@@ -262,7 +263,7 @@ fn faults_of_channel_lines(rt: HostRuntime) -> Result<(), Fail> {
 #[test]
 fn faults_of_the_memory_line(rt: HostRuntime) -> Result<(), Fail> {
     let cases: [(&[u8], Cause); 7] = [
-        (b"memory 16777217 1", Cause::SizeOutOfRange),
+        (b"memory 4294963201 1", Cause::SizeOutOfRange),
         (b"memory 4294967295 1", Cause::SizeOutOfRange),
         (b"memory 4294967296 1", Cause::Number),
         (b"memory 64 0", Cause::BadChannels),

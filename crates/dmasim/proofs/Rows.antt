@@ -28,7 +28,7 @@ numbered words n = words ++ decimal n
 no_line : (printed []).groups ≡ one_each (fault_line (record { line = 0; cause = First }) ∷ [])
 no_line = refl
 
-too_large : (printed (script (codes "memory 16777217 1" ∷ []))).groups ≡ one_each (fault_line (record { line = 1; cause = SizeOutOfRange }) ∷ [])
+too_large : (printed (script (codes "memory 4294963201 1" ∷ []))).groups ≡ one_each (fault_line (record { line = 1; cause = SizeOutOfRange }) ∷ [])
 too_large = refl
 
 writes_and_reads : (printed (script (codes "memory 4 1" ∷ codes "write 1 AA BB" ∷ codes "read 0+4" ∷ codes "write 3 AA BB" ∷ codes "read 4+0" ∷ codes "totals" ∷ []))).groups ≡ [] ∷ one_each (codes "ok" ∷ codes "read 0x00000000 00 AA BB 00" ∷ codes "refused OutOfMemoryRange" ∷ codes "read 0x00000004" ∷ totals_line 3 0 0 ∷ [])

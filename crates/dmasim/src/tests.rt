@@ -292,7 +292,7 @@ fn planned_refusals(rt: HostRuntime) -> Result<(), Fail> {
 
 #[test]
 fn whole_runs(rt: HostRuntime) -> Result<(), Fail> {
-    let cases: [(&[u8], u8, &[u8]); 10] = [
+    let cases: [(&[u8], u8, &[u8]); 12] = [
         (b"", 1, b"line 0: First\n"),
         (b"# no line\n\n", 1, b"line 0: First\n"),
         (b"memory 1 8", 0, b""),
@@ -301,7 +301,13 @@ fn whole_runs(rt: HostRuntime) -> Result<(), Fail> {
             0,
             b"refused SourceMeetsDestination\nrefused OutOfMemoryRange\nrefused OutOfMemoryRange\nread 0x0000000F 00\n",
         ),
-        (b"memory 16777217 1\n", 1, b"line 1: SizeOutOfRange\n"),
+        (b"memory 4294963201 1\n", 1, b"line 1: SizeOutOfRange\n"),
+        (b"memory 16777217 1\n", 0, b""),
+        (
+            b"memory 4294963200 1\nwrite 0xFFFFEFFC 01 02 03 04\ncopy 0xFFFFEFFC+4 to 0xFFE+4\nread 0xFFE+4\nwrite 0xFFFFEFFD 01 02 03 04\n",
+            0,
+            b"ok\ncopy finished 1 NoError residue 0\nread 0x00000FFE 01 02 03 04\nrefused OutOfMemoryRange\n",
+        ),
         (b"memory 64 300\n", 1, b"line 1: BadChannels\n"),
         (
             b"memory 16 1\nread 16+0\nread 16+1\n",

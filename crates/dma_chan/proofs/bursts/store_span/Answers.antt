@@ -1,7 +1,12 @@
 use Rattle.std.proofs.Common.{arith}
 use Rattle.dma_chan.proofs.Parts.{span_within}
+use Rattle.dma_chan.proofs.Readies.{span_made}
 use Rattle.dma_chan.proofs.bursts.store_span.Goals as goal
 
-pub write_parts-requires : goal.write_parts-requires
-write_parts-requires c =
+pub write_parts-requires-clause-within : goal.write_parts-requires-clause-within
+write_parts-requires-clause-within c =
     omega (arith, c.past.ensures.len, c.first_of.ensures.len, c.span.ensures.len, c.len-len.ensures.value, c.requires.within, span_within c.args.burst c.requires.some.1)
+
+pub write_parts-requires-clause-made : goal.write_parts-requires-clause-made
+write_parts-requires-clause-made c =
+    span_made c.args.memory.now c.args.burst _ c.requires.some.1 c.requires.ready c.requires.within (omega (arith, c.past.ensures.len, c.first_of.ensures.len, c.span.ensures.len, c.len-len.ensures.value, span_within c.args.burst c.requires.some.1))

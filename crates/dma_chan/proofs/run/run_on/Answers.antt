@@ -1,7 +1,26 @@
-use Rattle.dma_chan.proofs.Runs.{run_on}
+use Rattle.std.proofs.Common.{ℕ, List, refl, sym, ap, ◌∙◌, subst}
+use Rattle.dma_chan.specs.Exec.{State}
+use Rattle.dma_chan.specs.Channel.{state_of}
 use Rattle.dma_chan.specs.Run.{opening}
+use Rattle.dma_chan.proofs.Runs.{HasRun, run_on, stops_unread}
 use Rattle.dma_chan.proofs.run.run_on.Goals as goal
 
 pub loop-turn-preserved : goal.loop-turn-preserved
 loop-turn-preserved c =
-    run_on c.args.program.bytes (opening c.args.memory.now) c.loop-turn.turn c.loop-turn.channel c.step.new.self c.loop-turn.memory c.step.new.memory c.loop-turn.events c.step.new.events c.step.result c.loop-turn.invariant (rw c.new-marks.ensures at c.step.ensures.turn) c.in-Moved.is (rw c.new-marks.ensures at c.step.ensures.memory) (rw c.new-marks.ensures at c.step.ensures.events) (rw c.new-marks.ensures at c.step.ensures.channel)
+    let s = opening c.args.memory.now.image in
+    let image = c.prepare.new.memory.image in
+    let step = c.execute.ensures in
+    let h : HasRun c.args.program.bytes s c.loop-turn.turn c.loop-turn.channel image c.loop-turn.events = subst (λ (i : List ℕ). HasRun c.args.program.bytes s c.loop-turn.turn c.loop-turn.channel i c.loop-turn.events) (sym c.prepare.ensures.image) c.loop-turn.invariant.run in
+    record {
+      run = run_on c.args.program.bytes s c.loop-turn.turn c.loop-turn.channel c.execute.new.self image c.execute.new.memory.image c.loop-turn.events c.execute.new.events c.execute.result h (rw c.new-marks.ensures at step.turn) c.in-Moved.is (rw c.new-marks.ensures at step.memory) (rw c.new-marks.ensures at step.events) (rw c.new-marks.ensures at step.channel);
+      pages = λ p h. rw step.pages (c.prepare.ensures.keeps.made p (c.loop-turn.invariant.pages p h));
+    }
+
+pub returns-in-Err-clause-ok : goal.returns-in-Err-clause-ok
+returns-in-Err-clause-ok c =
+    let s = opening c.args.memory.now.image in
+    let run = c.loop-turn.invariant.run in
+    let image = c.loop-turn.memory.image in
+    let place = c.pc-pc.ensures ∙ sym (ap (λ (s : State). s.registers.pc) run.here) in
+    let unread = sym c.next.ensures ∙ c.in-Err.is in
+    (state_of c.loop-turn.channel image c.loop-turn.events, (c.loop-turn.turn, place, stops_unread c.args.program.bytes s c.args.limit c.loop-turn.turn c.loop-turn.channel image c.loop-turn.events c.in-Err.kind run c.loop-turn-test.true unread), refl)

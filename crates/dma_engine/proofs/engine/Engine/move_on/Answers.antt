@@ -5,7 +5,7 @@ use Rattle.dma_chan.specs.declared.turn.FaultKind.TheVariants.{DataReadErr, Data
 use Rattle.dma_engine.specs.Due.{IsDue, IsNext, Finishes, failure_of}
 use Rattle.dma_engine.specs.Holds.{view_of}
 use Rattle.dma_engine.specs.Inside.{parts_of}
-use Rattle.dma_engine.proofs.Executed.{taken-small, the_step, shared, went_on, went_on-answers, failed, only-so}
+use Rattle.dma_engine.proofs.Executed.{ready-here, taken-small, the_step, shared, went_on, went_on-answers, failed, only-so}
 use Rattle.dma_engine.proofs.Stepping.{GoesOn, due, due-ahead, due-other}
 use Rattle.dma_engine.proofs.engine.Engine.move_on.Goals as goal
 
@@ -23,6 +23,13 @@ execute-turn-requires-clause-count c =
     let d = due p c.self.invariant c.args.ch _ q (IsNext c.args.next) c.from.ensures c.index_mut-queue.ensures.value (rw (← c.self.view_is) at c.requires.due) in
     taken-small p c.args.ch q d.it
 
+pub execute-turn-requires-clause-ready : goal.execute-turn-requires-clause-ready
+execute-turn-requires-clause-ready c =
+    let p = parts_of c.self.inside in
+    let q = c.index_mut-queue.result.now in
+    let d = due p c.self.invariant c.args.ch _ q (IsNext c.args.next) c.from.ensures c.index_mut-queue.ensures.value (rw (← c.self.view_is) at c.requires.due) in
+    ready-here p c.self.invariant c.args.ch q d.it c.self.inside.memory refl
+
 pub invariant_of-self : goal.invariant_of-self
 invariant_of-self c =
     let p = parts_of c.self.inside in
@@ -34,7 +41,7 @@ invariant_of-self c =
     let moved : (step_at d.it.transfer q.channel.taken p.marks (shared p)).0 ≡ Moved = sym one.turn ∙ sym c.execute-turn.ensures.turn ∙ c.in-Moved.is in
     let memory = c.execute-turn.ensures.memory ∙ one.image in
     let flags = c.execute-turn.ensures.events ∙ one.flags in
-    rw (memory, flags, c.execute-turn.ensures.channel, c.from.ensures) (went_on p c.args.ch q c.self.invariant d.less d.read d moved).holds
+    rw (memory, c.execute-turn.ensures.pages, flags, c.execute-turn.ensures.channel, c.from.ensures) (went_on p c.args.ch q c.self.invariant d.less d.read d moved).holds
 
 pub unreachable-requires : goal.unreachable-requires
 unreachable-requires c =
@@ -61,7 +68,7 @@ returns-in-Moved-clause-moved c =
     let one = the_step p c.self.invariant c.args.ch q d.it in
     let moved : (step_at d.it.transfer q.channel.taken p.marks (shared p)).0 ≡ Moved = sym one.turn ∙ sym c.execute-turn.ensures.turn ∙ c.in-Moved.is in
     λ _. rw (← c.self.view_is, c.execute-turn.ensures.channel, c.from.ensures)
-    (went_on-answers p c.args.ch q c.execute-turn.new.memory c.execute-turn.new.events c.self.invariant d.less d.read d moved)
+    (went_on-answers p c.args.ch q c.execute-turn.new.memory.image c.execute-turn.new.events c.self.invariant d.less d.read d moved)
 
 pub returns-in-Fault-clause-fails : goal.returns-in-Fault-clause-fails
 returns-in-Fault-clause-fails c =

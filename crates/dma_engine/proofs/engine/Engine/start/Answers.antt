@@ -1,8 +1,17 @@
-use Rattle.std.proofs.Common.{◌+◌, ◌<◌, arith, length}
-use Rattle.dma_engine.specs.Holds.{view_of}
+use Rattle.std.proofs.Common.{◌≡◌, ◌∙◌, ◌+◌, ◌<◌, Some, ap, arith, length, subst, sym}
+use Rattle.std.specs.Prelude.{is_some, slice_set}
+use Rattle.std.proofs.lemmas.List.{set-get_or}
+use Rattle.dma_mem.specs.Places.{destinations}
+use Rattle.dma_chan.proofs.Readies.{on_pages}
+use Rattle.dma_engine.specs.Due.{front_told}
+use Rattle.dma_engine.specs.Found.{front_in}
+use Rattle.dma_engine.specs.Holds.{Parts, view_of}
 use Rattle.dma_engine.specs.Inside.{parts_of}
 use Rattle.dma_engine.specs.Object.{channel, issued_front, finished}
-use Rattle.dma_engine.specs.View.{object_of}
+use Rattle.dma_engine.specs.Room.{HasRoom}
+use Rattle.dma_engine.specs.View.{EngineState, object_of}
+use Rattle.dma_engine.proofs.Changes.{holds-pages}
+use Rattle.dma_engine.proofs.InTheWay.{few-issued, front_found}
 use Rattle.dma_engine.proofs.Queues.{many-queues}
 use Rattle.dma_engine.proofs.Starts.{front-told, held-answers, holds-started, start-answers, way-clear}
 use Rattle.dma_engine.proofs.engine.Engine.start.Goals as goal
@@ -14,28 +23,71 @@ returns-in-Some-first_in_the_way-clause-answer c =
     let front = front-told (issued_front (channel (object_of v) c.args.ch)) c.in-Some.transfer.now c.in-Some.cookie (finished (channel (object_of v) c.args.ch) + 1) told in
     held-answers v c.args.ch c.in-Some-first_in_the_way.ch c.in-Some-first_in_the_way.cookie c.in-Some.transfer.now c.requires front.0 c.in-Some-first_in_the_way.ensures
 
-pub invariant_of-self : goal.invariant_of-self
-invariant_of-self c =
+pub start-requires-clause-issued : goal.start-requires-clause-issued
+start-requires-clause-issued c =
     let p = parts_of c.self.inside in
-    let v = view_of p in
     let asked = rw (← c.self.view_is) at c.requires in
     let less : c.args.ch < length p.queues = omega (arith, asked.0, many-queues p c.self.invariant) in
     let read = rw c.from-index.ensures at c.index_mut-queue.ensures.value in
-    let told = rw (c.from-index.ensures, ← c.self.view_is) at c.in-Some.ensures in
-    let front = front-told (issued_front (channel (object_of v) c.args.ch)) c.in-Some.transfer.now c.in-Some.cookie (finished (channel (object_of v) c.args.ch) + 1) told in
-    let none = way-clear v c.in-Some.transfer.now (rw (← c.self.view_is) at c.in_default-first_in_the_way.ensures) in
-    rw (c.load.ensures, c.in-Ok.ensures.program, c.from-index.ensures)
-    (holds-started p c.args.ch c.index_mut-queue.result.now c.in-Some.transfer.now c.self.invariant less read asked front.0 none)
+    few-issued p c.self.invariant c.args.ch c.index_mut-queue.result.now less read
+
+pub start-requires-clause-front : goal.start-requires-clause-front
+start-requires-clause-front c =
+    let p = parts_of c.self.inside in
+    let q = c.index_mut-queue.result.now in
+    let asked = rw (← c.self.view_is) at c.requires in
+    let less : c.args.ch < length p.queues = omega (arith, asked.0, many-queues p c.self.invariant) in
+    let read = rw c.from-index.ensures at c.index_mut-queue.ensures.value in
+    let told : Some (c.in-Some.transfer.now, c.in-Some.cookie) ≡ front_told (channel (object_of (view_of p)) c.args.ch) = rw (c.from-index.ensures, ← c.self.view_is) at c.in-Some.ensures in
+    ap is_some (ap (front_in q) c.deref.ensures.value ∙ front_found p c.self.invariant c.args.ch q less read ∙ sym told)
+
+pub invariant_of-self : goal.invariant_of-self
+invariant_of-self c =
+    let p = parts_of c.self.inside in
+    let same : slice_set p.queues c.from-index.result c.start.new.self ≡ p.queues = ap (slice_set p.queues c.from-index.result) (c.start.ensures.refused c.if-not-start.true ∙ c.index_mut-queue.ensures.value) ∙ set-get_or p.queues c.from-index.result c.index_mut-queue.result.now in
+    rw (same, c.start.ensures.image) (holds-pages p c.start.new.memory.made c.self.invariant c.start.ensures.keeps.made)
+
+pub returns-then-not-start-clause-kept : goal.returns-then-not-start-clause-kept
+returns-then-not-start-clause-kept c = λ _ ch room.
+    let p = parts_of c.self.inside in
+    let same : slice_set p.queues c.from-index.result c.start.new.self ≡ p.queues = ap (slice_set p.queues c.from-index.result) (c.start.ensures.refused c.if-not-start.true ∙ c.index_mut-queue.ensures.value) ∙ set-get_or p.queues c.from-index.result c.index_mut-queue.result.now in
+    let before = subst (λ (s : EngineState). HasRoom s ch) (sym c.self.view_is) room in
+    record { entry = before.entry; cookie = rw same before.cookie; outcomes = rw same before.outcomes }
+
+pub invariant_of-self-2 : goal.invariant_of-self-2
+invariant_of-self-2 c =
+    let p = parts_of c.self.inside in
+    let v = view_of p in
+    let ch = c.args.ch in
+    let q = c.index_mut-queue.result.now in
+    let t = c.in-Some.transfer.now in
+    let asked = rw (← c.self.view_is) at c.requires in
+    let less : ch < length p.queues = omega (arith, asked.0, many-queues p c.self.invariant) in
+    let read = rw c.from-index.ensures at c.index_mut-queue.ensures.value in
+    let told : Some (t, c.in-Some.cookie) ≡ front_told (channel (object_of v) ch) = rw (c.from-index.ensures, ← c.self.view_is) at c.in-Some.ensures in
+    let front = front-told (issued_front (channel (object_of v) ch)) t c.in-Some.cookie (finished (channel (object_of v) ch) + 1) told in
+    let none = way-clear v t (rw (← c.self.view_is) at c.in_default-first_in_the_way.ensures) in
+    let is : front_in q c.deref.result.now ≡ Some (t, c.in-Some.cookie) = ap (front_in q) c.deref.ensures.value ∙ front_found p c.self.invariant ch q less read ∙ sym told in
+    let started = rw is at (c.start.ensures.started c.if-not-start.false) in
+    let pages = on_pages c.start.new.memory (destinations t) (rw is at (c.start.ensures.pages c.if-not-start.false)) in
+    let paged : Parts = record p { made = c.start.new.memory.made } in
+    let holds = holds-pages p c.start.new.memory.made c.self.invariant c.start.ensures.keeps.made in
+    rw (started, c.start.ensures.image, c.from-index.ensures) (holds-started paged ch q t holds less read asked front.0 none pages)
 
 pub returns-clause-answer : goal.returns-clause-answer
 returns-clause-answer c =
     let p = parts_of c.self.inside in
     let v = view_of p in
+    let ch = c.args.ch in
+    let q = c.index_mut-queue.result.now in
+    let t = c.in-Some.transfer.now in
     let asked = rw (← c.self.view_is) at c.requires in
-    let less : c.args.ch < length p.queues = omega (arith, asked.0, many-queues p c.self.invariant) in
+    let less : ch < length p.queues = omega (arith, asked.0, many-queues p c.self.invariant) in
     let read = rw c.from-index.ensures at c.index_mut-queue.ensures.value in
-    let told = rw (c.from-index.ensures, ← c.self.view_is) at c.in-Some.ensures in
-    let front = front-told (issued_front (channel (object_of v) c.args.ch)) c.in-Some.transfer.now c.in-Some.cookie (finished (channel (object_of v) c.args.ch) + 1) told in
-    let none = way-clear v c.in-Some.transfer.now (rw (← c.self.view_is) at c.in_default-first_in_the_way.ensures) in
-    rw (← c.self.view_is, c.load.ensures, c.in-Ok.ensures.program, c.from-index.ensures)
-    (start-answers p c.args.ch c.in-Some.cookie c.index_mut-queue.result.now c.in-Some.transfer.now c.self.invariant less read asked front.0 none front.1)
+    let told : Some (t, c.in-Some.cookie) ≡ front_told (channel (object_of v) ch) = rw (c.from-index.ensures, ← c.self.view_is) at c.in-Some.ensures in
+    let front = front-told (issued_front (channel (object_of v) ch)) t c.in-Some.cookie (finished (channel (object_of v) ch) + 1) told in
+    let none = way-clear v t (rw (← c.self.view_is) at c.in_default-first_in_the_way.ensures) in
+    let is : front_in q c.deref.result.now ≡ Some (t, c.in-Some.cookie) = ap (front_in q) c.deref.ensures.value ∙ front_found p c.self.invariant ch q less read ∙ sym told in
+    let started = rw is at (c.start.ensures.started c.if-not-start.false) in
+    rw (← c.self.view_is, started, c.from-index.ensures)
+    (start-answers p ch c.in-Some.cookie q t c.self.invariant less read asked front.0 none front.1)

@@ -1,15 +1,14 @@
-use Rattle.std.proofs.Common.{◌≡◌, ◌+◌, sym, ◌∙◌, ap, subst, length, None, false, refl, arith}
-use Rattle.std.specs.Prelude.{nat_lt}
-use Rattle.std.proofs.lemmas.Bool.{le-ltb}
+use Rattle.std.proofs.Common.{◌≡◌, sym, ◌∙◌, ap, subst, length, None, arith}
 use Rattle.dma_engine.specs.declared.entry.Entry.TheVariants.{Wrote}
 use Rattle.dma_engine.specs.Answer.{write_fault}
 use Rattle.dma_engine.specs.Holds.{view_of}
 use Rattle.dma_engine.specs.Inside.{parts_of}
 use Rattle.dma_engine.specs.Turn.{with_entry}
 use Rattle.dma_engine.specs.View.{View, EngineState, size}
+use Rattle.dma_engine.proofs.Changes.{holds-pages}
 use Rattle.dma_engine.proofs.Answered.{write-out, write-busy, write-free, write-starved, write-done}
 use Rattle.dma_engine.proofs.Entries.{holds-wrote}
-use Rattle.dma_engine.proofs.Sizes.{size-is, memory-size}
+use Rattle.dma_engine.proofs.Sizes.{size-is}
 use Rattle.dma_engine.proofs.engine.Engine.write.Goals as goal
 
 pub returns-then-addr-bytes-clause-answer : goal.returns-then-addr-bytes-clause-answer
@@ -28,19 +27,17 @@ returns-in_default-from_slice-clause-answer c =
     let free = write-free c.args.self.now.view c.args.addr (length c.args.bytes.now) (omega (arith, end, c.if-addr-bytes.false)) c.in_default.ensures in
     write-starved c.args.self.now.view c.args.addr c.args.bytes.now free
 
-pub returns-then-not-added-clause-answer : goal.returns-then-not-added-clause-answer
-returns-then-not-added-clause-answer c =
+pub returns-in_default-reserve-clause-answer : goal.returns-in_default-reserve-clause-answer
+returns-in_default-reserve-clause-answer c =
     let end = size-is (parts_of c.self.inside) ∙ ap (λ (s : EngineState). size s.view) c.self.view_is in
     let free = write-free c.args.self.now.view c.args.addr (length c.args.bytes.now) (omega (arith, end, c.if-addr-bytes.false)) c.in_default.ensures in
-    rw c.if-not-added.ensures.items ((write-starved c.args.self.now.view c.args.addr c.args.bytes.now free).0, ap (λ (s : EngineState). s.view) c.self.view_is)
+    rw c.reserve.ensures.items ((write-starved c.args.self.now.view c.args.addr c.args.bytes.now free).0, ap (λ (s : EngineState). s.view) c.self.view_is)
 
-pub unreachable-requires : goal.unreachable-requires
-unreachable-requires c =
-    let p = parts_of c.self.inside in
-    let long = memory-size p c.self.invariant in
-    let end = size-is p in
-    let fits : nat_lt (length p.memory) (c.args.addr + length c.args.bytes.now) ≡ false = le-ltb _ _ (omega (arith, long, end, c.if-addr-bytes.false)) in
-    c.in_default-write.not-Ok _ (c.write.ensures.result ∙ rw fits refl)
+pub returns-in_default-write-clause-answer : goal.returns-in_default-write-clause-answer
+returns-in_default-write-clause-answer c =
+    let end = size-is (parts_of c.self.inside) ∙ ap (λ (s : EngineState). size s.view) c.self.view_is in
+    let free = write-free c.args.self.now.view c.args.addr (length c.args.bytes.now) (omega (arith, end, c.if-addr-bytes.false)) c.in_default.ensures in
+    rw c.reserve.ensures.items ((write-starved c.args.self.now.view c.args.addr c.args.bytes.now free).0, ap (λ (s : EngineState). s.view) c.self.view_is)
 
 pub invariant_of-self-2 : goal.invariant_of-self-2
 invariant_of-self-2 c =
@@ -50,7 +47,9 @@ invariant_of-self-2 c =
     let n = length c.args.bytes.now in
     let free = write-free c.args.self.now.view c.args.addr n (omega (arith, end, c.if-addr-bytes.false)) c.in_default.ensures in
     let free' : write_fault (view_of p) c.args.addr n ≡ None = subst (λ (w : View). write_fault w c.args.addr n ≡ None) (sym is) free in
-    rw (c.if-not-added.ensures.items, c.in-Ok-write.ensures.ok, c.in-Ok.ensures) (holds-wrote p c.args.addr c.args.bytes.now c.self.invariant free')
+    let paged = record p { made = c.write.new.self.made } in
+    let holds = holds-pages p c.write.new.self.made c.self.invariant c.write.ensures.keeps.made in
+    rw (c.in-Ok-push.ensures.items, c.reserve.ensures.items, c.in-Ok-write.ensures.ok, c.in-Ok.ensures) (holds-wrote paged c.args.addr c.args.bytes.now holds free')
 
 pub returns-clause-answer : goal.returns-clause-answer
 returns-clause-answer c =
@@ -58,4 +57,4 @@ returns-clause-answer c =
     let end = size-is (parts_of c.self.inside) ∙ ap size is in
     let free = write-free c.args.self.now.view c.args.addr (length c.args.bytes.now) (omega (arith, end, c.if-addr-bytes.false)) c.in_default.ensures in
     write-done c.args.self.now.view _ c.args.addr c.args.bytes.now free
-    (rw (c.if-not-added.ensures.items, c.in-Ok.ensures) (ap (λ (w : View). with_entry w (Wrote c.args.addr c.args.bytes.now)) is))
+    (rw (c.in-Ok-push.ensures.items, c.reserve.ensures.items, c.in-Ok.ensures) (ap (λ (w : View). with_entry w (Wrote c.args.addr c.args.bytes.now)) is))

@@ -1,7 +1,7 @@
 use Rattle.std.proofs.Common.{arith, refl, ◌+◌, ◌-◌, ◌≡◌, length}
 use Rattle.dma_mem.proofs.Ranges.{put-bytes_at}
 use Rattle.std.proofs.lemmas.List.{drop-drop}
-use Rattle.dma_mem.proofs.memory.put_bytes.Goals as goal
+use Rattle.dma_mem.proofs.table.put_bytes.Goals as goal
 
 pub returns : goal.returns
 returns c =
