@@ -10,3 +10,6 @@ pub mod Marked
 pub mod Tables
 pub mod Paging
 pub mod Prepared
+pub mod RangeSets
+pub mod Placed
+pub mod Neighbours

@@ -5,3 +5,4 @@ pub mod Sizes
 pub mod Rules
 pub mod Marking
 pub mod Pages
+pub mod Ranges

@@ -50,6 +50,10 @@ is_bad_event (Some event) = nat_lt LAST_EVENT event
 abbrev pub cause : Bool → TransferFault → Option TransferFault → Option TransferFault
 cause holds fault others = if holds then Some fault else others
 
+-- How two lists overlap, if they do: two destinations meet; else a source meets a destination.
+abbrev pub overlap_of : List Segment → List Segment → Option TransferFault
+overlap_of src dst = cause (some_meet dst) DestinationsMeet (cause (meets_any src dst) SourceMeetsDestination None)
+
 -- The first refusal that holds, if one does: each is tested over both lists before the next.
 abbrev pub refusal_of : Descriptor → Option TransferFault
 refusal_of t =

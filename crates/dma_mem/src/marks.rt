@@ -2,9 +2,10 @@
 
 ghost use Rattle.std.specs.Prelude.{◌≡◌, ◌∷◌, ◌++◌, [], OnOk, OnErr};
 ghost use Rattle.std.specs.List.{list_any, range_with_len};
-ghost use Rattle.dma_mem.specs.Marking.{hits, is_marked};
+ghost use Rattle.dma_mem.specs.Marking.{hits, is_marked, AreRangesOf};
 
-use crate::segment::{Segment, meets};
+use crate::ordered::{add_in_order, meets_ordered};
+use crate::segment::Segment;
 use std::alloc::{AllocError, Global};
 use std::marker::Model;
 
@@ -16,9 +17,13 @@ pub enum MarkKind {
 }
 
 /// Segments at which bursts fail (profile). Contracts see them as the list of what was added.
+///
+/// Beside the list stand ranges of the marks of each kind, in which a mark is found by binary search.
 #[derive(Debug, Drop)]
 pub struct Marks {
     list: Vec<(MarkKind, Segment)>,
+    reading: Vec<Segment>,
+    writing: Vec<Segment>,
 }
 
 impl Model for Marks {
@@ -28,15 +33,11 @@ impl Model for Marks {
 
     ghost Value = { List (MarkKind × Segment) };
 
-    ghost view = { λ m. m.list.items };
-}
+    ghost use Rattle.dma_mem.specs.Marking.{RangesOfMarks};
 
-fn is_hit(marks: &[(MarkKind, Segment)], kind: MarkKind, segment: Segment) -> bool
-    ensures { result ≡ hits kind marks.now segment }
-{
-    marks
-        .iter()
-        .any(|mark| mark.0 == kind && meets(mark.1, segment))
+    ghost view = { λ m. m.list.items };
+
+    ghost invariant = { λ m. RangesOfMarks m.list.items m.reading.items m.writing.items };
 }
 
 impl Marks {
@@ -46,6 +47,8 @@ impl Marks {
     {
         Marks {
             list: Vec::new(alloc),
+            reading: Vec::new(alloc),
+            writing: Vec::new(alloc),
         }
     }
 
@@ -54,7 +57,12 @@ impl Marks {
         ensures ok { OnOk result (self.new ≡ self.old ++ (kind, segment) ∷ []) }
         ensures err { OnErr result (self.new ≡ self.old) }
     {
-        self.list.push((kind, segment))?;
+        self.list.reserve(1)?;
+        match kind {
+            MarkKind::Reading => add_in_order(&mut self.reading, segment)?,
+            MarkKind::Writing => add_in_order(&mut self.writing, segment)?,
+        }
+        self.list.push_reserved((kind, segment));
         Ok(())
     }
 
@@ -63,6 +71,18 @@ impl Marks {
         ensures { self.new ≡ [] }
     {
         self.list.clear();
+        self.reading.clear();
+        self.writing.clear();
+    }
+
+    // The addresses of the marks of a kind, as ranges in order.
+    fn ranges(&self, kind: MarkKind) -> &[Segment]
+        ensures { AreRangesOf kind self.now result.now }
+    {
+        match kind {
+            MarkKind::Reading => &self.reading,
+            MarkKind::Writing => &self.writing,
+        }
     }
 
     /// Whether a mark of the kind meets the segment, which is whether one of its addresses lies in such a mark.
@@ -70,7 +90,7 @@ impl Marks {
         ensures meets { result ≡ hits kind self.now segment }
         ensures addresses { result ≡ list_any (is_marked kind self.now) (range_with_len segment.addr segment.len) }
     {
-        is_hit(&self.list, kind, segment)
+        meets_ordered(self.ranges(kind), segment)
     }
 }
 
@@ -120,6 +140,40 @@ mod tests {
                 }
             )
         );
+        Ok(())
+    }
+
+    #[test]
+    fn found_among_marks_that_overlap(rt: HostRuntime) -> Result<(), Fail> {
+        let mut marks = Marks::new(rt.alloc());
+        for (addr, len) in [
+            (0x108, 0x20),
+            (0x100, 0x10),
+            (0x10A, 2),
+            (0x50, 0),
+            (u32::MAX, 2),
+        ] {
+            marks.add(MarkKind::Writing, Segment { addr, len })?;
+        }
+        marks.add(
+            MarkKind::Writing,
+            Segment {
+                addr: 0xF0,
+                len: 0x100,
+            },
+        )?;
+        for (addr, len, hit) in [
+            (0xEF, 1, false),
+            (0xEF, 2, true),
+            (0x1EF, 1, true),
+            (0x1F0, 8, false),
+            (0x50, 1, false),
+            (u32::MAX, 1, true),
+        ] {
+            let segment = Segment { addr, len };
+            assert_eq!(rt; marks.hits(MarkKind::Writing, segment), hit);
+            assert!(rt; !marks.hits(MarkKind::Reading, segment));
+        }
         Ok(())
     }
 }

@@ -1,11 +1,14 @@
 //! Transfers from a list of segments to another.
 
-ghost use Rattle.std.specs.Prelude.{◌≡◌, ◌+◌, ◌≤◌, ◌↔◌, All, IsTrue, IfOk, IfErr, MatchResult, length, slice_get, unwrap_or};
+ghost use Rattle.std.specs.Prelude.{◌≡◌, ◌+◌, ◌<◌, ◌≤◌, ◌↔◌, All, IsTrue, IfOk, IfErr, MatchResult, length, slice_get, unwrap_or};
 ghost use Rattle.dma_mem.specs.Places.{Descriptor, places, sources, destinations, size_of, lies_below, all_below, meets, share, range_of, touches, writes, is_free_of, IsFree};
 ghost use Rattle.std.specs.List.{list_any};
-ghost use Rattle.dma_mem.specs.Rules.{IsTransfer, refusal_of, total, some_meet, meets_any, has_empty_segment, has_wrapping_segment, is_bad_event};
+ghost use Rattle.std.specs.List.Sorted.{IsNonDecreasingBy};
+ghost use Rattle.dma_mem.specs.declared.segment.Segment.{Segment};
+ghost use Rattle.dma_mem.specs.Rules.{IsTransfer, refusal_of, overlap_of, total, some_meet, meets_any, has_empty_segment, has_wrapping_segment, is_bad_event};
 
 use crate::lists::Segments;
+use crate::ordered::{any_meets_ordered, end_of, sort_by_address};
 use crate::segment::{Segment, meets};
 use std::alloc::{AllocError, Global};
 use std::marker::Model;
@@ -100,17 +103,6 @@ fn meets_one(s: Segment, others: &[Segment]) -> bool
     others.iter().any(|other| meets(s, *other))
 }
 
-fn some_meet(list: &[Segment]) -> bool
-    ensures { result ≡ some_meet list.now }
-{
-    for (i, s) in list.iter().enumerate() {
-        if meets_one(*s, &list[i + 1..]) {
-            return true;
-        }
-    }
-    false
-}
-
 fn meets_any(list: &[Segment], others: &[Segment]) -> bool
     ensures { result ≡ meets_any list.now others.now }
 {
@@ -129,6 +121,52 @@ fn lists_meet(list: &[Segment], others: &[Segment]) -> bool
     ensures { result ≡ share (places list.now) (places others.now) }
 {
     meets_any(list, others)
+}
+
+// Whether two of the segments meet, which stand in the order of their first addresses: then two neighbours do.
+fn neighbours_meet(sorted: &[Segment]) -> bool
+    requires filled { All (λ s. 0 < s.len) sorted.now }
+    requires rising { IsNonDecreasingBy (λ (s : Segment). s.addr) sorted.now }
+    ensures { result ≡ some_meet sorted.now }
+{
+    for next in 1..sorted.len() {
+        if u64::from(sorted[next].addr) < end_of(sorted[next - 1]) {
+            return true;
+        }
+    }
+    false
+}
+
+// How the lists overlap: two destinations meet, or else a source meets one. The destinations are sorted on the stack, so that
+// this takes no memory and each question a binary search.
+fn overlap_of_many(src: &[Segment], dst: &[Segment]) -> Option<TransferFault>
+    requires few { length dst.now ≤ MAX_SEGMENTS }
+    requires filled { All (λ s. 0 < s.len) dst.now }
+    ensures { result ≡ overlap_of src.now dst.now }
+{
+    let mut room = [Segment { addr: 0, len: 0 }; MAX_SEGMENTS];
+    let sorted = &mut room[..dst.len()];
+    sorted.copy_from_slice(dst);
+    sort_by_address(sorted);
+    if neighbours_meet(sorted) {
+        Some(TransferFault::DestinationsMeet)
+    } else if any_meets_ordered(sorted, src) {
+        Some(TransferFault::SourceMeetsDestination)
+    } else {
+        None
+    }
+}
+
+// The same, without the sort where there is one destination.
+fn overlap(src: &[Segment], dst: &[Segment]) -> Option<TransferFault>
+    requires few { length dst.now ≤ MAX_SEGMENTS }
+    requires filled { All (λ s. 0 < s.len) dst.now }
+    ensures { result ≡ overlap_of src.now dst.now }
+{
+    if dst.len() > 1 {
+        return overlap_of_many(src, dst);
+    }
+    meets_any(src, dst).then_some(TransferFault::SourceMeetsDestination)
 }
 
 fn is_bad_event(event: Option<u8>) -> bool
@@ -166,11 +204,8 @@ fn checked_len(
     if len > u64::from(MAX_BYTES) {
         return Err(TransferFault::TooLong);
     }
-    if some_meet(dst) {
-        return Err(TransferFault::DestinationsMeet);
-    }
-    if meets_any(src, dst) {
-        return Err(TransferFault::SourceMeetsDestination);
+    if let Some(fault) = overlap(src, dst) {
+        return Err(fault);
     }
     if is_bad_event(wait) || is_bad_event(signal) {
         return Err(TransferFault::BadEvent);
@@ -578,6 +613,21 @@ mod tests {
             assert_eq!(rt; t.writes(seg((addr, 1))), written, "at {addr}");
         }
         assert_eq!(rt; t.wait(), Some(3));
+        Ok(())
+    }
+
+    #[test]
+    fn finds_overlaps_in_any_order(rt: HostRuntime) -> Result<(), Fail> {
+        let src = [seg((0x100, 8)), seg((0x40, 4))];
+        for (third, fault) in [
+            ((0x34, 4), None),
+            ((0x2F, 4), Some(TransferFault::DestinationsMeet)),
+            ((0x43, 4), Some(TransferFault::SourceMeetsDestination)),
+        ] {
+            let dst = [seg((0x30, 4)), seg((0x10, 4)), seg(third)];
+            let made = Transfer::new(rt.alloc(), &src, &dst, None, None);
+            assert_eq!(rt; made.err(), fault);
+        }
         Ok(())
     }
 }

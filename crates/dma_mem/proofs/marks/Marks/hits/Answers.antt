@@ -1,13 +1,15 @@
-use Rattle.std.proofs.Common.{ap, ◌∙◌}
-use Rattle.std.specs.List.{list_any, range_with_len}
-use Rattle.dma_mem.specs.Marking.{is_marked}
-use Rattle.dma_mem.proofs.Marked.{hits-addresses}
+use Rattle.std.proofs.Common.{sym, ◌∙◌}
+use Rattle.dma_mem.proofs.Marked.{hits-addresses, marks_found}
 use Rattle.dma_mem.proofs.marks.Marks.hits.Goals as goal
 
+pub meets_ordered-requires : goal.meets_ordered-requires
+meets_ordered-requires c = c.ranges-2.ensures.ordered
+
 pub returns-clause-addresses : goal.returns-clause-addresses
-returns-clause-addresses c =
-    let s = c.args.segment in
-    let marks = c.deref.result.now in
-    c.is_hit.ensures
-    ∙ hits-addresses c.args.kind marks s
-    ∙ ap (λ list. list_any (is_marked c.args.kind list) (range_with_len s.addr s.len)) (c.deref.ensures.value ∙ c.self.view_is)
+returns-clause-addresses c = c.meets_ordered.ensures ∙ marks_found c.args.kind c.args.self.now c.ranges-2.result.now c.args.segment c.ranges-2.ensures
+
+pub returns-clause-meets : goal.returns-clause-meets
+returns-clause-meets c =
+    c.meets_ordered.ensures
+    ∙ marks_found c.args.kind c.args.self.now c.ranges-2.result.now c.args.segment c.ranges-2.ensures
+    ∙ sym (hits-addresses c.args.kind c.args.self.now c.args.segment)

@@ -1,0 +1,261 @@
+-- Ranges in order, and the addresses of segments.
+use Rattle.std.proofs.Common.{◌≡◌, ℕ, ◌+◌, ◌<◌, ◌≤◌, ◌⊎◌, List, [], ◌∷◌, length, get_or, max, Bool, true, false, ◌||◌, refl, ap, sym, ◌∙◌, subst, arith, inl, inr, zero, suc, All}
+use Rattle.std.specs.Prelude.{MatchBool, ◌↔◌, not}
+use Rattle.std.specs.List.{Contains, list_any}
+use Rattle.std.specs.List.Sorted.{IsPermutation, IsNonDecreasingBy, IsPartitionPoint}
+use Rattle.std.specs.List.Retain.{DedupsFrom, IsDeduped}
+use Rattle.std.proofs.lemmas.Bool.{leb-true, leb-false, cases_lt}
+use Rattle.std.proofs.lemmas.List.Elements.{All-head, All-tail, All-cons, All-weaker, Contains-append_left, Contains-append_right, Contains-append_cases, Contains-get_or}
+use Rattle.std.proofs.lemmas.List.Kept.{AllPairs-cons}
+use Rattle.std.proofs.lemmas.List.Sorted.{Contains-permutation, IsPermutation-sym}
+use Rattle.dma_mem.specs.declared.segment.Segment.{Segment}
+use Rattle.dma_mem.specs.Places.{Descriptor, places, share, range_of, sources, destinations, writes, touches, is_free_of}
+use Rattle.dma_mem.specs.Ranges.{IsCoalesced, IsOrdered, SameAddresses, Joins}
+use Rattle.dma_mem.proofs.Sharing.{share-true, share_none, shared_by, in_range, range_in, share-append_left}
+
+-- ---- the addresses of a list
+
+abbrev pub Lies : Segment → ℕ → Type 0
+Lies s a = (s.addr ≤ a) × (a < s.addr + s.len)
+
+pub places-cons : (s : Segment) (rs : List Segment) (a : ℕ) → Contains (places (s ∷ rs)) a → Lies s a ⊎ Contains (places rs) a
+places-cons s rs a i = elim (Contains-append_cases (range_of s) (places rs) a i) [
+  | inl here ↦ inl (range_in s.addr s.len a here)
+  | inr later ↦ inr later
+]
+
+pub place_here : (s : Segment) (rs : List Segment) (a : ℕ) → Lies s a → Contains (places (s ∷ rs)) a
+place_here s rs a l = Contains-append_left (range_of s) (places rs) a (in_range s.addr s.len a l.0 l.1)
+
+pub place_later : (s : Segment) (rs : List Segment) (a : ℕ) → Contains (places rs) a → Contains (places (s ∷ rs)) a
+place_later s rs a i = Contains-append_right (range_of s) (places rs) a i
+
+-- an address of the segment at k
+pub in_places : (rs : List Segment) (k : ℕ) (d : Segment) (a : ℕ) → k < length rs → Lies (get_or rs k d) a → Contains (places rs) a
+in_places [] k d a h l = absurd (omega arith)
+in_places (s ∷ rs) zero d a h l = place_here s rs a l
+in_places (s ∷ rs) (suc k) d a h l = place_later s rs a (in_places rs k d a (omega arith) l)
+
+-- the segment of an address
+pub record At (rs : List Segment) (d : Segment) (a : ℕ) : Type 0 where
+  pub k : ℕ
+  pub within : k < length rs
+  pub lies : Lies (get_or rs k d) a
+
+pub places_in : (rs : List Segment) (d : Segment) (a : ℕ) → Contains (places rs) a → At rs d a
+places_in [] d a i = absurd (omega (arith, i.1))
+places_in (s ∷ rs) d a i = elim (places-cons s rs a i) [
+  | inl here ↦ record { k = 0; within = omega arith; lies = here }
+  | inr later ↦ let w = places_in rs d a later in record { k = suc w.k; within = omega (arith, w.within); lies = w.lies }
+]
+
+-- ---- in another order
+
+abbrev pub nowhere : Segment
+nowhere = record { addr = 0; len = 0 }
+
+-- an address of a segment that stands in another list too
+moved : (xs ys : List Segment) (d : Segment) (a : ℕ) (w : At xs d a) → Contains ys (get_or xs w.k d) → Contains (places ys) a
+moved xs ys d a w i = in_places ys i.0 (get_or xs w.k d) a i.1 (subst (λ (t : Segment). Lies t a) (sym i.2) w.lies)
+
+pub same_permuted : (xs ys : List Segment) → IsPermutation xs ys → SameAddresses ys xs
+same_permuted xs ys p = λ a.
+    let back = IsPermutation-sym xs ys p in (
+      λ i. let w = places_in ys nowhere a i in moved ys xs nowhere a w (Contains-permutation ys xs (get_or ys w.k nowhere) back (Contains-get_or ys w.k nowhere w.within)),
+      λ i. let w = places_in xs nowhere a i in moved xs ys nowhere a w (Contains-permutation xs ys (get_or xs w.k nowhere) p (Contains-get_or xs w.k nowhere w.within)),
+    )
+
+pub same-trans : (xs ys zs : List Segment) → SameAddresses xs ys → SameAddresses ys zs → SameAddresses xs zs
+same-trans xs ys zs f g = λ a. (λ i. (g a).0 ((f a).0 i), λ i. (f a).1 ((g a).1 i))
+
+-- ---- segments in the order of their first addresses, item after item
+
+abbrev pub Rising : ℕ → List Segment → Type 0
+Rising low [] = Unit
+Rising low (s ∷ rest) = (low ≤ s.addr) × (0 < s.len) × (s.addr + s.len ≤ 4294967295) × Rising s.addr rest
+
+-- the same, each past the end of the one before
+abbrev pub Spaced : ℕ → List Segment → Type 0
+Spaced low [] = Unit
+Spaced low (s ∷ rest) = (low ≤ s.addr) × (0 < s.len) × Spaced (s.addr + s.len + 1) rest
+
+Rising-lower : (low high : ℕ) (xs : List Segment) → low ≤ high → Rising high xs → Rising low xs
+Rising-lower low high [] h r = tt
+Rising-lower low high (s ∷ rest) h r = (omega (arith, r.0), r.1, r.2, r.3)
+
+pub rising_from : (low : ℕ) (xs : List Segment) → All (λ s. low ≤ s.addr) xs → All (λ s. 0 < s.len) xs → All (λ s. s.addr + s.len ≤ 4294967295) xs → IsNonDecreasingBy (λ (s : Segment). s.addr) xs → Rising low xs
+rising_from low [] l f w r = tt
+rising_from low (s ∷ rest) l f w r =
+    let later : All (λ (t : Segment). s.addr ≤ t.addr) rest = λ k d m. r 0 (suc k) d (omega arith) (omega arith) in
+    let order : IsNonDecreasingBy (λ (t : Segment). t.addr) rest = λ i j d m n. r (suc i) (suc j) d (omega arith) (omega arith) in (
+      All-head (λ (t : Segment). low ≤ t.addr) s rest l,
+      All-head (λ (t : Segment). 0 < t.len) s rest f,
+      All-head (λ (t : Segment). t.addr + t.len ≤ 4294967295) s rest w,
+      rising_from s.addr rest later (All-tail (λ (t : Segment). 0 < t.len) s rest f) (All-tail (λ (t : Segment). t.addr + t.len ≤ 4294967295) s rest w) order,
+    )
+
+pub record Spread (low : ℕ) (ys : List Segment) : Type 0 where
+  pub above : All (λ s. low ≤ s.addr) ys
+  pub coalesced : IsCoalesced ys
+
+pub spread_from : (low : ℕ) (ys : List Segment) → Spaced low ys → Spread low ys
+spread_from low [] h = record {
+  above = λ k d l. absurd (omega arith);
+  coalesced = record { filled = λ k d l. absurd (omega arith); apart = λ i j d l m. absurd (omega arith) };
+}
+spread_from low (s ∷ rest) h =
+    let more = spread_from (s.addr + s.len + 1) rest h.2 in
+    let past : All (λ (t : Segment). s.addr + s.len < t.addr) rest = All-weaker (λ (t : Segment). s.addr + s.len + 1 ≤ t.addr) (λ t. s.addr + s.len < t.addr) (λ t l. omega (arith, l)) rest more.above in
+    record {
+      above = All-cons (λ (t : Segment). low ≤ t.addr) s rest h.0 (All-weaker (λ (t : Segment). s.addr + s.len + 1 ≤ t.addr) (λ t. low ≤ t.addr) (λ t l. omega (arith, l, h.0)) rest more.above);
+      coalesced = record {
+        filled = All-cons (λ (t : Segment). 0 < t.len) s rest h.1 more.coalesced.filled;
+        apart = AllPairs-cons (λ (t u : Segment). t.addr + t.len < u.addr) s rest past more.coalesced.apart;
+      };
+    }
+
+-- ---- each joined with the range before it, or a range of its own
+
+pub joins_at : (y j y' j' x k x' k' : Segment) (b : Bool) → y ≡ x → j ≡ k → y' ≡ x' → j' ≡ k' → Joins y j b y' j' → Joins x k b x' k'
+joins_at y j y' j' x k x' k' b e f g i h =
+    subst (λ s. Joins s k b x' k') e (subst (λ s. Joins y s b x' k') f (subst (λ s. Joins y j b s k') g (subst (Joins y j b y') i h)))
+
+by_case : (b : Bool) (P Q : Type 0) → MatchBool b P Q → ((b ≡ true) × P) ⊎ ((b ≡ false) × Q)
+by_case true P Q h = inl (refl, h)
+by_case false P Q h = inr (refl, h)
+
+pub record Coalesces (low : ℕ) (ys given : List Segment) : Type 0 where
+  pub spaced : Spaced low ys
+  pub same : SameAddresses ys given
+
+-- the range that takes in the next segment has the addresses of both
+same_longer : (ys rest : List Segment) (k k' x : Segment) → SameAddresses ys (k' ∷ rest) → k.addr ≤ x.addr → x.addr ≤ k.addr + k.len → k'.addr ≡ k.addr → k'.addr + k'.len ≡ max (k.addr + k.len) (x.addr + x.len) → SameAddresses ys (k ∷ x ∷ rest)
+same_longer ys rest k k' x h order near start end = λ a. (
+  λ i. elim (places-cons k' rest a ((h a).0 i)) [
+    | inl here ↦ elim (cases_lt a (k.addr + k.len)) [
+      | inl in_k ↦ place_here k (x ∷ rest) a (omega (arith, here.0), in_k)
+      | inr past ↦ place_later k (x ∷ rest) a (place_here x rest a (omega arith, omega (arith, here.1)))
+    ]
+    | inr later ↦ place_later k (x ∷ rest) a (place_later x rest a later)
+  ],
+  λ i. (h a).1 (elim (places-cons k (x ∷ rest) a i) [
+    | inl in_k ↦ place_here k' rest a (omega (arith, in_k.0), omega (arith, in_k.1))
+    | inr other ↦ elim (places-cons x rest a other) [
+      | inl in_x ↦ place_here k' rest a (omega (arith, in_x.0), omega (arith, in_x.1))
+      | inr later ↦ place_later k' rest a later
+    ]
+  ]),
+)
+
+same_apart : (ys zs rest : List Segment) (k x : Segment) → ys ≡ k ∷ zs → SameAddresses zs (x ∷ rest) → SameAddresses ys (k ∷ x ∷ rest)
+same_apart ys zs rest k x e h = subst (λ l. SameAddresses l (k ∷ x ∷ rest)) (sym e) (λ a. (
+  λ i. elim (places-cons k zs a i) [ inl here ↦ place_here k (x ∷ rest) a here | inr later ↦ place_later k (x ∷ rest) a ((h a).0 later) ],
+  λ i. elim (places-cons k (x ∷ rest) a i) [ inl here ↦ place_here k zs a here | inr later ↦ place_later k zs a ((h a).1 later) ],
+))
+
+module _ {S : Type 0} (R : S → Segment → Segment → Bool → S → Segment → Segment → Type 0) (tells : (s : S) (x k : Segment) (b : Bool) (t : S) (x' k' : Segment) → R s x k b t x' k' → Joins x k b x' k') where
+  pub coalesces_from : (s : S) (k : Segment) (xs ys : List Segment) (low : ℕ) → DedupsFrom R s k xs ys → low ≤ k.addr → 0 < k.len → k.addr + k.len ≤ 4294967295 → Rising k.addr xs → Coalesces low ys (k ∷ xs)
+  coalesces_from s k [] ys low h l f w r = record {
+    spaced = subst (Spaced low) (sym h) (l, f, tt);
+    same = subst (λ zs. SameAddresses zs (k ∷ [])) (sym h) (λ a. (λ i. i, λ i. i));
+  }
+  coalesces_from s k (x ∷ xs) ys low h l f w r =
+      let j = tells s x k h.0 h.1 h.2 h.3 h.4 in
+      elim (by_case h.0 _ _ h.5) [
+        | inl (yes_, more) ↦
+            let near : x.addr ≤ k.addr + k.len = leb-true x.addr (k.addr + k.len) (sym j.value ∙ yes_) in
+            let end : h.3.addr + h.3.len ≡ max (k.addr + k.len) (x.addr + x.len) = omega (arith, j.end yes_, r.2, w) in
+            let rest = coalesces_from h.1 h.3 xs ys low more (omega (arith, j.start, l)) (omega (arith, end, j.start, f)) (omega (arith, end, r.2, w)) (Rising-lower h.3.addr x.addr xs (omega (arith, j.start, r.0)) r.3) in
+            record { spaced = rest.spaced; same = same_longer ys xs k h.3 x rest.same r.0 near j.start end }
+        | inr (no_, more) ↦
+            let far : k.addr + k.len < x.addr = leb-false x.addr (k.addr + k.len) (sym j.value ∙ no_) in
+            let is : ys ≡ k ∷ more.0 = more.2 ∙ ap (λ t. t ∷ more.0) (j.apart no_) in
+            let from_x = subst (λ t. DedupsFrom R h.1 t xs more.0) j.next_same more.1 in
+            let rest = coalesces_from h.1 x xs more.0 (k.addr + k.len + 1) from_x (omega (arith, far)) r.1 r.2 r.3 in
+            record { spaced = subst (Spaced low) (sym is) (l, f, rest.spaced); same = same_apart ys more.0 xs k x is rest.same }
+      ]
+
+  pub coalesces : (s : S) (xs ys : List Segment) → IsDeduped R s xs ys → Rising 0 xs → Coalesces 0 ys xs
+  coalesces s [] ys h r = record {
+    spaced = subst (Spaced 0) (sym h.told) tt;
+    same = subst (λ zs. SameAddresses zs []) (sym h.told) (λ a. (λ i. i, λ i. i));
+  }
+  coalesces s (x ∷ xs) ys h r = coalesces_from s x xs ys 0 h.told r.0 r.1 r.2 r.3
+
+-- ---- the search
+
+pub same_tests : (b c : Bool) → (b ≡ true → c ≡ true) → (c ≡ true → b ≡ true) → b ≡ c
+same_tests true c f g = sym (f refl)
+same_tests false true f g = g refl
+same_tests false false f g = refl
+
+same_index : (i j : ℕ) → i ≤ j → j ≤ i → i ≡ j
+same_index i j l m = omega arith
+
+-- so many of the ranges begin below an address: the first ones; so many end at an address or below it
+abbrev pub BeginBelow : ℕ → List Segment → ℕ → Type 0
+BeginBelow addr rs first = IsPartitionPoint (λ (r : Segment). r.addr < addr) (λ r. addr ≤ r.addr) rs first
+
+abbrev pub EndBy : ℕ → List Segment → ℕ → Type 0
+EndBy end rs past = IsPartitionPoint (λ (r : Segment). r.addr + r.len ≤ end) (λ r. end < r.addr + r.len) rs past
+
+-- the ranges that end at the segment's first address or below it have none of its addresses; where one of the others has one,
+-- the first of them has, since it begins no higher
+pub meets_first : (rs : List Segment) (first : ℕ) (s : Segment) → IsOrdered rs → EndBy s.addr rs first → first < length rs → share (range_of s) (range_of (get_or rs first nowhere)) ≡ share (range_of s) (places rs)
+meets_first rs first s o p within =
+    let r = get_or rs first nowhere in
+    let filled : 0 < r.len = o.filled first nowhere within in
+    let after : s.addr < r.addr + r.len = p.1 first nowhere (omega arith) within in
+    same_tests _ _
+    (λ h. let w = shared_by _ _ h in share-true _ _ w.0 w.1 (in_places rs first nowhere w.0 within (range_in r.addr r.len w.0 w.2)))
+    (λ h.
+    let w = shared_by _ _ h in
+    let at = places_in rs nowhere w.0 w.2 in
+    let in_s = range_in s.addr s.len w.0 w.1 in
+    elim (cases_lt at.k first) [
+      | inl before ↦ absurd (omega (arith, p.0 at.k nowhere (omega arith) before, in_s.0, at.lies.1))
+      | inr later ↦
+          let order = o.starts first at.k nowhere later at.within in
+          let a = max s.addr r.addr in
+          share-true _ _ a (in_range s.addr s.len a (omega arith) (omega (arith, in_s.0, in_s.1, order, at.lies.0))) (in_range r.addr r.len a (omega arith) (omega (arith, after, filled)))
+    ])
+
+pub meets_none : (rs : List Segment) (first : ℕ) (s : Segment) → EndBy s.addr rs first → length rs ≤ first → share (range_of s) (places rs) ≡ false
+meets_none rs first s p past =
+    share_none _ _ (λ a i j.
+    let at = places_in rs nowhere a j in
+    omega (arith, p.0 at.k nowhere (omega arith) (omega (arith, at.within)), (range_in s.addr s.len a i).0, at.lies.1))
+
+-- coalesced ranges are in order
+pub ordered_from : (rs : List Segment) → IsCoalesced rs → IsOrdered rs
+ordered_from rs h = record {
+  filled = h.filled;
+  starts = λ i j d l m. elim (cases_lt i j) [ inl low ↦ omega (arith, h.apart i j d low m) | inr same_ ↦ omega (arith, ap (λ k. (get_or rs k d).addr) (same_index i j l same_)) ];
+  ends = λ i j d l m. elim (cases_lt i j) [ inl low ↦ omega (arith, h.apart i j d low m) | inr same_ ↦ omega (arith, ap (λ k. (get_or rs k d).addr + (get_or rs k d).len) (same_index i j l same_)) ];
+}
+
+-- a list has an address of the set where one of its segments has
+pub share-each : (list : List Segment) (ys : List ℕ) → list_any (λ s. share (range_of s) ys) list ≡ share (places list) ys
+share-each [] ys = sym (share_none [] ys (λ a i j. omega (arith, i.1)))
+share-each (s ∷ rest) ys = ap (λ b. share (range_of s) ys || b) (share-each rest ys) ∙ sym (share-append_left (range_of s) (places rest) ys)
+
+-- ---- sets of addresses in place of the lists that they were made of
+
+pub share_right : (xs ys zs : List ℕ) → ((a : ℕ) → Contains ys a ↔ Contains zs a) → share xs ys ≡ share xs zs
+share_right xs ys zs h =
+    same_tests _ _ (λ e. let w = shared_by xs ys e in share-true xs zs w.0 w.1 ((h w.0).0 w.2)) (λ e. let w = shared_by xs zs e in share-true xs ys w.0 w.1 ((h w.0).1 w.2))
+
+-- the tests of a transfer, by ranges that have its sources' addresses and ranges that have its destinations'
+pub writes-ranges : (u : Descriptor) (s : Segment) (dst : List Segment) → SameAddresses dst u.dst → share (range_of s) (places dst) ≡ writes u s
+writes-ranges u s dst d = share_right (range_of s) (places dst) (destinations u) d
+
+pub touches-ranges : (u : Descriptor) (s : Segment) (src dst : List Segment) → SameAddresses src u.src → SameAddresses dst u.dst → (share (range_of s) (places dst) || share (range_of s) (places src)) ≡ touches u s
+touches-ranges u s src dst h d =
+    ap (λ b. b || share (range_of s) (places src)) (writes-ranges u s dst d) ∙ ap (λ b. writes u s || b) (share_right (range_of s) (places src) (sources u) h)
+
+pub is_free_of-ranges : (t u : Descriptor) (src dst : List Segment) → SameAddresses src u.src → SameAddresses dst u.dst → not (share (destinations t) (places dst) || (share (destinations t) (places src) || share (sources t) (places dst))) ≡ is_free_of t u
+is_free_of-ranges t u src dst h d =
+    let one = share_right (destinations t) (places dst) (destinations u) d in
+    let two = share_right (destinations t) (places src) (sources u) h in
+    let three = share_right (sources t) (places dst) (destinations u) d in
+    rw (one, two, three) refl

@@ -1,0 +1,14 @@
+use Rattle.std.proofs.Common.{ap, sym, subst, ◌∙◌}
+use Rattle.dma_mem.specs.Places.{places, share}
+use Rattle.dma_mem.specs.Ranges.{IsOrdered}
+use Rattle.dma_mem.proofs.RangeSets.{ordered_from, share-each}
+use Rattle.dma_mem.proofs.range_set.RangeSet.meets_any.Goals as goal
+
+pub any_meets_ordered-requires : goal.any_meets_ordered-requires
+any_meets_ordered-requires c = subst IsOrdered (sym c.ranges-2.ensures.ranges) (ordered_from c.args.self.now c.ranges-2.ensures.coalesced)
+
+pub returns : goal.returns
+returns c =
+    c.any_meets_ordered.ensures
+    ∙ share-each c.args.segments.now (places c.ranges-2.result.now)
+    ∙ ap (λ ranges. share (places c.args.segments.now) (places ranges)) c.ranges-2.ensures.ranges

@@ -1,0 +1,5 @@
+use Rattle.dma_mem.proofs.Neighbours.{NoOverlap}
+use Rattle.dma_mem.proofs.transfer.neighbours_meet.Given as goal
+
+abbrev pub invariant-loop-next : goal.invariant-loop-next
+invariant-loop-next l = NoOverlap l.sorted l.next

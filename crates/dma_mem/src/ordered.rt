@@ -1,0 +1,104 @@
+//! Lists of ranges in order, and the binary search in them.
+
+ghost use Rattle.std.specs.Prelude.{◌≡◌, ◌+◌, ◌<◌, ◌≤◌, ◌∷◌, ◌++◌, length, take, drop, OnOk, OnErr};
+ghost use Rattle.std.specs.List.{list_any};
+ghost use Rattle.std.specs.List.Sorted.{IsPermutation, IsNonDecreasingBy, IsPartitionPoint};
+ghost use Rattle.dma_mem.specs.declared.segment.Segment.{Segment};
+ghost use Rattle.dma_mem.specs.Places.{places, range_of, share};
+ghost use Rattle.dma_mem.specs.Ranges.{IsOrdered, AddsAddresses};
+
+use crate::segment::{Segment, meets};
+use std::alloc::AllocError;
+
+/// The address past the last of a segment, the sum taken without wrapping.
+pub fn end_of(segment: Segment) -> u64
+    ensures { result ≡ segment.addr + segment.len }
+{
+    u64::from(segment.addr) + u64::from(segment.len)
+}
+
+/// Puts segments in the order of their first addresses, in place.
+pub fn sort_by_address(segments: &mut [Segment])
+    ensures same { IsPermutation segments.old segments.new }
+    ensures rising { IsNonDecreasingBy (λ (s : Segment). s.addr) segments.new }
+{
+    segments.sort_unstable_by_key(|segment| segment.addr);
+}
+
+// How many of the ranges begin below an address: the first ones.
+fn begun_below(ranges: &[Segment], addr: u32) -> usize
+    requires { IsNonDecreasingBy (λ (r : Segment). r.addr) ranges.now }
+    ensures bound { result ≤ length ranges.now }
+    ensures first { IsPartitionPoint (λ (r : Segment). r.addr < addr) (λ r. addr ≤ r.addr) ranges.now result }
+{
+    ranges.partition_point(|range| range.addr < addr)
+}
+
+// How many of the ranges end at an address or below it: the first ones.
+fn ended_by(ranges: &[Segment], end: u64) -> usize
+    requires { IsNonDecreasingBy (λ (r : Segment). r.addr + r.len) ranges.now }
+    ensures bound { result ≤ length ranges.now }
+    ensures first { IsPartitionPoint (λ (r : Segment). r.addr + r.len ≤ end) (λ r. end < r.addr + r.len) ranges.now result }
+{
+    ranges.partition_point(|range| end_of(*range) <= end)
+}
+
+/// Whether one of the ranges has an address of the segment: the first that ends above where the segment begins has one, if
+/// any has. It is found by binary search.
+pub fn meets_ordered(ranges: &[Segment], segment: Segment) -> bool
+    requires { IsOrdered ranges.now }
+    ensures { result ≡ share (range_of segment) (places ranges.now) }
+{
+    let first = ended_by(ranges, u64::from(segment.addr));
+    first < ranges.len() && meets(segment, ranges[first])
+}
+
+// Puts a range in the place of those from `first` up to, not including, `past`. Without memory for it they stay as they were.
+fn replace(
+    ranges: &mut Vec<Segment>,
+    first: usize,
+    past: usize,
+    range: Segment,
+) -> Result<(), AllocError>
+    requires order { first ≤ past }
+    requires bound { past ≤ length ranges.old.items }
+    ensures ok { OnOk result (ranges.new.items ≡ take first ranges.old.items ++ range ∷ drop past ranges.old.items) }
+    ensures err { OnErr result (ranges.new.items ≡ ranges.old.items) }
+{
+    if first == past {
+        ranges.insert(first, range)?;
+        return Ok(());
+    }
+    ranges[first] = range;
+    drop(ranges.drain(first + 1..past));
+    Ok(())
+}
+
+/// Adds the addresses of a segment to ranges in order. It takes the place of those that lie in it; where it lies in one
+/// itself, or is empty, nothing changes. Without memory for one more range they stay as they were.
+pub fn add_in_order(ranges: &mut Vec<Segment>, segment: Segment) -> Result<(), AllocError>
+    requires { IsOrdered ranges.old.items }
+    ensures ordered { IsOrdered ranges.new.items }
+    ensures ok { OnOk result (AddsAddresses ranges.old.items ranges.new.items segment) }
+    ensures err { OnErr result (ranges.new.items ≡ ranges.old.items) }
+{
+    if segment.len == 0 {
+        return Ok(());
+    }
+    let first = begun_below(ranges, segment.addr);
+    let past = ended_by(ranges, end_of(segment));
+    if past < first {
+        return Ok(());
+    }
+    replace(ranges, first, past, segment)
+}
+
+/// Whether one of the ranges has an address of one of the segments.
+pub fn any_meets_ordered(ranges: &[Segment], segments: &[Segment]) -> bool
+    requires { IsOrdered ranges.now }
+    ensures { result ≡ list_any (λ s. share (range_of s) (places ranges.now)) segments.now }
+{
+    segments
+        .iter()
+        .any(|segment| meets_ordered(ranges, *segment))
+}

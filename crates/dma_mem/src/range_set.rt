@@ -1,0 +1,140 @@
+//! Sets of addresses as coalesced ranges.
+
+ghost use Rattle.std.specs.Prelude.{◌≡◌, ◌+◌, ◌≤◌, ◌<◌, All, IfOk};
+ghost use Rattle.std.specs.List.Sorted.{IsNonDecreasingBy};
+ghost use Rattle.dma_mem.specs.declared.segment.Segment.{Segment};
+ghost use Rattle.dma_mem.specs.Places.{places, range_of, share};
+ghost use Rattle.dma_mem.specs.Ranges.{IsCoalesced, SameAddresses, Joins};
+
+use crate::ordered::{any_meets_ordered, meets_ordered, sort_by_address};
+use crate::segment::Segment;
+use std::alloc::{AllocError, Global};
+use std::marker::Model;
+
+/// A set of addresses, each at most 4,294,967,294. Contracts see it as its ranges, which rise and of which no two meet or touch.
+#[derive(Debug, Drop)]
+pub struct RangeSet {
+    ranges: Vec<Segment>,
+}
+
+impl Model for RangeSet {
+    ghost use Rattle.std.specs.Prelude.{List};
+    ghost use Rattle.dma_mem.specs.declared.segment.Segment.{Segment};
+    ghost use Rattle.dma_mem.specs.Ranges.{IsCoalesced};
+
+    ghost Value = { List Segment };
+
+    ghost view = { λ set. set.ranges.items };
+
+    ghost invariant = { λ set. IsCoalesced set.ranges.items };
+}
+
+// Joins segments that meet or touch, in place. They stand in the order of their first addresses, and end at 4,294,967,295 or
+// below it, so that nothing saturates.
+fn coalesce(segments: &mut Vec<Segment>)
+    requires filled { All (λ s. 0 < s.len) segments.old.items }
+    requires within { All (λ s. s.addr + s.len ≤ 4294967295) segments.old.items }
+    requires rising { IsNonDecreasingBy (λ (s : Segment). s.addr) segments.old.items }
+    ensures same { SameAddresses segments.new.items segments.old.items }
+    ensures coalesced { IsCoalesced segments.new.items }
+{
+    segments.dedup_by(
+        |next, range|
+            ensures { Joins next.old range.old result next.new range.new }
+        {
+            let end = range.addr.saturating_add(range.len);
+            if end < next.addr {
+                return false;
+            }
+            let longer = end.max(next.addr.saturating_add(next.len));
+            range.len = longer.saturating_sub(range.addr);
+            true
+        },
+    );
+}
+
+impl RangeSet {
+    /// The set of the segments' addresses. Each segment has bytes and ends at 4,294,967,295 or below it; they may meet, and
+    /// stand in any order. `AllocError` comes where memory for one copy of the list was refused.
+    pub fn new(alloc: Global, segments: &[Segment]) -> Result<RangeSet, AllocError>
+        requires filled { All (λ s. 0 < s.len) segments.now }
+        requires within { All (λ s. s.addr + s.len ≤ 4294967295) segments.now }
+        ensures same { IfOk result (λ set. SameAddresses set segments.now) }
+        ensures coalesced { IfOk result (λ set. IsCoalesced set) }
+    {
+        let mut ranges = Vec::from_slice(alloc, segments)?;
+        sort_by_address(&mut ranges);
+        coalesce(&mut ranges);
+        Ok(RangeSet { ranges })
+    }
+
+    /// The same addresses as ranges that rise, of which no two meet or touch.
+    pub fn ranges(&self) -> &[Segment]
+        ensures ranges { result.now ≡ self.now }
+        ensures coalesced { IsCoalesced self.now }
+    {
+        self.ranges.as_slice()
+    }
+
+    /// Whether the segment has an address of the set. An empty one has none.
+    pub fn meets(&self, segment: Segment) -> bool
+        ensures { result ≡ share (range_of segment) (places self.now) }
+    {
+        meets_ordered(self.ranges(), segment)
+    }
+
+    /// Whether one of the segments has an address of the set.
+    pub fn meets_any(&self, segments: &[Segment]) -> bool
+        ensures { result ≡ share (places segments.now) (places self.now) }
+    {
+        any_meets_ordered(self.ranges(), segments)
+    }
+}
+
+#[cfg(test)]
+mod tests {
+    use super::*;
+    use std::test::Fail;
+
+    fn seg(addr: u32, len: u32) -> Segment
+        ensures addr { result.addr ≡ addr }
+        ensures len { result.len ≡ len }
+    {
+        Segment { addr, len }
+    }
+
+    #[test]
+    fn keeps_ranges_in_order(rt: HostRuntime) -> Result<(), Fail> {
+        let given = [seg(0x10, 4), seg(0x12, 4), seg(0x20, 2), seg(0x16, 2)];
+        let set = RangeSet::new(rt.alloc(), &given)?;
+        assert_eq!(rt; set.ranges(), [seg(0x10, 8), seg(0x20, 2)].as_slice());
+        assert!(rt; set.meets(seg(0x17, 1)));
+        assert!(rt; set.meets(seg(0x1F, 2)));
+        assert!(rt; !set.meets(seg(0x18, 8)));
+        assert!(rt; !set.meets(seg(0x1F, 1)));
+        assert!(rt; !set.meets(seg(0x12, 0)));
+        assert!(rt; set.meets_any(&[seg(0x18, 8), seg(0x21, 1)]));
+        assert!(rt; !set.meets_any(&[seg(0x18, 8), seg(0x22, 1)]));
+        assert!(rt; !set.meets_any(&[]));
+        Ok(())
+    }
+
+    #[test]
+    fn has_no_address_of_no_segment(rt: HostRuntime) -> Result<(), Fail> {
+        let none = RangeSet::new(rt.alloc(), &[])?;
+        assert!(rt; none.ranges().is_empty());
+        assert!(rt; !none.meets(seg(0, 1)));
+        Ok(())
+    }
+
+    #[test]
+    fn reaches_the_last_addresses(rt: HostRuntime) -> Result<(), Fail> {
+        let last = u32::MAX - 1;
+        let halves = [seg(0x8000_0000, 0x7FFF_FFFF), seg(0, 0x8000_0000)];
+        let all = RangeSet::new(rt.alloc(), &halves)?;
+        assert_eq!(rt; all.ranges(), [seg(0, u32::MAX)].as_slice());
+        assert!(rt; all.meets(seg(last, 5)));
+        assert!(rt; !all.meets(seg(u32::MAX, 5)));
+        Ok(())
+    }
+}
