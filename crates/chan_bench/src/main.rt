@@ -100,6 +100,11 @@ fn measure(rt: &HostRuntime) -> io::Result<()> {
     let Ok(mut block) = vec![in rt.alloc(); 7u8; 8388608] else {
         return Ok(());
     };
+    // A page is made once, and these rows time copies.
+    let _ = memory.prepare(Segment {
+        addr: 0,
+        len: 16777216,
+    });
     let start = Instant::now(rt)?;
     writes(&mut memory, &block);
     tell(rt, "160 MiB into memory", start)?;

@@ -1,12 +1,13 @@
 //! The bursts of a channel: loads from memory into its buffer, and stores from its buffer to memory.
 
-ghost use Rattle.std.specs.Prelude.{◌≡◌, ◌+◌, ◌-◌, ◌*◌, ◌≤◌, ◌<◌, ◌^◌, ◌++◌, min, IsTrue, IfSome, IsNone, OnOk, OnErr, Bool, false, List, length, take, drop, replicate};
+ghost use Rattle.std.specs.Prelude.{◌≡◌, ℕ, ◌+◌, ◌-◌, ◌*◌, ◌/◌, ◌≤◌, ◌<◌, ◌^◌, ◌++◌, min, IsTrue, IfSome, IsNone, IfOk, OnOk, OnErr, Bool, true, false, List, length, take, drop, replicate};
 ghost use Rattle.std.specs.List.{flat_map};
 ghost use Rattle.circular_buffer.specs.Buffer.{buffer as ring};
 ghost use Rattle.dma_insn.specs.declared.insn.Insn.TheVariants.{Ld, St};
 ghost use Rattle.dma_insn.specs.ControlWord.{beat_bytes};
 ghost use Rattle.dma_mem.specs.Image.{put};
-ghost use Rattle.dma_mem.specs.Pages.{Keeps};
+ghost use Rattle.dma_mem.specs.Places.{range_of};
+ghost use Rattle.dma_mem.specs.Pages.{Paged, AllMade, has_page, Keeps};
 ghost use Rattle.dma_chan.specs.Registers.{burst_len, touched, left_by, advance, span_of, rounds_of, source_of, destination_of};
 ghost use Rattle.dma_chan.specs.Marking.{reaches};
 ghost use Rattle.dma_chan.specs.Ready.{none_missing};
@@ -22,6 +23,9 @@ use dma_mem::segment::Segment;
 
 /// The most bytes that a channel's buffer holds (profile), and the most of one burst (PL330 manual: 16 beats of 16 bytes).
 pub const BUFFER_SIZE: usize = 256;
+
+// How many bytes a page of a memory has.
+const PAGE_SIZE: u32 = 4096;
 
 /// One burst: where it begins, whether its addresses rise from beat to beat, the bytes of a beat, and the number of beats.
 #[derive(Clone, Copy, PartialEq, Eq, Debug)]
@@ -138,24 +142,19 @@ fn fill(buffer: &mut HeapCircularBuffer<u8>, bytes: &[u8], rounds: u32)
     }
 }
 
-// Loads the bytes of a burst into the buffer: those of one page in place, and by a block those that lie on two pages, or on
+// Loads the bytes of a burst into the buffer: those of one page in place, and by the block those that lie on two pages, or on
 // one that isn't made.
 #[tactic(auto, using(crate::proofs::Rounds::read_touched))]
-fn load_span(burst: Burst, buffer: &mut HeapCircularBuffer<u8>, memory: &Memory)
+fn load_span(burst: Burst, buffer: &mut HeapCircularBuffer<u8>, block: &mut [u8], memory: &Memory)
     requires limit { (burst.size ≤ 16) × (burst.beats ≤ 16) }
     requires room { length buffer.old.items + burst_len burst ≤ buffer.old.capacity }
     requires within { burst.addr + span_of burst ≤ length memory.now.image }
+    requires block { length block.old ≡ 256 }
     ensures { buffer.new ≡ ring (buffer.old.items ++ read_at memory.now.image (touched burst)) buffer.old.capacity }
 {
-    let len = burst.span().len;
-    match memory.part(burst.addr, len) {
-        Some(bytes) => fill(buffer, bytes, burst.rounds()),
-        None => {
-            let mut block = [0; BUFFER_SIZE];
-            let bytes = memory.bytes(burst.addr, &mut block[..len as usize]);
-            fill(buffer, bytes, burst.rounds());
-        }
-    }
+    let len = burst.span().len as usize;
+    let bytes = memory.bytes(burst.addr, &mut block[..len]);
+    fill(buffer, bytes, burst.rounds());
 }
 
 // The fault that DMALD answers. Without one there is room for its bytes, and it may touch its addresses.
@@ -188,9 +187,11 @@ pub(crate) fn load_burst(
     marks: &Marks,
     registers: &mut Registers,
     buffer: &mut HeapCircularBuffer<u8>,
+    block: &mut [u8],
     memory: &Memory,
 ) -> ChanTurn
     requires capacity { buffer.old.capacity ≡ 256 }
+    requires block { length block.old ≡ 256 }
     requires pc { registers.old.pc < 8192 }
     ensures exact { (flags : List Bool) → act marks.now Ld (state registers.old buffer.old.items memory.now.image flags) ≡ (result, state registers.new buffer.new.items memory.now.image flags) }
     ensures capacity { buffer.new.capacity ≡ 256 }
@@ -200,7 +201,7 @@ pub(crate) fn load_burst(
         return ChanTurn::Fault(kind);
     }
     let burst = source_burst(registers);
-    load_span(burst, buffer, memory);
+    load_span(burst, buffer, block, memory);
     registers.pc += 1;
     registers.sar += burst.advance();
     ChanTurn::Moved
@@ -314,19 +315,50 @@ pub(crate) fn store_finds_pages(registers: &Registers, memory: &Memory) -> bool
     memory.made(part)
 }
 
-// Makes the pages that a store writes. The error is `NoMemory`, and some of them may have been made.
-pub(crate) fn prepare_store(registers: &Registers, memory: &mut Memory) -> Result<(), MemFault>
+// Whether a segment lies whole on the page of this number.
+fn is_on_page(span: Segment, page: u32) -> bool
+    requires { span.len ≤ 256 }
+    ensures { result ≡ true → (a : ℕ) → span.addr ≤ a → a < span.addr + span.len → a / 4096 ≡ page }
+{
+    span.addr / PAGE_SIZE == page && span.addr % PAGE_SIZE + span.len <= PAGE_SIZE
+}
+
+// The page of a segment's first address, none where the segment is empty.
+fn first_page(segment: Segment) -> Option<u32>
+    ensures { (m : Paged) → AllMade m (range_of segment) → IfSome result (λ p. has_page m p ≡ true) }
+{
+    if segment.len == 0 {
+        return None;
+    }
+    Some(segment.addr / PAGE_SIZE)
+}
+
+// Makes the pages that a store writes, and asks the memory nothing where it lies on a page that is known to be made, if one
+// is. It tells such a page again, mostly that of the store, since the next store mostly lies there too. The error is `NoMemory`,
+// and some pages may have been made.
+pub(crate) fn prepare_store(
+    registers: &Registers,
+    memory: &mut Memory,
+    known: Option<u32>,
+) -> Result<Option<u32>, MemFault>
+    requires known { IfSome known (λ p. has_page memory.old p ≡ true) }
     ensures ok { OnOk result (IsTrue (none_missing memory.new (touched (destination_of registers.now)))) }
+    ensures known { IfOk result (λ told. IfSome told (λ p. has_page memory.new p ≡ true)) }
     ensures short { OnErr result (none_missing memory.new (touched (destination_of registers.now)) ≡ false) }
     ensures image { memory.new.image ≡ memory.old.image }
     ensures keeps { Keeps memory.old memory.new }
 {
-    // Most are made, and to look is less than the call that makes them.
-    if store_finds_pages(registers, memory) {
-        return Ok(());
+    let span = destination_burst(registers).span();
+    if let Some(page) = known {
+        if is_on_page(span, page) {
+            return Ok(known);
+        }
     }
-    let part = part_below(destination_burst(registers).span(), memory);
-    memory.prepare(part)
+    let part = part_below(span, memory);
+    match memory.prepare(part) {
+        Ok(()) => Ok(first_page(part)),
+        Err(fault) => Err(fault),
+    }
 }
 
 // How many bytes a store moves now.

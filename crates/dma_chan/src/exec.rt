@@ -159,6 +159,7 @@ pub(crate) fn execute(
     len: u32,
     registers: &mut Registers,
     buffer: &mut HeapCircularBuffer<u8>,
+    block: &mut [u8],
     memory: &mut Memory,
     events: &mut Events,
     marks: &Marks,
@@ -166,6 +167,7 @@ pub(crate) fn execute(
     requires len { len ≡ length (spelling insn) }
     requires pc { registers.old.pc + len ≤ 8192 }
     requires capacity { buffer.old.capacity ≡ 256 }
+    requires block { length block.old ≡ 256 }
     requires ready { IsTrue (finds_pages (Ok insn) registers.old memory.old) }
     ensures exact { act marks.now insn (state registers.old buffer.old.items memory.old.image events.old) ≡ (result, state registers.new buffer.new.items memory.new.image events.new) }
     ensures pages { memory.new.made ≡ memory.old.made }
@@ -174,7 +176,7 @@ pub(crate) fn execute(
 {
     match insn {
         Insn::Mov(reg, value) => set_register(reg, value, len, registers),
-        Insn::Ld => load_burst(marks, registers, buffer, memory),
+        Insn::Ld => load_burst(marks, registers, buffer, block, memory),
         Insn::St => store_burst(marks, registers, buffer, memory),
         Insn::Rmb => go_on(registers),
         Insn::Wmb => go_on(registers),

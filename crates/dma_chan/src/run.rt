@@ -71,15 +71,18 @@ fn run_on(
     channel.load(program);
     let mut events = Events::new();
     let marks = Marks::new(alloc);
+    // A page that is made: most stores lie on that of the one before, and memory isn't asked then.
+    let mut known = None;
     for turn in 0..limit {
         let pc = channel.pc();
         let next = match channel.next() {
             Ok(next) => next,
             Err(kind) => return Ok(RunEnd::Fault { kind, pc }),
         };
-        if channel.prepare(next, memory).is_err() {
-            return Err(RunFault::PageRefused { turns: turn });
-        }
+        known = match channel.prepare(next, memory, known) {
+            Ok(page) => page,
+            Err(_) => return Err(RunFault::PageRefused { turns: turn }),
+        };
         match channel.execute(next, memory, &mut events, &marks) {
             ChanTurn::Moved => {}
             ChanTurn::Waiting(event) => return Ok(RunEnd::Waiting(event)),

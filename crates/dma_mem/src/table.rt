@@ -358,7 +358,8 @@ fn read_page(page: &[u8], offset: usize, part: &mut [u8])
     }
 }
 
-// By addresses: page after page, each of 4,096 bytes.
+// By addresses: page after page, each of 4,096 bytes. The loops over pages stand out of line: a burst mostly lies on one page,
+// and a channel's loop of instructions has no room for them.
 impl Table {
     /// The bytes from `start` on, so many, where they stand on one page that is made.
     pub(crate) fn part(&self, start: usize, len: usize) -> Option<&[u8]>
@@ -376,6 +377,7 @@ impl Table {
     }
 
     /// Fills the slice with the bytes from `start` on.
+    #[inline(never)]
     pub(crate) fn read(&self, start: usize, buf: &mut [u8])
         requires { start + length buf.old < 2 ^ 33 }
         ensures { (k : ℕ) → k < length buf.new → slice_index buf.new k ≡ slice_index (page_at self.now ((start + k) / 4096)) ((start + k) % 4096) }
@@ -395,6 +397,7 @@ impl Table {
     }
 
     /// Makes the pages of the addresses from `start` to before `end`.
+    #[inline(never)]
     pub(crate) fn make(&mut self, start: usize, end: usize) -> Result<(), AllocError>
         requires order { start ≤ end }
         requires within { end ≤ 4096 * length self.old }
@@ -431,6 +434,7 @@ impl Table {
     }
 
     // Puts the bytes at `start` and after it, on pages that are made: one look-up for each page.
+    #[inline(never)]
     fn put(&mut self, start: usize, bytes: &[u8])
         requires limit { start + length bytes.now < 2 ^ 33 }
         requires made { (a : ℕ) → start ≤ a → a < start + length bytes.now → 0 < length (page_at self.old (a / 4096)) }

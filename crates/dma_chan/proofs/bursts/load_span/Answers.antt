@@ -3,11 +3,11 @@ use Rattle.circular_buffer.specs.Buffer.{buffer as ring}
 use Rattle.dma_chan.proofs.Rounds.{read_touched}
 use Rattle.dma_chan.proofs.bursts.load_span.Goals as goal
 
-pub returns-in-None : goal.returns-in-None
-returns-in-None c =
+pub returns : goal.returns
+returns c =
     let burst = c.args.burst in
     let image = c.args.memory.now.image in
     let old = c.args.buffer.now in
-    let bytes = c.bytes-bytes.ensures ∙ ap (λ n. take n (drop burst.addr image)) (omega (arith, c.span-len.ensures.len, c.span-len.ensures.limit, length-take {A = ℕ})) in
-    c.fill-in-None.ensures
-    ∙ rw (c.rounds-in-None.ensures.value, bytes) (ap (λ xs. ring (old.items ++ xs) old.capacity) (sym (read_touched image burst c.requires.within)))
+    let bytes = c.bytes-bytes.ensures ∙ ap (λ n. take n (drop burst.addr image)) (omega (arith, c.span-len.ensures.len, c.span-len.ensures.limit, c.requires.block, length-take {A = ℕ})) in
+    c.fill.ensures
+    ∙ rw (c.rounds.ensures.value, bytes) (ap (λ xs. ring (old.items ++ xs) old.capacity) (sym (read_touched image burst c.requires.within)))

@@ -1,31 +1,39 @@
 use Rattle.std.proofs.Common.{◌+◌, ◌≤◌, ◌∙◌, ap, sym, arith, refl, length}
-use Rattle.std.proofs.lemmas.Result.{on_ok_weaker, on_err_weaker}
+use Rattle.dma_mem.specs.Pages.{has_page}
 use Rattle.dma_chan.specs.Registers.{touched}
 use Rattle.dma_chan.specs.Ready.{none_missing}
-use Rattle.dma_chan.proofs.Readies.{part_all, part_short}
+use Rattle.dma_chan.proofs.Readies.{part_all, part_short, pages_all}
 use Rattle.dma_chan.proofs.bursts.prepare_store.Goals as goal
 
-pub returns-clause-ok : goal.returns-clause-ok
-returns-clause-ok c =
+pub returns-then-is_on_page-clause-ok : goal.returns-then-is_on_page-clause-ok
+returns-then-is_on_page-clause-ok c =
+    let m = c.args.memory.now in
+    let b = c.destination_burst.result in
+    let span = c.span-span.ensures in
+    ap (λ b. none_missing m (touched b)) (sym c.destination_burst.ensures.value)
+    ∙ pages_all m b c.destination_burst.ensures.some.1 (λ a low high.
+    ap (λ p. has_page m p) (c.is_on_page.ensures c.if-is_on_page.true a (omega (arith, span.addr, low)) (omega (arith, span.addr, span.len, high)))
+    ∙ (rw c.in-Some.is at c.requires.known))
+
+pub returns-in-Ok-clause-ok : goal.returns-in-Ok-clause-ok
+returns-in-Ok-clause-ok c =
     let m = c.prepare.new.self in
     let b = c.destination_burst.result in
     let part = c.part_below-part.ensures in
     let image = c.prepare.ensures.image in
-    let addr = part.addr ∙ rw (c.span.ensures.addr, image) refl in
-    let len = part.len ∙ rw (c.span.ensures.len, c.span.ensures.addr, image) refl in
-    on_ok_weaker c.prepare.result (λ all.
+    let addr = part.addr ∙ rw (c.span-span.ensures.addr, image) refl in
+    let len = part.len ∙ rw (c.span-span.ensures.len, c.span-span.ensures.addr, image) refl in
     ap (λ b. none_missing m (touched b)) (sym c.destination_burst.ensures.value)
-    ∙ part_all m b c.part_below-part.result.addr c.part_below-part.result.len c.destination_burst.ensures.some.1 addr len all) c.prepare.ensures.ok
+    ∙ part_all m b c.part_below-part.result.addr c.part_below-part.result.len c.destination_burst.ensures.some.1 addr len (rw c.in-Ok.is at c.prepare.ensures.ok)
 
-pub returns-clause-short : goal.returns-clause-short
-returns-clause-short c =
+pub returns-in-Err-clause-short : goal.returns-in-Err-clause-short
+returns-in-Err-clause-short c =
     let m = c.prepare.new.self in
     let b = c.destination_burst.result in
     let part = c.part_below-part.ensures in
     let below : c.part_below-part.result.addr + c.part_below-part.result.len ≤ length c.args.memory.now.image = omega (arith, part.addr, part.len) in
     let image = c.prepare.ensures.image in
-    let addr = part.addr ∙ rw (c.span.ensures.addr, image) refl in
-    let len = part.len ∙ rw (c.span.ensures.len, c.span.ensures.addr, image) refl in
-    on_err_weaker c.prepare.result (λ short.
+    let addr = part.addr ∙ rw (c.span-span.ensures.addr, image) refl in
+    let len = part.len ∙ rw (c.span-span.ensures.len, c.span-span.ensures.addr, image) refl in
     ap (λ b. none_missing m (touched b)) (sym c.destination_burst.ensures.value)
-    ∙ part_short m b c.part_below-part.result.addr c.part_below-part.result.len c.destination_burst.ensures.some.1 addr len short) (c.prepare.ensures.short below)
+    ∙ part_short m b c.part_below-part.result.addr c.part_below-part.result.len c.destination_burst.ensures.some.1 addr len (rw c.in-Err.is at c.prepare.ensures.short below)

@@ -13,6 +13,7 @@ loop-turn-preserved c =
     let h : HasRun c.args.program.bytes s c.loop-turn.turn c.loop-turn.channel image c.loop-turn.events = subst (λ (i : List ℕ). HasRun c.args.program.bytes s c.loop-turn.turn c.loop-turn.channel i c.loop-turn.events) (sym c.prepare.ensures.image) c.loop-turn.invariant.run in
     record {
       run = run_on c.args.program.bytes s c.loop-turn.turn c.loop-turn.channel c.execute.new.self image c.execute.new.memory.image c.loop-turn.events c.execute.new.events c.execute.result h (rw c.new-marks.ensures at step.turn) c.in-Moved.is (rw c.new-marks.ensures at step.memory) (rw c.new-marks.ensures at step.events) (rw c.new-marks.ensures at step.channel);
+      known = rw step.pages (rw c.in-Ok-prepare.is at c.prepare.ensures.known);
       pages = λ p h. rw step.pages (c.prepare.ensures.keeps.made p (c.loop-turn.invariant.pages p h));
     }
 

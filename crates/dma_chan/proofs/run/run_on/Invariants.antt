@@ -1,4 +1,5 @@
 use Rattle.std.proofs.Common.{◌≡◌, ℕ, true}
+use Rattle.std.specs.Prelude.{IfSome}
 use Rattle.dma_mem.specs.Pages.{has_page}
 use Rattle.dma_chan.specs.Run.{opening}
 use Rattle.dma_chan.proofs.Runs.{HasRun}
@@ -7,5 +8,6 @@ use Rattle.dma_chan.proofs.run.run_on.Given as goal
 abbrev pub invariant-loop-turn : goal.invariant-loop-turn
 invariant-loop-turn l = record {
   run : HasRun l.fn.program.bytes (opening l.fn.memory.image) l.turn l.channel l.memory.image l.events;
+  known : IfSome l.known (λ p. has_page l.memory p ≡ true);
   pages : (p : ℕ) → has_page l.fn.memory p ≡ true → has_page l.memory p ≡ true;
 }
