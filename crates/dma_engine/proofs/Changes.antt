@@ -17,6 +17,7 @@ use Rattle.dma_engine.specs.declared.queue.Queue.{Queue}
 use Rattle.dma_engine.specs.Object.{Object, ChannelState, channel, new_channel, after, Allows, front}
 use Rattle.dma_engine.specs.History.{object_after, IsLegal}
 use Rattle.dma_engine.specs.View.{View, ChannelSchedule, RunningTransfer, Fits, Agrees, AreFree, IsSound, runs_there, runs, idle, object_of, memory_of, memory_shown}
+use Rattle.dma_engine.specs.Ranges.{AreOfRunning}
 use Rattle.dma_engine.specs.Holds.{Holds, IsPrepared, IsQueue, IsRun, Parts, view_of, schedule_of}
 use Rattle.dma_engine.proofs.Histories.{object_after-append, IsLegal-append}
 use Rattle.dma_engine.proofs.Queues.{slice_get-push}
@@ -92,6 +93,8 @@ holds-entered p e memory events marks h w =
     let u : View = view_of (with_entry_at p e memory events marks) in
     let o = object_of v in
     let step : object_of u ≡ after o e = object_after-append v.base p.history (e ∷ []) in
+    let channels = ap (λ (x : Object). x.channels) step ∙ w.stay in
+    let same : (ch : ℕ) → runs (object_of u) u.schedule ch ≡ runs o v.schedule ch = λ ch. ap (λ l. runs_there ch (slice_index_or l ch new_channel) (slice_index_or v.schedule ch idle).taken) channels in
     record {
       sound = record {
         opens = h.sound.opens;
@@ -105,10 +108,8 @@ holds-entered p e memory events marks h w =
       each = λ ch d less.
           let kept = queue-kept ch p.history (p.history ++ e ∷ []) p.memory memory (slice_index_or p.queues ch d) (channel o ch) (λ k x. slice_get-push p.history e x k) (w.machines ch d less (h.each ch d less).machine) (h.each ch d less) in
           rw (step, w.stay) kept;
-      prepared = λ ch.
-          let channels = ap (λ (x : Object). x.channels) step ∙ w.stay in
-          let same : runs (object_of u) u.schedule ch ≡ runs o v.schedule ch = ap (λ l. runs_there ch (slice_index_or l ch new_channel) (slice_index_or v.schedule ch idle).taken) channels in
-          subst (IsPrepared p.made) (sym same) (h.prepared ch);
+      prepared = λ ch. subst (IsPrepared p.made) (sym (same ch)) (h.prepared ch);
+      ranges = λ ch d less. subst (AreOfRunning (slice_index_or p.queues ch d).ranges) (sym (same ch)) (h.ranges ch d less);
     }
 
 -- ---- pages
@@ -127,6 +128,7 @@ holds-pages p more h keeps = record {
   marks = h.marks;
   each = h.each;
   prepared = λ ch. prepared-more p.made more (runs (object_of (view_of p)) (view_of p).schedule ch) keeps (h.prepared ch);
+  ranges = h.ranges;
 }
 
 -- ---- one channel changes
@@ -195,6 +197,7 @@ pub record ChangesTo (p : Parts) (ch : ℕ) (q : Queue) (memory : List ℕ) (fla
   pub marks : (object_of (view_of p)).marks ≡ o.marks
   pub tied : IsQueue ch history memory q (channel o ch)
   pub prepared : IsPrepared p.made (runs_there ch (channel o ch) (schedule_of q).taken)
+  pub ranges : AreOfRunning q.ranges (runs_there ch (channel o ch) (schedule_of q).taken)
   pub machines : (c : ℕ) (d : Queue) → c < length p.queues → c ≢ ch →
       IsRun p.memory (slice_index_or p.queues c d).channel (channel (object_of (view_of p)) c) →
       IsRun memory (slice_index_or p.queues c d).channel (channel (object_of (view_of p)) c)
@@ -212,6 +215,12 @@ holds-changed p ch q memory events history steps o h less w =
       fits = rw w.leaves (fits-changed (object_of v) o v.schedule ch (schedule_of q) h.sound.fits w.fits);
     } in
     let leaves : object_of (view_of r) ≡ o = ap object_of (sym is) ∙ w.leaves in
+    let x : ChannelSchedule = schedule_of q in
+    let within : ch < length v.schedule = omega (arith, h.sound.fits.many, w.fits.there) in
+    let runs_new : ℕ → Option RunningTransfer = runs (object_of (view_of r)) (view_of r).schedule in
+    let new : (c : ℕ) → runs_new c ≡ runs o (slice_set v.schedule ch x) c = λ c. ap (λ (y : View). runs (object_of y) y.schedule c) (sym is) ∙ ap (λ (y : Object). runs y (slice_set v.schedule ch x) c) w.leaves in
+    let here : (c : ℕ) → c ≡ ch → runs_new c ≡ runs_there ch (channel o ch) x.taken = λ c e. new c ∙ ap (runs o (slice_set v.schedule ch x)) e ∙ runs-here o v.schedule ch x within in
+    let elsewhere : (c : ℕ) → c ≢ ch → runs_new c ≡ runs (object_of v) v.schedule c = λ c f. new c ∙ runs-other (object_of v) o v.schedule ch c x f (w.fits.others c f) in
     record {
       sound = subst IsSound is sound;
       shown = w.shown ∙ ap (λ x. memory_shown x (slice_set v.schedule ch (schedule_of q))) (sym w.leaves) ∙ ap memory_of is;
@@ -225,16 +234,19 @@ holds-changed p ch q memory events history steps o h less w =
             let kept = queue-kept c p.history history p.memory memory (slice_index_or p.queues c d) (channel (object_of v) c) w.grows (w.machines c d l' f old.machine) old in
             rw (leaves, get_or-set_other p.queues ch c q d f, w.fits.others c f) kept
       ];
-      prepared = λ c.
-          let x : ChannelSchedule = schedule_of q in
-          let within : ch < length v.schedule = omega (arith, h.sound.fits.many, w.fits.there) in
-          let new : runs (object_of (view_of r)) (view_of r).schedule c ≡ runs o (slice_set v.schedule ch x) c = ap (λ (y : View). runs (object_of y) y.schedule c) (sym is) ∙ ap (λ (y : Object). runs y (slice_set v.schedule ch x) c) w.leaves in
-          elim (cases_eq c ch) [
-            | inl e ↦
-                let here : runs o (slice_set v.schedule ch x) c ≡ runs_there ch (channel o ch) x.taken = ap (runs o (slice_set v.schedule ch x)) e ∙ runs-here o v.schedule ch x within in
-                subst (IsPrepared p.made) (sym (new ∙ here)) w.prepared
-            | inr f ↦ subst (IsPrepared p.made) (sym (new ∙ runs-other (object_of v) o v.schedule ch c x f (w.fits.others c f))) (h.prepared c)
-          ];
+      prepared = λ c. elim (cases_eq c ch) [
+        | inl e ↦ subst (IsPrepared p.made) (sym (here c e)) w.prepared
+        | inr f ↦ subst (IsPrepared p.made) (sym (elsewhere c f)) (h.prepared c)
+      ];
+      ranges = λ c d l. elim (cases_eq c ch) [
+        | inl e ↦
+            let slot : slice_index_or (slice_set p.queues ch q) c d ≡ q = ap (λ k. slice_index_or (slice_set p.queues ch q) k d) e ∙ get_or-set_same p.queues ch q d less in
+            subst (λ (y : Queue). AreOfRunning y.ranges (runs_new c)) (sym slot) (subst (AreOfRunning q.ranges) (sym (here c e)) w.ranges)
+        | inr f ↦
+            let slot : slice_index_or (slice_set p.queues ch q) c d ≡ slice_index_or p.queues c d = get_or-set_other p.queues ch c q d f in
+            let l' : c < length p.queues = omega (arith, l, length-set p.queues ch q) in
+            subst (λ (y : Queue). AreOfRunning y.ranges (runs_new c)) (sym slot) (subst (AreOfRunning (slice_index_or p.queues c d).ranges) (sym (elsewhere c f)) (h.ranges c d l'))
+      ];
     }
 
 -- the schedule stays where a queue's does

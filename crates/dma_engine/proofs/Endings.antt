@@ -122,7 +122,7 @@ can-have p h ch q less read =
 -- the queue after a terminate
 abbrev pub queue_terminated : Queue → ℕ → List Outcome → ℕ → Queue
 queue_terminated q spare outcomes issued =
-    record q { outcomes = record { items = q.outcomes.items ++ outcomes; spare = spare }; issued = issued; paused = false; halted = false; channel = record (q.channel) { program = None } }
+    record q { outcomes = record { items = q.outcomes.items ++ outcomes; spare = spare }; issued = issued; paused = false; halted = false; channel = record (q.channel) { program = None }; ranges = None }
 
 pub holds-terminated : (p : Parts) (ch spare count issued : ℕ) (q : Queue) (outcomes : List Outcome) → Holds p → ch < length p.queues → q ≡ slice_index_or p.queues ch q → let c = channel (object_of (view_of p)) ch in let done = done_on (view_of p) ch in outcomes ≡ aborted done (drop (finished c) c.submitted) → issued ≡ length q.places.items → count ≡ unfinished c → Holds (changed p ch (queue_terminated q spare outcomes issued) p.memory p.events (p.history ++ Terminated ch done count ∷ []) p.steps)
 holds-terminated p ch spare count issued q outcomes h less read all_of many number =
@@ -157,6 +157,7 @@ holds-terminated p ch spare count issued q outcomes h less read all_of many numb
         machine = tt;
       });
       prepared = tt;
+      ranges = tt;
       machines = λ d i l k machine. machine;
     })
 
@@ -171,7 +172,7 @@ view-terminated p ch spare count issued q outcomes number =
 -- the queue after a finish
 abbrev pub queue_finished : Queue → ℕ → Outcome → Bool → Queue
 queue_finished q spare outcome halted =
-    record q { outcomes = record { items = q.outcomes.items ++ outcome ∷ []; spare = spare }; halted = halted; channel = record (q.channel) { program = None } }
+    record q { outcomes = record { items = q.outcomes.items ++ outcome ∷ []; spare = spare }; halted = halted; channel = record (q.channel) { program = None }; ranges = None }
 
 pub holds-finished : (p : Parts) (ch spare steps : ℕ) (result : TransResult) (q : Queue) (outcome : Outcome) (halted : Bool) → Holds p → ch < length p.queues → q ≡ slice_index_or p.queues ch q → let c = channel (object_of (view_of p)) ch in let done = done_on (view_of p) ch in outcome ≡ outcome_of result (front_of c) done → halted ≡ is_failure result → Allows (object_of (view_of p)) (Finished ch result done) → Holds (changed p ch (queue_finished q spare outcome halted) p.memory p.events (p.history ++ Finished ch result done ∷ []) steps)
 holds-finished p ch spare steps result q outcome halted h less read told fails allowed =
@@ -206,6 +207,7 @@ holds-finished p ch spare steps result q outcome halted h less read told fails a
         machine = tt;
       });
       prepared = tt;
+      ranges = tt;
       machines = λ d i l k machine. machine;
     })
 

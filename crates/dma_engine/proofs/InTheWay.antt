@@ -7,6 +7,8 @@ use Rattle.dma_mem.specs.Places.{Descriptor}
 use Rattle.dma_chan.specs.Channel.{ChannelValue}
 use Rattle.dma_chan.specs.Programs.{ProgramValue}
 use Rattle.dma_engine.specs.declared.queue.Queue.{Queue}
+use Rattle.dma_engine.specs.declared.ranges.Ranges.{Ranges}
+use Rattle.dma_engine.specs.Ranges.{AreOfRunning, HasRangesOf}
 use Rattle.dma_engine.specs.Object.{Object, ChannelState, channel, front, finished, used}
 use Rattle.dma_engine.specs.View.{ChannelSchedule, RunningTransfer, object_of, runs, runs_there, running, idle}
 use Rattle.dma_engine.specs.Answer.{named}
@@ -15,6 +17,7 @@ use Rattle.dma_engine.specs.Found.{front_in, given_by}
 use Rattle.dma_engine.specs.Holds.{Holds, Parts, view_of, taken_of}
 use Rattle.dma_engine.proofs.Boards.{counted-at}
 use Rattle.dma_engine.proofs.Queues.{Front, HoldsAt, front_stands, holds-at}
+use Rattle.dma_engine.proofs.Ranged.{kept-ranges, no-ranges}
 use Rattle.dma_engine.proofs.WhatRuns.{below, find-here}
 
 -- ---- the issued front
@@ -82,54 +85,31 @@ runs_none p h ch q less read unloaded =
 
 -- ---- the first in the way
 
-runs-ch : (ch : ℕ) (c : ChannelState) (taken : Option ℕ) (r : RunningTransfer) → runs_there ch c taken ≡ Some r → r.ch ≡ ch
-runs-ch ch c None r h = absurd cc
-runs-ch ch c (Some n) r h =
-    let by : (o : Option Descriptor) → option_map (λ t. record { ch = ch; cookie = finished c + 1; transfer = t; taken = n }) o ≡ Some r → r.ch ≡ ch = λ o. elim o as (λ o. option_map (λ t. record { ch = ch; cookie = finished c + 1; transfer = t; taken = n }) o ≡ Some r → r.ch ≡ ch) [
+-- a running transfer is named by its channel and the cookie of the front
+runs-named : (ch : ℕ) (c : ChannelState) (taken : Option ℕ) (r : RunningTransfer) → runs_there ch c taken ≡ Some r → (r.ch ≡ ch) × (r.cookie ≡ finished c + 1)
+runs-named ch c None r h = absurd cc
+runs-named ch c (Some n) r h =
+    let by : (o : Option Descriptor) → option_map (λ t. record { ch = ch; cookie = finished c + 1; transfer = t; taken = n }) o ≡ Some r → (r.ch ≡ ch) × (r.cookie ≡ finished c + 1) = λ o. elim o as (λ o. option_map (λ t. record { ch = ch; cookie = finished c + 1; transfer = t; taken = n }) o ≡ Some r → (r.ch ≡ ch) × (r.cookie ≡ finished c + 1)) [
       | None ↦ λ e. absurd cc
-      | Some t ↦ λ e. sym (ap (λ (x : Option RunningTransfer). (unwrap_or x r).ch) e)
+      | Some t ↦ λ e. (sym (ap (λ (x : Option RunningTransfer). (unwrap_or x r).ch) e), sym (ap (λ (x : Option RunningTransfer). (unwrap_or x r).cookie) e))
     ] in
     by (front c) h
 
--- what runs there, by its transfer and cookie
-record Found (o : Object) (s : List ChannelSchedule) (ch : ℕ) (t : Descriptor) (number : ℕ) : Type 0 where
-  pub here : RunningTransfer
-  pub is : runs o s ch ≡ Some here
-  pub channel : here.ch ≡ ch
-  pub transfer : here.transfer ≡ t
-  pub cookie : here.cookie ≡ number
-
-found : (o : Object) (s : List ChannelSchedule) (ch : ℕ) (t : Descriptor) (cookie : ℕ) → Some (t, cookie) ≡ option_map {U = Descriptor × ℕ} (λ r. (r.transfer, r.cookie)) (runs o s ch) → Found o s ch t cookie
-found o s ch t n h =
-    let pair : Option (Descriptor × ℕ) → Descriptor × ℕ = λ x. unwrap_or x (t, n) in
-    let by : (x : Option RunningTransfer) → runs o s ch ≡ x → Some (t, n) ≡ option_map {U = Descriptor × ℕ} (λ r. (r.transfer, r.cookie)) x → Found o s ch t n = λ x. elim x as (λ x. runs o s ch ≡ x → Some (t, n) ≡ option_map {U = Descriptor × ℕ} (λ r. (r.transfer, r.cookie)) x → Found o s ch t n) [
-      | None ↦ λ _ e. absurd cc
-      | Some r ↦ λ f e. record {
-        here = r;
-        is = f;
-        channel = runs-ch ch (channel o ch) (slice_index_or s ch idle).taken r f;
-        transfer = sym (ap (λ x. (pair x).0) e);
-        cookie = sym (ap (λ x. (pair x).1) e);
-      }
-    ] in
-    by _ refl h
-
--- the first that is in the way is the one found here
-pub way-here : (q : Descriptor → Bool) (o : Object) (s : List ChannelSchedule) (ch : ℕ) (t : Descriptor) (cookie : ℕ) → ch < length o.channels → find (λ r. q r.transfer) (below o s ch) ≡ None → Some (t, cookie) ≡ option_map {U = Descriptor × ℕ} (λ r. (r.transfer, r.cookie)) (runs o s ch) → q t ≡ true → Some (ch, cookie) ≡ named (find (λ r. q r.transfer) (running o s))
-way-here q o s ch t cookie less none here passes =
-    let f = found o s ch t cookie here in
-    let r = f.here in
-    let first : find (λ r. q r.transfer) (running o s) ≡ Some r = find-here (λ r. q r.transfer) o s ch r less none f.is (ap q f.transfer ∙ passes) in
-    let pair : Some (r.ch, r.cookie) ≡ Some (ch, cookie) = ap (λ n. Some (n, r.cookie)) f.channel ∙ ap (λ n. Some (ch, n)) f.cookie in
+-- the first that is in the way is the one with these ranges
+pub way-here : (q : Descriptor → Bool) (o : Object) (s : List ChannelSchedule) (ch cookie : ℕ) (r : Ranges) → ch < length o.channels → find (λ x. q x.transfer) (below o s ch) ≡ None → AreOfRunning (Some r) (runs o s ch) → cookie ≡ finished (channel o ch) + 1 → ((t : Descriptor) → HasRangesOf r t → true ≡ q t) → Some (ch, cookie) ≡ named (find (λ x. q x.transfer) (running o s))
+way-here q o s ch cookie r less none kept number passes =
+    let k = kept-ranges r (runs o s ch) kept in
+    let x = k.it in
+    let names = runs-named ch (channel o ch) (slice_index_or s ch idle).taken x k.is in
+    let first : find (λ y. q y.transfer) (running o s) ≡ Some x = find-here (λ y. q y.transfer) o s ch x less none k.is (sym (passes x.transfer k.ranges)) in
+    let pair : Some (x.ch, x.cookie) ≡ Some (ch, cookie) = ap (λ n. Some (n, x.cookie)) names.0 ∙ ap (λ n. Some (ch, n)) (names.1 ∙ sym number) in
     sym (ap named first ∙ pair)
 
 -- one that is not in the way is passed over
-pub passed-over : (q : Descriptor → Bool) (o : Object) (s : List ChannelSchedule) (ch : ℕ) (t : Descriptor) (cookie : ℕ) → Some (t, cookie) ≡ option_map {U = Descriptor × ℕ} (λ r. (r.transfer, r.cookie)) (runs o s ch) → q t ≡ false → find (λ r. q r.transfer) (option_to_list (runs o s ch)) ≡ None
-passed-over q o s ch t cookie here fails =
-    let f = found o s ch t cookie here in
-    let r = f.here in
-    ap (λ y. find (λ r. q r.transfer) (option_to_list y)) f.is ∙ ap (λ b. cond b (Some r) None) (ap q f.transfer ∙ fails)
+pub passed-over : (q : Descriptor → Bool) (x : Option RunningTransfer) (r : Ranges) → AreOfRunning (Some r) x → ((t : Descriptor) → HasRangesOf r t → false ≡ q t) → find (λ y. q y.transfer) (option_to_list x) ≡ None
+passed-over q x r kept fails =
+    let k = kept-ranges r x kept in
+    ap (λ y. find (λ z. q z.transfer) (option_to_list y)) k.is ∙ ap (λ b. cond b (Some k.it) None) (sym (fails k.it.transfer k.ranges))
 
-pub nothing-there : (q : Descriptor → Bool) (x : Option RunningTransfer) → None ≡ option_map {U = Descriptor × ℕ} (λ r. (r.transfer, r.cookie)) x → find (λ r. q r.transfer) (option_to_list x) ≡ None
-nothing-there q None h = refl
-nothing-there q (Some r) h = absurd cc
+pub nothing-there : (q : Descriptor → Bool) (x : Option RunningTransfer) → AreOfRunning None x → find (λ r. q r.transfer) (option_to_list x) ≡ None
+nothing-there q x kept = ap (λ y. find (λ z. q z.transfer) (option_to_list y)) (no-ranges x kept)

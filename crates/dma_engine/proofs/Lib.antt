@@ -2,6 +2,7 @@
 -- rows.
 pub mod Histories
 pub mod WhatRuns
+pub mod Ranged
 pub mod Memory
 pub mod Queues
 pub mod Changes

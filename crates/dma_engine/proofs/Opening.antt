@@ -9,6 +9,8 @@ use Rattle.dma_mem.specs.Image.{over, after_moves}
 use Rattle.dma_mem.specs.Marking.{all_clear}
 use Rattle.dma_engine.specs.Object.{channel, new_channel, opening}
 use Rattle.dma_engine.specs.View.{View, ChannelSchedule, RunningTransfer, Fits, runs, runs_there, running, with_stored, memory_shown, memory_of, object_of, IsSound, idle, new_fault, new_view}
+use Rattle.dma_engine.specs.declared.queue.Queue.{Queue}
+use Rattle.dma_engine.specs.Ranges.{AreOfRunning}
 use Rattle.dma_engine.specs.Holds.{Holds, IsPrepared, Parts, view_of, schedule_of, new_queue}
 use Rattle.dma_engine.proofs.Endings.{put-nil}
 use Rattle.dma_engine.proofs.Sizes.{opening-size, opening-many}
@@ -81,6 +83,7 @@ holds-new bytes pages n made =
     let v : View = view_of (new_parts bytes pages n) in
     let is : v ≡ new_view bytes n = new-view bytes pages n in
     let o = opening bytes n in
+    let none : (ch : ℕ) → runs (object_of v) v.schedule ch ≡ None = λ ch. ap (λ (w : View). runs (object_of w) w.schedule ch) is ∙ none-runs bytes n ch in
     record {
       sound = subst IsSound (sym is) (record {
         opens = rw (opening-size bytes n, opening-many bytes n) refl;
@@ -102,9 +105,11 @@ holds-new bytes pages n made =
             halted = refl;
             machine = tt;
           });
-      prepared = λ ch.
-          let none : runs (object_of v) v.schedule ch ≡ None = ap (λ (w : View). runs (object_of w) w.schedule ch) is ∙ none-runs bytes n ch in
-          subst (IsPrepared pages) (sym none) tt;
+      prepared = λ ch. subst (IsPrepared pages) (sym (none ch)) tt;
+      ranges = λ ch d less.
+          let inside : ch < n = omega (arith, less, length-replicate n new_queue) in
+          let slot = get_or-replicate n ch new_queue d inside in
+          subst (λ (q : Queue). AreOfRunning q.ranges (runs (object_of v) v.schedule ch)) (sym slot) (subst (AreOfRunning None) (sym (none ch)) tt);
     }
 
 pub made-from : (bytes many : ℕ) → many ≢ 0 → many ≤ 8 → is_size bytes ≡ true → new_fault bytes many ≡ None

@@ -8,6 +8,7 @@ use Rattle.dma_engine.specs.declared.entry.Entry.{Entry}
 use Rattle.dma_engine.specs.declared.entry.Entry.TheVariants.{Submitted}
 use Rattle.dma_engine.specs.declared.queue.Queue.{Queue}
 use Rattle.dma_engine.specs.Object.{ChannelState, channel, front, issued_front, no_transfer, used, finished}
+use Rattle.dma_engine.specs.Ranges.{AreOfRunning}
 use Rattle.dma_engine.specs.View.{Agrees, runs_there, runs, idle, object_of, channels, View, ChannelSchedule}
 use Rattle.dma_engine.specs.Holds.{IsQueue, Holds, Parts, view_of, schedule_of}
 
@@ -55,6 +56,7 @@ pub record HoldsAt (p : Parts) (ch : ℕ) (q : Queue) : Type 0 where
   pub agrees : Agrees (channel (object_of (view_of p)) ch) (schedule_of q).taken
   pub runs_is : runs (object_of (view_of p)) (view_of p).schedule ch ≡ runs_there ch (channel (object_of (view_of p)) ch) (schedule_of q).taken
   pub schedule_is : slice_index_or (view_of p).schedule ch idle ≡ schedule_of q
+  pub ranges : AreOfRunning q.ranges (runs (object_of (view_of p)) (view_of p).schedule ch)
 
 pub many-queues : (p : Parts) → Holds p → length p.queues ≡ channels (view_of p)
 many-queues p h = sym (length-map p.queues schedule_of) ∙ h.sound.fits.many
@@ -70,6 +72,7 @@ holds-at p h ch q less read =
       agrees = rw at at (h.sound.fits.each ch inside);
       runs_is = ap (λ (s : ChannelSchedule). runs_there ch (channel (object_of v) ch) s.taken) at;
       schedule_is = at;
+      ranges = rw (← read) at (h.ranges ch q less);
     }
 
 -- the front's entry stands in the history at the place that the queue has of it

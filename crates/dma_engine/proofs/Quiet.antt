@@ -12,11 +12,13 @@ use Rattle.dma_chan.specs.Programs.{ProgramValue}
 use Rattle.dma_engine.specs.declared.entry.Entry.{Entry}
 use Rattle.dma_engine.specs.declared.entry.Entry.TheVariants.{Submitted, Issued}
 use Rattle.dma_engine.specs.declared.queue.Queue.{Queue}
+use Rattle.dma_engine.specs.declared.ranges.Ranges.{Ranges}
 use Rattle.dma_engine.specs.Object.{Object, ChannelState, Allows, after, channel, new_channel, with_transfer, front, issued_front, no_transfer, used, finished, last_cookie}
 use Rattle.dma_engine.specs.History.{object_after, IsLegal}
 use Rattle.dma_engine.specs.View.{View, ChannelSchedule, Agrees, runs, runs_there, running, with_stored, memory_shown, object_of, channels}
 use Rattle.dma_engine.specs.Turn.{with_entry}
 use Rattle.dma_engine.specs.Answer.{with_pause}
+use Rattle.dma_engine.specs.Ranges.{AreOfRunning}
 use Rattle.dma_engine.specs.Holds.{Holds, IsPrepared, IsQueue, IsRun, Parts, view_of, schedule_of}
 use Rattle.dma_engine.proofs.Changes.{ChangesTo, changed, view-changed, holds-changed, runs-here, runs-other, schedule-kept}
 use Rattle.dma_engine.proofs.Histories.{object_after-append, IsLegal-append}
@@ -39,6 +41,7 @@ pub record StaysAt (p : Parts) (ch : ℕ) (q r : Queue) (flags : List Bool) (his
   pub others : (c : ℕ) → c ≢ ch → channel o c ≡ channel (object_of (view_of p)) c
   pub agrees : Agrees (channel o ch) (schedule_of r).taken
   pub runs_still : runs_there ch (channel o ch) (schedule_of r).taken ≡ runs_there ch (channel (object_of (view_of p)) ch) (schedule_of q).taken
+  pub ranges_still : r.ranges ≡ q.ranges
   pub tied : IsQueue ch history p.memory r (channel o ch)
 
 pub stays : (p : Parts) (ch : ℕ) (q r : Queue) (flags : List Bool) (history : List Entry) (o : Object) → Holds p → ch < length p.queues → q ≡ slice_index_or p.queues ch q → StaysAt p ch q r flags history o → ChangesTo p ch r p.memory flags history o
@@ -70,6 +73,7 @@ stays p ch q r flags history o h less read w =
       marks = w.marks;
       tied = w.tied;
       prepared = subst (IsPrepared p.made) (at.runs_is ∙ sym w.runs_still) (h.prepared ch);
+      ranges = subst (λ (y : Option Ranges). AreOfRunning y (runs_there ch (channel o ch) x.taken)) (sym w.ranges_still) (subst (AreOfRunning q.ranges) (at.runs_is ∙ sym w.runs_still) at.ranges);
       machines = λ c d l k machine. machine;
     }
 
@@ -92,6 +96,7 @@ holds-paused p ch q b h less read =
       others = λ c d. refl;
       agrees = at.agrees;
       runs_still = refl;
+      ranges_still = refl;
       tied = record { many = t.many; stands = t.stands; outcomes = t.outcomes; issued = t.issued; halted = t.halted; machine = t.machine };
     }))
 
@@ -137,6 +142,7 @@ holds-issued p ch q n h less read all =
       others = λ d k. get_or-set_other o.channels ch d _ new_channel k;
       agrees = rw here (agrees-issued c (schedule_of q).taken at.agrees);
       runs_still = ap (λ x. runs_there ch x (schedule_of q).taken) here ∙ runs-issued ch c (schedule_of q).taken;
+      ranges_still = refl;
       tied = rw here (record {
         many = t.many;
         stands = λ k l. slice_get-push p.history e _ _ (t.stands k l);
@@ -234,6 +240,7 @@ holds-submitted p ch spare cookie t q h less read allowed =
       others = λ d k. get_or-set_other o.channels ch d _ new_channel k;
       agrees = rw here (agrees-submitted c t (schedule_of q).taken at.agrees);
       runs_still = ap (λ x. runs_there ch x (schedule_of q).taken) here ∙ runs-submitted ch c t (schedule_of q).taken at.agrees;
+      ranges_still = refl;
       tied = rw here (queue-submitted ch spare p.history p.memory q c t cookie at.tied allowed.3);
     }))
 

@@ -53,6 +53,7 @@ holds-room p ch a b q h less read =
       others = λ c d. refl;
       agrees = at.agrees;
       runs_still = refl;
+      ranges_still = refl;
       tied = record { many = t.many; stands = t.stands; outcomes = t.outcomes; issued = t.issued; halted = t.halted; machine = t.machine };
     }))
 

@@ -1,10 +1,11 @@
 -- How large the parts of an engine are.
 use Rattle.std.proofs.Common.{◌≡◌, ℕ, ◌≤◌, List, [], ◌∷◌, length, Some, None, Bool, true, false, refl, ap, sym, ◌∙◌, arith, ◌||◌, not}
-use Rattle.std.specs.Prelude.{nat_lt, ◌==◌, if◌then◌else◌}
-use Rattle.std.proofs.lemmas.Bool.{ltb-false, or_parts}
+use Rattle.std.specs.Prelude.{nat_le, nat_lt, ◌==◌, if◌then◌else◌}
+use Rattle.std.proofs.lemmas.Bool.{and_parts, leb-true, ltb-false, or_parts}
 use Rattle.std.proofs.lemmas.List.{length-replicate, length-set}
 use Rattle.dma_mem.specs.Image.{bytes_at}
 use Rattle.dma_mem.specs.Sizes.{is_size}
+use Rattle.dma_mem.specs.declared.memory.TheConstants.{MAX_SIZE}
 use Rattle.dma_mem.proofs.Overs.{length-after_moves}
 use Rattle.dma_mem.proofs.Puts.{length-put}
 use Rattle.dma_engine.specs.declared.entry.Entry.{Entry}
@@ -94,3 +95,10 @@ few-queues p h =
     let v : View = view_of p in
     let m = made (length v.base.image) (length v.base.channels) h.sound.makes in
     omega (arith, m.0, opening-many p.size (length p.queues))
+
+pub size-small : (p : Parts) → Holds p → size (view_of p) ≤ 4294967295
+size-small p h =
+    let v : View = view_of p in
+    let m = made (length v.base.image) (length v.base.channels) h.sound.makes in
+    let parts = and_parts (nat_le 1 (length v.base.image)) (nat_le (length v.base.image) MAX_SIZE) m.1 in
+    omega (arith, leb-true _ _ parts.1, size-object v.base p.history)

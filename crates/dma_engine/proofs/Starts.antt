@@ -1,12 +1,12 @@
 -- What an engine keeps where a front starts, and what it may answer where one finishes.
 use Rattle.std.proofs.Common.{◌≡◌, ◌≢◌, ℕ, ◌+◌, ◌-◌, ◌<◌, ◌≤◌, List, [], ◌∷◌, ◌++◌, length, take, drop, Option, Some, None, Bool, true, false, ◌&&◌, ◌||◌, not, refl, ap, sym, ◌∙◌, subst, arith, zero, suc}
-use Rattle.std.specs.Prelude.{slice_index_or, slice_set, is_some, nat_lt, ◌==◌, unwrap_or, IfSome, IsSome}
+use Rattle.std.specs.Prelude.{slice_index_or, slice_set, is_some, nat_lt, ◌==◌, unwrap_or, IfSome, IsSome, IsSomeAnd}
 use Rattle.std.specs.List.{list_any}
 use Rattle.std.specs.Option.{option_map}
 use Rattle.std.proofs.lemmas.Bool.{eq-eqb, ne_eqb, lt-ltb, false≢true}
 use Rattle.dma_insn.specs.declared.insn.Insn.TheVariants.{Ld, St, End, Sev, Wfe}
 use Rattle.dma_mem.specs.Marking.{MarkList}
-use Rattle.dma_mem.specs.Places.{Descriptor, is_free_of, size_of, sources, destinations}
+use Rattle.dma_mem.specs.Places.{Descriptor, is_free_of, lies_below, size_of, sources, destinations}
 use Rattle.dma_mem.specs.Rules.{IsTransfer}
 use Rattle.dma_mem.specs.declared.marks.MarkKind.{MarkKind}
 use Rattle.dma_mem.specs.declared.marks.MarkKind.TheVariants.{Reading, Writing}
@@ -25,10 +25,12 @@ use Rattle.dma_engine.specs.declared.outcome.TransResult.TheVariants.{NoError, R
 use Rattle.dma_engine.specs.declared.queue.Queue.{Queue}
 use Rattle.dma_engine.specs.declared.turn.Turn.TheVariants.{Held, Started, Finished as TurnFinished}
 use Rattle.dma_engine.specs.Object.{ChannelState, Allows, channel, front, issued_front, finished}
-use Rattle.dma_engine.specs.View.{View, ChannelSchedule, RunningTransfer, Agrees, AreFree, runs, runs_there, object_of}
+use Rattle.dma_engine.specs.View.{View, ChannelSchedule, RunningTransfer, Agrees, AreFree, runs, runs_there, object_of, size}
 use Rattle.dma_engine.specs.Turn.{front_cookie, in_the_way, start_turn, with_entry, with_step, with_taken}
 use Rattle.dma_engine.specs.Answer.{Answers, named, done_on, done_by}
 use Rattle.dma_engine.specs.Due.{MayStart, Finishes}
+use Rattle.dma_engine.specs.declared.ranges.Ranges.{Ranges}
+use Rattle.dma_engine.specs.Ranges.{AreOfRunning, HasRangesOf}
 use Rattle.dma_engine.specs.Holds.{Holds, IsPrepared, Parts, view_of, schedule_of, queue_started}
 use Rattle.dma_engine.proofs.Changes.{changed, view-changed, holds-changed, runs-here, runs-other}
 use Rattle.dma_engine.proofs.Endings.{queue_finished}
@@ -36,7 +38,9 @@ use Rattle.dma_engine.proofs.Executed.{and-false}
 use Rattle.dma_engine.proofs.Memory.{shown-started}
 use Rattle.dma_engine.proofs.Moves.{passed-still}
 use Rattle.dma_engine.proofs.Queues.{front_known, holds-at, runs_front}
+use Rattle.dma_engine.proofs.Ranged.{below-more}
 use Rattle.dma_engine.proofs.Ruled.{Runs, good-front}
+use Rattle.dma_engine.proofs.Sizes.{size-small}
 use Rattle.dma_engine.proofs.Stepping.{Due, stepped-so, start-turn, finish-turn}
 use Rattle.dma_engine.proofs.WhatRuns.{find-none_at}
 
@@ -71,13 +75,31 @@ free-of : (t : Descriptor) (r : RunningTransfer) (x : Option RunningTransfer) �
 free-of t r None e h = tt
 free-of t r (Some s) e h = rw e (not-free (is_free_of t s.transfer) h)
 
-pub holds-started : (p : Parts) (ch : ℕ) (q : Queue) (t : Descriptor) → Holds p → ch < length p.queues → q ≡ slice_index_or p.queues ch q → MayStart (view_of p) ch → issued_front (channel (object_of (view_of p)) ch) ≡ Some t → in_the_way (view_of p) t ≡ None → OnPages p.made (destinations t) → Holds (changed p ch (queue_started q t) p.memory p.events p.history p.steps)
-holds-started p ch q t h less read may some none pages =
+-- a queue whose front has started, with the ranges that it keeps
+pub record IsStarted (q r : Queue) (t : Descriptor) : Type 0 where
+  pub ranges : Ranges
+  pub has : HasRangesOf ranges t
+  pub is : r ≡ queue_started q t ranges
+
+pub now-started : (q r : Queue) (t : Descriptor) → IsSomeAnd r.ranges (λ ranges. HasRangesOf ranges t × (r ≡ queue_started q t ranges)) → IsStarted q r t
+now-started q r t h =
+    let by : (o : Option Ranges) → IsSomeAnd o (λ ranges. HasRangesOf ranges t × (r ≡ queue_started q t ranges)) → IsStarted q r t = λ o. elim o as (λ o. IsSomeAnd o (λ ranges. HasRangesOf ranges t × (r ≡ queue_started q t ranges)) → IsStarted q r t) [
+      | None ↦ λ g. absurd g
+      | Some ranges ↦ λ g. record { ranges = ranges; has = g.0; is = g.1 }
+    ] in
+    by r.ranges h
+
+-- a front ends below the last address
+pub front-below : (p : Parts) → Holds p → (ch : ℕ) (t : Descriptor) → front (channel (object_of (view_of p)) ch) ≡ Some t → lies_below t 4294967295 ≡ true
+front-below p h ch t is = below-more t (size (view_of p)) 4294967295 (size-small p h) (good-front p h ch t is).1
+
+pub holds-started : (p : Parts) (ch : ℕ) (q : Queue) (t : Descriptor) (u : Ranges) → Holds p → ch < length p.queues → q ≡ slice_index_or p.queues ch q → MayStart (view_of p) ch → issued_front (channel (object_of (view_of p)) ch) ≡ Some t → in_the_way (view_of p) t ≡ None → OnPages p.made (destinations t) → HasRangesOf u t → Holds (changed p ch (queue_started q t u) p.memory p.events p.history p.steps)
+holds-started p ch q t u h less read may some none pages ranges =
     let v : View = view_of p in
     let o = object_of v in
     let s = v.schedule in
     let c = channel o ch in
-    let r = queue_started q t in
+    let r = queue_started q t u in
     let x : ChannelSchedule = schedule_of r in
     let at = holds-at p h ch q less read in
     let tied = at.tied in
@@ -117,14 +139,15 @@ holds-started p ch q t h less read may some none pages =
         machine = rw is (starts_at t p.memory good.0);
       };
       prepared = subst (IsPrepared p.made) (sym there_is) pages;
+      ranges = subst (AreOfRunning (Some u)) (sym there_is) ranges;
       machines = λ d i l k machine. machine;
     })
 
-pub start-answers : (p : Parts) (ch cookie : ℕ) (q : Queue) (t : Descriptor) → Holds p → ch < length p.queues → q ≡ slice_index_or p.queues ch q → MayStart (view_of p) ch → issued_front (channel (object_of (view_of p)) ch) ≡ Some t → in_the_way (view_of p) t ≡ None → cookie ≡ finished (channel (object_of (view_of p)) ch) + 1 → Answers (view_of p) (Step ch) (Turned (Started cookie)) (view_of (changed p ch (queue_started q t) p.memory p.events p.history p.steps))
-start-answers p ch cookie q t h less read may some none number =
+pub start-answers : (p : Parts) (ch cookie : ℕ) (q : Queue) (t : Descriptor) (u : Ranges) → Holds p → ch < length p.queues → q ≡ slice_index_or p.queues ch q → MayStart (view_of p) ch → issued_front (channel (object_of (view_of p)) ch) ≡ Some t → in_the_way (view_of p) t ≡ None → cookie ≡ finished (channel (object_of (view_of p)) ch) + 1 → Answers (view_of p) (Step ch) (Turned (Started cookie)) (view_of (changed p ch (queue_started q t u) p.memory p.events p.history p.steps))
+start-answers p ch cookie q t u h less read may some none number =
     let v : View = view_of p in
     let at = holds-at p h ch q less read in
-    let view : view_of (changed p ch (queue_started q t) p.memory p.events p.history p.steps) ≡ with_taken v ch (Some 0) = view-changed p ch (queue_started q t) p.memory p.events p.history p.steps ∙ ap (λ (x : ChannelSchedule). record v { schedule = slice_set v.schedule ch (record x { taken = Some 0 }) }) (sym at.schedule_is) in
+    let view : view_of (changed p ch (queue_started q t u) p.memory p.events p.history p.steps) ≡ with_taken v ch (Some 0) = view-changed p ch (queue_started q t u) p.memory p.events p.history p.steps ∙ ap (λ (x : ChannelSchedule). record v { schedule = slice_set v.schedule ch (record x { taken = Some 0 }) }) (sym at.schedule_is) in
     ap (λ w. (Turned (Started cookie), w)) view
     ∙ ap (λ k. (Turned (Started k), with_taken v ch (Some 0))) number
     ∙ stepped-so v _ ch (Started (front_cookie v ch)) (start-turn v ch t may some ∙ ap (start_turn v ch) none)

@@ -1,5 +1,5 @@
 -- What an engine keeps: its parts are what its view says.
-use Rattle.std.specs.Prelude.{◌≡◌, ℕ, ◌+◌, ◌<◌, Bool, false, Option, Some, List, [], length, map, slice_get, slice_index, slice_index_or, IfSome, IsSomeAnd}
+use Rattle.std.specs.Prelude.{◌≡◌, ℕ, ◌+◌, ◌<◌, Bool, false, Option, Some, None, List, [], length, map, slice_get, slice_index, slice_index_or, IfSome, IsSomeAnd}
 use Rattle.std.specs.Option.{option_map}
 use Rattle.dma_chan.specs.Channel.{ChannelValue, loaded, new_channel as no_program}
 use Rattle.dma_chan.specs.Compiled.{compiled}
@@ -10,7 +10,9 @@ use Rattle.dma_mem.specs.Places.{Descriptor, destinations}
 use Rattle.dma_engine.specs.declared.entry.Entry.{Entry}
 use Rattle.dma_engine.specs.declared.entry.Entry.TheVariants.{Submitted}
 use Rattle.dma_engine.specs.declared.queue.Queue.{Queue}
+use Rattle.dma_engine.specs.declared.ranges.Ranges.{Ranges}
 use Rattle.dma_engine.specs.Object.{ChannelState, channel, front, no_transfer, opening, used}
+use Rattle.dma_engine.specs.Ranges.{AreOfRunning}
 use Rattle.dma_engine.specs.View.{View, ChannelSchedule, RunningTransfer, IsSound, object_of, memory_of, runs}
 
 -- the parts of an engine: of its memory the image, and which of its pages are made
@@ -40,11 +42,11 @@ view_of p =
 -- a queue to which nothing was submitted
 abbrev pub new_queue : Queue
 new_queue =
-    record { places = record { items = []; spare = 0 }; outcomes = record { items = []; spare = 0 }; issued = 0; paused = false; halted = false; channel = no_program }
+    record { places = record { items = []; spare = 0 }; outcomes = record { items = []; spare = 0 }; issued = 0; paused = false; halted = false; channel = no_program; ranges = None }
 
--- a queue whose front, which this is, starts
-abbrev pub queue_started : Queue → Descriptor → Queue
-queue_started q t = record q { channel = loaded (compiled t) }
+-- a queue whose front, which this is and has these ranges, starts
+abbrev pub queue_started : Queue → Descriptor → Ranges → Queue
+queue_started q t r = record q { channel = loaded (compiled t); ranges = Some r }
 
 -- where a program is loaded, it is that of the channel's front
 abbrev pub IsRun : List ℕ → ChannelValue → ChannelState → Type 0
@@ -64,8 +66,8 @@ pub record IsQueue (ch : ℕ) (history : List Entry) (memory : List ℕ) (q : Qu
 abbrev pub IsPrepared : List Bool → Option RunningTransfer → Type 0
 IsPrepared made x = IfSome x (λ r. OnPages made (destinations r.transfer))
 
--- The view is sound, the memory is what it shows, flags and marks are the object's, each queue is its channel's, and what runs
--- finds its pages.
+-- The view is sound, the memory is what it shows, flags and marks are the object's, each queue is its channel's, what runs finds
+-- its pages, and each queue keeps the ranges of what runs on its channel.
 pub record Holds (p : Parts) : Type 0 where
   pub sound : IsSound (view_of p)
   pub shown : p.memory ≡ memory_of (view_of p)
@@ -74,3 +76,5 @@ pub record Holds (p : Parts) : Type 0 where
   pub each : (ch : ℕ) (d : Queue) → ch < length p.queues →
       IsQueue ch p.history p.memory (slice_index_or p.queues ch d) (channel (object_of (view_of p)) ch)
   pub prepared : (ch : ℕ) → IsPrepared p.made (runs (object_of (view_of p)) (view_of p).schedule ch)
+  pub ranges : (ch : ℕ) (d : Queue) → ch < length p.queues →
+      AreOfRunning (slice_index_or p.queues ch d).ranges (runs (object_of (view_of p)) (view_of p).schedule ch)

@@ -7,6 +7,7 @@ pub mod Turn
 pub mod Answer
 pub mod Advance
 pub mod Ways
+pub mod Ranges
 pub mod Holds
 pub mod Inside
 pub mod Lists

@@ -10,7 +10,7 @@ ghost use Rattle.dma_engine.specs.Ways.{is_in_the_way};
 ghost use Rattle.dma_engine.specs.Holds.{new_queue};
 ghost use Rattle.dma_engine.specs.Room.{HasRoom, IsIdle, KeepsRoom};
 ghost use Rattle.dma_engine.specs.Turn.{turn, ends};
-ghost use Rattle.dma_engine.specs.Due.{front_told, running_told, IsAny, IsDue, IsNext, IsOther, MayStart, Waits, Signals, Finishes, failure_of};
+ghost use Rattle.dma_engine.specs.Due.{front_told, IsAny, IsDue, IsNext, IsOther, MayStart, Waits, Signals, Finishes, failure_of};
 
 use crate::call::{Call, Reply};
 use crate::entry::{Entry, Signaller};
@@ -40,7 +40,8 @@ const END_OF_ADDRESSES: u64 = 4_294_967_296;
 /// The last cookie of a channel (profile).
 const LAST_COOKIE: usize = 2_147_483_647;
 
-/// Queues of transfers on channels over one memory. Contracts see its history, its step count, its schedule and its memory.
+/// Queues of transfers on channels over one memory. Contracts see its history, its step count, its schedule and its memory's
+/// bytes; which pages of the memory are made is no part of that.
 #[derive(Drop)]
 pub struct Engine {
     alloc: Global,
@@ -255,27 +256,15 @@ impl Engine {
         self.queues[index].front_in(&self.history)
     }
 
-    // The transfer that runs on a channel, with its cookie.
-    fn running_transfer(&self, index: usize) -> Option<(&Transfer, u32)>
-        requires { index < channels self.now.view }
-        ensures { option_map (λ p. (p.0.now, p.1)) result ≡ running_told self.now.view index }
-    {
-        let queue = &self.queues[index];
-        if queue.channel.is_loaded() {
-            self.front(index)
-        } else {
-            None
-        }
-    }
-
     // The channel and the cookie of the first running transfer that is in the way.
     fn first_in_the_way(&self, way: &Way) -> Option<(u8, u32)>
         ensures { result ≡ named (first_running self.now.view (is_in_the_way way.now)) }
     {
         for index in 0..self.queues.len() {
-            if let Some((transfer, cookie)) = self.running_transfer(index) {
-                if way.has(transfer) {
-                    return Some((index as u8, cookie));
+            let queue = &self.queues[index];
+            if let Some(ranges) = &queue.ranges {
+                if way.has(ranges) {
+                    return Some((index as u8, queue.outcomes.len() as u32 + 1));
                 }
             }
         }
@@ -557,7 +546,8 @@ impl Engine {
     /// instruction is executed, which may be `Waiting`, `Moved` or `Finished`. The step count rises by one for the last two.
     ///
     /// The error is the first that holds of `NoChannel`, `StepsSpent` where an instruction is due and the count is 2^64 - 1, and
-    /// `NoMemory`, which comes only at a start, a pass, a signal or a finish.
+    /// `NoMemory`, which comes only at a start, a pass, a signal or a finish. A start takes memory for its program and for the
+    /// pages that it writes, so that its bursts take none.
     pub fn step(&mut self, ch: u8) -> Result<Turn, EngineFault>
         ensures answer { Steps self.old.view ch result self.new.view }
         // With room made, memory is wanting only where nothing runs: at a start.

@@ -11,6 +11,7 @@ pub mod laws;
 mod lists;
 pub mod outcome;
 mod queue;
+mod ranges;
 pub mod run;
 pub mod turn;
 mod way;

@@ -126,6 +126,34 @@ fn a_copy_from_the_last_addresses(rt: HostRuntime) -> Result<(), Fail> {
     Ok(())
 }
 
+// A start, asked for once more where its memory is refused: then nothing runs, and nothing was added to the history.
+fn started_at_last(engine: &mut Engine) -> Result<bool, Fail> {
+    let entries = engine.history().len();
+    match engine.step(0) {
+        Ok(turn) => Ok(turn == Turn::Started(1)),
+        Err(_) => {
+            let still = engine.running(0).is_none() && engine.history().len() == entries;
+            Ok(still && engine.step(0)? == Turn::Started(1))
+        }
+    }
+}
+
+#[test]
+fn what_memory_refuses_is_had_when_asked_again(rt: HostRuntime) -> Result<(), Fail> {
+    let mut engine = Engine::new(rt.alloc(), 0x3000, 1)?;
+    if engine.write(0x0FFE, &[1, 2, 3, 4]).is_err() {
+        assert_eq!(rt; engine.history().len(), 0);
+        assert_eq!(rt; engine.read(0x0FFE, 4)?.as_slice(), [0, 0, 0, 0].as_slice());
+        return Ok(());
+    }
+    submitted(&mut engine, 0, copy_of_four(rt.alloc(), 0x0FFE, 0x1FFE)?)?;
+    assert_eq!(rt; engine.issue(0)?, 1);
+    assert!(rt; started_at_last(&mut engine)?);
+    assert_eq!(rt; advance(&mut engine, 0, 100).moved, 7);
+    assert_eq!(rt; engine.read(0x1FFE, 4)?.as_slice(), [1, 2, 3, 4].as_slice());
+    Ok(())
+}
+
 #[test]
 fn pause_resume_and_terminate(rt: HostRuntime) -> Result<(), Fail> {
     let mut engine = Engine::new(rt.alloc(), 0x400, 1)?;
@@ -270,6 +298,50 @@ fn a_front_is_held_by_what_runs(rt: HostRuntime) -> Result<(), Fail> {
     };
     assert_eq!(rt; engine.step(0)?, finished);
     assert_eq!(rt; engine.step(1)?, Turn::Started(1));
+    Ok(())
+}
+
+// What a channel copies: two segments that touch to two that touch.
+fn eight_bytes(alloc: Global, ch: u8) -> Result<Transfer, Fail> {
+    let read = 0x10 * u32::from(ch);
+    let written = 0x1000 + read;
+    let of = |addr: u32| Segment { addr, len: 4 };
+    let src = [of(read + 4), of(read)];
+    let dst = [of(written), of(written + 4)];
+    Ok(Transfer::new(alloc, &src, &dst, None, None)?)
+}
+
+#[test]
+fn seven_running_transfers_hold_another(rt: HostRuntime) -> Result<(), Fail> {
+    let mut engine = Engine::new(rt.alloc(), 0x2000, 8)?;
+    for ch in 0..7 {
+        submitted(&mut engine, ch, eight_bytes(rt.alloc(), ch)?)?;
+        assert_eq!(rt; engine.issue(ch)?, 1);
+        assert_eq!(rt; engine.step(ch)?, Turn::Started(1));
+    }
+    // it reads what channel 5 writes, and writes what channel 2 reads
+    submitted(&mut engine, 7, copy_of_four(rt.alloc(), 0x1057, 0x24)?)?;
+    assert_eq!(rt; engine.issue(7)?, 1);
+    assert_eq!(rt; engine.step(7)?, Turn::Held { ch: 2, cookie: 1 });
+    let busy = EngineFault::Busy { ch: 5, cookie: 1 };
+    assert_eq!(rt; engine.write(0x57, &[1]), Err(busy));
+    match engine.read(0x1048, 0x20) {
+        Ok(_) => assert!(rt; false),
+        Err(fault) => assert_eq!(rt; fault, busy),
+    }
+    // the addresses beside them, and those that are only read
+    engine.write(0x1058, &[1])?;
+    engine.write(0x58, &[1])?;
+    assert_eq!(rt; engine.read(0x50, 8)?.len(), 8);
+    assert_eq!(rt; engine.terminate(2)?, 1);
+    assert_eq!(rt; engine.step(7)?, Turn::Held { ch: 5, cookie: 1 });
+    assert!(rt;
+        matches!(
+            advance(&mut engine, 5, 1000).last,
+            Some(Ok(Turn::Finished { .. }))
+        )
+    );
+    assert_eq!(rt; engine.step(7)?, Turn::Started(1));
     Ok(())
 }
 

@@ -1,8 +1,11 @@
 //! What a running transfer may be in the way of.
 
 ghost use Rattle.std.specs.Prelude.{◌≡◌};
+ghost use Rattle.dma_mem.specs.Places.{Descriptor};
+ghost use Rattle.dma_engine.specs.Ranges.{HasRangesOf};
 ghost use Rattle.dma_engine.specs.Ways.{is_in_the_way};
 
+use crate::ranges::Ranges;
 use dma_mem::segment::Segment;
 use dma_mem::transfer::Transfer;
 
@@ -18,14 +21,22 @@ pub enum Way<'a> {
 }
 
 impl Way<'_> {
-    /// Whether a running transfer is in the way.
-    pub fn has(&self, transfer: &Transfer) -> bool
-        ensures { result ≡ is_in_the_way self.now transfer.now }
+    /// Whether a running transfer that has these ranges is in the way.
+    pub fn has(&self, ranges: &Ranges) -> bool
+        ensures { (t : Descriptor) → HasRangesOf ranges.now t → result ≡ is_in_the_way self.now t }
     {
+        let Ranges {
+            sources,
+            destinations,
+        } = ranges;
         match self {
-            Way::Write(range) => transfer.touches(*range),
-            Way::Read(range) => transfer.writes(*range),
-            Way::Start(other) => !other.is_free_of(transfer),
+            Way::Write(range) => destinations.meets(*range) || sources.meets(*range),
+            Way::Read(range) => destinations.meets(*range),
+            Way::Start(transfer) => {
+                destinations.meets_any(transfer.dst())
+                    || sources.meets_any(transfer.dst())
+                    || destinations.meets_any(transfer.src())
+            }
         }
     }
 }

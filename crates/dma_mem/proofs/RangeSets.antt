@@ -1,5 +1,5 @@
 -- Ranges in order, and the addresses of segments.
-use Rattle.std.proofs.Common.{◌≡◌, ℕ, ◌+◌, ◌<◌, ◌≤◌, ◌⊎◌, List, [], ◌∷◌, length, get_or, max, Bool, true, false, ◌||◌, refl, ap, sym, ◌∙◌, subst, arith, inl, inr, zero, suc, All}
+use Rattle.std.proofs.Common.{◌≡◌, ℕ, ◌+◌, ◌-◌, ◌<◌, ◌≤◌, ◌⊎◌, List, [], ◌∷◌, length, get_or, max, Bool, true, false, ◌||◌, refl, ap, sym, ◌∙◌, subst, arith, inl, inr, zero, suc, All}
 use Rattle.std.specs.Prelude.{MatchBool, ◌↔◌, not}
 use Rattle.std.specs.List.{Contains, list_any}
 use Rattle.std.specs.List.Sorted.{IsPermutation, IsNonDecreasingBy, IsPartitionPoint}
@@ -225,6 +225,26 @@ meets_none rs first s p past =
     share_none _ _ (λ a i j.
     let at = places_in rs nowhere a j in
     omega (arith, p.0 at.k nowhere (omega arith) (omega (arith, at.within)), (range_in s.addr s.len a i).0, at.lies.1))
+
+-- so it is where the segment ends at the first range's first address or below it
+pub below_all : (rs : List Segment) (s : Segment) → IsOrdered rs → s.addr + s.len ≤ (get_or rs 0 nowhere).addr → share (range_of s) (places rs) ≡ false
+below_all rs s o low =
+    share_none _ _ (λ a i j.
+    let at = places_in rs nowhere a j in
+    let first = o.starts 0 at.k nowhere (omega arith) at.within in
+    omega (arith, low, first, at.lies.0, (range_in s.addr s.len a i).1))
+
+-- and where it begins at the last range's end or above it
+pub above_all : (rs : List Segment) (s : Segment) → IsOrdered rs → (get_or rs (length rs - 1) nowhere).addr + (get_or rs (length rs - 1) nowhere).len ≤ s.addr → share (range_of s) (places rs) ≡ false
+above_all rs s o high =
+    share_none _ _ (λ a i j.
+    let at = places_in rs nowhere a j in
+    let last = o.ends at.k (length rs - 1) nowhere (omega (arith, at.within)) (omega (arith, at.within)) in
+    omega (arith, high, last, at.lies.1, (range_in s.addr s.len a i).0))
+
+-- and where there are no ranges
+pub none_at_all : (rs : List Segment) (s : Segment) → length rs ≡ 0 → share (range_of s) (places rs) ≡ false
+none_at_all rs s none = share_none _ _ (λ a i j. let at = places_in rs nowhere a j in omega (arith, at.within, none))
 
 -- coalesced ranges are in order
 pub ordered_from : (rs : List Segment) → IsCoalesced rs → IsOrdered rs

@@ -6,3 +6,4 @@ pub mod Rules
 pub mod Marking
 pub mod Pages
 pub mod Ranges
+pub mod KeptRanges

@@ -1,6 +1,6 @@
 //! Lists of ranges in order, and the binary search in them.
 
-ghost use Rattle.std.specs.Prelude.{◌≡◌, ◌+◌, ◌<◌, ◌≤◌, ◌∷◌, ◌++◌, length, take, drop, OnOk, OnErr};
+ghost use Rattle.std.specs.Prelude.{◌≡◌, ◌+◌, ◌<◌, ◌≤◌, ◌∷◌, ◌++◌, false, length, take, drop, IsTrue, OnOk, OnErr};
 ghost use Rattle.std.specs.List.{list_any};
 ghost use Rattle.std.specs.List.Sorted.{IsPermutation, IsNonDecreasingBy, IsPartitionPoint};
 ghost use Rattle.dma_mem.specs.declared.segment.Segment.{Segment};
@@ -43,9 +43,24 @@ fn ended_by(ranges: &[Segment], end: u64) -> usize
     ranges.partition_point(|range| end_of(*range) <= end)
 }
 
-/// Whether one of the ranges has an address of the segment: the first that ends above where the segment begins has one, if
-/// any has. It is found by binary search.
-pub fn meets_ordered(ranges: &[Segment], segment: Segment) -> bool
+// Whether the segment ends below the first range or begins above the last, or there are none: then none has an address of it.
+#[inline(always)]
+fn lies_outside(ranges: &[Segment], segment: Segment) -> bool
+    requires { IsOrdered ranges.now }
+    ensures { IsTrue result → share (range_of segment) (places ranges.now) ≡ false }
+{
+    if ranges.is_empty() {
+        return true;
+    }
+    let first = ranges[0];
+    let last = ranges[ranges.len() - 1];
+    end_of(segment) <= u64::from(first.addr) || end_of(last) <= u64::from(segment.addr)
+}
+
+// Whether one of the ranges has an address of the segment: the first that ends above where the segment begins has one, if any
+// has. It is found by binary search.
+#[inline(never)]
+fn meets_by_search(ranges: &[Segment], segment: Segment) -> bool
     requires { IsOrdered ranges.now }
     ensures { result ≡ share (range_of segment) (places ranges.now) }
 {
@@ -93,7 +108,21 @@ pub fn add_in_order(ranges: &mut Vec<Segment>, segment: Segment) -> Result<(), A
     replace(ranges, first, past, segment)
 }
 
+/// Whether one of the ranges has an address of the segment. It is a binary search, unless the segment lies outside them all,
+/// as most do that are asked for: that look stands where it is asked, without a call.
+#[inline(always)]
+pub fn meets_ordered(ranges: &[Segment], segment: Segment) -> bool
+    requires { IsOrdered ranges.now }
+    ensures { result ≡ share (range_of segment) (places ranges.now) }
+{
+    if lies_outside(ranges, segment) {
+        return false;
+    }
+    meets_by_search(ranges, segment)
+}
+
 /// Whether one of the ranges has an address of one of the segments.
+#[inline(always)]
 pub fn any_meets_ordered(ranges: &[Segment], segments: &[Segment]) -> bool
     requires { IsOrdered ranges.now }
     ensures { result ≡ list_any (λ s. share (range_of s) (places ranges.now)) segments.now }

@@ -4,6 +4,7 @@ ghost use Rattle.std.specs.Prelude.{◌≡◌, ◌+◌, ◌≤◌, ◌<◌, All,
 ghost use Rattle.std.specs.List.Sorted.{IsNonDecreasingBy};
 ghost use Rattle.dma_mem.specs.declared.segment.Segment.{Segment};
 ghost use Rattle.dma_mem.specs.Places.{places, range_of, share};
+ghost use Rattle.dma_mem.specs.KeptRanges.{ranges_of};
 ghost use Rattle.dma_mem.specs.Ranges.{IsCoalesced, SameAddresses, Joins};
 
 use crate::ordered::{any_meets_ordered, meets_ordered, sort_by_address};
@@ -11,10 +12,28 @@ use crate::segment::Segment;
 use std::alloc::{AllocError, Global};
 use std::marker::Model;
 
+// The ranges of a set. One of them stands in place, so that a set of one segment takes no memory.
+#[derive(Debug, Drop)]
+enum Kept {
+    One(Segment),
+    Many(Vec<Segment>),
+}
+
+impl Kept {
+    fn as_slice(&self) -> &[Segment]
+        ensures { result.now ≡ ranges_of self.now }
+    {
+        match self {
+            Kept::One(range) => std::slice::from_ref(range),
+            Kept::Many(ranges) => ranges.as_slice(),
+        }
+    }
+}
+
 /// A set of addresses, each at most 4,294,967,294. Contracts see it as its ranges, which rise and of which no two meet or touch.
 #[derive(Debug, Drop)]
 pub struct RangeSet {
-    ranges: Vec<Segment>,
+    kept: Kept,
 }
 
 impl Model for RangeSet {
@@ -24,9 +43,11 @@ impl Model for RangeSet {
 
     ghost Value = { List Segment };
 
-    ghost view = { λ set. set.ranges.items };
+    ghost use Rattle.dma_mem.specs.KeptRanges.{ranges_of};
 
-    ghost invariant = { λ set. IsCoalesced set.ranges.items };
+    ghost view = { λ set. ranges_of set.kept };
+
+    ghost invariant = { λ set. IsCoalesced (ranges_of set.kept) };
 }
 
 // Joins segments that meet or touch, in place. They stand in the order of their first addresses, and end at 4,294,967,295 or
@@ -55,17 +76,24 @@ fn coalesce(segments: &mut Vec<Segment>)
 
 impl RangeSet {
     /// The set of the segments' addresses. Each segment has bytes and ends at 4,294,967,295 or below it; they may meet, and
-    /// stand in any order. `AllocError` comes where memory for one copy of the list was refused.
+    /// stand in any order. `AllocError` comes where memory for one copy of the list was refused; of one segment there is none.
     pub fn new(alloc: Global, segments: &[Segment]) -> Result<RangeSet, AllocError>
         requires filled { All (λ s. 0 < s.len) segments.now }
         requires within { All (λ s. s.addr + s.len ≤ 4294967295) segments.now }
         ensures same { IfOk result (λ set. SameAddresses set segments.now) }
         ensures coalesced { IfOk result (λ set. IsCoalesced set) }
     {
+        if segments.len() == 1 {
+            return Ok(RangeSet {
+                kept: Kept::One(segments[0]),
+            });
+        }
         let mut ranges = Vec::from_slice(alloc, segments)?;
         sort_by_address(&mut ranges);
         coalesce(&mut ranges);
-        Ok(RangeSet { ranges })
+        Ok(RangeSet {
+            kept: Kept::Many(ranges),
+        })
     }
 
     /// The same addresses as ranges that rise, of which no two meet or touch.
@@ -73,7 +101,7 @@ impl RangeSet {
         ensures ranges { result.now ≡ self.now }
         ensures coalesced { IsCoalesced self.now }
     {
-        self.ranges.as_slice()
+        self.kept.as_slice()
     }
 
     /// Whether the segment has an address of the set. An empty one has none.

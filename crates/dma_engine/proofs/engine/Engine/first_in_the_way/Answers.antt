@@ -1,10 +1,14 @@
-use Rattle.std.proofs.Common.{◌≡◌, ◌<◌, ap, sym, ◌∙◌, arith, length}
+use Rattle.std.proofs.Common.{◌≡◌, ◌<◌, ◌+◌, ap, sym, ◌∙◌, subst, arith, length, Option}
+use Rattle.dma_engine.specs.declared.ranges.Ranges.{Ranges}
 use Rattle.dma_engine.specs.Answer.{named}
 use Rattle.dma_engine.specs.Inside.{parts_of}
+use Rattle.dma_engine.specs.Object.{channel, finished}
+use Rattle.dma_engine.specs.Ranges.{AreOfRunning}
 use Rattle.dma_engine.specs.View.{EngineState, object_of, channels, runs}
 use Rattle.dma_engine.specs.Ways.{is_in_the_way}
+use Rattle.dma_engine.proofs.Boards.{queue-small}
 use Rattle.dma_engine.proofs.InTheWay.{way-here, passed-over, nothing-there}
-use Rattle.dma_engine.proofs.Queues.{many-queues}
+use Rattle.dma_engine.proofs.Queues.{holds-at, many-queues}
 use Rattle.dma_engine.proofs.Sizes.{few-queues}
 use Rattle.dma_engine.proofs.WhatRuns.{find-none_more, find-all}
 use Rattle.dma_engine.proofs.engine.Engine.first_in_the_way.Goals as goal
@@ -15,22 +19,50 @@ overflow_cast-result c =
     let few = few-queues (parts_of c.self.inside) c.self.invariant in
     omega (arith, few, c.loop-index-test.true, c.len-index-end.ensures, c.self.inside.queues.ok.0)
 
+pub overflow_cast-result-then-has : goal.overflow_cast-result-then-has
+overflow_cast-result-then-has c =
+    let p = parts_of c.self.inside in
+    let less : c.loop-index.index < length p.queues = omega (arith, c.loop-index-test.true, c.len-index-end.ensures, c.self.inside.queues.ok.0) in
+    let small = queue-small p c.self.invariant c.loop-index.index c.index-queue.result.now less c.index-queue.ensures in
+    omega (arith, small, c.len.ensures)
+
+pub overflow_add-result : goal.overflow_add-result
+overflow_add-result c =
+    let p = parts_of c.self.inside in
+    let less : c.loop-index.index < length p.queues = omega (arith, c.loop-index-test.true, c.len-index-end.ensures, c.self.inside.queues.ok.0) in
+    let small = queue-small p c.self.invariant c.loop-index.index c.index-queue.result.now less c.index-queue.ensures in
+    omega (arith, small, c.len.ensures)
+
 pub returns-then-has : goal.returns-then-has
 returns-then-has c =
+    let p = parts_of c.self.inside in
     let v = c.args.self.now.view in
-    let many = many-queues (parts_of c.self.inside) c.self.invariant ∙ ap (λ (s : EngineState). channels s.view) c.self.view_is in
-    let less : c.loop-index.index < length (object_of v).channels = omega (arith, many, c.loop-index-test.true, c.len-index-end.ensures, c.self.inside.queues.ok.0) in
-    way-here (is_in_the_way c.args.way.now) (object_of v) v.schedule c.loop-index.index c.in-Some.transfer.now c.in-Some.cookie less c.loop-index.invariant c.in-Some.ensures (sym c.if-has.ensures)
+    let i = c.loop-index.index in
+    let q = c.index-queue.result.now in
+    let inside : i < length p.queues = omega (arith, c.loop-index-test.true, c.len-index-end.ensures, c.self.inside.queues.ok.0) in
+    let many = many-queues p c.self.invariant ∙ ap (λ (s : EngineState). channels s.view) c.self.view_is in
+    let less : i < length (object_of v).channels = omega (arith, many, inside) in
+    let at = holds-at p c.self.invariant i q inside c.index-queue.ensures in
+    let number : c.len.result + 1 ≡ finished (channel (object_of v) i) + 1 = ap (λ n. n + 1) (c.len.ensures ∙ ap length at.tied.outcomes ∙ ap (λ (s : EngineState). finished (channel (object_of s.view) i)) c.self.view_is) in
+    let kept = subst (λ (s : EngineState). AreOfRunning q.ranges (runs (object_of s.view) s.view.schedule i)) c.self.view_is at.ranges in
+    let there = subst (λ (o : Option Ranges). AreOfRunning o (runs (object_of v) v.schedule i)) c.in-Some.is kept in
+    way-here (is_in_the_way c.args.way.now) (object_of v) v.schedule i (c.len.result + 1) c.in-Some.ranges less c.loop-index.invariant there number c.if-has.ensures
 
 pub loop-index-preserved : goal.loop-index-preserved
 loop-index-preserved c =
+    let p = parts_of c.self.inside in
     let v = c.args.self.now.view in
     let test = is_in_the_way c.args.way.now in
     let i = c.loop-index.index in
+    let q = c.index-queue.result.now in
+    let x = runs (object_of v) v.schedule i in
+    let inside : i < length p.queues = omega (arith, c.loop-index-test.true, c.len-index-end.ensures, c.self.inside.queues.ok.0) in
+    let at = holds-at p c.self.invariant i q inside c.index-queue.ensures in
+    let kept = subst (λ (s : EngineState). AreOfRunning q.ranges (runs (object_of s.view) s.view.schedule i)) c.self.view_is at.ranges in
     find-none_more (λ r. test r.transfer) (object_of v) v.schedule i c.loop-index.invariant
-    (elim c.match-running_transfer.branch [
-      | in-Some+else-has w ↦ passed-over test (object_of v) v.schedule i w.in-Some.transfer.now w.in-Some.cookie w.in-Some.ensures (sym w.if-has.ensures)
-      | in_default w ↦ nothing-there test (runs (object_of v) v.schedule i) w.in_default.ensures
+    (elim c.match-queue.branch [
+      | in-Some+else-has w ↦ passed-over test x w.in-Some.ranges (subst (λ (o : Option Ranges). AreOfRunning o x) w.in-Some.is kept) w.if-has.ensures
+      | in_default w ↦ nothing-there test x (subst (λ (o : Option Ranges). AreOfRunning o x) w.in_default.is kept)
     ])
 
 pub returns : goal.returns

@@ -1,7 +1,7 @@
 use Rattle.std.proofs.Common.{◌≡◌, ◌∙◌, ◌+◌, ◌<◌, Some, ap, arith, length, subst, sym}
 use Rattle.std.specs.Prelude.{is_some, slice_set}
 use Rattle.std.proofs.lemmas.List.{set-get_or}
-use Rattle.dma_mem.specs.Places.{destinations}
+use Rattle.dma_mem.specs.Places.{Descriptor, destinations}
 use Rattle.dma_chan.proofs.Readies.{on_pages}
 use Rattle.dma_engine.specs.Due.{front_told}
 use Rattle.dma_engine.specs.Found.{front_in}
@@ -12,8 +12,8 @@ use Rattle.dma_engine.specs.Room.{HasRoom}
 use Rattle.dma_engine.specs.View.{EngineState, object_of}
 use Rattle.dma_engine.proofs.Changes.{holds-pages}
 use Rattle.dma_engine.proofs.InTheWay.{few-issued, front_found}
-use Rattle.dma_engine.proofs.Queues.{many-queues}
-use Rattle.dma_engine.proofs.Starts.{front-told, held-answers, holds-started, start-answers, way-clear}
+use Rattle.dma_engine.proofs.Queues.{front_known, many-queues}
+use Rattle.dma_engine.proofs.Starts.{front-below, front-told, held-answers, holds-started, now-started, start-answers, way-clear}
 use Rattle.dma_engine.proofs.engine.Engine.start.Goals as goal
 
 pub returns-in-Some-first_in_the_way-clause-answer : goal.returns-in-Some-first_in_the_way-clause-answer
@@ -40,6 +40,20 @@ start-requires-clause-front c =
     let read = rw c.from-index.ensures at c.index_mut-queue.ensures.value in
     let told : Some (c.in-Some.transfer.now, c.in-Some.cookie) ≡ front_told (channel (object_of (view_of p)) c.args.ch) = rw (c.from-index.ensures, ← c.self.view_is) at c.in-Some.ensures in
     ap is_some (ap (front_in q) c.deref.ensures.value ∙ front_found p c.self.invariant c.args.ch q less read ∙ sym told)
+
+pub start-requires-clause-below : goal.start-requires-clause-below
+start-requires-clause-below c =
+    let p = parts_of c.self.inside in
+    let q = c.index_mut-queue.result.now in
+    let t = c.in-Some.transfer.now in
+    let asked = rw (← c.self.view_is) at c.requires in
+    let less : c.args.ch < length p.queues = omega (arith, asked.0, many-queues p c.self.invariant) in
+    let read = rw c.from-index.ensures at c.index_mut-queue.ensures.value in
+    let told : Some (t, c.in-Some.cookie) ≡ front_told (channel (object_of (view_of p)) c.args.ch) = rw (c.from-index.ensures, ← c.self.view_is) at c.in-Some.ensures in
+    let is : front_in q c.deref.result.now ≡ Some (t, c.in-Some.cookie) = ap (front_in q) c.deref.ensures.value ∙ front_found p c.self.invariant c.args.ch q less read ∙ sym told in
+    let front = front-told (issued_front (channel (object_of (view_of p)) c.args.ch)) t c.in-Some.cookie (finished (channel (object_of (view_of p)) c.args.ch) + 1) told in
+    let known = front_known (channel (object_of (view_of p)) c.args.ch) t front.0 in
+    rw is (front-below p c.self.invariant c.args.ch t (known.is ∙ ap (λ (u : Descriptor). Some u) known.holds))
 
 pub invariant_of-self : goal.invariant_of-self
 invariant_of-self c =
@@ -68,11 +82,11 @@ invariant_of-self-2 c =
     let front = front-told (issued_front (channel (object_of v) ch)) t c.in-Some.cookie (finished (channel (object_of v) ch) + 1) told in
     let none = way-clear v t (rw (← c.self.view_is) at c.in_default-first_in_the_way.ensures) in
     let is : front_in q c.deref.result.now ≡ Some (t, c.in-Some.cookie) = ap (front_in q) c.deref.ensures.value ∙ front_found p c.self.invariant ch q less read ∙ sym told in
-    let started = rw is at (c.start.ensures.started c.if-not-start.false) in
+    let started = now-started q c.start.new.self t (rw is at (c.start.ensures.started c.if-not-start.false)) in
     let pages = on_pages c.start.new.memory (destinations t) (rw is at (c.start.ensures.pages c.if-not-start.false)) in
     let paged : Parts = record p { made = c.start.new.memory.made } in
     let holds = holds-pages p c.start.new.memory.made c.self.invariant c.start.ensures.keeps.made in
-    rw (started, c.start.ensures.image, c.from-index.ensures) (holds-started paged ch q t holds less read asked front.0 none pages)
+    rw (started.is, c.start.ensures.image, c.from-index.ensures) (holds-started paged ch q t started.ranges holds less read asked front.0 none pages started.has)
 
 pub returns-clause-answer : goal.returns-clause-answer
 returns-clause-answer c =
@@ -88,6 +102,6 @@ returns-clause-answer c =
     let front = front-told (issued_front (channel (object_of v) ch)) t c.in-Some.cookie (finished (channel (object_of v) ch) + 1) told in
     let none = way-clear v t (rw (← c.self.view_is) at c.in_default-first_in_the_way.ensures) in
     let is : front_in q c.deref.result.now ≡ Some (t, c.in-Some.cookie) = ap (front_in q) c.deref.ensures.value ∙ front_found p c.self.invariant ch q less read ∙ sym told in
-    let started = rw is at (c.start.ensures.started c.if-not-start.false) in
-    rw (← c.self.view_is, started, c.from-index.ensures)
-    (start-answers p ch c.in-Some.cookie q t c.self.invariant less read asked front.0 none front.1)
+    let started = now-started q c.start.new.self t (rw is at (c.start.ensures.started c.if-not-start.false)) in
+    rw (← c.self.view_is, started.is, c.from-index.ensures)
+    (start-answers p ch c.in-Some.cookie q t started.ranges c.self.invariant less read asked front.0 none front.1)

@@ -1,7 +1,7 @@
 use Rattle.std.proofs.Common.{subst, sym, ◌∙◌, arith}
 use Rattle.std.proofs.lemmas.Bool.{le-ltb}
 use Rattle.dma_mem.proofs.RangeSets.{EndBy, meets_first, meets_none}
-use Rattle.dma_mem.proofs.ordered.meets_ordered.Goals as goal
+use Rattle.dma_mem.proofs.ordered.meets_by_search.Goals as goal
 
 pub returns-then-first-ranges : goal.returns-then-first-ranges
 returns-then-first-ranges c =

@@ -1,0 +1,32 @@
+//! The addresses of what runs.
+
+ghost use Rattle.std.specs.Prelude.{◌≡◌, true, IfOk};
+ghost use Rattle.dma_mem.specs.Places.{lies_below};
+ghost use Rattle.dma_engine.specs.Ranges.{HasRangesOf};
+
+use dma_mem::range_set::RangeSet;
+use dma_mem::transfer::Transfer;
+use std::alloc::{AllocError, Global};
+
+/// The addresses that a running transfer reads, and those that it writes.
+#[derive(Drop)]
+pub struct Ranges {
+    pub sources: RangeSet,
+    pub destinations: RangeSet,
+}
+
+impl Ranges {
+    /// The addresses of a transfer whose segments end at 4,294,967,295 or below it. `AllocError` comes where memory for a copy of
+    /// one of its lists was refused.
+    pub fn of(alloc: Global, transfer: &Transfer) -> Result<Ranges, AllocError>
+        requires { lies_below transfer.now 4294967295 ≡ true }
+        ensures { IfOk result (λ ranges. HasRangesOf ranges transfer.now) }
+    {
+        let sources = RangeSet::new(alloc, transfer.src())?;
+        let destinations = RangeSet::new(alloc, transfer.dst())?;
+        Ok(Ranges {
+            sources,
+            destinations,
+        })
+    }
+}
