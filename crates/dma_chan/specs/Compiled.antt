@@ -1,14 +1,39 @@
 -- The compiled form of a transfer (profile; the instructions are the PL330 manual's).
-use Rattle.std.specs.Prelude.{ℕ, zero, suc, ◌+◌, ◌-◌, ◌*◌, ◌/◌, ◌%◌, ◌^◌, Bool, false, ◌&&◌, ◌==◌, nat_le, if◌then◌else◌, List, [], ◌∷◌, map, length, Option, Some, None}
+use Rattle.std.specs.Prelude.{ℕ, zero, suc, ◌+◌, ◌-◌, ◌*◌, ◌/◌, ◌%◌, ◌^◌, Bool, false, ◌&&◌, ◌==◌, nat_le, nat_lt, if◌then◌else◌, List, [], ◌∷◌, ◌++◌, map, length, Option, Some, None}
 use Rattle.dma_insn.specs.declared.insn.Reg.TheVariants.{Sar, Ccr, Dar}
 use Rattle.dma_insn.specs.declared.insn.Counter.TheVariants.{Lc0, Lc1}
 use Rattle.dma_insn.specs.declared.insn.Insn.{Insn}
 use Rattle.dma_insn.specs.declared.insn.Insn.TheVariants.{Mov, Ld, St, Rmb, Wmb, End, Sev, Wfe}
+use Rattle.dma_mem.specs.declared.segment.Segment.{Segment}
 use Rattle.dma_mem.specs.Places.{Descriptor}
 use Rattle.dma_chan.specs.declared.pieces.Piece.{Piece}
-use Rattle.dma_chan.specs.Pieces.{pieces_of}
 use Rattle.dma_chan.specs.Tree.{Tree, One, Then, Nothing, Repeat, in_order, bytes_of, unrolled}
 use Rattle.dma_chan.specs.Programs.{ProgramValue}
+
+-- ---- pieces
+
+-- One source segment of n bytes from an address, cut at the ends of the destinations; and the destinations that it leaves.
+abbrev pub cut_one : ℕ → ℕ → List Segment → List Piece × List Segment
+cut_one a n [] = ([], [])
+cut_one a n (d ∷ ds) =
+    if nat_lt n d.len then
+    (record { src = a; dst = d.addr; len = n } ∷ [], record { addr = d.addr + n; len = d.len - n } ∷ ds)
+    else (
+    if nat_lt d.len n then (
+    let rest = cut_one (a + d.len) (n - d.len) ds in
+    (record { src = a; dst = d.addr; len = d.len } ∷ rest.0, rest.1))
+    else (record { src = a; dst = d.addr; len = n } ∷ [], ds))
+
+-- Two lists of as many bytes, cut at every end of a segment of either.
+abbrev pub pieces : List Segment → List Segment → List Piece
+pieces [] ds = []
+pieces (s ∷ ss) ds = let cut = cut_one s.addr s.len ds in cut.0 ++ pieces ss cut.1
+
+-- The pieces of a transfer: the parts of it that lie together at both ends (profile).
+abbrev pub pieces_of : Descriptor → List Piece
+pieces_of t = pieces t.src t.dst
+
+-- ---- their code
 
 -- whether beats of b bytes fit a piece: b divides both addresses and is at most its length
 abbrev pub fits : ℕ → Piece → Bool
@@ -22,8 +47,8 @@ beat_of p = if fits 16 p then 16 else (if fits 8 p then 8 else (if fits 4 p then
 abbrev pub size_code : ℕ → ℕ
 size_code b = if b == 16 then 4 else (if b == 8 then 3 else (if b == 4 then 2 else (if b == 2 then 1 else 0)))
 
--- The control word of bursts of k beats of b bytes at both ends, with both increments: source increment in bit 0, source size
--- from bit 1 and length from bit 4, destination increment in bit 14, size from bit 15 and length from bit 18.
+-- The control word of bursts of k beats of b bytes at both ends, with both increments: source increment in bit 0, source
+-- size from bit 1 and length from bit 4, destination increment in bit 14, size from bit 15 and length from bit 18.
 abbrev pub control_word : ℕ → ℕ → ℕ
 control_word b k = 1 + 2 * size_code b + 2 ^ 4 * (k - 1) + 2 ^ 14 + 2 ^ 15 * size_code b + 2 ^ 18 * (k - 1)
 
@@ -39,14 +64,16 @@ where_some (suc n) t = t
 -- q bursts: whole turns of 256 by both counters, and the rest by one
 abbrev pub bursts : ℕ → Tree
 bursts q =
-    in_order (where_some (q / 256) (Repeat Lc0 (q / 256) (Repeat Lc1 256 body)) ∷ where_some (q % 256) (Repeat Lc1 (q % 256) body) ∷ [])
+    in_order (
+    where_some (q / 256) (Repeat Lc0 (q / 256) (Repeat Lc1 256 body))
+    ∷ where_some (q % 256) (Repeat Lc1 (q % 256) body) ∷ [])
 
 -- a tree under a control word
 abbrev pub under : ℕ → Tree → Tree
 under w t = Then (One (Mov Ccr w)) t
 
--- n bytes from where the registers point: bursts of 16 beats of b bytes, one burst of the whole beats left, and one of the bytes
--- left
+-- n bytes from where the registers point: bursts of 16 beats of b bytes, one burst of the whole beats left, and one of
+-- the bytes left
 unfoldable pub parts : ℕ → ℕ → Tree
 parts b n =
     let q = n / (16 * b) in
@@ -57,10 +84,11 @@ parts b n =
     ∷ where_some m (under (control_word b m) body)
     ∷ where_some t (under (control_word 1 t) body) ∷ [])
 
+-- the code of a piece by beats of b bytes: both addresses, and then its bytes
 abbrev pub piece_code : ℕ → Piece → Tree
 piece_code b p = Then (One (Mov Sar p.src)) (Then (One (Mov Dar p.dst)) (parts b p.len))
 
--- A piece: both addresses, and then its bytes.
+-- The code of a piece.
 abbrev pub piece_tree : Piece → Tree
 piece_tree p = piece_code (beat_of p) p
 
@@ -78,10 +106,11 @@ signal_tree (Some e) = One (Sev e)
 abbrev pub tree_of : Descriptor → Tree
 tree_of t = in_order (wait_tree t.wait ∷ in_order (map piece_tree (pieces_of t)) ∷ signal_tree t.signal ∷ One End ∷ [])
 
--- the instructions that its program executes, and how many they are
+-- the instructions that its program executes
 unfoldable pub members : Descriptor → List Insn
 members t = unrolled (tree_of t)
 
+-- how many they are
 unfoldable pub cost : Descriptor → ℕ
 cost t = length (members t)
 

@@ -19,5 +19,6 @@ pub record WantsPage (program : List ℕ) (s : State) (limit turns : ℕ) (left 
 -- has run, and nothing has changed, no page either; or a page was refused to the store after so many instructions.
 abbrev pub RunFails : List ℕ → Paged → ℕ → RunFault → Paged → Type 0
 RunFails program old limit ProgramTooLong new = (8192 < length program) × (new ≡ old)
-RunFails program old limit (PageRefused turns) new = (length program ≤ 8192) × WantsPage program (opening old.image) limit turns new
+RunFails program old limit (PageRefused turns) new =
+    (length program ≤ 8192) × WantsPage program (opening old.image) limit turns new
 RunFails program old limit NoMemory new = (length program ≤ 8192) × (new ≡ old)

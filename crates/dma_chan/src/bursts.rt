@@ -1,6 +1,6 @@
 //! The bursts of a channel: loads from memory into its buffer, and stores from its buffer to memory.
 
-ghost use Rattle.std.specs.Prelude.{◌≡◌, ℕ, ◌+◌, ◌-◌, ◌*◌, ◌/◌, ◌≤◌, ◌<◌, ◌^◌, ◌++◌, min, IsTrue, IfSome, IsNone, IfOk, OnOk, OnErr, Bool, true, false, List, length, take, drop, replicate};
+ghost use Rattle.std.specs.Prelude.{◌≡◌, ℕ, ◌+◌, ◌-◌, ◌*◌, ◌/◌, ◌%◌, ◌≤◌, ◌<◌, ◌^◌, ◌++◌, min, IsTrue, IfSome, IsNone, IfOk, OnOk, OnErr, Some, Bool, true, false, List, length, take, drop, replicate};
 ghost use Rattle.std.specs.List.{flat_map};
 ghost use Rattle.circular_buffer.specs.Buffer.{buffer as ring};
 ghost use Rattle.dma_insn.specs.declared.insn.Insn.TheVariants.{Ld, St};
@@ -8,12 +8,12 @@ ghost use Rattle.dma_insn.specs.ControlWord.{beat_bytes};
 ghost use Rattle.dma_mem.specs.Image.{put};
 ghost use Rattle.dma_mem.specs.Places.{range_of};
 ghost use Rattle.dma_mem.specs.Pages.{Paged, AllMade, has_page, Keeps};
-ghost use Rattle.dma_chan.specs.Registers.{burst_len, touched, left_by, advance, span_of, rounds_of, source_of, destination_of};
-ghost use Rattle.dma_chan.specs.Marking.{reaches};
+ghost use Rattle.dma_chan.specs.Bursts.{burst_len, touched, left_by, advance, reaches};
+ghost use Rattle.dma_chan.specs.inner.Spans.{span_of, rounds_of};
+ghost use Rattle.dma_chan.specs.Exec.{source_of, destination_of, act, fault_in, faults, read_at, state};
 ghost use Rattle.dma_chan.specs.Ready.{none_missing};
-ghost use Rattle.dma_chan.specs.Exec.{act, fault_in, faults, read_at, state};
 
-use crate::registers::Registers;
+use crate::exec::Registers;
 use crate::turn::{ChanTurn, FaultKind};
 use circular_buffer::HeapCircularBuffer;
 use dma_insn::control::BurstEnd;
@@ -97,7 +97,7 @@ impl Burst {
 }
 
 // The burst of a load.
-#[tactic(auto, using(crate::proofs::Controls::burst_of_end))]
+#[tactic(auto, using(crate::proofs::BurstEnds::burst_of_end))]
 fn source_burst(registers: &Registers) -> Burst
     ensures value { result ≡ source_of registers.now }
     ensures addr { result.addr ≡ registers.now.sar }
@@ -108,7 +108,7 @@ fn source_burst(registers: &Registers) -> Burst
 }
 
 // The burst of a store.
-#[tactic(auto, using(crate::proofs::Controls::burst_of_end))]
+#[tactic(auto, using(crate::proofs::BurstEnds::burst_of_end))]
 fn destination_burst(registers: &Registers) -> Burst
     ensures value { result ≡ destination_of registers.now }
     ensures addr { result.addr ≡ registers.now.dar }
@@ -119,7 +119,7 @@ fn destination_burst(registers: &Registers) -> Burst
 }
 
 // Whether a burst may touch its addresses: they lie in the memory and in no mark of the kind.
-#[tactic(auto, using(crate::proofs::Reach::reaches_span))]
+#[tactic(auto, using(crate::proofs::BurstReach::reaches_span))]
 fn may_touch(kind: MarkKind, marks: &Marks, memory: &Memory, burst: Burst) -> bool
     requires some { (1 ≤ burst.size) × (1 ≤ burst.beats) }
     requires limit { (burst.size ≤ 16) × (burst.beats ≤ 16) }
@@ -142,9 +142,9 @@ fn fill(buffer: &mut HeapCircularBuffer<u8>, bytes: &[u8], rounds: u32)
     }
 }
 
-// Loads the bytes of a burst into the buffer: those of one page in place, and by the block those that lie on two pages, or on
-// one that isn't made.
-#[tactic(auto, using(crate::proofs::Rounds::read_touched))]
+// Loads the bytes of a burst into the buffer: those of one page in place, and by the block those that lie on two pages,
+// or on one that isn't made.
+#[tactic(auto, using(crate::proofs::BurstRounds::read_touched))]
 fn load_span(burst: Burst, buffer: &mut HeapCircularBuffer<u8>, block: &mut [u8], memory: &Memory)
     requires limit { (burst.size ≤ 16) × (burst.beats ≤ 16) }
     requires room { length buffer.old.items + burst_len burst ≤ buffer.old.capacity }
@@ -318,14 +318,16 @@ pub(crate) fn store_finds_pages(registers: &Registers, memory: &Memory) -> bool
 // Whether a segment lies whole on the page of this number.
 fn is_on_page(span: Segment, page: u32) -> bool
     requires { span.len ≤ 256 }
-    ensures { result ≡ true → (a : ℕ) → span.addr ≤ a → a < span.addr + span.len → a / 4096 ≡ page }
+    ensures page { result ≡ true → (a : ℕ) → span.addr ≤ a → a < span.addr + span.len → a / 4096 ≡ page }
+    ensures told { span.addr / 4096 ≡ page → span.addr % 4096 + span.len ≤ 4096 → result ≡ true }
 {
     span.addr / PAGE_SIZE == page && span.addr % PAGE_SIZE + span.len <= PAGE_SIZE
 }
 
 // The page of a segment's first address, none where the segment is empty.
 fn first_page(segment: Segment) -> Option<u32>
-    ensures { (m : Paged) → AllMade m (range_of segment) → IfSome result (λ p. has_page m p ≡ true) }
+    ensures made { (m : Paged) → AllMade m (range_of segment) → IfSome result (λ p. has_page m p ≡ true) }
+    ensures some { 0 < segment.len → result ≡ Some (segment.addr / 4096) }
 {
     if segment.len == 0 {
         return None;
@@ -333,9 +335,9 @@ fn first_page(segment: Segment) -> Option<u32>
     Some(segment.addr / PAGE_SIZE)
 }
 
-// Makes the pages that a store writes, and asks the memory nothing where it lies on a page that is known to be made, if one
-// is. It tells such a page again, mostly that of the store, since the next store mostly lies there too. The error is `NoMemory`,
-// and some pages may have been made.
+// Makes the pages that a store writes, and asks the memory nothing where it lies on a page that is known to be made, if
+// one is. It tells such a page again, mostly that of the store, since the next store mostly lies there too. The error is
+// `NoMemory`, and some pages may have been made.
 pub(crate) fn prepare_store(
     registers: &Registers,
     memory: &mut Memory,

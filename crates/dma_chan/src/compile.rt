@@ -3,9 +3,9 @@
 ghost use Rattle.std.specs.Prelude.{ℕ, ◌≡◌, ◌+◌, ◌-◌, ◌*◌, ◌≤◌, ◌<◌, ◌^◌, ◌++◌, length, IfOk, IfSome, OnOk, map, All};
 ghost use Rattle.dma_insn.specs.Spelling.{spelling};
 ghost use Rattle.dma_insn.specs.ControlWord.{beat_bytes};
-ghost use Rattle.dma_chan.specs.Tree.{bytes_of, cost_of, in_order, Repeat};
-ghost use Rattle.dma_chan.specs.Compiled.{where_some, body, bursts, under, fits, beat_of, control_word, parts, piece_tree, wait_tree, signal_tree, tree_of, cost, compiled};
-ghost use Rattle.dma_chan.specs.Pieces.{pieces_of};
+ghost use Rattle.dma_chan.specs.Tree.{bytes_of, in_order, Repeat};
+ghost use Rattle.dma_chan.specs.inner.Compiling.{cost_of};
+ghost use Rattle.dma_chan.specs.Compiled.{where_some, body, bursts, under, fits, beat_of, control_word, parts, piece_tree, wait_tree, signal_tree, tree_of, cost, compiled, pieces_of};
 ghost use Rattle.dma_mem.specs.Rules.{IsTransfer};
 
 use crate::pieces::{Piece, cut};
@@ -17,7 +17,8 @@ use dma_mem::transfer::Transfer;
 use std::alloc::{AllocError, Global};
 use thiserror::Error;
 
-/// The most bytes that the program of a transfer has: 58 for each of at most 127 pieces, and the wait, the signal and the end.
+/// The most bytes that the program of a transfer has: 58 for each of at most 127 pieces, and the wait, the signal and the
+/// end.
 pub const MAX_COMPILED: usize = 7371;
 
 // The most bytes of a piece's code.
@@ -32,6 +33,7 @@ const OTHER_BYTES: usize = 5;
 pub struct NoMemory;
 
 impl From<AllocError> for NoMemory {
+    // The same error, whichever call met it.
     fn from(_refused: AllocError) -> NoMemory {
         NoMemory
     }
@@ -67,7 +69,7 @@ fn code_of(alloc: Global, transfer: &Transfer, pieces: &[Piece]) -> Result<Vec<u
 }
 
 // How many instructions a transfer's code executes, by its pieces.
-#[tactic(auto, using(crate::proofs::Counted::cost_of_tree, crate::proofs::Counted::cost_counted))]
+#[tactic(auto, using(crate::proofs::TreeCosts::cost_of_tree, crate::proofs::TreeCosts::cost_counted))]
 fn cost_of(transfer: &Transfer, pieces: &[Piece]) -> u32
     requires rules { IsTransfer transfer.now }
     requires pieces { pieces.now ≡ pieces_of transfer.now }
@@ -77,7 +79,7 @@ fn cost_of(transfer: &Transfer, pieces: &[Piece]) -> u32
 }
 
 // How many instructions a wait or a signal executes, where there is one.
-#[tactic(auto, using(crate::proofs::Counted::cost_counted))]
+#[tactic(auto, using(crate::proofs::TreeCosts::cost_counted))]
 fn event_cost(event: Option<u8>) -> u32
     ensures wait { result ≡ cost_of (wait_tree event) }
     ensures signal { result ≡ cost_of (signal_tree event) }
@@ -157,7 +159,7 @@ fn push_parts(code: &mut Vec<u8>, size: BeatSize, len: u32) -> Result<(), AllocE
 }
 
 // Appends bursts of 16 beats, where there are any.
-#[tactic(auto, using(crate::proofs::Where::where_some_there, crate::proofs::Where::where_some_none))]
+#[tactic(auto, using(crate::proofs::TreeParts::where_some_there, crate::proofs::TreeParts::where_some_none))]
 fn push_whole_bursts(code: &mut Vec<u8>, size: BeatSize, count: u32) -> Result<(), AllocError>
     requires { count ≤ 65536 }
     ensures ok { OnOk result (code.new.items ≡ code.old.items ++ bytes_of (where_some count (under (control_word (beat_bytes size) 16) (bursts count)))) }
@@ -180,7 +182,7 @@ fn push_bursts(code: &mut Vec<u8>, count: u32) -> Result<(), AllocError>
 }
 
 // Appends whole turns of 256 bursts, where there are any.
-#[tactic(auto, using(crate::proofs::Where::where_some_there, crate::proofs::Where::where_some_none))]
+#[tactic(auto, using(crate::proofs::TreeParts::where_some_there, crate::proofs::TreeParts::where_some_none))]
 fn push_nested_loop(code: &mut Vec<u8>, turns: u16) -> Result<(), AllocError>
     requires { turns ≤ 256 }
     ensures ok { OnOk result (code.new.items ≡ code.old.items ++ bytes_of (where_some turns (Repeat Counter.Lc0 turns (Repeat Counter.Lc1 256 body)))) }
@@ -208,7 +210,7 @@ fn push_nested_loop(code: &mut Vec<u8>, turns: u16) -> Result<(), AllocError>
 }
 
 // Appends fewer bursts than 256, where there are any.
-#[tactic(auto, using(crate::proofs::Where::where_some_there, crate::proofs::Where::where_some_none))]
+#[tactic(auto, using(crate::proofs::TreeParts::where_some_there, crate::proofs::TreeParts::where_some_none))]
 fn push_rest(code: &mut Vec<u8>, rest: u16) -> Result<(), AllocError>
     requires { rest ≤ 256 }
     ensures ok { OnOk result (code.new.items ≡ code.old.items ++ bytes_of (where_some rest (Repeat Counter.Lc1 rest body))) }
@@ -245,7 +247,7 @@ fn push_loop(code: &mut Vec<u8>, turns: u16) -> Result<(), AllocError>
 }
 
 // Appends one burst of so many beats, where there are any.
-#[tactic(auto, using(crate::proofs::Where::where_some_there, crate::proofs::Where::where_some_none))]
+#[tactic(auto, using(crate::proofs::TreeParts::where_some_there, crate::proofs::TreeParts::where_some_none))]
 fn push_burst(code: &mut Vec<u8>, size: BeatSize, beats: u32) -> Result<(), AllocError>
     requires { beats ≤ 16 }
     ensures ok { OnOk result (code.new.items ≡ code.old.items ++ bytes_of (where_some beats (under (control_word (beat_bytes size) beats) body))) }
@@ -305,7 +307,7 @@ fn beat_of(piece: Piece) -> BeatSize
 }
 
 // The control word of bursts of so many beats of a size, with both increments.
-#[tactic(auto, using(crate::proofs::Words::both_ends))]
+#[tactic(auto, using(crate::proofs::ControlWords::both_ends))]
 fn control_word(size: BeatSize, beats: u32) -> u32
     requires low { 1 ≤ beats }
     requires high { beats ≤ 16 }
@@ -323,7 +325,7 @@ fn control_word(size: BeatSize, beats: u32) -> u32
 }
 
 // How many instructions the code of pieces executes.
-#[tactic(auto, using(crate::proofs::Spelled::cost_done))]
+#[tactic(auto, using(crate::proofs::PieceCode::cost_done))]
 fn pieces_cost(pieces: &[Piece]) -> u32
     requires lens { All (λ p. p.len ≤ 2 ^ 20) pieces.now }
     requires few { length pieces.now ≤ 127 }
@@ -338,7 +340,7 @@ fn pieces_cost(pieces: &[Piece]) -> u32
 }
 
 // How many instructions a piece's code executes.
-#[tactic(auto, unfolding(crate::specs::Compiled::parts), using(crate::proofs::Counted::cost_counted))]
+#[tactic(auto, unfolding(crate::specs::Compiled::parts), using(crate::proofs::TreeCosts::cost_counted))]
 fn piece_cost(piece: Piece) -> u32
     requires { piece.len ≤ 2 ^ 20 }
     ensures value { result ≡ cost_of (piece_tree piece) }
@@ -351,7 +353,7 @@ fn piece_cost(piece: Piece) -> u32
 }
 
 // How many instructions bursts of 16 beats execute, with their control word, where there are any.
-#[tactic(auto, using(crate::proofs::Counted::cost_counted))]
+#[tactic(auto, using(crate::proofs::TreeCosts::cost_counted))]
 fn whole_bursts_cost(count: u32) -> u32
     requires { count ≤ 65536 }
     ensures value { (w : ℕ) → result ≡ cost_of (where_some count (under w (bursts count))) }
@@ -368,7 +370,7 @@ fn whole_bursts_cost(count: u32) -> u32
 }
 
 // How many instructions one burst executes, with its control word, where it has any beats.
-#[tactic(auto, using(crate::proofs::Counted::cost_counted))]
+#[tactic(auto, using(crate::proofs::TreeCosts::cost_counted))]
 fn burst_cost(beats: u32) -> u32
     ensures value { (w : ℕ) → result ≡ cost_of (where_some beats (under w body)) }
     ensures limit { result ≤ 5 }

@@ -1,16 +1,14 @@
-//! One instruction, executed.
+//! The registers of a channel, and one instruction, executed.
 
 ghost use Rattle.std.specs.Prelude.{◌≡◌, ℕ, ◌+◌, ◌-◌, ◌≤◌, ◌<◌, Bool, IsTrue, IfSome, IsNone, List, length, Ok};
 ghost use Rattle.dma_insn.specs.Spelling.{spelling};
 ghost use Rattle.dma_insn.specs.declared.insn.Insn.TheVariants.{Mov, Lp, LpEnd, Sev, Wfe};
-ghost use Rattle.dma_chan.specs.Registers.{counter_of};
-ghost use Rattle.dma_chan.specs.declared.registers.Registers.{Registers};
-ghost use Rattle.dma_chan.specs.Exec.{act, fault_in, faults, state};
+ghost use Rattle.dma_chan.specs.Exec.{counter_of, act, fault_in, faults, state};
+ghost use Rattle.dma_chan.specs.declared.exec.Registers.{Registers};
 ghost use Rattle.dma_chan.specs.Ready.{finds_pages};
 ghost use Rattle.dma_mem.specs.Marking.{MarkList};
 
 use crate::bursts::{load_burst, load_fault, store_burst, store_fault};
-use crate::registers::Registers;
 use crate::turn::{ChanTurn, FaultKind};
 use circular_buffer::HeapCircularBuffer;
 use dma_insn::control::ControlWord;
@@ -18,6 +16,36 @@ use dma_insn::insn::{Counter, Event, Insn, Reg, Times};
 use dma_mem::events::Events;
 use dma_mem::marks::Marks;
 use dma_mem::memory::Memory;
+
+/// What instructions move: the offset of the next instruction in the program, the source and destination addresses, the
+/// control word, and the two loop counters, the manual's SAR, DAR, CCR, LC0 and LC1.
+#[derive(Clone, Copy, PartialEq, Eq, Debug)]
+pub struct Registers {
+    pub pc: u32,
+    pub sar: u32,
+    pub dar: u32,
+    pub ccr: ControlWord,
+    pub lc0: u8,
+    pub lc1: u8,
+}
+
+impl Registers {
+    ghost use Rattle.dma_chan.specs.Exec.{start};
+
+    // All registers at 0.
+    pub(crate) fn start() -> Registers
+        ensures { result ≡ start }
+    {
+        Registers {
+            pc: 0,
+            sar: 0,
+            dar: 0,
+            ccr: ControlWord::zero(),
+            lc0: 0,
+            lc1: 0,
+        }
+    }
+}
 
 // The fault that DMAMOV answers: at a control word that isn't accepted.
 fn set_fault(reg: Reg, value: u32) -> Option<FaultKind>
@@ -95,7 +123,7 @@ fn jump_fault(counter: Counter, back: u8, registers: &Registers) -> Option<Fault
 }
 
 // Executes DMALPEND.
-#[tactic(auto, using(crate::proofs::Loops::looped_again))]
+#[tactic(auto, using(crate::proofs::LoopEnds::looped_again))]
 fn end_loop(counter: Counter, back: u8, registers: &mut Registers) -> ChanTurn
     requires pc { registers.old.pc + 2 ≤ 8192 }
     ensures exact { (marks : MarkList) (buffer image : List ℕ) (flags : List Bool) → act marks (LpEnd counter back) (state registers.old buffer image flags) ≡ (result, state registers.new buffer image flags) }

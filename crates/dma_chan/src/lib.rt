@@ -13,7 +13,6 @@ pub mod next;
 mod page_tests;
 mod pieces;
 pub mod program;
-mod registers;
 pub mod run;
 #[cfg(test)]
 mod tests;

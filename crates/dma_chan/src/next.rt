@@ -1,8 +1,8 @@
-//! What stands at a place of a program.
+//! What stands at an offset of a program.
 
 ghost use Rattle.std.specs.Prelude.{◌≡◌, ◌≤◌, length};
 ghost use Rattle.dma_insn.specs.Spelling.{spelling};
-ghost use Rattle.dma_chan.specs.Exec.{fetch_fault, next_of};
+ghost use Rattle.dma_chan.specs.Next.{fetch_fault, next_of};
 
 use crate::turn::FaultKind;
 use dma_insn::codec::{DecodeFault, decode};
@@ -33,6 +33,7 @@ impl Model for Next {
     ghost inverse_ok = { λ n h. ap (λ k. record { insn = n.insn; len = k }) (sym h) };
 }
 
+// The fault that a channel answers where the decoder refuses.
 fn fetch_fault(fault: DecodeFault) -> FaultKind
     ensures { result ≡ fetch_fault fault }
 {
@@ -44,10 +45,10 @@ fn fetch_fault(fault: DecodeFault) -> FaultKind
 }
 
 impl Next {
-    // What stands at a place of a program, or the fault of fetching it.
+    // What stands at an offset of a program, or the fault of fetching it.
     #[inline(always)]
     pub(crate) fn at(program: &[u8], pc: u32) -> Result<Next, FaultKind>
-        requires place { pc ≤ length program.now }
+        requires offset { pc ≤ length program.now }
         requires limit { length program.now ≤ 8192 }
         ensures { result ≡ next_of program.now pc }
     {

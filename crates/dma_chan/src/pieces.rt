@@ -2,7 +2,8 @@
 
 ghost use Rattle.std.specs.Prelude.{◌≡◌, ◌∷◌, ◌++◌, OnOk, IfOk};
 ghost use Rattle.std.specs.List.{AllByRecursion};
-ghost use Rattle.dma_chan.specs.Pieces.{pieces, byte_count, IsRange};
+ghost use Rattle.dma_chan.specs.Compiled.{pieces};
+ghost use Rattle.dma_chan.specs.inner.Compiling.{byte_count, IsRange};
 
 use dma_mem::segment::Segment;
 use std::alloc::{AllocError, Global};
@@ -40,7 +41,7 @@ pub(crate) fn cut(
 }
 
 // The same for two lists that each have a first segment, which may be what is left of one.
-#[tactic(auto, using(crate::proofs::Steps::pieces_less, crate::proofs::Steps::pieces_more, crate::proofs::Steps::pieces_same))]
+#[tactic(auto, using(crate::proofs::CutSteps::pieces_less, crate::proofs::CutSteps::pieces_more, crate::proofs::CutSteps::pieces_same))]
 fn cut_from(
     out: &mut Vec<Piece>,
     src: Segment,

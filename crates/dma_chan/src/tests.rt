@@ -26,7 +26,7 @@ fn end_of(alloc: Global, bytes: &[u8], limit: u32) -> Result<RunEnd, Fail> {
 
 #[test]
 fn run_alone_until_a_fault(rt: HostRuntime) -> Result<(), Fail> {
-    // Each program, what its run fails by, and at which place.
+    // Each program, what its run fails by, and at which offset.
     let rows: [(&[u8], FaultKind, u32); 10] = [
         (b"\x08\0", FaultKind::StDataUnavailable, 0),
         (b"\xbc\x01\x0b\0\0\0", FaultKind::OperandInvalid, 0),
@@ -189,8 +189,8 @@ impl Machine {
         true
     }
 
-    // What comes next, with its place and the counts.
-    fn place(&self) -> (Option<Result<Insn, FaultKind>>, u32, u32, u64) {
+    // What comes next, with its offset and the counts.
+    fn next_up(&self) -> (Option<Result<Insn, FaultKind>>, u32, u32, u64) {
         let next = if self.channel.is_loaded() {
             Some(self.channel.ahead())
         } else {
@@ -232,7 +232,7 @@ fn a_marked_load_changes_nothing(rt: HostRuntime) -> Result<(), Fail> {
         .add(MarkKind::Reading, Segment { addr: 0x20, len: 1 })?;
     let refused = Some(ChanTurn::Fault(FaultKind::DataReadErr));
     assert_eq!(rt; machine.step(), refused);
-    assert_eq!(rt; machine.place(), (Some(Ok(Insn::Ld)), 25, 5, 0));
+    assert_eq!(rt; machine.next_up(), (Some(Ok(Insn::Ld)), 25, 5, 0));
     assert!(rt; machine.is_untouched());
     machine.marks.clear();
     assert!(rt; machine.moves(2));
@@ -243,7 +243,7 @@ fn a_marked_load_changes_nothing(rt: HostRuntime) -> Result<(), Fail> {
     assert_eq!(rt; machine.byte(0xa0), Some(0x10));
     assert_eq!(rt; machine.byte(0xbf), Some(0x2f));
     assert_eq!(rt; machine.step(), Some(ChanTurn::Ended));
-    assert_eq!(rt; machine.place(), (None, 28, 9, 64));
+    assert_eq!(rt; machine.next_up(), (None, 28, 9, 64));
     Ok(())
 }
 
@@ -256,7 +256,7 @@ fn a_fault_is_told_before_its_step(rt: HostRuntime) -> Result<(), Fail> {
         .marks
         .add(MarkKind::Reading, Segment { addr: 0x20, len: 1 })?;
     assert_eq!(rt; machine.failing(), Some(FaultKind::DataReadErr));
-    assert_eq!(rt; machine.place(), (Some(Ok(Insn::Ld)), 25, 5, 0));
+    assert_eq!(rt; machine.next_up(), (Some(Ok(Insn::Ld)), 25, 5, 0));
     assert!(rt; machine.is_untouched());
     let refused = Some(ChanTurn::Fault(FaultKind::DataReadErr));
     assert_eq!(rt; machine.step(), refused);
@@ -269,7 +269,7 @@ fn an_instruction_is_executed_as_it_was_read(rt: HostRuntime) -> Result<(), Fail
     assert!(rt; machine.moves(6));
     let turn = machine.read_once();
     assert_eq!(rt; turn, Some((Insn::St, None, ChanTurn::Moved)));
-    assert_eq!(rt; machine.place(), (Some(Ok(Insn::St)), 27, 7, 32));
+    assert_eq!(rt; machine.next_up(), (Some(Ok(Insn::St)), 27, 7, 32));
     assert_eq!(rt; machine.byte(0x80), Some(0x40));
     assert_eq!(rt; machine.byte(0x9f), Some(0x5f));
     assert!(rt; machine.moves(1));
@@ -290,9 +290,9 @@ fn a_marked_store_changes_nothing(rt: HostRuntime) -> Result<(), Fail> {
     let refused = Some(ChanTurn::Fault(FaultKind::DataWriteErr));
     assert_eq!(rt; machine.step(), refused);
     assert_eq!(rt; machine.byte(0x80), Some(0x80));
-    assert_eq!(rt; machine.place(), (Some(Ok(Insn::St)), 26, 6, 0));
+    assert_eq!(rt; machine.next_up(), (Some(Ok(Insn::St)), 26, 6, 0));
     machine.channel.unload();
-    assert_eq!(rt; machine.place(), (None, 26, 6, 0));
+    assert_eq!(rt; machine.next_up(), (None, 26, 6, 0));
     Ok(())
 }
 
@@ -329,7 +329,7 @@ fn a_wait_keeps_its_place(rt: HostRuntime) -> Result<(), Fail> {
     assert!(rt; machine.moves(1));
     assert!(rt; !machine.events.is_set(3));
     let unknown = Some(Err(FaultKind::UndefInstr));
-    assert_eq!(rt; machine.place(), (unknown, 2, 1, 0));
+    assert_eq!(rt; machine.next_up(), (unknown, 2, 1, 0));
     Ok(())
 }
 
@@ -366,7 +366,7 @@ fn what_is_left_falls_by_one_each_step(rt: HostRuntime) -> Result<(), Fail> {
     assert_eq!(rt; machine.channel.left(), Some(1));
     assert_eq!(rt; machine.step(), Some(ChanTurn::Ended));
     assert_eq!(rt; machine.channel.left(), None);
-    assert_eq!(rt; machine.place(), (None, 36, 20, 40));
+    assert_eq!(rt; machine.next_up(), (None, 36, 20, 40));
     assert_eq!(rt; machine.byte(0x81), Some(0x81));
     assert_eq!(rt; machine.byte(0x82), Some(0x11));
     assert_eq!(rt; machine.byte(0xa9), Some(0x38));

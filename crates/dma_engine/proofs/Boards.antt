@@ -10,15 +10,14 @@ use Rattle.dma_engine.specs.declared.entry.Entry.TheVariants.{Wrote, ReadBack, S
 use Rattle.dma_engine.specs.declared.entry.Signaller.TheVariants.{Channel, Host}
 use Rattle.dma_engine.specs.declared.outcome.TransResult.{TransResult}
 use Rattle.dma_engine.specs.declared.outcome.TransResult.TheVariants.{NoError, ReadFailed, WriteFailed, Aborted}
-use Rattle.dma_engine.specs.Object.{Object, ChannelState, Allows, after, channel, new_channel, with_channel, used, finished, last_cookie, aborted, opening, FrontIs, outcome_of, front_of, with_flag, with_front_laid}
+use Rattle.dma_engine.specs.Object.{Object, ChannelState, Allows, after, channel, empty_channel, with_channel, used, finished, last_cookie, aborted, opening, FrontIs, outcome_of, front_of, with_flag, with_front_laid}
 use Rattle.dma_engine.specs.History.{object_after, IsLegal}
-use Rattle.dma_engine.specs.Ticks.{Board, Counts, board_after, board_of, counts, counts_of, no_counts, ticks_of, added_up}
+use Rattle.dma_engine.specs.Ticks.{Board, Counts, board_after, board_of, counts, counts_of, no_counts, ticks_of, added_up, status_of}
 use Rattle.dma_engine.specs.declared.queue.Queue.{Queue}
 use Rattle.dma_engine.specs.declared.turn.Status.TheVariants.{Unknown, InProgress, Complete}
 use Rattle.dma_engine.specs.Answer.{status_in}
-use Rattle.dma_engine.specs.Ticks.{status_of}
 use Rattle.dma_engine.specs.View.{View, object_of}
-use Rattle.dma_engine.specs.Holds.{Holds, Parts, view_of}
+use Rattle.dma_engine.specs.inner.Holds.{Holds, Parts, view_of}
 use Rattle.dma_engine.proofs.Queues.{front_where, holds-at}
 
 -- ---- what bounds the counts
@@ -35,14 +34,14 @@ AreCounted o = (ch : ℕ) → IsCounted (channel o ch)
 -- a channel that is there or not, after it was set
 pub with_channel-at : (o : Object) (ch : ℕ) (c : ChannelState) → (channel (with_channel o ch c) ch ≡ c) ⊎ (channel (with_channel o ch c) ch ≡ channel o ch)
 with_channel-at o ch c = elim (cases_lt ch (length o.channels)) [
-  | inl less ↦ inl (get_or-set_same o.channels ch c new_channel less)
-  | inr past ↦ inr (get_or_past (slice_set o.channels ch c) ch new_channel (omega (arith, length-set o.channels ch c)) ∙ sym (get_or_past o.channels ch new_channel past))
+  | inl less ↦ inl (get_or-set_same o.channels ch c empty_channel less)
+  | inr past ↦ inr (get_or_past (slice_set o.channels ch c) ch empty_channel (omega (arith, length-set o.channels ch c)) ∙ sym (get_or_past o.channels ch empty_channel past))
 ]
 
 counted-with : (o : Object) (ch : ℕ) (c : ChannelState) → AreCounted o → IsCounted c → AreCounted (with_channel o ch c)
 counted-with o ch c h n = λ d. elim (cases_eq d ch) [
   | inl e ↦ elim (with_channel-at o ch c) [ inl f ↦ rw (e, f) n | inr f ↦ rw (e, f) (h ch) ]
-  | inr e ↦ rw (get_or-set_other o.channels ch d c new_channel e) (h d)
+  | inr e ↦ rw (get_or-set_other o.channels ch d c empty_channel e) (h d)
 ]
 
 length-aborted : (done : ℕ) (ts : List Descriptor) → length (aborted done ts) ≡ length ts
@@ -101,14 +100,14 @@ counted-object o (e ∷ es) h a = counted-object (after o e) es (counted-after o
 pub counted-opening : (bytes many : ℕ) → AreCounted (opening bytes many)
 unfolding opening
 counted-opening bytes many = λ ch. elim (cases_lt ch many) [
-  | inl less ↦ rw (get_or-replicate many ch new_channel new_channel less) (record { finish = omega arith; issue = omega arith; give = omega arith })
-  | inr past ↦ rw (get_or_past (replicate many new_channel) ch new_channel (omega (arith, length-replicate many new_channel))) (record { finish = omega arith; issue = omega arith; give = omega arith })
+  | inl less ↦ rw (get_or-replicate many ch empty_channel empty_channel less) (record { finish = omega arith; issue = omega arith; give = omega arith })
+  | inr past ↦ rw (get_or_past (replicate many empty_channel) ch empty_channel (omega (arith, length-replicate many empty_channel))) (record { finish = omega arith; issue = omega arith; give = omega arith })
 ]
 
 -- ---- the ticks add up to the counts
 
 counts-at : (o : Object) (ch : ℕ) → counts (board_of o) ch ≡ counts_of (channel o ch)
-counts-at o ch = get_or-map counts_of o.channels ch new_channel
+counts-at o ch = get_or-map counts_of o.channels ch empty_channel
 
 board-with : (o : Object) (ch : ℕ) (c : ChannelState) → board_of (with_channel o ch c) ≡ slice_set (board_of o) ch (counts_of c)
 board-with o ch c = map-set counts_of o.channels ch c
@@ -174,48 +173,43 @@ board-is o (e ∷ es) h a =
 -- ---- the readings
 
 -- what bounds a queue
-pub queue-small : (p : Parts) → Holds p → (ch : ℕ) (q : Queue) → ch < length p.queues → q ≡ slice_index_or p.queues ch q → (length q.places.items ≤ last_cookie) × (length q.outcomes.items ≤ length q.places.items)
+pub queue-small : (p : Parts) → Holds p → (ch : ℕ) (q : Queue) → ch < length p.queues → q ≡ slice_index_or p.queues ch q → (length q.indices.items ≤ last_cookie) × (length q.outcomes.items ≤ length q.indices.items)
 queue-small p h ch q less read =
     let v : View = view_of p in
     let at = holds-at p h ch q less read in
     let c = counted-object v.base p.history (counted-opening p.size (length p.queues)) h.sound.legal ch in
     (omega (arith, at.tied.many, c.give), omega (arith, at.tied.many, ap length at.tied.outcomes, c.finish))
 
--- how far a cookie is, by the counts of its channel
-pub status-is : (p : Parts) → Holds p → (ch cookie : ℕ) → let c = channel (object_of (view_of p)) ch in status_in (view_of p) ch cookie ≡ (if cookie == 0 || nat_lt (used c) cookie then Unknown else (if nat_le cookie (finished c) then Complete else InProgress))
-status-is p h ch cookie =
-    let v : View = view_of p in
-    let is = board-is v.base p.history (counted-opening p.size (length p.queues)) h.sound.legal in
-    ap (λ b. status_of b ch cookie) is
-    ∙ ap (λ (x : Counts). if cookie == 0 || nat_lt x.used cookie then Unknown else (if nat_le cookie x.finished then Complete else InProgress)) (counts-at (object_of v) ch)
+-- how far a cookie is, in each case of the reading
+pub status-zero : (v : View) (ch cookie : ℕ) → cookie ≡ 0 → Unknown ≡ status_in v ch cookie
+status-zero v ch cookie is = let e : (cookie == 0) ≡ true = eq-eqb cookie 0 is in rw e refl
 
-pub status-zero : (p : Parts) → Holds p → (ch cookie : ℕ) → cookie ≡ 0 → Unknown ≡ status_in (view_of p) ch cookie
-status-zero p h ch cookie is = let e : (cookie == 0) ≡ true = eq-eqb cookie 0 is in sym (status-is p h ch cookie ∙ rw e refl)
-
-pub status-above : (p : Parts) → Holds p → (ch cookie : ℕ) → cookie ≢ 0 → used (channel (object_of (view_of p)) ch) < cookie → Unknown ≡ status_in (view_of p) ch cookie
-status-above p h ch cookie some above =
-    let n = used (channel (object_of (view_of p)) ch) in
+pub status-above : (v : View) (ch cookie : ℕ) → cookie ≢ 0 → used (channel (object_of v) ch) < cookie → Unknown ≡ status_in v ch cookie
+status-above v ch cookie some above =
     let e : (cookie == 0) ≡ false = ne_eqb cookie 0 some in
-    let f : nat_lt n cookie ≡ true = lt-ltb n cookie above in
-    sym (status-is p h ch cookie ∙ rw (e, f) refl)
+    let f : nat_lt (used (channel (object_of v) ch)) cookie ≡ true = lt-ltb _ cookie above in
+    rw (e, f) refl
 
-pub status-complete : (p : Parts) → Holds p → (ch cookie : ℕ) → cookie ≢ 0 → cookie ≤ used (channel (object_of (view_of p)) ch) → cookie ≤ finished (channel (object_of (view_of p)) ch) → Complete ≡ status_in (view_of p) ch cookie
-status-complete p h ch cookie some given done =
-    let n = used (channel (object_of (view_of p)) ch) in
-    let m = finished (channel (object_of (view_of p)) ch) in
+pub status-complete : (v : View) (ch cookie : ℕ) → cookie ≢ 0 → cookie ≤ used (channel (object_of v) ch) → cookie ≤ finished (channel (object_of v) ch) → Complete ≡ status_in v ch cookie
+status-complete v ch cookie some given done =
     let e : (cookie == 0) ≡ false = ne_eqb cookie 0 some in
-    let f : nat_lt n cookie ≡ false = le-ltb n cookie given in
-    let g : nat_le cookie m ≡ true = le-leb cookie m done in
-    sym (status-is p h ch cookie ∙ rw (e, f, g) refl)
+    let f : nat_lt (used (channel (object_of v) ch)) cookie ≡ false = le-ltb _ cookie given in
+    let g : nat_le cookie (finished (channel (object_of v) ch)) ≡ true = le-leb cookie _ done in
+    rw (e, f, g) refl
 
-pub status-progress : (p : Parts) → Holds p → (ch cookie : ℕ) → cookie ≢ 0 → cookie ≤ used (channel (object_of (view_of p)) ch) → finished (channel (object_of (view_of p)) ch) < cookie → InProgress ≡ status_in (view_of p) ch cookie
-status-progress p h ch cookie some given still =
-    let n = used (channel (object_of (view_of p)) ch) in
-    let m = finished (channel (object_of (view_of p)) ch) in
+pub status-progress : (v : View) (ch cookie : ℕ) → cookie ≢ 0 → cookie ≤ used (channel (object_of v) ch) → finished (channel (object_of v) ch) < cookie → InProgress ≡ status_in v ch cookie
+status-progress v ch cookie some given still =
     let e : (cookie == 0) ≡ false = ne_eqb cookie 0 some in
-    let f : nat_lt n cookie ≡ false = le-ltb n cookie given in
-    let g : nat_le cookie m ≡ false = lt-leb cookie m still in
-    sym (status-is p h ch cookie ∙ rw (e, f, g) refl)
+    let f : nat_lt (used (channel (object_of v) ch)) cookie ≡ false = le-ltb _ cookie given in
+    let g : nat_le cookie (finished (channel (object_of v) ch)) ≡ false = lt-leb cookie _ still in
+    rw (e, f, g) refl
+
+-- how far a cookie is, by the board that the ticks of the history add up to
+pub status-by-board : (v : View) (ch cookie : ℕ) → AreCounted v.base → IsLegal v.base v.history → status_in v ch cookie ≡ status_of (board_after (board_of v.base) (ticks_of v.history)) ch cookie
+status-by-board v ch cookie counted legal =
+    let is = board-is v.base v.history counted legal in
+    ap (λ (x : Counts). if cookie == 0 || nat_lt x.used cookie then Unknown else (if nat_le cookie x.finished then Complete else InProgress)) (sym (counts-at (object_of v) ch))
+    ∙ ap (λ b. status_of b ch cookie) (sym is)
 
 pub counted-at : (p : Parts) → Holds p → (ch : ℕ) → IsCounted (channel (object_of (view_of p)) ch)
 counted-at p h ch =

@@ -4,21 +4,22 @@ use Rattle.std.specs.Prelude.{slice_get, slice_index, slice_index_or, slice_set,
 use Rattle.std.specs.List.{Contains}
 use Rattle.std.proofs.lemmas.Bool.{cases_eq}
 use Rattle.std.proofs.lemmas.List.{map-set, set-get_or, length-set, get_or-map, get_or-set_same, get_or-set_other}
-use Rattle.dma_mem.specs.Places.{Descriptor, IsFree, is_free_of, sources, destinations}
-use Rattle.dma_mem.proofs.Sharing.{share_none, is_free_of-true}
-use Rattle.dma_mem.proofs.Transfers.{IsFree-sym}
+use Rattle.dma_mem.specs.Places.{Descriptor, is_free_of, sources, destinations}
+use Rattle.dma_mem.specs.Meeting.{IsFree}
+use Rattle.dma_mem.proofs.SharedPlaces.{share_none, is_free_of-true}
+use Rattle.dma_mem.proofs.OverTransfers.{IsFree-sym}
 use Rattle.dma_chan.specs.Channel.{ChannelValue}
-use Rattle.dma_chan.specs.Layer.{IsAt}
+use Rattle.dma_chan.specs.inner.At.{IsAt}
 use Rattle.dma_mem.specs.Marking.{MarkList}
 use Rattle.dma_chan.specs.Programs.{ProgramValue}
-use Rattle.dma_chan.proofs.Layers.{survives}
+use Rattle.dma_chan.proofs.LayerLaws.{survives}
 use Rattle.dma_engine.specs.declared.entry.Entry.{Entry}
 use Rattle.dma_engine.specs.declared.queue.Queue.{Queue}
-use Rattle.dma_engine.specs.Object.{Object, ChannelState, channel, new_channel, after, Allows, front}
+use Rattle.dma_engine.specs.Object.{Object, ChannelState, channel, empty_channel, after, Allows, front}
 use Rattle.dma_engine.specs.History.{object_after, IsLegal}
 use Rattle.dma_engine.specs.View.{View, ChannelSchedule, RunningTransfer, Fits, Agrees, AreFree, IsSound, runs_there, runs, idle, object_of, memory_of, memory_shown}
-use Rattle.dma_engine.specs.Ranges.{AreOfRunning}
-use Rattle.dma_engine.specs.Holds.{Holds, IsPrepared, IsQueue, IsRun, Parts, view_of, schedule_of}
+use Rattle.dma_engine.specs.inner.Ranges.{AreOfRunning}
+use Rattle.dma_engine.specs.inner.Holds.{Holds, IsPrepared, IsQueue, IsRun, Parts, view_of, schedule_of}
 use Rattle.dma_engine.proofs.Histories.{object_after-append, IsLegal-append}
 use Rattle.dma_engine.proofs.Queues.{slice_get-push}
 
@@ -94,7 +95,7 @@ holds-entered p e memory events marks h w =
     let o = object_of v in
     let step : object_of u ≡ after o e = object_after-append v.base p.history (e ∷ []) in
     let channels = ap (λ (x : Object). x.channels) step ∙ w.stay in
-    let same : (ch : ℕ) → runs (object_of u) u.schedule ch ≡ runs o v.schedule ch = λ ch. ap (λ l. runs_there ch (slice_index_or l ch new_channel) (slice_index_or v.schedule ch idle).taken) channels in
+    let same : (ch : ℕ) → runs (object_of u) u.schedule ch ≡ runs o v.schedule ch = λ ch. ap (λ l. runs_there ch (slice_index_or l ch empty_channel) (slice_index_or v.schedule ch idle).taken) channels in
     record {
       sound = record {
         opens = h.sound.opens;

@@ -5,27 +5,28 @@ use Rattle.std.proofs.lemmas.Bool.{cases_eq, true≢false, eq-eqb, ne_eqb, ltb-f
 use Rattle.std.proofs.lemmas.List.{ext_get_or, length-set, length-drop, length-map, get_or-drop, map_more, get_or-set_same, get_or-set_other}
 use Rattle.std.proofs.lemmas.List.Elements.{All-append}
 use Rattle.dma_mem.specs.Image.{put, after_moves, laid}
-use Rattle.dma_mem.specs.Places.{Descriptor, IsFree, size_of}
-use Rattle.dma_mem.proofs.Puts.{length-put, get_or-put}
+use Rattle.dma_mem.specs.Places.{Descriptor, size_of}
+use Rattle.dma_mem.specs.Meeting.{IsFree}
+use Rattle.dma_mem.proofs.ImagePut.{length-put, get_or-put}
 use Rattle.dma_chan.specs.Compiled.{cost}
 use Rattle.dma_chan.specs.Traffic.{stored_after}
-use Rattle.dma_chan.proofs.Shape.{stored_is}
+use Rattle.dma_chan.proofs.ShapeLaws.{stored_is}
 use Rattle.dma_engine.specs.declared.entry.Entry.TheVariants.{Finished, Terminated}
 use Rattle.dma_engine.specs.declared.outcome.Outcome.{Outcome}
 use Rattle.dma_engine.specs.declared.outcome.TransResult.{TransResult}
 use Rattle.dma_engine.specs.declared.outcome.TransResult.TheVariants.{Aborted}
 use Rattle.dma_engine.specs.declared.queue.Queue.{Queue}
-use Rattle.dma_engine.specs.Object.{Object, ChannelState, Allows, CanHaveStored, after, channel, new_channel, front, issued_front, front_of, no_transfer, finished, unfinished, with_outcome, with_all_aborted, outcome_of, aborted, is_failure}
+use Rattle.dma_engine.specs.Object.{Object, ChannelState, Allows, CanHaveStored, after, channel, empty_channel, front, issued_front, front_of, no_transfer, finished, unfinished, with_outcome, with_all_aborted, outcome_of, aborted, is_failure}
 use Rattle.dma_engine.specs.View.{View, ChannelSchedule, RunningTransfer, Agrees, runs, runs_there, memory_shown, object_of, channels}
 use Rattle.dma_engine.specs.Answer.{done_by, done_on, terminated}
-use Rattle.dma_engine.specs.Holds.{Holds, Parts, view_of, schedule_of}
+use Rattle.dma_engine.specs.inner.Holds.{Holds, Parts, view_of, schedule_of}
 use Rattle.dma_engine.proofs.Changes.{changed, changed_view, view-changed, holds-changed, runs-here, runs-other}
 use Rattle.dma_engine.proofs.InTheWay.{taken-none}
 use Rattle.dma_engine.proofs.Histories.{object_after-append, IsLegal-append}
 use Rattle.dma_engine.proofs.Memory.{shown-ended}
 use Rattle.dma_engine.proofs.Queues.{holds-at, slice_get-push}
-use Rattle.dma_engine.proofs.Quiet.{shown-both}
-use Rattle.dma_engine.proofs.Ruled.{running, free-others}
+use Rattle.dma_engine.proofs.QueueCalls.{shown-both}
+use Rattle.dma_engine.proofs.TransferRules.{running, free-others}
 use Rattle.dma_engine.proofs.WhatRuns.{running-same, below, above}
 
 -- ---- nothing laid
@@ -124,7 +125,7 @@ abbrev pub queue_terminated : Queue → ℕ → List Outcome → ℕ → Queue
 queue_terminated q spare outcomes issued =
     record q { outcomes = record { items = q.outcomes.items ++ outcomes; spare = spare }; issued = issued; paused = false; halted = false; channel = record (q.channel) { program = None }; ranges = None }
 
-pub holds-terminated : (p : Parts) (ch spare count issued : ℕ) (q : Queue) (outcomes : List Outcome) → Holds p → ch < length p.queues → q ≡ slice_index_or p.queues ch q → let c = channel (object_of (view_of p)) ch in let done = done_on (view_of p) ch in outcomes ≡ aborted done (drop (finished c) c.submitted) → issued ≡ length q.places.items → count ≡ unfinished c → Holds (changed p ch (queue_terminated q spare outcomes issued) p.memory p.events (p.history ++ Terminated ch done count ∷ []) p.steps)
+pub holds-terminated : (p : Parts) (ch spare count issued : ℕ) (q : Queue) (outcomes : List Outcome) → Holds p → ch < length p.queues → q ≡ slice_index_or p.queues ch q → let c = channel (object_of (view_of p)) ch in let done = done_on (view_of p) ch in outcomes ≡ aborted done (drop (finished c) c.submitted) → issued ≡ length q.indices.items → count ≡ unfinished c → Holds (changed p ch (queue_terminated q spare outcomes issued) p.memory p.events (p.history ++ Terminated ch done count ∷ []) p.steps)
 holds-terminated p ch spare count issued q outcomes h less read all_of many number =
     let v : View = view_of p in
     let o = object_of v in
@@ -137,8 +138,8 @@ holds-terminated p ch spare count issued q outcomes h less read all_of many numb
     let x = schedule_of r in
     let w = after o e in
     let history = p.history ++ e ∷ [] in
-    let here : channel w ch ≡ with_all_aborted c done = get_or-set_same o.channels ch (with_all_aborted c done) new_channel at.there in
-    let other : (d : ℕ) → d ≢ ch → channel w d ≡ channel o d = λ d k. get_or-set_other o.channels ch d (with_all_aborted c done) new_channel k in
+    let here : channel w ch ≡ with_all_aborted c done = get_or-set_same o.channels ch (with_all_aborted c done) empty_channel at.there in
+    let other : (d : ℕ) → d ≢ ch → channel w d ≡ channel o d = λ d k. get_or-set_other o.channels ch d (with_all_aborted c done) empty_channel k in
     let all : length w.channels ≡ length o.channels = length-set o.channels ch (with_all_aborted c done) in
     holds-changed p ch r p.memory p.events history p.steps w h less (record {
       legal = IsLegal-append v.base p.history (e ∷ []) h.sound.legal ((at.there, number, can-have p h ch q less read), tt);
@@ -187,8 +188,8 @@ holds-finished p ch spare steps result q outcome halted h less read told fails a
     let x = schedule_of r in
     let w = after o e in
     let history = p.history ++ e ∷ [] in
-    let here : channel w ch ≡ with_outcome c result done = get_or-set_same o.channels ch (with_outcome c result done) new_channel at.there in
-    let other : (d : ℕ) → d ≢ ch → channel w d ≡ channel o d = λ d k. get_or-set_other o.channels ch d (with_outcome c result done) new_channel k in
+    let here : channel w ch ≡ with_outcome c result done = get_or-set_same o.channels ch (with_outcome c result done) empty_channel at.there in
+    let other : (d : ℕ) → d ≢ ch → channel w d ≡ channel o d = λ d k. get_or-set_other o.channels ch d (with_outcome c result done) empty_channel k in
     let all : length w.channels ≡ length o.channels = length-set o.channels ch (with_outcome c result done) in
     holds-changed p ch r p.memory p.events history steps w h less (record {
       legal = IsLegal-append v.base p.history (e ∷ []) h.sound.legal (allowed, tt);

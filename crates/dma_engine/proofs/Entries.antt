@@ -11,8 +11,8 @@ use Rattle.dma_mem.specs.Image.{put, bytes_at}
 use Rattle.dma_mem.specs.Places.{Descriptor, touches, writes}
 use Rattle.dma_mem.specs.declared.marks.MarkKind.{MarkKind}
 use Rattle.dma_mem.specs.declared.segment.Segment.{Segment}
-use Rattle.dma_mem.proofs.Puts.{get_or-put_other}
-use Rattle.dma_mem.proofs.Sharing.{touches-false}
+use Rattle.dma_mem.proofs.ImagePut.{get_or-put_other}
+use Rattle.dma_mem.proofs.SharedPlaces.{touches-false}
 use Rattle.dma_chan.specs.Channel.{ChannelValue}
 use Rattle.dma_chan.specs.Programs.{ProgramValue}
 use Rattle.dma_engine.specs.declared.entry.Entry.TheVariants.{Wrote, ReadBack, Signalled, Marked, Unmarked}
@@ -23,7 +23,7 @@ use Rattle.dma_engine.specs.declared.queue.Queue.{Queue}
 use Rattle.dma_engine.specs.Object.{Object, channel, front, finished, after}
 use Rattle.dma_engine.specs.View.{View, ChannelSchedule, RunningTransfer, running, runs, runs_there, memory_shown, object_of, size, channels}
 use Rattle.dma_engine.specs.Answer.{write_fault, read_fault, busy, cause, first_running}
-use Rattle.dma_engine.specs.Holds.{Holds, Parts, view_of, taken_of}
+use Rattle.dma_engine.specs.inner.Holds.{Holds, Parts, view_of, taken_of}
 use Rattle.dma_engine.proofs.Changes.{holds-entered, with_entry_at, run-kept}
 use Rattle.dma_engine.proofs.Memory.{shown-wrote, shown-read}
 use Rattle.dma_engine.proofs.Queues.{holds-at, many-queues, runs_front}

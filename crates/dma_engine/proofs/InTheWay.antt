@@ -8,16 +8,16 @@ use Rattle.dma_chan.specs.Channel.{ChannelValue}
 use Rattle.dma_chan.specs.Programs.{ProgramValue}
 use Rattle.dma_engine.specs.declared.queue.Queue.{Queue}
 use Rattle.dma_engine.specs.declared.ranges.Ranges.{Ranges}
-use Rattle.dma_engine.specs.Ranges.{AreOfRunning, HasRangesOf}
+use Rattle.dma_engine.specs.inner.Ranges.{AreOfRunning, HasRangesOf}
 use Rattle.dma_engine.specs.Object.{Object, ChannelState, channel, front, finished, used}
 use Rattle.dma_engine.specs.View.{ChannelSchedule, RunningTransfer, object_of, runs, runs_there, running, idle}
-use Rattle.dma_engine.specs.Answer.{named}
-use Rattle.dma_engine.specs.Due.{front_told}
-use Rattle.dma_engine.specs.Found.{front_in, given_by}
-use Rattle.dma_engine.specs.Holds.{Holds, Parts, view_of, taken_of}
+use Rattle.dma_engine.specs.inner.Ways.{named}
+use Rattle.dma_engine.specs.inner.Due.{front_told}
+use Rattle.dma_engine.specs.inner.Found.{front_in, given_by}
+use Rattle.dma_engine.specs.inner.Holds.{Holds, Parts, view_of, taken_of}
 use Rattle.dma_engine.proofs.Boards.{counted-at}
 use Rattle.dma_engine.proofs.Queues.{Front, HoldsAt, front_stands, holds-at}
-use Rattle.dma_engine.proofs.Ranged.{kept-ranges, no-ranges}
+use Rattle.dma_engine.proofs.WaysByRanges.{kept-ranges, no-ranges}
 use Rattle.dma_engine.proofs.WhatRuns.{below, find-here}
 
 -- ---- the issued front
@@ -61,8 +61,8 @@ front_found p h ch q less read = by (nat_lt (length q.outcomes.items) q.issued) 
       let d : nat_lt (finished c) c.issued ≡ false = same ∙ e in
       rw (e, d) refl
 
--- no more are issued than there are places
-pub few-issued : (p : Parts) → Holds p → (ch : ℕ) (q : Queue) → ch < length p.queues → q ≡ slice_index_or p.queues ch q → q.issued ≤ length q.places.items
+-- no more are issued than there are indices
+pub few-issued : (p : Parts) → Holds p → (ch : ℕ) (q : Queue) → ch < length p.queues → q ≡ slice_index_or p.queues ch q → q.issued ≤ length q.indices.items
 few-issued p h ch q less read =
     let at = holds-at p h ch q less read in
     let counted = counted-at p h ch in

@@ -8,9 +8,10 @@ use Rattle.std.proofs.lemmas.List.Elements.{All-map, All-weaker}
 use Rattle.dma_mem.specs.Image.{put, bytes_at, laid, over}
 use Rattle.dma_mem.specs.Rules.{IsTransfer}
 use Rattle.dma_mem.specs.declared.segment.Segment.{Segment}
-use Rattle.dma_mem.specs.Places.{IsFree, touches, writes, sources, destinations}
-use Rattle.dma_mem.proofs.Sharing.{Touches, Writes, touches-false, writes-false}
-use Rattle.dma_mem.proofs.Transfers.{over-started, over-ended, over-store, over-written, over-read}
+use Rattle.dma_mem.specs.Meeting.{IsFree}
+use Rattle.dma_mem.specs.Places.{touches, writes, sources, destinations}
+use Rattle.dma_mem.proofs.SharedPlaces.{Touches, Writes, touches-false, writes-false}
+use Rattle.dma_mem.proofs.OverTransfers.{over-started, over-ended, over-store, over-written, over-read}
 use Rattle.dma_engine.specs.Object.{Object}
 use Rattle.dma_chan.specs.Traffic.{stored_after}
 use Rattle.dma_engine.specs.View.{RunningTransfer, ChannelSchedule, runs, running, with_stored, memory_shown}

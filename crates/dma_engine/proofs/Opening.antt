@@ -1,17 +1,16 @@
 -- What a new engine keeps.
 use Rattle.std.proofs.Common.{◌≡◌, ◌≢◌, ℕ, ◌+◌, ◌<◌, ◌≤◌, [], ◌∷◌, ◌++◌, length, map, Option, None, true, false, refl, ap, sym, ◌∙◌, subst, arith, inl, inr, zero, suc, add-one}
 use Rattle.std.specs.Prelude.{List, Bool, slice_index_or, replicate, nat_lt, ◌==◌}
-use Rattle.dma_mem.specs.Sizes.{is_size}
+use Rattle.dma_mem.specs.Image.{is_size, over, after_moves}
 use Rattle.std.specs.List.{filter_map, range_with_len}
 use Rattle.std.proofs.lemmas.Bool.{cases_lt, ne_eqb, le-ltb}
 use Rattle.std.proofs.lemmas.List.{length-replicate, get_or-replicate, get_or_past}
-use Rattle.dma_mem.specs.Image.{over, after_moves}
-use Rattle.dma_mem.specs.Marking.{all_clear}
-use Rattle.dma_engine.specs.Object.{channel, new_channel, opening}
+use Rattle.dma_mem.specs.Flags.{all_clear}
+use Rattle.dma_engine.specs.Object.{channel, empty_channel, opening}
 use Rattle.dma_engine.specs.View.{View, ChannelSchedule, RunningTransfer, Fits, runs, runs_there, running, with_stored, memory_shown, memory_of, object_of, IsSound, idle, new_fault, new_view}
 use Rattle.dma_engine.specs.declared.queue.Queue.{Queue}
-use Rattle.dma_engine.specs.Ranges.{AreOfRunning}
-use Rattle.dma_engine.specs.Holds.{Holds, IsPrepared, Parts, view_of, schedule_of, new_queue}
+use Rattle.dma_engine.specs.inner.Ranges.{AreOfRunning}
+use Rattle.dma_engine.specs.inner.Holds.{Holds, IsPrepared, Parts, view_of, schedule_of, new_queue}
 use Rattle.dma_engine.proofs.Endings.{put-nil}
 use Rattle.dma_engine.proofs.Sizes.{opening-size, opening-many}
 
@@ -29,11 +28,11 @@ idle-at n ch = elim (cases_lt ch n) [
   | inr past ↦ get_or_past (replicate n idle) ch idle (omega (arith, length-replicate n idle))
 ]
 
-new-at : (bytes n ch : ℕ) → channel (opening bytes n) ch ≡ new_channel
+new-at : (bytes n ch : ℕ) → channel (opening bytes n) ch ≡ empty_channel
 unfolding opening
 new-at bytes n ch = elim (cases_lt ch n) [
-  | inl less ↦ get_or-replicate n ch new_channel new_channel less
-  | inr past ↦ get_or_past (replicate n new_channel) ch new_channel (omega (arith, length-replicate n new_channel))
+  | inl less ↦ get_or-replicate n ch empty_channel empty_channel less
+  | inr past ↦ get_or_past (replicate n empty_channel) ch empty_channel (omega (arith, length-replicate n empty_channel))
 ]
 
 none-runs : (bytes n ch : ℕ) → runs (opening bytes n) (replicate n idle) ch ≡ None
@@ -96,7 +95,7 @@ holds-new bytes pages n made =
       marks = opening-marks bytes n ∙ ap (λ (w : View). (object_of w).marks) (sym is);
       each = λ ch d less.
           let inside : ch < n = omega (arith, less, length-replicate n new_queue) in
-          let here : channel (object_of v) ch ≡ new_channel = ap (λ (w : View). channel (object_of w) ch) is ∙ new-at bytes n ch in
+          let here : channel (object_of v) ch ≡ empty_channel = ap (λ (w : View). channel (object_of w) ch) is ∙ new-at bytes n ch in
           rw (get_or-replicate n ch new_queue d inside, here) (record {
             many = refl;
             stands = λ k l. absurd (omega arith);

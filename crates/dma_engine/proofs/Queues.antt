@@ -8,9 +8,9 @@ use Rattle.dma_engine.specs.declared.entry.Entry.{Entry}
 use Rattle.dma_engine.specs.declared.entry.Entry.TheVariants.{Submitted}
 use Rattle.dma_engine.specs.declared.queue.Queue.{Queue}
 use Rattle.dma_engine.specs.Object.{ChannelState, channel, front, issued_front, no_transfer, used, finished}
-use Rattle.dma_engine.specs.Ranges.{AreOfRunning}
+use Rattle.dma_engine.specs.inner.Ranges.{AreOfRunning}
 use Rattle.dma_engine.specs.View.{Agrees, runs_there, runs, idle, object_of, channels, View, ChannelSchedule}
-use Rattle.dma_engine.specs.Holds.{IsQueue, Holds, Parts, view_of, schedule_of}
+use Rattle.dma_engine.specs.inner.Holds.{IsQueue, Holds, Parts, view_of, schedule_of}
 
 -- ---- the front of a channel
 
@@ -61,6 +61,10 @@ pub record HoldsAt (p : Parts) (ch : ℕ) (q : Queue) : Type 0 where
 pub many-queues : (p : Parts) → Holds p → length p.queues ≡ channels (view_of p)
 many-queues p h = sym (length-map p.queues schedule_of) ∙ h.sound.fits.many
 
+-- the index of a channel that is there has a queue
+pub queue-there : (p : Parts) (v : View) (ch i : ℕ) → Holds p → view_of p ≡ v → (i ≡ ch) × (ch < channels v) → i < length p.queues
+queue-there p v ch i h is there = omega (arith, many-queues p h, ap channels is, there.0, there.1)
+
 pub holds-at : (p : Parts) → Holds p → (ch : ℕ) (q : Queue) → ch < length p.queues → q ≡ slice_index_or p.queues ch q → HoldsAt p ch q
 holds-at p h ch q less read =
     let v : View = view_of p in
@@ -75,14 +79,14 @@ holds-at p h ch q less read =
       ranges = rw (← read) at (h.ranges ch q less);
     }
 
--- the front's entry stands in the history at the place that the queue has of it
-pub front_stands : (ch : ℕ) (history : List Entry) (memory : List ℕ) (q : Queue) (c : ChannelState) (t : Descriptor) → IsQueue ch history memory q c → front c ≡ Some t → slice_get history (slice_index q.places.items (length q.outcomes.items)) ≡ Some (Submitted ch t (finished c + 1))
+-- the front's entry stands in the history at the index that the queue has of it
+pub front_stands : (ch : ℕ) (history : List Entry) (memory : List ℕ) (q : Queue) (c : ChannelState) (t : Descriptor) → IsQueue ch history memory q c → front c ≡ Some t → slice_get history (slice_index q.indices.items (length q.outcomes.items)) ≡ Some (Submitted ch t (finished c + 1))
 front_stands ch history memory q c t tied is =
     let less : finished c < used c = slice_get_within c.submitted (finished c) t is in
     let front_is : slice_index_or c.submitted (finished c) no_transfer ≡ t = get_or_from_slice_get c.submitted (finished c) t no_transfer is in
     let many : length q.outcomes.items ≡ finished c = ap length tied.outcomes in
-    let stands : slice_get history (slice_index q.places.items (finished c)) ≡ Some (Submitted ch (slice_index_or c.submitted (finished c) no_transfer) (finished c + 1)) = tied.stands (finished c) less in
-    ap (λ n. slice_get history (slice_index q.places.items n)) many ∙ stands ∙ ap (λ u. Some (Submitted ch u (finished c + 1))) front_is
+    let stands : slice_get history (slice_index q.indices.items (finished c)) ≡ Some (Submitted ch (slice_index_or c.submitted (finished c) no_transfer) (finished c + 1)) = tied.stands (finished c) less in
+    ap (λ n. slice_get history (slice_index q.indices.items n)) many ∙ stands ∙ ap (λ u. Some (Submitted ch u (finished c + 1))) front_is
 
 -- ---- lists with one more item
 

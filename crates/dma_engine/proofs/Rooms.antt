@@ -8,7 +8,8 @@ use Rattle.dma_insn.specs.declared.insn.Insn.TheVariants.{Ld, St, End, Sev, Wfe,
 use Rattle.dma_mem.specs.Places.{Descriptor}
 use Rattle.dma_mem.specs.declared.marks.MarkKind.TheVariants.{Reading, Writing}
 use Rattle.dma_chan.specs.Exec.{fault_in}
-use Rattle.dma_chan.specs.Layer.{Shared, carried_out, meets_mark}
+use Rattle.dma_chan.specs.Layer.{Shared, effect_of}
+use Rattle.dma_mem.specs.Marking.{meets_mark}
 use Rattle.dma_chan.specs.Traffic.{read_places, written_places}
 use Rattle.dma_chan.specs.declared.turn.ChanTurn.{ChanTurn}
 use Rattle.dma_chan.specs.declared.turn.ChanTurn.TheVariants.{Moved, Waiting, Fault}
@@ -18,23 +19,23 @@ use Rattle.dma_engine.specs.declared.entry.Entry.{Entry}
 use Rattle.dma_engine.specs.declared.outcome.TransResult.{TransResult}
 use Rattle.dma_engine.specs.declared.outcome.TransResult.TheVariants.{ReadFailed, WriteFailed}
 use Rattle.dma_engine.specs.declared.queue.Queue.{Queue}
-use Rattle.dma_engine.specs.Found.{transfer_in, transfer_of}
-use Rattle.dma_engine.specs.Inside.{queue_room}
+use Rattle.dma_engine.specs.inner.Found.{transfer_in, transfer_of}
+use Rattle.dma_engine.specs.inner.Inside.{queue_room}
 use Rattle.dma_engine.specs.Object.{Object, ChannelState, channel, no_transfer, unfinished, is_set}
 use Rattle.dma_engine.specs.Room.{no_room, room_on, KeepsRoom}
 use Rattle.dma_engine.specs.Turn.{Stepped, ends, insn_turn, front_turn, start_turn, finishes, moves_on, in_the_way}
 use Rattle.dma_engine.specs.View.{View, EngineState, RunningTransfer, object_of}
-use Rattle.dma_engine.specs.Holds.{Holds, IsQueue, Parts, view_of}
+use Rattle.dma_engine.specs.inner.Holds.{Holds, IsQueue, Parts, view_of}
 use Rattle.dma_engine.proofs.Changes.{changed, view-changed, holds-changed, schedule-kept}
 use Rattle.dma_engine.proofs.Queues.{holds-at}
-use Rattle.dma_engine.proofs.Quiet.{stays}
+use Rattle.dma_engine.proofs.QueueCalls.{stays}
 
 -- ---- room
 
 -- a queue with other room
 abbrev pub with_room : Queue → ℕ → ℕ → Queue
 with_room q a b =
-    record q { places = record { items = q.places.items; spare = a }; outcomes = record { items = q.outcomes.items; spare = b } }
+    record q { indices = record { items = q.indices.items; spare = a }; outcomes = record { items = q.outcomes.items; spare = b } }
 
 pub holds-room : (p : Parts) (ch a b : ℕ) (q : Queue) → Holds p → ch < length p.queues → q ≡ slice_index_or p.queues ch q → Holds (changed p ch (with_room q a b) p.memory p.events p.history p.steps)
 holds-room p ch a b q h less read =
@@ -74,7 +75,7 @@ room-set queues ch q less =
     ∙ get_or-set_same (map queue_room queues) ch (queue_room q) no_room (omega (arith, less, length-map queues queue_room))
 
 -- room stays where the object does and no list's room falls
-pub room-grows : (e f : EngineState) → object_of f.view ≡ object_of e.view → e.room.entries ≤ f.room.entries → ((ch : ℕ) → ((room_on e.room ch).places ≤ (room_on f.room ch).places) × ((room_on e.room ch).outcomes ≤ (room_on f.room ch).outcomes)) → KeepsRoom e f
+pub room-grows : (e f : EngineState) → object_of f.view ≡ object_of e.view → e.room.entries ≤ f.room.entries → ((ch : ℕ) → ((room_on e.room ch).indices ≤ (room_on f.room ch).indices) × ((room_on e.room ch).outcomes ≤ (room_on f.room ch).outcomes)) → KeepsRoom e f
 room-grows e f object entries queues ch h = record {
   entry = omega (arith, entries, h.entry);
   cookie = omega (arith, (queues ch).0, h.cookie);
@@ -82,14 +83,14 @@ room-grows e f object entries queues ch h = record {
 }
 
 -- a queue in whose place one with no less room stands
-pub queues-grow : (queues : List Queue) (i : ℕ) (q r : Queue) → i < length queues → q ≡ slice_index_or queues i q → q.places.spare ≤ r.places.spare → q.outcomes.spare ≤ r.outcomes.spare → (ch : ℕ) → ((slice_index_or (map queue_room queues) ch no_room).places ≤ (slice_index_or (map queue_room (slice_set queues i r)) ch no_room).places) × ((slice_index_or (map queue_room queues) ch no_room).outcomes ≤ (slice_index_or (map queue_room (slice_set queues i r)) ch no_room).outcomes)
-queues-grow queues i q r less read places outcomes ch =
+pub queues-grow : (queues : List Queue) (i : ℕ) (q r : Queue) → i < length queues → q ≡ slice_index_or queues i q → q.indices.spare ≤ r.indices.spare → q.outcomes.spare ≤ r.outcomes.spare → (ch : ℕ) → ((slice_index_or (map queue_room queues) ch no_room).indices ≤ (slice_index_or (map queue_room (slice_set queues i r)) ch no_room).indices) × ((slice_index_or (map queue_room queues) ch no_room).outcomes ≤ (slice_index_or (map queue_room (slice_set queues i r)) ch no_room).outcomes)
+queues-grow queues i q r less read indices outcomes ch =
     elim (cases_eq ch i) [
-      | inl same ↦ rw (same, room-at queues i q less read, room-set queues i r less) (places, outcomes)
+      | inl same ↦ rw (same, room-at queues i q less read, room-set queues i r less) (indices, outcomes)
       | inr other ↦ rw (map-set queue_room queues i r, get_or-set_other (map queue_room queues) i ch (queue_room r) no_room other) (omega arith, omega arith)
     ]
 
--- ---- transfers that are found by their places
+-- ---- transfers that are found by their indices
 
 map-same : (f : ℕ → Descriptor) (xs : List ℕ) (ts : List Descriptor) → length xs ≡ length ts → ((k : ℕ) → k < length ts → f (slice_index xs k) ≡ slice_index_or ts k no_transfer) → map f xs ≡ ts
 map-same f [] [] n h = refl
@@ -105,11 +106,11 @@ map-dropped f zero xs = refl
 map-dropped f (suc k) [] = refl
 map-dropped f (suc k) (x ∷ xs) = map-dropped f k xs
 
--- the transfers of a queue, by the places of their entries
-pub found-all : (ch : ℕ) (history : List Entry) (memory : List ℕ) (q : Queue) (c : ChannelState) (k : ℕ) → IsQueue ch history memory q c → map (transfer_in history) (drop k q.places.items) ≡ drop k c.submitted
+-- the transfers of a queue, by the indices of their entries
+pub found-all : (ch : ℕ) (history : List Entry) (memory : List ℕ) (q : Queue) (c : ChannelState) (k : ℕ) → IsQueue ch history memory q c → map (transfer_in history) (drop k q.indices.items) ≡ drop k c.submitted
 found-all ch history memory q c k t =
-    map-dropped (transfer_in history) k q.places.items
-    ∙ ap (drop k) (map-same (transfer_in history) q.places.items c.submitted t.many (λ n less. ap transfer_of (t.stands n less)))
+    map-dropped (transfer_in history) k q.indices.items
+    ∙ ap (drop k) (map-same (transfer_in history) q.indices.items c.submitted t.many (λ n less. ap transfer_of (t.stands n less)))
 
 -- ---- which steps end
 
@@ -134,7 +135,7 @@ no-fault true e m w = refl
 no-fault false e m w = refl
 
 -- an instruction that isn't the end finishes the front where the channel fails at it
-pub ends-insn : (v : View) (ch n : ℕ) (t : Descriptor) (m : Shared) (i : Insn) → i ≢ End → ends (insn_turn v ch t n i).0 ≡ is_some (fault_in (carried_out i (read_places t n) (written_places t n) (object_of v).marks m).0)
+pub ends-insn : (v : View) (ch n : ℕ) (t : Descriptor) (m : Shared) (i : Insn) → i ≢ End → ends (insn_turn v ch t n i).0 ≡ is_some (fault_in (effect_of i (read_places t n) (written_places t n) (object_of v).marks m).0)
 ends-insn v ch n t m End h = absurd (h refl)
 ends-insn v ch n t m Ld h = by-mark (meets_mark Reading (object_of v).marks (read_places t n)) v ch n t ReadFailed DataReadErr m m
 ends-insn v ch n t m St h = by-mark (meets_mark Writing (object_of v).marks (written_places t n)) v ch n t WriteFailed DataWriteErr m _

@@ -1,15 +1,15 @@
 -- Worked rows, computed from the definitions.
-use Rattle.std.proofs.Common.{◌≡◌, ℕ, List, [], ◌∷◌, Option, Some, None, refl, sym, arith}
+use Rattle.std.proofs.Common.{◌≡◌, ℕ, List, [], ◌∷◌, Option, Some, None, true, refl, sym, arith}
 use Rattle.std.proofs.lemmas.Bool.{eqb-false}
-use Rattle.dma_mem.specs.Places.{Descriptor, share}
+use Rattle.dma_mem.specs.Places.{Descriptor, lies_below, share}
 use Rattle.dma_mem.specs.Image.{put, after_moves}
 use Rattle.dma_mem.specs.declared.marks.MarkKind.{MarkKind}
 use Rattle.dma_mem.specs.declared.marks.MarkKind.TheVariants.{Reading, Writing}
-use Rattle.dma_mem.proofs.Accepted.{IsTransfer-from_no_refusal}
+use Rattle.dma_mem.proofs.TransferRules.{IsTransfer-from_no_refusal}
 use Rattle.dma_chan.specs.Compiled.{beat_of, parts, members}
 use Rattle.dma_chan.specs.Traffic.{member, stored_after, burst}
-use Rattle.dma_chan.specs.Registers.{burst_at}
-use Rattle.dma_chan.specs.Layer.{meets_mark}
+use Rattle.dma_chan.specs.Bursts.{burst_at}
+use Rattle.dma_mem.specs.Marking.{meets_mark}
 use Rattle.dma_engine.specs.declared.entry.Entry.{Entry}
 use Rattle.dma_engine.specs.declared.entry.Entry.TheVariants.{Wrote, ReadBack, Submitted, Issued, Finished, Marked}
 use Rattle.dma_engine.specs.declared.call.Call.{Call}
@@ -18,12 +18,14 @@ use Rattle.dma_engine.specs.declared.call.Reply.{Reply}
 use Rattle.dma_engine.specs.declared.call.Reply.TheVariants.{Done, Bytes, Cookie, Count, Turned, State, Result as Told, Refused}
 use Rattle.dma_engine.specs.declared.turn.Status.TheVariants.{Unknown, InProgress, Complete}
 use Rattle.dma_engine.specs.declared.turn.Turn.TheVariants.{Nothing, Held, Started, Moved, Waiting, Paused, Halted, Finished as TurnFinished}
-use Rattle.dma_engine.specs.declared.fault.EngineFault.TheVariants.{OutOfMemoryRange, Busy, NoChannel, BadEvent}
+use Rattle.dma_engine.specs.declared.fault.EngineFault.TheVariants.{OutOfMemoryRange, Busy, NoChannel, BadEvent, BadRange, CookiesSpent, StepsSpent}
+use Rattle.dma_engine.specs.declared.fault.NewFault.TheVariants.{BadChannels, SizeOutOfRange}
 use Rattle.dma_engine.specs.declared.outcome.TransResult.TheVariants.{NoError, ReadFailed, Aborted}
-use Rattle.dma_engine.specs.Object.{Object, opening, Allows}
-use Rattle.dma_engine.specs.History.{object_after, image_after, IsLegal}
-use Rattle.dma_engine.specs.View.{new_view, running}
-use Rattle.dma_engine.specs.Answer.{answers}
+use Rattle.dma_engine.specs.Object.{Object, opening, Allows, channel, used}
+use Rattle.dma_engine.specs.Ticks.{added_up}
+use Rattle.dma_engine.specs.History.{object_after, IsLegal}
+use Rattle.dma_engine.specs.View.{View, channels, new_fault, new_view, object_of, running, size}
+use Rattle.dma_engine.specs.Answer.{answer, answers}
 
 -- a transfer of so many bytes from one range to another, and one of a byte with events
 abbrev copy : ℕ → ℕ → ℕ → Descriptor
@@ -43,7 +45,7 @@ replies size channels calls = (answers (new_view size channels) calls).0
 abbrev copied : List Entry
 copied = Wrote 0 (17 ∷ 34 ∷ []) ∷ Submitted 0 (copy 0 2 2) 1 ∷ Issued 0 ∷ Finished 0 NoError 2 ∷ ReadBack 1 (34 ∷ 17 ∷ []) ∷ []
 
-copied_image : image_after (opening 4 1) copied ≡ 17 ∷ 34 ∷ 17 ∷ 34 ∷ []
+copied_image : (object_after (opening 4 1) copied).image ≡ 17 ∷ 34 ∷ 17 ∷ 34 ∷ []
 unfolding opening put after_moves
 copied_image = refl
 
@@ -118,3 +120,72 @@ a_signal_lets_one_pass : replies 16 2 (Submit 0 (byte 0 4 None (Some 5)) ∷ Sub
     ≡ Cookie 1 ∷ Cookie 1 ∷ Count 1 ∷ Count 1 ∷ Turned (Started 1) ∷ Turned (Started 1) ∷ Turned Moved ∷ Turned Moved ∷ Turned Moved ∷ Turned Moved ∷ Turned Moved ∷ Turned Moved ∷ Turned Moved ∷ Turned (Waiting 5) ∷ Turned Moved ∷ Turned Moved ∷ []
 unfolding opening put after_moves share running member members stored_after burst meets_mark parts beat_of burst_at
 a_signal_lets_one_pass = refl
+
+-- ---- limits
+
+one_channel_at_least : new_fault 16 0 ≡ Some BadChannels
+one_channel_at_least = refl
+
+eight_channels_at_most : new_fault 16 8 ≡ None
+eight_channels_at_most = refl
+
+not_nine : new_fault 16 9 ≡ Some BadChannels
+not_nine = refl
+
+no_memory_of_nothing : new_fault 0 1 ≡ Some SizeOutOfRange
+no_memory_of_nothing = refl
+
+the_largest_memory : new_fault 4294963200 1 ≡ None
+the_largest_memory = refl
+
+no_larger_memory : new_fault 4294963201 1 ≡ Some SizeOutOfRange
+no_larger_memory = refl
+
+events_up_to_31 : replies 16 1 (Raise 31 ∷ Raise 32 ∷ []) ≡ Done ∷ Refused BadEvent ∷ []
+unfolding opening
+events_up_to_31 = refl
+
+marks_up_to_the_last_address : replies 16 1 (Mark Reading (record { addr = 4294967295; len = 1 }) ∷ Mark Reading (record { addr = 4294967295; len = 2 }) ∷ Mark Writing (record { addr = 0; len = 0 }) ∷ [])
+    ≡ Done ∷ Refused BadRange ∷ Refused BadRange ∷ []
+unfolding opening
+marks_up_to_the_last_address = refl
+
+-- of 300 bytes that are copied from address 0 on, one is marked
+abbrev long_copy : ℕ → Object
+long_copy at =
+    object_after (opening 1024 1) (Submitted 0 (copy 0 512 300) 1 ∷ Issued 0 ∷ Marked Reading (record { addr = at; len = 1 }) ∷ [])
+
+-- the next 256 bytes can fail, and no byte after them
+fails_within_256_bytes : Allows (long_copy 255) (Finished 0 ReadFailed 0)
+unfolding opening meets_mark
+fails_within_256_bytes = (refl, ((λ waits. waits), refl, omega arith, refl))
+
+not_beyond_256_bytes : Allows (long_copy 256) (Finished 0 ReadFailed 0) → ⊥
+unfolding opening meets_mark
+not_beyond_256_bytes allowed = eqb-false 0 0 (sym allowed.1.3) refl
+
+-- a view on which a byte's copy runs, with so many steps counted
+abbrev after_steps : ℕ → View
+after_steps n = record ((answers (new_view 16 1) (Submit 0 (copy 0 4 1) ∷ Issue 0 ∷ Step 0 ∷ [])).1) { steps = n }
+
+the_last_step : (answer (after_steps 18446744073709551614) (Step 0)).0 ≡ Turned Moved
+unfolding opening put after_moves share running member members stored_after burst meets_mark parts beat_of burst_at
+the_last_step = refl
+
+the_last_count : (answer (after_steps 18446744073709551614) (Step 0)).1.steps ≡ 18446744073709551615
+unfolding opening put after_moves share running member members stored_after burst meets_mark parts beat_of burst_at
+the_last_count = refl
+
+no_step_after_it : answer (after_steps 18446744073709551615) (Step 0) ≡ (Refused StepsSpent, after_steps 18446744073709551615)
+unfolding opening put after_moves share running member members stored_after burst meets_mark parts beat_of burst_at
+no_step_after_it = refl
+
+-- the last cookie of a channel, whatever was submitted before it
+the_last_cookie : (v : View) (t : Descriptor) → channels v ≡ 1 → lies_below t (size v) ≡ true → used (channel (object_of v) 0) ≡ 2147483646 → (answer v (Submit 0 t)).0 ≡ Cookie 2147483647
+the_last_cookie v t many below given = rw (many, below, given) refl
+
+no_cookie_after_it : (v : View) (t : Descriptor) → channels v ≡ 1 → lies_below t (size v) ≡ true → used (channel (object_of v) 0) ≡ 2147483647 → answer v (Submit 0 t) ≡ (Refused CookiesSpent, v)
+no_cookie_after_it v t many below given = rw (many, below, given) refl
+
+no_count_above_32_bits : added_up 4294967294 1 ∷ added_up 4294967295 1 ∷ [] ≡ 4294967295 ∷ 4294967295 ∷ []
+no_count_above_32_bits = refl

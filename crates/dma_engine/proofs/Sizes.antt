@@ -3,11 +3,10 @@ use Rattle.std.proofs.Common.{◌≡◌, ℕ, ◌≤◌, List, [], ◌∷◌, le
 use Rattle.std.specs.Prelude.{nat_le, nat_lt, ◌==◌, if◌then◌else◌}
 use Rattle.std.proofs.lemmas.Bool.{and_parts, leb-true, ltb-false, or_parts}
 use Rattle.std.proofs.lemmas.List.{length-replicate, length-set}
-use Rattle.dma_mem.specs.Image.{bytes_at}
-use Rattle.dma_mem.specs.Sizes.{is_size}
+use Rattle.dma_mem.specs.Image.{bytes_at, is_size}
 use Rattle.dma_mem.specs.declared.memory.TheConstants.{MAX_SIZE}
-use Rattle.dma_mem.proofs.Overs.{length-after_moves}
-use Rattle.dma_mem.proofs.Puts.{length-put}
+use Rattle.dma_mem.proofs.ImageOver.{length-after_moves}
+use Rattle.dma_mem.proofs.ImagePut.{length-put}
 use Rattle.dma_engine.specs.declared.entry.Entry.{Entry}
 use Rattle.dma_engine.specs.declared.entry.Entry.TheVariants.{Wrote, ReadBack, Submitted, Issued, Passed, Signalled, Finished, Terminated, Marked, Unmarked}
 use Rattle.dma_engine.specs.declared.entry.Signaller.TheVariants.{Channel, Host}
@@ -15,7 +14,7 @@ use Rattle.dma_engine.specs.declared.fault.NewFault.TheVariants.{BadChannels, Si
 use Rattle.dma_engine.specs.Object.{Object, after, opening}
 use Rattle.dma_engine.specs.History.{object_after}
 use Rattle.dma_engine.specs.View.{View, object_of, size, new_fault}
-use Rattle.dma_engine.specs.Holds.{Holds, Parts, view_of}
+use Rattle.dma_engine.specs.inner.Holds.{Holds, Parts, view_of}
 
 -- no entry changes the size of the memory
 pub size-after : (o : Object) (e : Entry) → length (after o e).image ≡ length o.image

@@ -5,43 +5,45 @@ use Rattle.std.specs.List.{list_any}
 use Rattle.std.specs.Option.{option_map}
 use Rattle.std.proofs.lemmas.Bool.{eq-eqb, ne_eqb, lt-ltb, false≢true}
 use Rattle.dma_insn.specs.declared.insn.Insn.TheVariants.{Ld, St, End, Sev, Wfe}
-use Rattle.dma_mem.specs.Marking.{MarkList}
+use Rattle.dma_mem.specs.Marking.{MarkList, meets_mark}
 use Rattle.dma_mem.specs.Places.{Descriptor, is_free_of, lies_below, size_of, sources, destinations}
 use Rattle.dma_mem.specs.Rules.{IsTransfer}
 use Rattle.dma_mem.specs.declared.marks.MarkKind.{MarkKind}
 use Rattle.dma_mem.specs.declared.marks.MarkKind.TheVariants.{Reading, Writing}
 use Rattle.dma_chan.specs.Compiled.{cost}
-use Rattle.dma_chan.specs.Layer.{meets_mark}
 use Rattle.dma_chan.specs.Ready.{OnPages}
 use Rattle.dma_chan.specs.Traffic.{member, stored_after, burst}
-use Rattle.dma_chan.proofs.Layers.{starts_at}
-use Rattle.dma_chan.proofs.Shape.{shape_is, stored_is}
+use Rattle.dma_chan.proofs.LayerLaws.{starts_at}
+use Rattle.dma_chan.proofs.ShapeLaws.{shape_is, stored_is}
 use Rattle.dma_engine.specs.declared.call.Call.TheVariants.{Step}
-use Rattle.dma_engine.specs.declared.call.Reply.TheVariants.{Turned}
+use Rattle.dma_engine.specs.declared.call.Reply.{Reply}
+use Rattle.dma_engine.specs.declared.call.Reply.TheVariants.{Turned, Refused}
 use Rattle.dma_engine.specs.declared.entry.Entry.TheVariants.{Finished}
 use Rattle.dma_engine.specs.declared.outcome.Outcome.{Outcome}
 use Rattle.dma_engine.specs.declared.outcome.TransResult.{TransResult}
+use Rattle.dma_engine.specs.declared.fault.EngineFault.TheVariants.{NoMemory}
 use Rattle.dma_engine.specs.declared.outcome.TransResult.TheVariants.{NoError, ReadFailed, WriteFailed, Aborted}
 use Rattle.dma_engine.specs.declared.queue.Queue.{Queue}
 use Rattle.dma_engine.specs.declared.turn.Turn.TheVariants.{Held, Started, Finished as TurnFinished}
 use Rattle.dma_engine.specs.Object.{ChannelState, Allows, channel, front, issued_front, finished}
 use Rattle.dma_engine.specs.View.{View, ChannelSchedule, RunningTransfer, Agrees, AreFree, runs, runs_there, object_of, size}
 use Rattle.dma_engine.specs.Turn.{front_cookie, in_the_way, start_turn, with_entry, with_step, with_taken}
-use Rattle.dma_engine.specs.Answer.{Answers, named, done_on, done_by}
-use Rattle.dma_engine.specs.Due.{MayStart, Finishes}
+use Rattle.dma_engine.specs.inner.Ways.{named}
+use Rattle.dma_engine.specs.Answer.{CallAnswers, is_started, done_on, done_by}
+use Rattle.dma_engine.specs.inner.Due.{MayStart, Finishes}
 use Rattle.dma_engine.specs.declared.ranges.Ranges.{Ranges}
-use Rattle.dma_engine.specs.Ranges.{AreOfRunning, HasRangesOf}
-use Rattle.dma_engine.specs.Holds.{Holds, IsPrepared, Parts, view_of, schedule_of, queue_started}
+use Rattle.dma_engine.specs.inner.Ranges.{AreOfRunning, HasRangesOf}
+use Rattle.dma_engine.specs.inner.Holds.{Holds, IsPrepared, Parts, view_of, schedule_of, queue_started}
 use Rattle.dma_engine.proofs.Changes.{changed, view-changed, holds-changed, runs-here, runs-other}
 use Rattle.dma_engine.proofs.Endings.{queue_finished}
-use Rattle.dma_engine.proofs.Executed.{and-false}
+use Rattle.dma_engine.proofs.InstructionSteps.{and-false}
 use Rattle.dma_engine.proofs.Memory.{shown-started}
-use Rattle.dma_engine.proofs.Moves.{passed-still}
+use Rattle.dma_engine.proofs.MovingSteps.{passed-still}
 use Rattle.dma_engine.proofs.Queues.{front_known, holds-at, runs_front}
-use Rattle.dma_engine.proofs.Ranged.{below-more}
-use Rattle.dma_engine.proofs.Ruled.{Runs, good-front}
+use Rattle.dma_engine.proofs.WaysByRanges.{below-more}
+use Rattle.dma_engine.proofs.TransferRules.{Runs, good-front}
 use Rattle.dma_engine.proofs.Sizes.{size-small}
-use Rattle.dma_engine.proofs.Stepping.{Due, stepped-so, start-turn, finish-turn}
+use Rattle.dma_engine.proofs.StepCases.{Due, stepped-so, start-turn, finish-turn}
 use Rattle.dma_engine.proofs.WhatRuns.{find-none_at}
 
 -- ---- a start
@@ -143,7 +145,7 @@ holds-started p ch q t u h less read may some none pages ranges =
       machines = λ d i l k machine. machine;
     })
 
-pub start-answers : (p : Parts) (ch cookie : ℕ) (q : Queue) (t : Descriptor) (u : Ranges) → Holds p → ch < length p.queues → q ≡ slice_index_or p.queues ch q → MayStart (view_of p) ch → issued_front (channel (object_of (view_of p)) ch) ≡ Some t → in_the_way (view_of p) t ≡ None → cookie ≡ finished (channel (object_of (view_of p)) ch) + 1 → Answers (view_of p) (Step ch) (Turned (Started cookie)) (view_of (changed p ch (queue_started q t u) p.memory p.events p.history p.steps))
+pub start-answers : (p : Parts) (ch cookie : ℕ) (q : Queue) (t : Descriptor) (u : Ranges) → Holds p → ch < length p.queues → q ≡ slice_index_or p.queues ch q → MayStart (view_of p) ch → issued_front (channel (object_of (view_of p)) ch) ≡ Some t → in_the_way (view_of p) t ≡ None → cookie ≡ finished (channel (object_of (view_of p)) ch) + 1 → CallAnswers (view_of p) (Step ch) (Turned (Started cookie)) (view_of (changed p ch (queue_started q t u) p.memory p.events p.history p.steps))
 start-answers p ch cookie q t u h less read may some none number =
     let v : View = view_of p in
     let at = holds-at p h ch q less read in
@@ -152,9 +154,15 @@ start-answers p ch cookie q t u h less read may some none number =
     ∙ ap (λ k. (Turned (Started k), with_taken v ch (Some 0))) number
     ∙ stepped-so v _ ch (Started (front_cookie v ch)) (start-turn v ch t may some ∙ ap (start_turn v ch) none)
 
-pub held-answers : (v : View) (ch other cookie : ℕ) (t : Descriptor) → MayStart v ch → issued_front (channel (object_of v) ch) ≡ Some t → Some (other, cookie) ≡ named (in_the_way v t) → Answers v (Step ch) (Turned (Held other cookie)) v
+-- a start that is refused memory
+pub start-starved : (v w : View) (ch : ℕ) (t : Descriptor) → MayStart v ch → issued_front (channel (object_of v) ch) ≡ Some t → in_the_way v t ≡ None → w ≡ v → CallAnswers v (Step ch) (Refused NoMemory) w
+start-starved v w ch t may some none same =
+    let is = stepped-so v _ ch (Started (front_cookie v ch)) (start-turn v ch t may some ∙ ap (start_turn v ch) none) in
+    (sym (ap (λ (x : Reply × View). is_started x.0 || nat_lt (length v.history) (length x.1.history)) is), same)
+
+pub held-answers : (v : View) (ch other cookie : ℕ) (t : Descriptor) → MayStart v ch → issued_front (channel (object_of v) ch) ≡ Some t → Some (other, cookie) ≡ named (in_the_way v t) → CallAnswers v (Step ch) (Turned (Held other cookie)) v
 held-answers v ch other cookie t may some held =
-    let by : (x : Option RunningTransfer) → in_the_way v t ≡ x → Some (other, cookie) ≡ named x → Answers v (Step ch) (Turned (Held other cookie)) v = λ x. elim x as (λ x. in_the_way v t ≡ x → Some (other, cookie) ≡ named x → Answers v (Step ch) (Turned (Held other cookie)) v) [
+    let by : (x : Option RunningTransfer) → in_the_way v t ≡ x → Some (other, cookie) ≡ named x → CallAnswers v (Step ch) (Turned (Held other cookie)) v = λ x. elim x as (λ x. in_the_way v t ≡ x → Some (other, cookie) ≡ named x → CallAnswers v (Step ch) (Turned (Held other cookie)) v) [
       | None ↦ λ _ e. absurd cc
       | Some r ↦ λ is e.
           let pair : Option (ℕ × ℕ) → ℕ × ℕ = λ y. unwrap_or y (0, 0) in
@@ -236,7 +244,7 @@ finish-allowed p ch q WriteFailed h less read d =
     (r.goes, rw (r.issued, done) (passed, not-signalled p ch q r not_end, omega (arith, store.0, store.2), hit))
 finish-allowed p ch q Aborted h less read d = absurd d.holds
 
-pub finish-answers : (p : Parts) (ch spare cookie residue : ℕ) (how : TransResult) (q : Queue) (outcome : Outcome) (halted : Bool) (u : Descriptor) (flags : List Bool) (memory : List ℕ) → Holds p → ch < length p.queues → q ≡ slice_index_or p.queues ch q → (d : Due p ch q (Finishes (view_of p) how)) → issued_front (channel (object_of (view_of p)) ch) ≡ Some u → cookie ≡ finished (channel (object_of (view_of p)) ch) + 1 → residue ≡ size_of u - done_on (view_of p) ch → Answers (view_of p) (Step ch) (Turned (TurnFinished cookie how residue)) (view_of (changed p ch (queue_finished q spare outcome halted) memory flags (p.history ++ Finished ch how (done_on (view_of p) ch) ∷ []) (p.steps + 1)))
+pub finish-answers : (p : Parts) (ch spare cookie residue : ℕ) (how : TransResult) (q : Queue) (outcome : Outcome) (halted : Bool) (u : Descriptor) (flags : List Bool) (memory : List ℕ) → Holds p → ch < length p.queues → q ≡ slice_index_or p.queues ch q → (d : Due p ch q (Finishes (view_of p) how)) → issued_front (channel (object_of (view_of p)) ch) ≡ Some u → cookie ≡ finished (channel (object_of (view_of p)) ch) + 1 → residue ≡ size_of u - done_on (view_of p) ch → CallAnswers (view_of p) (Step ch) (Turned (TurnFinished cookie how residue)) (view_of (changed p ch (queue_finished q spare outcome halted) memory flags (p.history ++ Finished ch how (done_on (view_of p) ch) ∷ []) (p.steps + 1)))
 finish-answers p ch spare cookie residue how q outcome halted u flags memory h less read d some number rest =
     let v : View = view_of p in
     let r = d.it in

@@ -1,6 +1,5 @@
 -- What each call answers.
 use Rattle.std.specs.Prelude.{◌≡◌, ℕ, ◌+◌, ◌-◌, if◌then◌else◌, ◌==◌, ◌||◌, Bool, true, false, nat_lt, nat_le, not, Option, Some, None, Result, Ok, Err, List, [], ◌∷◌, ◌++◌, length, take, drop, slice_get, slice_set, find}
-use Rattle.std.specs.Option.{option_map}
 use Rattle.dma_mem.specs.Places.{Descriptor, touches, writes, lies_below}
 use Rattle.dma_mem.specs.declared.segment.Segment.{Segment}
 use Rattle.dma_engine.specs.declared.entry.Entry.{Entry}
@@ -11,14 +10,14 @@ use Rattle.dma_engine.specs.declared.call.Call.TheVariants.{Write, Read, Submit,
 use Rattle.dma_engine.specs.declared.call.Reply.{Reply}
 use Rattle.dma_engine.specs.declared.call.Reply.TheVariants.{Done, Bytes, Cookie, Count, Turned, State, Result as Told, Refused}
 use Rattle.dma_engine.specs.declared.turn.Status.{Status as EngineStatus}
+use Rattle.dma_engine.specs.declared.turn.Status.TheVariants.{Unknown, InProgress, Complete}
 use Rattle.dma_engine.specs.declared.turn.Turn.{Turn}
 use Rattle.dma_engine.specs.declared.turn.Turn.TheVariants.{Started}
 use Rattle.dma_engine.specs.declared.fault.EngineFault.{EngineFault}
 use Rattle.dma_engine.specs.declared.fault.EngineFault.TheVariants.{OutOfMemoryRange, Busy, NoChannel, CookiesSpent, BadEvent, BadRange, NoMemory}
 use Rattle.dma_engine.specs.declared.fault.SubmitFault.{SubmitFault}
 use Rattle.dma_engine.specs.declared.outcome.Outcome.{Outcome}
-use Rattle.dma_engine.specs.Object.{Object, channel, used, unfinished, last_cookie}
-use Rattle.dma_engine.specs.Ticks.{ticks_of, board_of, board_after, status_of}
+use Rattle.dma_engine.specs.Object.{Object, channel, used, finished, unfinished, last_cookie}
 use Rattle.dma_chan.specs.Traffic.{stored_after}
 use Rattle.dma_engine.specs.View.{View, RunningTransfer, object_of, schedule_at, size, channels, idle, runs, running}
 use Rattle.dma_engine.specs.Turn.{with_entry, turn}
@@ -34,27 +33,28 @@ abbrev pub busy : Option RunningTransfer → Option EngineFault
 busy None = None
 busy (Some r) = Some (Busy r.ch r.cookie)
 
-abbrev pub named : Option RunningTransfer → Option (ℕ × ℕ)
-named x = option_map (λ r. (r.ch, r.cookie)) x
-
 -- the first running transfer, on the lowest channel, of which a test holds
 abbrev pub first_running : View → (Descriptor → Bool) → Option RunningTransfer
 first_running v test = find (λ r. test r.transfer) (running (object_of v) v.schedule)
 
+-- a range ends above the memory, or a running transfer of which the test holds is in the way
 abbrev pub range_fault : View → ℕ → ℕ → (Segment → Descriptor → Bool) → Option EngineFault
 range_fault v addr n test =
     cause (nat_lt (size v) (addr + n)) OutOfMemoryRange (busy (first_running v (test (record { addr = addr; len = n }))))
 
--- a write is in the way of a running transfer that writes or reads a byte of its range, a read of one that writes one
+-- a write is in the way of a running transfer that writes or reads a byte of its range
 abbrev pub write_fault : View → ℕ → ℕ → Option EngineFault
 write_fault v addr n = range_fault v addr n (λ s t. touches t s)
 
+-- a read is in the way of a running transfer that writes a byte of its range
 abbrev pub read_fault : View → ℕ → ℕ → Option EngineFault
 read_fault v addr n = range_fault v addr n (λ s t. writes t s)
 
+-- there is no such channel
 abbrev pub channel_fault : View → ℕ → Option EngineFault
 channel_fault v ch = cause (nat_le (channels v) ch) NoChannel None
 
+-- there is no such channel, a segment ends above the memory, or the channel has given its last cookie
 abbrev pub submit_fault : View → ℕ → Descriptor → Option EngineFault
 submit_fault v ch t =
     cause (nat_le (channels v) ch) NoChannel (
@@ -70,6 +70,7 @@ checked (Some fault) cookie = Err fault
 abbrev pub mark_fault : Segment → Option EngineFault
 mark_fault s = cause (s.len == 0 || nat_lt 4294967296 (s.addr + s.len)) BadRange None
 
+-- there are 32 events (PL330 manual, DMASEV and DMAWFE)
 abbrev pub raise_fault : ℕ → Option EngineFault
 raise_fault event = cause (nat_lt 31 event) BadEvent None
 
@@ -85,6 +86,7 @@ abbrev pub done_by : Option RunningTransfer → ℕ
 done_by None = 0
 done_by (Some r) = stored_after r.transfer r.taken
 
+-- the same by the number of the channel
 abbrev pub done_on : View → ℕ → ℕ
 done_on v ch = done_by (runs (object_of v) v.schedule ch)
 
@@ -95,9 +97,13 @@ terminated v ch =
       schedule = slice_set v.schedule ch idle;
     }
 
--- how far a cookie is: as readers of the status are told by the history's ticks
+-- How far a cookie is (profile): unknown where it is 0 or above those that its channel has given, complete where it is among
+-- the finished ones, else in progress.
 abbrev pub status_in : View → ℕ → ℕ → EngineStatus
-status_in v ch cookie = status_of (board_after (board_of v.base) (ticks_of v.history)) ch cookie
+status_in v ch cookie =
+    let c = channel (object_of v) ch in
+    if cookie == 0 || nat_lt (used c) cookie then Unknown
+    else (if nat_le cookie (finished c) then Complete else InProgress)
 
 -- how a cookie finished, if it did
 abbrev pub result_of : Object → ℕ → ℕ → Option Outcome
@@ -108,6 +114,7 @@ abbrev pub reply_of : {T : Type 0} → (T → Reply) → Result T EngineFault �
 reply_of told (Ok x) = told x
 reply_of told (Err fault) = Refused fault
 
+-- the reply of a submit
 abbrev pub submit_reply : Result ℕ SubmitFault → Reply
 submit_reply (Ok cookie) = Cookie cookie
 submit_reply (Err refused) = Refused refused.fault
@@ -143,6 +150,7 @@ answer v (Raise event) = unless (raise_fault event) v (Done, with_entry v (Signa
 
 -- ---- want of memory
 
+-- whether a reply says that a transfer started
 abbrev pub is_started : Reply → Bool
 is_started (Turned (Started cookie)) = true
 is_started _ = false
@@ -154,13 +162,13 @@ takes_memory v call =
 
 -- A call answers so, and leaves such a view. A call that takes memory may also be refused it, after every other cause, and
 -- then leaves the view as it was.
-abbrev pub Answers : View → Call → Reply → View → Type 0
-Answers old call (Refused NoMemory) new = (takes_memory old call ≡ true) × (new ≡ old)
-Answers old call reply new = (reply, new) ≡ answer old call
+abbrev pub CallAnswers : View → Call → Reply → View → Type 0
+CallAnswers old call (Refused NoMemory) new = (takes_memory old call ≡ true) × (new ≡ old)
+CallAnswers old call reply new = (reply, new) ≡ answer old call
 
 -- the same of the answer of one step
-abbrev pub Steps : View → ℕ → Result Turn EngineFault → View → Type 0
-Steps old ch result new = Answers old (Step ch) (reply_of Turned result) new
+abbrev pub StepAnswers : View → ℕ → Result Turn EngineFault → View → Type 0
+StepAnswers old ch result new = CallAnswers old (Step ch) (reply_of Turned result) new
 
 -- ---- lists of calls
 
@@ -168,7 +176,7 @@ Steps old ch result new = Answers old (Step ch) (reply_of Turned result) new
 abbrev pub AreAnswers : View → List Call → List Reply → View → Type 0
 AreAnswers old [] [] new = new ≡ old
 AreAnswers old (call ∷ calls) (reply ∷ replies) new =
-    (next : View) × Answers old call reply next × AreAnswers next calls replies new
+    (next : View) × CallAnswers old call reply next × AreAnswers next calls replies new
 AreAnswers old _ _ new = ⊥
 
 -- The history begins with the one from before, from the same base.

@@ -1,5 +1,5 @@
 -- Histories: lists of entries, in the order in which they were added.
-use Rattle.std.specs.Prelude.{ℕ, List, [], ◌∷◌}
+use Rattle.std.specs.Prelude.{List, [], ◌∷◌}
 use Rattle.dma_engine.specs.declared.entry.Entry.{Entry}
 use Rattle.dma_engine.specs.Object.{Object, Allows, after}
 
@@ -7,10 +7,6 @@ use Rattle.dma_engine.specs.Object.{Object, Allows, after}
 abbrev pub object_after : Object → List Entry → Object
 object_after o [] = o
 object_after o (e ∷ es) = object_after (after o e) es
-
--- The image that they leave.
-abbrev pub image_after : Object → List Entry → List ℕ
-image_after o es = (object_after o es).image
 
 -- A history is legal where each entry is allowed where it stands, from this object on.
 abbrev pub IsLegal : Object → List Entry → Type 0

@@ -11,9 +11,9 @@ use Rattle.dma_engine.specs.declared.fault.EngineFault.TheVariants.{NoMemory}
 use Rattle.dma_engine.specs.declared.turn.Turn.{Turn}
 use Rattle.dma_engine.specs.declared.turn.Turn.TheVariants.{Moved, Finished as TurnFinished}
 use Rattle.dma_engine.specs.Object.{channel, finished, finished_all, last_cookie, unfinished, used}
-use Rattle.dma_engine.specs.Ticks.{Tick, Submitted, Finished, board_after, board_of, counts, ticks_of}
+use Rattle.dma_engine.specs.Ticks.{Tick, Submitted, Finished, board_after, board_of, counts, status_of, ticks_of}
 use Rattle.dma_engine.specs.Turn.{ends, turn}
-use Rattle.dma_engine.specs.Answer.{Answers, Steps, Extends, answer, reply_of}
+use Rattle.dma_engine.specs.Answer.{CallAnswers, StepAnswers, Extends, answer, reply_of, status_in}
 use Rattle.dma_engine.specs.Room.{IsIdle}
 use Rattle.dma_engine.specs.View.{View, IsSound, channels, object_of}
 
@@ -52,40 +52,46 @@ IsQuiet _ = Unit {0}
 
 -- Whatever a call answers, the history begins with the one from before, from the same base.
 abbrev pub CallsExtend : Type 0
-CallsExtend = (v w : View) (call : Call) (reply : Reply) → Answers v call reply w → Extends v w
+CallsExtend = (v w : View) (call : Call) (reply : Reply) → CallAnswers v call reply w → Extends v w
 
 -- Whatever a quiet call answers, ticks, step count and finished cookies stay.
 abbrev pub QuietCallsKeep : Type 0
-QuietCallsKeep = (v w : View) (call : Call) (reply : Reply) → IsQuiet call → Answers v call reply w → Still v w
+QuietCallsKeep = (v w : View) (call : Call) (reply : Reply) → IsQuiet call → CallAnswers v call reply w → Still v w
 
 -- An accepted submit adds its tick, and its cookie is then the last one given on a channel that is there.
 abbrev pub SubmitsGive : Type 0
 SubmitsGive =
-    (v w : View) (ch cookie : ℕ) (t : Descriptor) → Answers v (Submit ch t) (Cookie cookie) w
+    (v w : View) (ch cookie : ℕ) (t : Descriptor) → CallAnswers v (Submit ch t) (Cookie cookie) w
     → Adds v w (Submitted ch ∷ []) 0 0 × (ch < channels w) × (0 < cookie) × (cookie ≡ used (channel (object_of w) ch))
 
 -- An accepted terminate adds its tick, and all cookies of its channel are then finished.
 abbrev pub TerminatesFinish : Type 0
 TerminatesFinish =
-    (v w : View) (ch count : ℕ) → Answers v (Terminate ch) (Count count) w
+    (v w : View) (ch count : ℕ) → CallAnswers v (Terminate ch) (Count count) w
     → Adds v w (Finished ch count ∷ []) 0 count × (ch < channels w) × (count ≡ unfinished (channel (object_of v) ch))
     × (used (channel (object_of w) ch) ≤ finished (channel (object_of w) ch))
 
 -- A step adds what its answer says.
 abbrev pub StepsAdd : Type 0
 StepsAdd =
-    (v w : View) (ch : ℕ) (r : Result Turn EngineFault) → Steps v ch r w
+    (v w : View) (ch : ℕ) (r : Result Turn EngineFault) → StepAnswers v ch r w
     → Adds v w (ticks_in ch r) (steps_in r) (finishes_in r)
 
 -- A step finishes a cookie where the turn does, unless it is refused memory.
 abbrev pub EndsAsTold : Type 0
 EndsAsTold =
-    (v w : View) (ch : ℕ) (r : Result Turn EngineFault) → Steps v ch r w
+    (v w : View) (ch : ℕ) (r : Result Turn EngineFault) → StepAnswers v ch r w
     → (r ≡ Err NoMemory) ⊎ (ends r ≡ ends (turn v ch).0)
 
 -- The board of the history's ticks has the counts of the object that the history leaves.
 abbrev pub BoardsCount : Type 0
 BoardsCount = (v : View) → IsSound v → board_after (board_of v.base) (ticks_of v.history) ≡ board_of (object_of v)
+
+-- How far a cookie is, is told by the board that the history's ticks add up to, as readers of the status know it.
+abbrev pub StatusByTicks : Type 0
+StatusByTicks =
+    (v : View) (ch cookie : ℕ) → IsSound v
+    → status_in v ch cookie ≡ status_of (board_after (board_of v.base) (ticks_of v.history)) ch cookie
 
 -- A history begins with the counts of at most 8 channels, none above the last cookie.
 abbrev pub BoardsOpen : Type 0

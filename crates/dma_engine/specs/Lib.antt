@@ -6,12 +6,6 @@ pub mod View
 pub mod Turn
 pub mod Answer
 pub mod Advance
-pub mod Ways
-pub mod Ranges
-pub mod Holds
-pub mod Inside
-pub mod Lists
-pub mod Found
 pub mod Room
-pub mod Due
 pub mod Laws
+pub mod inner

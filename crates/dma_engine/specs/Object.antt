@@ -10,7 +10,7 @@ use Rattle.dma_engine.specs.declared.entry.Entry.TheVariants.{Wrote, ReadBack, S
 use Rattle.dma_engine.specs.declared.entry.Signaller.TheVariants.{Channel, Host}
 use Rattle.dma_mem.specs.declared.marks.MarkKind.{MarkKind}
 use Rattle.dma_mem.specs.declared.marks.MarkKind.TheVariants.{Reading, Writing}
-use Rattle.dma_chan.specs.Layer.{meets_mark}
+use Rattle.dma_mem.specs.Marking.{meets_mark}
 use Rattle.dma_engine.specs.declared.outcome.Outcome.{Outcome}
 use Rattle.dma_engine.specs.declared.outcome.TransResult.{TransResult}
 use Rattle.dma_engine.specs.declared.outcome.TransResult.TheVariants.{NoError, ReadFailed, WriteFailed, Aborted}
@@ -37,19 +37,20 @@ pub record Object : Type 0 where
   pub channels : List ChannelState
 
 -- a channel to which nothing was submitted
-abbrev pub new_channel : ChannelState
-new_channel = record { submitted = []; issued = 0; outcomes = []; passed = false; signalled = false; halted = false }
+abbrev pub empty_channel : ChannelState
+empty_channel = record { submitted = []; issued = 0; outcomes = []; passed = false; signalled = false; halted = false }
 
 -- The opening object: a memory of zeros, 32 clear flags (PL330 manual, DMASEV and DMAWFE), no marks, and channels to which
 -- nothing was submitted.
 unfoldable pub opening : ℕ → ℕ → Object
 opening size channels =
-    record { image = replicate size 0; events = replicate 32 false; marks = []; channels = replicate channels new_channel }
+    record { image = replicate size 0; events = replicate 32 false; marks = []; channels = replicate channels empty_channel }
 
 -- the channel of that number; where there is none, one to which nothing was submitted
 abbrev pub channel : Object → ℕ → ChannelState
-channel o ch = slice_index_or o.channels ch new_channel
+channel o ch = slice_index_or o.channels ch empty_channel
 
+-- the object with one channel changed
 abbrev pub with_channel : Object → ℕ → ChannelState → Object
 with_channel o ch c = record o { channels = slice_set o.channels ch c }
 
@@ -57,16 +58,19 @@ with_channel o ch c = record o { channels = slice_set o.channels ch c }
 abbrev pub is_set : Object → ℕ → Bool
 is_set o event = slice_index_or o.events event false
 
+-- the object with the flag of an event set or cleared
 abbrev pub with_flag : Object → ℕ → Bool → Object
 with_flag o event flag = record o { events = slice_set o.events event flag }
 
--- how many cookies a channel has given, how many of them are finished, and how many aren't
+-- how many cookies a channel has given
 abbrev pub used : ChannelState → ℕ
 used c = length c.submitted
 
+-- how many of them are finished
 abbrev pub finished : ChannelState → ℕ
 finished c = length c.outcomes
 
+-- how many of them aren't finished
 abbrev pub unfinished : ChannelState → ℕ
 unfinished c = used c - finished c
 
@@ -88,10 +92,11 @@ issued_front c = if nat_lt (finished c) c.issued then front c else None
 abbrev pub FrontIs : ChannelState → (Descriptor → Type 0) → Type 0
 FrontIs c P = (c.halted ≡ false) × IsSomeAnd (issued_front c) P
 
--- the front has passed if it waits; it has signalled if it signals
+-- the front has passed if it waits
 abbrev pub HasPassed : ChannelState → Descriptor → Type 0
 HasPassed c t = IsSome t.wait → c.passed ≡ true
 
+-- the front has signalled if it signals
 abbrev pub HasSignalled : ChannelState → Descriptor → Type 0
 HasSignalled c t = IsSome t.signal → c.signalled ≡ true
 
@@ -107,8 +112,8 @@ CanFail o c kind side done =
     HasPassed c t × (c.signalled ≡ false) × (done < size_of t)
     × (meets_mark kind o.marks (take 256 (drop done (side t))) ≡ true))
 
--- So much of the front can be stored when its channel is terminated: nothing where no front is issued, the channel is halted,
--- or the front waits and hasn't passed; all where it has signalled.
+-- So much of the front can be stored when its channel is terminated: nothing where no front is issued, the channel is
+-- halted, or the front waits and hasn't passed; all where it has signalled.
 abbrev pub CanHaveStored : ChannelState → ℕ → Type 0
 CanHaveStored c done =
     MatchOption (issued_front c) (done ≡ 0) (λ t.
@@ -147,6 +152,7 @@ Allows o Unmarked = Unit {0}
 abbrev pub no_transfer : Descriptor
 no_transfer = record { src = []; dst = []; wait = None; signal = None }
 
+-- the front, or a transfer of nothing
 abbrev pub front_of : ChannelState → Descriptor
 front_of c = unwrap_or (front c) no_transfer
 

@@ -8,15 +8,16 @@ use Rattle.dma_engine.specs.View.{EngineState, QueueRoom, Room, object_of}
 
 -- where there is no such channel
 abbrev pub no_room : QueueRoom
-no_room = record { places = 0; outcomes = 0 }
+no_room = record { indices = 0; outcomes = 0 }
 
+-- the room of a channel
 abbrev pub room_on : Room → ℕ → QueueRoom
 room_on r ch = slice_index_or r.queues ch no_room
 
 -- There is room for one more entry, for one more cookie of the channel, and for the outcomes of all its unfinished cookies.
 pub record HasRoom (e : EngineState) (ch : ℕ) : Type 0 where
   pub entry : 0 < e.room.entries
-  pub cookie : 0 < (room_on e.room ch).places
+  pub cookie : 0 < (room_on e.room ch).indices
   pub outcomes : unfinished (channel (object_of e.view) ch) ≤ (room_on e.room ch).outcomes
 
 -- An answer to a step that changed nothing: a refusal, or a turn that neither starts, moves nor finishes.

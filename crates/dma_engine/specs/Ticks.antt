@@ -28,9 +28,11 @@ pub record Counts : Type 0 where
 abbrev pub Board : Type 0
 Board = List Counts
 
+-- of a channel that is not there
 abbrev pub no_counts : Counts
 no_counts = record { used = 0; finished = 0 }
 
+-- the counts of a channel
 abbrev pub counts : Board → ℕ → Counts
 counts board ch = slice_index_or board ch no_counts
 
@@ -38,20 +40,23 @@ counts board ch = slice_index_or board ch no_counts
 abbrev pub added_up : ℕ → ℕ → ℕ
 added_up n by = min (n + by) 4294967295
 
+-- the board after one tick
 abbrev pub ticked : Board → Tick → Board
 ticked board (Submitted ch) =
     slice_set board ch (record (counts board ch) { used = added_up (counts board ch).used 1 })
 ticked board (Finished ch count) =
     slice_set board ch (record (counts board ch) { finished = added_up (counts board ch).finished count })
 
+-- the board after these ticks, in order
 abbrev pub board_after : Board → List Tick → Board
 board_after board [] = board
 board_after board (t ∷ ts) = board_after (ticked board t) ts
 
--- the board of an object from which a history begins
+-- the counts of a channel, as the object knows it
 abbrev pub counts_of : ChannelState → Counts
 counts_of c = record { used = used c; finished = finished c }
 
+-- the counts of each channel of an object
 abbrev pub board_of : Object → Board
 board_of o = map counts_of o.channels
 

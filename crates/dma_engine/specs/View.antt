@@ -3,8 +3,7 @@ use Rattle.std.specs.Prelude.{◌≡◌, ◌≢◌, ℕ, ◌+◌, ◌-◌, ◌<�
 use Rattle.std.specs.Option.{option_map}
 use Rattle.std.specs.List.{filter_map, range_with_len}
 use Rattle.dma_mem.specs.Places.{Descriptor, is_free_of}
-use Rattle.dma_mem.specs.Image.{over}
-use Rattle.dma_mem.specs.Sizes.{is_size}
+use Rattle.dma_mem.specs.Image.{over, is_size}
 use Rattle.dma_engine.specs.declared.entry.Entry.{Entry}
 use Rattle.dma_engine.specs.declared.fault.NewFault.{NewFault}
 use Rattle.dma_engine.specs.declared.fault.NewFault.TheVariants.{BadChannels, SizeOutOfRange}
@@ -26,9 +25,9 @@ pub record View : Type 0 where
   pub steps : ℕ
   pub schedule : List ChannelSchedule
 
--- how many more places and outcomes a channel's lists have room for
+-- how many more indices and outcomes a channel's lists have room for
 pub record QueueRoom : Type 0 where
-  pub places : ℕ
+  pub indices : ℕ
   pub outcomes : ℕ
 
 -- how many more entries the history has room for, and the room of each channel
@@ -46,16 +45,19 @@ pub record EngineState : Type 0 where
 abbrev pub idle : ChannelSchedule
 idle = record { paused = false; taken = None }
 
+-- the object that the history leaves
 abbrev pub object_of : View → Object
 object_of v = object_after v.base v.history
 
+-- the schedule of a channel; where there is none, that of one on which nothing runs
 abbrev pub schedule_at : View → ℕ → ChannelSchedule
 schedule_at v ch = slice_index_or v.schedule ch idle
 
--- how many bytes the memory has, and how many channels there are
+-- how many bytes the memory has
 abbrev pub size : View → ℕ
 size v = length (object_of v).image
 
+-- how many channels there are
 abbrev pub channels : View → ℕ
 channels v = length (object_of v).channels
 
@@ -68,6 +70,7 @@ pub record RunningTransfer : Type 0 where
   pub transfer : Descriptor
   pub taken : ℕ
 
+-- what runs on a channel, by what is known of it and the instructions that its front has executed
 abbrev pub runs_there : ℕ → ChannelState → Option ℕ → Option RunningTransfer
 runs_there ch c None = None
 runs_there ch c (Some taken) =
@@ -89,6 +92,7 @@ with_stored r = (r.transfer, stored_after r.transfer r.taken)
 abbrev pub memory_shown : Object → List ChannelSchedule → List ℕ
 memory_shown o schedule = over o.image (map with_stored (running o schedule))
 
+-- the same of a view
 abbrev pub memory_of : View → List ℕ
 memory_of v = memory_shown (object_of v) v.schedule
 

@@ -27,8 +27,9 @@ fn has_moved(turn: Result<Turn, EngineFault>) -> bool
     matches!(turn, Ok(Turn::Moved))
 }
 
-/// Steps a channel until an answer is not [`Turn::Moved`], at most `most` times. Each is a step as [`Engine::step`] takes it. It
-/// takes time in proportion to the steps and the bytes that they move, and no memory of its own: no list of replies is made.
+/// Steps a channel until an answer is not [`Turn::Moved`], at most `most` times. Each is a step as [`Engine::step`] takes
+/// it. It takes time in proportion to the steps and the bytes that they move, and no memory of its own: no list of replies
+/// is made.
 pub fn advance(engine: &mut Engine, ch: u8, most: u32) -> Advanced
     ensures answers { IsAdvance engine.old.view ch result engine.new.view }
     ensures all { IsNone result.last → result.moved ≡ most }

@@ -1,6 +1,10 @@
 //! Why a call on an engine was refused.
 
+ghost use Rattle.std.specs.Prelude.{◌≡◌};
+
+use dma_chan::compile;
 use dma_mem::transfer::Transfer;
+use std::alloc::AllocError;
 use thiserror::Error;
 
 /// Why a call was refused. Each call names those that it may answer, in the order in which it tests them. A refused call
@@ -38,6 +42,17 @@ pub enum EngineFault {
     NoMemory,
 }
 
+impl From<AllocError> for EngineFault {
+    ghost use Rattle.std.specs.Prelude.{◌≡◌};
+    ghost use Rattle.dma_engine.specs.declared.fault.EngineFault.TheVariants.{NoMemory};
+
+    ghost from_gives = { λ _ fault. fault ≡ NoMemory };
+
+    fn from(_refused: AllocError) -> EngineFault {
+        EngineFault::NoMemory
+    }
+}
+
 /// Why no engine was made, in the order of the tests.
 #[derive(Clone, Copy, Debug, PartialEq, Eq, Error)]
 pub enum NewFault {
@@ -52,6 +67,28 @@ pub enum NewFault {
     NoMemory,
 }
 
+impl From<compile::NoMemory> for EngineFault {
+    ghost use Rattle.std.specs.Prelude.{◌≡◌};
+    ghost use Rattle.dma_engine.specs.declared.fault.EngineFault.TheVariants.{NoMemory};
+
+    ghost from_gives = { λ _ fault. fault ≡ NoMemory };
+
+    fn from(_refused: compile::NoMemory) -> EngineFault {
+        EngineFault::NoMemory
+    }
+}
+
+impl From<AllocError> for NewFault {
+    ghost use Rattle.std.specs.Prelude.{◌≡◌};
+    ghost use Rattle.dma_engine.specs.declared.fault.NewFault.TheVariants.{NoMemory};
+
+    ghost from_gives = { λ _ fault. fault ≡ NoMemory };
+
+    fn from(_refused: AllocError) -> NewFault {
+        NewFault::NoMemory
+    }
+}
+
 /// Why a transfer was not taken, with the transfer.
 #[derive(Drop)]
 pub struct SubmitFault {
@@ -59,4 +96,16 @@ pub struct SubmitFault {
     pub fault: EngineFault,
     /// What was to be submitted.
     pub transfer: Transfer,
+}
+
+impl SubmitFault {
+    /// A transfer that was not taken for want of memory.
+    pub(crate) fn no_memory(transfer: Transfer) -> SubmitFault
+        ensures { result ≡ record { fault = EngineFault.NoMemory; transfer = transfer } }
+    {
+        SubmitFault {
+            fault: EngineFault::NoMemory,
+            transfer,
+        }
+    }
 }

@@ -1,6 +1,6 @@
 //! Laws of the engine's answers, for the layers above. Each is the clause of a function that does nothing.
 
-ghost use Rattle.dma_engine.specs.Laws.{CallsExtend, QuietCallsKeep, SubmitsGive, TerminatesFinish, StepsAdd, EndsAsTold, BoardsCount, BoardsOpen, TicksAreFew, IdleStepsStay};
+ghost use Rattle.dma_engine.specs.Laws.{CallsExtend, QuietCallsKeep, SubmitsGive, TerminatesFinish, StepsAdd, EndsAsTold, BoardsCount, StatusByTicks, BoardsOpen, TicksAreFew, IdleStepsStay};
 
 /// What each call adds to the ticks, to the step count and to the number of finished cookies.
 pub fn calls_add()
@@ -15,6 +15,7 @@ pub fn calls_add()
 /// What the ticks of a history add up to.
 pub fn ticks_add_up()
     ensures board { BoardsCount }
+    ensures status { StatusByTicks }
     ensures opening { BoardsOpen }
     ensures few { TicksAreFew }
 {}

@@ -26,4 +26,8 @@ pub use outcome::{Outcome, TransResult};
 pub use turn::{Running, Status, Turn};
 
 #[cfg(test)]
+mod example;
+#[cfg(test)]
+mod test_lines;
+#[cfg(test)]
 mod tests;

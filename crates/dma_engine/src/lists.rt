@@ -1,32 +1,32 @@
 //! Lists that contracts see as their items and the room for more.
 
-ghost use Rattle.std.specs.Prelude.{◌≡◌, ◌+◌, ◌<◌, ◌≤◌, ◌++◌, ◌∷◌, [], if◌then◌else◌, length, slice_index, slice_get, IsTrue, false};
+ghost use Rattle.std.specs.Prelude.{◌≡◌, ◌+◌, ◌<◌, ◌≤◌, ◌++◌, ◌∷◌, [], length, slice_index, slice_get, IsOk, OnOk, OnErr};
 
 use crate::outcome::Outcome;
-use std::alloc::Global;
+use std::alloc::{AllocError, Global};
 use std::marker::Model;
 
-/// Places in a history.
+/// Indices of a history's entries.
 #[derive(Drop)]
-pub struct Places {
+pub struct Indices {
     items: Vec<usize>,
 }
 
-impl Model for Places {
+impl Model for Indices {
     ghost use Rattle.std.specs.Prelude.{◌-◌, vec_capacity, vec_len};
-    ghost use Rattle.dma_engine.specs.Lists.{PlaceList};
+    ghost use Rattle.dma_engine.specs.inner.Lists.{IndexList};
 
-    ghost Value = { PlaceList };
+    ghost Value = { IndexList };
 
     ghost view = { λ p. record { items = p.items.items; spare = vec_capacity p.items - vec_len p.items } };
 }
 
-impl Places {
-    /// No places, which takes no memory.
-    pub fn new(alloc: Global) -> Places
+impl Indices {
+    /// No indices, which takes no memory.
+    pub fn new(alloc: Global) -> Indices
         ensures { result ≡ record { items = []; spare = 0 } }
     {
-        Places {
+        Indices {
             items: Vec::new(alloc),
         }
     }
@@ -38,36 +38,33 @@ impl Places {
         self.items.len()
     }
 
-    /// The place at an index.
-    pub fn at(&self, index: usize) -> usize
-        requires { index < length self.now.items }
-        ensures { result ≡ slice_index self.now.items index }
+    /// The one that stands at a place of the list.
+    pub fn at(&self, place: usize) -> usize
+        requires { place < length self.now.items }
+        ensures { result ≡ slice_index self.now.items place }
     {
-        self.items[index]
+        self.items[place]
     }
 
-    /// Makes room for one more, and says whether there was memory for it.
-    pub fn make_room(&mut self) -> bool
+    /// Makes room for one more.
+    pub fn make_room(&mut self) -> Result<(), AllocError>
         ensures items { self.new.items ≡ self.old.items }
-        ensures room { IsTrue result → 0 < self.new.spare }
-        ensures there { 0 < self.old.spare → IsTrue result }
+        ensures room { OnOk result (0 < self.new.spare) }
+        ensures there { 0 < self.old.spare → IsOk result }
         ensures kept { self.old.spare ≤ self.new.spare }
     {
-        self.items.reserve(1).is_ok()
+        self.items.reserve(1)
     }
 
-    /// Adds a place at the end, and says whether there was memory for it.
-    pub fn add(&mut self, place: usize) -> bool
-        ensures added { self.new ≡ (if result then record { items = self.old.items ++ place ∷ []; spare = self.new.spare } else self.old) }
-        ensures room { 0 < self.old.spare → IsTrue result }
+    /// Adds an index at the end. Without memory nothing changes.
+    pub fn add(&mut self, index: usize) -> Result<(), AllocError>
+        ensures added { OnOk result (self.new ≡ record { items = self.old.items ++ index ∷ []; spare = self.new.spare }) }
+        ensures refused { OnErr result (self.new ≡ self.old) }
+        ensures room { 0 < self.old.spare → IsOk result }
     {
-        if self.items.reserve(1).is_err() {
-            return false;
-        }
-        let Ok(()) = self.items.push(place) else {
-            unreachable!();
-        };
-        true
+        self.items.reserve(1)?;
+        self.items.push_reserved(index);
+        Ok(())
     }
 }
 
@@ -79,7 +76,7 @@ pub struct Outcomes {
 
 impl Model for Outcomes {
     ghost use Rattle.std.specs.Prelude.{◌-◌, vec_capacity, vec_len};
-    ghost use Rattle.dma_engine.specs.Lists.{OutcomeList};
+    ghost use Rattle.dma_engine.specs.inner.Lists.{OutcomeList};
 
     ghost Value = { OutcomeList };
 
@@ -110,15 +107,15 @@ impl Outcomes {
         self.items.get(index).copied()
     }
 
-    /// Makes room for so many more, and says whether there was memory for them. Without it nothing changes.
-    pub fn make_room(&mut self, more: usize) -> bool
+    /// Makes room for so many more. Without memory nothing changes.
+    pub fn make_room(&mut self, more: usize) -> Result<(), AllocError>
         ensures items { self.new.items ≡ self.old.items }
-        ensures room { IsTrue result → more ≤ self.new.spare }
-        ensures none { result ≡ false → self.new ≡ self.old }
-        ensures there { more ≤ self.old.spare → IsTrue result }
+        ensures room { OnOk result (more ≤ self.new.spare) }
+        ensures none { OnErr result (self.new ≡ self.old) }
+        ensures there { more ≤ self.old.spare → IsOk result }
         ensures kept { self.old.spare ≤ self.new.spare }
     {
-        self.items.reserve(more).is_ok()
+        self.items.reserve(more)
     }
 
     /// Adds an outcome at the end, where there is room for one.
@@ -127,8 +124,6 @@ impl Outcomes {
         ensures items { self.new.items ≡ self.old.items ++ outcome ∷ [] }
         ensures spare { self.old.spare ≤ self.new.spare + 1 }
     {
-        let Ok(()) = self.items.push(outcome) else {
-            unreachable!();
-        };
+        self.items.push_reserved(outcome);
     }
 }

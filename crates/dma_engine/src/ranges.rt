@@ -2,7 +2,7 @@
 
 ghost use Rattle.std.specs.Prelude.{◌≡◌, true, IfOk};
 ghost use Rattle.dma_mem.specs.Places.{lies_below};
-ghost use Rattle.dma_engine.specs.Ranges.{HasRangesOf};
+ghost use Rattle.dma_engine.specs.inner.Ranges.{HasRangesOf};
 
 use dma_mem::range_set::RangeSet;
 use dma_mem::transfer::Transfer;
@@ -16,8 +16,8 @@ pub struct Ranges {
 }
 
 impl Ranges {
-    /// The addresses of a transfer whose segments end at 4,294,967,295 or below it. `AllocError` comes where memory for a copy of
-    /// one of its lists was refused.
+    /// The addresses of a transfer whose segments end at 4,294,967,295 or below it. `AllocError` comes where memory for a
+    /// copy of one of its lists was refused.
     pub fn of(alloc: Global, transfer: &Transfer) -> Result<Ranges, AllocError>
         requires { lies_below transfer.now 4294967295 ≡ true }
         ensures { IfOk result (λ ranges. HasRangesOf ranges transfer.now) }

@@ -1,7 +1,7 @@
 //! Calls carried out in order.
 
 ghost use Rattle.std.specs.Prelude.{◌≡◌, ◌+◌, ◌-◌, ◌<◌, ◌≤◌, ◌++◌, ◌∷◌, [], length, take, drop, IfOk, IsOk, OnOk, OnErr, vec_capacity, vec_len};
-ghost use Rattle.dma_engine.specs.Answer.{Answers, AreAnswers, Extends, KeepsOutcomes};
+ghost use Rattle.dma_engine.specs.Answer.{CallAnswers, AreAnswers, Extends, KeepsOutcomes};
 ghost use Rattle.dma_engine.specs.View.{IsSound, memory_of};
 
 use crate::call::{Call, Reply};
@@ -10,7 +10,8 @@ use crate::turn::Turn;
 use dma_chan::compile::NoMemory;
 use std::alloc::Global;
 
-/// Carries the calls out in order, and answers one reply for each: that of an object of one thread at its place in the history.
+/// Carries the calls out in order, and answers one reply for each: that of an object of one thread at its place in the
+/// history.
 ///
 /// Room for all replies is taken first. The error comes where it is refused; then no call was carried out.
 pub fn run(alloc: Global, engine: &mut Engine, calls: &[Call]) -> Result<Vec<Reply>, NoMemory>
@@ -28,7 +29,8 @@ pub fn run(alloc: Global, engine: &mut Engine, calls: &[Call]) -> Result<Vec<Rep
 
 /// The same, with the replies added at the end of a list that is there.
 ///
-/// Room for all replies is taken first. The error comes where it is refused; then no call was carried out, and none is added.
+/// Room for all replies is taken first. The error comes where it is refused; then no call was carried out, and none is
+/// added.
 pub fn run_into(
     engine: &mut Engine,
     calls: &[Call],
@@ -56,11 +58,11 @@ pub fn run_into(
     Ok(())
 }
 
-// Carries a call out, and adds its reply. A step that moves is by far the most frequent call, and its reply is made where it is
-// put, so that none is handed on.
+// Carries a call out, and adds its reply. A step that moves is by far the most frequent call, and its reply is made where it
+// is put, so that none is handed on.
 fn add_reply(engine: &mut Engine, call: &Call, replies: &mut Vec<Reply>)
     requires { vec_len replies.old < vec_capacity replies.old }
-    ensures answered { (reply : Reply) × (replies.new.items ≡ replies.old.items ++ reply ∷ []) × Answers engine.old.view call.now reply engine.new.view }
+    ensures answered { (reply : Reply) × (replies.new.items ≡ replies.old.items ++ reply ∷ []) × CallAnswers engine.old.view call.now reply engine.new.view }
     ensures len { vec_len replies.new ≡ vec_len replies.old + 1 }
     ensures capacity { vec_capacity replies.old ≤ vec_capacity replies.new }
 {

@@ -2,8 +2,8 @@
 
 ghost use Rattle.std.specs.Prelude.{◌≡◌};
 ghost use Rattle.dma_mem.specs.Places.{Descriptor};
-ghost use Rattle.dma_engine.specs.Ranges.{HasRangesOf};
-ghost use Rattle.dma_engine.specs.Ways.{is_in_the_way};
+ghost use Rattle.dma_engine.specs.inner.Ranges.{HasRangesOf};
+ghost use Rattle.dma_engine.specs.inner.Ways.{is_in_the_way};
 
 use crate::ranges::Ranges;
 use dma_mem::segment::Segment;

@@ -7,4 +7,3 @@ pub mod ProgramLaws
 pub mod Fronts
 mod Texts
 mod OneText
-pub mod FirstBytes

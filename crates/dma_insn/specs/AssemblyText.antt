@@ -47,12 +47,13 @@ pub record IsDecimal (word : List ℕ) (n : ℕ) : Type 0 where
 -- the eight hexadecimal digits of a number below 2 ^ 32, of 0 to 9 and A to F
 abbrev pub hex_digits : ℕ → List ℕ
 hex_digits v =
-    map (λ place. digit_glyph true (v / place % 16)) (0x10000000 ∷ 0x1000000 ∷ 0x100000 ∷ 0x10000 ∷ 0x1000 ∷ 0x100 ∷ 0x10 ∷ 0x1 ∷ [])
+    map (λ weight. digit_glyph true (v / weight % 16)) (0x10000000 ∷ 0x1000000 ∷ 0x100000 ∷ 0x10000 ∷ 0x1000 ∷ 0x100 ∷ 0x10 ∷ 0x1 ∷ [])
 
 -- 0x and these digits
 abbrev pub value_word : ℕ → List ℕ
 value_word v = codes "0x" ++ hex_digits v
 
+-- the name of a register
 abbrev pub register_word : Reg → List ℕ
 register_word Sar = codes "SAR"
 register_word Ccr = codes "CCR"
@@ -107,6 +108,7 @@ IsWritten words (dmawfe e false) = HasNumber words (codes "DMAWFE") e []
 IsWritten words (dmawfe e true) = HasNumber words (codes "DMAWFE") e (codes "invalid" ∷ [])
 IsWritten words (dmamov r v) = HasValue words r v
 
+-- the loop counter of a number
 abbrev pub counter_of : ℕ → Option Counter
 counter_of c = if c == 0 then Some Lc0 else (if c == 1 then Some Lc1 else None)
 
@@ -137,10 +139,12 @@ names =
     codes "DMAEND" ∷ codes "DMALD" ∷ codes "DMAST" ∷ codes "DMARMB" ∷ codes "DMAWMB" ∷ codes "DMANOP"
     ∷ codes "DMALP" ∷ codes "DMALPEND" ∷ codes "DMASEV" ∷ codes "DMAWFE" ∷ codes "DMAMOV" ∷ []
 
+-- the first of some words
 abbrev pub first_of : List (List ℕ) → List ℕ
 first_of [] = []
 first_of (word ∷ words) = word
 
+-- a line whose first word is an instruction's name
 abbrev pub begins_with_name : List ℕ → Bool
 begins_with_name line = list_any (λ name. bytes_eq (first_of (words_of line)) name) names
 
@@ -151,6 +155,7 @@ IsCause line Mnemonic = begins_with_name line ≡ false
 IsCause line Operand = (begins_with_name line ≡ true) × ((s : Statement) → IsWritten (words_of line) s → ⊥)
 IsCause line Range = (s : Statement) × IsWritten (words_of line) s × (insn_of s ≡ None)
 
+-- A line that is not skipped has a cause.
 pub record HasCause (line : List ℕ) (cause : Cause) : Type 0 where
   pub taken : is_skipped line ≡ false
   pub cause_is : IsCause line cause

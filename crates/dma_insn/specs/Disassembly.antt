@@ -17,6 +17,7 @@ abbrev pub AllInRange : List Insn → Type 0
 AllInRange [] = Unit {0}
 AllInRange (i ∷ is) = HasRanges i × AllInRange is
 
+-- the number of a loop counter
 abbrev pub counter_number : Counter → ℕ
 counter_number Lc0 = 0
 counter_number Lc1 = 1
@@ -82,7 +83,7 @@ DisassemblyAssembles =
     (bytes text : List ℕ) → length bytes ≤ most_bytes → Disassembles bytes text
     → Assembles text bytes × ((others : List ℕ) → Assembles text others → others ≡ bytes)
 
--- Each list of bytes has a text, or a place behind which no instruction stands; none has both, or two texts. A text of a
+-- Each list of bytes has a text, or an offset at which no instruction stands; none has both, or two texts. A text of a
 -- program's instructions that skips no line and ends each is written in one way.
 pub record DisassemblyTells : Type 0 where
   pub one : (bytes : List ℕ) → ((i : ℕ) → slice_index bytes i < 256)

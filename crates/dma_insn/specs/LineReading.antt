@@ -17,6 +17,7 @@ use Rattle.dma_insn.specs.declared.assembler.Cause.TheVariants.{Mnemonic, Operan
 use Rattle.dma_insn.specs.declared.assembler.AsmFault.{AsmFault}
 use Rattle.dma_insn.specs.declared.assembler.AsmFault.TheVariants.{Line, ProgramTooLong, NoMemory}
 
+-- what follows, where there was no fault
 infixl 10 ◌>>=◌
 abbrev pub ◌>>=◌ : {A B E : Type 0} → Result A E → (A → Result B E) → Result B E
 (Ok x) >>= f = f x
@@ -32,78 +33,95 @@ abbrev pub words_after : List ℕ → List (List ℕ)
 words_after [] = []
 words_after (space ∷ bytes) = words_of bytes
 
--- as many words as a statement has
+-- no word
 abbrev pub no_word : List (List ℕ) → Result (Unit {0}) Cause
 no_word [] = Ok tt
 no_word (a ∷ rest) = Err Operand
 
+-- one word
 abbrev pub one_word : List (List ℕ) → Result (List ℕ) Cause
 one_word [] = Err Operand
 one_word (a ∷ []) = Ok a
 one_word (a ∷ b ∷ rest) = Err Operand
 
+-- two words
 abbrev pub two_words : List (List ℕ) → Result (List ℕ × List ℕ) Cause
 two_words [] = Err Operand
 two_words (a ∷ []) = Err Operand
 two_words (a ∷ b ∷ []) = Ok (a, b)
 two_words (a ∷ b ∷ c ∷ rest) = Err Operand
 
--- decimal numbers, those above 65,535 as 65,535
+-- the value of a decimal digit
 abbrev pub digit_of : ℕ → Option ℕ
 digit_of c = if nat_le 48 c && nat_le c 57 then Some (c - 48) else None
 
+-- a number, and 65,535 for all above that
 abbrev pub capped : ℕ → ℕ
 capped n = min n 65535
 
+-- the number that digits spell behind those of a value, capped
 abbrev pub digits_from : ℕ → List ℕ → Option ℕ
 digits_from value [] = Some value
 digits_from value (c ∷ rest) = option_and_then (λ d. digits_from (capped (value * 10 + d)) rest) (digit_of c)
 
+-- the number of a word without leading zeros
 abbrev pub number_of : List ℕ → Option ℕ
 number_of [] = None
 number_of (c ∷ []) = digits_from 0 (c ∷ [])
 number_of (c ∷ d ∷ rest) = if c == 48 then None else digits_from 0 (c ∷ d ∷ rest)
 
+-- the same, or the fault of its word
 abbrev pub number_at : List ℕ → Result ℕ Cause
 number_at word = ok_or (number_of word) Operand
 
--- eight hexadecimal digits
+-- the value of a hexadecimal digit in capitals
 abbrev pub hex_digit_of : ℕ → Option ℕ
 hex_digit_of c =
     if nat_le 48 c && nat_le c 57 then Some (c - 48) else (if nat_le 65 c && nat_le c 70 then Some (c - 55) else None)
 
+-- the number that hexadecimal digits spell behind those of a value
 abbrev pub hex_from : ℕ → List ℕ → Option ℕ
 hex_from value [] = Some value
 hex_from value (c ∷ rest) = option_and_then (λ d. hex_from (value * 16 + d) rest) (hex_digit_of c)
 
+-- 0x and eight digits
 abbrev pub value_of : List ℕ → Option ℕ
 value_of (a ∷ b ∷ digits) = if (a == 48) && ((b == 120) && (length digits == 8)) then hex_from 0 digits else None
 value_of (a ∷ []) = None
 value_of [] = None
 
+-- the same, or the fault of its word
 abbrev pub value_at : List ℕ → Result ℕ Cause
 value_at word = ok_or (value_of word) Operand
 
+-- the register of a name
 abbrev pub register_of : List ℕ → Option Reg
 register_of word =
-    if bytes_eq word (codes "SAR") then Some Sar else (if bytes_eq word (codes "CCR") then Some Ccr else (if bytes_eq word (codes "DAR") then Some Dar else None))
+    if bytes_eq word (codes "SAR") then Some Sar else (
+    if bytes_eq word (codes "CCR") then Some Ccr else (
+    if bytes_eq word (codes "DAR") then Some Dar else None))
 
+-- the same, or the fault of its word
 abbrev pub register_at : List ℕ → Result Reg Cause
 register_at word = ok_or (register_of word) Operand
 
--- the ranges
+-- a loop counter
 abbrev pub counter_at : ℕ → Result Counter Cause
 counter_at c = ok_or (counter_of c) Range
 
+-- how often a loop runs
 abbrev pub times_at : ℕ → Result ℕ Cause
 times_at n = if nat_le 1 n && nat_le n 256 then Ok n else Err Range
 
+-- how far a loop jumps back
 abbrev pub back_at : ℕ → Result ℕ Cause
 back_at b = if nat_le b 255 then Ok b else Err Range
 
+-- an event
 abbrev pub event_at : ℕ → Result ℕ Cause
 event_at e = if nat_le e 31 then Ok e else Err Range
 
+-- two numbers, all words being read before one is tested against its range
 abbrev pub two_numbers : List (List ℕ) → Result (ℕ × ℕ) Cause
 two_numbers words = do
   w ← two_words words
@@ -111,6 +129,7 @@ two_numbers words = do
   b ← number_at w.1
   Ok (a, b)
 
+-- the words of DMALP
 abbrev pub loop_line : List (List ℕ) → Result Insn Cause
 loop_line words = do
   n ← two_numbers words
@@ -118,6 +137,7 @@ loop_line words = do
   times ← times_at n.1
   Ok (Lp counter times)
 
+-- the words of DMALPEND
 abbrev pub loop_end_line : List (List ℕ) → Result Insn Cause
 loop_end_line words = do
   n ← two_numbers words
@@ -125,6 +145,7 @@ loop_end_line words = do
   back ← back_at n.1
   Ok (LpEnd counter back)
 
+-- the word of DMASEV
 abbrev pub signal_line : List (List ℕ) → Result Insn Cause
 signal_line words = do
   word ← one_word words
@@ -139,6 +160,7 @@ wait_words (a ∷ []) = Ok (a, false)
 wait_words (a ∷ b ∷ []) = if bytes_eq b (codes "invalid") then Ok (a, true) else Err Operand
 wait_words (a ∷ b ∷ c ∷ rest) = Err Operand
 
+-- the words of DMAWFE
 abbrev pub wait_line : List (List ℕ) → Result Insn Cause
 wait_line words = do
   w ← wait_words words
@@ -146,6 +168,7 @@ wait_line words = do
   event ← event_at number
   Ok (Wfe event w.1)
 
+-- the words of DMAMOV
 abbrev pub set_line : List (List ℕ) → Result Insn Cause
 set_line words = do
   w ← two_words words
@@ -153,11 +176,13 @@ set_line words = do
   value ← value_at w.1
   Ok (Mov register value)
 
+-- an instruction without words
 abbrev pub bare_line : Insn → List (List ℕ) → Result Insn Cause
 bare_line i words = do
   done ← no_word words
   Ok i
 
+-- the name that a word is
 abbrev pub name_of : List ℕ → Option Name
 name_of word =
     if bytes_eq word (codes "DMAEND") then Some names.End else (
@@ -172,6 +197,7 @@ name_of word =
     if bytes_eq word (codes "DMAWFE") then Some names.Wfe else (
     if bytes_eq word (codes "DMAMOV") then Some names.Mov else None))))))))))
 
+-- the instruction of a name and the words behind it
 abbrev pub line_by : Name → List (List ℕ) → Result Insn Cause
 line_by names.End words = bare_line End words
 line_by names.Ld words = bare_line Ld words

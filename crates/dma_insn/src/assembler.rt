@@ -126,7 +126,11 @@ mod tests {
 
     #[test]
     fn assembles_a_loop(rt: HostRuntime) -> Result<(), Fail> {
-        let text = b"DMALP 1 256\nDMALD\nDMAST\nDMALPEND 1 2\nDMAEND";
+        let text = b"DMALP 1 256\n\
+          DMALD\n\
+          DMAST\n\
+          DMALPEND 1 2\n\
+          DMAEND";
         let program = assemble(rt.alloc(), text)?;
         assert_eq!(rt;
             program.as_slice(),
@@ -137,8 +141,16 @@ mod tests {
 
     #[test]
     fn assembles_each_instruction(rt: HostRuntime) -> Result<(), Fail> {
-        let text =
-            b"DMARMB\nDMAWMB\nDMANOP\nDMASEV 31\nDMAWFE 3\nDMAWFE 3 invalid\nDMALPEND 0 255\nDMALP 0 1\nDMAMOV CCR 0x003E40F9\nDMAMOV DAR 0x89ABCDEF\n";
+        let text = b"DMARMB\n\
+          DMAWMB\n\
+          DMANOP\n\
+          DMASEV 31\n\
+          DMAWFE 3\n\
+          DMAWFE 3 invalid\n\
+          DMALPEND 0 255\n\
+          DMALP 0 1\n\
+          DMAMOV CCR 0x003E40F9\n\
+          DMAMOV DAR 0x89ABCDEF\n";
         let program = assemble(rt.alloc(), text)?;
         let bytes = [
             0x12, 0x13, 0x18, 0x34, 0xf8, 0x36, 0x18, 0x36, 0x1a, 0x38, 0xff, 0x20, 0x00, 0xbc,

@@ -1,4 +1,4 @@
-//! The bytes of a program while it is assembled, in a place of their own, so that nothing is asked of the allocator before the
+//! The bytes of a program while it is assembled, in a buffer of their own, so that nothing is asked of the allocator before the
 //! whole text is known to be right.
 
 ghost use Rattle.std.specs.Prelude.{◌≡◌, ◌+◌, [], ◌++◌, length, nat_le, if◌then◌else◌, IfOk};
@@ -30,6 +30,7 @@ impl Model for CodeBuffer {
 }
 
 impl CodeBuffer {
+    /// No bytes.
     pub fn new() -> CodeBuffer
         ensures { result ≡ [] }
     {
@@ -54,6 +55,7 @@ impl CodeBuffer {
         true
     }
 
+    /// The bytes, in memory of their own.
     pub fn to_vec(&self, alloc: Global) -> Result<Vec<u8>, AllocError>
         ensures { IfOk result (λ bytes. bytes.items ≡ self.now) }
     {

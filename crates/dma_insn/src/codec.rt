@@ -72,6 +72,7 @@ fn write_two(first: u8, second: u8, out: &mut [u8; 6]) -> usize
     2
 }
 
+// The first byte of DMALP.
 fn loop_code(counter: Counter) -> u8
     ensures { result ≡ loop_byte counter }
 {
@@ -81,6 +82,7 @@ fn loop_code(counter: Counter) -> u8
     }
 }
 
+// The first byte of DMALPEND.
 fn loop_end_code(counter: Counter) -> u8
     ensures { result ≡ loop_end_byte counter }
 {
@@ -90,6 +92,7 @@ fn loop_end_code(counter: Counter) -> u8
     }
 }
 
+// The second byte of DMAMOV.
 fn register_code(reg: Reg) -> u8
     ensures { result ≡ register_byte reg }
 {

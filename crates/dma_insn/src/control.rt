@@ -45,6 +45,7 @@ impl BeatSize {
         }
     }
 
+    /// Its code in a control word, 0 to 4.
     pub fn code(self) -> u8
         ensures value { result ≡ size_code self }
         ensures range { result ≤ 4 }
@@ -59,6 +60,7 @@ impl BeatSize {
         }
     }
 
+    /// How many bytes a beat moves, 1 to 16.
     pub fn bytes(self) -> u32
         ensures value { result ≡ beat_bytes self }
         ensures range { (1 ≤ result) × (result ≤ 16) }
@@ -107,6 +109,7 @@ impl Beats {
         Beats { count }
     }
 
+    /// How many beats there are, 1 to 16.
     pub fn number(self) -> u8
         ensures value { result ≡ self }
         ensures range { (1 ≤ self) × (self ≤ 16) }
@@ -154,6 +157,7 @@ impl Protection {
         Protection { prot_ctrl }
     }
 
+    /// Its code in a control word, 0 to 7.
     pub fn code(self) -> u8
         ensures value { result ≡ self }
         ensures range { self < 8 }
@@ -201,6 +205,7 @@ impl Cache {
         Cache { cache_ctrl }
     }
 
+    /// Its code in a control word, 0 to 7.
     pub fn code(self) -> u8
         ensures value { result ≡ self }
         ensures range { self < 8 }
@@ -406,6 +411,7 @@ fn write(control: &Control) -> u32
     control.src.bits() + (control.dst.bits() << 14)
 }
 
+// One bit of a word.
 fn one_bit(bits: u32, from: u32) -> u8
     requires { from < 32 }
     ensures value { result ≡ field from 1 bits }
@@ -414,6 +420,7 @@ fn one_bit(bits: u32, from: u32) -> u8
     (bits >> from & 0x1) as u8
 }
 
+// Three bits of a word, from one on.
 fn three_bits(bits: u32, from: u32) -> u8
     requires { from < 32 }
     ensures value { result ≡ field from 3 bits }
@@ -422,6 +429,7 @@ fn three_bits(bits: u32, from: u32) -> u8
     (bits >> from & 0x7) as u8
 }
 
+// Four bits of a word, from one on.
 fn four_bits(bits: u32, from: u32) -> u8
     requires { from < 32 }
     ensures value { result ≡ field from 4 bits }

@@ -1,7 +1,6 @@
 //! A program's bytes, written as its text.
 
-ghost use Rattle.std.specs.Prelude.{◌≡◌, ℕ, ◌++◌, ◌∷◌, [], List, MatchResult, MatchOption, IfSome, IfOk, IfErr, OnOk, ◌<◌, codes, decimal, true};
-ghost use Rattle.std.specs.Fmt.{digit_glyph};
+ghost use Rattle.std.specs.Prelude.{◌≡◌, ℕ, ◌++◌, ◌∷◌, [], List, MatchResult, MatchOption, IfSome, IfOk, IfErr, OnOk, ◌<◌, codes, decimal};
 ghost use Rattle.dma_insn.specs.AssemblyText.{register_word, hex_digits};
 ghost use Rattle.dma_insn.specs.Disassembly.{counter_number, insn_text, AreSpelled, Disassembles, IsDisFault, StopsAt, DisassemblyAssembles, DisassemblyTells};
 ghost use Rattle.dma_insn.specs.declared.disassembler.DisFault.TheVariants.{NoMemory};
@@ -9,11 +8,11 @@ ghost use Rattle.dma_insn.specs.declared.insn.Insn.TheVariants.{Mov, Wfe};
 
 use crate::codec::{DecodeFault, decode};
 use crate::insn::{Counter, Event, Insn, Reg};
-use itoa::Buffer;
+use dma_text::digits::{glyph, push_decimal};
 use std::alloc::{AllocError, Global};
 use thiserror::Error;
 
-/// Why bytes were not disassembled: the refusal of the first place where no instruction stands, with its offset; or want of
+/// Why bytes were not disassembled: the refusal of the first offset at which no instruction stands; or want of
 /// memory where each byte is an instruction's.
 #[derive(Clone, Copy, PartialEq, Eq, Debug, Error)]
 pub enum DisFault {
@@ -50,12 +49,12 @@ pub fn disassembly_assembles()
     ensures { DisassemblyAssembles }
 {}
 
-/// The law that each list of bytes has a text or a place where it stops, and not both.
+/// The law that each list of bytes has a text or an offset where it stops, and not both.
 pub fn disassembly_tells()
     ensures { DisassemblyTells }
 {}
 
-// The first place where no instruction stands, and its refusal.
+// The first offset at which no instruction stands, and its refusal.
 fn fault_of(bytes: &[u8]) -> Option<(usize, DecodeFault)>
     ensures { MatchOption result (AreSpelled bytes.now) (λ found. StopsAt bytes.now found.0 found.1) }
 {
@@ -69,7 +68,7 @@ fn fault_of(bytes: &[u8]) -> Option<(usize, DecodeFault)>
     None
 }
 
-// The text of bytes that are spellings joined, or the first place where no instruction stands with its refusal, or neither where
+// The text of bytes that are spellings joined, or the first offset at which none stands, with its refusal, or neither where
 // memory is refused before that is known.
 fn write_all(alloc: Global, bytes: &[u8]) -> Result<Vec<u8>, Option<(usize, DecodeFault)>>
     ensures text { IfOk result (λ text. Disassembles bytes.now text.items) }
@@ -91,6 +90,7 @@ fn write_all(alloc: Global, bytes: &[u8]) -> Result<Vec<u8>, Option<(usize, Deco
     Ok(text)
 }
 
+// The number of a loop counter.
 fn number_of(counter: Counter) -> u8
     ensures { result ≡ counter_number counter }
 {
@@ -98,13 +98,6 @@ fn number_of(counter: Counter) -> u8
         Counter::Lc0 => 0,
         Counter::Lc1 => 1,
     }
-}
-
-// Adds a number in decimal digits.
-fn push_decimal(text: &mut Vec<u8>, number: u16) -> Result<(), AllocError>
-    ensures { OnOk result (text.new.items ≡ text.old.items ++ decimal number) }
-{
-    text.extend_from_slice(Buffer::new().format(number).as_bytes())
 }
 
 // Adds the line of an instruction.
@@ -128,7 +121,7 @@ fn push_line(text: &mut Vec<u8>, insn: Insn) -> Result<(), AllocError>
         }
         Insn::Sev(event) => {
             text.extend_from_slice(b"DMASEV ")?;
-            push_decimal(text, u16::from(event.number()))?;
+            push_decimal(text, u64::from(event.number()))?;
             text.extend_from_slice(b"\n")
         }
         Insn::Wfe { event, invalid } => push_wait(text, event, invalid),
@@ -140,9 +133,9 @@ fn push_line(text: &mut Vec<u8>, insn: Insn) -> Result<(), AllocError>
 fn push_pair(text: &mut Vec<u8>, counter: u8, count: u16) -> Result<(), AllocError>
     ensures { OnOk result (text.new.items ≡ text.old.items ++ (decimal counter ++ (32 ∷ (decimal count ++ 10 ∷ [])))) }
 {
-    push_decimal(text, u16::from(counter))?;
+    push_decimal(text, u64::from(counter))?;
     text.extend_from_slice(b" ")?;
-    push_decimal(text, count)?;
+    push_decimal(text, u64::from(count))?;
     text.extend_from_slice(b"\n")
 }
 
@@ -151,7 +144,7 @@ fn push_wait(text: &mut Vec<u8>, event: Event, invalid: bool) -> Result<(), Allo
     ensures { OnOk result (text.new.items ≡ text.old.items ++ (insn_text (Wfe event invalid) ++ 10 ∷ [])) }
 {
     text.extend_from_slice(b"DMAWFE ")?;
-    push_decimal(text, u16::from(event.number()))?;
+    push_decimal(text, u64::from(event.number()))?;
     if invalid {
         text.extend_from_slice(b" invalid\n")
     } else {
@@ -184,27 +177,15 @@ fn hex_digits(value: u32) -> [u8; 8]
     ensures { result ≡ hex_digits value }
 {
     [
-        glyph(value / 0x1000_0000 % 16),
-        glyph(value / 0x100_0000 % 16),
-        glyph(value / 0x10_0000 % 16),
-        glyph(value / 0x1_0000 % 16),
-        glyph(value / 0x1000 % 16),
-        glyph(value / 0x100 % 16),
-        glyph(value / 0x10 % 16),
-        glyph(value % 16),
+        glyph((value / 0x1000_0000 % 16) as u8),
+        glyph((value / 0x100_0000 % 16) as u8),
+        glyph((value / 0x10_0000 % 16) as u8),
+        glyph((value / 0x1_0000 % 16) as u8),
+        glyph((value / 0x1000 % 16) as u8),
+        glyph((value / 0x100 % 16) as u8),
+        glyph((value / 0x10 % 16) as u8),
+        glyph((value % 16) as u8),
     ]
-}
-
-// A hexadecimal digit in capitals.
-fn glyph(digit: u32) -> u8
-    requires { digit < 16 }
-    ensures { result ≡ digit_glyph true digit }
-{
-    if digit < 10 {
-        b'0' + digit as u8
-    } else {
-        b'A' + (digit as u8 - 10)
-    }
 }
 
 #[cfg(test)]
@@ -216,7 +197,11 @@ mod tests {
     fn writes_the_lines_back(rt: HostRuntime) -> Result<(), Fail> {
         let bytes = [0x22, 0xff, 0x04, 0x08, 0x3c, 0x02, 0x00];
         let text = disassemble(rt.alloc(), &bytes)?;
-        let lines = b"DMALP 1 256\nDMALD\nDMAST\nDMALPEND 1 2\nDMAEND\n";
+        let lines = b"DMALP 1 256\n\
+          DMALD\n\
+          DMAST\n\
+          DMALPEND 1 2\n\
+          DMAEND\n";
         assert_eq!(rt; text.as_slice(), lines.as_slice());
         Ok(())
     }
@@ -228,8 +213,16 @@ mod tests {
             0x01, 0xf9, 0x40, 0x3e, 0x00, 0xbc, 0x02, 0xef, 0xcd, 0xab, 0x89,
         ];
         let text = disassemble(rt.alloc(), &bytes)?;
-        let lines =
-            b"DMARMB\nDMAWMB\nDMANOP\nDMASEV 31\nDMAWFE 3\nDMAWFE 3 invalid\nDMALPEND 0 255\nDMALP 0 1\nDMAMOV CCR 0x003E40F9\nDMAMOV DAR 0x89ABCDEF\n";
+        let lines = b"DMARMB\n\
+          DMAWMB\n\
+          DMANOP\n\
+          DMASEV 31\n\
+          DMAWFE 3\n\
+          DMAWFE 3 invalid\n\
+          DMALPEND 0 255\n\
+          DMALP 0 1\n\
+          DMAMOV CCR 0x003E40F9\n\
+          DMAMOV DAR 0x89ABCDEF\n";
         assert_eq!(rt; text.as_slice(), lines.as_slice());
         Ok(())
     }

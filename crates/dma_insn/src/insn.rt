@@ -56,6 +56,7 @@ impl Event {
         Event { number }
     }
 
+    /// The event, 0 to 31.
     pub fn number(self) -> u8
         ensures value { result ≡ self }
         ensures range { self < 32 }
@@ -102,6 +103,7 @@ impl Times {
         Times { count }
     }
 
+    /// How often, 1 to 256.
     pub fn number(self) -> u16
         ensures value { result ≡ self }
         ensures range { (1 ≤ self) × (self ≤ 256) }

@@ -1,14 +1,13 @@
 //! One line of assembly text: its words, and the instruction that they write.
 
-ghost use Rattle.std.specs.Prelude.{◌≡◌, ◌+◌, ◌<◌, ◌==◌, ◌∷◌, [], length, position, Option, MatchOption, IfSome, Result, Ok};
+ghost use Rattle.std.specs.Prelude.{◌≡◌, ◌+◌, ◌<◌, ◌==◌, ◌∷◌, [], length, Option, MatchOption, IfSome, Result, Ok};
 ghost use Rattle.std.specs.List.{list_all};
-ghost use Rattle.std.specs.Str.{bytes_eq};
 ghost use Rattle.dma_insn.specs.AssemblyText.{text_lines, words_of, is_skipped};
 ghost use Rattle.dma_insn.specs.LineReading.{SeenAs, words_after, no_word, one_word, two_words, wait_words, digit_of, digits_from, number_at, hex_digit_of, hex_from, value_at, register_at, counter_at, times_at, back_at, event_at, two_numbers, loop_line, loop_end_line, signal_line, wait_line, set_line, bare_line, name_of, line_by, line_in};
 
 use crate::assembler::Cause;
 use crate::insn::{Counter, Event, Insn, Reg, Times};
-use memchr::memchr;
+use dma_text::bytes::{is_text, position_of};
 
 /// The name that a line begins with.
 #[derive(Clone, Copy, PartialEq, Eq, Debug)]
@@ -26,21 +25,13 @@ pub enum Name {
     Mov,
 }
 
-// Where a byte stands first.
-#[tactic(auto, using(crate::proofs::FirstBytes::first_place))]
-fn place_of(byte: u8, bytes: &[u8]) -> Option<usize>
-    ensures { result ≡ position (λ b. b == byte) bytes.now }
-{
-    memchr(byte, bytes)
-}
-
 /// The first line of a text, without its line feed, and what follows it.
 pub fn split_line(text: &[u8]) -> (&[u8], &[u8])
     requires { 0 < length text.now }
     ensures first { text_lines text.now ≡ result.0.now ∷ text_lines result.1.now }
     ensures shorter { length result.1.now < length text.now }
 {
-    match place_of(b'\n', text) {
+    match position_of(b'\n', text) {
         Some(end) => (&text[..end], &text[end + 1..]),
         None => (text, &[]),
     }
@@ -50,7 +41,7 @@ pub fn split_line(text: &[u8]) -> (&[u8], &[u8])
 fn split_word(text: &[u8]) -> (&[u8], &[u8])
     ensures { words_of text.now ≡ result.0.now ∷ words_after result.1.now }
 {
-    match place_of(b' ', text) {
+    match position_of(b' ', text) {
         Some(end) => (&text[..end], &text[end..]),
         None => (text, &[]),
     }
@@ -73,16 +64,11 @@ pub fn is_skipped(line: &[u8]) -> bool
     is_blank(line) || line.first() == Some(&b'#')
 }
 
+// Only spaces, or nothing.
 fn is_blank(line: &[u8]) -> bool
     ensures { result ≡ list_all (λ b. b == 32) line.now }
 {
     line.iter().all(|b| *b == b' ')
-}
-
-fn is_text(word: &[u8], text: &[u8]) -> bool
-    ensures { result ≡ bytes_eq word.now text.now }
-{
-    word == text
 }
 
 // No word.
@@ -140,6 +126,7 @@ fn one_or_invalid(rest: &[u8]) -> Result<(&[u8], bool), Cause>
     Ok((a, true))
 }
 
+// The value of a decimal digit.
 fn decimal_digit(byte: u8) -> Option<u16>
     ensures { result ≡ digit_of byte }
 {
@@ -178,6 +165,7 @@ fn number(word: &[u8]) -> Result<u16, Cause>
     }
 }
 
+// The value of a hexadecimal digit, in capitals only.
 fn hex_digit(byte: u8) -> Option<u32>
     ensures value { result ≡ hex_digit_of byte }
     ensures range { IfSome result (λ d. d < 16) }
@@ -211,6 +199,7 @@ fn value(word: &[u8]) -> Result<u32, Cause>
     }
 }
 
+// A register by its name.
 fn register(word: &[u8]) -> Result<Reg, Cause>
     ensures { result ≡ register_at word.now }
 {
@@ -225,6 +214,7 @@ fn register(word: &[u8]) -> Result<Reg, Cause>
     }
 }
 
+// A loop counter by its number.
 fn counter(number: u16) -> Result<Counter, Cause>
     ensures { result ≡ counter_at number }
 {
@@ -235,6 +225,7 @@ fn counter(number: u16) -> Result<Counter, Cause>
     }
 }
 
+// How often a loop runs, 1 to 256.
 fn times(number: u16) -> Result<Times, Cause>
     ensures { result ≡ times_at number }
 {
@@ -245,6 +236,7 @@ fn times(number: u16) -> Result<Times, Cause>
     }
 }
 
+// A jump back over at most 255 bytes.
 fn back(number: u16) -> Result<u8, Cause>
     ensures { result ≡ back_at number }
 {
@@ -255,6 +247,7 @@ fn back(number: u16) -> Result<u8, Cause>
     }
 }
 
+// An event of at most 31.
 fn event(number: u16) -> Result<Event, Cause>
     ensures { result ≡ event_at number }
 {
@@ -265,6 +258,7 @@ fn event(number: u16) -> Result<Event, Cause>
     }
 }
 
+// Two decimal numbers.
 fn numbers(rest: &[u8]) -> Result<(u16, u16), Cause>
     ensures { result ≡ two_numbers (words_after rest.now) }
 {
@@ -274,6 +268,7 @@ fn numbers(rest: &[u8]) -> Result<(u16, u16), Cause>
     Ok((a, b))
 }
 
+// The words of DMALP: a counter, and how often the loop runs.
 fn loop_start(rest: &[u8]) -> Result<Insn, Cause>
     ensures { result ≡ loop_line (words_after rest.now) }
 {
@@ -283,6 +278,7 @@ fn loop_start(rest: &[u8]) -> Result<Insn, Cause>
     Ok(Insn::Lp { counter, times })
 }
 
+// The words of DMALPEND: a counter and a jump.
 fn loop_end(rest: &[u8]) -> Result<Insn, Cause>
     ensures { result ≡ loop_end_line (words_after rest.now) }
 {
@@ -292,6 +288,7 @@ fn loop_end(rest: &[u8]) -> Result<Insn, Cause>
     Ok(Insn::LpEnd { counter, back })
 }
 
+// The word of DMASEV: an event.
 fn signal(rest: &[u8]) -> Result<Insn, Cause>
     ensures { result ≡ signal_line (words_after rest.now) }
 {
@@ -300,6 +297,7 @@ fn signal(rest: &[u8]) -> Result<Insn, Cause>
     Ok(Insn::Sev(event(number)?))
 }
 
+// The words of DMAWFE: an event, and maybe `invalid`.
 fn wait(rest: &[u8]) -> Result<Insn, Cause>
     ensures { result ≡ wait_line (words_after rest.now) }
 {
@@ -309,6 +307,7 @@ fn wait(rest: &[u8]) -> Result<Insn, Cause>
     Ok(Insn::Wfe { event, invalid })
 }
 
+// The words of DMAMOV: a register and its value.
 fn set_register(rest: &[u8]) -> Result<Insn, Cause>
     ensures { result ≡ set_line (words_after rest.now) }
 {
@@ -318,6 +317,7 @@ fn set_register(rest: &[u8]) -> Result<Insn, Cause>
     Ok(Insn::Mov(register, value))
 }
 
+// An instruction without words.
 fn bare(insn: Insn, rest: &[u8]) -> Result<Insn, Cause>
     ensures { result ≡ bare_line insn (words_after rest.now) }
 {
@@ -325,6 +325,7 @@ fn bare(insn: Insn, rest: &[u8]) -> Result<Insn, Cause>
     Ok(insn)
 }
 
+// The name that a word is.
 fn name_in(word: &[u8]) -> Option<Name>
     ensures { result ≡ name_of word.now }
 {
@@ -355,6 +356,7 @@ fn name_in(word: &[u8]) -> Option<Name>
     }
 }
 
+// The instruction of a name and the words behind it, or the first cause that holds.
 fn by_name(name: Name, rest: &[u8]) -> Result<Insn, Cause>
     ensures { result ≡ line_by name (words_after rest.now) }
 {

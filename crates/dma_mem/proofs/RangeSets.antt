@@ -10,8 +10,9 @@ use Rattle.std.proofs.lemmas.List.Kept.{AllPairs-cons}
 use Rattle.std.proofs.lemmas.List.Sorted.{Contains-permutation, IsPermutation-sym}
 use Rattle.dma_mem.specs.declared.segment.Segment.{Segment}
 use Rattle.dma_mem.specs.Places.{Descriptor, places, share, range_of, sources, destinations, writes, touches, is_free_of}
-use Rattle.dma_mem.specs.Ranges.{IsCoalesced, IsOrdered, SameAddresses, Joins}
-use Rattle.dma_mem.proofs.Sharing.{share-true, share_none, shared_by, in_range, range_in, share-append_left}
+use Rattle.dma_mem.specs.Ranges.{IsCoalesced, SameAddresses}
+use Rattle.dma_mem.specs.inner.RangesInOrder.{IsOrdered, Joins}
+use Rattle.dma_mem.proofs.SharedPlaces.{share-true, share_none, shared_by, in_range, range_in, share-append_left}
 
 -- ---- the addresses of a list
 

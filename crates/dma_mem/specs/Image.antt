@@ -1,10 +1,14 @@
 -- Images of a memory, and copies laid over them.
-use Rattle.std.specs.Prelude.{ℕ, List, length, map, slice_index, unwrap_or, nat_eq}
+use Rattle.std.specs.Prelude.{ℕ, Bool, ◌&&◌, List, length, map, slice_index, unwrap_or, nat_eq, nat_le}
 use Rattle.std.specs.List.{flat_map, range_with_len, zip}
 use Rattle.std.specs.Map.{lookup}
 use Rattle.dma_mem.specs.Places.{Descriptor, moves}
 
 -- An image is a list with one byte for each address below its length, the size of the memory.
+
+-- A memory has 1 to 4,294,963,200 bytes (profile): no address above them comes near the end of the 32-bit addresses.
+abbrev pub is_size : ℕ → Bool
+is_size size = nat_le 1 size && nat_le size 4294963200
 
 -- the image with these bytes put at these addresses, all at once
 unfoldable pub put : List ℕ → List (ℕ × ℕ) → List ℕ

@@ -1,9 +1,11 @@
 -- Memory as an image; a transfer as two lists of places, free of overlap.
 pub mod Places
 pub mod Image
-pub mod Sizes
 pub mod Rules
 pub mod Marking
+pub mod Refusals
+pub mod Meeting
+pub mod Flags
 pub mod Pages
 pub mod Ranges
-pub mod KeptRanges
+pub mod inner

@@ -11,10 +11,6 @@ range_of s = range_with_len s.addr s.len
 abbrev pub places : List Segment → List ℕ
 places list = flat_map (λ s. range_with_len s.addr s.len) list
 
--- Two segments meet where they share an address; an empty one meets nothing.
-abbrev pub Meets : Segment → Segment → Type 0
-Meets s t = (a : ℕ) × Contains (range_with_len s.addr s.len) a × Contains (range_with_len t.addr t.len) a
-
 -- no address stands in both lists
 abbrev pub Apart : List ℕ → List ℕ → Type 0
 Apart xs ys = (a : ℕ) → Contains xs a → ¬ Contains ys a
@@ -23,10 +19,6 @@ Apart xs ys = (a : ℕ) → Contains xs a → ¬ Contains ys a
 unfoldable pub share : List ℕ → List ℕ → Bool
 share xs ys = list_any (λ a. list_any (nat_eq a) ys) xs
 
--- whether two segments meet
-abbrev pub meets : Segment → Segment → Bool
-meets s t = share (range_with_len s.addr s.len) (range_with_len t.addr t.len)
-
 -- What a transfer copies from where to where, and the events that it waits for and signals.
 pub record Descriptor : Type 0 where
   pub src : List Segment
@@ -34,10 +26,11 @@ pub record Descriptor : Type 0 where
   pub wait : Option ℕ
   pub signal : Option ℕ
 
--- the places that a transfer reads, and those that it writes: position p of the first is copied to position p of the second
+-- the places that a transfer reads; position p of these is copied to position p of those that it writes
 abbrev pub sources : Descriptor → List ℕ
 sources t = places t.src
 
+-- the places that it writes
 abbrev pub destinations : Descriptor → List ℕ
 destinations t = places t.dst
 
@@ -53,23 +46,19 @@ moves t k = take k (zip (destinations t) (sources t))
 abbrev pub all_below : List Segment → ℕ → Bool
 all_below list size = list_all (λ s. nat_le (s.addr + s.len) size) list
 
+-- whether all ranges of a transfer do
 abbrev pub lies_below : Descriptor → ℕ → Bool
 lies_below t size = all_below t.src size && all_below t.dst size
 
--- whether the transfer writes an address of the segment; whether it writes or reads one
+-- whether the transfer writes an address of the segment
 abbrev pub writes : Descriptor → Segment → Bool
 writes t s = share (range_with_len s.addr s.len) (destinations t)
 
+-- whether it writes or reads one
 abbrev pub touches : Descriptor → Segment → Bool
 touches t s = share (range_with_len s.addr s.len) (destinations t) || share (range_with_len s.addr s.len) (sources t)
 
--- A transfer is free of another where its destinations meet no range of the other and its sources no destination of the other.
-pub record IsFree (t u : Descriptor) : Type 0 where
-  pub writes_none : Apart (destinations t) (destinations u)
-  pub writes_no_source : Apart (destinations t) (sources u)
-  pub reads_none : Apart (sources t) (destinations u)
-
--- whether it is free of the other
+-- Whether a transfer is free of another: its destinations meet no range of the other, and its sources no destination of it.
 abbrev pub is_free_of : Descriptor → Descriptor → Bool
 is_free_of t u =
     not (share (destinations t) (destinations u)

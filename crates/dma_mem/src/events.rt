@@ -1,7 +1,7 @@
 //! The flags of the controller's events.
 
 ghost use Rattle.std.specs.Prelude.{◌≡◌, ◌≤◌, length, slice_index_or, slice_set, true, false};
-ghost use Rattle.dma_mem.specs.Marking.{all_clear};
+ghost use Rattle.dma_mem.specs.Flags.{all_clear};
 
 use std::marker::Model;
 

@@ -21,23 +21,6 @@ impl Model for Bytes {
 }
 
 impl Bytes {
-    /// A list without bytes, which takes no memory.
-    pub fn new(alloc: Global) -> Bytes
-        ensures { result ≡ [] }
-    {
-        Bytes {
-            bytes: Vec::new(alloc),
-        }
-    }
-
-    /// A list without bytes, with room for this many.
-    pub fn with_capacity(alloc: Global, capacity: usize) -> Result<Bytes, AllocError>
-        ensures { IfOk result (λ list. list ≡ []) }
-    {
-        let bytes = Vec::with_capacity(alloc, capacity)?;
-        Ok(Bytes { bytes })
-    }
-
     /// The bytes of a vector, which it takes.
     pub fn from_vec(bytes: Vec<u8>) -> Bytes
         ensures { result ≡ bytes.items }
@@ -72,15 +55,6 @@ impl Bytes {
         ensures { result ≡ (length self.now == 0) }
     {
         self.bytes.is_empty()
-    }
-
-    /// Adds a byte at the end. Without memory for it the list stays as it was.
-    pub fn push(&mut self, byte: u8) -> Result<(), AllocError>
-        ensures ok { OnOk result (self.new ≡ self.old ++ byte ∷ []) }
-        ensures err { OnErr result (self.new ≡ self.old) }
-    {
-        self.bytes.push(byte)?;
-        Ok(())
     }
 }
 
@@ -162,21 +136,17 @@ mod tests {
 
     #[test]
     fn grow_at_the_end(rt: HostRuntime) -> Result<(), Fail> {
-        let mut bytes = Bytes::from_slice(rt.alloc(), &[1, 2])?;
-        bytes.push(3)?;
-        assert_eq!(rt; bytes.as_slice(), [1, 2, 3].as_slice());
+        let bytes = Bytes::from_slice(rt.alloc(), &[1, 2])?;
+        assert_eq!(rt; bytes.as_slice(), [1, 2].as_slice());
         let mut segments = Segments::new(rt.alloc());
         assert!(rt; segments.is_empty());
         segments.push(Segment { addr: 4, len: 5 })?;
         assert_eq!(rt; segments.len(), 1);
         let copy = Segments::from_slice(rt.alloc(), segments.as_slice())?;
         assert_eq!(rt; copy.as_slice(), [Segment { addr: 4, len: 5 }].as_slice());
-        assert!(rt; Bytes::new(rt.alloc()).is_empty());
-        assert_eq!(rt; bytes.len(), 3);
-        let mut roomy = Bytes::with_capacity(rt.alloc(), 2)?;
-        assert!(rt; roomy.is_empty());
-        roomy.push(6)?;
-        assert_eq!(rt; roomy.as_slice(), [6].as_slice());
+        assert_eq!(rt; bytes.len(), 2);
+        let none = Bytes::from_vec(Vec::new(rt.alloc()));
+        assert!(rt; none.is_empty());
         Ok(())
     }
 }

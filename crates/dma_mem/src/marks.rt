@@ -2,7 +2,9 @@
 
 ghost use Rattle.std.specs.Prelude.{◌≡◌, ◌∷◌, ◌++◌, [], OnOk, OnErr};
 ghost use Rattle.std.specs.List.{list_any, range_with_len};
-ghost use Rattle.dma_mem.specs.Marking.{hits, is_marked, AreRangesOf};
+ghost use Rattle.dma_mem.specs.Meeting.{hits};
+ghost use Rattle.dma_mem.specs.Marking.{is_marked};
+ghost use Rattle.dma_mem.specs.inner.MarkRanges.{AreRangesOf};
 
 use crate::ordered::{add_in_order, meets_ordered};
 use crate::segment::Segment;
@@ -33,7 +35,7 @@ impl Model for Marks {
 
     ghost Value = { List (MarkKind × Segment) };
 
-    ghost use Rattle.dma_mem.specs.Marking.{RangesOfMarks};
+    ghost use Rattle.dma_mem.specs.inner.MarkRanges.{RangesOfMarks};
 
     ghost view = { λ m. m.list.items };
 

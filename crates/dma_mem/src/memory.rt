@@ -3,9 +3,8 @@
 ghost use Rattle.std.specs.Prelude.{◌≡◌, ℕ, ◌+◌, ◌%◌, ◌/◌, ◌≤◌, ◌++◌, length, take, drop, replicate, slice_get, nat_lt, true, false, if◌then◌else◌, IsTrue, IfOk, IfErr, IfSome, IsSome, OnOk, OnErr};
 ghost use Rattle.std.specs.List.{list_all, range_with_len};
 ghost use Rattle.dma_mem.specs.Places.{range_of, places, all_below};
-ghost use Rattle.dma_mem.specs.Image.{put, bytes_at};
+ghost use Rattle.dma_mem.specs.Image.{put, bytes_at, is_size};
 ghost use Rattle.dma_mem.specs.Pages.{has_page, is_made, AllMade, Keeps, MakesNoOther};
-ghost use Rattle.dma_mem.specs.Sizes.{is_size};
 
 use crate::pages::{MAX_PAGED_SIZE, Pages};
 use crate::segment::Segment;
@@ -65,7 +64,7 @@ impl Memory {
     pub fn size(&self) -> u32
         ensures size { result ≡ length self.now.image }
         ensures low { 1 ≤ result }
-        ensures high { result ≤ MAX_SIZE }
+        ensures high { result ≤ 4294963200 }
     {
         self.pages.size()
     }
@@ -179,8 +178,8 @@ impl Memory {
 
     /// Writes the bytes from an address on, and makes their pages first.
     ///
-    /// The error is `OutOfMemoryRange` where the address plus the number of bytes is above the size, and nothing has changed;
-    /// else `NoMemory`: the image is as it was, and some of the pages may have been made.
+    /// The error is `OutOfMemoryRange` where the address plus the number of bytes is above the size, and nothing has
+    /// changed; else `NoMemory`: the image is as it was, and some of the pages may have been made.
     pub fn write(&mut self, addr: u32, bytes: &[u8]) -> Result<(), MemFault>
         ensures ok { OnOk result (self.new.image ≡ put self.old.image (bytes_at addr bytes.now)) }
         ensures err { OnErr result (self.new.image ≡ self.old.image) }

@@ -5,7 +5,7 @@ ghost use Rattle.std.specs.List.{list_any};
 ghost use Rattle.std.specs.List.Sorted.{IsPermutation, IsNonDecreasingBy, IsPartitionPoint};
 ghost use Rattle.dma_mem.specs.declared.segment.Segment.{Segment};
 ghost use Rattle.dma_mem.specs.Places.{places, range_of, share};
-ghost use Rattle.dma_mem.specs.Ranges.{IsOrdered, AddsAddresses};
+ghost use Rattle.dma_mem.specs.inner.RangesInOrder.{IsOrdered, AddsAddresses};
 
 use crate::segment::{Segment, meets};
 use std::alloc::AllocError;
@@ -43,7 +43,8 @@ fn ended_by(ranges: &[Segment], end: u64) -> usize
     ranges.partition_point(|range| end_of(*range) <= end)
 }
 
-// Whether the segment ends below the first range or begins above the last, or there are none: then none has an address of it.
+// Whether the segment ends below the first range or begins above the last, or there are none: then none has an address of
+// it.
 #[inline(always)]
 fn lies_outside(ranges: &[Segment], segment: Segment) -> bool
     requires { IsOrdered ranges.now }
@@ -57,8 +58,8 @@ fn lies_outside(ranges: &[Segment], segment: Segment) -> bool
     end_of(segment) <= u64::from(first.addr) || end_of(last) <= u64::from(segment.addr)
 }
 
-// Whether one of the ranges has an address of the segment: the first that ends above where the segment begins has one, if any
-// has. It is found by binary search.
+// Whether one of the ranges has an address of the segment: the first that ends above where the segment begins has one, if
+// any has. It is found by binary search.
 #[inline(never)]
 fn meets_by_search(ranges: &[Segment], segment: Segment) -> bool
     requires { IsOrdered ranges.now }
@@ -68,7 +69,8 @@ fn meets_by_search(ranges: &[Segment], segment: Segment) -> bool
     first < ranges.len() && meets(segment, ranges[first])
 }
 
-// Puts a range in the place of those from `first` up to, not including, `past`. Without memory for it they stay as they were.
+// Puts a range in the place of those from `first` up to, not including, `past`. Without memory for it they stay as they
+// were.
 fn replace(
     ranges: &mut Vec<Segment>,
     first: usize,

@@ -3,8 +3,8 @@
 ghost use Rattle.std.specs.Prelude.{◌≡◌, ℕ, ◌+◌, ◌%◌, ◌/◌, ◌≤◌, ◌++◌, length, take, drop, replicate, true, false, IsTrue, IfOk, IfSome, IsSome, OnOk, OnErr};
 ghost use Rattle.std.specs.List.{list_all, range_with_len};
 ghost use Rattle.dma_mem.specs.Places.{range_of};
-ghost use Rattle.dma_mem.specs.Image.{put, bytes_at};
-ghost use Rattle.dma_mem.specs.Pages.{is_paged_size, has_page, is_made, AllMade, Keeps, MakesNoOther};
+ghost use Rattle.dma_mem.specs.Image.{put, bytes_at, is_size};
+ghost use Rattle.dma_mem.specs.Pages.{has_page, is_made, AllMade, Keeps, MakesNoOther};
 
 use crate::segment::Segment;
 use crate::table::{PAGE_SIZE, Table};
@@ -27,20 +27,20 @@ pub struct Pages {
 
 impl Model for Pages {
     ghost use Rattle.std.specs.Prelude.{◌≤◌, ◌*◌, length};
-    ghost use Rattle.dma_mem.specs.Pages.{Paged, paged};
-    ghost use Rattle.dma_mem.specs.declared.pages.TheConstants.{MAX_PAGED_SIZE};
+    ghost use Rattle.dma_mem.specs.Pages.{Paged};
+    ghost use Rattle.dma_mem.specs.inner.PageTable.{paged};
 
     ghost Value = { Paged };
 
     ghost view = { λ m. paged m.size m.table };
 
-    ghost invariant = { λ m. (1 ≤ m.size) × (m.size ≤ MAX_PAGED_SIZE) × (m.size ≤ 4096 * length m.table) };
+    ghost invariant = { λ m. (1 ≤ m.size) × (m.size ≤ 4294963200) × (m.size ≤ 4096 * length m.table) };
 }
 
 impl Pages {
     /// Zeros, without a page.
     pub fn new(alloc: Global, size: u32) -> Result<Pages, AllocError>
-        requires { IsTrue (is_paged_size size) }
+        requires { IsTrue (is_size size) }
         ensures image { IfOk result (λ pages. pages.image ≡ replicate size 0) }
         ensures none { IfOk result (λ pages. (p : ℕ) → has_page pages p ≡ false) }
     {
@@ -52,7 +52,7 @@ impl Pages {
     pub fn size(&self) -> u32
         ensures size { result ≡ length self.now.image }
         ensures low { 1 ≤ result }
-        ensures high { result ≤ MAX_PAGED_SIZE }
+        ensures high { result ≤ 4294963200 }
     {
         self.size
     }

@@ -4,8 +4,9 @@ ghost use Rattle.std.specs.Prelude.{◌≡◌, ◌+◌, ◌≤◌, ◌<◌, All,
 ghost use Rattle.std.specs.List.Sorted.{IsNonDecreasingBy};
 ghost use Rattle.dma_mem.specs.declared.segment.Segment.{Segment};
 ghost use Rattle.dma_mem.specs.Places.{places, range_of, share};
-ghost use Rattle.dma_mem.specs.KeptRanges.{ranges_of};
-ghost use Rattle.dma_mem.specs.Ranges.{IsCoalesced, SameAddresses, Joins};
+ghost use Rattle.dma_mem.specs.inner.KeptRanges.{ranges_of};
+ghost use Rattle.dma_mem.specs.Ranges.{IsCoalesced, SameAddresses};
+ghost use Rattle.dma_mem.specs.inner.RangesInOrder.{Joins};
 
 use crate::ordered::{any_meets_ordered, meets_ordered, sort_by_address};
 use crate::segment::Segment;
@@ -20,6 +21,7 @@ enum Kept {
 }
 
 impl Kept {
+    // The ranges, in order.
     fn as_slice(&self) -> &[Segment]
         ensures { result.now ≡ ranges_of self.now }
     {
@@ -30,7 +32,8 @@ impl Kept {
     }
 }
 
-/// A set of addresses, each at most 4,294,967,294. Contracts see it as its ranges, which rise and of which no two meet or touch.
+/// A set of addresses, each at most 4,294,967,294. Contracts see it as its ranges, which rise and of which no two meet or
+/// touch.
 #[derive(Debug, Drop)]
 pub struct RangeSet {
     kept: Kept,
@@ -43,7 +46,7 @@ impl Model for RangeSet {
 
     ghost Value = { List Segment };
 
-    ghost use Rattle.dma_mem.specs.KeptRanges.{ranges_of};
+    ghost use Rattle.dma_mem.specs.inner.KeptRanges.{ranges_of};
 
     ghost view = { λ set. ranges_of set.kept };
 
@@ -75,8 +78,9 @@ fn coalesce(segments: &mut Vec<Segment>)
 }
 
 impl RangeSet {
-    /// The set of the segments' addresses. Each segment has bytes and ends at 4,294,967,295 or below it; they may meet, and
-    /// stand in any order. `AllocError` comes where memory for one copy of the list was refused; of one segment there is none.
+    /// The set of the segments' addresses. Each segment has bytes and ends at 4,294,967,295 or below it; they may meet,
+    /// and stand in any order. `AllocError` comes where memory for one copy of the list was refused; of one segment there
+    /// is none.
     pub fn new(alloc: Global, segments: &[Segment]) -> Result<RangeSet, AllocError>
         requires filled { All (λ s. 0 < s.len) segments.now }
         requires within { All (λ s. s.addr + s.len ≤ 4294967295) segments.now }

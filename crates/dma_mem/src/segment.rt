@@ -1,7 +1,7 @@
 //! A range of addresses.
 
 ghost use Rattle.std.specs.Prelude.{◌≡◌, ◌↔◌, IsTrue};
-ghost use Rattle.dma_mem.specs.Places.{Meets, meets};
+ghost use Rattle.dma_mem.specs.Meeting.{Meets, meets};
 
 /// The addresses from `addr` up to, not including, `addr + len`, the sum taken without wrapping.
 #[derive(Clone, Copy, Debug, PartialEq, Eq)]

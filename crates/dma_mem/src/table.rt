@@ -2,7 +2,7 @@
 
 ghost use Rattle.std.specs.Prelude.{◌≡◌, ◌≢◌, ℕ, ◌+◌, ◌*◌, ◌/◌, ◌%◌, ◌<◌, ◌≤◌, ◌++◌, ◌↔◌, ◌^◌, [], length, take, drop, slice_index, slice_index_or, nat_lt, true, false, IfOk, IfSome, IsSome, OnOk, OnErr};
 ghost use Rattle.dma_mem.specs.Image.{put, bytes_at};
-ghost use Rattle.dma_mem.specs.Pages.{page_at, IsLaid, image_of};
+ghost use Rattle.dma_mem.specs.inner.PageTable.{page_at, IsLaid, image_of};
 
 use std::alloc::{AllocError, Global};
 use std::marker::Model;
@@ -30,7 +30,7 @@ fn put_bytes(all: &mut [u8], start: usize, bytes: &[u8])
 }
 
 // Puts the bytes of two slices, those of the second behind those of the first, at `start` and after it.
-#[tactic(auto, using(crate::proofs::Ranges::put_parts))]
+#[tactic(auto, using(crate::proofs::BytesPut::put_parts))]
 fn put_parts(all: &mut [u8], start: usize, front: &[u8], back: &[u8])
     requires { start + length front.now + length back.now ≤ length all.old }
     ensures { all.new ≡ put all.old (bytes_at start (front.now ++ back.now)) }
@@ -68,6 +68,7 @@ impl Page {
         }
     }
 
+    // Its bytes, none where it isn't made.
     fn as_slice(&self) -> &[u8]
         ensures bytes { result.now ≡ self.now }
         ensures whole { 0 < length self.now → length self.now ≡ 4096 }
@@ -257,7 +258,7 @@ pub(crate) struct Table {
 
 impl Model for Table {
     ghost use Rattle.std.specs.Prelude.{List, ℕ};
-    ghost use Rattle.dma_mem.specs.Pages.{flat};
+    ghost use Rattle.dma_mem.specs.inner.PageTable.{flat};
 
     ghost Value = { List (List ℕ) };
 
@@ -358,8 +359,8 @@ fn read_page(page: &[u8], offset: usize, part: &mut [u8])
     }
 }
 
-// By addresses: page after page, each of 4,096 bytes. The loops over pages stand out of line: a burst mostly lies on one page,
-// and a channel's loop of instructions has no room for them.
+// By addresses: page after page, each of 4,096 bytes. The loops over pages stand out of line: a burst mostly lies on one
+// page, and a channel's loop of instructions has no room for them.
 impl Table {
     /// The bytes from `start` on, so many, where they stand on one page that is made.
     pub(crate) fn part(&self, start: usize, len: usize) -> Option<&[u8]>

@@ -1,11 +1,13 @@
 //! Transfers from a list of segments to another.
 
 ghost use Rattle.std.specs.Prelude.{◌≡◌, ◌+◌, ◌<◌, ◌≤◌, ◌↔◌, All, IsTrue, IfOk, IfErr, MatchResult, length, slice_get, unwrap_or};
-ghost use Rattle.dma_mem.specs.Places.{Descriptor, places, sources, destinations, size_of, lies_below, all_below, meets, share, range_of, touches, writes, is_free_of, IsFree};
+ghost use Rattle.dma_mem.specs.Places.{Descriptor, places, sources, destinations, size_of, lies_below, all_below, share, range_of, touches, writes, is_free_of};
+ghost use Rattle.dma_mem.specs.Meeting.{meets, IsFree};
 ghost use Rattle.std.specs.List.{list_any};
 ghost use Rattle.std.specs.List.Sorted.{IsNonDecreasingBy};
 ghost use Rattle.dma_mem.specs.declared.segment.Segment.{Segment};
-ghost use Rattle.dma_mem.specs.Rules.{IsTransfer, refusal_of, overlap_of, total, some_meet, meets_any, has_empty_segment, has_wrapping_segment, is_bad_event};
+ghost use Rattle.dma_mem.specs.Rules.{IsTransfer};
+ghost use Rattle.dma_mem.specs.Refusals.{refusal_of, overlap_of, total, some_meet, meets_any, has_empty_segment, has_wrapping_segment, is_bad_event};
 
 use crate::lists::Segments;
 use crate::ordered::{any_meets_ordered, end_of, sort_by_address};
@@ -78,45 +80,50 @@ impl Model for Transfer {
         × (t.len ≡ size_of (record { src = t.src; dst = t.dst; wait = t.wait; signal = t.signal })) };
 }
 
+// Whether a segment of the list has no byte.
 fn has_empty_segment(list: &[Segment]) -> bool
     ensures { result ≡ has_empty_segment list.now }
 {
     list.iter().any(|s| s.len == 0)
 }
 
+// Whether a segment of the list ends above the last address.
 fn has_wrapping_segment(list: &[Segment]) -> bool
     ensures { result ≡ has_wrapping_segment list.now }
 {
     list.iter().any(|s| u64::from(s.addr) + u64::from(s.len) > END_OF_ADDRESSES)
 }
 
+// How many bytes a list has.
 fn total(list: &[Segment]) -> u64
-    requires { length list.now ≤ MAX_SEGMENTS }
+    requires { length list.now ≤ 64 }
     ensures { result ≡ total list.now }
 {
     list.iter().map(|s| u64::from(s.len)).sum()
 }
 
+// Whether the segment meets one of the others.
 fn meets_one(s: Segment, others: &[Segment]) -> bool
     ensures { result ≡ list_any (meets s) others.now }
 {
     others.iter().any(|other| meets(s, *other))
 }
 
+// Whether a segment of the list meets one of the others.
 fn meets_any(list: &[Segment], others: &[Segment]) -> bool
     ensures { result ≡ meets_any list.now others.now }
 {
     list.iter().any(|s| meets_one(*s, others))
 }
 
-/// Whether the list has an address of the segment.
+// Whether the list has an address of the segment.
 fn meets_list(s: Segment, list: &[Segment]) -> bool
     ensures { result ≡ share (range_of s) (places list.now) }
 {
     meets_one(s, list)
 }
 
-/// Whether the lists have an address in common.
+// Whether the lists have an address in common.
 fn lists_meet(list: &[Segment], others: &[Segment]) -> bool
     ensures { result ≡ share (places list.now) (places others.now) }
 {
@@ -137,10 +144,10 @@ fn neighbours_meet(sorted: &[Segment]) -> bool
     false
 }
 
-// How the lists overlap: two destinations meet, or else a source meets one. The destinations are sorted on the stack, so that
-// this takes no memory and each question a binary search.
+// How the lists overlap: two destinations meet, or else a source meets one. The destinations are sorted on the stack, so
+// that this takes no memory and each question a binary search.
 fn overlap_of_many(src: &[Segment], dst: &[Segment]) -> Option<TransferFault>
-    requires few { length dst.now ≤ MAX_SEGMENTS }
+    requires few { length dst.now ≤ 64 }
     requires filled { All (λ s. 0 < s.len) dst.now }
     ensures { result ≡ overlap_of src.now dst.now }
 {
@@ -159,7 +166,7 @@ fn overlap_of_many(src: &[Segment], dst: &[Segment]) -> Option<TransferFault>
 
 // The same, without the sort where there is one destination.
 fn overlap(src: &[Segment], dst: &[Segment]) -> Option<TransferFault>
-    requires few { length dst.now ≤ MAX_SEGMENTS }
+    requires few { length dst.now ≤ 64 }
     requires filled { All (λ s. 0 < s.len) dst.now }
     ensures { result ≡ overlap_of src.now dst.now }
 {
@@ -169,13 +176,14 @@ fn overlap(src: &[Segment], dst: &[Segment]) -> Option<TransferFault>
     meets_any(src, dst).then_some(TransferFault::SourceMeetsDestination)
 }
 
+// Whether the event is above the last.
 fn is_bad_event(event: Option<u8>) -> bool
     ensures { result ≡ is_bad_event event }
 {
     event.is_some_and(|e| e > LAST_EVENT)
 }
 
-/// How many bytes a transfer of these lists copies, or the first refusal that holds.
+// How many bytes a transfer of these lists copies, or the first refusal that holds.
 fn checked_len(
     src: &[Segment],
     dst: &[Segment],
@@ -213,7 +221,7 @@ fn checked_len(
     Ok(len as u32)
 }
 
-/// The place of a position of a list, or none past its end.
+// The place of a position of a list, or none past its end.
 fn place_at(list: &[Segment], position: u32) -> Option<u32>
     requires { All (λ s. s.addr + s.len ≤ 4294967296) list.now }
     ensures { result ≡ slice_get (places list.now) position }
@@ -228,12 +236,14 @@ fn place_at(list: &[Segment], position: u32) -> Option<u32>
     None
 }
 
+// Whether each segment of the list ends at the size at most.
 fn all_below(list: &[Segment], size: u32) -> bool
     ensures { result ≡ all_below list.now size }
 {
     list.iter().all(|s| u64::from(s.addr) + u64::from(s.len) <= u64::from(size))
 }
 
+// A copy of the list.
 fn copied(alloc: Global, list: &[Segment]) -> Result<Segments, TransferFault>
     ensures { MatchResult result (λ copy. copy ≡ list.now) (λ fault. fault ≡ TransferFault.NoMemory) }
 {
@@ -273,8 +283,8 @@ impl Transfer {
         })
     }
 
-    /// The same of lists that it takes for itself, so that no memory is asked for. The errors are those of [`Transfer::new`] in
-    /// their order, without `NoMemory`.
+    /// The same of lists that it takes for itself, so that no memory is asked for. The errors are those of
+    /// [`Transfer::new`] in their order, without `NoMemory`.
     pub fn from_lists(
         src: Segments,
         dst: Segments,
@@ -331,7 +341,7 @@ impl Transfer {
         ensures size { result ≡ size_of self.now }
         ensures sources { result ≡ length (sources self.now) }
         ensures low { 1 ≤ result }
-        ensures high { result ≤ MAX_BYTES }
+        ensures high { result ≤ 1048576 }
         ensures rules { IsTransfer self.now }
     {
         self.len

@@ -1,13 +1,12 @@
 -- A list of segments, part by part.
 use Rattle.std.proofs.Common.{◌≡◌, ℕ, ◌<◌, ◌+◌, List, [], ◌∷◌, ◌++◌, length, map, take, get_or, refl, ap, ◌∙◌, sym, arith, Option, Some, None, zero, suc, Ok, Err}
-use Rattle.std.specs.Option.{option_map}
+use Rattle.std.specs.Option.{option_map, ok_or}
 use Rattle.std.proofs.lemmas.List.{take_more, map-append}
 use Rattle.dma_script.specs.Words.{each_of, segment_of, parts_at}
 use Rattle.dma_mem.specs.declared.segment.Segment.{Segment}
 use Rattle.dma_script.specs.declared.fault.Cause.{Cause}
 use Rattle.dma_script.specs.declared.fault.Cause.TheVariants.{Number}
 use Rattle.dma_script.specs.Arguments.{segment_at, list_at}
-use Rattle.std.specs.Option.{ok_or}
 
 each_of-push : {A : Type 0} (xs : List (Option A)) (a : A) → each_of (xs ++ Some a ∷ []) ≡ option_map (λ l. l ++ a ∷ []) (each_of xs)
 each_of-push [] a = refl

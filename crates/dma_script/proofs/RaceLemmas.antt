@@ -9,8 +9,6 @@ use Rattle.dma_script.specs.Plan.{transfer_words, transfer_numbers, transfer_of}
 use Rattle.dma_script.specs.Statements.{write_line, read_line, submit_line, channel_and_cookie, first_line, memory_line, later_line, next_line}
 use Rattle.dma_script.specs.Race.{is_early, IsEarly}
 use Rattle.dma_script.specs.declared.fault.Cause.TheVariants.{SizeOutOfRange, BadChannels}
-use Rattle.dma_mem.specs.declared.memory.TheConstants.{MAX_SIZE}
-use Rattle.dma_script.specs.declared.statements.TheConstants.{MAX_CHANNELS}
 use Rattle.dma_script.specs.declared.fault.LineError.{LineError}
 use Rattle.dma_script.specs.declared.statements.Keyword.{Keyword}
 use Rattle.dma_script.specs.declared.statements.Keyword.TheVariants as keywords
@@ -59,8 +57,8 @@ later_early keywords.Totals words early = absurd cc
 memory_early : (words : List (List ℕ)) → IfOk (memory_line words) AreEarly
 memory_early words =
     after_bind AreEarly (two_of words) _ (λ w. after_bind AreEarly (number_at w.0) _ (λ size. after_bind AreEarly (number_at w.1) _ (λ channels.
-    after_bind AreEarly (where_holds (nat_le 1 size && nat_le size MAX_SIZE) SizeOutOfRange) (λ in_range. where_holds (nat_le 1 channels && nat_le channels MAX_CHANNELS) BadChannels >>= (λ some. Ok (record { size = size; channels = channels; statements = [] }))) (λ in_range.
-    after_bind AreEarly (where_holds (nat_le 1 channels && nat_le channels MAX_CHANNELS) BadChannels) (λ some. Ok (record { size = size; channels = channels; statements = [] })) (λ some. All-nil IsEarly)))))
+    after_bind AreEarly (where_holds (nat_le 1 size && nat_le size 4294963200) SizeOutOfRange) (λ in_range. where_holds (nat_le 1 channels && nat_le channels 8) BadChannels >>= (λ some. Ok (record { size = size; channels = channels; statements = [] }))) (λ in_range.
+    after_bind AreEarly (where_holds (nat_le 1 channels && nat_le channels 8) BadChannels) (λ some. Ok (record { size = size; channels = channels; statements = [] })) (λ some. All-nil IsEarly)))))
 
 first_early : (keyword : Keyword) (words : List (List ℕ)) → IfOk (first_line keyword words) AreEarly
 first_early keywords.Memory words = memory_early words

@@ -1,5 +1,8 @@
 -- Worked scripts, computed from the definitions.
-use Rattle.std.proofs.Common.{◌≡◌, List, ℕ, [], ◌∷◌, ◌++◌, codes, Some, None, Ok, Err, refl}
+use Rattle.std.proofs.Common.{◌≡◌, List, ℕ, [], ◌∷◌, ◌++◌, codes, flat_map, Some, None, Ok, Err, refl}
+use Rattle.std.specs.List.{range_with_len}
+use Rattle.dma_script.specs.Command.{longest_input}
+use Rattle.dma_script.specs.Words.{number_of}
 use Rattle.dma_script.specs.Statements.{run_script_of}
 use Rattle.dma_script.specs.Race.{race_script_of}
 use Rattle.dma_script.specs.Printing.{program_lines, hex_address, spaced_bytes}
@@ -100,7 +103,7 @@ lone_digit = refl
 lone_digit_before_a_line_feed : pairs_of (codes "22" ++ 10 ∷ codes "3" ++ 10 ∷ codes "4") ≡ Err 2
 lone_digit_before_a_line_feed = refl
 
-whole_plan : plan_of (codes "# one" ++ 10 ∷ codes "1+2 to 3+2 wait 3 signal 255") ≡ Ok (record { line = 2; src = record { addr = 1; len = 2 } ∷ []; dst = record { addr = 3; len = 2 } ∷ []; wait = Some 3; signal = Some 255 })
+whole_plan : plan_of (codes "# one" ++ 10 ∷ codes "1+2 to 3+2 wait 3 signal 255") ≡ Ok (record { line = 2; transfer = record { src = record { addr = 1; len = 2 } ∷ []; dst = record { addr = 3; len = 2 } ∷ []; wait = Some 3; signal = Some 255 } })
 whole_plan = refl
 
 no_plan : plan_of [] ≡ Err (record { line = 0; cause = First })
@@ -144,3 +147,59 @@ job_after_go = refl
 
 memory_after_go : race_script_of (after_memory (codes "go" ++ 10 ∷ codes "memory x")) ≡ Err (record { line = 3; cause = First })
 memory_after_go = refl
+
+-- ---- limits
+
+longest : longest_input ≡ 4194304
+longest = refl
+
+largest_number : number_of (codes "4294967295") ≡ Some 4294967295
+largest_number = refl
+
+number_above : number_of (codes "4294967296") ≡ None
+number_above = refl
+
+largest_hexadecimal : number_of (codes "0x00fFFFffFF") ≡ Some 4294967295
+largest_hexadecimal = refl
+
+hexadecimal_above : number_of (codes "0x100000000") ≡ None
+hexadecimal_above = refl
+
+no_memory : run_script_of (codes "memory 0 8") ≡ Err (record { line = 1; cause = SizeOutOfRange })
+no_memory = refl
+
+no_channel : run_script_of (codes "memory 1 0") ≡ Err (record { line = 1; cause = BadChannels })
+no_channel = refl
+
+too_many_channels : run_script_of (codes "memory 1 9") ≡ Err (record { line = 1; cause = BadChannels })
+too_many_channels = refl
+
+highest_channel : run_script_of (after_memory (codes "issue 255")) ≡ Ok (record { size = 64; channels = 1; statements = statements.Issue 255 ∷ [] })
+highest_channel = refl
+
+channel_above : run_script_of (after_memory (codes "issue 256")) ≡ Err (record { line = 2; cause = Range })
+channel_above = refl
+
+event_above : run_script_of (after_memory (codes "raise 256")) ≡ Err (record { line = 2; cause = Range })
+event_above = refl
+
+no_step : run_script_of (after_memory (codes "step 0 0")) ≡ Err (record { line = 2; cause = Range })
+no_step = refl
+
+largest_segment : run_script_of (after_memory (codes "read 4294967295+4294967295")) ≡ Ok (record { size = 64; channels = 1; statements = statements.Read (record { addr = 4294967295; len = 4294967295 }) ∷ [] })
+largest_segment = refl
+
+last_channel_of_a_job : race_script_of (after_memory (codes "job 7 8 0" ++ 10 ∷ codes "go")) ≡ Err (record { line = 2; cause = Range })
+last_channel_of_a_job = refl
+
+-- so many lines of jobs
+jobs : ℕ → List ℕ
+jobs count = flat_map (λ _. codes "job 0 7 1" ++ 10 ∷ []) (range_with_len 0 count)
+
+sixteen_jobs : race_script_of (after_memory (jobs 16)) ≡ Err (record { line = 0; cause = Go })
+unfolding jobs
+sixteen_jobs = refl
+
+seventeen_jobs : race_script_of (after_memory (jobs 17)) ≡ Err (record { line = 18; cause = Range })
+unfolding jobs
+seventeen_jobs = refl

@@ -1,5 +1,6 @@
 -- How a command ends, what words spell, how a script is read up to its first fault, what the words after the first of a line
--- say, the line of a plan, the lines of a run script and of a race script, pairs of digits, and printed lines.
+-- say, the line of a plan, the lines of a run script and of a race script, pairs of digits, printed lines, and the table of the
+-- causes of which a faulty line tells the first.
 pub mod Command
 pub mod Words
 pub mod Lines
@@ -9,3 +10,4 @@ pub mod Statements
 pub mod Race
 pub mod Printing
 pub mod Pairs
+pub mod Causes

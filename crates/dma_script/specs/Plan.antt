@@ -79,4 +79,4 @@ abbrev pub plan_of : List ℕ → Result PlanLine Fault
 plan_of input = do
   read ← after_script plan_step None input
   line ← ok_or read (record { line = 0; cause = causes.First })
-  Ok (record { line = first_number input; src = line.src; dst = line.dst; wait = line.wait; signal = line.signal })
+  Ok (record { line = first_number input; transfer = line })

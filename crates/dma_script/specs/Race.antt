@@ -19,7 +19,6 @@ use Rattle.dma_script.specs.declared.race.JobLine.{JobLine}
 use Rattle.dma_script.specs.declared.race.RaceKeyword.{RaceKeyword}
 use Rattle.dma_script.specs.declared.race.RaceKeyword.TheVariants.{Line, Job, Go}
 use Rattle.dma_script.specs.declared.race.RaceScript.{RaceScript}
-use Rattle.dma_script.specs.declared.race.TheConstants.{MAX_JOBS, LAST_CHANNEL}
 
 -- the word that begins a line: `job`, `go`, or one that a run script has too
 abbrev pub race_keyword_of : List ℕ → Option RaceKeyword
@@ -39,14 +38,14 @@ is_early Status = true
 is_early Outcome = true
 is_early _ = false
 
--- `job FIRST LAST TURNS`: the channels from the first to the last, both of which there may be
+-- `job FIRST LAST TURNS`: the channels from the first to the last, which is at most 7
 abbrev pub job_line : List (List ℕ) → Result JobLine Cause
 job_line words = do
   w ← three_of words
   first ← number_at w.0
   last ← number_at w.1
   turns ← number_at w.2
-  in_range ← where_holds (nat_le first last && nat_le last LAST_CHANNEL) causes.Range
+  in_range ← where_holds (nat_le first last && nat_le last 7) causes.Range
   Ok (record { first = first; last = last; turns = turns })
 
 -- What was read of a race script so far: the memory line with the lines before `go`, the jobs, and the lines after `go` once
@@ -76,7 +75,7 @@ abbrev pub job_taken : RaceRead → List (List ℕ) → Result RaceRead Cause
 job_taken read words = do
   behind ← behind_memory read.before
   job ← job_line words
-  few ← where_holds (nat_lt (length read.jobs) MAX_JOBS) causes.Range
+  few ← where_holds (nat_lt (length read.jobs) 16) causes.Range
   Ok (record read { jobs = read.jobs ++ job ∷ [] })
 
 -- `go` itself, which begins the lines after it
@@ -125,9 +124,9 @@ race_script_of input = do
   after ← ok_or read.after (record { line = 0; cause = causes.Go })
   Ok (record { before = before; jobs = read.jobs; after = after })
 
--- a job's channels, the first at most the last, and both such that there may be
+-- a job's channels, the first at most the last, and that at most 7
 abbrev pub IsJob : JobLine → Type 0
-IsJob job = (job.first ≤ job.last) × (job.last ≤ LAST_CHANNEL)
+IsJob job = (job.first ≤ job.last) × (job.last ≤ 7)
 
 -- a line that may stand before `go`
 abbrev pub IsEarly : Statement → Type 0
@@ -144,11 +143,11 @@ IsEarly _ = ⊥
 pub record IsRead (read : RaceRead) : Type 0 where
   pub early : IfSome read.before (λ script. All IsEarly script.statements)
   pub jobs : All IsJob read.jobs
-  pub few : length read.jobs ≤ MAX_JOBS
+  pub few : length read.jobs ≤ 16
 
 -- What is known of a race script that was read.
 pub record IsRace (script : RaceScript) : Type 0 where
   pub memory : IsWithin script.before
   pub early : All IsEarly script.before.statements
   pub jobs : All IsJob script.jobs
-  pub few : length script.jobs ≤ MAX_JOBS
+  pub few : length script.jobs ≤ 16

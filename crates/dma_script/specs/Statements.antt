@@ -3,7 +3,6 @@
 use Rattle.std.specs.Prelude.{ℕ, ◌&&◌, nat_le, ◌≤◌, if◌then◌else◌, List, [], ◌∷◌, ◌++◌, Option, Some, None, Result, Ok, Err, codes}
 use Rattle.std.specs.Option.{ok_or}
 use Rattle.std.specs.Str.{bytes_eq}
-use Rattle.dma_mem.specs.declared.memory.TheConstants.{MAX_SIZE}
 use Rattle.dma_mem.specs.declared.marks.MarkKind.{MarkKind}
 use Rattle.dma_mem.specs.declared.marks.MarkKind.TheVariants.{Reading, Writing}
 use Rattle.dma_script.specs.Lines.{◌>>=◌, after_script}
@@ -17,7 +16,6 @@ use Rattle.dma_script.specs.declared.statements.Keyword.TheVariants as keywords
 use Rattle.dma_script.specs.declared.statements.Statement.{Statement}
 use Rattle.dma_script.specs.declared.statements.Statement.TheVariants as statements
 use Rattle.dma_script.specs.declared.statements.RunScript.{RunScript}
-use Rattle.dma_script.specs.declared.statements.TheConstants.{MAX_CHANNELS, MAX_STEPS}
 
 -- the word that begins a line
 abbrev pub keyword_of : List ℕ → Option Keyword
@@ -45,13 +43,13 @@ memory_line words = do
   w ← two_of words
   size ← number_at w.0
   channels ← number_at w.1
-  in_range ← where_holds (nat_le 1 size && nat_le size MAX_SIZE) causes.SizeOutOfRange
-  some ← where_holds (nat_le 1 channels && nat_le channels MAX_CHANNELS) causes.BadChannels
+  in_range ← where_holds (nat_le 1 size && nat_le size 4294963200) causes.SizeOutOfRange
+  some ← where_holds (nat_le 1 channels && nat_le channels 8) causes.BadChannels
   Ok (record { size = size; channels = channels; statements = [] })
 
--- the ranges of a memory line: one byte to the largest memory, one channel to the most
+-- the ranges of a memory line: 1 to 4,294,963,200 bytes, 1 to 8 channels
 abbrev pub IsWithin : RunScript → Type 0
-IsWithin script = (1 ≤ script.size) × (script.size ≤ MAX_SIZE) × (1 ≤ script.channels) × (script.channels ≤ MAX_CHANNELS)
+IsWithin script = (1 ≤ script.size) × (script.size ≤ 4294963200) × (1 ≤ script.channels) × (script.channels ≤ 8)
 
 -- `write ADDR HEX`
 abbrev pub write_line : List (List ℕ) → Result Statement Cause
@@ -88,10 +86,10 @@ submit_line words = do
   transfer ← transfer_of numbers
   Ok (statements.Submit ch transfer)
 
--- the count of a step line: 1 to the most, and 1 where it is left out
+-- the count of a step line: 1 to 1,000,000, and 1 where it is left out
 abbrev pub count_of : Option ℕ → Result ℕ Cause
 count_of None = Ok 1
-count_of (Some n) = if nat_le 1 n && nat_le n MAX_STEPS then Ok n else Err causes.Range
+count_of (Some n) = if nat_le 1 n && nat_le n 1000000 then Ok n else Err causes.Range
 
 -- `step CH [N]`
 abbrev pub step_line : List (List ℕ) → Result Statement Cause

@@ -139,6 +139,7 @@ pub(crate) fn segment_at(word: &[u8]) -> Result<Segment, Cause>
     segment_in(word).ok_or(Cause::Number)
 }
 
+/// What separates the segments of a list.
 fn is_comma(byte: u8) -> bool
     ensures { result ≡ (byte == 44) }
 {
@@ -157,27 +158,27 @@ pub(crate) fn list_at(alloc: Global, word: &[u8]) -> Result<Segments, LineError>
 }
 
 /// What stands for no digit in the table below.
-const NO: u8 = 255;
+const NONE: u8 = 255;
 
 /// The value of each byte as a hexadecimal digit, 16 bytes to a row. It's a table, since a branch on digits is often guessed
 /// wrong, and arithmetic without a branch takes many steps.
 const DIGIT_VALUES: [u8; 256] = [
-    NO, NO, NO, NO, NO, NO, NO, NO, NO, NO, NO, NO, NO, NO, NO, NO, // 0x00
-    NO, NO, NO, NO, NO, NO, NO, NO, NO, NO, NO, NO, NO, NO, NO, NO, // 0x10
-    NO, NO, NO, NO, NO, NO, NO, NO, NO, NO, NO, NO, NO, NO, NO, NO, // 0x20
-    0, 1, 2, 3, 4, 5, 6, 7, 8, 9, NO, NO, NO, NO, NO, NO, // 0x30
-    NO, 10, 11, 12, 13, 14, 15, NO, NO, NO, NO, NO, NO, NO, NO, NO, // 0x40
-    NO, NO, NO, NO, NO, NO, NO, NO, NO, NO, NO, NO, NO, NO, NO, NO, // 0x50
-    NO, 10, 11, 12, 13, 14, 15, NO, NO, NO, NO, NO, NO, NO, NO, NO, // 0x60
-    NO, NO, NO, NO, NO, NO, NO, NO, NO, NO, NO, NO, NO, NO, NO, NO, // 0x70
-    NO, NO, NO, NO, NO, NO, NO, NO, NO, NO, NO, NO, NO, NO, NO, NO, // 0x80
-    NO, NO, NO, NO, NO, NO, NO, NO, NO, NO, NO, NO, NO, NO, NO, NO, // 0x90
-    NO, NO, NO, NO, NO, NO, NO, NO, NO, NO, NO, NO, NO, NO, NO, NO, // 0xa0
-    NO, NO, NO, NO, NO, NO, NO, NO, NO, NO, NO, NO, NO, NO, NO, NO, // 0xb0
-    NO, NO, NO, NO, NO, NO, NO, NO, NO, NO, NO, NO, NO, NO, NO, NO, // 0xc0
-    NO, NO, NO, NO, NO, NO, NO, NO, NO, NO, NO, NO, NO, NO, NO, NO, // 0xd0
-    NO, NO, NO, NO, NO, NO, NO, NO, NO, NO, NO, NO, NO, NO, NO, NO, // 0xe0
-    NO, NO, NO, NO, NO, NO, NO, NO, NO, NO, NO, NO, NO, NO, NO, NO, // 0xf0
+    NONE, NONE, NONE, NONE, NONE, NONE, NONE, NONE, NONE, NONE, NONE, NONE, NONE, NONE, NONE, NONE, // 0x00
+    NONE, NONE, NONE, NONE, NONE, NONE, NONE, NONE, NONE, NONE, NONE, NONE, NONE, NONE, NONE, NONE, // 0x10
+    NONE, NONE, NONE, NONE, NONE, NONE, NONE, NONE, NONE, NONE, NONE, NONE, NONE, NONE, NONE, NONE, // 0x20
+    0, 1, 2, 3, 4, 5, 6, 7, 8, 9, NONE, NONE, NONE, NONE, NONE, NONE, // 0x30
+    NONE, 10, 11, 12, 13, 14, 15, NONE, NONE, NONE, NONE, NONE, NONE, NONE, NONE, NONE, // 0x40
+    NONE, NONE, NONE, NONE, NONE, NONE, NONE, NONE, NONE, NONE, NONE, NONE, NONE, NONE, NONE, NONE, // 0x50
+    NONE, 10, 11, 12, 13, 14, 15, NONE, NONE, NONE, NONE, NONE, NONE, NONE, NONE, NONE, // 0x60
+    NONE, NONE, NONE, NONE, NONE, NONE, NONE, NONE, NONE, NONE, NONE, NONE, NONE, NONE, NONE, NONE, // 0x70
+    NONE, NONE, NONE, NONE, NONE, NONE, NONE, NONE, NONE, NONE, NONE, NONE, NONE, NONE, NONE, NONE, // 0x80
+    NONE, NONE, NONE, NONE, NONE, NONE, NONE, NONE, NONE, NONE, NONE, NONE, NONE, NONE, NONE, NONE, // 0x90
+    NONE, NONE, NONE, NONE, NONE, NONE, NONE, NONE, NONE, NONE, NONE, NONE, NONE, NONE, NONE, NONE, // 0xa0
+    NONE, NONE, NONE, NONE, NONE, NONE, NONE, NONE, NONE, NONE, NONE, NONE, NONE, NONE, NONE, NONE, // 0xb0
+    NONE, NONE, NONE, NONE, NONE, NONE, NONE, NONE, NONE, NONE, NONE, NONE, NONE, NONE, NONE, NONE, // 0xc0
+    NONE, NONE, NONE, NONE, NONE, NONE, NONE, NONE, NONE, NONE, NONE, NONE, NONE, NONE, NONE, NONE, // 0xd0
+    NONE, NONE, NONE, NONE, NONE, NONE, NONE, NONE, NONE, NONE, NONE, NONE, NONE, NONE, NONE, NONE, // 0xe0
+    NONE, NONE, NONE, NONE, NONE, NONE, NONE, NONE, NONE, NONE, NONE, NONE, NONE, NONE, NONE, NONE, // 0xf0
 ];
 
 /// The value of a hexadecimal digit, and a number above 15 for any other byte.
@@ -201,8 +202,8 @@ pub(crate) fn byte_in(high: u8, low: u8) -> Option<u8>
 }
 
 /// Appends the byte that two hexadecimal digits spell.
-fn push_pair(bytes: &mut Bytes, high: u8, low: u8) -> Result<(), LineError>
-    ensures { LineGives result bytes.new (hex_after bytes.old (high ∷ low ∷ [])) }
+fn push_pair(bytes: &mut Vec<u8>, high: u8, low: u8) -> Result<(), LineError>
+    ensures { LineGives result bytes.new.items (hex_after bytes.old.items (high ∷ low ∷ [])) }
 {
     let byte = byte_in(high, low).ok_or(LineError::Fault(Cause::Hex))?;
     bytes.push(byte)?;
@@ -210,8 +211,8 @@ fn push_pair(bytes: &mut Bytes, high: u8, low: u8) -> Result<(), LineError>
 }
 
 /// Appends the bytes of a word of hexadecimal digits.
-fn push_hex(bytes: &mut Bytes, word: &[u8]) -> Result<(), LineError>
-    ensures { LineGives result bytes.new (hex_after bytes.old word.now) }
+fn push_hex(bytes: &mut Vec<u8>, word: &[u8]) -> Result<(), LineError>
+    ensures { LineGives result bytes.new.items (hex_after bytes.old.items word.now) }
 {
     // Most words are one byte.
     if let [high, low] = word {
@@ -242,9 +243,9 @@ fn bytes_of(words: &[&[u8]]) -> usize {
 pub(crate) fn bytes_at(alloc: Global, words: &[&[u8]]) -> Result<Bytes, LineError>
     ensures { Gives (λ bytes. bytes) result (bytes_at (map (λ word. word.now) words.now)) }
 {
-    let mut bytes = Bytes::with_capacity(alloc, bytes_of(words))?;
+    let mut bytes = Vec::with_capacity(alloc, bytes_of(words))?;
     for word in words {
         push_hex(&mut bytes, word)?;
     }
-    Ok(bytes)
+    Ok(Bytes::from_vec(bytes))
 }

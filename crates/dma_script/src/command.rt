@@ -2,7 +2,7 @@
 ghost use Rattle.std.specs.Prelude.{◌≡◌, ◌++◌, ◌+◌, ◌≤◌, ◌<◌, ◌⊎◌, [], List, ℕ, IfErr, IfOk, OnErr, OnOk, IfSome, length, vec_len};
 ghost use Rattle.std.specs.Io.KnownBytes.{Appends};
 ghost use Rattle.std.specs.Thread.{IsSync};
-ghost use Rattle.dma_script.specs.Command.{AppendsGroups, Ends, EndsUnread, MayAppend, MayComplete, MayEnd, Printed, failures, may_print_within, printed_text, printed_within};
+ghost use Rattle.dma_script.specs.Command.{AppendsGroups, Ends, EndsUnread, MayAppend, MayComplete, MayEnd, Printed, failures, longest_input, may_print_within, printed_text, printed_within};
 
 use crate::input::{InputError, LONGEST_INPUT, Source, read_input};
 use crate::output::{Sink, write_output};
@@ -26,7 +26,7 @@ pub trait Command {
     /// Appends the printed text, and gives the status. Where memory is refused, exactly the text of the first groups is
     /// appended, at least one group being left out.
     fn answer(&self, alloc: Global, input: &[u8], out: &mut Vec<u8>) -> Result<u8, AllocError>
-        requires { length input.now ≤ LONGEST_INPUT }
+        requires { length input.now ≤ longest_input }
         ensures text { OnOk result (out.new.items ≡ out.old.items ++ printed_text (printed input.now).groups) }
         ensures status { IfOk result (λ status. status ≡ (printed input.now).status) }
         ensures refused { OnErr result (AppendsGroups (printed input.now).groups out.old.items out.new.items) };
@@ -54,13 +54,13 @@ fn input_of<R: Source, W: Sink>(
     writer: &mut W,
 ) -> Result<Vec<u8>, u8>
     ensures input { IfOk result (λ v. IfSome (R.remaining reader.old) (λ input. v.items ≡ input)) }
-    ensures within { IfOk result (λ v. vec_len v ≤ LONGEST_INPUT) }
+    ensures within { IfOk result (λ v. vec_len v ≤ longest_input) }
     ensures unfailed { OnOk result (R.has_failed reader.new → R.has_failed reader.old) }
     ensures unwritten { OnOk result (writer.new ≡ writer.old) }
     ensures unread { IfErr result (λ status. EndsUnread (R.remaining reader.old)
         (failures R.has_failed reader.old reader.new) (failures W.has_failed writer.old writer.new)
         (W.contents writer.old) (W.contents writer.new) status) }
-    ensures reads { R.reads reader.new ≤ R.reads reader.old + (LONGEST_INPUT + 1) }
+    ensures reads { R.reads reader.new ≤ R.reads reader.old + (longest_input + 1) }
 {
     match read_input(alloc, reader) {
         Ok(input) => Ok(input),
@@ -81,7 +81,7 @@ pub fn serve<C: Command, R: Source, W: Sink>(
     ensures ends { IfSome (R.remaining reader.old) (λ input. Ends
         (failures R.has_failed reader.old reader.new) (failures W.has_failed writer.old writer.new)
         (printed_within C.printed input) (W.contents writer.old) (W.contents writer.new) result) }
-    ensures reads { R.reads reader.new ≤ R.reads reader.old + (LONGEST_INPUT + 1) }
+    ensures reads { R.reads reader.new ≤ R.reads reader.old + (longest_input + 1) }
 {
     let input = match input_of(alloc, reader, writer) {
         Ok(input) => input,
@@ -108,7 +108,7 @@ pub trait OpenCommand {
         input: &[u8],
         out: &mut Vec<u8>,
     ) -> Result<u8, AllocError>
-        requires short { length input.now ≤ LONGEST_INPUT }
+        requires short { length input.now ≤ longest_input }
         requires shared { IsSync H.row }
         ensures complete { IfOk result (λ status. MayComplete (may_print input.now) status out.old.items out.new.items) }
         ensures refused { OnErr result (MayAppend (may_print input.now) out.old.items out.new.items) };
@@ -128,7 +128,7 @@ pub fn serve_open<H: Threads + Wait + Sync, C: OpenCommand, R: Source, W: Sink>(
     ensures ends { IfSome (R.remaining reader.old) (λ input. MayEnd
         (failures R.has_failed reader.old reader.new) (failures W.has_failed writer.old writer.new)
         (may_print_within C.may_print input) (W.contents writer.old) (W.contents writer.new) result) }
-    ensures reads { R.reads reader.new ≤ R.reads reader.old + (LONGEST_INPUT + 1) }
+    ensures reads { R.reads reader.new ≤ R.reads reader.old + (longest_input + 1) }
 {
     let input = match input_of(alloc, reader, writer) {
         Ok(input) => input,

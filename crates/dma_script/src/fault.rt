@@ -21,7 +21,7 @@ pub enum Cause {
     Number,
     /// A word that is not an even number of hexadecimal digits.
     Hex,
-    /// A number outside what its place allows.
+    /// A number outside what its word allows.
     Range,
     /// The memory has no byte, or more than it may have.
     SizeOutOfRange,

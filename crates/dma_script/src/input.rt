@@ -2,6 +2,7 @@
 ghost use Rattle.std.specs.Prelude.{◌≡◌, ◌≢◌, ◌<◌, ◌≤◌, ◌+◌, length, Err, IfOk, OnOk, OnErr, IfSome, IsErrOf, vec_len};
 ghost use Rattle.std.specs.Io.KnownBytes.{ReadConsumes};
 ghost use Rattle.std.specs.Io.{ReadsAtMost};
+ghost use Rattle.dma_script.specs.Command.{longest_input};
 
 use std::alloc::Global;
 use std::io;
@@ -63,11 +64,11 @@ pub enum InputError {
 /// end, and a read fault of any kind is a failing input, told at once: it's the only end with a failed read.
 pub fn read_input<R: Source>(alloc: Global, reader: &mut R) -> Result<Vec<u8>, InputError>
     ensures input { IfOk result (λ v. IfSome (R.remaining reader.old) (λ input. v.items ≡ input)) }
-    ensures within { IfOk result (λ v. vec_len v ≤ LONGEST_INPUT) }
-    ensures too_long { IsErrOf result InputError.TooLong → IfSome (R.remaining reader.old) (λ input. LONGEST_INPUT < length input) }
+    ensures within { IfOk result (λ v. vec_len v ≤ longest_input) }
+    ensures too_long { IsErrOf result InputError.TooLong → IfSome (R.remaining reader.old) (λ input. longest_input < length input) }
     ensures failed { IsErrOf result InputError.Failed → R.has_failed reader.new }
     ensures unfailed { result ≢ Err InputError.Failed → R.has_failed reader.new → R.has_failed reader.old }
-    ensures reads { R.reads reader.new ≤ R.reads reader.old + (LONGEST_INPUT + 1) }
+    ensures reads { R.reads reader.new ≤ R.reads reader.old + (longest_input + 1) }
 {
     let mut input = Vec::new(alloc);
     let mut buf = [0u8; READ_SIZE];

@@ -9,6 +9,7 @@ pub mod command;
 mod fakes;
 pub mod fault;
 pub mod input;
+pub mod laws;
 pub mod lines;
 pub mod output;
 pub mod pairs;
@@ -18,6 +19,8 @@ pub mod race;
 #[cfg(test)]
 mod race_tests;
 pub mod statements;
+#[cfg(test)]
+mod stream_tests;
 #[cfg(test)]
 mod tests;
 pub mod words;

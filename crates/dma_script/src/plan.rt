@@ -7,8 +7,8 @@ ghost use Rattle.dma_script.specs.Plan.{after_fixed, events_of, plan_of, seen_wo
 use crate::arguments::{byte_where, list_at, number_where};
 use crate::fault::{Cause, Fault, LineError, ScriptError};
 use crate::lines::{Script, first_number, read_script};
-use crate::words::is_text;
 use dma_mem::lists::Segments;
+use dma_text::bytes::is_text;
 use std::alloc::Global;
 
 /// What a line `LIST to LIST [wait E] [signal E]` says.
@@ -47,14 +47,8 @@ pub(crate) struct TransferNumbers {
 pub struct PlanLine {
     /// The number of the line, from 1.
     pub line: usize,
-    /// Where the bytes come from.
-    pub src: Segments,
-    /// Where they go.
-    pub dst: Segments,
-    /// The event that is waited for first.
-    pub wait: Option<u8>,
-    /// The event that is signalled last.
-    pub signal: Option<u8>,
+    /// What it says.
+    pub transfer: TransferLine,
 }
 
 /// The word after a fixed one, where that stands first, and the words that follow.
@@ -177,23 +171,12 @@ pub fn read_plan(alloc: Global, input: &[u8]) -> Result<PlanLine, ScriptError>
 {
     let mut read = PlanSoFar { line: None };
     read_script(&mut read, alloc, input)?;
-    let Some(
-        TransferLine {
-            src,
-            dst,
-            wait,
-            signal,
-        },
-    ) = read.line
-    else {
+    let Some(transfer) = read.line else {
         let cause = Cause::First;
         return Err(ScriptError::Fault(Fault { line: 0, cause }));
     };
     Ok(PlanLine {
         line: first_number(input),
-        src,
-        dst,
-        wait,
-        signal,
+        transfer,
     })
 }

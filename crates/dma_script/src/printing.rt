@@ -1,11 +1,11 @@
 //! The lines that are printed, and their parts. A line is appended whole or not at all; what is said of a part is said of Ok.
-ghost use Rattle.std.specs.Prelude.{◌≡◌, ◌++◌, ◌∷◌, ◌<◌, [], IfOk, OnErr, OnOk, decimal, true};
-ghost use Rattle.std.specs.Fmt.{digit_glyph};
+ghost use Rattle.std.specs.Prelude.{◌≡◌, ◌++◌, ◌∷◌, [], IfOk, OnErr, OnOk};
 ghost use Rattle.dma_script.specs.Command.{text_of};
 ghost use Rattle.dma_script.specs.Printing.{fault_line, hex_address, hex_byte_of, program_lines, row_line, spaced_bytes};
 
 use crate::fault::Fault;
-use itoa::Buffer;
+use dma_text::digits::glyph;
+pub use dma_text::digits::push_decimal;
 use std::alloc::{AllocError, Global};
 
 /// The most bytes of a program that are printed in one line (profile).
@@ -29,24 +29,6 @@ pub fn push_fault(alloc: Global, out: &mut Vec<u8>, fault: Fault) -> Result<(), 
 {
     let line = format!(in alloc; "{fault}")?;
     push_line(out, line.as_bytes())
-}
-
-/// A number in decimal digits, at the end. The digits are made on the stack.
-pub fn push_decimal(line: &mut Vec<u8>, number: u64) -> Result<(), AllocError>
-    ensures { OnOk result (line.new.items ≡ line.old.items ++ decimal number) }
-{
-    line.extend_from_slice(Buffer::new().format(number).as_bytes())
-}
-
-/// The hexadecimal digits in capitals. They're a table, since a branch on digits is often guessed wrong.
-const GLYPHS: [u8; 16] = *b"0123456789ABCDEF";
-
-/// A hexadecimal digit in capitals.
-fn glyph(digit: u8) -> u8
-    requires { digit < 16 }
-    ensures { result ≡ digit_glyph true digit }
-{
-    GLYPHS[usize::from(digit)]
 }
 
 /// Appends a byte in two capital digits, or nothing.

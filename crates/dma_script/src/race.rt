@@ -9,7 +9,7 @@ use crate::lines::{Script, read_script};
 use crate::statements::{
     Keyword, ReadSoFar, RunScript, Statement, Statements, keyword_in, later_line,
 };
-use crate::words::is_text;
+use dma_text::bytes::is_text;
 use std::alloc::{AllocError, Global};
 use std::marker::Model;
 
@@ -94,6 +94,7 @@ pub(crate) enum RaceKeyword {
     Go,
 }
 
+/// The command that a word is, of those of a race script.
 fn race_keyword_in(word: &[u8]) -> Option<RaceKeyword>
     ensures { result ≡ race_keyword_of word.now }
 {

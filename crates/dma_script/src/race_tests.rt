@@ -13,6 +13,7 @@ fn fault_of(alloc: Global, input: &[u8]) -> Result<Option<Fault>, AllocError> {
     }
 }
 
+/// A fault that is told.
 fn fault(line: usize, cause: Cause) -> Option<Fault> {
     Some(Fault { line, cause })
 }
@@ -22,11 +23,54 @@ fn no_faults(rt: HostRuntime) -> Result<(), Fail> {
     let cases: [&[u8]; 6] = [
         b"memory 1 1\ngo",
         b"# one\n\nmemory 64 1\r\n# two\n go \r\n# three",
-        b"memory 64 1\nwrite 0 AA\nread 0+1\nsubmit 0 0+1 to 1+1\nissue 0\nterminate 0\nresult 0 1\nstatus 0 1\njob 0 7 4294967295\ngo",
-        b"memory 64 1\ngo\nwrite 0 AA\nread 0+1\ncopy 0+1 to 1+1\nsubmit 0 0+1 to 1+1\nissue 0\npause 0\nresume 0\nterminate 0\nstep 0 9\nstatus 0 1\nresult 0 1\nmark read 0+1\nunmark\nraise 3\ntotals",
+        b"memory 64 1\n\
+          write 0 AA\n\
+          read 0+1\n\
+          submit 0 0+1 to 1+1\n\
+          issue 0\n\
+          terminate 0\n\
+          result 0 1\n\
+          status 0 1\n\
+          job 0 7 4294967295\n\
+          go",
+        b"memory 64 1\n\
+          go\n\
+          write 0 AA\n\
+          read 0+1\n\
+          copy 0+1 to 1+1\n\
+          submit 0 0+1 to 1+1\n\
+          issue 0\n\
+          pause 0\n\
+          resume 0\n\
+          terminate 0\n\
+          step 0 9\n\
+          status 0 1\n\
+          result 0 1\n\
+          mark read 0+1\n\
+          unmark\n\
+          raise 3\n\
+          totals",
         b"memory 64 1\njob 7 7 0\njob 0x0 07 0xFFFFFFFF\ngo\n",
         // Sixteen jobs, with another line among them.
-        b"memory 64 1\njob 0 0 1\njob 0 0 1\njob 0 0 1\njob 0 0 1\njob 0 0 1\njob 0 0 1\njob 0 0 1\njob 0 0 1\nissue 0\njob 0 0 1\njob 0 0 1\njob 0 0 1\njob 0 0 1\njob 0 0 1\njob 0 0 1\njob 0 0 1\njob 0 0 1\ngo",
+        b"memory 64 1\n\
+          job 0 0 1\n\
+          job 0 0 1\n\
+          job 0 0 1\n\
+          job 0 0 1\n\
+          job 0 0 1\n\
+          job 0 0 1\n\
+          job 0 0 1\n\
+          job 0 0 1\n\
+          issue 0\n\
+          job 0 0 1\n\
+          job 0 0 1\n\
+          job 0 0 1\n\
+          job 0 0 1\n\
+          job 0 0 1\n\
+          job 0 0 1\n\
+          job 0 0 1\n\
+          job 0 0 1\n\
+          go",
     ];
     for input in cases {
         assert_eq!(rt; fault_of(rt.alloc(), input)?, None);
@@ -132,8 +176,14 @@ fn a_seventeenth_job(rt: HostRuntime) -> Result<(), Fail> {
 
 #[test]
 fn statements(rt: HostRuntime) -> Result<(), Fail> {
-    let input =
-        b"memory 64 2\njob 1 2 3\nread 1+2\njob 0 0 4294967295\nissue 1\ngo\ntotals\nstep 1 2";
+    let input = b"memory 64 2\n\
+          job 1 2 3\n\
+          read 1+2\n\
+          job 0 0 4294967295\n\
+          issue 1\n\
+          go\n\
+          totals\n\
+          step 1 2";
     let RaceScript {
         before,
         jobs,

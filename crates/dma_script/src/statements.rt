@@ -9,11 +9,11 @@ use crate::arguments::{
 use crate::fault::{Cause, Fault, LineError, ScriptError};
 use crate::lines::{Script, read_script};
 use crate::plan::{TransferLine, transfer_numbers, transfer_of, transfer_words};
-use crate::words::is_text;
 use dma_mem::lists::{Bytes, Segments};
 use dma_mem::marks::MarkKind;
 use dma_mem::memory::MAX_SIZE;
 use dma_mem::segment::Segment;
+use dma_text::bytes::is_text;
 use std::alloc::{AllocError, Global};
 use std::marker::Model;
 
@@ -214,6 +214,7 @@ ghost use Rattle.std.specs.Option.{ForSome};
 ghost use Rattle.dma_script.specs.Lines.{Gives, LineGives, ScriptGives};
 ghost use Rattle.dma_script.specs.Statements.{channel_and_cookie, copy_line, count_of, first_line, IsWithin, keyword_of, later_line, mark_kind_of, mark_line, memory_line, next_line, read_line, result_line, run_script_of, status_line, step_line, submit_line, write_line};
 
+/// The command that a word is.
 pub(crate) fn keyword_in(word: &[u8]) -> Option<Keyword>
     ensures { result ≡ keyword_of word.now }
 {

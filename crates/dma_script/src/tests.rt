@@ -1,12 +1,9 @@
-//! What no clause says: the whole of a call over streams that fail, and that the grammar is the one that is meant.
-ghost use Rattle.std.specs.Prelude.{◌∷◌, []};
+//! The grammar of scripts, and the printed lines, are the ones that are meant.
 
-use crate::command::{Command, SUCCESS, serve};
-use crate::fakes::{FakeReader, FakeWriter};
 use crate::fault::{Cause, Fault, ScriptError};
-use crate::input::{InputError, LONGEST_INPUT, read_input};
+use crate::laws::{first_causes_are_told, first_faults_are_told};
 use crate::pairs::{PairsError, push_pairs_fault, read_pairs};
-use crate::plan::{PlanLine, read_plan};
+use crate::plan::{PlanLine, TransferLine, read_plan};
 use crate::printing::{
     push_address, push_bytes, push_decimal, push_fault, push_line, push_program,
 };
@@ -14,24 +11,6 @@ use crate::statements::{CopyLine, RunScript, Statement, read_run_script};
 use dma_mem::segment::Segment;
 use std::alloc::{AllocError, Global};
 use std::test::Fail;
-
-/// Prints its input as one line.
-#[derive(Drop)]
-struct Echo;
-
-impl Command for Echo {
-    ghost use Rattle.std.specs.Prelude.{[], ◌∷◌};
-    ghost use Rattle.std.proofs.Common.{lit<};
-
-    ghost printed = { λ input. record { groups = (input ∷ []) ∷ []; status = 0 } };
-
-    fn answer(&self, _alloc: Global, input: &[u8], out: &mut Vec<u8>) -> Result<u8, AllocError> {
-        push_line(out, input)?;
-        Ok(SUCCESS)
-    }
-
-    ghost some_group = { λ input. lit< tt };
-}
 
 /// The first fault of a script, if it has one.
 fn fault_of(alloc: Global, input: &[u8]) -> Result<Option<Fault>, AllocError> {
@@ -42,63 +21,9 @@ fn fault_of(alloc: Global, input: &[u8]) -> Result<Option<Fault>, AllocError> {
     }
 }
 
+/// A fault that is told.
 fn fault(line: usize, cause: Cause) -> Option<Fault> {
     Some(Fault { line, cause })
-}
-
-#[test]
-fn whole_calls(rt: HostRuntime) -> Result<(), Fail> {
-    // most bytes of a read, the read that fails, most bytes of a write, the write that fails, the one that takes none
-    let cases: [(usize, usize, usize, usize, usize, u8, &[u8]); 9] = [
-        (8192, 0, 8192, 0, 0, 0, b"abc\n"),
-        (1, 0, 1, 0, 0, 0, b"abc\n"),
-        (8192, 1, 8192, 0, 0, 1, b"input failed\n"),
-        (8192, 2, 8192, 0, 0, 1, b"input failed\n"),
-        (1, 3, 1, 0, 0, 1, b"input failed\n"),
-        (8192, 0, 8192, 1, 0, 1, b""),
-        (8192, 0, 8192, 0, 1, 1, b""),
-        (8192, 0, 1, 3, 0, 1, b"ab"),
-        (8192, 0, 1, 0, 4, 1, b"abc"),
-    ];
-    for (most_read, fails, most_written, fails_writing, takes_none, status, text) in cases {
-        assert!(rt; most_read > 0 && most_written > 0);
-        let mut reader = FakeReader::new(b"abc", most_read, fails);
-        let mut writer = FakeWriter::new(rt.alloc(), most_written, fails_writing, takes_none);
-        assert_eq!(rt; serve(&Echo, rt.alloc(), &mut reader, &mut writer), status);
-        assert_eq!(rt; writer.bytes.as_slice(), text);
-    }
-    Ok(())
-}
-
-#[test]
-fn longest_inputs(rt: HostRuntime) -> Result<(), Fail> {
-    let longest = vec![in rt.alloc(); b'#'; LONGEST_INPUT]?;
-    let mut reader = FakeReader::new(&longest, 1, 0);
-    let read = read_input(rt.alloc(), &mut reader);
-    assert!(rt; matches!(&read, Ok(input) if input.len() == LONGEST_INPUT));
-    assert_eq!(rt; reader.calls, 4_194_305);
-    assert_eq!(rt; fault_of(rt.alloc(), &longest)?, fault(0, Cause::First));
-
-    let too_long = vec![in rt.alloc(); b'#'; LONGEST_INPUT + 1]?;
-    let mut reader = FakeReader::new(&too_long, 1, 0);
-    assert!(rt;
-        matches!(
-            read_input(rt.alloc(), &mut reader),
-            Err(InputError::TooLong)
-        )
-    );
-    assert_eq!(rt; reader.calls, 4_194_305);
-
-    let mut writer = FakeWriter::new(rt.alloc(), 8192, 0, 0);
-    assert_eq!(rt;
-        serve(&Echo, rt.alloc(), &mut too_long.as_slice(), &mut writer),
-        1
-    );
-    assert_eq!(rt;
-        writer.bytes.as_slice(),
-        b"line 0: InputTooLong\n".as_slice()
-    );
-    Ok(())
 }
 
 #[test]
@@ -117,8 +42,15 @@ fn no_faults(rt: HostRuntime) -> Result<(), Fail> {
         b"memory 64 1\ncopy 1+2,3+4 to 5+6",
         b"memory 64 1\ncopy 0+0 to 0+0\n\n",
         b"memory 64 1\n #read\nread 0+1",
-        b"memory 64 1\nsubmit 255 1+2,3+4 to 5+6 wait 0xFF signal 255\nsubmit 0 0+0 to 0+0 signal 0",
-        b"memory 64 1\nissue 255\npause 255\nresume 255\nterminate 255\nraise 255",
+        b"memory 64 1\n\
+          submit 255 1+2,3+4 to 5+6 wait 0xFF signal 255\n\
+          submit 0 0+0 to 0+0 signal 0",
+        b"memory 64 1\n\
+          issue 255\n\
+          pause 255\n\
+          resume 255\n\
+          terminate 255\n\
+          raise 255",
         b"memory 64 1\nstep 255\nstep 255 1\nstep 0 1000000",
         b"memory 64 1\nstatus 255 4294967295\nresult 255 0\nmark write 4294967295+4294967295",
     ];
@@ -130,6 +62,8 @@ fn no_faults(rt: HostRuntime) -> Result<(), Fail> {
 
 #[test]
 fn causes_in_order(rt: HostRuntime) -> Result<(), Fail> {
+    first_causes_are_told();
+    first_faults_are_told();
     let cases: [(&[u8], usize, Cause); 20] = [
         // No line at all.
         (b"", 0, Cause::First),
@@ -279,7 +213,10 @@ fn faults_of_the_memory_line(rt: HostRuntime) -> Result<(), Fail> {
 
 #[test]
 fn statements(rt: HostRuntime) -> Result<(), Fail> {
-    let input = b"memory 64 1\nwrite 0x10 AA bbCC\ncopy 0x10+3 to 0x20+1,0x30+2\nread 0x1F+5";
+    let input = b"memory 64 1\n\
+          write 0x10 AA bbCC\n\
+          copy 0x10+3 to 0x20+1,0x30+2\n\
+          read 0x1F+5";
     let RunScript {
         size,
         channels,
@@ -442,13 +379,13 @@ fn pairs(rt: HostRuntime) -> Result<(), Fail> {
 #[test]
 fn plans(rt: HostRuntime) -> Result<(), Fail> {
     let input = b"# one\n\n0x1000+4 to 0x2000+4,5+6 wait 3 signal 0xFF\r\n# end";
-    let PlanLine {
-        line,
+    let PlanLine { line, transfer } = read_plan(rt.alloc(), input).ok().ok_or("a plan")?;
+    let TransferLine {
         src,
         dst,
         wait,
         signal,
-    } = read_plan(rt.alloc(), input).ok().ok_or("a plan")?;
+    } = transfer;
     assert_eq!(rt; (line, wait, signal), (3, Some(3), Some(255)));
     assert_eq!(rt;
         src.as_slice(),
@@ -475,7 +412,10 @@ fn plans(rt: HostRuntime) -> Result<(), Fail> {
         (b"1+1 to 2+1\tsignal 32".as_slice(), None, Some(32)),
     ] {
         let plan = read_plan(rt.alloc(), input).ok().ok_or("a plan")?;
-        assert_eq!(rt; (plan.line, plan.wait, plan.signal), (1, wait, signal));
+        assert_eq!(rt;
+            (plan.line, plan.transfer.wait, plan.transfer.signal),
+            (1, wait, signal)
+        );
     }
     Ok(())
 }

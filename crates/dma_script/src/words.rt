@@ -1,12 +1,11 @@
 //! The words of a line, and what a word spells.
-ghost use Rattle.std.specs.Prelude.{◌≡◌, ◌==◌, ◌∷◌, ◌++◌, ◌<◌, ◌≤◌, position, map, length, OnOk};
+ghost use Rattle.std.specs.Prelude.{◌≡◌, ◌∷◌, ◌++◌, ◌<◌, ◌≤◌, map, length, OnOk};
 ghost use Rattle.std.specs.List.{list_all};
-ghost use Rattle.std.specs.Str.{bytes_eq};
 ghost use Rattle.std.specs.Str.Lines.{lines, strip_carriage_return};
 ghost use Rattle.dma_script.specs.Words.{is_blank, is_plain, kept_part, segment_of, words_of, number_of, number_in};
 
 use dma_mem::segment::Segment;
-use memchr::memchr;
+use dma_text::bytes::position_of;
 use std::alloc::AllocError;
 
 /// The line less a carriage return at its end.
@@ -19,20 +18,6 @@ fn without_return(line: &[u8]) -> &[u8]
     }
 }
 
-/// Where the first byte of a kind stands.
-fn place_of(bytes: &[u8], byte: u8) -> Option<usize>
-    ensures { result ≡ position (λ b. b == byte) bytes.now }
-{
-    bytes.iter().position(|b| *b == byte)
-}
-
-/// Where the first line feed stands, looked for in many bytes at once.
-fn line_end(input: &[u8]) -> Option<usize>
-    ensures { result ≡ position (λ b. b == 10) input.now }
-{
-    memchr(b'\n', input)
-}
-
 /// The first line, without its line feed and a carriage return before that, and what follows it. A last line without a
 /// line feed keeps its carriage return.
 pub fn split_line(input: &[u8]) -> (&[u8], &[u8])
@@ -40,7 +25,7 @@ pub fn split_line(input: &[u8]) -> (&[u8], &[u8])
     ensures first { lines input.now ≡ result.0.now ∷ lines result.1.now }
     ensures shorter { length result.1.now < length input.now }
 {
-    match line_end(input) {
+    match position_of(b'\n', input) {
         Some(end) => (without_return(&input[..end]), &input[end + 1..]),
         None => (input, &[]),
     }
@@ -97,13 +82,6 @@ pub fn is_plain_line(line: &[u8]) -> bool
     plain
 }
 
-/// Whether a word is a text.
-pub fn is_text(word: &[u8], text: &[u8]) -> bool
-    ensures { result ≡ bytes_eq word.now text.now }
-{
-    word == text
-}
-
 /// The number that one or more digits of a base spell, where it is at most 4,294,967,295.
 fn number_in(digits: &[u8], radix: u32) -> Option<u32>
     requires low { 2 ≤ radix }
@@ -135,7 +113,7 @@ pub fn number(word: &[u8]) -> Option<u32>
 pub fn segment_in(word: &[u8]) -> Option<Segment>
     ensures { result ≡ segment_of word.now }
 {
-    let plus = place_of(word, b'+')?;
+    let plus = position_of(b'+', word)?;
     let addr = number(&word[..plus])?;
     let len = number(&word[plus + 1..])?;
     Some(Segment { addr, len })

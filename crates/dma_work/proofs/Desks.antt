@@ -13,18 +13,18 @@ use Rattle.dma_engine.specs.declared.call.Reply.TheVariants.{Cookie, Count, Turn
 use Rattle.dma_engine.specs.declared.fault.EngineFault.{EngineFault}
 use Rattle.dma_engine.specs.declared.turn.Turn.{Turn}
 use Rattle.dma_engine.specs.declared.turn.Turn.TheVariants.{Nothing, Held, Started, Moved, Waiting, Paused, Halted, Finished as TurnFinished}
-use Rattle.dma_engine.specs.Answer.{Answers, Steps, reply_of}
+use Rattle.dma_engine.specs.Answer.{CallAnswers, StepAnswers, reply_of}
 use Rattle.dma_engine.specs.Laws.{Adds, IsQuiet, steps_in, finishes_in, ticks_in}
-use Rattle.dma_engine.specs.Object.{channel, new_channel, finished, finished_all, used}
+use Rattle.dma_engine.specs.Object.{channel, empty_channel, finished, finished_all, used}
 use Rattle.dma_engine.specs.Ticks.{Tick, Submitted, Finished, Board, Counts, added_up, board_after, board_of, counts, counts_of, no_counts, ticked, ticks_of}
 use Rattle.dma_engine.specs.Turn.{ends, turn}
 use Rattle.dma_engine.specs.View.{EngineState, IsSound, View, channels, object_of}
-use Rattle.dma_engine.proofs.Chains.{answers-extend}
-use Rattle.dma_engine.proofs.Deeds.{quiet_calls_keep, steps_add, ends_as_told}
-use Rattle.dma_engine.proofs.Given.{boards_count, boards_open, submits_give, terminates_finish, ticks_are_few}
+use Rattle.dma_engine.proofs.CallLists.{answers-extend}
+use Rattle.dma_engine.proofs.AnswerCounts.{quiet_calls_keep, steps_add, ends_as_told}
+use Rattle.dma_engine.proofs.CookieCounts.{boards_count, boards_open, submits_give, terminates_finish, ticks_are_few}
 use Rattle.dma_work.specs.declared.totals.Totals.{Totals}
-use Rattle.dma_work.specs.Desk.{IsKept}
-use Rattle.dma_work.specs.Posted.{Posted, Publication, with_ticks}
+use Rattle.dma_work.specs.inner.DeskKept.{IsKept}
+use Rattle.dma_work.specs.inner.Posted.{Posted, Publication, with_ticks}
 use Rattle.dma_work.specs.Ticks.{AreFinished, IsGiven, base_of, board_from, eight}
 
 -- ---- what the type keeps, after a call
@@ -34,7 +34,7 @@ module _ (s f : ℕ) (base : Board) (log : Book) where
   posted ticks = record { base = base; ticks = ticks; log = log }
 
   -- a call that gives no cookie and finishes none
-  pub kept_quiet : (old new : EngineState) (p : Publication) (b : Totals) (call : Call) (reply : Reply) → IsQuiet call → Answers old.view call reply new.view → IsKept s f base log [] old p b → IsKept s f base log [] new p b
+  pub kept_quiet : (old new : EngineState) (p : Publication) (b : Totals) (call : Call) (reply : Reply) → IsQuiet call → CallAnswers old.view call reply new.view → IsKept s f base log [] old p b → IsKept s f base log [] new p b
   unfolding posted
   kept_quiet old new p b call reply q h k =
       let t = quiet_calls_keep old.view new.view call reply q h in
@@ -70,7 +70,7 @@ module _ (s f : ℕ) (base : Board) (log : Book) where
   }
 
   -- a step that ends nothing, which publishes nothing
-  pub kept_on : (old new : EngineState) (p : Publication) (b e : Totals) (ch : ℕ) (r : Result Turn EngineFault) → ends r ≡ false → Steps old.view ch r new.view → e.steps ≡ b.steps + steps_in r → e.finished + e.terminated ≡ b.finished + b.terminated → IsKept s f base log [] old p b → IsKept s f base log [] new p e
+  pub kept_on : (old new : EngineState) (p : Publication) (b e : Totals) (ch : ℕ) (r : Result Turn EngineFault) → ends r ≡ false → StepAnswers old.view ch r new.view → e.steps ≡ b.steps + steps_in r → e.finished + e.terminated ≡ b.finished + b.terminated → IsKept s f base log [] old p b → IsKept s f base log [] new p e
   unfolding posted
   kept_on old new p b e ch r on h steps done k =
       let a = steps_add old.view new.view ch r h in
@@ -102,7 +102,7 @@ module _ (s f : ℕ) (base : Board) (log : Book) where
 -- ---- steps
 
 -- a step that the turn doesn't end
-pub goes_on : (v w : View) (ch : ℕ) (r : Result Turn EngineFault) → ends (turn v ch).0 ≡ false → Steps v ch r w → ends r ≡ false
+pub goes_on : (v w : View) (ch : ℕ) (r : Result Turn EngineFault) → ends (turn v ch).0 ≡ false → StepAnswers v ch r w → ends r ≡ false
 goes_on v w ch r on h = elim (ends_as_told v w ch r h) [
   | inl starved ↦ ap ends starved
   | inr told ↦ told ∙ on
@@ -137,7 +137,7 @@ pub record Ended (v w : View) (ch : ℕ) (t : Turn) : Type 0 where
   pub one_step : steps_in (Ok t) ≡ 1
   pub one_finish : finishes_in (Ok t) ≡ 1
 
-pub ended : (v w : View) (ch : ℕ) (t : Turn) → ends (turn v ch).0 ≡ true → Steps v ch (Ok t) w → Ended v w ch t
+pub ended : (v w : View) (ch : ℕ) (t : Turn) → ends (turn v ch).0 ≡ true → StepAnswers v ch (Ok t) w → Ended v w ch t
 ended v w ch t over h =
     let is : ends (Ok t) ≡ true = elim (ends_as_told v w ch (Ok t) h) [ inl starved ↦ absurd (cc starved) | inr told ↦ told ∙ over ] in
     let a = steps_add v w ch (Ok t) h in
@@ -195,12 +195,12 @@ board_counts base v opens h ch less =
     ap (λ b. counts (board_from b (ticks_of v.history)) ch) opens
     ∙ boards-alike (eight (board_of v.base)) (board_of v.base) (ticks_of v.history) ch (omega (arith, less, o.1)) inside (counts-eight (board_of v.base) ch (omega (arith, less, o.1)))
     ∙ ap (λ b. counts b ch) (boards_count v h)
-    ∙ get_or-map counts_of (object_of v).channels ch new_channel
+    ∙ get_or-map counts_of (object_of v).channels ch empty_channel
 
 -- ---- what tickets tell
 
 -- in the list that is published then the cookie of a submit is given
-pub given_in : (base : Board) (v w : View) (ch cookie : ℕ) (t : Descriptor) (list : List Tick) → Answers v (Submit ch t) (Cookie cookie) w → IsSound w → base ≡ base_of w → list ≡ ticks_of w.history → IsGiven base list ch cookie
+pub given_in : (base : Board) (v w : View) (ch cookie : ℕ) (t : Descriptor) (list : List Tick) → CallAnswers v (Submit ch t) (Cookie cookie) w → IsSound w → base ≡ base_of w → list ≡ ticks_of w.history → IsGiven base list ch cookie
 given_in base v w ch cookie t list h sound opens is =
     let s = submits_give v w ch cookie t h in
     let at : (counts (board_from base list) ch).used ≡ used (channel (object_of w) ch) =
@@ -208,7 +208,7 @@ given_in base v w ch cookie t list h sound opens is =
     (s.2, omega (arith, at, s.3))
 
 -- and after a terminate all cookies of its channel are finished
-pub finished_in : (base : Board) (v w : View) (ch count through : ℕ) (list : List Tick) → Answers v (Terminate ch) (Count count) w → IsSound w → base ≡ base_of w → list ≡ ticks_of w.history → through ≡ used (channel (object_of w) ch) → AreFinished base list ch through
+pub finished_in : (base : Board) (v w : View) (ch count through : ℕ) (list : List Tick) → CallAnswers v (Terminate ch) (Count count) w → IsSound w → base ≡ base_of w → list ≡ ticks_of w.history → through ≡ used (channel (object_of w) ch) → AreFinished base list ch through
 finished_in base v w ch count through list h sound opens is all =
     let s = terminates_finish v w ch count h in
     let at = board_counts base w opens sound ch s.1 in

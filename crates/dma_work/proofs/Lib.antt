@@ -1,9 +1,9 @@
 -- Lemmas on beginnings of lists, on boards, on the log's step, on the rule of what is published and on how a list begins.
-pub mod Fronts
-pub mod Counting
-pub mod Adding
-pub mod Keeping
-pub mod Opening
+pub mod Beginnings
+pub mod Boards
+pub mod LogSteps
+pub mod PublishedRule
+pub mod FirstBoards
 pub mod Desks
-pub mod Rows
-pub mod Staying
+pub mod ItemsOfLists
+pub mod StatusLaws

@@ -1,5 +1,5 @@
 -- What contracts see of a desk.
-use Rattle.std.specs.Prelude.{◌≡◌, ℕ, ◌<◌, length, slice_index_or, ◌+◌, List, [], ◌++◌, Result}
+use Rattle.std.specs.Prelude.{◌≡◌, ℕ, ◌<◌, length, slice_index_or, ◌+◌, List, ◌++◌, Result}
 use Rattle.logbook.specs.Pages.{Book}
 use Rattle.dma_engine.specs.Laws.{steps_in, finishes_in}
 use Rattle.dma_engine.specs.Object.{finished_all}
@@ -9,8 +9,6 @@ use Rattle.dma_engine.specs.declared.fault.EngineFault.{EngineFault}
 use Rattle.dma_engine.specs.declared.turn.Turn.{Turn}
 use Rattle.dma_work.specs.declared.job.Job.{Job}
 use Rattle.dma_work.specs.declared.totals.Totals.{Totals}
-use Rattle.dma_work.specs.Posted.{Publication}
-use Rattle.dma_work.specs.Ticks.{base_of, board_from}
 
 -- The parts of a desk: an engine, the log of its published list, and the counts from which that list's board begins.
 pub record PartsState : Type 0 where
@@ -59,13 +57,3 @@ AreTallies tallies jobs =
 -- a tally after a step with this answer, refused or not
 abbrev pub counted : Result Turn EngineFault → TallyCounts → TallyCounts
 counted r t = record t { turns = t.turns + 1; steps = t.steps + steps_in r; finishes = t.finishes + finishes_in r }
-
--- What the type of a desk keeps, by the step count, the number of finished cookies, the base and the log that its name has:
--- what is published ends with the ticks of the history, and nothing is pending; what stands before them adds up to the counts
--- from which the history begins; and the book is the rise of step count and finished cookies.
-pub record IsKept (steps finished : ℕ) (base : Board) (log : Book) (before : List Tick) (engine : EngineState) (p : Publication) (book : Totals) : Type 0 where
-  pub shown : p.shown ≡ record { base = base; ticks = before ++ ticks_of engine.view.history; log = log }
-  pub pending : p.pending ≡ []
-  pub opens : board_from base before ≡ base_of engine.view
-  pub counted : steps + book.steps ≡ engine.view.steps
-  pub done : finished + (book.finished + book.terminated) ≡ finished_all (object_of engine.view)

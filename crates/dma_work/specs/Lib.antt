@@ -1,9 +1,6 @@
--- Published ticks and what they tell; the log behind them; the rule of what readers see; what contracts see of a desk.
+-- Published ticks and what they tell; what a reader knows of them; what contracts see of a desk; the laws of statuses.
 pub mod Ticks
-pub mod Log
-pub mod Posted
-pub mod Rule
 pub mod Known
 pub mod Desk
-pub mod Begun
 pub mod Laws
+pub mod inner

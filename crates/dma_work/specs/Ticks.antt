@@ -1,30 +1,9 @@
 -- Published ticks, and what they tell of a cookie.
-use Rattle.std.specs.Prelude.{ℕ, ◌<◌, ◌≤◌, Option, Some, None, List, [], ◌∷◌, replicate}
+use Rattle.std.specs.Prelude.{ℕ, ◌<◌, ◌≤◌, List, [], ◌∷◌}
 use mathlib.Core.List.{IsPrefix}
-use Rattle.dma_engine.specs.Ticks.{Tick, Submitted, Finished as TickFinished, Board, board_after, board_of, counts, no_counts, status_of}
+use Rattle.dma_engine.specs.Ticks.{Tick, Board, board_after, board_of, counts, status_of}
 use Rattle.dma_engine.specs.View.{View}
 use Rattle.dma_engine.specs.declared.turn.Status.{Status}
-use Rattle.dma_work.specs.declared.tick.Change.{Change}
-use Rattle.dma_work.specs.declared.tick.Change.TheVariants.{Given, Finished}
-
--- a channel and what happened on it, as a tick of the engine's history
-abbrev pub tick_of : ℕ → Change → Tick
-tick_of ch Given = Submitted ch
-tick_of ch (Finished count) = TickFinished ch count
-
--- and back
-abbrev pub channel_of : Tick → ℕ
-channel_of (Submitted ch) = ch
-channel_of (TickFinished ch count) = ch
-
-abbrev pub change_of : Tick → Change
-change_of (Submitted ch) = Given
-change_of (TickFinished ch count) = Finished count
-
--- a list of one tick, or of none
-abbrev pub those : Option Tick → List Tick
-those (Some t) = t ∷ []
-those None = []
 
 -- these ticks begin with those
 abbrev pub StartsWith : List Tick → List Tick → Type 0
@@ -55,7 +34,3 @@ IsGiven base ticks ch cookie = (0 < cookie) × (cookie ≤ (counts (board_from b
 abbrev pub AreFinished : Board → List Tick → ℕ → ℕ → Type 0
 AreFinished base ticks ch through =
     (through ≤ (counts (board_from base ticks) ch).used) × (through ≤ (counts (board_from base ticks) ch).finished)
-
--- the board of an engine that has given no cookie
-abbrev pub no_counts_yet : Board
-no_counts_yet = replicate 8 no_counts

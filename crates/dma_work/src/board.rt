@@ -1,7 +1,7 @@
 //! What is published: the counts that a list of ticks adds up to, with a token of that list.
 
 ghost use Rattle.std.specs.Prelude.{◌≡◌, ◌++◌, [], ◌∷◌, IsTrue};
-ghost use Rattle.dma_work.specs.Posted.{with_ticks};
+ghost use Rattle.dma_work.specs.inner.Posted.{with_ticks};
 ghost use Rattle.dma_work.specs.Ticks.{StartsWith, board_from, status_in};
 
 use crate::counts::Counts;
@@ -23,7 +23,7 @@ pub(crate) struct Board {
 
 impl Model for Board {
     ghost use Rattle.std.specs.Prelude.{◌≡◌};
-    ghost use Rattle.dma_work.specs.Posted.{Posted};
+    ghost use Rattle.dma_work.specs.inner.Posted.{Posted};
     ghost use Rattle.dma_work.specs.Ticks.{board_from};
 
     ghost Value = { Posted };
@@ -47,7 +47,7 @@ impl Board {
     }
 
     /// The board with one tick more, which follows all of the log.
-    #[tactic(auto, using(crate::proofs::Counting::board_push))]
+    #[tactic(auto, using(crate::proofs::Boards::board_push))]
     pub(crate) fn next(&self, front: &Front, tick: Tick) -> Board
         requires { (front.now.log ≡ self.now.log) × (front.now.ticks ≡ self.now.ticks) }
         ensures { result ≡ with_ticks self.now (tick ∷ []) }
@@ -98,6 +98,7 @@ impl Absorb<Board> for Board {
 
     ghost never_fails = { Unit {0} };
 
+    /// Becomes the board that is to be published.
     fn absorb_first(&mut self, operation: &Board, _other: &Board) -> Result<(), AllocError> {
         *self = operation.again();
         Ok(())

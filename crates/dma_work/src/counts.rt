@@ -58,7 +58,7 @@ impl Counts {
     }
 
     /// Adds a tick. A count stops at 4,294,967,295.
-    #[tactic(auto, using(crate::proofs::Counting::ticked_past))]
+    #[tactic(auto, using(crate::proofs::Boards::ticked_past))]
     pub(crate) fn add(&mut self, tick: Tick)
         ensures { self.new ≡ ticked self.old tick }
     {
@@ -81,7 +81,7 @@ impl Counts {
     }
 
     /// How far a cookie is.
-    #[tactic(auto, using(crate::proofs::Counting::status_past))]
+    #[tactic(auto, using(crate::proofs::Boards::status_past))]
     pub(crate) fn status(&self, ch: u8, cookie: u32) -> Status
         ensures { result ≡ status_of self.now ch cookie }
     {

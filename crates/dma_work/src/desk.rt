@@ -2,7 +2,7 @@
 
 ghost use Rattle.std.specs.Prelude.{◌≡◌, ◌+◌, ◌<◌, [], ◌∷◌, ◌++◌, IfOk, IfErr, IfSome, IsNone, is_none, OnOk, true};
 ghost use Rattle.dma_mem.specs.Rules.{IsTransfer};
-ghost use Rattle.dma_engine.specs.Answer.{Answers, Steps, checked, reply_of, submit_fault};
+ghost use Rattle.dma_engine.specs.Answer.{CallAnswers, StepAnswers, checked, reply_of, submit_fault};
 ghost use Rattle.dma_engine.specs.Object.{channel, finished_all, used};
 ghost use Rattle.dma_engine.specs.Turn.{ends, turn};
 ghost use Rattle.dma_engine.specs.View.{IsSound, memory_of, object_of};
@@ -27,10 +27,11 @@ mod tally;
 
 pub use tally::Tally;
 
-/// The value behind the lock: an engine, a book of what was done through the desk, and the writer of what status readers see.
+/// The value behind the lock: an engine, a book of what was done through the desk, and the writer of what status readers
+/// see.
 ///
-/// Its type keeps that what is published is the ticks of the engine's history, with none pending, and that the book is the rise
-/// of the engine's step count and finished cookies over those that N names.
+/// Its type keeps that what is published is the ticks of the engine's history, with none pending, and that the book is the
+/// rise of the engine's step count and finished cookies over those that N names.
 pub struct Desk<N: DeskName> {
     engine: Engine,
     publisher: Publisher,
@@ -40,7 +41,8 @@ pub struct Desk<N: DeskName> {
 
 impl<N: DeskName> Model for Desk<N> {
     ghost use Rattle.std.specs.Prelude.{[]};
-    ghost use Rattle.dma_work.specs.Desk.{DeskState, IsKept};
+    ghost use Rattle.dma_work.specs.Desk.{DeskState};
+    ghost use Rattle.dma_work.specs.inner.DeskKept.{IsKept};
 
     ghost Value = { DeskState };
 
@@ -68,8 +70,8 @@ impl<N: DeskName> Desk<N> {
         }
     }
 
-    /// The engine. Its view is sound, its memory is the history's image with running transfers laid over it, and the book is the
-    /// rise of its step count and finished cookies.
+    /// The engine. Its view is sound, its memory is the history's image with running transfers laid over it, and the book is
+    /// the rise of its step count and finished cookies.
     pub fn engine(&self) -> &Engine
         ensures engine { result.now ≡ self.now.engine }
         ensures counted { N.steps + self.now.book.steps ≡ self.now.engine.view.steps }
@@ -101,7 +103,7 @@ impl<N: DeskName> Desk<N> {
 
     /// As [`Engine::write`].
     pub fn write(&mut self, addr: u32, bytes: &[u8]) -> Result<(), EngineFault>
-        ensures answer { Answers self.old.engine.view (Call.Write addr bytes.now) (reply_of (λ _. Reply.Done) result) self.new.engine.view }
+        ensures answer { CallAnswers self.old.engine.view (Call.Write addr bytes.now) (reply_of (λ _. Reply.Done) result) self.new.engine.view }
         ensures book { SameBook self.old self.new }
     {
         self.engine.write(addr, bytes)
@@ -109,7 +111,7 @@ impl<N: DeskName> Desk<N> {
 
     /// As [`Engine::read`].
     pub fn read(&mut self, addr: u32, len: u32) -> Result<Bytes, EngineFault>
-        ensures answer { Answers self.old.engine.view (Call.Read addr len) (reply_of (λ bytes. Reply.Bytes bytes) result) self.new.engine.view }
+        ensures answer { CallAnswers self.old.engine.view (Call.Read addr len) (reply_of (λ bytes. Reply.Bytes bytes) result) self.new.engine.view }
         ensures book { SameBook self.old self.new }
     {
         self.engine.read(addr, len)
@@ -126,7 +128,7 @@ impl<N: DeskName> Desk<N> {
 
     /// As [`Engine::issue`].
     pub fn issue(&mut self, ch: u8) -> Result<u32, EngineFault>
-        ensures answer { Answers self.old.engine.view (Call.Issue ch) (reply_of (λ count. Reply.Count count) result) self.new.engine.view }
+        ensures answer { CallAnswers self.old.engine.view (Call.Issue ch) (reply_of (λ count. Reply.Count count) result) self.new.engine.view }
         ensures book { SameBook self.old self.new }
     {
         self.engine.issue(ch)
@@ -134,7 +136,7 @@ impl<N: DeskName> Desk<N> {
 
     /// As [`Engine::pause`].
     pub fn pause(&mut self, ch: u8) -> Result<(), EngineFault>
-        ensures answer { Answers self.old.engine.view (Call.Pause ch) (reply_of (λ _. Reply.Done) result) self.new.engine.view }
+        ensures answer { CallAnswers self.old.engine.view (Call.Pause ch) (reply_of (λ _. Reply.Done) result) self.new.engine.view }
         ensures book { SameBook self.old self.new }
     {
         self.engine.pause(ch)
@@ -142,7 +144,7 @@ impl<N: DeskName> Desk<N> {
 
     /// As [`Engine::resume`].
     pub fn resume(&mut self, ch: u8) -> Result<(), EngineFault>
-        ensures answer { Answers self.old.engine.view (Call.Resume ch) (reply_of (λ _. Reply.Done) result) self.new.engine.view }
+        ensures answer { CallAnswers self.old.engine.view (Call.Resume ch) (reply_of (λ _. Reply.Done) result) self.new.engine.view }
         ensures book { SameBook self.old self.new }
     {
         self.engine.resume(ch)
@@ -150,7 +152,7 @@ impl<N: DeskName> Desk<N> {
 
     /// As [`Engine::status`].
     pub fn status(&mut self, ch: u8, cookie: u32) -> Status
-        ensures answer { Answers self.old.engine.view (Call.Status ch cookie) (Reply.State result) self.new.engine.view }
+        ensures answer { CallAnswers self.old.engine.view (Call.Status ch cookie) (Reply.State result) self.new.engine.view }
         ensures same { self.new ≡ self.old }
     {
         self.engine.status(ch, cookie)
@@ -158,7 +160,7 @@ impl<N: DeskName> Desk<N> {
 
     /// As [`Engine::result`].
     pub fn result(&mut self, ch: u8, cookie: u32) -> Option<Outcome>
-        ensures answer { Answers self.old.engine.view (Call.Result ch cookie) (Reply.Result result) self.new.engine.view }
+        ensures answer { CallAnswers self.old.engine.view (Call.Result ch cookie) (Reply.Result result) self.new.engine.view }
         ensures same { self.new ≡ self.old }
     {
         self.engine.result(ch, cookie)
@@ -166,7 +168,7 @@ impl<N: DeskName> Desk<N> {
 
     /// As [`Engine::mark`].
     pub fn mark(&mut self, kind: MarkKind, segment: Segment) -> Result<(), EngineFault>
-        ensures answer { Answers self.old.engine.view (Call.Mark kind segment) (reply_of (λ _. Reply.Done) result) self.new.engine.view }
+        ensures answer { CallAnswers self.old.engine.view (Call.Mark kind segment) (reply_of (λ _. Reply.Done) result) self.new.engine.view }
         ensures book { SameBook self.old self.new }
     {
         self.engine.mark(kind, segment)
@@ -174,7 +176,7 @@ impl<N: DeskName> Desk<N> {
 
     /// As [`Engine::unmark`].
     pub fn unmark(&mut self) -> Result<(), EngineFault>
-        ensures answer { Answers self.old.engine.view Call.Unmark (reply_of (λ _. Reply.Done) result) self.new.engine.view }
+        ensures answer { CallAnswers self.old.engine.view Call.Unmark (reply_of (λ _. Reply.Done) result) self.new.engine.view }
         ensures book { SameBook self.old self.new }
     {
         self.engine.unmark()
@@ -182,7 +184,7 @@ impl<N: DeskName> Desk<N> {
 
     /// As [`Engine::raise`].
     pub fn raise(&mut self, event: u8) -> Result<(), EngineFault>
-        ensures answer { Answers self.old.engine.view (Call.Raise event) (reply_of (λ _. Reply.Done) result) self.new.engine.view }
+        ensures answer { CallAnswers self.old.engine.view (Call.Raise event) (reply_of (λ _. Reply.Done) result) self.new.engine.view }
         ensures book { SameBook self.old self.new }
     {
         self.engine.raise(event)
@@ -190,7 +192,7 @@ impl<N: DeskName> Desk<N> {
 
     // A step, unless it would end the front: then the answer is none, and nothing changes. It publishes nothing.
     fn step_on(&mut self, ch: u8) -> Option<Result<Turn, EngineFault>>
-        ensures answer { IfSome result (λ answer. Steps self.old.engine.view ch answer self.new.engine.view) }
+        ensures answer { IfSome result (λ answer. StepAnswers self.old.engine.view ch answer self.new.engine.view) }
         ensures book { IfSome result (λ answer. self.new.book ≡ stepped_book self.old.book answer) }
         ensures before { self.new.before ≡ self.old.before }
         ensures ends { is_none result ≡ ends (turn self.old.engine.view ch).0 }
@@ -210,7 +212,7 @@ impl<N: DeskName> Desk<N> {
     // A step that ends the front, or is refused memory. Its growths come first, so that a refusal changes nothing.
     fn step_to_end<R: Wait>(&mut self, rt: &R, ch: u8) -> Result<Turn, EngineFault>
         requires { ends (turn self.old.engine.view ch).0 ≡ true }
-        ensures answer { Steps self.old.engine.view ch result self.new.engine.view }
+        ensures answer { StepAnswers self.old.engine.view ch result self.new.engine.view }
         ensures book { self.new.book ≡ stepped_book self.old.book result }
         ensures before { self.new.before ≡ self.old.before }
     {
@@ -231,13 +233,13 @@ impl<N: DeskName> Desk<N> {
         Ok(turn)
     }
 
-    /// As [`Engine::step`], counted in the book and in the tally: one step for Moved and for Finished, one finish for Finished,
-    /// and one turn for each call. The tally's counts are below 2^64 - 1.
+    /// As [`Engine::step`], counted in the book and in the tally: one step for Moved and for Finished, one finish for
+    /// Finished, and one turn for each call. The tally's counts are below 2^64 - 1.
     ///
     /// Only a step that finishes a cookie publishes. A refusal changes nothing but the tally's turns.
     pub fn step<R: Wait>(&mut self, rt: &R, ch: u8, tally: &mut Tally) -> Result<Turn, EngineFault>
         requires { (tally.old.turns < 18446744073709551615) × (tally.old.steps < 18446744073709551615) × (tally.old.finishes < 18446744073709551615) }
-        ensures answer { Steps self.old.engine.view ch result self.new.engine.view }
+        ensures answer { StepAnswers self.old.engine.view ch result self.new.engine.view }
         ensures book { self.new.book ≡ stepped_book self.old.book result }
         ensures before { self.new.before ≡ self.old.before }
         ensures tally { tally.new ≡ counted result tally.old }
@@ -257,9 +259,9 @@ impl<N: DeskName> Desk<N> {
         ch: u8,
         transfer: Transfer,
     ) -> Result<Receipt<N>, SubmitFault>
-        ensures ok { IfOk result (λ r. (r.ch ≡ ch) × Answers self.old.engine.view (Call.Submit ch transfer) (Reply.Cookie r.cookie) self.new.engine.view) }
+        ensures ok { IfOk result (λ r. (r.ch ≡ ch) × CallAnswers self.old.engine.view (Call.Submit ch transfer) (Reply.Cookie r.cookie) self.new.engine.view) }
         ensures ticket { IfOk result (λ r. r.ticket ≡ published self.new) }
-        ensures err { IfErr result (λ f. Answers self.old.engine.view (Call.Submit ch transfer) (Reply.Refused f.fault) self.new.engine.view) }
+        ensures err { IfErr result (λ f. CallAnswers self.old.engine.view (Call.Submit ch transfer) (Reply.Refused f.fault) self.new.engine.view) }
         ensures back { IfErr result (λ f. f.transfer ≡ transfer) }
         ensures book { SameBook self.old self.new }
     {
@@ -282,13 +284,13 @@ impl<N: DeskName> Desk<N> {
         Ok(receipt(ch, cookie, Ticket::new(told)))
     }
 
-    /// As [`Engine::terminate`]. The answer has the number of cookies that were aborted, the last cookie given, and a ticket for
-    /// the published list, in which each cookie of the channel up to that one is finished.
+    /// As [`Engine::terminate`]. The answer has the number of cookies that were aborted, the last cookie given, and a ticket
+    /// for the published list, in which each cookie of the channel up to that one is finished.
     pub fn terminate<R: Wait>(&mut self, rt: &R, ch: u8) -> Result<Closed<N>, EngineFault>
-        ensures ok { IfOk result (λ r. (r.ch ≡ ch) × Answers self.old.engine.view (Call.Terminate ch) (Reply.Count r.count) self.new.engine.view) }
+        ensures ok { IfOk result (λ r. (r.ch ≡ ch) × CallAnswers self.old.engine.view (Call.Terminate ch) (Reply.Count r.count) self.new.engine.view) }
         ensures through { IfOk result (λ r. r.through ≡ used (channel (object_of self.new.engine.view) ch)) }
         ensures ticket { IfOk result (λ r. r.ticket ≡ published self.new) }
-        ensures err { IfErr result (λ fault. Answers self.old.engine.view (Call.Terminate ch) (Reply.Refused fault) self.new.engine.view) }
+        ensures err { IfErr result (λ fault. CallAnswers self.old.engine.view (Call.Terminate ch) (Reply.Refused fault) self.new.engine.view) }
         // what is terminated is counted apart
         ensures book { IfOk result (λ r. self.new.book ≡ record (self.old.book) { terminated = self.old.book.terminated + r.count }) }
         ensures same { IfErr result (λ _. self.new.book ≡ self.old.book) }

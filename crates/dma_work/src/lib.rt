@@ -1,5 +1,5 @@
-//! The running controller: a desk behind one lock, workers that step its channels, their tallies, and readers that ask how far
-//! a cookie is without the lock.
+//! The running controller: a desk behind one lock, workers that step its channels, their tallies, and readers that ask how
+//! far a cookie is without the lock.
 #![tactic(auto)]
 
 mod board;

@@ -1,7 +1,7 @@
 //! The log of ticks. A token of it has no bytes, can be kept, copied and compared, and outlives the lock.
 
 ghost use Rattle.std.specs.Prelude.{◌≡◌, ◌+◌, ◌<◌, [], ◌∷◌, ◌++◌, ◌≤◌, ◌↔◌, false, length, IsTrue};
-ghost use Rattle.dma_work.specs.Log.{head_of};
+ghost use Rattle.dma_work.specs.inner.Log.{head_of};
 ghost use Rattle.dma_work.specs.Ticks.{StartsWith};
 
 use crate::tick::Tick;
@@ -15,7 +15,7 @@ pub(crate) struct Law;
 impl Rule<Tick, u64> for Law {
     ghost use Rattle.std.specs.Prelude.{[]};
     ghost use base.Fml.{ftrue};
-    ghost use Rattle.dma_work.specs.Log.{IsKept};
+    ghost use Rattle.dma_work.specs.inner.Log.{IsKept};
 
     ghost holds = { λ cells ticks. IsKept cells ticks };
 
@@ -43,7 +43,7 @@ impl Gain<Tick, u64> for Nothing {
 struct Add;
 
 impl Play<Tick, u64> for Add {
-    ghost use Rattle.dma_work.specs.Log.{Adds};
+    ghost use Rattle.dma_work.specs.inner.Log.{Adds};
 
     ghost then = { Adds };
 }
@@ -65,7 +65,7 @@ pub(crate) struct Front {
 
 impl Model for Front {
     ghost use Rattle.std.specs.Prelude.{◌≡◌, length};
-    ghost use Rattle.dma_work.specs.Log.{Reached};
+    ghost use Rattle.dma_work.specs.inner.Log.{Reached};
 
     ghost Value = { Reached };
 
@@ -114,7 +114,7 @@ pub(crate) struct TickLog {
 
 impl Model for TickLog {
     ghost use Rattle.std.specs.Prelude.{◌≡◌};
-    ghost use Rattle.dma_work.specs.Log.{Reached, head_of};
+    ghost use Rattle.dma_work.specs.inner.Log.{Reached, head_of};
 
     ghost Value = { Reached };
 

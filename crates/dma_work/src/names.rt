@@ -2,8 +2,8 @@
 
 use std::marker::Brand;
 
-/// One published list of ticks: the log that stands for it and the counts from which its board begins. Beside it the step count
-/// and the number of finished cookies with which the desk began.
+/// One published list of ticks: the log that stands for it and the counts from which its board begins. Beside it the step
+/// count and the number of finished cookies with which the desk began.
 pub trait DeskName {
     ghost use Rattle.std.specs.Prelude.{ℕ};
     ghost use Rattle.logbook.specs.Pages.{Book};

@@ -4,9 +4,11 @@ ghost use Rattle.std.specs.Prelude.{◌≡◌, ◌≢◌, ◌<◌, ◌≤◌, �
 ghost use Rattle.std.specs.List.{All};
 ghost use Rattle.dma_engine.specs.Ticks.{ticks_of};
 ghost use Rattle.dma_work.specs.Laws.{AreCounts};
-ghost use Rattle.dma_work.specs.Known.{Known, known_by};
-ghost use Rattle.dma_work.specs.Posted.{reached};
-ghost use Rattle.dma_work.specs.Ticks.{base_of, board_from, no_counts_yet, those};
+ghost use Rattle.dma_work.specs.Known.{Known};
+ghost use Rattle.dma_work.specs.inner.Seen.{known_by};
+ghost use Rattle.dma_work.specs.inner.Posted.{reached};
+ghost use Rattle.dma_work.specs.Ticks.{base_of, board_from};
+ghost use Rattle.dma_work.specs.inner.TickForms.{no_counts_yet, those};
 
 use crate::counts::Counts;
 use crate::log::TickLog;
@@ -122,7 +124,7 @@ fn tick_of(entry: &Entry) -> Option<Tick>
 }
 
 // Records the tick of an entry, if it has one.
-#[tactic(auto, using(crate::proofs::Counting::board_push))]
+#[tactic(auto, using(crate::proofs::Boards::board_push))]
 fn record_one<R: Wait>(rt: &R, log: &mut TickLog, counts: &mut Counts, entry: &Entry)
     requires few { length log.old.ticks < 18446744073709551615 }
     requires counts { counts.old ≡ board_from no_counts_yet log.old.ticks }

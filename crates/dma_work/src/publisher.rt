@@ -2,8 +2,8 @@
 
 ghost use Rattle.std.specs.Prelude.{◌≡◌, ◌<◌, ◌≤◌, ◌^◌, [], ◌∷◌, Some, IfSome, IfOk, IsTrue, false, drop, length};
 ghost use Rattle.left_right.specs.Sides.{view};
-ghost use Rattle.dma_work.specs.Log.{Reached};
-ghost use Rattle.dma_work.specs.Posted.{Later, Publication, newest, reached, with_ticks};
+ghost use Rattle.dma_work.specs.inner.Log.{Reached};
+ghost use Rattle.dma_work.specs.inner.Posted.{Later, Publication, newest, reached, with_ticks};
 ghost use Rattle.dma_work.specs.Ticks.{board_from};
 
 use crate::board::Board;
@@ -44,13 +44,14 @@ pub(crate) struct Publisher {
 impl Model for Publisher {
     ghost use Rattle.std.specs.Prelude.{◌≡◌, Some, drop};
     ghost use Rattle.left_right.specs.Sides.{view as seen_by};
-    ghost use Rattle.dma_work.specs.Posted.{Publication, reached};
+    ghost use Rattle.dma_work.specs.inner.Posted.{Publication, reached};
 
     ghost Value = { Publication };
 
     ghost view = { λ p. record { shown = p.writer.desk.shown.value; pending = drop p.writer.behind p.writer.log.items } };
 
-    ghost invariant = { λ p. (p.log ≡ reached p.writer.desk.shown.value) × (seen_by p.writer.desk.place ≡ Some (p.writer.desk.shown.value)) };
+    ghost invariant = { λ p. (p.log ≡ reached p.writer.desk.shown.value)
+        × (seen_by p.writer.desk.place ≡ Some (p.writer.desk.shown.value)) };
 }
 
 // The same writer, with nothing pending.

@@ -2,8 +2,8 @@
 
 ghost use Rattle.std.specs.Prelude.{◌≡◌, ◌⊎◌, Some, IfSome};
 ghost use Rattle.left_right.specs.Sides.{view};
-ghost use Rattle.dma_work.specs.Known.{known_by, seen_list};
-ghost use Rattle.dma_work.specs.Posted.{Later};
+ghost use Rattle.dma_work.specs.inner.Seen.{known_by, seen_list};
+ghost use Rattle.dma_work.specs.inner.Posted.{Later};
 ghost use Rattle.dma_work.specs.Ticks.{StartsWith, status_in};
 
 use crate::names::DeskName;
@@ -13,7 +13,8 @@ use core::mem::replace_with;
 use dma_engine::Status;
 use std::marker::Model;
 
-/// It asks how far a cookie is and waits for nobody. Contracts see the ticks that it has seen, and those that it was told of.
+/// It asks how far a cookie is and waits for nobody. Contracts see the ticks that it has seen, and those that it was told
+/// of.
 #[derive(Drop)]
 pub struct StatusReader {
     reader: BoardReader,
@@ -23,7 +24,8 @@ pub struct StatusReader {
 impl Model for StatusReader {
     ghost use Rattle.std.specs.Prelude.{◌≡◌, Some};
     ghost use Rattle.left_right.specs.Sides.{view as seen_by};
-    ghost use Rattle.dma_work.specs.Known.{Known, known_by, seen_list};
+    ghost use Rattle.dma_work.specs.Known.{Known};
+    ghost use Rattle.dma_work.specs.inner.Seen.{known_by, seen_list};
 
     ghost Value = { Known };
 
@@ -77,8 +79,8 @@ impl StatusReader {
         self.longest.learn(ticket.into_told());
     }
 
-    /// How far a cookie is after some published ticks, which begin with all that this reader saw or learnt before, and which it
-    /// has then seen. None may come once the desk was ended, and comes at no other time (which tests show).
+    /// How far a cookie is after some published ticks, which begin with all that this reader saw or learnt before, and which
+    /// it has then seen. None may come once the desk was ended, and comes at no other time (which tests show).
     ///
     /// It waits for nobody and takes no memory.
     pub fn status(&mut self, ch: u8, cookie: u32) -> Option<Status>

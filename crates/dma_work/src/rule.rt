@@ -13,7 +13,7 @@ pub(crate) struct Published;
 
 impl Protocol<Board, View> for Published {
     ghost use Rattle.std.specs.Prelude.{None};
-    ghost use Rattle.dma_work.specs.Rule.{Keeps};
+    ghost use Rattle.dma_work.specs.inner.Rule.{Keeps};
 
     ghost holds = { Keeps };
 
@@ -24,7 +24,7 @@ impl Protocol<Board, View> for Published {
 pub(crate) struct Look;
 
 impl Outcome<Board, View> for Look {
-    ghost use Rattle.dma_work.specs.Rule.{Sees};
+    ghost use Rattle.dma_work.specs.inner.Rule.{Sees};
 
     ghost then = { Sees };
 }

@@ -13,7 +13,8 @@ use crate::totals::Totals;
 use dma_engine::Engine;
 use std::sync::{Mutex, Wait};
 
-/// A desk that threads share. Whoever gets the lock is lent the desk and uses its methods; what its type keeps holds each time.
+/// A desk that threads share. Whoever gets the lock is lent the desk and uses its methods; what its type keeps holds each
+/// time.
 ///
 /// End a guard by `MutexGuard::unlock` before anything that may leave the function, and hold one at a time.
 pub struct Shared<N: DeskName> {

@@ -25,6 +25,7 @@ use std::thread::Threads;
 
 // ---- what the tests begin with
 
+/// A transfer of four bytes.
 fn copy_of_four(alloc: Global, to: u32) -> Result<Transfer, Fail> {
     let src = [Segment {
         addr: 0x100,
@@ -339,6 +340,7 @@ fn through_gate<N: DeskName + Send + Sync, R: Threads + Wait + Sync, G: Gate>(
     })
 }
 
+/// A job on each of two channels.
 fn nine_turns_each() -> Result<[Job; 2], Fail> {
     let first = Job::new(0, 0, 9).ok_or("no job")?;
     let second = Job::new(1, 1, 9).ok_or("no job")?;
@@ -423,8 +425,8 @@ fn two_workers_share_two_channels(rt: HostRuntime) -> Result<(), Fail> {
 
 // ---- settling and closing
 
-// Runs two jobs and settles without the tally of the second: the totals where that is Ok, else the book that was found and how
-// many tallies came back.
+// Runs two jobs and settles without the tally of the second: the totals where that is Ok, else the book that was found and
+// how many tallies came back.
 fn without_the_second<N: DeskName + Send + Sync, R: Threads + Wait + Sync>(
     rt: &R,
     alloc: Global,

@@ -2,7 +2,7 @@
 
 ghost use Rattle.std.specs.Prelude.{◌≡◌};
 ghost use Rattle.dma_engine.specs.Ticks.{Submitted, Finished};
-ghost use Rattle.dma_work.specs.Ticks.{tick_of};
+ghost use Rattle.dma_work.specs.inner.TickForms.{tick_of};
 
 use std::marker::Model;
 
@@ -24,7 +24,7 @@ pub(crate) struct Tick {
 
 impl Model for Tick {
     ghost use Rattle.dma_engine.specs.Ticks.{Tick as EngineTick};
-    ghost use Rattle.dma_work.specs.Ticks.{tick_of, channel_of, change_of};
+    ghost use Rattle.dma_work.specs.inner.TickForms.{tick_of, channel_of, change_of};
 
     ghost Value = { EngineTick };
 

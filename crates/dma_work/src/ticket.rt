@@ -2,7 +2,7 @@
 
 ghost use Rattle.std.specs.Prelude.{◌≡◌, ◌⊎◌, ◌≤◌, [], ◌∷◌, ◌++◌, length, IsTrue};
 ghost use Rattle.dma_work.specs.Ticks.{StartsWith, IsGiven, AreFinished};
-ghost use Rattle.dma_work.specs.Log.{Reached};
+ghost use Rattle.dma_work.specs.inner.Log.{Reached};
 
 use crate::log::Front;
 use crate::names::DeskName;
@@ -18,8 +18,8 @@ pub(crate) struct Latest {
 
 impl Model for Latest {
     ghost use Rattle.std.specs.Prelude.{◌++◌};
-    ghost use Rattle.dma_work.specs.Log.{Reached};
-    ghost use Rattle.dma_work.specs.Ticks.{those};
+    ghost use Rattle.dma_work.specs.inner.Log.{Reached};
+    ghost use Rattle.dma_work.specs.inner.TickForms.{those};
 
     ghost Value = { Reached };
 
@@ -36,8 +36,8 @@ pub(crate) struct Told {
 
 impl Model for Told {
     ghost use Rattle.std.specs.Prelude.{◌≡◌, ◌++◌};
-    ghost use Rattle.dma_work.specs.Log.{Reached};
-    ghost use Rattle.dma_work.specs.Ticks.{those};
+    ghost use Rattle.dma_work.specs.inner.Log.{Reached};
+    ghost use Rattle.dma_work.specs.inner.TickForms.{those};
 
     ghost Value = { Reached };
 
@@ -76,7 +76,8 @@ pub struct Receipt<N: DeskName> {
     pub ghost used: { IsGiven N.base ticket ch cookie },
 }
 
-/// What an accepted terminate answers. In the ticket's list each cookie of the channel up to `through` is given and finished.
+/// What an accepted terminate answers. In the ticket's list each cookie of the channel up to `through` is given and
+/// finished.
 #[derive(Drop)]
 pub struct Closed<N: DeskName> {
     /// The channel.

@@ -2,7 +2,7 @@
 
 ghost use Rattle.std.specs.Prelude.{◌≡◌, ◌<◌, ◌≤◌, ℕ, IfOk, length, vec_capacity, vec_len};
 ghost use Rattle.dma_work.specs.Desk.{AreTallies};
-ghost use Rattle.dma_work.specs.Begun.{IsBegun, IsOf, IsOwed};
+ghost use Rattle.dma_work.specs.inner.Begun.{IsBegun, IsOf, IsOwed};
 
 use crate::desk::Tally;
 use crate::job::Job;
@@ -26,11 +26,12 @@ pub trait Gate: Sync {
 pub struct NoGate;
 
 impl Gate for NoGate {
+    /// Goes on at once.
     fn turn<R: Wait>(&self, _rt: &R, _worker: u32, _n: u64) {}
 }
 
-/// Takes the job's turns: in each it passes the gate, then takes the lock and steps one channel, the job's channels in rotation
-/// from the first (profile). A refused step changes nothing but the tally's turns.
+/// Takes the job's turns: in each it passes the gate, then takes the lock and steps one channel, the job's channels in
+/// rotation from the first (profile). A refused step changes nothing but the tally's turns.
 pub fn work<N: DeskName, R: Wait, G: Gate>(
     rt: &R,
     shared: &Shared<N>,
@@ -158,8 +159,9 @@ fn in_scope<'s, E, N: DeskName + Send + Sync, R: Threads + Wait + Sync, G: Gate>
     tallies
 }
 
-/// Runs each job in a thread of its own, with worker numbers from 0, and answers the tallies in the order of the jobs. Where a
-/// thread can't be had, its job is done on the calling thread after the others were started. There are fewer than 2^32 jobs.
+/// Runs each job in a thread of its own, with worker numbers from 0, and answers the tallies in the order of the jobs. Where
+/// a thread can't be had, its job is done on the calling thread after the others were started. There are fewer than 2^32
+/// jobs.
 ///
 /// The error comes where memory is refused; then no job has begun.
 pub fn run_workers<N: DeskName + Send + Sync, R: Threads + Wait + Sync, G: Gate>(

@@ -12,11 +12,11 @@ use Rattle.dma_engine.specs.declared.fault.EngineFault.TheVariants.{NoMemory}
 use Rattle.dma_engine.specs.declared.turn.Turn.{Turn}
 use Rattle.dma_engine.specs.declared.turn.Turn.TheVariants.{Moved}
 use Rattle.dma_engine.specs.Advance.{IsAdvance, last_call, last_reply}
-use Rattle.dma_engine.specs.Answer.{AreAnswers, Answers, answer, answers, reply_of}
+use Rattle.dma_engine.specs.Answer.{AreAnswers, CallAnswers, answer, answers, reply_of}
 use Rattle.dma_engine.specs.View.{View}
 use Rattle.dmasim.specs.Printed.{reply_text}
 use Rattle.dma_engine.specs.Room.{IsIdle}
-use Rattle.dma_engine.proofs.Idle.{idle_steps_stay}
+use Rattle.dma_engine.proofs.IdleSteps.{idle_steps_stay}
 use Rattle.dmasim.proofs.Served.{AreServed, answers-append, served-all, served-one}
 
 -- ---- an idle answer comes again
@@ -76,7 +76,7 @@ last-answer v w ch told last reply h some is =
     let parts = parted (Step ch) (Turned Moved) n v w (Step ch ∷ []) (reply_of Turned last ∷ []) all in
     let u = parts.0 in
     let one = parts.2 in
-    let answer-is : Answers u (Step ch) reply w = subst (λ (r : Reply). Answers u (Step ch) r w) (sym is.0) (subst (λ (x : View). Answers u (Step ch) (reply_of Turned last) x) (sym one.2) one.1) in
+    let answer-is : CallAnswers u (Step ch) reply w = subst (λ (r : Reply). CallAnswers u (Step ch) r w) (sym is.0) (subst (λ (x : View). CallAnswers u (Step ch) (reply_of Turned last) x) (sym one.2) one.1) in
     (u, parts.1, served-one u (Step ch) reply w is.1 answer-is)
 
 -- and the answers of all, where the last comes so many times

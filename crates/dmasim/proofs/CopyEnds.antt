@@ -9,10 +9,11 @@ use Rattle.dma_mem.specs.Places.{Descriptor, lies_below}
 use Rattle.dma_mem.specs.Rules.{IsTransfer}
 use Rattle.dma_mem.specs.declared.marks.MarkKind.TheVariants.{Reading, Writing}
 use Rattle.dma_chan.specs.Compiled.{members, cost}
-use Rattle.dma_chan.specs.Layer.{HasShape, meets_mark}
+use Rattle.dma_chan.specs.Layer.{HasShape}
+use Rattle.dma_mem.specs.Marking.{meets_mark}
 use Rattle.dma_chan.specs.Traffic.{member, read_places, written_places}
-use Rattle.dma_chan.proofs.Counted.{cost_is}
-use Rattle.dma_chan.proofs.Shape.{shape_is}
+use Rattle.dma_chan.proofs.TreeCosts.{cost_is}
+use Rattle.dma_chan.proofs.ShapeLaws.{shape_is}
 use Rattle.dma_engine.specs.declared.call.Call.TheVariants as calls
 use Rattle.dma_engine.specs.declared.call.Reply.{Reply}
 use Rattle.dma_engine.specs.declared.call.Reply.TheVariants.{Turned, Cookie, Count}
@@ -20,14 +21,13 @@ use Rattle.dma_engine.specs.declared.entry.Entry.{Entry}
 use Rattle.dma_engine.specs.declared.entry.Entry.TheVariants.{Passed, Signalled, Submitted, Issued}
 use Rattle.dma_engine.specs.declared.entry.Signaller.TheVariants.{Channel}
 use Rattle.dma_engine.specs.declared.fault.EngineFault.TheVariants.{NoChannel, OutOfMemoryRange, CookiesSpent}
-use Rattle.dma_engine.specs.Object.{Object, ChannelState, after, channel, finished, used, new_channel, issued_front, is_set, unfinished, last_cookie, with_channel, with_flag, with_transfer}
+use Rattle.dma_engine.specs.Object.{Object, ChannelState, after, channel, finished, used, empty_channel, issued_front, is_set, unfinished, last_cookie, with_channel, with_flag, with_transfer}
 use Rattle.dma_engine.specs.View.{View, RunningTransfer, channels, idle, object_of, schedule_at, size}
 use Rattle.dma_engine.specs.Turn.{Stepped, front_turn, in_the_way, insn_turn, last_step, moves_on, start_turn, turn, with_entry, with_taken}
 use Rattle.dma_engine.specs.Answer.{answer, cause, reply_of, unless}
 use Rattle.dma_engine.proofs.Boards.{with_channel-at}
 use Rattle.dma_engine.proofs.Histories.{object_after-append}
-use Rattle.dmasim.specs.declared.copies.TheConstants.{MOST_STEPS}
-use Rattle.dmasim.specs.Run.{CopiesEnd, goes_on, is_in_use, stepped_through}
+use Rattle.dmasim.specs.Run.{most_steps, CopiesEnd, goes_on, is_in_use, stepped_through}
 
 -- ---- a view in which channel 0 runs a transfer
 
@@ -255,12 +255,12 @@ many-after v t =
 channel-submitted : (v : View) (t : Descriptor) → 0 < channels v → channel (object_of (with_submitted v t)) 0 ≡ with_transfer (channel (object_of v) 0) t
 channel-submitted v t some =
     let o = object_of v in
-    ap (λ o. channel o 0) (entry-is v (Submitted 0 t (used (channel o 0) + 1))) ∙ get_or-set_same o.channels 0 (with_transfer (channel o 0) t) new_channel some
+    ap (λ o. channel o 0) (entry-is v (Submitted 0 t (used (channel o 0) + 1))) ∙ get_or-set_same o.channels 0 (with_transfer (channel o 0) t) empty_channel some
 
 channel-issued : (v : View) → 0 < channels v → channel (object_of (with_entry v (Issued 0))) 0 ≡ all_issued (channel (object_of v) 0)
 channel-issued v some =
     let o = object_of v in
-    ap (λ o. channel o 0) (entry-is v (Issued 0)) ∙ get_or-set_same o.channels 0 (all_issued (channel o 0)) new_channel some
+    ap (λ o. channel o 0) (entry-is v (Issued 0)) ∙ get_or-set_same o.channels 0 (all_issued (channel o 0)) empty_channel some
 
 issue-after : (v : View) → 0 < channels v → (answer v (calls.Issue 0)).1 ≡ with_entry v (Issued 0)
 issue-after v some =
@@ -268,7 +268,7 @@ issue-after v some =
     ap (λ b. (unless (cause b NoChannel None) v (Count (used c - c.issued), with_entry v (Issued 0))).1) (lt-leb (channels v) 0 some)
 
 -- The bound is wide enough. Nothing above names it, so that no number of its size is unfolded.
-within : (t : Descriptor) → IsTransfer t → cost t ≤ MOST_STEPS
+within : (t : Descriptor) → IsTransfer t → cost t ≤ most_steps
 within t rules = omega (arith, cost_is t rules)
 
 -- what was submitted and issued ends
@@ -291,5 +291,5 @@ copies_end v t cookie w sound rules free submit =
     let took = accepted (nat_le (channels v) 0) (not (lies_below t (size v))) (nat_le last_cookie (used c)) v (with_submitted v t) w (used c + 1) cookie submit in
     let some : 0 < channels v = leb-false (channels v) 0 took.0 in
     let there : 0 < length v.schedule = omega (arith, some, sound.fits.many) in
-    let ends = issued-ends MOST_STEPS v t rules there some (free-none v free) (within t rules) in
-    subst (λ u. Ends MOST_STEPS (answer u (calls.Issue 0)).1) took.1 ends
+    let ends = issued-ends most_steps v t rules there some (free-none v free) (within t rules) in
+    subst (λ u. Ends most_steps (answer u (calls.Issue 0)).1) took.1 ends

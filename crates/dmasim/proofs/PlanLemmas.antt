@@ -4,7 +4,7 @@ use Rattle.std.proofs.Math.Nat.{zero-lt-suc}
 use Rattle.std.specs.Prelude.{unwrap_or}
 use Rattle.dma_mem.specs.declared.transfer.TransferFault.{TransferFault}
 use Rattle.dma_mem.specs.declared.transfer.TransferFault.TheVariants.{NoMemory}
-use Rattle.dma_mem.specs.Rules.{refusal_of}
+use Rattle.dma_mem.specs.Refusals.{refusal_of}
 use Rattle.dma_script.specs.Command.{refusal}
 use Rattle.dma_script.specs.declared.fault.Fault.{Fault}
 use Rattle.dma_script.specs.declared.plan.PlanLine.{PlanLine}

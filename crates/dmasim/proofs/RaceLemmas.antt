@@ -8,13 +8,13 @@ use Rattle.std.specs.Prelude.{MatchOption}
 use Rattle.dma_mem.specs.declared.transfer.TransferFault.{TransferFault}
 use Rattle.dma_mem.specs.declared.transfer.TransferFault.TheVariants as transfers
 use Rattle.dma_script.specs.declared.plan.TransferLine.{TransferLine}
-use Rattle.dma_mem.specs.Rules.{refusal_of}
+use Rattle.dma_mem.specs.Refusals.{refusal_of}
 use Rattle.dma_engine.specs.declared.call.Call.{Call}
 use Rattle.dma_engine.specs.declared.call.Call.TheVariants as calls
 use Rattle.dma_engine.specs.declared.call.Reply.{Reply}
 use Rattle.dma_engine.specs.declared.call.Reply.TheVariants.{Refused}
 use Rattle.dma_engine.specs.declared.fault.EngineFault.TheVariants.{NoMemory}
-use Rattle.dma_engine.specs.Answer.{Answers, answer}
+use Rattle.dma_engine.specs.Answer.{CallAnswers, answer}
 use Rattle.dma_engine.specs.View.{View, new_view}
 use Rattle.dma_script.specs.Command.{AppendsGroups, MayAppend, MayComplete, printed_text, refusal, text_of}
 use Rattle.dma_script.specs.Printing.{fault_line}
@@ -25,22 +25,23 @@ use Rattle.dma_script.specs.declared.statements.Statement.{Statement}
 use Rattle.dma_script.specs.declared.statements.Statement.TheVariants.{Write, Read, Copy, Submit, Issue, Pause, Resume, Terminate, Step, Status, Result as Outcome, Mark, Unmark, Raise, Totals}
 use Rattle.dmasim.specs.Printed.{call_line, refused_line, transfer_fault_name}
 use Rattle.dmasim.specs.Run.{Answered, call_answer, lines_answered, submitted, unless_unfit}
-use Rattle.dmasim.specs.Race.{EachPrints, EarlyPrints, PrintsAll, PrintsCall, PrintsEarly, PrintsFirst, PrintsGo, PrintsMissing, PrintsRefusal, PrintsTotals, RacePrints, alone, go_line, race_may_print, race_prints_of, missing_tally, no_reader, raced_refused, raced_whole, whole}
+use Rattle.dmasim.specs.Race.{EachPrints, EarlyPrints, RacePrints, alone, go_line, race_may_print, race_prints_of, missing_tally, no_reader, raced_refused, raced_whole, whole}
+use Rattle.dmasim.specs.inner.RaceSteps.{PrintsAll, PrintsCall, PrintsEarly, PrintsFirst, PrintsGo, PrintsMissing, PrintsRefusal, PrintsTotals}
 use Rattle.dmasim.proofs.RunLemmas.{printed_text-append}
 use Rattle.dmasim.proofs.Served.{served-one}
 
 -- ---- one line
 
 -- A call that was answered through the desk, and was not refused memory, printed its line.
-pub told_so : (call : Call) (reply : Reply) (v w : View) (old new : List ℕ) → Answers v call reply w → (reply ≢ Refused NoMemory) × (new ≡ old ++ text_of (call_line call reply ∷ [])) → PrintsCall call old new
+pub told_so : (call : Call) (reply : Reply) (v w : View) (old new : List ℕ) → CallAnswers v call reply w → (reply ≢ Refused NoMemory) × (new ≡ old ++ text_of (call_line call reply ∷ [])) → PrintsCall call old new
 told_so call reply v w old new is prints =
     let same : (reply, w) ≡ answer v call = served-one v call reply w prints.0 is in
     record { view = v; line = call_line call reply; told = ap (λ (a : Reply × View). call_line call a.0 ∷ []) (sym same); text = prints.1 }
 
 -- The same by the text that was printed.
-pub early_call : (s : Statement) (call : Call) → ((v : View) (line : List ℕ) → (call_answer v call).0 ≡ line ∷ [] → EarlyPrints s line) → (reply reply' : Reply) (v w : View) (old new : List ℕ) → reply' ≡ reply → Answers v call reply w → (reply' ≢ Refused NoMemory) × (new ≡ old ++ text_of (call_line call reply' ∷ [])) → PrintsEarly s old new
+pub early_call : (s : Statement) (call : Call) → ((v : View) (line : List ℕ) → (call_answer v call).0 ≡ line ∷ [] → EarlyPrints s line) → (reply reply' : Reply) (v w : View) (old new : List ℕ) → reply' ≡ reply → CallAnswers v call reply w → (reply' ≢ Refused NoMemory) × (new ≡ old ++ text_of (call_line call reply' ∷ [])) → PrintsEarly s old new
 early_call s call is_line reply reply' v w old new same is prints =
-    let one = told_so call reply' v w old new (subst (λ r. Answers v call r w) (sym same) is) prints in
+    let one = told_so call reply' v w old new (subst (λ r. CallAnswers v call r w) (sym same) is) prints in
     record { line = one.line; allowed = is_line one.view one.line one.told; text = one.text }
 
 -- a line to print to the view of some new engine

@@ -1,11 +1,10 @@
 -- What the lines of a script print and leave.
 use Rattle.std.proofs.Common.{◌≡◌, ◌≢◌, ℕ, ◌+◌, ◌<◌, ◌≤◌, Bool, true, false, if◌then◌else◌, codes, zero, List, [], ◌∷◌, ◌++◌, length, Option, Some, None, refl, ap, sym, subst, ◌∙◌, take, drop, get_or, suc, add-one, append_assoc, arith}
 use Rattle.std.proofs.Math.Seq.{take-add, drop-cons}
-use Rattle.std.proofs.lemmas.List.{append-nil, drop-drop}
+use Rattle.std.proofs.lemmas.List.{append-nil, drop-drop, length-append}
 use Rattle.std.proofs.lemmas.List.Concat.{flat_map-append}
 use Rattle.std.specs.Prelude.{is_some}
 use Rattle.std.specs.List.{filter_map, range_with_len, cons_option}
-use Rattle.std.proofs.lemmas.List.{length-append}
 use Rattle.std.proofs.lemmas.List.Elements.{filter_map-append}
 use Rattle.dma_mem.specs.Places.{Descriptor}
 use Rattle.dma_engine.specs.declared.call.Call.TheVariants.{Submit}
@@ -19,7 +18,8 @@ use Rattle.dma_engine.specs.View.{View, ChannelSchedule, running, runs}
 use Rattle.dma_script.specs.Command.{text_of, printed_text, AppendsGroups}
 use Rattle.dma_script.specs.declared.statements.Statement.{Statement}
 use Rattle.dmasim.specs.Printed.{transfer_fault_name, refused_line}
-use Rattle.dmasim.specs.Run.{Answered, AnswersLine, copied, copied_after, is_in_use, told, unless_unfit, line_answer, lines_answered}
+use Rattle.dmasim.specs.Run.{Answered, copied, copied_after, is_in_use, told, unless_unfit, line_answer, lines_answered}
+use Rattle.dmasim.specs.inner.RunSteps.{AnswersLine}
 
 -- ---- a transfer's rules
 

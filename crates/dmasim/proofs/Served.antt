@@ -6,7 +6,7 @@ use Rattle.dma_engine.specs.declared.call.Reply.TheVariants.{Done, Bytes, Cookie
 use Rattle.dma_engine.specs.declared.fault.EngineFault.{EngineFault}
 use Rattle.dma_engine.specs.declared.fault.EngineFault.TheVariants.{OutOfMemoryRange, Busy, NoChannel, CookiesSpent, StepsSpent, BadEvent, BadRange, NoMemory}
 use Rattle.dma_engine.specs.View.{View}
-use Rattle.dma_engine.specs.Answer.{Answers, AreAnswers, answer, answers}
+use Rattle.dma_engine.specs.Answer.{CallAnswers, AreAnswers, answer, answers}
 
 -- no reply is want of memory
 abbrev pub AreServed : List Reply → Type 0
@@ -14,7 +14,7 @@ AreServed [] = Unit {0}
 AreServed (reply ∷ rest) = (reply ≢ Refused NoMemory) × AreServed rest
 
 -- a reply that isn't want of memory is the answer
-pub served-one : (v : View) (call : Call) (reply : Reply) (w : View) → reply ≢ Refused NoMemory → Answers v call reply w → (reply, w) ≡ answer v call
+pub served-one : (v : View) (call : Call) (reply : Reply) (w : View) → reply ≢ Refused NoMemory → CallAnswers v call reply w → (reply, w) ≡ answer v call
 served-one v call Done w served is = is
 served-one v call (Bytes bytes) w served is = is
 served-one v call (Cookie cookie) w served is = is

@@ -11,7 +11,7 @@ use Rattle.dma_engine.specs.declared.call.Reply.{Reply}
 use Rattle.dma_engine.specs.View.{View}
 use Rattle.dma_engine.specs.Answer.{answers}
 use Rattle.dmasim.specs.Printed.{reply_text}
-use Rattle.dmasim.specs.Counting.{text_with}
+use Rattle.dmasim.specs.inner.Counting.{text_with}
 use Rattle.dmasim.specs.Run.{joined, runs_of, step_line, step_lines}
 use Rattle.dmasim.proofs.Served.{answers-append}
 

@@ -15,7 +15,8 @@ with_line line (Ok lines) = Ok (line ∷ lines)
 with_line line (Err fault) = Err fault
 
 -- the line of an instruction of so many bytes and what follows it, or its fault at its offset
-abbrev pub first_line : ℕ → Decoded → (ℕ → Result (List (List ℕ)) (ℕ × DecodeFault)) → Result (List (List ℕ)) (ℕ × DecodeFault)
+abbrev pub first_line :
+    ℕ → Decoded → (ℕ → Result (List (List ℕ)) (ℕ × DecodeFault)) → Result (List (List ℕ)) (ℕ × DecodeFault)
 first_line offset (Ok found) more = with_line (insn_text found.0) (more found.1)
 first_line offset (Err fault) more = Err (offset, fault)
 
@@ -24,12 +25,14 @@ first_line offset (Err fault) more = Err (offset, fault)
 abbrev pub lines_from : ℕ → ℕ → List ℕ → Result (List (List ℕ)) (ℕ × DecodeFault)
 lines_from offset skipped [] = Ok []
 lines_from offset (suc skipped) (byte ∷ rest) = lines_from (offset + 1) skipped rest
-lines_from offset zero (byte ∷ rest) = first_line offset (decoded (byte ∷ rest)) (λ count. lines_from (offset + 1) (count - 1) rest)
+lines_from offset zero (byte ∷ rest) =
+    first_line offset (decoded (byte ∷ rest)) (λ count. lines_from (offset + 1) (count - 1) rest)
 
 -- the line of a fault
 abbrev pub decode_fault_line : ℕ → DecodeFault → List ℕ
 decode_fault_line offset Cut = concat (codes "offset " ∷ decimal offset ∷ codes ": Cut" ∷ [])
-decode_fault_line offset (Unknown byte) = concat (codes "offset " ∷ decimal offset ∷ codes ": Unknown " ∷ []) ++ hex_byte_of byte
+decode_fault_line offset (Unknown byte) =
+    concat (codes "offset " ∷ decimal offset ∷ codes ": Unknown " ∷ []) ++ hex_byte_of byte
 decode_fault_line offset BadField = concat (codes "offset " ∷ decimal offset ∷ codes ": BadField" ∷ [])
 
 -- what is printed for the bytes
@@ -54,5 +57,6 @@ pub record DisPrints : Type 0 where
       → ((text : List ℕ) × Disassembles bytes text) ⊎ ((offset : ℕ) × (fault : DecodeFault) × StopsAt bytes offset fault)
   pub text : (input bytes text : List ℕ) → pairs_of input ≡ Ok bytes → Disassembles bytes text
       → (lines : List (List ℕ)) × (dis_printed input ≡ record { groups = lines ∷ []; status = 0 }) × (text_of lines ≡ text)
-  pub fault : (input bytes : List ℕ) (offset : ℕ) (fault : DecodeFault) → pairs_of input ≡ Ok bytes → StopsAt bytes offset fault
+  pub fault : (input bytes : List ℕ) (offset : ℕ) (fault : DecodeFault) → pairs_of input ≡ Ok bytes
+      → StopsAt bytes offset fault
       → dis_printed input ≡ refusal (decode_fault_line offset fault)

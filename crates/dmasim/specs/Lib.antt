@@ -1,8 +1,9 @@
--- What the program prints for an input.
+-- What the program prints for an input, and which command its words name.
 pub mod Printed
 pub mod Run
 pub mod Race
-pub mod Counting
 pub mod Assembled
 pub mod Disassembled
 pub mod Planned
+pub mod CommandLine
+pub mod inner

@@ -1,13 +1,12 @@
 -- What the program may print for a race script (profile). The workers take their turns in any order, so the input alone does
 -- not settle it. What it does settle: how many lines there are, and of each what it may be.
-use Rattle.std.specs.Prelude.{◌≡◌, ℕ, ◌≤◌, ◌⊎◌, List, [], ◌∷◌, ◌++◌, map, take, length, Result, Ok, Err, codes, decimal}
-use Rattle.dma_engine.specs.declared.call.Call.{Call}
+use Rattle.std.specs.Prelude.{◌≡◌, ℕ, ◌≤◌, ◌⊎◌, List, [], ◌∷◌, ◌++◌, map, Result, Ok, Err, codes, decimal}
 use Rattle.dma_engine.specs.declared.call.Call.TheVariants as calls
 use Rattle.dma_engine.specs.declared.call.Reply.TheVariants.{State}
 use Rattle.dma_engine.specs.declared.turn.Status.{Status as EngineStatus}
 use Rattle.dma_engine.specs.Object.{finished_all}
 use Rattle.dma_engine.specs.View.{View, IsSound, object_of}
-use Rattle.dma_script.specs.Command.{Printed, printed_text, refusal, text_of}
+use Rattle.dma_script.specs.Command.{Printed, refusal}
 use Rattle.dma_script.specs.Printing.{fault_line}
 use Rattle.dma_script.specs.Race.{race_script_of}
 use Rattle.dma_script.specs.declared.fault.Fault.{Fault}
@@ -15,11 +14,12 @@ use Rattle.dma_script.specs.declared.race.RaceScript.{RaceScript}
 use Rattle.dma_script.specs.declared.statements.Statement.{Statement}
 use Rattle.dma_script.specs.declared.statements.Statement.TheVariants.{Status}
 use Rattle.dmasim.specs.Printed.{call_line, refused_line}
-use Rattle.dmasim.specs.Run.{call_answer, line_answer, lines_answered}
+use Rattle.dmasim.specs.Run.{line_answer, lines_answered}
 
 -- A status is told by a reader that asks nobody: `status none`, or the line of some status.
 abbrev pub StatusPrints : ℕ → ℕ → List ℕ → Type 0
-StatusPrints ch cookie line = (line ≡ codes "status none") ⊎ ((status : EngineStatus) × (line ≡ call_line (calls.Status ch cookie) (State status)))
+StatusPrints ch cookie line =
+    (line ≡ codes "status none") ⊎ ((status : EngineStatus) × (line ≡ call_line (calls.Status ch cookie) (State status)))
 
 -- What a line before `go` may print, one line each: what `run` prints for it to the view that it finds in the desk.
 abbrev pub EarlyPrints : Statement → List ℕ → Type 0
@@ -60,9 +60,11 @@ raced_refused early name = record { groups = [] ∷ alone early ++ (refused_line
 -- its totals; and the lines after it print what those of `run` do to the view that the workers leave. There may be no place
 -- for the reader of statuses, or a tally that is missing (no script is known to meet either).
 pub data RacePrints (script : RaceScript) (p : Printed) : Type 0 where
-  whole : (early : List (List ℕ)) → EachPrints script.before.statements early → (steps finished : ℕ) (v : View) → Leaves steps finished v → p ≡ raced_whole early steps finished v script.after → RacePrints script p
+  whole : (early : List (List ℕ)) → EachPrints script.before.statements early
+      → (steps finished : ℕ) (v : View) → Leaves steps finished v → p ≡ raced_whole early steps finished v script.after → RacePrints script p
   no_reader : p ≡ raced_refused [] (codes "NoReader") → RacePrints script p
-  missing_tally : (early : List (List ℕ)) → EachPrints script.before.statements early → p ≡ raced_refused early (codes "MissingTally") → RacePrints script p
+  missing_tally : (early : List (List ℕ)) → EachPrints script.before.statements early
+      → p ≡ raced_refused early (codes "MissingTally") → RacePrints script p
 
 -- Another prints its first fault.
 abbrev pub race_prints_of : Result RaceScript Fault → Printed → Type 0
@@ -72,58 +74,3 @@ race_prints_of (Err fault) p = p ≡ refusal (fault_line fault)
 -- What may be printed for an input.
 abbrev pub race_may_print : List ℕ → Printed → Type 0
 race_may_print input p = race_prints_of (race_script_of input) p
-
--- ---- on the way (only clauses of private functions cite these)
-
--- The line of a call was printed, as the call answers it to some view.
-pub record PrintsCall (call : Call) (old new : List ℕ) : Type 0 where
-  pub view : View
-  pub line : List ℕ
-  pub told : (call_answer view call).0 ≡ line ∷ []
-  pub text : new ≡ old ++ text_of (line ∷ [])
-
--- A line before `go` printed what it may.
-pub record PrintsEarly (statement : Statement) (old new : List ℕ) : Type 0 where
-  pub line : List ℕ
-  pub allowed : EarlyPrints statement line
-  pub text : new ≡ old ++ text_of (line ∷ [])
-
--- The first of the lines before `go` printed what they may, and so may the others.
-pub record PrintsFirst (statements : List Statement) (old new : List ℕ) : Type 0 where
-  pub early : List (List ℕ)
-  pub each : EachPrints statements early
-  pub count : ℕ
-  pub within : count ≤ length early
-  pub text : new ≡ old ++ printed_text (alone (take count early))
-
--- All of them did.
-pub record PrintsAll (statements : List Statement) (old new : List ℕ) : Type 0 where
-  pub early : List (List ℕ)
-  pub each : EachPrints statements early
-  pub text : new ≡ old ++ printed_text (alone early)
-
--- `go` printed its totals.
-pub record PrintsTotals (v : View) (old new : List ℕ) : Type 0 where
-  pub steps : ℕ
-  pub finished : ℕ
-  pub leaves : Leaves steps finished v
-  pub text : new ≡ old ++ text_of (go_line steps finished ∷ [])
-
--- All of the lines before `go` printed what they may, and `go` its totals.
-pub record PrintsGo (statements : List Statement) (v : View) (old new : List ℕ) : Type 0 where
-  pub early : List (List ℕ)
-  pub each : EachPrints statements early
-  pub steps : ℕ
-  pub finished : ℕ
-  pub leaves : Leaves steps finished v
-  pub text : new ≡ old ++ printed_text (alone early ++ (go_line steps finished ∷ []) ∷ [])
-
--- The line of a refusal was printed.
-abbrev pub PrintsRefusal : List ℕ → List ℕ → List ℕ → Type 0
-PrintsRefusal name old new = new ≡ old ++ text_of (refused_line name ∷ [])
-
--- All of the lines before `go` printed what they may, and `go` that a tally is missing.
-pub record PrintsMissing (statements : List Statement) (old new : List ℕ) : Type 0 where
-  pub before : List ℕ
-  pub all : PrintsAll statements old before
-  pub text : PrintsRefusal (codes "MissingTally") before new

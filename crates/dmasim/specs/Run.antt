@@ -4,7 +4,8 @@ use Rattle.std.specs.Str.{bytes_eq}
 use Rattle.dma_mem.specs.declared.segment.Segment.{Segment}
 use Rattle.dma_mem.specs.declared.transfer.TransferFault.{TransferFault}
 use Rattle.dma_mem.specs.Places.{Descriptor}
-use Rattle.dma_mem.specs.Rules.{IsTransfer, refusal_of}
+use Rattle.dma_mem.specs.Rules.{IsTransfer}
+use Rattle.dma_mem.specs.Refusals.{refusal_of}
 use Rattle.dma_engine.specs.declared.call.Call.{Call}
 use Rattle.dma_engine.specs.declared.call.Call.TheVariants as calls
 use Rattle.dma_engine.specs.declared.call.Reply.{Reply}
@@ -13,7 +14,7 @@ use Rattle.dma_engine.specs.declared.turn.Turn.TheVariants.{Started, Moved}
 use Rattle.dma_engine.specs.Object.{channel, unfinished}
 use Rattle.dma_engine.specs.View.{View, IsSound, new_view, object_of, schedule_at, running}
 use Rattle.dma_engine.specs.Answer.{answer, answers}
-use Rattle.dma_script.specs.Command.{Printed, refusal, text_of}
+use Rattle.dma_script.specs.Command.{Printed, refusal}
 use Rattle.dma_script.specs.Statements.{run_script_of}
 use Rattle.dma_script.specs.Printing.{fault_line}
 use Rattle.dma_script.specs.declared.fault.Fault.{Fault}
@@ -21,7 +22,6 @@ use Rattle.dma_script.specs.declared.plan.TransferLine.{TransferLine}
 use Rattle.dma_script.specs.declared.statements.RunScript.{RunScript}
 use Rattle.dma_script.specs.declared.statements.Statement.{Statement}
 use Rattle.dma_script.specs.declared.statements.Statement.TheVariants.{Write, Read, Copy, Submit, Issue, Pause, Resume, Terminate, Step, Status, Result as Outcome, Mark, Unmark, Raise, Totals}
-use Rattle.dmasim.specs.declared.copies.TheConstants.{MOST_STEPS}
 use Rattle.dmasim.specs.Printed.{transfer_fault_name, refused_line, reply_text, call_line}
 
 -- the lines that a line of the script prints, and the view after it
@@ -45,6 +45,7 @@ unless_unfit None v answered = answered
 abbrev pub submitted : TransferLine → Descriptor
 submitted line = record { src = line.src; dst = line.dst; wait = line.wait; signal = line.signal }
 
+-- a submit line: its transfer's own rules first, then the call
 abbrev pub submit_answer : View → ℕ → TransferLine → Answered
 submit_answer v ch line =
     unless_unfit (refusal_of (submitted line)) v (call_answer v (calls.Submit ch (submitted line)))
@@ -54,7 +55,8 @@ submit_answer v ch line =
 -- one text more before the runs of those that follow it
 abbrev pub joined : List ℕ → List (List ℕ × ℕ) → List (List ℕ × ℕ)
 joined text [] = (text, 1) ∷ []
-joined text ((next, count) ∷ rest) = if bytes_eq text next then (text, count + 1) ∷ rest else (text, 1) ∷ (next, count) ∷ rest
+joined text ((next, count) ∷ rest) =
+    if bytes_eq text next then (text, count + 1) ∷ rest else (text, 1) ∷ (next, count) ∷ rest
 
 -- each run of equal texts that follow each other, and how many they are
 abbrev pub runs_of : List (List ℕ) → List (List ℕ × ℕ)
@@ -69,6 +71,7 @@ step_line ch run = codes "step " ++ decimal ch ++ codes " " ++ run.0 ++ codes " 
 abbrev pub step_lines : ℕ → List (List ℕ) → List (List ℕ)
 step_lines ch texts = map (step_line ch) (runs_of texts)
 
+-- a step line: as many steps of the channel, one after another
 abbrev pub step_answer : View → ℕ → ℕ → Answered
 step_answer v ch count =
     let after = answers v (replicate count (calls.Step ch)) in
@@ -99,11 +102,16 @@ stepped_through (suc n) v =
 abbrev pub copy_line : Reply → List ℕ
 copy_line reply = codes "copy " ++ reply_text reply
 
--- What was submitted to channel 0 is issued and stepped through. (No copy is cut off by MOST_STEPS: see `CopiesEnd`.)
+-- more steps than any copy takes (`CopiesEnd`)
+abbrev pub most_steps : ℕ
+most_steps = 524288
+
+-- What was submitted to channel 0 is issued and stepped through.
 abbrev pub carried_through : View → Answered
 carried_through v =
-    let last = stepped_through MOST_STEPS (answer v (calls.Issue 0)).1 in told (copy_line last.0) last.1
+    let last = stepped_through most_steps (answer v (calls.Issue 0)).1 in told (copy_line last.0) last.1
 
+-- a reply that is a refusal
 abbrev pub is_refused : Reply → Bool
 is_refused (Refused fault) = true
 is_refused _ = false
@@ -112,23 +120,26 @@ is_refused _ = false
 abbrev pub copied_after : Reply × View → Answered
 copied_after after = if is_refused after.0 then told (reply_text after.0) after.1 else carried_through after.1
 
+-- a transfer that meets its rules is copied, unless channel 0 is in use
 abbrev pub copied : View → Descriptor → Answered
 copied v t =
     if is_in_use v then told (refused_line (codes "ChannelInUse")) v else copied_after (answer v (calls.Submit 0 t))
 
+-- the transfer of a copy line, which neither waits nor signals
 abbrev pub plain_copy : List Segment → List Segment → Descriptor
 plain_copy src dst = record { src = src; dst = dst; wait = None; signal = None }
 
+-- a copy line: its transfer's own rules first
 abbrev pub copy_answer : View → List Segment → List Segment → Answered
 copy_answer v src dst = unless_unfit (refusal_of (plain_copy src dst)) v (copied v (plain_copy src dst))
 
 -- The steps of a copy end by themselves: where channel 0 of a sound view isn't in use, and a transfer is submitted to it and
--- issued, the last answer of its steps is one after which no copy goes on. So no copy is cut off by MOST_STEPS.
+-- issued, the last answer of its steps is one after which no copy goes on. So no copy is cut off by most_steps.
 abbrev pub CopiesEnd : Type 0
 CopiesEnd =
     (v : View) (t : Descriptor) (cookie : ℕ) (w : View) → IsSound v → IsTransfer t → is_in_use v ≡ false →
     answer v (calls.Submit 0 t) ≡ (Cookie cookie, w) →
-    goes_on (stepped_through MOST_STEPS (answer w (calls.Issue 0)).1).0 ≡ false
+    goes_on (stepped_through most_steps (answer w (calls.Issue 0)).1).0 ≡ false
 
 -- ---- whole scripts
 
@@ -137,6 +148,7 @@ abbrev pub totals_line : ℕ → ℕ → ℕ → List ℕ
 totals_line entries steps running =
     codes "totals entries " ++ decimal entries ++ codes " steps " ++ decimal steps ++ codes " running " ++ decimal running
 
+-- the line of a view's totals
 abbrev pub totals_of : View → List ℕ
 totals_of v = totals_line (length v.history) v.steps (length (running (object_of v) v.schedule))
 
@@ -172,8 +184,3 @@ printed_of (Err fault) = refusal (fault_line fault)
 -- What is printed for an input.
 abbrev pub printed : List ℕ → Printed
 printed input = printed_of (run_script_of input)
-
--- A line was answered so: the view is the one after it, and its printed lines were appended.
-pub record AnswersLine (answered : Answered) (new : View) (out out' : List ℕ) : Type 0 where
-  pub acts : new ≡ answered.1
-  pub prints : out' ≡ out ++ text_of answered.0

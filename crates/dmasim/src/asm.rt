@@ -1,11 +1,11 @@
 //! The command `asm`: it prints the bytes of the program that a text writes.
 ghost use Rattle.std.specs.Prelude.{◌≡◌, ◌≢◌, ◌≤◌, ◌+◌, ◌++◌, ◌∷◌, [], OnOk, OnErr, IfSome};
-ghost use Rattle.dma_script.specs.Command.{Ends, failures, printed_within, text_of};
+ghost use Rattle.dma_script.specs.Command.{Ends, failures, longest_input, printed_within, text_of};
 ghost use Rattle.dmasim.specs.Assembled.{AsmPrints, asm_printed, cause_name, fault_line};
 
 use dma_insn::assembler::{AsmFault, Cause, assemble};
 use dma_script::command::{Command, FAULT, SUCCESS, serve};
-use dma_script::input::{LONGEST_INPUT, Source};
+use dma_script::input::Source;
 use dma_script::output::Sink;
 use dma_script::printing::{push_line, push_program};
 use std::alloc::{AllocError, Global};
@@ -33,6 +33,7 @@ fn push_asm_fault(alloc: Global, out: &mut Vec<u8>, fault: AsmFault) -> Result<(
     }
 }
 
+/// Appends the line of a line's fault, or nothing.
 fn push_cause(alloc: Global, out: &mut Vec<u8>, n: usize, cause: Cause) -> Result<(), AllocError>
     ensures ok { OnOk result (out.new.items ≡ out.old.items ++ text_of (fault_line (AsmFault.Line n cause) ∷ [])) }
     ensures err { OnErr result (out.new.items ≡ out.old.items) }
@@ -42,6 +43,7 @@ fn push_cause(alloc: Global, out: &mut Vec<u8>, n: usize, cause: Cause) -> Resul
     push_line(out, line.as_bytes())
 }
 
+/// Appends the line of the first line that is too much, or nothing.
 fn push_too_long(alloc: Global, out: &mut Vec<u8>, n: usize) -> Result<(), AllocError>
     ensures ok { OnOk result (out.new.items ≡ out.old.items ++ text_of (fault_line (AsmFault.ProgramTooLong n) ∷ [])) }
     ensures err { OnErr result (out.new.items ≡ out.old.items) }
@@ -92,7 +94,7 @@ pub fn asm_main<R: Source, W: Sink>(alloc: Global, reader: &mut R, writer: &mut 
     ensures ends { IfSome (R.remaining reader.old) (λ input. Ends
         (failures R.has_failed reader.old reader.new) (failures W.has_failed writer.old writer.new)
         (printed_within asm_printed input) (W.contents writer.old) (W.contents writer.new) result) }
-    ensures reads { R.reads reader.new ≤ R.reads reader.old + (LONGEST_INPUT + 1) }
+    ensures reads { R.reads reader.new ≤ R.reads reader.old + (longest_input + 1) }
 {
     serve(&Asm, alloc, reader, writer)
 }

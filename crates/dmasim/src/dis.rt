@@ -1,13 +1,13 @@
 //! The command `dis`: it prints the text of a program's bytes.
 ghost use Rattle.std.specs.Prelude.{◌≡◌, ◌≤◌, ◌+◌, ◌++◌, ◌∷◌, [], OnOk, OnErr, IfOk, IfSome};
 ghost use Rattle.dma_insn.specs.declared.codec.DecodeFault.{DecodeFault};
-ghost use Rattle.dma_script.specs.Command.{Ends, failures, printed_text, printed_within, text_of};
+ghost use Rattle.dma_script.specs.Command.{Ends, failures, longest_input, printed_text, printed_within, text_of};
 ghost use Rattle.dmasim.specs.Disassembled.{DisPrints, decode_fault_line, dis_printed, lines_from, lines_printed};
 
 use dma_insn::codec::DecodeFault;
 use dma_insn::disassembler::{DisFault, disassemble};
 use dma_script::command::{Command, FAULT, SUCCESS, serve};
-use dma_script::input::{LONGEST_INPUT, Source};
+use dma_script::input::Source;
 use dma_script::output::Sink;
 use dma_script::pairs::{PairsError, push_pairs_fault, read_pairs};
 use dma_script::printing::{push_byte, push_line};
@@ -127,7 +127,7 @@ pub fn dis_main<R: Source, W: Sink>(alloc: Global, reader: &mut R, writer: &mut 
     ensures ends { IfSome (R.remaining reader.old) (λ input. Ends
         (failures R.has_failed reader.old reader.new) (failures W.has_failed writer.old writer.new)
         (printed_within dis_printed input) (W.contents writer.old) (W.contents writer.new) result) }
-    ensures reads { R.reads reader.new ≤ R.reads reader.old + (LONGEST_INPUT + 1) }
+    ensures reads { R.reads reader.new ≤ R.reads reader.old + (longest_input + 1) }
 {
     serve(&Dis, alloc, reader, writer)
 }

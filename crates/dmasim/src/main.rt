@@ -2,10 +2,10 @@
 #![tactic(auto)]
 
 mod asm;
-mod calls;
-mod copies;
+mod command_line;
+#[cfg(test)]
+mod command_line_tests;
 mod dis;
-mod early;
 mod plan;
 mod printing;
 mod race;
@@ -14,29 +14,18 @@ mod race_tests;
 mod run;
 #[cfg(test)]
 mod run_tests;
-mod steps;
 #[cfg(test)]
 mod tests;
 
-use asm::asm_main;
 use clap::error::ErrorKind;
 use clap::{Command, Error};
-use dis::dis_main;
-use dma_script::command::{FAULT, OUT_OF_MEMORY};
-use plan::plan_main;
-use race::race_script;
-use run::run_script;
+use command_line::serve_word;
+use dma_script::command::OUT_OF_MEMORY;
 use std::alloc::Global;
-use std::io::{Stdin, Stdout};
 use std::process::ExitCode;
-use std::sync::Wait;
-use std::thread::Threads;
 use std::{env, io};
 
-/// The exit status of any other command line.
-const WRONG_ARGUMENTS: u8 = 2;
-
-/// The subcommand that the words of the command line name.
+/// The subcommand that the words of the command line give, if they give one.
 fn subcommand<'a>(alloc: Global, words: &'a [String]) -> Result<Option<&'a str>, Error> {
     let matches = Command::new(alloc, "dmasim")
         .disable_help_subcommand(true)
@@ -50,47 +39,30 @@ fn subcommand<'a>(alloc: Global, words: &'a [String]) -> Result<Option<&'a str>,
     Ok(matches.subcommand_name())
 }
 
-/// Prints the usage, and gives the status of a wrong command line.
-fn usage(rt: &impl Print) -> u8 {
-    match rt.println("usage: dmasim asm|dis|plan|run|race") {
-        Ok(()) => WRONG_ARGUMENTS,
-        Err(_) => FAULT,
+/// The words of the command line, no word where one of them is no text; none for want of memory.
+fn words_of(rt: &HostRuntime) -> Option<Vec<String>> {
+    match env::args(rt) {
+        Ok(args) => args.collect(rt.alloc()).ok(),
+        Err(error) if error.kind() == io::ErrorKind::OutOfMemory => None,
+        Err(_) => Some(Vec::new(rt.alloc())),
     }
 }
 
-/// Runs the command that the words name, and gives its status.
-fn status<R: Print + Threads + Wait + Sync>(
-    rt: &R,
-    alloc: Global,
-    words: &[String],
-    reader: &mut Stdin,
-    writer: &mut Stdout,
-) -> u8 {
-    match subcommand(alloc, words) {
-        Ok(Some("asm")) => asm_main(alloc, reader, writer),
-        Ok(Some("dis")) => dis_main(alloc, reader, writer),
-        Ok(Some("plan")) => plan_main(alloc, reader, writer),
-        Ok(Some("run")) => run_script(alloc, reader, writer),
-        Ok(Some("race")) => race_script(rt, alloc, reader, writer),
-        Ok(_) => usage(rt),
-        Err(error) if error.kind() == ErrorKind::OutOfMemory => OUT_OF_MEMORY,
-        Err(_) => usage(rt),
-    }
-}
-
+/// Carries out the command line over standard input and output, and ends with its status.
 fn main(rt: HostRuntime) -> ExitCode {
-    let words = match env::args(&rt) {
-        Ok(args) => args.collect(rt.alloc()),
-        Err(error) if error.kind() == io::ErrorKind::OutOfMemory => {
+    let Some(words) = words_of(&rt) else {
+        return ExitCode::from(OUT_OF_MEMORY);
+    };
+    let word = match subcommand(rt.alloc(), &words) {
+        Ok(Some(word)) => word,
+        Err(error) if error.kind() == ErrorKind::OutOfMemory => {
             return ExitCode::from(OUT_OF_MEMORY);
         }
-        Err(_) => return ExitCode::from(usage(&rt)),
-    };
-    let words: Vec<String> = match words {
-        Ok(words) => words,
-        Err(_) => return ExitCode::from(OUT_OF_MEMORY),
+        // no command has this name
+        Ok(None) | Err(_) => "",
     };
     let mut reader = rt.stdin();
     let mut writer = rt.stdout();
-    ExitCode::from(status(&rt, rt.alloc(), &words, &mut reader, &mut writer))
+    let status = serve_word(&rt, rt.alloc(), word, &mut reader, &mut writer);
+    ExitCode::from(status)
 }

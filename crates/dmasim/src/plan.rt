@@ -1,23 +1,23 @@
 //! The command `plan`: it prints the program of a transfer, and what it costs.
 ghost use Rattle.std.specs.Prelude.{◌≡◌, ◌≢◌, ◌≤◌, ◌+◌, ◌++◌, ◌∷◌, [], OnOk, OnErr, IfOk, IfSome};
-ghost use Rattle.dma_mem.specs.Rules.{refusal_of};
-ghost use Rattle.dma_script.specs.Command.{Ends, failures, printed_text, printed_within, text_of};
+ghost use Rattle.dma_mem.specs.Refusals.{refusal_of};
+ghost use Rattle.dma_script.specs.Command.{Ends, failures, longest_input, printed_text, printed_within, text_of};
 ghost use Rattle.dmasim.specs.Planned.{plan_printed, program_printed, transfer_of, transfer_printed, unfit_line};
 
-use crate::printing::transfer_fault_name;
+use crate::printing::rule_name;
 use dma_chan::compile::compile;
 use dma_chan::program::Program;
 use dma_mem::transfer::{Transfer, TransferFault};
 use dma_script::command::{Command, FAULT, SUCCESS, serve};
 use dma_script::fault::ScriptError;
-use dma_script::input::{LONGEST_INPUT, Source};
+use dma_script::input::Source;
 use dma_script::output::Sink;
 use dma_script::plan::{PlanLine, read_plan};
 use dma_script::printing::{push_fault, push_line, push_program};
 use std::alloc::{AllocError, Global};
 
 /// Appends the line of a transfer that breaks a rule, or nothing. Where memory was refused there is no such line.
-fn push_unfit(
+fn push_rule(
     alloc: Global,
     out: &mut Vec<u8>,
     line: usize,
@@ -26,22 +26,7 @@ fn push_unfit(
     ensures ok { OnOk result ((fault ≢ TransferFault.NoMemory) × (out.new.items ≡ out.old.items ++ text_of (unfit_line line fault ∷ []))) }
     ensures err { OnErr result (out.new.items ≡ out.old.items) }
 {
-    match fault {
-        TransferFault::NoMemory => Err(AllocError),
-        _ => push_rule(alloc, out, line, fault),
-    }
-}
-
-fn push_rule(
-    alloc: Global,
-    out: &mut Vec<u8>,
-    line: usize,
-    fault: TransferFault,
-) -> Result<(), AllocError>
-    ensures ok { OnOk result (out.new.items ≡ out.old.items ++ text_of (unfit_line line fault ∷ [])) }
-    ensures err { OnErr result (out.new.items ≡ out.old.items) }
-{
-    let name = transfer_fault_name(fault);
+    let name = rule_name(fault)?;
     let text = format!(in alloc; "line {line}: {name}")?;
     push_line(out, text.as_bytes())
 }
@@ -71,10 +56,10 @@ fn push_transfer(alloc: Global, out: &mut Vec<u8>, line: &PlanLine) -> Result<u8
 {
     let built = Transfer::new(
         alloc,
-        line.src.as_slice(),
-        line.dst.as_slice(),
-        line.wait,
-        line.signal,
+        line.transfer.src.as_slice(),
+        line.transfer.dst.as_slice(),
+        line.transfer.wait,
+        line.transfer.signal,
     );
     match built {
         Ok(transfer) => {
@@ -86,7 +71,7 @@ fn push_transfer(alloc: Global, out: &mut Vec<u8>, line: &PlanLine) -> Result<u8
             Ok(SUCCESS)
         }
         Err(fault) => {
-            push_unfit(alloc, out, line.line, fault)?;
+            push_rule(alloc, out, line.line, fault)?;
             Ok(FAULT)
         }
     }
@@ -99,7 +84,7 @@ struct Plan;
 impl Command for Plan {
     ghost use Rattle.std.specs.Prelude.{◌<◌, length, Some, None, Ok, Err};
     ghost use Rattle.std.proofs.Math.Nat.{zero-lt-suc};
-    ghost use Rattle.dma_mem.specs.Rules.{refusal_of};
+    ghost use Rattle.dma_mem.specs.Refusals.{refusal_of};
     ghost use Rattle.dma_script.specs.Plan.{plan_of};
     ghost use Rattle.dmasim.specs.Planned.{plan_printed, plan_printed_of, transfer_of, transfer_printed};
 
@@ -131,7 +116,7 @@ pub fn plan_main<R: Source, W: Sink>(alloc: Global, reader: &mut R, writer: &mut
     ensures ends { IfSome (R.remaining reader.old) (λ input. Ends
         (failures R.has_failed reader.old reader.new) (failures W.has_failed writer.old writer.new)
         (printed_within plan_printed input) (W.contents writer.old) (W.contents writer.new) result) }
-    ensures reads { R.reads reader.new ≤ R.reads reader.old + (LONGEST_INPUT + 1) }
+    ensures reads { R.reads reader.new ≤ R.reads reader.old + (longest_input + 1) }
 {
     serve(&Plan, alloc, reader, writer)
 }

@@ -1,5 +1,5 @@
 //! What is printed of refusals, calls and replies.
-ghost use Rattle.std.specs.Prelude.{◌≡◌, ◌≢◌, ◌++◌, ◌∷◌, [], OnOk, OnErr, codes, decimal};
+ghost use Rattle.std.specs.Prelude.{◌≡◌, ◌≢◌, ◌++◌, ◌∷◌, [], IfOk, OnOk, OnErr, codes, decimal};
 ghost use Rattle.dma_script.specs.Command.{text_of};
 ghost use Rattle.dmasim.specs.Printed.{call_line, call_words, fault_text, outcome_text, refused_line, reply_text, residue_text, result_name, status_name, transfer_fault_name, turn_text};
 
@@ -9,7 +9,7 @@ use dma_script::printing::{push_address, push_bytes, push_decimal, push_line};
 use std::alloc::AllocError;
 
 /// The name of a refusal of a transfer's rules.
-pub fn transfer_fault_name(fault: TransferFault) -> &'static str
+fn transfer_fault_name(fault: TransferFault) -> &'static str
     ensures { result.now ≡ transfer_fault_name fault }
 {
     match fault {
@@ -23,6 +23,16 @@ pub fn transfer_fault_name(fault: TransferFault) -> &'static str
         TransferFault::SourceMeetsDestination => "SourceMeetsDestination",
         TransferFault::BadEvent => "BadEvent",
         TransferFault::NoMemory => "NoMemory",
+    }
+}
+
+/// The name of the rule that a transfer breaks. Where memory was refused there is none, and the error comes.
+pub fn rule_name(fault: TransferFault) -> Result<&'static str, AllocError>
+    ensures ok { IfOk result (λ name. (fault ≢ TransferFault.NoMemory) × (name.now ≡ transfer_fault_name fault)) }
+{
+    match fault {
+        TransferFault::NoMemory => Err(AllocError),
+        _ => Ok(transfer_fault_name(fault)),
     }
 }
 
@@ -209,8 +219,8 @@ fn push_call_line(line: &mut Vec<u8>, call: &Call, reply: &Reply) -> Result<(), 
     push_reply(line, reply)
 }
 
-// Each of these appends a line whole or nothing. It is written first in a buffer, whose bytes it replaces: a caller keeps one
-// for all lines, so that a line takes no memory but for its place at the end.
+// Each of these appends a line whole or nothing. It is written first in a buffer, whose bytes it replaces: a caller keeps
+// one for all lines, so that a line takes no memory but for its place at the end.
 
 /// Appends the line that a call prints, by its reply, or nothing.
 pub fn push_told(

@@ -3,19 +3,22 @@
 ghost use Rattle.std.specs.Prelude.{◌≡◌, ◌≤◌, ◌<◌, ◌+◌, ◌++◌, ◌∷◌, [], OnOk, OnErr, IfOk, IfSome, MatchOption, codes, length, vec_len};
 ghost use Rattle.std.specs.List.{All};
 ghost use Rattle.dma_engine.specs.View.{new_view};
-ghost use Rattle.dma_script.specs.Command.{MayAppend, MayComplete, MayEnd, failures, may_print_within, text_of};
+ghost use Rattle.dma_script.specs.Command.{MayAppend, MayComplete, MayEnd, failures, longest_input, may_print_within, text_of};
 ghost use Rattle.dma_script.specs.Race.{IsEarly, IsJob, IsRace};
 ghost use Rattle.dma_script.specs.Statements.{IsWithin};
 ghost use Rattle.dma_work.specs.Desk.{Names};
-ghost use Rattle.dmasim.specs.Race.{PrintsAll, PrintsFirst, PrintsGo, PrintsMissing, PrintsRefusal, PrintsTotals, RacePrints, go_line, race_may_print};
+ghost use Rattle.dmasim.specs.inner.RaceSteps.{PrintsAll, PrintsFirst, PrintsGo, PrintsMissing, PrintsRefusal, PrintsTotals};
+ghost use Rattle.dmasim.specs.Race.{RacePrints, go_line, race_may_print};
 
-use crate::early::carry_out_early;
+mod early;
+
 use crate::printing::{push_refused, push_worded};
-use crate::run::carry_out_all;
+use crate::race::early::run_early_statement;
+use crate::run::run_statements;
 use dma_engine::{Engine, NewFault, NoMemory};
 use dma_script::command::{FAULT, OpenCommand, SUCCESS, serve_open};
 use dma_script::fault::ScriptError;
-use dma_script::input::{LONGEST_INPUT, Source};
+use dma_script::input::Source;
 use dma_script::output::Sink;
 use dma_script::printing::{push_fault, push_line};
 use dma_script::race::{JobLine, MAX_JOBS, RaceScript, read_race_script};
@@ -56,7 +59,8 @@ fn engine_of(alloc: Global, script: &RaceScript) -> Result<Engine, AllocError>
     }
 }
 
-/// Carries out the lines before `go`, each of which is done with then, and runs the jobs. The desk is still whole where memory is refused.
+/// Carries out the lines before `go`, each of which is done with then, and runs the jobs. The desk is still whole where
+/// memory is refused.
 fn until_go<N: DeskName + Send + Sync, R: Threads + Wait + Sync>(
     rt: &R,
     alloc: Global,
@@ -74,7 +78,7 @@ fn until_go<N: DeskName + Send + Sync, R: Threads + Wait + Sync>(
 {
     let mut text = Vec::new(alloc);
     for line in lines.into_vec() {
-        carry_out_early(rt, shared, &mut reader, line, &mut text, out)?;
+        run_early_statement(rt, shared, &mut reader, line, &mut text, out)?;
     }
     match run_workers(rt, alloc, shared, jobs, &NoGate) {
         Ok(tallies) => Ok(tallies),
@@ -179,7 +183,7 @@ fn raced<N: DeskName + Send + Sync, R: Threads + Wait + Sync>(
 }
 
 /// Carries out a script, and gives the status.
-fn carry_out_race<R: Threads + Wait + Sync>(
+fn run_race<R: Threads + Wait + Sync>(
     rt: &R,
     alloc: Global,
     script: RaceScript,
@@ -199,7 +203,7 @@ fn carry_out_race<R: Threads + Wait + Sync>(
     let lines = before.statements;
     match raced::<Brand, _>(rt, alloc, parts, reader, lines, &jobs, out)? {
         Some(mut engine) => {
-            carry_out_all(alloc, &mut engine, after, out)?;
+            run_statements(alloc, &mut engine, after, out)?;
             Ok(SUCCESS)
         }
         None => Ok(FAULT),
@@ -228,7 +232,7 @@ impl OpenCommand for Race {
         out: &mut Vec<u8>,
     ) -> Result<u8, AllocError> {
         match read_race_script(alloc, input) {
-            Ok(script) => carry_out_race(rt, alloc, script, out),
+            Ok(script) => run_race(rt, alloc, script, out),
             Err(ScriptError::Fault(fault)) => {
                 push_fault(alloc, out, fault)?;
                 Ok(FAULT)
@@ -254,7 +258,7 @@ pub fn race_script<R: Threads + Wait + Sync, I: Source, W: Sink>(
     ensures ends { IfSome (I.remaining reader.old) (λ input. MayEnd
         (failures I.has_failed reader.old reader.new) (failures W.has_failed writer.old writer.new)
         (may_print_within race_may_print input) (W.contents writer.old) (W.contents writer.new) result) }
-    ensures reads { I.reads reader.new ≤ I.reads reader.old + (LONGEST_INPUT + 1) }
+    ensures reads { I.reads reader.new ≤ I.reads reader.old + (longest_input + 1) }
 {
     serve_open(rt, &Race, alloc, reader, writer)
 }

@@ -19,12 +19,34 @@ fn two_jobs_and_two_channels(rt: HostRuntime) -> Result<(), Fail> {
     let ran = race(
         &rt,
         rt.alloc(),
-        b"memory 0x400 2\nwrite 0x100 0A 0B 0C 0D\nsubmit 0 0x100+4 to 0x200+4\nsubmit 1 0x100+4 to 0x300+4\nissue 0\nissue 1\nstatus 1 1\njob 0 0 9\njob 1 1 9\ngo\nread 0x200+4\nread 0x300+4\ntotals",
+        b"memory 0x400 2\n\
+          write 0x100 0A 0B 0C 0D\n\
+          submit 0 0x100+4 to 0x200+4\n\
+          submit 1 0x100+4 to 0x300+4\n\
+          issue 0\n\
+          issue 1\n\
+          status 1 1\n\
+          job 0 0 9\n\
+          job 1 1 9\n\
+          go\n\
+          read 0x200+4\n\
+          read 0x300+4\n\
+          totals",
     );
     assert_eq!(rt; ran.0, 0);
     assert_eq!(rt;
         ran.1.as_slice(),
-        b"ok\ncookie 1\ncookie 1\nissued 1\nissued 1\nstatus InProgress\ngo steps 16 finished 2\nread 0x00000200 0A 0B 0C 0D\nread 0x00000300 0A 0B 0C 0D\ntotals entries 9 steps 16 running 0\n".as_slice()
+        b"ok\n\
+          cookie 1\n\
+          cookie 1\n\
+          issued 1\n\
+          issued 1\n\
+          status InProgress\n\
+          go steps 16 finished 2\n\
+          read 0x00000200 0A 0B 0C 0D\n\
+          read 0x00000300 0A 0B 0C 0D\n\
+          totals entries 9 steps 16 running 0\n"
+            .as_slice()
     );
     Ok(())
 }
@@ -34,12 +56,34 @@ fn two_jobs_over_both_channels(rt: HostRuntime) -> Result<(), Fail> {
     let ran = race(
         &rt,
         rt.alloc(),
-        b"memory 0x400 2\nwrite 0x100 0A 0B 0C 0D\nsubmit 0 0x100+4 to 0x200+4\nsubmit 1 0x100+4 to 0x300+4\nissue 0\nissue 1\nstatus 1 1\njob 0 1 20\njob 0 1 20\ngo\nread 0x200+4\nread 0x300+4\ntotals",
+        b"memory 0x400 2\n\
+          write 0x100 0A 0B 0C 0D\n\
+          submit 0 0x100+4 to 0x200+4\n\
+          submit 1 0x100+4 to 0x300+4\n\
+          issue 0\n\
+          issue 1\n\
+          status 1 1\n\
+          job 0 1 20\n\
+          job 0 1 20\n\
+          go\n\
+          read 0x200+4\n\
+          read 0x300+4\n\
+          totals",
     );
     assert_eq!(rt; ran.0, 0);
     assert_eq!(rt;
         ran.1.as_slice(),
-        b"ok\ncookie 1\ncookie 1\nissued 1\nissued 1\nstatus InProgress\ngo steps 16 finished 2\nread 0x00000200 0A 0B 0C 0D\nread 0x00000300 0A 0B 0C 0D\ntotals entries 9 steps 16 running 0\n".as_slice()
+        b"ok\n\
+          cookie 1\n\
+          cookie 1\n\
+          issued 1\n\
+          issued 1\n\
+          status InProgress\n\
+          go steps 16 finished 2\n\
+          read 0x00000200 0A 0B 0C 0D\n\
+          read 0x00000300 0A 0B 0C 0D\n\
+          totals entries 9 steps 16 running 0\n"
+            .as_slice()
     );
     Ok(())
 }
@@ -95,12 +139,45 @@ fn refused_before_and_after_go(rt: HostRuntime) -> Result<(), Fail> {
     let ran = race(
         &rt,
         rt.alloc(),
-        b"memory 16 1\nwrite 14 01 02 03\nread 17+0\nsubmit 0 0+0 to 8+4\nsubmit 1 0+4 to 8+4\nsubmit 0 0+4 to 13+4\nissue 1\nterminate 1\nstatus 1 1\nresult 1 1\njob 5 7 3\ngo\nwrite 14 01 02 03\nsubmit 1 0+4 to 8+4\npause 1\nraise 32\nstep 1\ncopy 0+4 to 13+4",
+        b"memory 16 1\n\
+          write 14 01 02 03\n\
+          read 17+0\n\
+          submit 0 0+0 to 8+4\n\
+          submit 1 0+4 to 8+4\n\
+          submit 0 0+4 to 13+4\n\
+          issue 1\n\
+          terminate 1\n\
+          status 1 1\n\
+          result 1 1\n\
+          job 5 7 3\n\
+          go\n\
+          write 14 01 02 03\n\
+          submit 1 0+4 to 8+4\n\
+          pause 1\n\
+          raise 32\n\
+          step 1\n\
+          copy 0+4 to 13+4",
     );
     assert_eq!(rt; ran.0, 0);
     assert_eq!(rt;
         ran.1.as_slice(),
-        b"refused OutOfMemoryRange\nrefused OutOfMemoryRange\nrefused EmptySegment\nrefused NoChannel\nrefused OutOfMemoryRange\nrefused NoChannel\nrefused NoChannel\nstatus Unknown\nresult none\ngo steps 0 finished 0\nrefused OutOfMemoryRange\nrefused NoChannel\nrefused NoChannel\nrefused BadEvent\nstep 1 refused NoChannel x1\nrefused OutOfMemoryRange\n".as_slice()
+        b"refused OutOfMemoryRange\n\
+          refused OutOfMemoryRange\n\
+          refused EmptySegment\n\
+          refused NoChannel\n\
+          refused OutOfMemoryRange\n\
+          refused NoChannel\n\
+          refused NoChannel\n\
+          status Unknown\n\
+          result none\n\
+          go steps 0 finished 0\n\
+          refused OutOfMemoryRange\n\
+          refused NoChannel\n\
+          refused NoChannel\n\
+          refused BadEvent\n\
+          step 1 refused NoChannel x1\n\
+          refused OutOfMemoryRange\n"
+            .as_slice()
     );
     Ok(())
 }
@@ -111,12 +188,53 @@ fn statuses_and_a_terminate_before_go(rt: HostRuntime) -> Result<(), Fail> {
     let ran = race(
         &rt,
         rt.alloc(),
-        b"memory 0x400 2\nwrite 0x100 0A 0B 0C 0D\nstatus 0 1\nsubmit 0 0x100+4 to 0x200+4\nstatus 0 1\nstatus 0 2\nterminate 0\nstatus 0 1\nstatus 1 1\nresult 0 1\nterminate 0\nsubmit 0 0x100+4 to 0x300+4\nissue 0\nstatus 0 1\nstatus 0 2\njob 0 1 18\ngo\nstatus 0 2\nresult 0 2\nread 0x200+4\nread 0x300+4\ntotals",
+        b"memory 0x400 2\n\
+          write 0x100 0A 0B 0C 0D\n\
+          status 0 1\n\
+          submit 0 0x100+4 to 0x200+4\n\
+          status 0 1\n\
+          status 0 2\n\
+          terminate 0\n\
+          status 0 1\n\
+          status 1 1\n\
+          result 0 1\n\
+          terminate 0\n\
+          submit 0 0x100+4 to 0x300+4\n\
+          issue 0\n\
+          status 0 1\n\
+          status 0 2\n\
+          job 0 1 18\n\
+          go\n\
+          status 0 2\n\
+          result 0 2\n\
+          read 0x200+4\n\
+          read 0x300+4\n\
+          totals",
     );
     assert_eq!(rt; ran.0, 0);
     assert_eq!(rt;
         ran.1.as_slice(),
-        b"ok\nstatus Unknown\ncookie 1\nstatus InProgress\nstatus Unknown\naborted 1\nstatus Complete\nstatus Unknown\nresult Aborted residue 4\naborted 0\ncookie 2\nissued 1\nstatus Complete\nstatus InProgress\ngo steps 8 finished 1\nstatus Complete\nresult NoError residue 0\nread 0x00000200 00 00 00 00\nread 0x00000300 0A 0B 0C 0D\ntotals entries 9 steps 8 running 0\n".as_slice()
+        b"ok\n\
+          status Unknown\n\
+          cookie 1\n\
+          status InProgress\n\
+          status Unknown\n\
+          aborted 1\n\
+          status Complete\n\
+          status Unknown\n\
+          result Aborted residue 4\n\
+          aborted 0\n\
+          cookie 2\n\
+          issued 1\n\
+          status Complete\n\
+          status InProgress\n\
+          go steps 8 finished 1\n\
+          status Complete\n\
+          result NoError residue 0\n\
+          read 0x00000200 00 00 00 00\n\
+          read 0x00000300 0A 0B 0C 0D\n\
+          totals entries 9 steps 8 running 0\n"
+            .as_slice()
     );
     Ok(())
 }
@@ -126,12 +244,31 @@ fn go_without_jobs(rt: HostRuntime) -> Result<(), Fail> {
     let ran = race(
         &rt,
         rt.alloc(),
-        b"memory 0x400 1\nwrite 0x100 0A 0B 0C 0D\nsubmit 0 0x100+4 to 0x200+4\nissue 0\njob 0 0 0\ngo\nstep 0 9\nread 0x200+4\ncopy 0x100+2 to 0x300+2\ntotals",
+        b"memory 0x400 1\n\
+          write 0x100 0A 0B 0C 0D\n\
+          submit 0 0x100+4 to 0x200+4\n\
+          issue 0\n\
+          job 0 0 0\n\
+          go\n\
+          step 0 9\n\
+          read 0x200+4\n\
+          copy 0x100+2 to 0x300+2\n\
+          totals",
     );
     assert_eq!(rt; ran.0, 0);
     assert_eq!(rt;
         ran.1.as_slice(),
-        b"ok\ncookie 1\nissued 1\ngo steps 0 finished 0\nstep 0 started 1 x1\nstep 0 moved x7\nstep 0 finished 1 NoError residue 0 x1\nread 0x00000200 0A 0B 0C 0D\ncopy finished 2 NoError residue 0\ntotals entries 8 steps 16 running 0\n".as_slice()
+        b"ok\n\
+          cookie 1\n\
+          issued 1\n\
+          go steps 0 finished 0\n\
+          step 0 started 1 x1\n\
+          step 0 moved x7\n\
+          step 0 finished 1 NoError residue 0 x1\n\
+          read 0x00000200 0A 0B 0C 0D\n\
+          copy finished 2 NoError residue 0\n\
+          totals entries 8 steps 16 running 0\n"
+            .as_slice()
     );
     Ok(())
 }

@@ -1,26 +1,31 @@
 //! The command `run`: it carries out a script line by line.
 ghost use Rattle.std.specs.Prelude.{◌≡◌, ◌≤◌, ◌+◌, ◌++◌, OnOk, OnErr, IfSome};
-ghost use Rattle.dma_script.specs.Command.{AppendsGroups, Ends, failures, printed_text, printed_within};
-ghost use Rattle.dmasim.specs.Run.{line_answer, lines_answered, printed, AnswersLine};
+ghost use Rattle.dma_script.specs.Command.{AppendsGroups, Ends, failures, longest_input, printed_text, printed_within};
+ghost use Rattle.dmasim.specs.Run.{line_answer, lines_answered, printed};
+ghost use Rattle.dmasim.specs.inner.RunSteps.{AnswersLine};
 
-use crate::calls::{answer_call, answer_totals, submit_line, write_line};
-use crate::copies::answer_copy;
-use crate::steps::{Answers, answer_steps};
+pub mod calls;
+mod copies;
+mod steps;
+
+use crate::run::calls::{answer_call, answer_totals, submit_line, write_line};
+use crate::run::copies::answer_copy;
+use crate::run::steps::{StepLines, answer_steps};
 use dma_engine::{Call, Engine, NewFault};
 use dma_mem::segment::Segment;
 use dma_script::command::{Command, FAULT, SUCCESS, serve};
 use dma_script::fault::ScriptError;
-use dma_script::input::{LONGEST_INPUT, Source};
+use dma_script::input::Source;
 use dma_script::output::Sink;
 use dma_script::printing::push_fault;
 use dma_script::statements::{Statement, Statements, read_run_script};
 use std::alloc::{AllocError, Global};
 
 /// Carries out a line, and appends what it prints or nothing.
-fn carry_out(
+fn run_statement(
     engine: &mut Engine,
     statement: Statement,
-    told: &mut Answers,
+    told: &mut StepLines,
     out: &mut Vec<u8>,
 ) -> Result<(), AllocError>
     ensures ok { OnOk result (AnswersLine (line_answer engine.old.view statement) engine.new.view out.old.items out.new.items) }
@@ -51,9 +56,9 @@ fn carry_out(
     answer_call(engine, &call, line, out)
 }
 
-/// Carries out the lines of a script, each of which is done with then. Where memory is refused, what the lines before printed
-/// stands there.
-pub fn carry_out_all(
+/// Carries out the lines of a script, each of which is done with then. Where memory is refused, what the lines before
+/// printed stands there.
+pub fn run_statements(
     alloc: Global,
     engine: &mut Engine,
     statements: Statements,
@@ -62,9 +67,9 @@ pub fn carry_out_all(
     ensures ok { OnOk result (out.new.items ≡ out.old.items ++ printed_text (lines_answered engine.old.view statements)) }
     ensures err { OnErr result (AppendsGroups (lines_answered engine.old.view statements) out.old.items out.new.items) }
 {
-    let mut told = Answers::new(alloc);
+    let mut told = StepLines::new(alloc);
     for statement in statements.into_vec() {
-        carry_out(engine, statement, &mut told, out)?;
+        run_statement(engine, statement, &mut told, out)?;
     }
     Ok(())
 }
@@ -89,7 +94,7 @@ impl Command for Run {
                     Err(NewFault::NoMemory) => return Err(AllocError),
                     Err(NewFault::BadChannels | NewFault::SizeOutOfRange) => unreachable!(),
                 };
-                carry_out_all(alloc, &mut engine, script.statements, out)?;
+                run_statements(alloc, &mut engine, script.statements, out)?;
                 Ok(SUCCESS)
             }
             Err(ScriptError::Fault(fault)) => {
@@ -112,7 +117,7 @@ pub fn run_script<R: Source, W: Sink>(alloc: Global, reader: &mut R, writer: &mu
     ensures ends { IfSome (R.remaining reader.old) (λ input. Ends
         (failures R.has_failed reader.old reader.new) (failures W.has_failed writer.old writer.new)
         (printed_within printed input) (W.contents writer.old) (W.contents writer.new) result) }
-    ensures reads { R.reads reader.new ≤ R.reads reader.old + (LONGEST_INPUT + 1) }
+    ensures reads { R.reads reader.new ≤ R.reads reader.old + (longest_input + 1) }
 {
     serve(&Run, alloc, reader, writer)
 }

@@ -78,11 +78,21 @@ fn assembled(rt: HostRuntime) -> Result<(), Fail> {
     let cases: [(&[u8], u8, &[u8]); 12] = [
         (b"", 0, b""),
         (
-            b"DMALP 1 256\nDMALD\nDMAST\nDMALPEND 1 2\nDMAEND",
+            b"DMALP 1 256\n\
+              DMALD\n\
+              DMAST\n\
+              DMALPEND 1 2\n\
+              DMAEND",
             0,
             b"22 FF 04 08 3C 02 00\n",
         ),
-        (b"# a\n\nDMAMOV SAR 0x00001000\n", 0, b"BC 00 00 10 00 00\n"),
+        (
+            b"# a\n\
+          \n\
+          DMAMOV SAR 0x00001000\n",
+            0,
+            b"BC 00 00 10 00 00\n",
+        ),
         (b"DMALP 2 1", 1, b"line 1: range\n"),
         (b"DMALP 1", 1, b"line 1: operand\n"),
         (b"DMASTZ", 1, b"line 1: mnemonic\n"),
@@ -90,13 +100,20 @@ fn assembled(rt: HostRuntime) -> Result<(), Fail> {
         (b"DMASEV 03", 1, b"line 1: operand\n"),
         (b" DMAEND", 1, b"line 1: mnemonic\n"),
         (
-            b"DMANOP\n\nDMAWFE 3 invalid\ndmaend\n",
+            b"DMANOP\n\
+              \n\
+              DMAWFE 3 invalid\n\
+              dmaend\n",
             1,
             b"line 4: mnemonic\n",
         ),
         (b"DMAEND\r\n", 1, b"line 1: mnemonic\n"),
         (
-            b"DMAMOV CCR 0x003C40F1\nDMAMOV DAR 0x00000001\nDMAWFE 3 invalid\nDMASEV 31\nDMAEND\n",
+            b"DMAMOV CCR 0x003C40F1\n\
+              DMAMOV DAR 0x00000001\n\
+              DMAWFE 3 invalid\n\
+              DMASEV 31\n\
+              DMAEND\n",
             0,
             b"BC 01 F1 40 3C 00 BC 02 01 00 00 00 36 1A 34 F8\n00\n",
         ),
@@ -117,12 +134,20 @@ fn disassembled(rt: HostRuntime) -> Result<(), Fail> {
         (
             b"22 FF 04 08 3C 02 00",
             0,
-            b"DMALP 1 256\nDMALD\nDMAST\nDMALPEND 1 2\nDMAEND\n",
+            b"DMALP 1 256\n\
+              DMALD\n\
+              DMAST\n\
+              DMALPEND 1 2\n\
+              DMAEND\n",
         ),
         (
             b"22ff\t04\r\n08 3c02 00\n",
             0,
-            b"DMALP 1 256\nDMALD\nDMAST\nDMALPEND 1 2\nDMAEND\n",
+            b"DMALP 1 256\n\
+              DMALD\n\
+              DMAST\n\
+              DMALPEND 1 2\n\
+              DMAEND\n",
         ),
         (
             b"bc 00 00 10 00 00 36 1A",
@@ -152,17 +177,27 @@ fn planned(rt: HostRuntime) -> Result<(), Fail> {
         (
             b"0x1000+4 to 0x2000+4\n",
             0,
-            b"BC 00 00 10 00 00 BC 02 00 20 00 00 BC 01 05 40\n01 00 04 12 08 13 00\nbytes 23\ncost 8\n",
+            b"BC 00 00 10 00 00 BC 02 00 20 00 00 BC 01 05 40\n\
+              01 00 04 12 08 13 00\n\
+              bytes 23\n\
+              cost 8\n",
         ),
         (
             b"0x1000+4 to 0x2000+4 wait 3 signal 5\n",
             0,
-            b"36 18 BC 00 00 10 00 00 BC 02 00 20 00 00 BC 01\n05 40 01 00 04 12 08 13 34 28 00\nbytes 27\ncost 10\n",
+            b"36 18 BC 00 00 10 00 00 BC 02 00 20 00 00 BC 01\n\
+              05 40 01 00 04 12 08 13 34 28 00\n\
+              bytes 27\n\
+              cost 10\n",
         ),
         (
             b"0x1000+300 to 0x2000+300",
             0,
-            b"BC 00 00 10 00 00 BC 02 00 20 00 00 BC 01 F9 40\n3E 00 22 00 04 12 08 13 3C 04 BC 01 19 40 06 00\n04 12 08 13 BC 01 B1 40 2C 00 04 12 08 13 00\nbytes 47\ncost 20\n",
+            b"BC 00 00 10 00 00 BC 02 00 20 00 00 BC 01 F9 40\n\
+              3E 00 22 00 04 12 08 13 3C 04 BC 01 19 40 06 00\n\
+              04 12 08 13 BC 01 B1 40 2C 00 04 12 08 13 00\n\
+              bytes 47\n\
+              cost 20\n",
         ),
         (b"0x1+1048577 to 0x200001+1048577", 1, b"line 1: TooLong\n"),
         (
@@ -232,27 +267,46 @@ fn planned_pieces(rt: HostRuntime) -> Result<(), Fail> {
         (
             b"0x1001+1 to 0x2002+1",
             0,
-            b"BC 00 01 10 00 00 BC 02 02 20 00 00 BC 01 01 40\n00 00 04 12 08 13 00\nbytes 23\ncost 8\n",
+            b"BC 00 01 10 00 00 BC 02 02 20 00 00 BC 01 01 40\n\
+              00 00 04 12 08 13 00\n\
+              bytes 23\n\
+              cost 8\n",
         ),
         (
             b"0x1001+4113 to 0x4002+4113",
             0,
-            b"BC 00 01 10 00 00 BC 02 02 40 00 00 BC 01 F1 40\n3C 00 20 00 22 FF 04 12 08 13 3C 04 38 08 22 00\n04 12 08 13 3C 04 BC 01 01 40 00 00 04 12 08 13\n00\nbytes 49\ncost 1298\n",
+            b"BC 00 01 10 00 00 BC 02 02 40 00 00 BC 01 F1 40\n\
+              3C 00 20 00 22 FF 04 12 08 13 3C 04 38 08 22 00\n\
+              04 12 08 13 3C 04 BC 01 01 40 00 00 04 12 08 13\n\
+              00\n\
+              bytes 49\n\
+              cost 1298\n",
         ),
         (
             b"0x1+1048576 to 0x200001+1048576",
             0,
-            b"BC 00 01 00 00 00 BC 02 01 00 20 00 BC 01 F1 40\n3C 00 20 FF 22 FF 04 12 08 13 3C 04 38 08 00\nbytes 31\ncost 328197\n",
+            b"BC 00 01 00 00 00 BC 02 01 00 20 00 BC 01 F1 40\n\
+              3C 00 20 FF 22 FF 04 12 08 13 3C 04 38 08 00\n\
+              bytes 31\n\
+              cost 328197\n",
         ),
         (
             b"0x10+3,0x21+5 to 0x40+8",
             0,
-            b"BC 00 10 00 00 00 BC 02 40 00 00 00 BC 01 03 C0\n00 00 04 12 08 13 BC 01 01 40 00 00 04 12 08 13\nBC 00 21 00 00 00 BC 02 43 00 00 00 BC 01 41 40\n10 00 04 12 08 13 00\nbytes 55\ncost 20\n",
+            b"BC 00 10 00 00 00 BC 02 40 00 00 00 BC 01 03 C0\n\
+              00 00 04 12 08 13 BC 01 01 40 00 00 04 12 08 13\n\
+              BC 00 21 00 00 00 BC 02 43 00 00 00 BC 01 41 40\n\
+              10 00 04 12 08 13 00\n\
+              bytes 55\n\
+              cost 20\n",
         ),
         (
             b"0x100+4 to 0x108+4",
             0,
-            b"BC 00 00 01 00 00 BC 02 08 01 00 00 BC 01 05 40\n01 00 04 12 08 13 00\nbytes 23\ncost 8\n",
+            b"BC 00 00 01 00 00 BC 02 08 01 00 00 BC 01 05 40\n\
+              01 00 04 12 08 13 00\n\
+              bytes 23\n\
+              cost 8\n",
         ),
     ];
     for (input, status, text) in cases {
@@ -297,35 +351,69 @@ fn whole_runs(rt: HostRuntime) -> Result<(), Fail> {
         (b"# no line\n\n", 1, b"line 0: First\n"),
         (b"memory 1 8", 0, b""),
         (
-            b"memory 16 1\ncopy 0+4 to 2+4\ncopy 0+4 to 14+4\nwrite 15 AA BB\nread 15+1\n",
+            b"memory 16 1\n\
+              copy 0+4 to 2+4\n\
+              copy 0+4 to 14+4\n\
+              write 15 AA BB\n\
+              read 15+1\n",
             0,
-            b"refused SourceMeetsDestination\nrefused OutOfMemoryRange\nrefused OutOfMemoryRange\nread 0x0000000F 00\n",
+            b"refused SourceMeetsDestination\n\
+              refused OutOfMemoryRange\n\
+              refused OutOfMemoryRange\n\
+              read 0x0000000F 00\n",
         ),
         (b"memory 4294963201 1\n", 1, b"line 1: SizeOutOfRange\n"),
         (b"memory 16777217 1\n", 0, b""),
         (
-            b"memory 4294963200 1\nwrite 0xFFFFEFFC 01 02 03 04\ncopy 0xFFFFEFFC+4 to 0xFFE+4\nread 0xFFE+4\nwrite 0xFFFFEFFD 01 02 03 04\n",
+            b"memory 4294963200 1\n\
+              write 0xFFFFEFFC 01 02 03 04\n\
+              copy 0xFFFFEFFC+4 to 0xFFE+4\n\
+              read 0xFFE+4\n\
+              write 0xFFFFEFFD 01 02 03 04\n",
             0,
-            b"ok\ncopy finished 1 NoError residue 0\nread 0x00000FFE 01 02 03 04\nrefused OutOfMemoryRange\n",
+            b"ok\n\
+              copy finished 1 NoError residue 0\n\
+              read 0x00000FFE 01 02 03 04\n\
+              refused OutOfMemoryRange\n",
         ),
         (b"memory 64 300\n", 1, b"line 1: BadChannels\n"),
         (
-            b"memory 16 1\nread 16+0\nread 16+1\n",
+            b"memory 16 1\n\
+              read 16+0\n\
+              read 16+1\n",
             0,
             b"read 0x00000010\nrefused OutOfMemoryRange\n",
         ),
         (
-            b"memory 64 1\nwrite 0 01 02 03 04\ncopy 0+4,1+2 to 0x20+1,0x10+5\ncopy 0x20+1 to 0+1\nread 0+33\n",
+            b"memory 64 1\n\
+              write 0 01 02 03 04\n\
+              copy 0+4,1+2 to 0x20+1,0x10+5\n\
+              copy 0x20+1 to 0+1\n\
+              read 0+33\n",
             0,
-            b"ok\ncopy finished 1 NoError residue 0\ncopy finished 2 NoError residue 0\nread 0x00000000 01 02 03 04 00 00 00 00 00 00 00 00 00 00 00 00 02 03 04 02 03 00 00 00 00 00 00 00 00 00 00 00 01\n",
+            b"ok\n\
+              copy finished 1 NoError residue 0\n\
+              copy finished 2 NoError residue 0\n\
+              read 0x00000000 01 02 03 04 00 00 00 00 00 00 00 00 00 00 00 00 02 03 04 02 03 00 00 00 00 00 00 00 00 00 00 00 01\n",
         ),
         (
-            b"memory 64 1\ncopy 0+0 to 8+0\ncopy 0+4 to 8+5\ncopy 0+1048577 to 2000000+1048577\ncopy 0+4 to 8+2,9+2\ncopy 0xFFFFFFFF+2 to 0+2\n",
+            b"memory 64 1\n\
+              copy 0+0 to 8+0\n\
+              copy 0+4 to 8+5\n\
+              copy 0+1048577 to 2000000+1048577\n\
+              copy 0+4 to 8+2,9+2\n\
+              copy 0xFFFFFFFF+2 to 0+2\n",
             0,
-            b"refused EmptySegment\nrefused TotalsDiffer\nrefused TooLong\nrefused DestinationsMeet\nrefused SegmentWraps\n",
+            b"refused EmptySegment\n\
+              refused TotalsDiffer\n\
+              refused TooLong\n\
+              refused DestinationsMeet\n\
+              refused SegmentWraps\n",
         ),
         (
-            b"memory 64 1\nwrite 0 AA\nstop 0\n",
+            b"memory 64 1\n\
+              write 0 AA\n\
+              stop 0\n",
             1,
             b"line 3: Command\n",
         ),

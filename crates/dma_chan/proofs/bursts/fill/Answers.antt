@@ -1,4 +1,4 @@
-use Rattle.dma_chan.proofs.Rounds.{fill_step}
+use Rattle.dma_chan.proofs.BurstRounds.{fill_step}
 use Rattle.dma_chan.proofs.bursts.fill.Goals as goal
 
 pub loop-round-preserved : goal.loop-round-preserved

@@ -1,6 +1,6 @@
 use Rattle.std.proofs.Common.{ℕ, ◌++◌, ◌∙◌, ap, sym, arith, take, drop, length-take}
 use Rattle.circular_buffer.specs.Buffer.{buffer as ring}
-use Rattle.dma_chan.proofs.Rounds.{read_touched}
+use Rattle.dma_chan.proofs.BurstRounds.{read_touched}
 use Rattle.dma_chan.proofs.bursts.load_span.Goals as goal
 
 pub returns : goal.returns

@@ -1,4 +1,4 @@
-use Rattle.dma_chan.proofs.Parts.{drop_parts}
+use Rattle.dma_chan.proofs.TwoSlices.{drop_parts}
 use Rattle.dma_chan.proofs.bursts.past.Goals as goal
 
 pub returns-clause-bytes : goal.returns-clause-bytes

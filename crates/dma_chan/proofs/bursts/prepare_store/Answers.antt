@@ -1,8 +1,8 @@
 use Rattle.std.proofs.Common.{◌+◌, ◌≤◌, ◌∙◌, ap, sym, arith, refl, length}
 use Rattle.dma_mem.specs.Pages.{has_page}
-use Rattle.dma_chan.specs.Registers.{touched}
+use Rattle.dma_chan.specs.Bursts.{touched}
 use Rattle.dma_chan.specs.Ready.{none_missing}
-use Rattle.dma_chan.proofs.Readies.{part_all, part_short, pages_all}
+use Rattle.dma_chan.proofs.ReadyLaws.{part_all, part_short, pages_all}
 use Rattle.dma_chan.proofs.bursts.prepare_store.Goals as goal
 
 pub returns-then-is_on_page-clause-ok : goal.returns-then-is_on_page-clause-ok
@@ -12,7 +12,7 @@ returns-then-is_on_page-clause-ok c =
     let span = c.span-span.ensures in
     ap (λ b. none_missing m (touched b)) (sym c.destination_burst.ensures.value)
     ∙ pages_all m b c.destination_burst.ensures.some.1 (λ a low high.
-    ap (λ p. has_page m p) (c.is_on_page.ensures c.if-is_on_page.true a (omega (arith, span.addr, low)) (omega (arith, span.addr, span.len, high)))
+    ap (λ p. has_page m p) (c.is_on_page.ensures.page c.if-is_on_page.true a (omega (arith, span.addr, low)) (omega (arith, span.addr, span.len, high)))
     ∙ (rw c.in-Some.is at c.requires.known))
 
 pub returns-in-Ok-clause-ok : goal.returns-in-Ok-clause-ok

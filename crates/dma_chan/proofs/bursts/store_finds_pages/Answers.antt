@@ -1,7 +1,7 @@
 use Rattle.std.proofs.Common.{◌∙◌, ap, refl, length, min}
-use Rattle.dma_chan.specs.Registers.{touched}
+use Rattle.dma_chan.specs.Bursts.{touched}
 use Rattle.dma_chan.specs.Ready.{none_missing}
-use Rattle.dma_chan.proofs.Readies.{part_made}
+use Rattle.dma_chan.proofs.ReadyLaws.{part_made}
 use Rattle.dma_chan.proofs.bursts.store_finds_pages.Goals as goal
 
 pub returns : goal.returns

@@ -1,6 +1,6 @@
 use Rattle.std.proofs.Common.{arith}
-use Rattle.dma_chan.proofs.Parts.{span_within}
-use Rattle.dma_chan.proofs.Readies.{span_made}
+use Rattle.dma_chan.proofs.TwoSlices.{span_within}
+use Rattle.dma_chan.proofs.ReadyLaws.{span_made}
 use Rattle.dma_chan.proofs.bursts.store_span.Goals as goal
 
 pub write_parts-requires-clause-within : goal.write_parts-requires-clause-within

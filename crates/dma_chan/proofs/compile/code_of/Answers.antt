@@ -1,5 +1,5 @@
 use Rattle.std.proofs.Common.{arith, length, ◌≤◌}
-use Rattle.dma_chan.proofs.Spelled.{pieces_small, pieces_few}
+use Rattle.dma_chan.proofs.PieceCode.{pieces_small, pieces_few}
 use Rattle.dma_chan.proofs.compile.code_of.Goals as goal
 
 pub push_wait-requires : goal.push_wait-requires

@@ -1,5 +1,5 @@
 use Rattle.std.proofs.Common.{arith}
-use Rattle.dma_chan.proofs.Spelled.{are_ranges, same_count, compiled_bytes}
+use Rattle.dma_chan.proofs.PieceCode.{are_ranges, same_count, compiled_bytes}
 use Rattle.dma_chan.proofs.compile.compile.Goals as goal
 
 pub cut-requires-clause-sources : goal.cut-requires-clause-sources

@@ -1,5 +1,5 @@
 use Rattle.std.proofs.Common.{arith}
-use Rattle.dma_chan.proofs.Spelled.{cost_more}
+use Rattle.dma_chan.proofs.PieceCode.{cost_more}
 use Rattle.dma_chan.proofs.compile.pieces_cost.Goals as goal
 
 pub loop-piece-preserved : goal.loop-piece-preserved

@@ -1,5 +1,6 @@
 use Rattle.std.proofs.Common.{◌≡◌, ◌+◌, ◌*◌, ◌≤◌, map, drop}
-use Rattle.dma_chan.specs.Tree.{cost_of, in_order}
+use Rattle.dma_chan.specs.inner.Compiling.{cost_of}
+use Rattle.dma_chan.specs.Tree.{in_order}
 use Rattle.dma_chan.specs.Compiled.{piece_tree}
 use Rattle.dma_chan.proofs.compile.pieces_cost.Given as goal
 

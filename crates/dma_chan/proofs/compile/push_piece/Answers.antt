@@ -1,4 +1,4 @@
-use Rattle.dma_chan.proofs.Where.{appended}
+use Rattle.dma_chan.proofs.TreeParts.{appended}
 use Rattle.dma_chan.proofs.compile.push_piece.Goals as goal
 
 pub returns : goal.returns

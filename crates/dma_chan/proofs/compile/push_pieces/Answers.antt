@@ -1,4 +1,4 @@
-use Rattle.dma_chan.proofs.Spelled.{rest_more}
+use Rattle.dma_chan.proofs.PieceCode.{rest_more}
 use Rattle.dma_chan.proofs.compile.push_pieces.Goals as goal
 
 pub loop-piece-preserved : goal.loop-piece-preserved

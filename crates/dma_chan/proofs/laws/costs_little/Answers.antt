@@ -1,4 +1,4 @@
-use Rattle.dma_chan.proofs.Counted.{cost_is}
+use Rattle.dma_chan.proofs.TreeCosts.{cost_is}
 use Rattle.dma_chan.proofs.laws.costs_little.Goals as goal
 
 pub returns : goal.returns

@@ -1,4 +1,4 @@
-use Rattle.dma_chan.proofs.Readies.{ready_is}
+use Rattle.dma_chan.proofs.ReadyLaws.{ready_is}
 use Rattle.dma_chan.proofs.laws.finds_its_pages.Goals as goal
 
 pub returns : goal.returns

@@ -1,4 +1,4 @@
-use Rattle.dma_chan.proofs.Layers.{starts_at, ahead_is, left_is, step_is, turn_tells, survives}
+use Rattle.dma_chan.proofs.LayerLaws.{starts_at, ahead_is, left_is, step_is, turn_tells, survives}
 use Rattle.dma_chan.proofs.laws.runs_in_step.Goals as goal
 
 pub returns : goal.returns

@@ -1,4 +1,4 @@
-use Rattle.dma_chan.proofs.Shape.{shape_is, stored_is}
+use Rattle.dma_chan.proofs.ShapeLaws.{shape_is, stored_is}
 use Rattle.dma_chan.proofs.laws.stores_in_turn.Goals as goal
 
 pub returns : goal.returns

@@ -2,7 +2,7 @@ use Rattle.std.proofs.Common.{ℕ, List, refl, sym, ap, ◌∙◌, subst}
 use Rattle.dma_chan.specs.Exec.{State}
 use Rattle.dma_chan.specs.Channel.{state_of}
 use Rattle.dma_chan.specs.Run.{opening}
-use Rattle.dma_chan.proofs.Runs.{HasRun, run_on, stops_unread}
+use Rattle.dma_chan.proofs.RunAlone.{HasRun, run_on, stops_unread}
 use Rattle.dma_chan.proofs.run.run_on.Goals as goal
 
 pub loop-turn-preserved : goal.loop-turn-preserved

@@ -2,7 +2,7 @@ use Rattle.std.proofs.Common.{◌≡◌, ℕ, true}
 use Rattle.std.specs.Prelude.{IfSome}
 use Rattle.dma_mem.specs.Pages.{has_page}
 use Rattle.dma_chan.specs.Run.{opening}
-use Rattle.dma_chan.proofs.Runs.{HasRun}
+use Rattle.dma_chan.proofs.RunAlone.{HasRun}
 use Rattle.dma_chan.proofs.run.run_on.Given as goal
 
 abbrev pub invariant-loop-turn : goal.invariant-loop-turn

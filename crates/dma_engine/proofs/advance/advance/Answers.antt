@@ -1,5 +1,5 @@
-use Rattle.dma_engine.proofs.Chains.{chain-extends}
-use Rattle.dma_engine.proofs.Kept.{kept}
+use Rattle.dma_engine.proofs.CallLists.{chain-extends}
+use Rattle.dma_engine.proofs.OutcomesStay.{kept}
 use Rattle.dma_engine.proofs.advance.advance.Goals as goal
 
 pub returns-clause-begins : goal.returns-clause-begins

@@ -1,6 +1,6 @@
-use Rattle.dma_engine.proofs.Chains.{answers-extend}
-use Rattle.dma_engine.proofs.Deeds.{quiet_calls_keep, steps_add, ends_as_told}
-use Rattle.dma_engine.proofs.Given.{submits_give, terminates_finish}
+use Rattle.dma_engine.proofs.CallLists.{answers-extend}
+use Rattle.dma_engine.proofs.AnswerCounts.{quiet_calls_keep, steps_add, ends_as_told}
+use Rattle.dma_engine.proofs.CookieCounts.{submits_give, terminates_finish}
 use Rattle.dma_engine.proofs.laws.calls_add.Goals as goal
 
 pub returns : goal.returns

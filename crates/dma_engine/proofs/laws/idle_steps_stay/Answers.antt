@@ -1,4 +1,4 @@
-use Rattle.dma_engine.proofs.Idle as idle
+use Rattle.dma_engine.proofs.IdleSteps as idle
 use Rattle.dma_engine.proofs.laws.idle_steps_stay.Goals as goal
 
 pub returns : goal.returns

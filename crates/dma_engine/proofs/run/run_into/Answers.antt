@@ -1,7 +1,7 @@
 use Rattle.std.proofs.Common.{◌≡◌, ◌+◌, ◌∙◌, ◌++◌, ◌∷◌, [], ap, sym, take, append_assoc, arith}
 use Rattle.std.proofs.lemmas.List.{take_more}
-use Rattle.dma_engine.proofs.Chains.{AreAnswers-push, chain-extends}
-use Rattle.dma_engine.proofs.Kept.{kept}
+use Rattle.dma_engine.proofs.CallLists.{AreAnswers-push, chain-extends}
+use Rattle.dma_engine.proofs.OutcomesStay.{kept}
 use Rattle.dma_engine.proofs.run.run_into.Goals as goal
 
 pub loop-call-preserved : goal.loop-call-preserved

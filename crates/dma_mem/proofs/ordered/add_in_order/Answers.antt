@@ -1,5 +1,5 @@
 use Rattle.std.proofs.Common.{length, ap, subst, arith}
-use Rattle.dma_mem.proofs.Placed.{Found, added, adds_inner, adds_empty}
+use Rattle.dma_mem.proofs.RangeReplaced.{Found, added, adds_inner, adds_empty}
 use Rattle.dma_mem.proofs.RangeSets.{BeginBelow, EndBy}
 use Rattle.dma_mem.proofs.ordered.add_in_order.Goals as goal
 use Rattle.dma_mem.proofs.ordered.add_in_order.Goals.{After-ended_by-past}

@@ -1,5 +1,5 @@
 use Rattle.std.proofs.Common.{arith, sym}
-use Rattle.dma_mem.proofs.Sharing.{ranges_apart, ranges_past, ranges_tested, share-iff}
+use Rattle.dma_mem.proofs.SharedPlaces.{ranges_apart, ranges_past, ranges_tested, share-iff}
 use Rattle.dma_mem.proofs.segment.meets.Goals as goal
 use Rattle.dma_mem.proofs.segment.meets.Goals.{then-a-eq0-via-then-a-eq0, then-a-eq0-via-else-a-eq0+then-b-eq0}
 

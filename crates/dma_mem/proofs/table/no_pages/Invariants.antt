@@ -1,5 +1,5 @@
 use Rattle.std.proofs.Common.{◌≡◌, ℕ, [], length}
-use Rattle.dma_mem.specs.Pages.{page_at}
+use Rattle.dma_mem.specs.inner.PageTable.{page_at}
 use Rattle.dma_mem.proofs.table.no_pages.Given as goal
 
 abbrev pub invariant-loop-page : goal.invariant-loop-page

@@ -1,5 +1,5 @@
 use Rattle.std.proofs.Common.{arith, refl, ◌+◌, ◌-◌, ◌≡◌, length}
-use Rattle.dma_mem.proofs.Ranges.{put-bytes_at}
+use Rattle.dma_mem.proofs.BytesPut.{put-bytes_at}
 use Rattle.std.proofs.lemmas.List.{drop-drop}
 use Rattle.dma_mem.proofs.table.put_bytes.Goals as goal
 

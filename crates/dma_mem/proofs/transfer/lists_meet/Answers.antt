@@ -1,5 +1,5 @@
 use Rattle.std.proofs.Common.{◌∙◌}
-use Rattle.dma_mem.proofs.Accepted.{meets_any-places}
+use Rattle.dma_mem.proofs.TransferRules.{meets_any-places}
 use Rattle.dma_mem.proofs.transfer.lists_meet.Goals as goal
 
 pub returns : goal.returns

@@ -1,5 +1,5 @@
 use Rattle.std.proofs.Common.{◌∙◌}
-use Rattle.dma_mem.proofs.Sharing.{share_places}
+use Rattle.dma_mem.proofs.SharedPlaces.{share_places}
 use Rattle.dma_mem.proofs.transfer.meets_list.Goals as goal
 
 pub returns : goal.returns

@@ -1,4 +1,4 @@
-use Rattle.dma_mem.proofs.Neighbours.{NoOverlap}
+use Rattle.dma_mem.proofs.NeighboursMeet.{NoOverlap}
 use Rattle.dma_mem.proofs.transfer.neighbours_meet.Given as goal
 
 abbrev pub invariant-loop-next : goal.invariant-loop-next

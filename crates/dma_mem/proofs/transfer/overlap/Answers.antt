@@ -1,5 +1,5 @@
 use Rattle.std.proofs.Common.{◌∙◌}
-use Rattle.dma_mem.proofs.Neighbours.{overlap_one}
+use Rattle.dma_mem.proofs.NeighboursMeet.{overlap_one}
 use Rattle.dma_mem.proofs.transfer.overlap.Goals as goal
 
 pub returns : goal.returns

@@ -2,7 +2,7 @@ use Rattle.std.proofs.Common.{◌<◌, refl, subst, sym, ◌∙◌}
 use Rattle.std.specs.List.Sorted.{IsPermutation}
 use Rattle.std.proofs.lemmas.List.Sorted.{All-permutation}
 use Rattle.dma_mem.specs.declared.segment.Segment.{Segment}
-use Rattle.dma_mem.proofs.Neighbours.{ordered_apart, overlap_sorted}
+use Rattle.dma_mem.proofs.NeighboursMeet.{ordered_apart, overlap_sorted}
 use Rattle.dma_mem.proofs.transfer.overlap_of_many.Goals as goal
 use Rattle.dma_mem.proofs.transfer.overlap_of_many.Goals.{After-sort_by_address}
 

@@ -1,5 +1,5 @@
 use Rattle.std.proofs.Common.{sym, ◌∙◌, arith}
-use Rattle.dma_mem.proofs.Positions.{place_within, place_past}
+use Rattle.dma_mem.proofs.PlaceAt.{place_within, place_past}
 use Rattle.dma_mem.proofs.transfer.place_at.Goals as goal
 
 pub returns-then-left-s : goal.returns-then-left-s

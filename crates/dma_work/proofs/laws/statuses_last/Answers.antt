@@ -1,4 +1,4 @@
-use Rattle.dma_work.proofs.Staying.{stays_known, stays_complete, closed_is_complete}
+use Rattle.dma_work.proofs.StatusLaws.{stays_known, stays_complete, closed_is_complete}
 use Rattle.dma_work.proofs.laws.statuses_last.Goals as goal
 
 pub returns : goal.returns

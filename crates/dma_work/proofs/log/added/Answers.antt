@@ -1,6 +1,6 @@
 use Rattle.std.proofs.Common.{sym, ◌∙◌, ap}
-use Rattle.dma_work.specs.Log.{Reached, head_of}
-use Rattle.dma_work.proofs.Adding.{adds_moves}
+use Rattle.dma_work.specs.inner.Log.{Reached, head_of}
+use Rattle.dma_work.proofs.LogSteps.{adds_moves}
 use Rattle.dma_work.proofs.log.added.Goals as goal
 
 pub compare_exchange-found-requires : goal.compare_exchange-found-requires

@@ -1,6 +1,7 @@
 use Rattle.std.proofs.Common.{◌≡◌, vec_len}
 use Rattle.std.specs.List.{All}
-use Rattle.dma_work.specs.Known.{Known, known_by}
+use Rattle.dma_work.specs.Known.{Known}
+use Rattle.dma_work.specs.inner.Seen.{known_by}
 use Rattle.dma_work.proofs.parts.readers_of.Given as goal
 
 abbrev pub invariant-loop-made : goal.invariant-loop-made

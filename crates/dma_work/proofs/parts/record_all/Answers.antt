@@ -1,10 +1,10 @@
 use Rattle.std.proofs.Common.{◌≡◌, ◌+◌, [], ◌∷◌, ◌++◌, take, length, ap, sym, ◌∙◌, arith}
 use Rattle.std.proofs.lemmas.List.{length-take}
 use Rattle.dma_engine.specs.Ticks.{ticks_of}
-use Rattle.dma_engine.proofs.Given.{ticks_are_few}
-use Rattle.dma_work.specs.Log.{Reached}
+use Rattle.dma_engine.proofs.CookieCounts.{ticks_are_few}
+use Rattle.dma_work.specs.inner.Log.{Reached}
 use Rattle.dma_work.specs.Ticks.{board_from}
-use Rattle.dma_work.proofs.Opening.{opens_empty, ticks_more}
+use Rattle.dma_work.proofs.FirstBoards.{opens_empty, ticks_more}
 use Rattle.dma_work.proofs.parts.record_all.Goals as goal
 
 pub record_one-requires-clause-few : goal.record_one-requires-clause-few

@@ -1,6 +1,7 @@
 use Rattle.std.proofs.Common.{◌≡◌, take}
 use Rattle.dma_engine.specs.Ticks.{ticks_of}
-use Rattle.dma_work.specs.Ticks.{board_from, no_counts_yet}
+use Rattle.dma_work.specs.Ticks.{board_from}
+use Rattle.dma_work.specs.inner.TickForms.{no_counts_yet}
 use Rattle.dma_work.proofs.parts.record_all.Given as goal
 
 abbrev pub invariant-loop-index : goal.invariant-loop-index

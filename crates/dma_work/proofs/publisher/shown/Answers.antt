@@ -1,4 +1,4 @@
-use Rattle.dma_work.proofs.Keeping.{grows}
+use Rattle.dma_work.proofs.PublishedRule.{grows}
 use Rattle.dma_work.proofs.publisher.shown.Goals as goal
 
 pub publish_as-writer-requires : goal.publish_as-writer-requires

@@ -1,4 +1,4 @@
-use Rattle.dma_work.proofs.Keeping.{grows, later_self}
+use Rattle.dma_work.proofs.PublishedRule.{grows, later_self}
 use Rattle.dma_work.proofs.reader.look.Goals as goal
 
 pub enter_as-requires : goal.enter_as-requires

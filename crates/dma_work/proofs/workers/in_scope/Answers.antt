@@ -4,9 +4,9 @@ use Rattle.std.proofs.lemmas.List.{get_or-set_other}
 use Rattle.dma_work.specs.declared.job.Job.{Job}
 use Rattle.dma_work.specs.declared.workers.Begun.{Begun}
 use Rattle.dma_work.specs.declared.workers.Begun.TheVariants.{Started, Refused, Done}
-use Rattle.dma_work.specs.Begun.{IsOf, IsOwed}
+use Rattle.dma_work.specs.inner.Begun.{IsOf, IsOwed}
 use Rattle.dma_work.specs.Desk.{TallyCounts}
-use Rattle.dma_work.proofs.Rows.{pushed, some_item}
+use Rattle.dma_work.proofs.ItemsOfLists.{pushed, some_item}
 use Rattle.dma_work.proofs.workers.in_scope.Goals as goal
 
 owed_of : (b : Begun) (worker turns : ℕ) → IsOf b worker turns → IsOwed b

@@ -2,7 +2,7 @@ use Rattle.std.proofs.Common.{◌≡◌, ◌<◌, ◌≤◌, ℕ, length}
 use Rattle.std.specs.Prelude.{slice_index_or, vec_len, vec_capacity}
 use Rattle.dma_work.specs.declared.job.Job.{Job}
 use Rattle.dma_work.specs.declared.workers.Begun.{Begun}
-use Rattle.dma_work.specs.Begun.{IsBegun, IsOf}
+use Rattle.dma_work.specs.inner.Begun.{IsBegun, IsOf}
 use Rattle.dma_work.specs.Desk.{TallyCounts}
 use Rattle.dma_work.proofs.workers.in_scope.Given as goal
 

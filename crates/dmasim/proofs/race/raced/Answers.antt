@@ -1,6 +1,6 @@
 use Rattle.std.proofs.Common.{sym, subst}
 use Rattle.std.proofs.lemmas.Result.{IfOk-weaker, on_err_weaker}
-use Rattle.dmasim.specs.Race.{PrintsFirst}
+use Rattle.dmasim.specs.inner.RaceSteps.{PrintsFirst}
 use Rattle.dmasim.proofs.RaceLemmas.{all_then_none, go_or_missing}
 use Rattle.dmasim.proofs.race.raced.Goals as goal
 

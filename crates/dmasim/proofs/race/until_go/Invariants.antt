@@ -1,6 +1,6 @@
 -- The lines so far printed what they may, and the reader is still one of this desk.
 use Rattle.std.proofs.Common.{◌≡◌, length, take}
-use Rattle.dmasim.specs.Race.{PrintsAll}
+use Rattle.dmasim.specs.inner.RaceSteps.{PrintsAll}
 use Rattle.dmasim.proofs.race.until_go.Given as goal
 
 abbrev pub invariant-loop-line : goal.invariant-loop-line

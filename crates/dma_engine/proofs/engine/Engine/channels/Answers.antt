@@ -1,5 +1,5 @@
 use Rattle.std.proofs.Common.{arith}
-use Rattle.dma_engine.specs.Inside.{parts_of}
+use Rattle.dma_engine.specs.inner.Inside.{parts_of}
 use Rattle.dma_engine.proofs.Sizes.{few-queues}
 use Rattle.dma_engine.proofs.engine.Engine.channels.Goals as goal
 

@@ -1,11 +1,11 @@
 use Rattle.std.proofs.Common.{◌≡◌, ◌+◌, ◌<◌, ◌∙◌, ap, sym, length, arith, true, false}
 use Rattle.dma_mem.specs.Places.{lies_below}
-use Rattle.dma_engine.specs.Holds.{view_of}
-use Rattle.dma_engine.specs.Inside.{parts_of}
+use Rattle.dma_engine.specs.inner.Holds.{view_of}
+use Rattle.dma_engine.specs.inner.Inside.{parts_of}
 use Rattle.dma_engine.specs.Object.{channel, used}
 use Rattle.dma_engine.specs.View.{View, EngineState, channels, object_of, size}
-use Rattle.dma_engine.proofs.Answered.{check-out, check-spent, check-fine}
-use Rattle.dma_engine.proofs.Queues.{many-queues, holds-at}
+use Rattle.dma_engine.proofs.CallCases.{check-out, check-spent, check-fine}
+use Rattle.dma_engine.proofs.Queues.{many-queues, holds-at, queue-there}
 use Rattle.dma_engine.proofs.Sizes.{size-is}
 use Rattle.dma_engine.proofs.engine.Engine.check_submit.Goals as goal
 
@@ -14,7 +14,7 @@ returns-then-not-lies_below-clause-told c =
     let p = parts_of c.self.inside in
     let v = c.args.self.now.view in
     let is : view_of p ≡ v = ap (λ (s : EngineState). s.view) c.self.view_is in
-    let there : c.args.ch < channels v = omega (arith, many-queues p c.self.invariant, ap channels is, c.if-index-len.false, c.from-index.ensures, c.len.ensures, c.self.inside.queues.ok.0) in
+    let there : c.args.ch < channels v = c.in_ok-index.ensures.there.1 in
     let out : lies_below c.args.transfer.now (size v) ≡ false = ap (lies_below c.args.transfer.now) (sym (size-is p ∙ ap size is)) ∙ sym c.if-not-lies_below.ensures.below in
     check-out v c.args.ch (used (channel (object_of v) c.args.ch) + 1) c.args.transfer.now there out
 
@@ -22,24 +22,24 @@ pub returns-then-given-ge-LAST_COOKIE-clause-told : goal.returns-then-given-ge-L
 returns-then-given-ge-LAST_COOKIE-clause-told c =
     let p = parts_of c.self.inside in
     let v = c.args.self.now.view in
-    let i = c.from-index.result in
+    let i = c.in_ok-index.index in
     let is : view_of p ≡ v = ap (λ (s : EngineState). s.view) c.self.view_is in
-    let less : i < length p.queues = omega (arith, c.if-index-len.false, c.len.ensures, c.self.inside.queues.ok.0) in
+    let less : i < length p.queues = queue-there p c.args.self.now.view c.args.ch c.in_ok-index.index c.self.invariant (ap (λ (s : EngineState). s.view) c.self.view_is) c.in_ok-index.ensures.there in
     let there : i < channels v = omega (arith, many-queues p c.self.invariant, ap channels is, less) in
     let below : lies_below c.args.transfer.now (size v) ≡ true = ap (lies_below c.args.transfer.now) (sym (size-is p ∙ ap size is)) ∙ sym c.if-not-lies_below.ensures.below in
     let at = holds-at p c.self.invariant i c.index.result.now less c.index.ensures in
     let given = c.len-given.ensures ∙ at.tied.many ∙ ap (λ (w : View). used (channel (object_of w) i)) is in
-    rw (← c.from-index.ensures) (check-spent v i _ c.args.transfer.now there below (omega (arith, given, c.if-given-ge-LAST_COOKIE.true)))
+    rw (← c.in_ok-index.ensures.there.0) (check-spent v i _ c.args.transfer.now there below (omega (arith, given, c.if-given-ge-LAST_COOKIE.true)))
 
 pub returns-clause-told : goal.returns-clause-told
 returns-clause-told c =
     let p = parts_of c.self.inside in
     let v = c.args.self.now.view in
-    let i = c.from-index.result in
+    let i = c.in_ok-index.index in
     let is : view_of p ≡ v = ap (λ (s : EngineState). s.view) c.self.view_is in
-    let less : i < length p.queues = omega (arith, c.if-index-len.false, c.len.ensures, c.self.inside.queues.ok.0) in
+    let less : i < length p.queues = queue-there p c.args.self.now.view c.args.ch c.in_ok-index.index c.self.invariant (ap (λ (s : EngineState). s.view) c.self.view_is) c.in_ok-index.ensures.there in
     let there : i < channels v = omega (arith, many-queues p c.self.invariant, ap channels is, less) in
     let below : lies_below c.args.transfer.now (size v) ≡ true = ap (lies_below c.args.transfer.now) (sym (size-is p ∙ ap size is)) ∙ sym c.if-not-lies_below.ensures.below in
     let at = holds-at p c.self.invariant i c.index.result.now less c.index.ensures in
     let given : c.len-given.result ≡ used (channel (object_of v) i) = c.len-given.ensures ∙ at.tied.many ∙ ap (λ (w : View). used (channel (object_of w) i)) is in
-    rw (given, ← c.from-index.ensures) (check-fine v i _ c.args.transfer.now there below (omega (arith, given, c.if-given-ge-LAST_COOKIE.false)))
+    rw (given, ← c.in_ok-index.ensures.there.0) (check-fine v i _ c.args.transfer.now there below (omega (arith, given, c.if-given-ge-LAST_COOKIE.false)))

@@ -1,5 +1,5 @@
 use Rattle.std.proofs.Common.{◌<◌, arith, length, sym}
-use Rattle.dma_engine.specs.Inside.{parts_of}
+use Rattle.dma_engine.specs.inner.Inside.{parts_of}
 use Rattle.dma_engine.proofs.Endings.{stored-small}
 use Rattle.dma_engine.proofs.Queues.{many-queues}
 use Rattle.dma_engine.proofs.engine.Engine.done.Goals as goal

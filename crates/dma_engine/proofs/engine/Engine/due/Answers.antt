@@ -1,11 +1,11 @@
 use Rattle.std.proofs.Common.{◌≡◌, ◌<◌, ◌∙◌, sym, arith, length}
 use Rattle.dma_chan.specs.Traffic.{member}
-use Rattle.dma_chan.proofs.Layers.{ahead_is}
-use Rattle.dma_engine.specs.Due.{IsNext}
-use Rattle.dma_engine.specs.Inside.{parts_of}
+use Rattle.dma_chan.proofs.LayerLaws.{ahead_is}
+use Rattle.dma_engine.specs.inner.Due.{IsNext}
+use Rattle.dma_engine.specs.inner.Inside.{parts_of}
 use Rattle.dma_engine.specs.Turn.{last_step}
-use Rattle.dma_engine.proofs.Ruled.{running}
-use Rattle.dma_engine.proofs.Stepping.{make-due, ahead-member}
+use Rattle.dma_engine.proofs.TransferRules.{running}
+use Rattle.dma_engine.proofs.StepCases.{make-due, ahead-member}
 use Rattle.dma_engine.proofs.engine.Engine.due.Goals as goal
 
 pub unreachable-requires : goal.unreachable-requires

@@ -2,16 +2,16 @@ use Rattle.std.proofs.Common.{rules, ◌≢◌, ◌∙◌, ap, sym}
 use Rattle.std.specs.Prelude.{is_some}
 use Rattle.dma_insn.specs.declared.insn.Insn.TheVariants.{End}
 use Rattle.dma_chan.specs.Exec.{fault_in}
-use Rattle.dma_chan.specs.Layer.{carried_out}
+use Rattle.dma_chan.specs.Layer.{effect_of}
 use Rattle.dma_chan.specs.Traffic.{member, read_places, written_places}
-use Rattle.dma_engine.specs.Due.{IsNext}
-use Rattle.dma_engine.specs.Holds.{view_of}
-use Rattle.dma_engine.specs.Inside.{parts_of}
+use Rattle.dma_engine.specs.inner.Due.{IsNext}
+use Rattle.dma_engine.specs.inner.Holds.{view_of}
+use Rattle.dma_engine.specs.inner.Inside.{parts_of}
 use Rattle.dma_engine.specs.Turn.{Stepped, ends, turn}
 use Rattle.dma_engine.specs.View.{EngineState}
-use Rattle.dma_engine.proofs.Executed.{the_step, shared}
+use Rattle.dma_engine.proofs.InstructionSteps.{the_step, shared}
 use Rattle.dma_engine.proofs.Rooms.{ends-insn}
-use Rattle.dma_engine.proofs.Stepping.{due, due-ahead}
+use Rattle.dma_engine.proofs.StepCases.{due, due-ahead}
 use Rattle.dma_engine.proofs.engine.Engine.ending.Goals as goal
 
 pub failing_at-requires : goal.failing_at-requires
@@ -33,7 +33,7 @@ returns-in_default-insn c =
     let not_end : member t n ≢ End = λ e. c.in_default-insn.not-End (c.insn.ensures ∙ sym d.holds ∙ e) in
     let one = the_step p c.self.invariant ch q d.it in
     c.is_some.ensures ∙ ap is_some (c.failing_at.ensures p.events) ∙ ap (λ x. is_some (fault_in x)) one.turn
-    ∙ ap (λ k. is_some (fault_in (carried_out (member t n) (read_places t n) (written_places t n) k (shared p)).0)) c.self.invariant.marks
+    ∙ ap (λ k. is_some (fault_in (effect_of (member t n) (read_places t n) (written_places t n) k (shared p)).0)) c.self.invariant.marks
     ∙ sym (ends-insn v ch n t (shared p) (member t n) not_end)
     ∙ sym (ap (λ (s : Stepped). ends s.0) d.turn_is)
     ∙ ap (λ (s : EngineState). ends (turn s.view ch).0) c.self.view_is

@@ -1,6 +1,6 @@
 use Rattle.std.proofs.Common.{◌<◌, arith, length, sym}
 use Rattle.std.proofs.lemmas.Bool.{ltb-true}
-use Rattle.dma_engine.specs.Inside.{parts_of}
+use Rattle.dma_engine.specs.inner.Inside.{parts_of}
 use Rattle.dma_engine.proofs.Boards.{queue-small}
 use Rattle.dma_engine.proofs.engine.Engine.finished.Goals as goal
 

@@ -1,7 +1,7 @@
 use Rattle.std.proofs.Common.{◌≡◌, ◌<◌, ◌∙◌, ap, arith, length}
 use Rattle.std.proofs.lemmas.List.Sums.{sum_by_more}
-use Rattle.dma_engine.specs.Inside.{parts_of}
-use Rattle.dma_engine.specs.Object.{channel, finished, new_channel}
+use Rattle.dma_engine.specs.inner.Inside.{parts_of}
+use Rattle.dma_engine.specs.Object.{channel, finished, empty_channel}
 use Rattle.dma_engine.specs.View.{EngineState, object_of}
 use Rattle.dma_engine.proofs.Boards.{queue-small}
 use Rattle.dma_engine.proofs.Queues.{holds-at, many-queues}
@@ -26,5 +26,5 @@ loop-index-preserved c =
     let at = holds-at p c.self.invariant i c.index.result.now less c.index.ensures in
     let many = many-queues p c.self.invariant ∙ ap (λ (s : EngineState). length (object_of s.view).channels) c.self.view_is in
     let here : length c.index.result.now.outcomes.items ≡ finished (channel (object_of v) i) = ap length at.tied.outcomes ∙ ap (λ (s : EngineState). finished (channel (object_of s.view) i)) c.self.view_is in
-    let more = sum_by_more finished (object_of v).channels i new_channel (omega (arith, less, many)) in
+    let more = sum_by_more finished (object_of v).channels i empty_channel (omega (arith, less, many)) in
     (omega (arith, more, here, c.len.ensures, c.loop-index.invariant.0), omega (arith, small.0, small.1, c.len.ensures, c.loop-index.invariant.1))

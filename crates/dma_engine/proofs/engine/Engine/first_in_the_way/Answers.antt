@@ -1,11 +1,10 @@
-use Rattle.std.proofs.Common.{◌≡◌, ◌<◌, ◌+◌, ap, sym, ◌∙◌, subst, arith, length, Option}
+use Rattle.std.proofs.Common.{rules, ◌≡◌, ◌<◌, ◌+◌, ap, sym, ◌∙◌, subst, arith, length, Option}
 use Rattle.dma_engine.specs.declared.ranges.Ranges.{Ranges}
-use Rattle.dma_engine.specs.Answer.{named}
-use Rattle.dma_engine.specs.Inside.{parts_of}
+use Rattle.dma_engine.specs.inner.Inside.{parts_of}
 use Rattle.dma_engine.specs.Object.{channel, finished}
-use Rattle.dma_engine.specs.Ranges.{AreOfRunning}
+use Rattle.dma_engine.specs.inner.Ranges.{AreOfRunning}
 use Rattle.dma_engine.specs.View.{EngineState, object_of, channels, runs}
-use Rattle.dma_engine.specs.Ways.{is_in_the_way}
+use Rattle.dma_engine.specs.inner.Ways.{named, is_in_the_way}
 use Rattle.dma_engine.proofs.Boards.{queue-small}
 use Rattle.dma_engine.proofs.InTheWay.{way-here, passed-over, nothing-there}
 use Rattle.dma_engine.proofs.Queues.{holds-at, many-queues}
@@ -46,7 +45,7 @@ returns-then-has c =
     let number : c.len.result + 1 ≡ finished (channel (object_of v) i) + 1 = ap (λ n. n + 1) (c.len.ensures ∙ ap length at.tied.outcomes ∙ ap (λ (s : EngineState). finished (channel (object_of s.view) i)) c.self.view_is) in
     let kept = subst (λ (s : EngineState). AreOfRunning q.ranges (runs (object_of s.view) s.view.schedule i)) c.self.view_is at.ranges in
     let there = subst (λ (o : Option Ranges). AreOfRunning o (runs (object_of v) v.schedule i)) c.in-Some.is kept in
-    way-here (is_in_the_way c.args.way.now) (object_of v) v.schedule i (c.len.result + 1) c.in-Some.ranges less c.loop-index.invariant there number c.if-has.ensures
+    search (rules, way-here (is_in_the_way c.args.way.now) (object_of v) v.schedule i (c.len.result + 1) c.in-Some.ranges less c.loop-index.invariant there number c.if-has.ensures)
 
 pub loop-index-preserved : goal.loop-index-preserved
 loop-index-preserved c =

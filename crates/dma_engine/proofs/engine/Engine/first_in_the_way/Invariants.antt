@@ -1,6 +1,6 @@
 use Rattle.std.proofs.Common.{◌≡◌, None, find}
 use Rattle.dma_engine.specs.View.{object_of}
-use Rattle.dma_engine.specs.Ways.{is_in_the_way}
+use Rattle.dma_engine.specs.inner.Ways.{is_in_the_way}
 use Rattle.dma_engine.proofs.WhatRuns.{below}
 use Rattle.dma_engine.proofs.engine.Engine.first_in_the_way.Given as goal
 

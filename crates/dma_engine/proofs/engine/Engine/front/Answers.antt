@@ -1,7 +1,7 @@
 use Rattle.std.proofs.Common.{◌<◌, ◌∙◌, arith, length, ap}
-use Rattle.dma_engine.specs.Due.{front_told}
-use Rattle.dma_engine.specs.Found.{front_in}
-use Rattle.dma_engine.specs.Inside.{parts_of}
+use Rattle.dma_engine.specs.inner.Due.{front_told}
+use Rattle.dma_engine.specs.inner.Found.{front_in}
+use Rattle.dma_engine.specs.inner.Inside.{parts_of}
 use Rattle.dma_engine.specs.Object.{channel}
 use Rattle.dma_engine.specs.View.{EngineState, object_of}
 use Rattle.dma_engine.proofs.InTheWay.{few-issued, front_found}

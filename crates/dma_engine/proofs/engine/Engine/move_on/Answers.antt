@@ -2,11 +2,11 @@ use Rattle.std.proofs.Common.{◌≡◌, ◌∙◌, refl, sym, inl, inr}
 use Rattle.dma_chan.specs.Layer.{step_at}
 use Rattle.dma_chan.specs.declared.turn.ChanTurn.TheVariants.{Moved, Fault}
 use Rattle.dma_chan.specs.declared.turn.FaultKind.TheVariants.{DataReadErr, DataWriteErr}
-use Rattle.dma_engine.specs.Due.{IsDue, IsNext, Finishes, failure_of}
-use Rattle.dma_engine.specs.Holds.{view_of}
-use Rattle.dma_engine.specs.Inside.{parts_of}
-use Rattle.dma_engine.proofs.Executed.{ready-here, taken-small, the_step, shared, went_on, went_on-answers, failed, only-so}
-use Rattle.dma_engine.proofs.Stepping.{GoesOn, due, due-ahead, due-other}
+use Rattle.dma_engine.specs.inner.Due.{IsDue, IsNext, Finishes, failure_of}
+use Rattle.dma_engine.specs.inner.Holds.{view_of}
+use Rattle.dma_engine.specs.inner.Inside.{parts_of}
+use Rattle.dma_engine.proofs.InstructionSteps.{ready-here, taken-small, the_step, shared, went_on, went_on-answers, failed, only-so}
+use Rattle.dma_engine.proofs.StepCases.{GoesOn, due, due-ahead, due-other}
 use Rattle.dma_engine.proofs.engine.Engine.move_on.Goals as goal
 
 pub execute-turn-requires-clause-next : goal.execute-turn-requires-clause-next

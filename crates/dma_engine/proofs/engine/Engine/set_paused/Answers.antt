@@ -1,43 +1,45 @@
 use Rattle.std.proofs.Common.{◌≡◌, ◌<◌, ◌∙◌, ap, length, subst, sym, arith}
+use Rattle.std.specs.Prelude.{if◌then◌else◌}
+use Rattle.dma_engine.specs.declared.call.Call.TheVariants.{Pause, Resume}
+use Rattle.dma_engine.specs.declared.call.Reply.TheVariants.{Done}
 use Rattle.dma_engine.specs.Answer.{with_pause}
-use Rattle.dma_engine.specs.Holds.{view_of}
-use Rattle.dma_engine.specs.Inside.{parts_of, room_of}
+use Rattle.dma_engine.specs.inner.Holds.{view_of}
+use Rattle.dma_engine.specs.inner.Inside.{parts_of, room_of}
 use Rattle.dma_engine.specs.Room.{HasRoom}
 use Rattle.dma_engine.specs.View.{View, EngineState, channels, object_of}
-use Rattle.dma_engine.proofs.Answered.{paused-gone, paused-done}
-use Rattle.dma_engine.proofs.Queues.{many-queues}
-use Rattle.dma_engine.proofs.Quiet.{holds-paused, view-paused}
+use Rattle.dma_engine.proofs.CallCases.{paused-gone, paused-done, refusal}
+use Rattle.dma_engine.proofs.Queues.{many-queues, queue-there}
+use Rattle.dma_engine.proofs.QueueCalls.{holds-paused, view-paused}
 use Rattle.dma_engine.proofs.Rooms.{room-grows, queues-grow}
 use Rattle.dma_engine.proofs.engine.Engine.set_paused.Goals as goal
 
-pub returns-then-index-len-clause-answer : goal.returns-then-index-len-clause-answer
-returns-then-index-len-clause-answer c =
-    let p = parts_of c.self.inside in
-    let is : view_of p ≡ c.args.self.now.view = ap (λ (s : EngineState). s.view) c.self.view_is in
-    let many = many-queues p c.self.invariant ∙ ap channels is in
-    paused-gone c.args.self.now.view c.args.ch c.args.paused (omega (arith, many, c.if-index-len.true, c.from-index.ensures, c.len.ensures, c.self.inside.queues.ok.0))
+pub returns-in_err-index-clause-answer : goal.returns-in_err-index-clause-answer
+returns-in_err-index-clause-answer c =
+    let v = c.args.self.now.view in
+    refusal (λ _. Done) v v (if c.args.paused then Pause c.args.ch else Resume c.args.ch) _ c.from_residual.result c.from_residual.ensures.1
+    (rw c.in_err-index.ensures.none.0 (paused-gone v c.args.ch c.args.paused c.in_err-index.ensures.none.1))
 
 pub invariant_of-self : goal.invariant_of-self
 invariant_of-self c =
     let p = parts_of c.self.inside in
-    let less : c.from-index.result < length p.queues = omega (arith, c.if-index-len.false, c.len.ensures, c.self.inside.queues.ok.0) in
-    holds-paused p c.from-index.result c.index_mut-queue.result.now c.args.paused c.self.invariant less c.index_mut-queue.ensures.value
+    let less : c.in_ok-index.index < length p.queues = queue-there p c.args.self.now.view c.args.ch c.in_ok-index.index c.self.invariant (ap (λ (s : EngineState). s.view) c.self.view_is) c.in_ok-index.ensures.there in
+    holds-paused p c.in_ok-index.index c.index_mut-queue.result.now c.args.paused c.self.invariant less c.index_mut-queue.ensures.value
 
 pub returns-clause-answer : goal.returns-clause-answer
 returns-clause-answer c =
     let p = parts_of c.self.inside in
     let is : view_of p ≡ c.args.self.now.view = ap (λ (s : EngineState). s.view) c.self.view_is in
-    let less : c.from-index.result < length p.queues = omega (arith, c.if-index-len.false, c.len.ensures, c.self.inside.queues.ok.0) in
+    let less : c.in_ok-index.index < length p.queues = queue-there p c.args.self.now.view c.args.ch c.in_ok-index.index c.self.invariant (ap (λ (s : EngineState). s.view) c.self.view_is) c.in_ok-index.ensures.there in
     let many = many-queues p c.self.invariant ∙ ap channels is in
-    let view = view-paused p c.from-index.result c.index_mut-queue.result.now c.args.paused c.self.invariant less c.index_mut-queue.ensures.value ∙ ap (λ (w : View). with_pause w c.from-index.result c.args.paused) is in
-    rw (← c.from-index.ensures) (paused-done c.args.self.now.view _ c.from-index.result c.args.paused (omega (arith, many, less)) view)
+    let view = view-paused p c.in_ok-index.index c.index_mut-queue.result.now c.args.paused c.self.invariant less c.index_mut-queue.ensures.value ∙ ap (λ (w : View). with_pause w c.in_ok-index.index c.args.paused) is in
+    rw (← c.in_ok-index.ensures.there.0) (paused-done c.args.self.now.view _ c.in_ok-index.index c.args.paused (omega (arith, many, less)) view)
 
 pub returns-clause-kept : goal.returns-clause-kept
 returns-clause-kept c =
     let p = parts_of c.self.inside in
-    let i = c.from-index.result in
+    let i = c.in_ok-index.index in
     let q = c.index_mut-queue.result.now in
-    let less : i < length p.queues = omega (arith, c.if-index-len.false, c.len.ensures, c.self.inside.queues.ok.0) in
+    let less : i < length p.queues = queue-there p c.args.self.now.view c.args.ch c.in_ok-index.index c.self.invariant (ap (λ (s : EngineState). s.view) c.self.view_is) c.in_ok-index.ensures.there in
     let before : EngineState = record { view = view_of p; memory = p.memory; room = room_of c.self.inside } in
     let object = ap object_of (view-paused p i q c.args.paused c.self.invariant less c.index_mut-queue.ensures.value) in
     let r = record q { paused = c.args.paused } in

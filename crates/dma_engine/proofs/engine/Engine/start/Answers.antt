@@ -2,18 +2,22 @@ use Rattle.std.proofs.Common.{◌≡◌, ◌∙◌, ◌+◌, ◌<◌, Some, ap, 
 use Rattle.std.specs.Prelude.{is_some, slice_set}
 use Rattle.std.proofs.lemmas.List.{set-get_or}
 use Rattle.dma_mem.specs.Places.{Descriptor, destinations}
-use Rattle.dma_chan.proofs.Readies.{on_pages}
-use Rattle.dma_engine.specs.Due.{front_told}
-use Rattle.dma_engine.specs.Found.{front_in}
-use Rattle.dma_engine.specs.Holds.{Parts, view_of}
-use Rattle.dma_engine.specs.Inside.{parts_of}
+use Rattle.dma_chan.proofs.ReadyLaws.{on_pages}
+use Rattle.dma_engine.specs.declared.call.Call.TheVariants.{Step}
+use Rattle.dma_engine.specs.declared.fault.EngineFault.TheVariants.{NoMemory}
+use Rattle.dma_engine.specs.declared.call.Reply.TheVariants.{Turned}
+use Rattle.dma_engine.specs.inner.Due.{front_told}
+use Rattle.dma_engine.specs.inner.Found.{front_in}
+use Rattle.dma_engine.specs.inner.Holds.{Parts, view_of}
+use Rattle.dma_engine.specs.inner.Inside.{parts_of}
 use Rattle.dma_engine.specs.Object.{channel, issued_front, finished}
 use Rattle.dma_engine.specs.Room.{HasRoom}
 use Rattle.dma_engine.specs.View.{EngineState, object_of}
+use Rattle.dma_engine.proofs.CallCases.{refusal}
 use Rattle.dma_engine.proofs.Changes.{holds-pages}
 use Rattle.dma_engine.proofs.InTheWay.{few-issued, front_found}
 use Rattle.dma_engine.proofs.Queues.{front_known, many-queues}
-use Rattle.dma_engine.proofs.Starts.{front-below, front-told, held-answers, holds-started, now-started, start-answers, way-clear}
+use Rattle.dma_engine.proofs.Starts.{front-below, front-told, held-answers, holds-started, now-started, start-answers, start-starved, way-clear}
 use Rattle.dma_engine.proofs.engine.Engine.start.Goals as goal
 
 pub returns-in-Some-first_in_the_way-clause-answer : goal.returns-in-Some-first_in_the_way-clause-answer
@@ -58,13 +62,24 @@ start-requires-clause-below c =
 pub invariant_of-self : goal.invariant_of-self
 invariant_of-self c =
     let p = parts_of c.self.inside in
-    let same : slice_set p.queues c.from-index.result c.start.new.self ≡ p.queues = ap (slice_set p.queues c.from-index.result) (c.start.ensures.refused c.if-not-start.true ∙ c.index_mut-queue.ensures.value) ∙ set-get_or p.queues c.from-index.result c.index_mut-queue.result.now in
+    let same : slice_set p.queues c.from-index.result c.start.new.self ≡ p.queues = ap (slice_set p.queues c.from-index.result) (c.in_err-start.ensures.refused ∙ c.index_mut-queue.ensures.value) ∙ set-get_or p.queues c.from-index.result c.index_mut-queue.result.now in
     rw (same, c.start.ensures.image) (holds-pages p c.start.new.memory.made c.self.invariant c.start.ensures.keeps.made)
 
-pub returns-then-not-start-clause-kept : goal.returns-then-not-start-clause-kept
-returns-then-not-start-clause-kept c = λ _ ch room.
+pub returns-in_err-start-clause-answer : goal.returns-in_err-start-clause-answer
+returns-in_err-start-clause-answer c =
     let p = parts_of c.self.inside in
-    let same : slice_set p.queues c.from-index.result c.start.new.self ≡ p.queues = ap (slice_set p.queues c.from-index.result) (c.start.ensures.refused c.if-not-start.true ∙ c.index_mut-queue.ensures.value) ∙ set-get_or p.queues c.from-index.result c.index_mut-queue.result.now in
+    let v = c.args.self.now.view in
+    let ch = c.args.ch in
+    let t = c.in-Some.transfer.now in
+    let same : slice_set p.queues c.from-index.result c.start.new.self ≡ p.queues = ap (slice_set p.queues c.from-index.result) (c.in_err-start.ensures.refused ∙ c.index_mut-queue.ensures.value) ∙ set-get_or p.queues c.from-index.result c.index_mut-queue.result.now in
+    let front = front-told (issued_front (channel (object_of v) ch)) t c.in-Some.cookie (finished (channel (object_of v) ch) + 1) (rw c.from-index.ensures at c.in-Some.ensures) in
+    refusal (λ turn. Turned turn) v _ (Step ch) NoMemory c.from_residual.result c.from_residual.ensures.1
+    (start-starved v _ ch t c.requires front.0 (way-clear v t c.in_default-first_in_the_way.ensures) (rw same (ap (λ (s : EngineState). s.view) c.self.view_is)))
+
+pub returns-in_err-start-clause-kept : goal.returns-in_err-start-clause-kept
+returns-in_err-start-clause-kept c = λ _ ch room.
+    let p = parts_of c.self.inside in
+    let same : slice_set p.queues c.from-index.result c.start.new.self ≡ p.queues = ap (slice_set p.queues c.from-index.result) (c.in_err-start.ensures.refused ∙ c.index_mut-queue.ensures.value) ∙ set-get_or p.queues c.from-index.result c.index_mut-queue.result.now in
     let before = subst (λ (s : EngineState). HasRoom s ch) (sym c.self.view_is) room in
     record { entry = before.entry; cookie = rw same before.cookie; outcomes = rw same before.outcomes }
 
@@ -82,8 +97,8 @@ invariant_of-self-2 c =
     let front = front-told (issued_front (channel (object_of v) ch)) t c.in-Some.cookie (finished (channel (object_of v) ch) + 1) told in
     let none = way-clear v t (rw (← c.self.view_is) at c.in_default-first_in_the_way.ensures) in
     let is : front_in q c.deref.result.now ≡ Some (t, c.in-Some.cookie) = ap (front_in q) c.deref.ensures.value ∙ front_found p c.self.invariant ch q less read ∙ sym told in
-    let started = now-started q c.start.new.self t (rw is at (c.start.ensures.started c.if-not-start.false)) in
-    let pages = on_pages c.start.new.memory (destinations t) (rw is at (c.start.ensures.pages c.if-not-start.false)) in
+    let started = now-started q c.start.new.self t (rw is at (c.in_ok-start.ensures.started)) in
+    let pages = on_pages c.start.new.memory (destinations t) (rw is at (c.in_ok-start.ensures.pages)) in
     let paged : Parts = record p { made = c.start.new.memory.made } in
     let holds = holds-pages p c.start.new.memory.made c.self.invariant c.start.ensures.keeps.made in
     rw (started.is, c.start.ensures.image, c.from-index.ensures) (holds-started paged ch q t started.ranges holds less read asked front.0 none pages started.has)
@@ -102,6 +117,6 @@ returns-clause-answer c =
     let front = front-told (issued_front (channel (object_of v) ch)) t c.in-Some.cookie (finished (channel (object_of v) ch) + 1) told in
     let none = way-clear v t (rw (← c.self.view_is) at c.in_default-first_in_the_way.ensures) in
     let is : front_in q c.deref.result.now ≡ Some (t, c.in-Some.cookie) = ap (front_in q) c.deref.ensures.value ∙ front_found p c.self.invariant ch q less read ∙ sym told in
-    let started = now-started q c.start.new.self t (rw is at (c.start.ensures.started c.if-not-start.false)) in
+    let started = now-started q c.start.new.self t (rw is at (c.in_ok-start.ensures.started)) in
     rw (← c.self.view_is, started.is, c.from-index.ensures)
     (start-answers p ch c.in-Some.cookie q t started.ranges c.self.invariant less read asked front.0 none front.1)

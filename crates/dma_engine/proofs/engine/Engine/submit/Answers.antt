@@ -1,4 +1,4 @@
-use Rattle.dma_engine.proofs.Answered.{submit-checked}
+use Rattle.dma_engine.proofs.CallCases.{submit-checked}
 use Rattle.dma_engine.proofs.engine.Engine.submit.Goals as goal
 
 pub returns-in-Err-clause-answer : goal.returns-in-Err-clause-answer

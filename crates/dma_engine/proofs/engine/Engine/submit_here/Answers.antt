@@ -2,14 +2,14 @@ use Rattle.std.proofs.Common.{◌≡◌, ◌+◌, ◌<◌, ◌∙◌, ap, subst,
 use Rattle.dma_mem.specs.Places.{lies_below}
 use Rattle.dma_engine.specs.declared.entry.Entry.TheVariants.{Submitted}
 use Rattle.dma_engine.specs.Answer.{submit_fault}
-use Rattle.dma_engine.specs.Holds.{view_of}
-use Rattle.dma_engine.specs.Inside.{parts_of}
+use Rattle.dma_engine.specs.inner.Holds.{view_of}
+use Rattle.dma_engine.specs.inner.Inside.{parts_of}
 use Rattle.dma_engine.specs.Object.{Allows, channel, used}
 use Rattle.dma_engine.specs.Turn.{with_entry}
 use Rattle.dma_engine.specs.View.{View, EngineState, channels, object_of, size}
-use Rattle.dma_engine.proofs.Answered.{checked-none, checked-cookie, submit-done, submit-open}
+use Rattle.dma_engine.proofs.CallCases.{checked-none, checked-cookie, submit-done, submit-open}
 use Rattle.dma_engine.proofs.Queues.{many-queues, holds-at}
-use Rattle.dma_engine.proofs.Quiet.{holds-submitted, submitted-allowed, view-entered}
+use Rattle.dma_engine.proofs.QueueCalls.{holds-submitted, submitted-allowed, view-entered}
 use Rattle.dma_engine.proofs.engine.Engine.submit_here.Goals as goal
 
 pub invariant_of-self-2 : goal.invariant_of-self-2
@@ -25,13 +25,13 @@ invariant_of-self-2 c =
     let free = submit-open v c.args.ch t none in
     let less : i < length p.queues = omega (arith, many-queues p c.self.invariant, ap channels is, free.0, c.from.ensures) in
     let at = holds-at p c.self.invariant i q less c.index_mut.ensures.value in
-    let many : length q.places.items ≡ used (channel (object_of v) c.args.ch) = at.tied.many ∙ ap (λ (w : View). used (channel (object_of w) i)) is ∙ ap (λ (n : ℕ). used (channel (object_of v) n)) c.from.ensures in
+    let many : length q.indices.items ≡ used (channel (object_of v) c.args.ch) = at.tied.many ∙ ap (λ (w : View). used (channel (object_of w) i)) is ∙ ap (λ (n : ℕ). used (channel (object_of v) n)) c.from.ensures in
     let below : lies_below t (size (view_of p)) ≡ true = ap (λ (w : View). lies_below t (size w)) is ∙ free.1 in
-    let allowed = submitted-allowed p i (length q.places.items) t q c.self.invariant less c.index_mut.ensures.value refl (omega (arith, many, free.2)) c.requires.rules below in
-    let cookie : length q.places.items + 1 ≡ c.args.cookie = omega (arith, many, number) in
+    let allowed = submitted-allowed p i (length q.indices.items) t q c.self.invariant less c.index_mut.ensures.value refl (omega (arith, many, free.2)) c.requires.rules below in
+    let cookie : length q.indices.items + 1 ≡ c.args.cookie = omega (arith, many, number) in
     let holds = holds-submitted p i c.add.new.self.spare c.args.cookie t q c.self.invariant less c.index_mut.ensures.value (subst (λ (n : ℕ). Allows (object_of (view_of p)) (Submitted i t n)) cookie allowed) in
-    let place : c.len-place.result ≡ length p.history = omega (arith, c.len-place.ensures, c.reserve.new.self.ok.0, ap length c.reserve.ensures.items) in
-    rw (c.in-Ok-push.ensures.items, c.if-not-add.ensures.added, place, c.reserve.ensures.items, ← c.from.ensures) holds
+    let index : c.len-index.result ≡ length p.history = omega (arith, c.len-index.ensures, c.reserve.new.self.ok.0, ap length c.reserve.ensures.items) in
+    rw (c.push_reserved.ensures.items, c.in-Ok-add.ensures.added, index, c.reserve.ensures.items, ← c.from.ensures) holds
 
 pub returns-clause-answer : goal.returns-clause-answer
 returns-clause-answer c =
@@ -46,6 +46,6 @@ returns-clause-answer c =
     let free = submit-open v c.args.ch t none in
     let less : i < length p.queues = omega (arith, many-queues p c.self.invariant, ap channels is, free.0, c.from.ensures) in
     let entry = Submitted c.args.ch t c.args.cookie in
-    let view = view-entered p i q (record q { places = c.add.new.self }) p.memory p.events entry less c.index_mut.ensures.value refl ∙ ap (λ (w : View). with_entry w entry) is in
-    rw (c.in-Ok-push.ensures.items, c.reserve.ensures.items)
+    let view = view-entered p i q (record q { indices = c.add.new.self }) p.memory p.events entry less c.index_mut.ensures.value refl ∙ ap (λ (w : View). with_entry w entry) is in
+    rw (c.push_reserved.ensures.items, c.reserve.ensures.items)
     (submit-done v _ c.args.ch c.args.cookie t none number view)

@@ -1,50 +1,50 @@
 use Rattle.std.proofs.Common.{◌≡◌, ◌<◌, ◌∙◌, ap, length, map, drop, arith, refl}
-use Rattle.dma_engine.specs.Found.{transfer_in}
-use Rattle.dma_engine.specs.Holds.{view_of}
-use Rattle.dma_engine.specs.Inside.{parts_of}
+use Rattle.dma_engine.specs.inner.Found.{transfer_in}
+use Rattle.dma_engine.specs.inner.Holds.{view_of}
+use Rattle.dma_engine.specs.inner.Inside.{parts_of}
 use Rattle.dma_engine.specs.Object.{channel, finished, unfinished, aborted}
 use Rattle.dma_engine.specs.Answer.{done_on, terminated}
 use Rattle.dma_engine.specs.View.{View, EngineState, channels, object_of}
-use Rattle.dma_engine.proofs.Answered.{terminate-done}
+use Rattle.dma_engine.proofs.CallCases.{terminate-done}
 use Rattle.dma_engine.proofs.Boards.{queue-small}
 use Rattle.dma_engine.proofs.Endings.{holds-terminated, view-terminated}
-use Rattle.dma_engine.proofs.Queues.{many-queues, holds-at}
+use Rattle.dma_engine.proofs.Queues.{many-queues, holds-at, queue-there}
 use Rattle.dma_engine.proofs.Rooms.{found-all}
 use Rattle.dma_engine.proofs.engine.Engine.terminate.Goals as goal
 
 pub terminate-requires : goal.terminate-requires
 terminate-requires c =
     let p = parts_of c.self.inside in
-    let less : c.from-index.result < length p.queues = omega (arith, c.if-index-len.false, c.len.ensures, c.self.inside.queues.ok.0) in
-    let small = queue-small p c.self.invariant c.from-index.result c.index_mut-queue.result.now less c.index_mut-queue.ensures.value in
+    let less : c.in_ok-index.index < length p.queues = queue-there p c.args.self.now.view c.args.ch c.in_ok-index.index c.self.invariant (ap (λ (s : EngineState). s.view) c.self.view_is) c.in_ok-index.ensures.there in
+    let small = queue-small p c.self.invariant c.in_ok-index.index c.index_mut-queue.result.now less c.index_mut-queue.ensures.value in
     omega (arith, small)
 
 pub invariant_of-self-2 : goal.invariant_of-self-2
 invariant_of-self-2 c =
     let p = parts_of c.self.inside in
-    let i = c.from-index.result in
+    let i = c.in_ok-index.index in
     let q = c.index_mut-queue.result.now in
     let s = channel (object_of (view_of p)) i in
-    let less : i < length p.queues = omega (arith, c.if-index-len.false, c.len.ensures, c.self.inside.queues.ok.0) in
+    let less : i < length p.queues = queue-there p c.args.self.now.view c.args.ch c.in_ok-index.index c.self.invariant (ap (λ (s : EngineState). s.view) c.self.view_is) c.in_ok-index.ensures.there in
     let at = holds-at p c.self.invariant i q less c.index_mut-queue.ensures.value in
     let done = rw (← c.self.view_is) at c.done-done.ensures in
-    let count = rw (← c.from-index.ensures, ← c.self.view_is) at c.unfinished-count.ensures in
-    let found = map (transfer_in p.history) (drop (length q.outcomes.items) q.places.items) in
+    let count = rw (← c.in_ok-index.ensures.there.0, ← c.self.view_is) at c.unfinished-count.ensures in
+    let found = map (transfer_in p.history) (drop (length q.outcomes.items) q.indices.items) in
     let all : found ≡ drop (finished s) s.submitted = found-all i p.history p.memory q s (length q.outcomes.items) at.tied ∙ ap (λ l. drop (length l) s.submitted) at.tied.outcomes in
-    rw (c.in-Ok-push.ensures.items, c.if-not-terminate.ensures.ended, c.deref.ensures.value, c.reserve.ensures.items, done, ← c.from-index.ensures)
-    (holds-terminated p i c.terminate.new.self.outcomes.spare c.unfinished-count.result (length q.places.items) q (aborted (done_on (view_of p) i) found) c.self.invariant less c.index_mut-queue.ensures.value (ap (aborted (done_on (view_of p) i)) all) refl count)
+    rw (c.push_reserved.ensures.items, c.in_ok-terminate.ensures.ended, c.deref.ensures.value, c.reserve.ensures.items, done, ← c.in_ok-index.ensures.there.0)
+    (holds-terminated p i c.terminate.new.self.outcomes.spare c.unfinished-count.result (length q.indices.items) q (aborted (done_on (view_of p) i) found) c.self.invariant less c.index_mut-queue.ensures.value (ap (aborted (done_on (view_of p) i)) all) refl count)
 
 pub returns-clause-answer : goal.returns-clause-answer
 returns-clause-answer c =
     let p = parts_of c.self.inside in
-    let i = c.from-index.result in
+    let i = c.in_ok-index.index in
     let q = c.index_mut-queue.result.now in
     let is : view_of p ≡ c.args.self.now.view = ap (λ (s : EngineState). s.view) c.self.view_is in
-    let less : i < length p.queues = omega (arith, c.if-index-len.false, c.len.ensures, c.self.inside.queues.ok.0) in
+    let less : i < length p.queues = queue-there p c.args.self.now.view c.args.ch c.in_ok-index.index c.self.invariant (ap (λ (s : EngineState). s.view) c.self.view_is) c.in_ok-index.ensures.there in
     let there : i < channels c.args.self.now.view = omega (arith, many-queues p c.self.invariant, ap channels is, less) in
     let done = rw (← c.self.view_is) at c.done-done.ensures in
-    let count = rw (← c.from-index.ensures, ← c.self.view_is) at c.unfinished-count.ensures in
-    let found = map (transfer_in p.history) (drop (length q.outcomes.items) q.places.items) in
-    let view = view-terminated p i c.terminate.new.self.outcomes.spare c.unfinished-count.result (length q.places.items) q (aborted (done_on (view_of p) i) found) count ∙ ap (λ (w : View). terminated w i) is in
-    rw (c.in-Ok-push.ensures.items, c.if-not-terminate.ensures.ended, c.deref.ensures.value, c.reserve.ensures.items, done, ← c.from-index.ensures)
+    let count = rw (← c.in_ok-index.ensures.there.0, ← c.self.view_is) at c.unfinished-count.ensures in
+    let found = map (transfer_in p.history) (drop (length q.outcomes.items) q.indices.items) in
+    let view = view-terminated p i c.terminate.new.self.outcomes.spare c.unfinished-count.result (length q.indices.items) q (aborted (done_on (view_of p) i) found) count ∙ ap (λ (w : View). terminated w i) is in
+    rw (c.push_reserved.ensures.items, c.in_ok-terminate.ensures.ended, c.deref.ensures.value, c.reserve.ensures.items, done, ← c.in_ok-index.ensures.there.0)
     (terminate-done c.args.self.now.view _ i _ there (count ∙ ap (λ (w : View). unfinished (channel (object_of w) i)) is) view)

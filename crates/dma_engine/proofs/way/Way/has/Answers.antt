@@ -1,6 +1,6 @@
-use Rattle.std.proofs.Common.{◌≡◌, ◌||◌, ◌∙◌, ap}
+use Rattle.std.proofs.Common.{rules, ◌≡◌, ◌||◌, ◌∙◌, ap}
 use Rattle.dma_mem.specs.Places.{destinations, places, range_of, share, sources}
-use Rattle.dma_engine.proofs.Ranged.{or-first, or-second, read-way, start-way, write-way}
+use Rattle.dma_engine.proofs.WaysByRanges.{or-first, or-second, read-way, start-way, write-way}
 use Rattle.dma_engine.proofs.way.Way.has.Goals as goal
 use Rattle.dma_engine.proofs.way.Way.has.Goals.{then-meets_any, else-meets_any}
 
@@ -19,7 +19,7 @@ returns-else-meets c =
     rw c.in-Write.is (λ t h. write-way r t range c.meets-else-meets.result h is)
 
 pub returns-in-Read : goal.returns-in-Read
-returns-in-Read c = rw c.in-Read.is (λ t h. read-way c.args.ranges.now t c.in-Read.range c.meets-in-Read.result h c.meets-in-Read.ensures)
+returns-in-Read c = rw c.in-Read.is (λ t h. search (rules, read-way c.args.ranges.now t c.in-Read.range))
 
 pub returns-then-meets_any-2 : goal.returns-then-meets_any-2
 returns-then-meets_any-2 c =
@@ -42,6 +42,6 @@ returns-else-meets_any-2 c =
       | then-meets_any w ↦ w.value-is ∙ or-first c.meets_any.result _ _ first w.if-meets_any.true
       | else-meets_any w ↦ w.value-is ∙ or-second c.meets_any.result _ _ _ first w.if-meets_any.false (w.meets_any-else-meets_any.ensures ∙ ap (λ l. share (places l) (places r.sources)) w.dst-else-meets_any.ensures.segments)
     ] in
-    let reads : c.meets_any-else-meets_any-2.result ≡ share (sources other) (places r.destinations) = c.meets_any-else-meets_any-2.ensures ∙ ap (λ l. share (places l) (places r.destinations)) c.src.ensures.segments in
+    let reads : c.meets_any-else-meets_any-2.result ≡ share (sources other) (places r.destinations) = rw (← c.src.ensures.segments) (search (rules, c.meets_any-else-meets_any-2.ensures)) in
     let is = or-second c.if-meets_any.value c.meets_any-else-meets_any-2.result _ _ writes c.if-meets_any-2.false reads in
     rw c.in-Start.is (λ t h. start-way r t other c.meets_any-else-meets_any-2.result h is)

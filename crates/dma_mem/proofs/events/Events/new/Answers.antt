@@ -1,5 +1,5 @@
 use Rattle.std.proofs.Common.{refl}
-use Rattle.dma_mem.specs.Marking.{all_clear}
+use Rattle.dma_mem.specs.Flags.{all_clear}
 use Rattle.dma_mem.proofs.events.Events.new.Goals as goal
 
 pub returns : goal.returns

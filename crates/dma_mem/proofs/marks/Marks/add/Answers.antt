@@ -1,8 +1,9 @@
 use Rattle.std.proofs.Common.{◌≡◌, ◌∷◌, ◌++◌, [], ap, refl, subst, sym, ◌∙◌}
 use Rattle.dma_mem.specs.declared.marks.MarkKind.{MarkKind}
 use Rattle.dma_mem.specs.declared.marks.Marks.TheInside.{Inside}
-use Rattle.dma_mem.specs.Marking.{MarkList, RangesOfMarks}
-use Rattle.dma_mem.proofs.Marked.{more_loads, more_stores}
+use Rattle.dma_mem.specs.Marking.{MarkList}
+use Rattle.dma_mem.specs.inner.MarkRanges.{RangesOfMarks}
+use Rattle.dma_mem.proofs.MarkHits.{more_loads, more_stores}
 use Rattle.dma_mem.proofs.marks.Marks.add.Goals as goal
 use Rattle.dma_mem.proofs.marks.Marks.add.Goals.{After-push_reserved, in-Reading+in_ok-add_in_order-in-Reading, in-Writing+in_ok-add_in_order-in-Writing}
 

@@ -1,5 +1,5 @@
 use Rattle.std.proofs.Common.{sym, ◌∙◌}
-use Rattle.dma_mem.proofs.Marked.{hits-addresses, marks_found}
+use Rattle.dma_mem.proofs.MarkHits.{hits-addresses, marks_found}
 use Rattle.dma_mem.proofs.marks.Marks.hits.Goals as goal
 
 pub meets_ordered-requires : goal.meets_ordered-requires

@@ -4,7 +4,7 @@ use Rattle.std.proofs.lemmas.Bool.{le-ltb}
 use Rattle.dma_mem.specs.declared.segment.Segment.{Segment}
 use Rattle.dma_mem.specs.Pages.{AllMade}
 use Rattle.dma_mem.specs.Places.{places}
-use Rattle.dma_mem.proofs.Prepared.{in_places, below_at, made_more, keeps_made, Keeps-trans, Keeps-refl}
+use Rattle.dma_mem.proofs.PrepareAll.{in_places, below_at, made_more, keeps_made, Keeps-trans, Keeps-refl}
 use Rattle.dma_mem.proofs.memory.Memory.prepare_all.Goals as goal
 
 pub loop-s-init : goal.loop-s-init

@@ -1,4 +1,4 @@
-use Rattle.dma_mem.proofs.Paging.{image_of-none, made_of-none}
+use Rattle.dma_mem.proofs.PageImages.{image_of-none, made_of-none}
 use Rattle.dma_mem.proofs.pages.Pages.new.Goals as goal
 
 pub returns-clause-image : goal.returns-clause-image

@@ -1,19 +1,14 @@
-use Rattle.std.proofs.Common.{◌≡◌, ◌+◌, ◌/◌, ◌<◌, ◌≤◌, length, get_or, take, drop, true, false, ap, sym, ◌∙◌, subst, arith}
+use Rattle.std.proofs.Common.{◌≡◌, ◌/◌, ◌<◌, length, get_or, true, false, sym, ◌∙◌, subst}
 use Rattle.std.proofs.lemmas.Option.{IfSome_then}
-use Rattle.dma_mem.specs.Pages.{Paged, page_at}
-use Rattle.dma_mem.proofs.Paging.{length-image_of, part_found, page_of_flag}
+use Rattle.dma_mem.specs.Pages.{Paged}
+use Rattle.dma_mem.specs.inner.PageTable.{page_at}
+use Rattle.dma_mem.proofs.PageImages.{part_seen, page_of_flag}
 use Rattle.dma_mem.proofs.pages.Pages.part.Goals as goal
 
 pub returns-clause-bytes : goal.returns-clause-bytes
 returns-clause-bytes c =
-    let size = c.self.inside.size in
-    let pages = c.self.inside.table in
-    let long : length c.args.self.now.image ≡ size = ap (λ (m : Paged). length m.image) (sym c.self.view_is) ∙ length-image_of size pages in
-    let n = c.args.len in
-    let within : c.args.addr + n ≤ size = omega (arith, long, c.requires) in
     IfSome_then c.part.result c.part.ensures.bytes (λ part found.
-    found.0 ∙ part_found size pages c.args.addr n within c.part.ensures.whole found.1
-    ∙ ap (λ (m : Paged). take n (drop c.args.addr m.image)) c.self.view_is)
+    found.0 ∙ part_seen c.self.inside.size c.self.inside.table c.args.self.now c.self.view_is c.args.addr c.args.len c.requires c.part.ensures.whole found.1)
 
 pub returns-clause-some : goal.returns-clause-some
 returns-clause-some c =

@@ -1,30 +1,25 @@
-use Rattle.std.proofs.Common.{◌≡◌, length, ap, sym, ◌∙◌, subst, arith}
+use Rattle.std.proofs.Common.{length, ap, ◌∙◌, subst, arith}
 use Rattle.std.specs.List.{range_with_len}
 use Rattle.std.proofs.lemmas.Result.{on_ok_weaker, on_err_weaker}
-use Rattle.dma_mem.specs.Pages.{Paged, Keeps, MakesNoOther, paged}
-use Rattle.dma_mem.proofs.Paging.{length-image_of, image_of-same, AllMade-from, short-from, Keeps-from, MakesNoOther-from}
+use Rattle.dma_mem.specs.Pages.{Paged, Keeps, MakesNoOther}
+use Rattle.dma_mem.specs.inner.PageTable.{paged}
+use Rattle.dma_mem.proofs.PageImages.{size_seen, image_of-same, AllMade-from, short-from, Keeps-from, MakesNoOther-from}
 use Rattle.dma_mem.proofs.pages.Pages.prepare.Goals as goal
 
 pub make-requires-clause-within : goal.make-requires-clause-within
 make-requires-clause-within c =
-    let size = c.self.inside.size in
-    let pages = c.self.inside.table in
-    let long : length c.args.self.now.image ≡ size = ap (λ (m : Paged). length m.image) (sym c.self.view_is) ∙ length-image_of size pages in
+    let long = size_seen c.self.inside.size c.self.inside.table c.args.self.now c.self.view_is in
     omega (arith, long, c.requires, c.self.invariant)
 
 pub returns-clause-ok : goal.returns-clause-ok
 returns-clause-ok c =
-    let size = c.self.inside.size in
-    let pages = c.self.inside.table in
-    let long : length c.args.self.now.image ≡ size = ap (λ (m : Paged). length m.image) (sym c.self.view_is) ∙ length-image_of size pages in
-    on_ok_weaker c.make.result (AllMade-from size c.make.new.self c.args.segment.addr c.args.segment.len (omega (arith, long, c.requires))) c.make.ensures.made
+    let long = size_seen c.self.inside.size c.self.inside.table c.args.self.now c.self.view_is in
+    on_ok_weaker c.make.result (AllMade-from c.self.inside.size c.make.new.self c.args.segment.addr c.args.segment.len (omega (arith, long, c.requires))) c.make.ensures.made
 
 pub returns-clause-short : goal.returns-clause-short
 returns-clause-short c =
-    let size = c.self.inside.size in
-    let pages = c.self.inside.table in
-    let long : length c.args.self.now.image ≡ size = ap (λ (m : Paged). length m.image) (sym c.self.view_is) ∙ length-image_of size pages in
-    on_err_weaker c.make.result (short-from size c.make.new.self c.args.segment.addr c.args.segment.len) c.make.ensures.short
+    let long = size_seen c.self.inside.size c.self.inside.table c.args.self.now c.self.view_is in
+    on_err_weaker c.make.result (short-from c.self.inside.size c.make.new.self c.args.segment.addr c.args.segment.len) c.make.ensures.short
 
 pub returns-clause-others : goal.returns-clause-others
 returns-clause-others c =

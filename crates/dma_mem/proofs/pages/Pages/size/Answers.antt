@@ -1,11 +1,8 @@
-use Rattle.std.proofs.Common.{◌≡◌, length, ap, sym, ◌∙◌}
-use Rattle.dma_mem.specs.Pages.{Paged}
-use Rattle.dma_mem.proofs.Paging.{length-image_of}
+use Rattle.std.proofs.Common.{sym}
+use Rattle.dma_mem.proofs.PageImages.{size_seen}
 use Rattle.dma_mem.proofs.pages.Pages.size.Goals as goal
 
 pub returns-clause-size : goal.returns-clause-size
 returns-clause-size c =
-    let size = c.self.inside.size in
-    let pages = c.self.inside.table in
-    let long : length c.args.self.now.image ≡ size = ap (λ (m : Paged). length m.image) (sym c.self.view_is) ∙ length-image_of size pages in
+    let long = size_seen c.self.inside.size c.self.inside.table c.args.self.now c.self.view_is in
     sym long

@@ -1,37 +1,30 @@
-use Rattle.std.proofs.Common.{◌≡◌, length, ap, sym, ◌∙◌, subst, arith}
+use Rattle.std.proofs.Common.{length, ap, ◌∙◌, subst, arith}
 use Rattle.std.specs.List.{range_with_len}
 use Rattle.std.proofs.lemmas.Result.{on_ok_weaker, on_err_weaker}
-use Rattle.dma_mem.specs.Pages.{Paged, Keeps, MakesNoOther, paged}
-use Rattle.dma_mem.proofs.Paging.{length-image_of, image_of-same, AllMade-from, short-from, Keeps-from, MakesNoOther-from}
+use Rattle.dma_mem.specs.Pages.{Paged, Keeps, MakesNoOther}
+use Rattle.dma_mem.specs.inner.PageTable.{paged}
+use Rattle.dma_mem.proofs.PageImages.{size_seen, image_of-same, AllMade-from, short-from, Keeps-from, MakesNoOther-from}
 use Rattle.dma_mem.proofs.pages.Pages.write.Goals as goal
 
 pub write-requires-clause-within : goal.write-requires-clause-within
 write-requires-clause-within c =
-    let size = c.self.inside.size in
-    let pages = c.self.inside.table in
-    let long : length c.args.self.now.image ≡ size = ap (λ (m : Paged). length m.image) (sym c.self.view_is) ∙ length-image_of size pages in
+    let long = size_seen c.self.inside.size c.self.inside.table c.args.self.now c.self.view_is in
     omega (arith, long, c.requires, c.self.invariant)
 
 pub write-requires-clause-limit : goal.write-requires-clause-limit
 write-requires-clause-limit c =
-    let size = c.self.inside.size in
-    let pages = c.self.inside.table in
-    let long : length c.args.self.now.image ≡ size = ap (λ (m : Paged). length m.image) (sym c.self.view_is) ∙ length-image_of size pages in
+    let long = size_seen c.self.inside.size c.self.inside.table c.args.self.now c.self.view_is in
     omega (arith, long, c.requires, c.self.invariant)
 
 pub returns-clause-made : goal.returns-clause-made
 returns-clause-made c =
-    let size = c.self.inside.size in
-    let pages = c.self.inside.table in
-    let long : length c.args.self.now.image ≡ size = ap (λ (m : Paged). length m.image) (sym c.self.view_is) ∙ length-image_of size pages in
-    on_ok_weaker c.write.result (AllMade-from size c.write.new.self c.args.addr (length c.args.bytes.now) (omega (arith, long, c.requires))) c.write.ensures.made
+    let long = size_seen c.self.inside.size c.self.inside.table c.args.self.now c.self.view_is in
+    on_ok_weaker c.write.result (AllMade-from c.self.inside.size c.write.new.self c.args.addr (length c.args.bytes.now) (omega (arith, long, c.requires))) c.write.ensures.made
 
 pub returns-clause-short : goal.returns-clause-short
 returns-clause-short c =
-    let size = c.self.inside.size in
-    let pages = c.self.inside.table in
-    let long : length c.args.self.now.image ≡ size = ap (λ (m : Paged). length m.image) (sym c.self.view_is) ∙ length-image_of size pages in
-    on_err_weaker c.write.result (short-from size c.write.new.self c.args.addr (length c.args.bytes.now)) c.write.ensures.short
+    let long = size_seen c.self.inside.size c.self.inside.table c.args.self.now c.self.view_is in
+    on_err_weaker c.write.result (short-from c.self.inside.size c.write.new.self c.args.addr (length c.args.bytes.now)) c.write.ensures.short
 
 pub returns-clause-others : goal.returns-clause-others
 returns-clause-others c =

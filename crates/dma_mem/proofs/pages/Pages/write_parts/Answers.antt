@@ -1,14 +1,13 @@
-use Rattle.std.proofs.Common.{◌≡◌, ◌+◌, length, ap, sym, ◌∙◌, subst, arith}
+use Rattle.std.proofs.Common.{◌+◌, length, ap, sym, ◌∙◌, subst, arith}
 use Rattle.std.specs.List.{range_with_len}
-use Rattle.dma_mem.specs.Pages.{Paged, AllMade, paged}
-use Rattle.dma_mem.proofs.Paging.{length-image_of, made_of-same, pages_of_all}
+use Rattle.dma_mem.specs.Pages.{Paged, AllMade}
+use Rattle.dma_mem.specs.inner.PageTable.{paged}
+use Rattle.dma_mem.proofs.PageImages.{size_seen, made_of-same, pages_of_all}
 use Rattle.dma_mem.proofs.pages.Pages.write_parts.Goals as goal
 
 pub put_parts-requires-clause-limit : goal.put_parts-requires-clause-limit
 put_parts-requires-clause-limit c =
-    let size = c.self.inside.size in
-    let pages = c.self.inside.table in
-    let long : length c.args.self.now.image ≡ size = ap (λ (m : Paged). length m.image) (sym c.self.view_is) ∙ length-image_of size pages in
+    let long = size_seen c.self.inside.size c.self.inside.table c.args.self.now c.self.view_is in
     omega (arith, long, c.requires.within, c.self.invariant)
 
 pub put_parts-requires-clause-made : goal.put_parts-requires-clause-made

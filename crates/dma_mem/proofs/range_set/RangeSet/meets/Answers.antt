@@ -1,5 +1,5 @@
 use Rattle.std.proofs.Common.{sym, subst}
-use Rattle.dma_mem.specs.Ranges.{IsOrdered}
+use Rattle.dma_mem.specs.inner.RangesInOrder.{IsOrdered}
 use Rattle.dma_mem.proofs.RangeSets.{ordered_from}
 use Rattle.dma_mem.proofs.range_set.RangeSet.meets.Goals as goal
 

@@ -1,6 +1,6 @@
 use Rattle.std.proofs.Common.{ap, sym, subst, ◌∙◌}
 use Rattle.dma_mem.specs.Places.{places, share}
-use Rattle.dma_mem.specs.Ranges.{IsOrdered}
+use Rattle.dma_mem.specs.inner.RangesInOrder.{IsOrdered}
 use Rattle.dma_mem.proofs.RangeSets.{ordered_from, share-each}
 use Rattle.dma_mem.proofs.range_set.RangeSet.meets_any.Goals as goal
 

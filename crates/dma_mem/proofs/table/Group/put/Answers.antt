@@ -1,8 +1,8 @@
 use Rattle.std.proofs.Common.{◌≡◌, ◌+◌, ◌<◌, ◌≤◌, ◌++◌, [], length, get_or, ap, ◌∙◌, arith}
 use Rattle.std.proofs.lemmas.List.{get_or_default, get_or-set_same, length-append}
 use Rattle.dma_mem.specs.Image.{put, bytes_at}
-use Rattle.dma_mem.specs.Pages.{page_at}
-use Rattle.dma_mem.proofs.Tables.{within_pages, laid-put}
+use Rattle.dma_mem.specs.inner.PageTable.{page_at}
+use Rattle.dma_mem.proofs.PageTables.{within_pages, laid-put}
 use Rattle.dma_mem.proofs.table.Group.put.Goals as goal
 
 pub returns-clause-bytes : goal.returns-clause-bytes

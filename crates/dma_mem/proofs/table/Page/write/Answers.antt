@@ -3,7 +3,7 @@ use Rattle.std.specs.Prelude.{unwrap_or, nat_eq}
 use Rattle.std.specs.Map.{lookup}
 use Rattle.std.proofs.lemmas.List.{append-nil}
 use Rattle.dma_mem.specs.Image.{put, bytes_at}
-use Rattle.dma_mem.proofs.Tables.{laid-put}
+use Rattle.dma_mem.proofs.PageTables.{laid-put}
 use Rattle.dma_mem.proofs.table.Page.write.Goals as goal
 
 pub returns-clause-bytes : goal.returns-clause-bytes

@@ -1,6 +1,6 @@
 use Rattle.std.proofs.Common.{◌≡◌, ◌+◌, ◌*◌, ◌/◌, ◌<◌, length, max, ap, sym, ◌∙◌, arith}
 use Rattle.std.proofs.lemmas.Bool.{eqb-true}
-use Rattle.dma_mem.specs.Pages.{page_at}
+use Rattle.dma_mem.specs.inner.PageTable.{page_at}
 use Rattle.dma_mem.proofs.table.Table.are_made.Goals as goal
 
 pub returns-then-is_empty-clause-no : goal.returns-then-is_empty-clause-no

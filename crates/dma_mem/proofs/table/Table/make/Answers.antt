@@ -1,7 +1,7 @@
 use Rattle.std.proofs.Common.{◌≡◌, ◌+◌, ◌*◌, ◌/◌, ◌<◌, length, get_or, max, refl, ap, sym, ◌∙◌, arith, inl, inr}
 use Rattle.std.proofs.lemmas.Bool.{cases_eq}
 use Rattle.std.proofs.lemmas.Result.{err_from_is_err_and}
-use Rattle.dma_mem.specs.Pages.{page_at}
+use Rattle.dma_mem.specs.inner.PageTable.{page_at}
 use Rattle.dma_mem.proofs.table.Table.make.Goals as goal
 
 pub loop-number-preserved : goal.loop-number-preserved

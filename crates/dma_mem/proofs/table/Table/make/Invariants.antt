@@ -1,5 +1,5 @@
 use Rattle.std.proofs.Common.{◌≡◌, ◌≢◌, ℕ, ◌+◌, ◌-◌, ◌/◌, ◌<◌, ◌≤◌, length, get_or}
-use Rattle.dma_mem.specs.Pages.{page_at}
+use Rattle.dma_mem.specs.inner.PageTable.{page_at}
 use Rattle.dma_mem.proofs.table.Table.make.Given as goal
 
 abbrev pub invariant-loop-number : goal.invariant-loop-number

@@ -1,6 +1,6 @@
 use Rattle.std.proofs.Common.{◌/◌, ◌%◌, ap, ◌∙◌, arith}
-use Rattle.dma_mem.specs.Pages.{page_at}
-use Rattle.dma_mem.proofs.Tables.{page_at-flat, length-flat}
+use Rattle.dma_mem.specs.inner.PageTable.{page_at}
+use Rattle.dma_mem.proofs.PageTables.{page_at-flat, length-flat}
 use Rattle.dma_mem.proofs.table.Table.new.Goals as goal
 
 pub returns-clause-enough : goal.returns-clause-enough

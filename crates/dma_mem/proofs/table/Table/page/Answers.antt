@@ -1,7 +1,7 @@
 use Rattle.std.proofs.Common.{◌≡◌, ◌<◌, ◌≤◌, length, get_or, ◌/◌, refl, ap, sym, ◌∙◌, arith}
 use borrow.Author.Tests.{ltb-true}
-use Rattle.dma_mem.specs.Pages.{flat}
-use Rattle.dma_mem.proofs.Tables.{page_found, page_missing}
+use Rattle.dma_mem.specs.inner.PageTable.{flat}
+use Rattle.dma_mem.proofs.PageTables.{page_found, page_missing}
 use Rattle.dma_mem.proofs.table.Table.page.Goals as goal
 
 pub returns-in-Some-clause-bytes : goal.returns-in-Some-clause-bytes

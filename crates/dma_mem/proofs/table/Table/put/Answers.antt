@@ -2,8 +2,8 @@ use Rattle.std.proofs.Common.{◌≡◌, ◌+◌, ◌-◌, ◌*◌, ◌/◌, ◌
 use Rattle.std.proofs.lemmas.Bool.{cases_eq}
 use Rattle.std.proofs.lemmas.List.{append-nil, length-take}
 use Rattle.dma_mem.specs.Image.{put, bytes_at}
-use Rattle.dma_mem.specs.Pages.{page_at, IsLaid, image_of}
-use Rattle.dma_mem.proofs.Paging.{image_of-laid, bytes_in_turn, put_none}
+use Rattle.dma_mem.specs.inner.PageTable.{page_at, IsLaid, image_of}
+use Rattle.dma_mem.proofs.PageImages.{image_of-laid, bytes_in_turn, put_none}
 use Rattle.dma_mem.proofs.table.Table.put.Goals as goal
 
 pub loop-done-init : goal.loop-done-init

@@ -1,5 +1,5 @@
 use Rattle.std.proofs.Common.{◌≡◌, ℕ, ◌-◌, ◌≤◌, length, take}
-use Rattle.dma_mem.specs.Pages.{page_at, image_of}
+use Rattle.dma_mem.specs.inner.PageTable.{page_at, image_of}
 use Rattle.dma_mem.specs.Image.{put, bytes_at}
 use Rattle.dma_mem.proofs.table.Table.put.Given as goal
 

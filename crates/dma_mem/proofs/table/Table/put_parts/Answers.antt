@@ -1,9 +1,9 @@
 use Rattle.std.proofs.Common.{◌≡◌, ◌+◌, ◌*◌, ◌/◌, ◌%◌, ◌≤◌, ◌++◌, length, ap, ◌∙◌, arith}
 use Rattle.std.proofs.lemmas.List.{length-append}
 use Rattle.dma_mem.specs.Image.{put, bytes_at}
-use Rattle.dma_mem.specs.Pages.{image_of}
-use Rattle.dma_mem.proofs.Paging.{image_of-laid}
-use Rattle.dma_mem.proofs.Ranges.{put_parts}
+use Rattle.dma_mem.specs.inner.PageTable.{image_of}
+use Rattle.dma_mem.proofs.PageImages.{image_of-laid}
+use Rattle.dma_mem.proofs.BytesPut.{put_parts}
 use Rattle.dma_mem.proofs.table.Table.put_parts.Goals as goal
 
 pub returns-then-offset-len-le-PAGE_SIZE-clause-image : goal.returns-then-offset-len-le-PAGE_SIZE-clause-image

@@ -3,8 +3,8 @@ use Rattle.std.proofs.lemmas.Bool.{eqb-true}
 use Rattle.std.proofs.lemmas.List.{nil_from_length}
 use Rattle.std.proofs.lemmas.Result.{on_ok_weaker}
 use Rattle.dma_mem.specs.Image.{put, bytes_at}
-use Rattle.dma_mem.specs.Pages.{image_of}
-use Rattle.dma_mem.proofs.Paging.{image_of-laid, image_of-same, put_none}
+use Rattle.dma_mem.specs.inner.PageTable.{image_of}
+use Rattle.dma_mem.proofs.PageImages.{image_of-laid, image_of-same, put_none}
 use Rattle.dma_mem.proofs.table.Table.write.Goals as goal
 
 pub returns-then-is_empty-clause-ok : goal.returns-then-is_empty-clause-ok

@@ -1,7 +1,7 @@
 use Rattle.std.proofs.Common.{◌≡◌, length, get_or, ◌/◌, refl, ap, sym, ◌∙◌, arith}
 use Rattle.std.proofs.lemmas.Result.{on_ok_weaker, on_err_weaker}
-use Rattle.dma_mem.specs.Pages.{flat}
-use Rattle.dma_mem.proofs.Tables.{page_at-flat_same, length-flat_set, page_found, group_within, put_back, others_kept}
+use Rattle.dma_mem.specs.inner.PageTable.{flat}
+use Rattle.dma_mem.proofs.PageTables.{page_at-flat_same, length-flat_set, page_found, group_within, put_back, others_kept}
 use Rattle.std.specs.Prelude.{unwrap_or, nat_eq}
 use Rattle.std.specs.Map.{lookup}
 use Rattle.dma_mem.specs.Image.{bytes_at}

@@ -1,5 +1,5 @@
 use Rattle.std.proofs.Common.{rules}
-use Rattle.dma_mem.proofs.Sharing.{is_free_of-iff}
+use Rattle.dma_mem.proofs.SharedPlaces.{is_free_of-iff}
 use Rattle.dma_mem.proofs.transfer.Transfer.is_free_of.Goals as goal
 
 pub returns-then-not-lists_meet-2-clause-value : goal.returns-then-not-lists_meet-2-clause-value

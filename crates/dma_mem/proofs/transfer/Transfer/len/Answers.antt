@@ -1,5 +1,5 @@
 use Rattle.std.proofs.Common.{arith}
-use Rattle.dma_mem.proofs.Accepted.{size_of-some}
+use Rattle.dma_mem.proofs.TransferRules.{size_of-some}
 use Rattle.dma_mem.proofs.transfer.Transfer.len.Goals as goal
 
 pub returns-clause-low : goal.returns-clause-low

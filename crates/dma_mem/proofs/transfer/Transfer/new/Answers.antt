@@ -1,5 +1,5 @@
 use Rattle.std.proofs.Common.{sym, ◌∙◌}
-use Rattle.dma_mem.proofs.Accepted.{IsTransfer-from_no_refusal, length-places}
+use Rattle.dma_mem.proofs.TransferRules.{IsTransfer-from_no_refusal, length-places}
 use Rattle.dma_mem.proofs.transfer.Transfer.new.Goals as goal
 
 pub returns-clause-accepted : goal.returns-clause-accepted

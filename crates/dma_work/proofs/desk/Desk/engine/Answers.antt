@@ -1,6 +1,6 @@
 use Rattle.std.proofs.Common.{◌∙◌, subst, sym}
 use Rattle.dma_work.specs.Laws.{AreCounts}
-use Rattle.dma_work.proofs.Opening.{opens_empty, small_base}
+use Rattle.dma_work.proofs.FirstBoards.{opens_empty, small_base}
 use Rattle.dma_work.proofs.desk.Desk.engine.Goals as goal
 
 pub returns-clause-counts : goal.returns-clause-counts

@@ -2,10 +2,10 @@ use Rattle.std.proofs.Common.{◌≡◌, ◌<◌, ◌∙◌, ap, length, arith}
 use Rattle.dma_engine.specs.declared.call.Call.TheVariants.{Submit}
 use Rattle.dma_engine.specs.declared.call.Reply.TheVariants.{Cookie}
 use Rattle.dma_engine.specs.Ticks.{Submitted, ticks_of}
-use Rattle.dma_engine.proofs.Chains.{answers-extend}
-use Rattle.dma_engine.proofs.Given.{submits_give}
-use Rattle.dma_work.specs.Log.{Reached}
-use Rattle.dma_work.specs.Posted.{Posted}
+use Rattle.dma_engine.proofs.CallLists.{answers-extend}
+use Rattle.dma_engine.proofs.CookieCounts.{submits_give}
+use Rattle.dma_work.specs.inner.Log.{Reached}
+use Rattle.dma_work.specs.inner.Posted.{Posted}
 use Rattle.dma_work.proofs.Desks.{few_next, given_in, kept_next}
 use Rattle.dma_work.proofs.desk.Desk.submit.Goals as goal
 

@@ -4,11 +4,11 @@ use Rattle.dma_engine.specs.declared.call.Reply.TheVariants.{Count}
 use Rattle.dma_engine.specs.Object.{finished_all}
 use Rattle.dma_engine.specs.Ticks.{Finished, ticks_of}
 use Rattle.dma_engine.specs.View.{View, object_of}
-use Rattle.dma_engine.proofs.Chains.{answers-extend}
-use Rattle.dma_engine.proofs.Given.{terminates_finish}
+use Rattle.dma_engine.proofs.CallLists.{answers-extend}
+use Rattle.dma_engine.proofs.CookieCounts.{terminates_finish}
 use Rattle.dma_work.specs.declared.totals.Totals.{Totals}
-use Rattle.dma_work.specs.Log.{Reached}
-use Rattle.dma_work.specs.Posted.{Posted}
+use Rattle.dma_work.specs.inner.Log.{Reached}
+use Rattle.dma_work.specs.inner.Posted.{Posted}
 use Rattle.dma_work.proofs.Desks.{few_next, finished_in, kept_next}
 use Rattle.dma_work.proofs.desk.Desk.terminate.Goals as goal
 

@@ -1,8 +1,8 @@
 use Rattle.std.proofs.Common.{◌≡◌, ◌≤◌, ◌<◌, length, ◌∙◌, ap, subst, arith}
 use Rattle.std.proofs.lemmas.Bool.{leb-true, leb-false}
 use mathlib.Core.List.{IsPrefix}
-use Rattle.dma_work.specs.Log.{Reached}
-use Rattle.dma_work.proofs.Fronts.{prefix_shorter}
+use Rattle.dma_work.specs.inner.Log.{Reached}
+use Rattle.dma_work.proofs.Beginnings.{prefix_shorter}
 use Rattle.dma_work.proofs.log.Front.is_within.Goals as goal
 
 pub returns-clause-within : goal.returns-clause-within

@@ -1,6 +1,6 @@
 use Rattle.std.proofs.Common.{◌≡◌, [], ◌∷◌, ◌++◌, drop, ap, sym, ◌∙◌, subst}
-use Rattle.dma_work.specs.Posted.{Later, Posted, newest}
-use Rattle.dma_work.proofs.Keeping.{later_self}
+use Rattle.dma_work.specs.inner.Posted.{Later, Posted, newest}
+use Rattle.dma_work.proofs.PublishedRule.{later_self}
 use Rattle.dma_work.proofs.publisher.Publisher.new.Goals as goal
 
 pub shown-writer-requires : goal.shown-writer-requires

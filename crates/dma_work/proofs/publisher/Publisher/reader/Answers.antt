@@ -1,4 +1,4 @@
-use Rattle.dma_work.proofs.Keeping.{admits, forks, merges}
+use Rattle.dma_work.proofs.PublishedRule.{admits, forks, merges}
 use Rattle.dma_work.proofs.publisher.Publisher.reader.Goals as goal
 
 pub reader-requires : goal.reader-requires

@@ -17,14 +17,14 @@ returns-in-Ok-clause-complete g c =
     let input = c.args.input.now in
     let script = c.in-Ok.script in
     let is : race_script_of input ≡ Ok script = c.in-Ok.ensures.script in
-    IfOk-weaker c.carry_out_race.result _ _ (complete_read input (Ok script) c.args.out.now.items c.carry_out_race.new.out.items is) c.carry_out_race.ensures.complete
+    IfOk-weaker c.run_race.result _ _ (complete_read input (Ok script) c.args.out.now.items c.run_race.new.out.items is) c.run_race.ensures.complete
 
 pub returns-in-Ok-clause-refused : goal.returns-in-Ok-clause-refused
 returns-in-Ok-clause-refused g c =
     let input = c.args.input.now in
     let script = c.in-Ok.script in
     let is : race_script_of input ≡ Ok script = c.in-Ok.ensures.script in
-    on_err_weaker c.carry_out_race.result (append_read input (Ok script) c.args.out.now.items c.carry_out_race.new.out.items is) c.carry_out_race.ensures.refused
+    on_err_weaker c.run_race.result (append_read input (Ok script) c.args.out.now.items c.run_race.new.out.items is) c.run_race.ensures.refused
 
 pub returns-in_ok-push_fault-in-Err-Fault-clause-complete : goal.returns-in_ok-push_fault-in-Err-Fault-clause-complete
 returns-in_ok-push_fault-in-Err-Fault-clause-complete g c =

@@ -1,0 +1,138 @@
+-- Two lists of segments, cut into pieces: they have the places of both lists in order, and there are fewer than segments.
+use Rattle.std.proofs.Common.{◌≡◌, ℕ, zero, suc, ◌+◌, ◌-◌, ◌^◌, ◌≤◌, ◌<◌, Bool, true, false, cond, ltb, List, [], ◌∷◌, ◌++◌, length, refl, sym, ap, ◌∙◌, arith, append_assoc, append-nil, length-append}
+use Rattle.std.specs.List.{AllByRecursion, range_with_len}
+use Rattle.std.proofs.lemmas.Bool.{ltb-true, ltb-false}
+use Rattle.dma_mem.specs.declared.segment.Segment.{Segment}
+use Rattle.dma_mem.specs.Places.{places}
+use Rattle.dma_chan.specs.declared.pieces.Piece.{Piece}
+use Rattle.dma_chan.specs.Compiled.{cut_one, pieces}
+use Rattle.dma_chan.specs.inner.Compiling.{byte_count, IsRange}
+
+pub range-add : (a m n : ℕ) → range_with_len a (m + n) ≡ range_with_len a m ++ range_with_len (a + m) n
+range-add a zero n = let e : zero + n ≡ n = omega arith in let f : a + 0 ≡ a = omega arith in rw (e, f) refl
+range-add a (suc m) n =
+    let e : suc m + n ≡ suc (m + n) = omega arith in
+    let f : a + 1 + m ≡ a + suc m = omega arith in
+    ap (range_with_len a) e ∙ ap (λ (xs : List ℕ). a ∷ xs) (range-add (a + 1) m n ∙ ap (λ (k : ℕ). range_with_len (a + 1) m ++ range_with_len k n) f)
+
+-- the addresses that pieces read, and those that they write
+abbrev pub read_by : List Piece → List ℕ
+read_by [] = []
+read_by (p ∷ ps) = range_with_len p.src p.len ++ read_by ps
+
+abbrev pub written_by : List Piece → List ℕ
+written_by [] = []
+written_by (p ∷ ps) = range_with_len p.dst p.len ++ written_by ps
+
+pub record IsPiece (p : Piece) : Type 0 where
+  pub some : 0 < p.len
+  pub below : p.len ≤ 2 ^ 20
+  pub src : p.src + p.len ≤ 2 ^ 32
+  pub dst : p.dst + p.len ≤ 2 ^ 32
+
+read_by-append : (a b : List Piece) → read_by (a ++ b) ≡ read_by a ++ read_by b
+read_by-append [] b = refl
+read_by-append (p ∷ a) b =
+    ap (λ (xs : List ℕ). range_with_len p.src p.len ++ xs) (read_by-append a b) ∙ sym (append_assoc (range_with_len p.src p.len) (read_by a) (read_by b))
+
+written_by-append : (a b : List Piece) → written_by (a ++ b) ≡ written_by a ++ written_by b
+written_by-append [] b = refl
+written_by-append (p ∷ a) b =
+    ap (λ (xs : List ℕ). range_with_len p.dst p.len ++ xs) (written_by-append a b) ∙ sym (append_assoc (range_with_len p.dst p.len) (written_by a) (written_by b))
+
+all-append : (a b : List Piece) → AllByRecursion IsPiece a → AllByRecursion IsPiece b → AllByRecursion IsPiece (a ++ b)
+all-append [] b f g = g
+all-append (p ∷ a) b f g = (f.0, all-append a b f.1 g)
+
+-- what one source segment makes
+record Cut (a n : ℕ) (ds : List Segment) (r : List Piece × List Segment) : Type 0 where
+  sources : read_by r.0 ≡ range_with_len a n
+  destinations : written_by r.0 ++ places r.1 ≡ places ds
+  totals : n + byte_count r.1 ≡ byte_count ds
+  fit : AllByRecursion IsPiece r.0
+  rest : AllByRecursion IsRange r.1
+  few : length r.0 + length r.1 ≤ length ds + 1
+  last : byte_count r.1 ≡ 0 → length r.0 + length r.1 ≤ length ds
+
+by_test : {A : Type 0} (P : A → Type 0) (t : Bool) (x y : A) → (t ≡ true → P x) → (t ≡ false → P y) → P (cond t x y)
+by_test P true x y f g = f refl
+by_test P false x y f g = g refl
+
+cut_right : (a n : ℕ) (ds : List Segment) → 0 < n → n ≤ 2 ^ 20 → a + n ≤ 2 ^ 32 → n ≤ byte_count ds → AllByRecursion IsRange ds → Cut a n ds (cut_one a n ds)
+cut_right a n [] some below fits enough all = absurd (omega arith)
+cut_right a n (d ∷ ds) some below fits enough all =
+    by_test (Cut a n (d ∷ ds)) (ltb n d.len) _ _ (λ t.
+    let less : n < d.len = ltb-true n d.len t in
+    let split : range_with_len d.addr d.len ≡ range_with_len d.addr n ++ range_with_len (d.addr + n) (d.len - n) = let e : d.len ≡ n + (d.len - n) = omega arith in ap (range_with_len d.addr) e ∙ range-add d.addr n (d.len - n) in
+    record {
+      sources = append-nil (range_with_len a n);
+      destinations = ap (λ (xs : List ℕ). xs ++ (range_with_len (d.addr + n) (d.len - n) ++ places ds)) (append-nil (range_with_len d.addr n)) ∙ sym (append_assoc _ _ (places ds)) ∙ ap (λ (xs : List ℕ). xs ++ places ds) (sym split);
+      totals = omega arith;
+      fit = (record { some = some; below = below; src = fits; dst = omega (arith, all.0.1) }, tt);
+      rest = ((omega arith, omega (arith, all.0.1)), all.1);
+      few = omega arith;
+      last = λ z. absurd (omega arith);
+    }) (λ t.
+    let more : d.len ≤ n = ltb-false n d.len t in
+    by_test (Cut a n (d ∷ ds)) (ltb d.len n) _ _ (λ u.
+    let less : d.len < n = ltb-true d.len n u in
+    let r = cut_right (a + d.len) (n - d.len) ds (omega arith) (omega arith) (omega arith) (omega arith) all.1 in
+    let split : range_with_len a n ≡ range_with_len a d.len ++ range_with_len (a + d.len) (n - d.len) = let e : n ≡ d.len + (n - d.len) = omega arith in ap (range_with_len a) e ∙ range-add a d.len (n - d.len) in
+    record {
+      sources = ap (λ (xs : List ℕ). range_with_len a d.len ++ xs) r.sources ∙ sym split;
+      destinations = append_assoc (range_with_len d.addr d.len) _ _ ∙ ap (λ (xs : List ℕ). range_with_len d.addr d.len ++ xs) r.destinations;
+      totals = omega (arith, r.totals);
+      fit = (record { some = all.0.0; below = omega arith; src = omega arith; dst = all.0.1 }, r.fit);
+      rest = r.rest;
+      few = omega (arith, r.few);
+      last = λ z. omega (arith, r.last z);
+    }) (λ u.
+    let same : n ≡ d.len = let le : n ≤ d.len = ltb-false d.len n u in omega arith in
+    record {
+      sources = append-nil (range_with_len a n);
+      destinations = ap (λ (xs : List ℕ). xs ++ places ds) (append-nil (range_with_len d.addr n) ∙ ap (range_with_len d.addr) same);
+      totals = omega arith;
+      fit = (record { some = some; below = below; src = fits; dst = omega (arith, all.0.1) }, tt);
+      rest = all.1;
+      few = omega arith;
+      last = λ z. omega arith;
+    }))
+
+-- what all make
+pub record Pieces (ss ds : List Segment) (ps : List Piece) : Type 0 where
+  pub sources : read_by ps ≡ places ss
+  pub destinations : written_by ps ≡ places ds
+  pub fit : AllByRecursion IsPiece ps
+  pub few : length ps ≤ length ss + length ds
+  pub fewer : 0 < length ss → length ps + 1 ≤ length ss + length ds
+
+nothing_left : (ds : List Segment) → AllByRecursion IsRange ds → byte_count ds ≡ 0 → ds ≡ []
+nothing_left [] all e = refl
+nothing_left (d ∷ ds) all e = absurd (omega (arith, all.0.0))
+
+-- after the last source segment no destination is left
+none_left : (n : ℕ) (ss : List Segment) (rest : List Segment) (total : ℕ) → ss ≡ [] → n + byte_count ss ≡ total → n + byte_count rest ≡ total → byte_count rest ≡ 0
+none_left n ss rest total none same totals = let e : byte_count ss ≡ 0 = ap byte_count none in omega arith
+
+fewer_than : (ss : List Segment) (a b : List Piece) (rest : List Segment) (n : ℕ) → length (a ++ b) ≡ length a + length b → length a + length rest ≤ n + 1 → (ss ≡ [] → length a + length rest ≤ n) → length b ≤ length ss + length rest → (0 < length ss → length b + 1 ≤ length ss + length rest) → length (a ++ b) + 1 ≤ suc (length ss) + n
+fewer_than [] a b rest n all few last fits fewer = omega (arith, last refl)
+fewer_than (s ∷ ss) a b rest n all few last fits fewer = omega (arith, fewer (omega arith))
+
+pub pieces_right : (ss ds : List Segment) → AllByRecursion IsRange ss → AllByRecursion IsRange ds → byte_count ss ≡ byte_count ds → byte_count ss ≤ 2 ^ 20 → Pieces ss ds (pieces ss ds)
+pieces_right [] ds all rest same below =
+    let e : ds ≡ [] = nothing_left ds rest (sym same) in
+    record { sources = refl; destinations = rw e refl; fit = tt; few = omega arith; fewer = λ z. absurd (omega arith) }
+pieces_right (s ∷ ss) ds all rest same below =
+    let cut = cut_right s.addr s.len ds all.0.0 (omega arith) all.0.1 (omega arith) rest in
+    let r = pieces_right ss (cut_one s.addr s.len ds).1 all.1 cut.rest (omega (arith, cut.totals)) (omega arith) in
+    let a = (cut_one s.addr s.len ds).0 in
+    let b = pieces ss (cut_one s.addr s.len ds).1 in
+    let all_of : length (a ++ b) ≡ length a + length b = length-append a b in
+    let fewer : length (a ++ b) + 1 ≤ length (s ∷ ss) + length ds = fewer_than ss a b (cut_one s.addr s.len ds).1 (length ds) all_of cut.few (λ (z : ss ≡ []). cut.last (ap byte_count (nothing_left _ cut.rest (none_left s.len ss _ (byte_count ds) z same cut.totals)))) r.few r.fewer in
+    record {
+      sources = read_by-append a b ∙ ap (λ (xs : List ℕ). xs ++ read_by b) cut.sources ∙ ap (λ (xs : List ℕ). range_with_len s.addr s.len ++ xs) r.sources;
+      destinations = written_by-append a b ∙ ap (λ (xs : List ℕ). written_by a ++ xs) r.destinations ∙ cut.destinations;
+      fit = all-append a b cut.fit r.fit;
+      few = omega arith;
+      fewer = λ z. fewer;
+    }

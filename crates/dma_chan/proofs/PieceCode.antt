@@ -1,0 +1,120 @@
+-- The code of pieces, one after the other: its bytes and its cost.
+use Rattle.std.proofs.Common.{◌≡◌, ℕ, zero, suc, ◌+◌, ◌*◌, ◌/◌, ◌%◌, ◌^◌, ◌<◌, ◌≤◌, List, [], ◌∷◌, ◌++◌, length, refl, sym, ap, ◌∙◌, arith, drop, get_or, map, drop-cons, add-one, append_assoc, length-append, Option, Some, None}
+use Rattle.std.specs.List.{AllByRecursion, All, range_with_len}
+use Rattle.std.proofs.lemmas.List.Elements.{All-from_recursion, All-head, All-tail}
+use Rattle.std.proofs.lemmas.List.{drop_all}
+use Rattle.std.proofs.lemmas.List.FromFn.{length-range_with_len}
+use Rattle.dma_mem.specs.declared.segment.Segment.{Segment}
+use Rattle.dma_mem.specs.Places.{Descriptor, places}
+use Rattle.dma_mem.specs.Rules.{IsTransfer, IsSegmentList}
+use Rattle.dma_chan.specs.declared.pieces.Piece.{Piece}
+use Rattle.dma_chan.specs.Compiled.{pieces, pieces_of, piece_tree, beat_of, parts, where_some, under, control_word, bursts, body, wait_tree, signal_tree, tree_of}
+use Rattle.dma_chan.specs.inner.Compiling.{byte_count, IsRange, cost_of}
+use Rattle.dma_chan.specs.Tree.{Tree, bytes_of, unrolled, in_order}
+use Rattle.dma_chan.proofs.CutPlaces.{IsPiece, Pieces, pieces_right}
+
+-- what is left to spell, after one more piece
+pub rest_more : (ps : List Piece) (i : ℕ) (d : Piece) (old now new : List ℕ) → i < length ps → new ≡ now ++ bytes_of (piece_tree (get_or ps i d)) → now ++ bytes_of (in_order (map piece_tree (drop i ps))) ≡ old → new ++ bytes_of (in_order (map piece_tree (drop (i + 1) ps))) ≡ old
+rest_more ps i d old now new h e inv =
+    let cut : drop i ps ≡ get_or ps i d ∷ drop (i + 1) ps = drop-cons ps i d h ∙ rw add-one refl in
+    let rest = bytes_of (in_order (map piece_tree (drop (i + 1) ps))) in
+    ap (λ (xs : List ℕ). xs ++ rest) e ∙ append_assoc now (bytes_of (piece_tree (get_or ps i d))) rest ∙ ap (λ (xs : List Piece). now ++ bytes_of (in_order (map piece_tree xs))) (sym cut) ∙ inv
+
+-- what is left to count
+pub cost_more : (ps : List Piece) (i : ℕ) (d : Piece) (all now c : ℕ) → i < length ps → c ≡ cost_of (piece_tree (get_or ps i d)) → now + cost_of (in_order (map piece_tree (drop i ps))) ≡ all → now + c + cost_of (in_order (map piece_tree (drop (i + 1) ps))) ≡ all
+unfolding cost_of
+cost_more ps i d all now c h e inv =
+    let cut : drop i ps ≡ get_or ps i d ∷ drop (i + 1) ps = drop-cons ps i d h ∙ rw add-one refl in
+    let first = piece_tree (get_or ps i d) in
+    let rest = in_order (map piece_tree (drop (i + 1) ps)) in
+    let one : cost_of (in_order (map piece_tree (drop i ps))) ≡ cost_of first + cost_of rest = ap (λ (xs : List Piece). cost_of (in_order (map piece_tree xs))) cut ∙ length-append (unrolled first) (unrolled rest) in
+    omega (arith, e, one)
+
+-- nothing is left
+pub cost_done : (ps : List Piece) (i : ℕ) → length ps ≤ i → cost_of (in_order (map piece_tree (drop i ps))) ≡ 0
+unfolding cost_of
+cost_done ps i h = ap (λ (xs : List Piece). length (unrolled (in_order (map piece_tree xs)))) (drop_all i ps h)
+
+-- ---- what holds of a transfer's lists
+
+ranges : (list : List Segment) → All (λ (s : Segment). 0 < s.len) list → All (λ (s : Segment). s.addr + s.len ≤ 4294967296) list → AllByRecursion IsRange list
+ranges [] f g = tt
+ranges (s ∷ ss) f g =
+    ((All-head (λ (x : Segment). 0 < x.len) s ss f, All-head (λ (x : Segment). x.addr + x.len ≤ 4294967296) s ss g), ranges ss (All-tail (λ (x : Segment). 0 < x.len) s ss f) (All-tail (λ (x : Segment). x.addr + x.len ≤ 4294967296) s ss g))
+
+pub are_ranges : (list : List Segment) → IsSegmentList list → AllByRecursion IsRange list
+are_ranges list h = ranges list h.filled h.within
+
+pub byte_count-places : (list : List Segment) → length (places list) ≡ byte_count list
+byte_count-places [] = refl
+byte_count-places (s ∷ ss) = length-append (range_with_len s.addr s.len) (places ss) ∙ omega (arith, length-range_with_len s.addr s.len, byte_count-places ss)
+
+pub same_count : (t : Descriptor) → IsTransfer t → byte_count t.src ≡ byte_count t.dst
+same_count t h = sym (byte_count-places t.src) ∙ h.same_length ∙ byte_count-places t.dst
+
+pub cut_well : (t : Descriptor) → IsTransfer t → Pieces t.src t.dst (pieces t.src t.dst)
+cut_well t h =
+    let low : byte_count t.src ≤ 2 ^ 20 = omega (arith, h.short, byte_count-places t.dst, same_count t h) in
+    pieces_right t.src t.dst (are_ranges t.src h.source_list) (are_ranges t.dst h.destination_list) (same_count t h) low
+
+all_small : (ps : List Piece) → AllByRecursion IsPiece ps → AllByRecursion (λ p. p.len ≤ 2 ^ 20) ps
+all_small [] h = tt
+all_small (p ∷ ps) h = (h.0.below, all_small ps h.1)
+
+-- no piece is longer than a transfer
+pub pieces_small : (t : Descriptor) → IsTransfer t → All (λ p. p.len ≤ 2 ^ 20) (pieces t.src t.dst)
+pieces_small t h = All-from_recursion (λ (p : Piece). p.len ≤ 2 ^ 20) (pieces t.src t.dst) (all_small (pieces t.src t.dst) (cut_well t h).fit)
+
+-- two lists of at most 64 segments have at most 127 pieces
+pub pieces_few : (t : Descriptor) → IsTransfer t → length (pieces t.src t.dst) ≤ 127
+pieces_few t h = let fewer = (cut_well t h).fewer h.source_list.some in omega (arith, h.source_list.few, h.destination_list.few, fewer)
+
+-- ---- how long the code is
+
+some_bytes : (n k : ℕ) (t : Tree) → length (bytes_of t) ≤ k → length (bytes_of (where_some n t)) ≤ k
+some_bytes zero k t h = omega arith
+some_bytes (suc n) k t h = h
+
+two_bytes : (a b : List ℕ) (i j : ℕ) → length a ≤ i → length b ≤ j → length (a ++ (b ++ [])) ≤ i + j
+two_bytes a b i j f g = omega (arith, length-append a (b ++ []), length-append b [])
+
+three_bytes : (a b c : List ℕ) (i j k : ℕ) → length a ≤ i → length b ≤ j → length c ≤ k → length (a ++ (b ++ (c ++ []))) ≤ i + j + k
+three_bytes a b c i j k f g h = omega (arith, length-append a (b ++ (c ++ [])), length-append b (c ++ []), length-append c [])
+
+four_bytes : (a b c : List ℕ) (i j k : ℕ) → length a ≤ i → length b ≤ j → length c ≤ k → length (a ++ (b ++ (c ++ (0 ∷ [] ++ [])))) ≤ i + j + k + 1
+four_bytes a b c i j k f g h = omega (arith, length-append a (b ++ (c ++ (0 ∷ []))), length-append b (c ++ (0 ∷ [])), length-append c (0 ∷ []))
+
+bursts_bytes : (q : ℕ) → length (bytes_of (bursts q)) ≤ 20
+bursts_bytes q = two_bytes _ _ 12 8 (some_bytes (q / 256) 12 _ (omega arith)) (some_bytes (q % 256) 8 _ (omega arith))
+
+under_bytes : (w k : ℕ) (t : Tree) → length (bytes_of t) ≤ k → length (bytes_of (under w t)) ≤ 6 + k
+under_bytes w k t h = omega arith
+
+parts_bytes : (b n : ℕ) → length (bytes_of (parts b n)) ≤ 46
+unfolding parts
+parts_bytes b n =
+    three_bytes _ _ _ 26 10 10
+    (some_bytes (n / (16 * b)) 26 (under (control_word b 16) (bursts (n / (16 * b)))) (under_bytes (control_word b 16) 20 (bursts (n / (16 * b))) (bursts_bytes (n / (16 * b)))))
+    (some_bytes (n % (16 * b) / b) 10 (under (control_word b (n % (16 * b) / b)) body) (omega arith))
+    (some_bytes (n % (16 * b) % b) 10 (under (control_word 1 (n % (16 * b) % b)) body) (omega arith))
+
+piece_bytes : (p : Piece) → length (bytes_of (piece_tree p)) ≤ 58
+piece_bytes p = omega (arith, parts_bytes (beat_of p) p.len)
+
+pub pieces_bytes : (ps : List Piece) → length (bytes_of (in_order (map piece_tree ps))) ≤ 58 * length ps
+pieces_bytes [] = omega arith
+pieces_bytes (p ∷ ps) = omega (arith, length-append (bytes_of (piece_tree p)) (bytes_of (in_order (map piece_tree ps))), piece_bytes p, pieces_bytes ps)
+
+wait_bytes : (o : Option ℕ) → length (bytes_of (wait_tree o)) ≤ 2
+wait_bytes None = omega arith
+wait_bytes (Some e) = omega arith
+
+signal_bytes : (o : Option ℕ) → length (bytes_of (signal_tree o)) ≤ 2
+signal_bytes None = omega arith
+signal_bytes (Some e) = omega arith
+
+-- the program of a transfer has at most 7,371 bytes
+pub compiled_bytes : (t : Descriptor) → IsTransfer t → length (bytes_of (tree_of t)) ≤ 7371
+compiled_bytes t h =
+    let all = four_bytes (bytes_of (wait_tree t.wait)) (bytes_of (in_order (map piece_tree (pieces_of t)))) (bytes_of (signal_tree t.signal)) 2 (58 * length (pieces_of t)) 2 (wait_bytes t.wait) (pieces_bytes (pieces_of t)) (signal_bytes t.signal) in
+    omega (arith, all, pieces_few t h)

@@ -1,0 +1,55 @@
+-- The limits, as numbers, and a program worked out: rows computed from the definitions, and the code's own constants.
+use Rattle.std.proofs.Common.{◌≡◌, ◌+◌, ◌*◌, ◌^◌, [], ◌∷◌, None, refl}
+use Rattle.dma_mem.specs.Places.{Descriptor}
+use Rattle.dma_chan.specs.declared.program.TheConstants.{MAX_BYTES}
+use Rattle.dma_chan.specs.declared.bursts.TheConstants.{BUFFER_SIZE}
+use Rattle.dma_chan.specs.declared.compile.TheConstants.{MAX_COMPILED}
+use Rattle.dma_chan.specs.Exec.{buffer_size}
+use Rattle.dma_chan.specs.Compiled.{beat_of, parts, members, cost, compiled}
+use Rattle.dma_chan.specs.Traffic.{read_len, write_len}
+
+-- ---- the code's constants
+
+most_program_bytes : MAX_BYTES ≡ 8192
+most_program_bytes = refl
+
+most_compiled_bytes : MAX_COMPILED ≡ 7371
+most_compiled_bytes = refl
+
+-- 58 bytes for each of at most 127 pieces, and 5 for the wait, the signal and the end
+compiled_bytes_add_up : 58 * 127 + 5 ≡ 7371
+compiled_bytes_add_up = refl
+
+buffer_bytes : BUFFER_SIZE ≡ 256
+buffer_bytes = refl
+
+buffer_bytes_here : buffer_size ≡ 256
+buffer_bytes_here = refl
+
+-- what a transfer costs is below this
+cost_limit : 2 ^ 19 ≡ 524288
+cost_limit = refl
+
+-- ---- bursts by their control word: 16 beats of 16 bytes are the most, a beat of one byte the least
+
+most_bytes_of_a_burst : read_len 249 ≡ 256
+most_bytes_of_a_burst = refl
+
+least_bytes_of_a_burst : write_len 0 ≡ 1
+least_bytes_of_a_burst = refl
+
+-- ---- a program
+
+-- four bytes from 0x1000 to 0x2000
+abbrev four : Descriptor
+four =
+    record { src = record { addr = 4096; len = 4 } ∷ []; dst = record { addr = 8192; len = 4 } ∷ []; wait = None; signal = None }
+
+-- DMAMOV SAR, DMAMOV DAR, DMAMOV CCR with one beat of four bytes at both ends, DMALD, DMARMB, DMAST, DMAWMB, DMAEND
+four_compiled : (compiled four).bytes ≡ 188 ∷ 0 ∷ 0 ∷ 16 ∷ 0 ∷ 0 ∷ 188 ∷ 2 ∷ 0 ∷ 32 ∷ 0 ∷ 0 ∷ 188 ∷ 1 ∷ 5 ∷ 64 ∷ 1 ∷ 0 ∷ 4 ∷ 18 ∷ 8 ∷ 19 ∷ 0 ∷ []
+unfolding compiled parts beat_of
+four_compiled = refl
+
+four_costs : cost four ≡ 8
+unfolding cost members parts beat_of
+four_costs = refl

@@ -1,0 +1,116 @@
+-- How many instructions running a tree executes, counted without writing them out, and a bound for a transfer's.
+use Rattle.std.proofs.Common.{◌≡◌, ℕ, zero, suc, ◌+◌, ◌*◌, ◌/◌, ◌%◌, ◌^◌, ◌≤◌, List, [], ◌∷◌, length, map, Option, Some, None, refl, ap, ◌∙◌, arith, length-append}
+use Rattle.std.proofs.Math.Nat.{div-mul-le_self}
+use Rattle.std.specs.List.{range_with_len}
+use Rattle.std.proofs.lemmas.List.FromFn.{length-range_with_len}
+use Rattle.dma_insn.specs.declared.insn.Counter.TheVariants.{Lc0, Lc1}
+use Rattle.dma_insn.specs.declared.insn.Insn.{Insn}
+use Rattle.dma_insn.specs.declared.insn.Insn.TheVariants.{LpEnd}
+use Rattle.dma_mem.specs.Places.{Descriptor}
+use Rattle.dma_chan.specs.declared.pieces.Piece.{Piece}
+use Rattle.dma_chan.specs.Compiled.{pieces_of, members, cost, tree_of, piece_tree, parts, where_some, under, bursts, body, beat_of, control_word, wait_tree, signal_tree}
+use Rattle.dma_chan.specs.Tree.{Tree, One, Then, Nothing, Repeat, bytes_of, unrolled, times, turn_of, in_order}
+use Rattle.dma_chan.specs.inner.Compiling.{cost_of}
+use Rattle.dma_chan.specs.Layer.{CostIs}
+use Rattle.dma_chan.proofs.CutPlaces.{read_by}
+use Rattle.dma_chan.proofs.PieceCode.{cut_well, pieces_few}
+use Rattle.dma_chan.proofs.ControlWords.{beat_right}
+
+-- the number by the tree alone
+abbrev pub counted : Tree → ℕ
+counted (One i) = 1
+counted (Then a b) = counted a + counted b
+counted Nothing = 0
+counted (Repeat c n t) = 1 + n * (counted t + 1)
+
+length-times : (n : ℕ) (is : List Insn) → length (times n is) ≡ n * length is
+length-times zero is = omega arith
+length-times (suc n) is = length-append is (times n is) ∙ ap (λ (k : ℕ). length is + k) (length-times n is) ∙ omega arith
+
+length-unrolled : (t : Tree) → length (unrolled t) ≡ counted t
+length-unrolled (One i) = refl
+length-unrolled (Then a b) = length-append (unrolled a) (unrolled b) ∙ omega (arith, length-unrolled a, length-unrolled b)
+length-unrolled Nothing = refl
+length-unrolled (Repeat c n t) =
+    let is = turn_of c (length (bytes_of t)) (unrolled t) in
+    let e : length is ≡ counted t + 1 = length-append (unrolled t) (LpEnd c (length (bytes_of t)) ∷ []) ∙ omega (arith, length-unrolled t) in
+    let all : length (times n is) ≡ n * (counted t + 1) = length-times n is ∙ ap (λ (k : ℕ). n * k) e in
+    omega (arith, all)
+
+pub cost_counted : (t : Tree) → cost_of t ≡ counted t
+unfolding cost_of
+cost_counted t = length-unrolled t
+
+pub cost_of_tree : (t : Descriptor) → cost t ≡ counted (tree_of t)
+unfolding cost members
+cost_of_tree t = length-unrolled (tree_of t)
+
+-- ---- the bound
+
+some_counted : (n k : ℕ) (t : Tree) → counted t ≤ k → counted (where_some n t) ≤ k
+some_counted zero k t h = omega arith
+some_counted (suc n) k t h = h
+
+sum_two : (a b i j : ℕ) → a ≤ i → b ≤ j → a + (b + 0) ≤ i + j
+sum_two a b i j f g = omega arith
+
+sum_three : (a b c i j k : ℕ) → a ≤ i → b ≤ j → c ≤ k → a + (b + (c + 0)) ≤ i + j + k
+sum_three a b c i j k f g h = omega arith
+
+bursts_counted : (q : ℕ) → counted (bursts q) ≤ 2 + 6 * q
+bursts_counted q =
+    let nested = Repeat Lc0 (q / 256) (Repeat Lc1 256 body) in
+    let rest = Repeat Lc1 (q % 256) body in
+    let many : counted nested ≤ 1 + 1282 * (q / 256) = omega arith in
+    let few : counted rest ≤ 1 + 5 * (q % 256) = omega arith in
+    let both = sum_two (counted (where_some (q / 256) nested)) (counted (where_some (q % 256) rest)) (1 + 1282 * (q / 256)) (1 + 5 * (q % 256)) (some_counted (q / 256) (1 + 1282 * (q / 256)) nested many) (some_counted (q % 256) (1 + 5 * (q % 256)) rest few) in
+    omega (arith, both)
+
+-- so many beats of at least one byte
+bursts_below : (q b : ℕ) → 1 ≤ b → 16 * q ≤ q * (16 * b)
+bursts_below zero b low = omega arith
+bursts_below (suc q) b low = omega (arith, bursts_below q b low)
+
+parts_counted : (b n : ℕ) → 1 ≤ b → 16 * counted (parts b n) ≤ 208 + 6 * n
+unfolding parts
+parts_counted b n low =
+    let q = n / (16 * b) in
+    let m = n % (16 * b) / b in
+    let l = n % (16 * b) % b in
+    let x = under (control_word b 16) (bursts q) in
+    let y = under (control_word b m) body in
+    let z = under (control_word 1 l) body in
+    let one : counted x ≤ 3 + 6 * q = let all = bursts_counted q in omega (arith, all) in
+    let two : counted y ≤ 5 = omega arith in
+    let three : counted z ≤ 5 = omega arith in
+    let all = sum_three (counted (where_some q x)) (counted (where_some m y)) (counted (where_some l z)) (3 + 6 * q) 5 5 (some_counted q (3 + 6 * q) x one) (some_counted m 5 y two) (some_counted l 5 z three) in
+    let whole : 16 * q ≤ n = omega (arith, bursts_below q b low, div-mul-le_self n (16 * b)) in
+    omega (arith, all, whole)
+
+piece_counted : (p : Piece) → 16 * counted (piece_tree p) ≤ 240 + 6 * p.len
+piece_counted p = let all = parts_counted (beat_of p) p.len (beat_right p).low in omega (arith, all)
+
+pieces_counted : (ps : List Piece) → 16 * counted (in_order (map piece_tree ps)) ≤ 240 * length ps + 6 * length (read_by ps)
+pieces_counted [] = omega arith
+pieces_counted (p ∷ ps) =
+    let one = piece_counted p in
+    let more = pieces_counted ps in
+    let bytes : length (read_by (p ∷ ps)) ≡ p.len + length (read_by ps) = length-append (range_with_len p.src p.len) (read_by ps) ∙ omega (arith, length-range_with_len p.src p.len) in
+    omega (arith, one, more, bytes)
+
+event_counted : (o : Option ℕ) → (counted (wait_tree o) ≤ 1) × (counted (signal_tree o) ≤ 1)
+event_counted None = (omega arith, omega arith)
+event_counted (Some e) = (omega arith, omega arith)
+
+pub cost_is : CostIs
+cost_is t h =
+    let cut = cut_well t h in
+    let bytes : length (read_by (pieces_of t)) ≤ 2 ^ 20 = omega (arith, ap length cut.sources, h.same_length, h.short) in
+    let w = (event_counted t.wait).0 in
+    let s = (event_counted t.signal).1 in
+    let all = pieces_counted (pieces_of t) in
+    let few = pieces_few t h in
+    omega (arith, cost_of_tree t, w, s, all, few, bytes)
+
+pub cost_some : (t : Descriptor) → 1 ≤ cost t
+cost_some t = omega (arith, cost_of_tree t)

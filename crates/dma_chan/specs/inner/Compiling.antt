@@ -1,0 +1,17 @@
+-- What the contracts of the compiler's parts speak of.
+use Rattle.std.specs.Prelude.{ℕ, ◌+◌, ◌^◌, ◌<◌, ◌≤◌, List, [], ◌∷◌, length}
+use Rattle.dma_mem.specs.declared.segment.Segment.{Segment}
+use Rattle.dma_chan.specs.Tree.{Tree, unrolled}
+
+-- how many bytes a list of segments has
+abbrev pub byte_count : List Segment → ℕ
+byte_count [] = 0
+byte_count (s ∷ ss) = s.len + byte_count ss
+
+-- at least one byte, and none above 2 ^ 32
+abbrev pub IsRange : Segment → Type 0
+IsRange s = (0 < s.len) × (s.addr + s.len ≤ 2 ^ 32)
+
+-- how many instructions running a tree executes
+unfoldable pub cost_of : Tree → ℕ
+cost_of t = length (unrolled t)

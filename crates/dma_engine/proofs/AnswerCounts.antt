@@ -1,0 +1,316 @@
+-- What each answer adds to the ticks, to the step count and to the number of finished cookies.
+use Rattle.std.proofs.Common.{◌≡◌, ℕ, ◌+◌, ◌<◌, List, [], ◌∷◌, ◌++◌, length, map, drop, Option, Some, None, Bool, true, false, refl, ap, sym, ◌∙◌, subst, arith, append-nil, inl, inr, ◌⊎◌}
+use Rattle.std.specs.Prelude.{if◌then◌else◌, ◌==◌, nat_le, slice_set, Result, Ok, Err, sum}
+use Rattle.std.proofs.lemmas.Bool.{leb-false}
+use Rattle.std.proofs.lemmas.List.{map-set, set-get_or, length-append, length_push, length-drop}
+use Rattle.std.proofs.lemmas.List.Sums.{sum_by-set, sum-map}
+use Rattle.std.proofs.Math.ListN.{get_or-map}
+use Rattle.dma_insn.specs.declared.insn.Insn.{Insn}
+use Rattle.dma_insn.specs.declared.insn.Insn.TheVariants.{Ld, St, End, Sev, Wfe, Mov, Rmb, Wmb, Nop, Lp, LpEnd}
+use Rattle.dma_mem.specs.Places.{Descriptor}
+use Rattle.dma_mem.specs.declared.marks.MarkKind.TheVariants.{Reading, Writing}
+use Rattle.dma_mem.specs.Marking.{meets_mark}
+use Rattle.dma_chan.specs.Traffic.{member, stored_after, read_places, written_places}
+use Rattle.dma_engine.specs.declared.call.Call.{Call}
+use Rattle.dma_engine.specs.declared.call.Call.TheVariants.{Write, Read, Submit, Issue, Pause, Resume, Terminate, Step, Status, Result as ResultOf, Mark, Unmark, Raise}
+use Rattle.dma_engine.specs.declared.call.Reply.{Reply}
+use Rattle.dma_engine.specs.declared.call.Reply.TheVariants.{Done, Bytes, Cookie, Count, Turned, State, Result as Told, Refused}
+use Rattle.dma_engine.specs.declared.entry.Entry.{Entry}
+use Rattle.dma_engine.specs.declared.entry.Entry.TheVariants.{Wrote, ReadBack, Submitted as SubmittedEntry, Issued, Passed, Signalled, Finished as FinishedEntry, Terminated, Marked, Unmarked}
+use Rattle.dma_engine.specs.declared.entry.Signaller.TheVariants.{Channel, Host}
+use Rattle.dma_engine.specs.declared.fault.EngineFault.{EngineFault}
+use Rattle.dma_engine.specs.declared.fault.EngineFault.TheVariants.{OutOfMemoryRange, Busy, NoChannel, CookiesSpent, StepsSpent, BadEvent, BadRange, NoMemory}
+use Rattle.dma_engine.specs.declared.outcome.TransResult.{TransResult}
+use Rattle.dma_engine.specs.declared.outcome.TransResult.TheVariants.{NoError, ReadFailed, WriteFailed}
+use Rattle.dma_engine.specs.declared.turn.Turn.{Turn}
+use Rattle.dma_engine.specs.declared.turn.Turn.TheVariants.{Nothing, Held, Started, Moved, Waiting, Paused, Halted, Finished as FinishedTurn}
+use Rattle.dma_engine.specs.Object.{Object, ChannelState, after, channel, empty_channel, with_channel, with_flag, with_front_laid, with_outcome, with_all_aborted, finished, finished_all, unfinished, used, front_of, outcome_of, aborted, issued_front, is_set}
+use Rattle.dma_engine.specs.Ticks.{Submitted, Finished, ticks_of}
+use Rattle.dma_engine.specs.View.{View, RunningTransfer, object_of, channels, schedule_at}
+use Rattle.dma_engine.specs.Turn.{Stepped, turn, ends, front_turn, start_turn, insn_turn, moves_on, finishes, with_entry, in_the_way, last_step}
+use Rattle.dma_engine.specs.Answer.{CallAnswers, StepAnswers, answer, unless, reply_of, write_fault, read_fault, submit_fault, channel_fault, mark_fault, raise_fault, with_pause, terminated, done_on}
+use Rattle.dma_engine.specs.Laws.{Adds, Still, IsQuiet, QuietCallsKeep, StepsAdd, EndsAsTold, ticks_in, steps_in, finishes_in}
+use Rattle.dma_engine.proofs.Endings.{length-aborted}
+use Rattle.dma_engine.proofs.Histories.{object_after-append}
+
+-- ---- lists of ticks
+
+pub ticks-append : (xs ys : List Entry) → ticks_of (xs ++ ys) ≡ ticks_of xs ++ ticks_of ys
+ticks-append [] ys = refl
+ticks-append (Wrote addr bytes ∷ xs) ys = ticks-append xs ys
+ticks-append (ReadBack addr bytes ∷ xs) ys = ticks-append xs ys
+ticks-append (SubmittedEntry ch t cookie ∷ xs) ys = ap (λ l. Submitted ch ∷ l) (ticks-append xs ys)
+ticks-append (Issued ch ∷ xs) ys = ticks-append xs ys
+ticks-append (Passed ch event ∷ xs) ys = ticks-append xs ys
+ticks-append (Signalled by event ∷ xs) ys = ticks-append xs ys
+ticks-append (FinishedEntry ch result done ∷ xs) ys = ap (λ l. Finished ch 1 ∷ l) (ticks-append xs ys)
+ticks-append (Terminated ch done count ∷ xs) ys = ap (λ l. Finished ch count ∷ l) (ticks-append xs ys)
+ticks-append (Marked kind segment ∷ xs) ys = ticks-append xs ys
+ticks-append (Unmarked ∷ xs) ys = ticks-append xs ys
+
+-- ---- the number of finished cookies
+
+finished-with : (o : Object) (ch : ℕ) (c : ChannelState) → ch < length o.channels → finished_all (with_channel o ch c) + finished (channel o ch) ≡ finished_all o + finished c
+finished-with o ch c less = sum_by-set finished o.channels ch c empty_channel less
+
+finished-same : (o : Object) (ch : ℕ) (c : ChannelState) → finished c ≡ finished (channel o ch) → finished_all (with_channel o ch c) ≡ finished_all o
+finished-same o ch c e =
+    sym (sum-map finished (slice_set o.channels ch c))
+    ∙ ap sum (map-set finished o.channels ch c ∙ ap (slice_set (map finished o.channels) ch) (e ∙ sym (get_or-map finished o.channels ch empty_channel)) ∙ set-get_or (map finished o.channels) ch 0)
+    ∙ sum-map finished o.channels
+
+-- ---- what stays
+
+same : (v : View) → Still v v
+same v = record { ticks = refl; steps = refl; finished = refl }
+
+-- an entry that gives no cookie and finishes none
+abbrev IsQuietEntry : Entry → Type 0
+IsQuietEntry (SubmittedEntry ch t cookie) = ⊥
+IsQuietEntry (FinishedEntry ch result done) = ⊥
+IsQuietEntry (Terminated ch done count) = ⊥
+IsQuietEntry _ = Unit {0}
+
+quiet-ticks : (e : Entry) → IsQuietEntry e → ticks_of (e ∷ []) ≡ []
+quiet-ticks (Wrote addr bytes) q = refl
+quiet-ticks (ReadBack addr bytes) q = refl
+quiet-ticks (SubmittedEntry ch t cookie) q = absurd q
+quiet-ticks (Issued ch) q = refl
+quiet-ticks (Passed ch event) q = refl
+quiet-ticks (Signalled by event) q = refl
+quiet-ticks (FinishedEntry ch result done) q = absurd q
+quiet-ticks (Terminated ch done count) q = absurd q
+quiet-ticks (Marked kind segment) q = refl
+quiet-ticks Unmarked q = refl
+
+quiet-after : (o : Object) (e : Entry) → IsQuietEntry e → finished_all (after o e) ≡ finished_all o
+quiet-after o (Wrote addr bytes) q = refl
+quiet-after o (ReadBack addr bytes) q = refl
+quiet-after o (SubmittedEntry ch t cookie) q = absurd q
+quiet-after o (Issued ch) q = finished-same o ch _ refl
+quiet-after o (Passed ch event) q = finished-same (with_flag o event false) ch _ refl
+quiet-after o (Signalled (Channel ch) event) q = finished-same (with_flag o event true) ch _ refl
+quiet-after o (Signalled Host event) q = refl
+quiet-after o (FinishedEntry ch result done) q = absurd q
+quiet-after o (Terminated ch done count) q = absurd q
+quiet-after o (Marked kind segment) q = refl
+quiet-after o Unmarked q = refl
+
+pub object-one : (v : View) (e : Entry) → object_of (with_entry v e) ≡ after (object_of v) e
+object-one v e = object_after-append v.base v.history (e ∷ [])
+
+entry-still : (v : View) (e : Entry) → IsQuietEntry e → Still v (with_entry v e)
+entry-still v e q = record {
+  ticks = ticks-append v.history (e ∷ []) ∙ ap (λ l. ticks_of v.history ++ l) (quiet-ticks e q) ∙ append-nil (ticks_of v.history);
+  steps = refl;
+  finished = ap finished_all (object-one v e) ∙ quiet-after (object_of v) e q;
+}
+
+unless-still : (v : View) (f : Option EngineFault) (x : Reply × View) → Still v x.1 → Still v (unless f v x).1
+unless-still v None x h = h
+unless-still v (Some fault) x h = same v
+
+-- ---- a fact of an answer, from the one that is given where memory is not wanting
+
+by-answer : (v w : View) (call : Call) (reply : Reply) (P : View → Type 0) → P (answer v call).1 → (reply, w) ≡ answer v call → P w
+by-answer v w call reply P h is = subst P (sym (ap (λ (x : Reply × View). x.1) is)) h
+
+answered : (v w : View) (call : Call) (reply : Reply) (P : View → Type 0) → P v → P (answer v call).1 → CallAnswers v call reply w → P w
+answered v w call Done P o h is = by-answer v w call Done P h is
+answered v w call (Bytes b) P o h is = by-answer v w call (Bytes b) P h is
+answered v w call (Cookie n) P o h is = by-answer v w call (Cookie n) P h is
+answered v w call (Count n) P o h is = by-answer v w call (Count n) P h is
+answered v w call (Turned t) P o h is = by-answer v w call (Turned t) P h is
+answered v w call (State s) P o h is = by-answer v w call (State s) P h is
+answered v w call (Told x) P o h is = by-answer v w call (Told x) P h is
+answered v w call (Refused NoMemory) P o h is = subst P (sym is.1) o
+answered v w call (Refused OutOfMemoryRange) P o h is = by-answer v w call (Refused OutOfMemoryRange) P h is
+answered v w call (Refused (Busy ch cookie)) P o h is = by-answer v w call (Refused (Busy ch cookie)) P h is
+answered v w call (Refused NoChannel) P o h is = by-answer v w call (Refused NoChannel) P h is
+answered v w call (Refused CookiesSpent) P o h is = by-answer v w call (Refused CookiesSpent) P h is
+answered v w call (Refused StepsSpent) P o h is = by-answer v w call (Refused StepsSpent) P h is
+answered v w call (Refused BadEvent) P o h is = by-answer v w call (Refused BadEvent) P h is
+answered v w call (Refused BadRange) P o h is = by-answer v w call (Refused BadRange) P h is
+
+-- ---- the calls that give no cookie and finish none
+
+call-still : (v : View) (call : Call) → IsQuiet call → Still v (answer v call).1
+call-still v (Write addr bytes) q = unless-still v (write_fault v addr (length bytes)) _ (entry-still v (Wrote addr bytes) tt)
+call-still v (Read addr len) q = unless-still v (read_fault v addr len) _ (entry-still v (ReadBack addr _) tt)
+call-still v (Submit ch t) q = absurd q
+call-still v (Issue ch) q = unless-still v (channel_fault v ch) _ (entry-still v (Issued ch) tt)
+call-still v (Pause ch) q = unless-still v (channel_fault v ch) (Done, with_pause v ch true) (record { ticks = refl; steps = refl; finished = refl })
+call-still v (Resume ch) q = unless-still v (channel_fault v ch) (Done, with_pause v ch false) (record { ticks = refl; steps = refl; finished = refl })
+call-still v (Terminate ch) q = absurd q
+call-still v (Step ch) q = absurd q
+call-still v (Status ch cookie) q = same v
+call-still v (ResultOf ch cookie) q = same v
+call-still v (Mark kind segment) q = unless-still v (mark_fault segment) _ (entry-still v (Marked kind segment) tt)
+call-still v Unmark q = entry-still v Unmarked tt
+call-still v (Raise event) q = unless-still v (raise_fault event) _ (entry-still v (Signalled Host event) tt)
+
+pub quiet_calls_keep : QuietCallsKeep
+quiet_calls_keep v w call reply q h = answered v w call reply (Still v) (same v) (call-still v call q) h
+
+-- ---- a step
+
+-- what a step's answer leaves: a finish is one tick more, one step more and one more finished; a move one step more
+abbrev Deed : View → ℕ → Stepped → Type 0
+Deed v ch (Ok (FinishedTurn cookie result residue), w) =
+    (ticks_of w.history ≡ ticks_of v.history ++ Finished ch 1 ∷ []) × (w.steps ≡ v.steps + 1)
+    × (finished_all (object_of w) ≡ finished_all (object_of v) + 1) × (length w.history ≡ length v.history + 1)
+Deed v ch (Ok Moved, w) =
+    (ticks_of w.history ≡ ticks_of v.history) × (w.steps ≡ v.steps + 1) × (finished_all (object_of w) ≡ finished_all (object_of v))
+Deed v ch (_, w) = Still v w
+
+if-deed : (v : View) (ch : ℕ) (b : Bool) (x y : Stepped) → (b ≡ true → Deed v ch x) → (b ≡ false → Deed v ch y) → Deed v ch (if◌then◌else◌ {A = Stepped} b x y)
+if-deed v ch true x y h g = h refl
+if-deed v ch false x y h g = g refl
+
+moves-deed : (v : View) (ch n : ℕ) → Deed v ch (moves_on v ch n)
+moves-deed v ch n = (refl, refl, refl)
+
+entry-moves : (v : View) (ch n : ℕ) (e : Entry) → IsQuietEntry e → Deed v ch (moves_on (with_entry v e) ch n)
+entry-moves v ch n e q = let s = entry-still v e q in (s.ticks, refl, s.finished)
+
+finish-deed : (v : View) (ch n : ℕ) (t : Descriptor) (how : TransResult) → ch < channels v → Deed v ch (finishes v ch t n how)
+finish-deed v ch n t how less =
+    let done = stored_after t n in
+    let e = FinishedEntry ch how done in
+    let o = object_of v in
+    let c = channel o ch in
+    let set = finished-with (with_front_laid o ch done) ch (with_outcome c how done) less in
+    let more = length_push c.outcomes (outcome_of how (front_of c) done) in
+    let all : finished_all (after o e) ≡ finished_all o + 1 = omega (arith, set, more) in
+    (ticks-append v.history (e ∷ []), refl, ap finished_all (object-one v e) ∙ all, length_push v.history e)
+
+insn-deed : (v : View) (ch n : ℕ) (t : Descriptor) (i : Insn) → ch < channels v → Deed v ch (insn_turn v ch t n i)
+insn-deed v ch n t (Wfe event invalid) l = if-deed v ch (is_set (object_of v) event) (moves_on (with_entry v (Passed ch event)) ch n) (Ok (Waiting event), v) (λ _. entry-moves v ch n (Passed ch event) tt) (λ _. same v)
+insn-deed v ch n t (Sev event) l = entry-moves v ch n (Signalled (Channel ch) event) tt
+insn-deed v ch n t End l = finish-deed v ch n t NoError l
+insn-deed v ch n t Ld l = if-deed v ch (meets_mark Reading (object_of v).marks (read_places t n)) (finishes v ch t n ReadFailed) (moves_on v ch n) (λ _. finish-deed v ch n t ReadFailed l) (λ _. moves-deed v ch n)
+insn-deed v ch n t St l = if-deed v ch (meets_mark Writing (object_of v).marks (written_places t n)) (finishes v ch t n WriteFailed) (moves_on v ch n) (λ _. finish-deed v ch n t WriteFailed l) (λ _. moves-deed v ch n)
+insn-deed v ch n t (Mov a b) l = moves-deed v ch n
+insn-deed v ch n t Rmb l = moves-deed v ch n
+insn-deed v ch n t Wmb l = moves-deed v ch n
+insn-deed v ch n t Nop l = moves-deed v ch n
+insn-deed v ch n t (Lp a b) l = moves-deed v ch n
+insn-deed v ch n t (LpEnd a b) l = moves-deed v ch n
+
+start-deed : (v : View) (ch : ℕ) (x : Option RunningTransfer) → Deed v ch (start_turn v ch x)
+start-deed v ch None = record { ticks = refl; steps = refl; finished = refl }
+start-deed v ch (Some r) = same v
+
+front-deed : (v : View) (ch : ℕ) (x : Option Descriptor) (taken : Option ℕ) → ch < channels v → Deed v ch (front_turn v ch x taken)
+front-deed v ch None taken l = same v
+front-deed v ch (Some t) None l = start-deed v ch (in_the_way v t)
+front-deed v ch (Some t) (Some n) l = if-deed v ch (v.steps == last_step) (Err StepsSpent, v) (insn_turn v ch t n (member t n)) (λ _. same v) (λ _. insn-deed v ch n t (member t n) l)
+
+turn-deed : (v : View) (ch : ℕ) → Deed v ch (turn v ch)
+turn-deed v ch =
+    let c = channel (object_of v) ch in
+    let s = schedule_at v ch in
+    let last = front_turn v ch (issued_front c) s.taken in
+    let third : Stepped = if s.paused then (Ok Paused, v) else last in
+    let second : Stepped = if c.halted then (Ok Halted, v) else third in
+    if-deed v ch (nat_le (channels v) ch) (Err NoChannel, v) second (λ _. same v)
+    (λ there. if-deed v ch c.halted (Ok Halted, v) third (λ _. same v) (λ _. if-deed v ch s.paused (Ok Paused, v) last (λ _. same v) (λ _. front-deed v ch (issued_front c) s.taken (leb-false _ _ there))))
+
+-- ---- what a step's answer is
+
+told-ok : (x : Result Turn EngineFault) (t : Turn) → Turned t ≡ reply_of Turned x → x ≡ Ok t
+told-ok (Ok u) t h = let e : u ≡ t = cc in ap (λ y. Ok y) e
+told-ok (Err f) t h = absurd cc
+
+told-err : (x : Result Turn EngineFault) (f : EngineFault) → Refused f ≡ reply_of Turned x → x ≡ Err f
+told-err (Ok u) f h = absurd cc
+told-err (Err g) f h = let e : g ≡ f = cc in ap (λ y. Err y) e
+
+by-turn : (v w : View) (ch : ℕ) (reply : Reply) (x : Result Turn EngineFault) → (reply, w) ≡ answer v (Step ch) → (reply ≡ reply_of Turned (turn v ch).0 → (turn v ch).0 ≡ x) → turn v ch ≡ (x, w)
+by-turn v w ch reply x is inv =
+    let first : (turn v ch).0 ≡ x = inv (ap (λ (y : Reply × View). y.0) is) in
+    let second : (turn v ch).1 ≡ w = sym (ap (λ (y : Reply × View). y.1) is) in
+    ap (λ y. (y, (turn v ch).1)) first ∙ ap (λ u. (x, u)) second
+
+-- it is the turn's, or memory was wanting and nothing changed
+stepped : (v w : View) (ch : ℕ) (r : Result Turn EngineFault) → StepAnswers v ch r w → ((r ≡ Err NoMemory) × (w ≡ v)) ⊎ (turn v ch ≡ (r, w))
+stepped v w ch (Ok t) h = inr (by-turn v w ch (Turned t) (Ok t) h (λ e. told-ok (turn v ch).0 t e))
+stepped v w ch (Err NoMemory) h = inl (refl, h.1)
+stepped v w ch (Err OutOfMemoryRange) h = inr (by-turn v w ch (Refused OutOfMemoryRange) (Err OutOfMemoryRange) h (λ e. told-err (turn v ch).0 OutOfMemoryRange e))
+stepped v w ch (Err (Busy c k)) h = inr (by-turn v w ch (Refused (Busy c k)) (Err (Busy c k)) h (λ e. told-err (turn v ch).0 (Busy c k) e))
+stepped v w ch (Err NoChannel) h = inr (by-turn v w ch (Refused NoChannel) (Err NoChannel) h (λ e. told-err (turn v ch).0 NoChannel e))
+stepped v w ch (Err CookiesSpent) h = inr (by-turn v w ch (Refused CookiesSpent) (Err CookiesSpent) h (λ e. told-err (turn v ch).0 CookiesSpent e))
+stepped v w ch (Err StepsSpent) h = inr (by-turn v w ch (Refused StepsSpent) (Err StepsSpent) h (λ e. told-err (turn v ch).0 StepsSpent e))
+stepped v w ch (Err BadEvent) h = inr (by-turn v w ch (Refused BadEvent) (Err BadEvent) h (λ e. told-err (turn v ch).0 BadEvent e))
+stepped v w ch (Err BadRange) h = inr (by-turn v w ch (Refused BadRange) (Err BadRange) h (λ e. told-err (turn v ch).0 BadRange e))
+
+-- ---- what a step adds
+
+still-adds : (v w : View) → Still v w → Adds v w [] 0 0
+still-adds v w s = record {
+  ticks = s.ticks ∙ sym (append-nil (ticks_of v.history));
+  steps = omega (arith, s.steps);
+  finished = omega (arith, s.finished);
+}
+
+deed-adds : (v w : View) (ch : ℕ) (r : Result Turn EngineFault) → Deed v ch (r, w) → Adds v w (ticks_in ch r) (steps_in r) (finishes_in r)
+deed-adds v w ch (Ok (FinishedTurn a b c)) d = record { ticks = d.0; steps = d.1; finished = d.2 }
+deed-adds v w ch (Ok Moved) d = record {
+  ticks = d.0 ∙ sym (append-nil (ticks_of v.history));
+  steps = d.1;
+  finished = omega (arith, d.2);
+}
+deed-adds v w ch (Ok Nothing) d = still-adds v w d
+deed-adds v w ch (Ok (Held a b)) d = still-adds v w d
+deed-adds v w ch (Ok (Started a)) d = still-adds v w d
+deed-adds v w ch (Ok (Waiting a)) d = still-adds v w d
+deed-adds v w ch (Ok Paused) d = still-adds v w d
+deed-adds v w ch (Ok Halted) d = still-adds v w d
+deed-adds v w ch (Err f) d = still-adds v w d
+
+pub steps_add : StepsAdd
+steps_add v w ch r h = elim (stepped v w ch r h) [
+  | inl none ↦
+      subst (λ x. Adds v w (ticks_in ch x) (steps_in x) (finishes_in x)) (sym none.0) (subst (λ u. Adds v u [] 0 0) (sym none.1) (still-adds v v (same v)))
+  | inr is ↦ deed-adds v w ch r (subst (λ (s : Stepped). Deed v ch s) is (turn-deed v ch))
+]
+
+pub ends_as_told : EndsAsTold
+ends_as_told v w ch r h = elim (stepped v w ch r h) [
+  | inl none ↦ inl none.0
+  | inr is ↦ inr (ap (λ (s : Stepped). ends s.0) (sym is))
+]
+
+-- ---- a submit and a terminate
+
+-- where nothing refuses it, a submit that answers a cookie is one tick more
+pub submitted : (v w : View) (ch k : ℕ) (t : Descriptor) → submit_fault v ch t ≡ None → CallAnswers v (Submit ch t) (Cookie k) w → (ticks_of w.history ≡ ticks_of v.history ++ Submitted ch ∷ []) × (w.steps ≡ v.steps) × (finished_all (object_of w) ≡ finished_all (object_of v))
+submitted v w ch k t none h =
+    let e = SubmittedEntry ch t (used (channel (object_of v) ch) + 1) in
+    let given : answer v (Submit ch t) ≡ (Cookie (used (channel (object_of v) ch) + 1), with_entry v e) = rw none refl in
+    let is : w ≡ with_entry v e = ap (λ (x : Reply × View). x.1) (h ∙ given) in
+    let one : finished_all (object_of (with_entry v e)) ≡ finished_all (object_of v) = ap finished_all (object-one v e) ∙ finished-same (object_of v) ch _ refl in (
+      ap (λ (u : View). ticks_of u.history) is ∙ ticks-append v.history (e ∷ []),
+      ap (λ (u : View). u.steps) is,
+      ap (λ (u : View). finished_all (object_of u)) is ∙ one,
+    )
+
+-- the channel is there, a terminate that answers a count is one tick more
+pub closed : (v w : View) (ch n : ℕ) → channel_fault v ch ≡ None → ch < channels v → CallAnswers v (Terminate ch) (Count n) w → (n ≡ unfinished (channel (object_of v) ch)) × (ticks_of w.history ≡ ticks_of v.history ++ Finished ch n ∷ []) × (w.steps ≡ v.steps) × (finished_all (object_of w) ≡ finished_all (object_of v) + n)
+closed v w ch n none less h =
+    let o = object_of v in
+    let c = channel o ch in
+    let m = unfinished c in
+    let done = done_on v ch in
+    let e = Terminated ch done m in
+    let given : answer v (Terminate ch) ≡ (Count m, terminated v ch) = rw none refl in
+    let number : n ≡ m = let both : Count n ≡ Count m = ap (λ (x : Reply × View). x.0) (h ∙ given) in cc in
+    let is : w ≡ terminated v ch = ap (λ (x : Reply × View). x.1) (h ∙ given) in
+    let set = finished-with (with_front_laid o ch done) ch (with_all_aborted c done) less in
+    let more : finished (with_all_aborted c done) ≡ finished c + m = omega (arith, length-append c.outcomes (aborted done (drop (finished c) c.submitted)), length-aborted done (drop (finished c) c.submitted), length-drop (finished c) c.submitted) in
+    let all : finished_all (after o e) ≡ finished_all o + m = omega (arith, set, more) in (
+      number,
+      ap (λ (u : View). ticks_of u.history) is ∙ ticks-append v.history (e ∷ []) ∙ ap (λ k. ticks_of v.history ++ Finished ch k ∷ []) (sym number),
+      ap (λ (u : View). u.steps) is,
+      omega (arith, ap (λ (u : View). finished_all (object_of u)) is, ap finished_all (object-one v e), all, number),
+    )

@@ -1,0 +1,59 @@
+-- An outcome that was there stays.
+use Rattle.std.proofs.Common.{◌≡◌, ℕ, ◌-◌, List, [], ◌∷◌, ◌++◌, Some, None, Bool, true, false, ap, ◌∙◌, inl, inr, zero, suc}
+use Rattle.std.specs.Prelude.{slice_get, if◌then◌else◌, ◌==◌}
+use Rattle.std.proofs.lemmas.Bool.{cases_eq}
+use Rattle.std.proofs.lemmas.List.{get_or-set_other}
+use Rattle.dma_engine.specs.declared.entry.Entry.{Entry}
+use Rattle.dma_engine.specs.declared.entry.Entry.TheVariants.{Wrote, ReadBack, Submitted, Issued, Passed, Signalled, Finished, Terminated, Marked, Unmarked}
+use Rattle.dma_engine.specs.declared.entry.Signaller.TheVariants.{Channel, Host}
+use Rattle.dma_engine.specs.declared.outcome.Outcome.{Outcome}
+use Rattle.dma_engine.specs.Object.{Object, ChannelState, after, channel, empty_channel, with_channel, with_flag, with_front_laid}
+use Rattle.dma_engine.specs.History.{object_after}
+use Rattle.dma_engine.specs.View.{View, object_of}
+use Rattle.dma_engine.specs.Answer.{Extends, KeepsOutcomes, result_of}
+use Rattle.dma_engine.proofs.Boards.{with_channel-at}
+use Rattle.dma_engine.proofs.Histories.{object_after-append}
+
+longer : {X : Type 0} (xs ys : List X) (k : ℕ) (x : X) → slice_get xs k ≡ Some x → slice_get (xs ++ ys) k ≡ Some x
+longer [] ys k x h = absurd cc
+longer (z ∷ xs) ys zero x h = h
+longer (z ∷ xs) ys (suc k) x h = longer xs ys k x h
+
+-- each outcome of the first channel is one of the second, at its place
+abbrev Keeps : ChannelState → ChannelState → Type 0
+Keeps c d = (k : ℕ) (x : Outcome) → slice_get c.outcomes k ≡ Some x → slice_get d.outcomes k ≡ Some x
+
+keeps-with : (o : Object) (ch : ℕ) (c : ChannelState) → Keeps (channel o ch) c → (d : ℕ) → Keeps (channel o d) (channel (with_channel o ch c) d)
+keeps-with o ch c h d = elim (cases_eq d ch) [
+  | inl e ↦ elim (with_channel-at o ch c) [ inl f ↦ rw (e, f) h | inr f ↦ rw (e, f) (λ k x g. g) ]
+  | inr e ↦ rw (get_or-set_other o.channels ch d c empty_channel e) (λ k x g. g)
+]
+
+keeps-after : (o : Object) (e : Entry) (d : ℕ) → Keeps (channel o d) (channel (after o e) d)
+keeps-after o (Wrote addr bytes) d = λ k x g. g
+keeps-after o (ReadBack addr bytes) d = λ k x g. g
+keeps-after o (Submitted ch t cookie) d = keeps-with o ch _ (λ k x g. g) d
+keeps-after o (Issued ch) d = keeps-with o ch _ (λ k x g. g) d
+keeps-after o (Passed ch event) d = keeps-with (with_flag o event false) ch _ (λ k x g. g) d
+keeps-after o (Signalled (Channel ch) event) d = keeps-with (with_flag o event true) ch _ (λ k x g. g) d
+keeps-after o (Signalled Host event) d = λ k x g. g
+keeps-after o (Finished ch result done) d = keeps-with (with_front_laid o ch done) ch _ (λ k x g. longer (channel o ch).outcomes _ k x g) d
+keeps-after o (Terminated ch done count) d = keeps-with (with_front_laid o ch done) ch _ (λ k x g. longer (channel o ch).outcomes _ k x g) d
+keeps-after o (Marked kind segment) d = λ k x g. g
+keeps-after o Unmarked d = λ k x g. g
+
+keeps-object : (o : Object) (es : List Entry) (d : ℕ) → Keeps (channel o d) (channel (object_after o es) d)
+keeps-object o [] d = λ k x g. g
+keeps-object o (e ∷ es) d = λ k x g. keeps-object (after o e) es d k x (keeps-after o e d k x g)
+
+pub kept : (old new : View) → Extends old new → KeepsOutcomes old new
+kept old new h =
+    let more = h.1 in
+    let o = object_of old in
+    let is : object_of new ≡ object_after o more.0 = ap (λ b. object_after b new.history) h.0 ∙ ap (object_after old.base) more.1 ∙ object_after-append old.base old.history more.0 in
+    λ ch cookie x g.
+    let by : (b : Bool) → (if b then None else slice_get (channel o ch).outcomes (cookie - 1)) ≡ Some x → (if b then None else slice_get (channel (object_after o more.0) ch).outcomes (cookie - 1)) ≡ Some x = λ b. elim b as (λ b. (if b then None else slice_get (channel o ch).outcomes (cookie - 1)) ≡ Some x → (if b then None else slice_get (channel (object_after o more.0) ch).outcomes (cookie - 1)) ≡ Some x) [
+      | true ↦ λ e. absurd cc
+      | false ↦ λ e. keeps-object o more.0 ch (cookie - 1) x e
+    ] in
+    ap (λ y. result_of y ch cookie) is ∙ by (cookie == 0) g

@@ -1,0 +1,250 @@
+-- What an engine keeps where one channel changes and what runs doesn't: pause, resume, issue, submit.
+use Rattle.std.proofs.Common.{◌≡◌, ◌≢◌, ℕ, ◌+◌, ◌<◌, List, [], ◌∷◌, ◌++◌, length, map, Option, Some, None, Bool, true, false, refl, ap, sym, ◌∙◌, subst, arith, inl, inr}
+use Rattle.std.specs.Prelude.{slice_get, slice_index_or, slice_set, nat_lt, IfSome, IsSomeAnd}
+use Rattle.std.proofs.lemmas.Bool.{cases_lt, cases_eq, lt-ltb}
+use Rattle.std.proofs.lemmas.List.{length-set, length_push, get_or-set_same, get_or-set_other, get_or_append_left, get_or_push}
+use Rattle.dma_mem.specs.Places.{Descriptor, lies_below}
+use Rattle.dma_mem.specs.Image.{over}
+use Rattle.dma_mem.specs.Rules.{IsTransfer}
+use Rattle.dma_chan.specs.Channel.{ChannelValue}
+use Rattle.dma_chan.specs.inner.At.{IsAt}
+use Rattle.dma_chan.specs.Programs.{ProgramValue}
+use Rattle.dma_engine.specs.declared.entry.Entry.{Entry}
+use Rattle.dma_engine.specs.declared.entry.Entry.TheVariants.{Submitted, Issued}
+use Rattle.dma_engine.specs.declared.queue.Queue.{Queue}
+use Rattle.dma_engine.specs.declared.ranges.Ranges.{Ranges}
+use Rattle.dma_engine.specs.Object.{Object, ChannelState, Allows, after, channel, empty_channel, with_transfer, front, issued_front, no_transfer, used, finished, last_cookie}
+use Rattle.dma_engine.specs.History.{object_after, IsLegal}
+use Rattle.dma_engine.specs.View.{View, ChannelSchedule, Agrees, runs, runs_there, running, with_stored, memory_shown, object_of, channels}
+use Rattle.dma_engine.specs.Turn.{with_entry}
+use Rattle.dma_engine.specs.Answer.{with_pause}
+use Rattle.dma_engine.specs.inner.Ranges.{AreOfRunning}
+use Rattle.dma_engine.specs.inner.Holds.{Holds, IsPrepared, IsQueue, IsRun, Parts, view_of, schedule_of}
+use Rattle.dma_engine.proofs.Changes.{ChangesTo, changed, view-changed, holds-changed, runs-here, runs-other, schedule-kept}
+use Rattle.dma_engine.proofs.Histories.{object_after-append, IsLegal-append}
+use Rattle.dma_engine.proofs.Queues.{front_where, holds-at, runs_front, slice_get-push, slice_get-push_last}
+use Rattle.dma_engine.proofs.WhatRuns.{running-same}
+
+pub shown-both : (o p : Object) (s t : List ChannelSchedule) → o.image ≡ p.image → running o s ≡ running p t → memory_shown o s ≡ memory_shown p t
+shown-both o p s t image runs_same = ap (λ l. over o.image (map with_stored l)) runs_same ∙ ap (λ m. over m (map with_stored (running p t))) image
+
+-- ---- a change that leaves what runs
+
+pub record StaysAt (p : Parts) (ch : ℕ) (q r : Queue) (flags : List Bool) (history : List Entry) (o : Object) : Type 0 where
+  pub legal : IsLegal (view_of p).base history
+  pub leaves : object_after (view_of p).base history ≡ o
+  pub grows : (k : ℕ) (e : Entry) → slice_get p.history k ≡ Some e → slice_get history k ≡ Some e
+  pub image : (object_of (view_of p)).image ≡ o.image
+  pub events : flags ≡ o.events
+  pub marks : (object_of (view_of p)).marks ≡ o.marks
+  pub many : length o.channels ≡ channels (view_of p)
+  pub others : (c : ℕ) → c ≢ ch → channel o c ≡ channel (object_of (view_of p)) c
+  pub agrees : Agrees (channel o ch) (schedule_of r).taken
+  pub runs_still : runs_there ch (channel o ch) (schedule_of r).taken ≡ runs_there ch (channel (object_of (view_of p)) ch) (schedule_of q).taken
+  pub ranges_still : r.ranges ≡ q.ranges
+  pub tied : IsQueue ch history p.memory r (channel o ch)
+
+pub stays : (p : Parts) (ch : ℕ) (q r : Queue) (flags : List Bool) (history : List Entry) (o : Object) → Holds p → ch < length p.queues → q ≡ slice_index_or p.queues ch q → StaysAt p ch q r flags history o → ChangesTo p ch r p.memory flags history o
+stays p ch q r flags history o h less read w =
+    let v : View = view_of p in
+    let old = object_of v in
+    let s = v.schedule in
+    let x = schedule_of r in
+    let at = holds-at p h ch q less read in
+    let within : ch < length s = omega (arith, h.sound.fits.many, at.there) in
+    let still : (c : ℕ) → runs o (slice_set s ch x) c ≡ runs old s c = λ c. elim (cases_eq c ch) [
+      | inl e ↦ rw e (runs-here o s ch x within ∙ w.runs_still ∙ sym at.runs_is)
+      | inr d ↦ runs-other old o s ch c x d (w.others c d)
+    ] in
+    let same : running o (slice_set s ch x) ≡ running old s = running-same old o s (slice_set s ch x) (sym w.many) (λ c l. still c) in
+    record {
+      legal = w.legal;
+      leaves = w.leaves;
+      grows = w.grows;
+      fits = record {
+        there = at.there;
+        many = w.many;
+        others = w.others;
+        agrees = w.agrees;
+        free = λ d l k. rw (w.runs_still, ← at.runs_is) (h.sound.fits.free ch d at.there l (λ e. k (sym e)));
+      };
+      shown = h.shown ∙ shown-both old o s (slice_set s ch x) w.image (sym same);
+      events = w.events;
+      marks = w.marks;
+      tied = w.tied;
+      prepared = subst (IsPrepared p.made) (at.runs_is ∙ sym w.runs_still) (h.prepared ch);
+      ranges = subst (λ (y : Option Ranges). AreOfRunning y (runs_there ch (channel o ch) x.taken)) (sym w.ranges_still) (subst (AreOfRunning q.ranges) (at.runs_is ∙ sym w.runs_still) at.ranges);
+      machines = λ c d l k machine. machine;
+    }
+
+-- ---- pause and resume
+
+pub holds-paused : (p : Parts) (ch : ℕ) (q : Queue) (b : Bool) → Holds p → ch < length p.queues → q ≡ slice_index_or p.queues ch q → Holds (changed p ch (record q { paused = b }) p.memory p.events p.history p.steps)
+holds-paused p ch q b h less read =
+    let v : View = view_of p in
+    let at = holds-at p h ch q less read in
+    let t = at.tied in
+    let r = record q { paused = b } in
+    holds-changed p ch r p.memory p.events p.history p.steps (object_of v) h less (stays p ch q r p.events p.history (object_of v) h less read (record {
+      legal = h.sound.legal;
+      leaves = refl;
+      grows = λ k e x. x;
+      image = refl;
+      events = h.events;
+      marks = refl;
+      many = refl;
+      others = λ c d. refl;
+      agrees = at.agrees;
+      runs_still = refl;
+      ranges_still = refl;
+      tied = record { many = t.many; stands = t.stands; outcomes = t.outcomes; issued = t.issued; halted = t.halted; machine = t.machine };
+    }))
+
+pub view-paused : (p : Parts) (ch : ℕ) (q : Queue) (b : Bool) → Holds p → ch < length p.queues → q ≡ slice_index_or p.queues ch q → view_of (changed p ch (record q { paused = b }) p.memory p.events p.history p.steps) ≡ with_pause (view_of p) ch b
+view-paused p ch q b h less read =
+    let v : View = view_of p in
+    let at = holds-at p h ch q less read in
+    view-changed p ch (record q { paused = b }) p.memory p.events p.history p.steps
+    ∙ ap (λ (x : ChannelSchedule). record v { schedule = slice_set v.schedule ch (record x { paused = b }) }) (sym at.schedule_is)
+
+-- ---- issue
+
+agrees-issued : (c : ChannelState) (taken : Option ℕ) → Agrees c taken → Agrees (record c { issued = used c }) taken
+agrees-issued c None h = h
+agrees-issued c (Some n) h =
+    let f = front_where c _ h.1 in
+    let e : nat_lt (finished c) (used c) ≡ true = lt-ltb _ _ f.within in
+    (h.0, rw (e, f.is) f.holds)
+
+runs-issued : (ch : ℕ) (c : ChannelState) (taken : Option ℕ) → runs_there ch (record c { issued = used c }) taken ≡ runs_there ch c taken
+runs-issued ch c None = refl
+runs-issued ch c (Some n) = refl
+
+pub holds-issued : (p : Parts) (ch : ℕ) (q : Queue) (n : ℕ) → Holds p → ch < length p.queues → q ≡ slice_index_or p.queues ch q → n ≡ length q.indices.items → Holds (changed p ch (record q { issued = n }) p.memory p.events (p.history ++ Issued ch ∷ []) p.steps)
+holds-issued p ch q n h less read all =
+    let v : View = view_of p in
+    let o = object_of v in
+    let e = Issued ch in
+    let c = channel o ch in
+    let at = holds-at p h ch q less read in
+    let t = at.tied in
+    let r = record q { issued = n } in
+    let history = p.history ++ e ∷ [] in
+    let here : channel (after o e) ch ≡ record c { issued = used c } = get_or-set_same o.channels ch (record c { issued = used c }) empty_channel at.there in
+    holds-changed p ch r p.memory p.events history p.steps (after o e) h less (stays p ch q r p.events history (after o e) h less read (record {
+      legal = IsLegal-append v.base p.history (e ∷ []) h.sound.legal (at.there, tt);
+      leaves = object_after-append v.base p.history (e ∷ []);
+      grows = λ k x. slice_get-push p.history e x k;
+      image = refl;
+      events = h.events;
+      marks = refl;
+      many = length-set o.channels ch _;
+      others = λ d k. get_or-set_other o.channels ch d _ empty_channel k;
+      agrees = rw here (agrees-issued c (schedule_of q).taken at.agrees);
+      runs_still = ap (λ x. runs_there ch x (schedule_of q).taken) here ∙ runs-issued ch c (schedule_of q).taken;
+      ranges_still = refl;
+      tied = rw here (record {
+        many = t.many;
+        stands = λ k l. slice_get-push p.history e _ _ (t.stands k l);
+        outcomes = t.outcomes;
+        issued = all ∙ t.many;
+        halted = t.halted;
+        machine = t.machine;
+      });
+    }))
+
+pub view-entered : (p : Parts) (ch : ℕ) (q r : Queue) (memory : List ℕ) (flags : List Bool) (e : Entry) → ch < length p.queues → q ≡ slice_index_or p.queues ch q → schedule_of r ≡ schedule_of q → view_of (changed p ch r memory flags (p.history ++ e ∷ []) p.steps) ≡ with_entry (view_of p) e
+view-entered p ch q r memory flags e less read same =
+    let v : View = view_of p in
+    view-changed p ch r memory flags (p.history ++ e ∷ []) p.steps
+    ∙ ap (λ s. record { base = v.base; history = p.history ++ e ∷ []; steps = p.steps; schedule = s }) (schedule-kept p ch q r less read same)
+
+-- ---- submit
+
+front-submitted : (c : ChannelState) (t u : Descriptor) → front c ≡ Some t → front (with_transfer c u) ≡ Some t
+front-submitted c t u h = slice_get-push c.submitted u t (finished c) h
+
+issued-below : (c : ChannelState) (t : Descriptor) → issued_front c ≡ Some t → nat_lt (finished c) c.issued ≡ true
+issued-below c t h =
+    let by : (b : Bool) → nat_lt (finished c) c.issued ≡ b → nat_lt (finished c) c.issued ≡ true = λ b. elim b as (λ b. nat_lt (finished c) c.issued ≡ b → nat_lt (finished c) c.issued ≡ true) [
+      | true ↦ λ e. e
+      | false ↦ λ e. let none : issued_front c ≡ None = rw e refl in absurd cc
+    ] in
+    by _ refl
+
+agrees-submitted : (c : ChannelState) (u : Descriptor) (taken : Option ℕ) → Agrees c taken → Agrees (with_transfer c u) taken
+agrees-submitted c u None h = h
+agrees-submitted c u (Some n) h =
+    let f = front_where c _ h.1 in
+    let e : nat_lt (finished c) c.issued ≡ true = issued-below c f.transfer f.issued in
+    (h.0, rw (e, front-submitted c f.transfer u f.is) f.holds)
+
+runs-submitted : (ch : ℕ) (c : ChannelState) (u : Descriptor) (taken : Option ℕ) → Agrees c taken → runs_there ch (with_transfer c u) taken ≡ runs_there ch c taken
+runs-submitted ch c u None h = refl
+runs-submitted ch c u (Some n) h =
+    let f = front_where c _ h.1 in
+    runs_front ch (with_transfer c u) f.transfer n (front-submitted c f.transfer u f.is) ∙ sym (runs_front ch c f.transfer n f.is)
+
+-- a machine stays where the front stays
+pub run-front : (memory : List ℕ) (m : ChannelValue) (c d : ChannelState) → ((t : Descriptor) → front c ≡ Some t → front d ≡ Some t) → IsRun memory m c → IsRun memory m d
+run-front memory m c d same h =
+    let by : (o : Option ProgramValue) (f : Option Descriptor) → front c ≡ f → IfSome o (λ _. IsSomeAnd f (λ t. IsAt t m.taken memory m)) → IfSome o (λ _. IsSomeAnd (front d) (λ t. IsAt t m.taken memory m)) = λ o f. elim o as (λ o. front c ≡ f → IfSome o (λ _. IsSomeAnd f (λ t. IsAt t m.taken memory m)) → IfSome o (λ _. IsSomeAnd (front d) (λ t. IsAt t m.taken memory m))) [
+      | None ↦ λ _ g. g
+      | Some p ↦ elim f as (λ f. front c ≡ f → IsSomeAnd f (λ t. IsAt t m.taken memory m) → IsSomeAnd (front d) (λ t. IsAt t m.taken memory m)) [
+        | None ↦ λ _ g. absurd g
+        | Some t ↦ λ e g. rw (same t e) g
+      ]
+    ] in
+    by m.program (front c) refl h
+
+-- the queue with one more index
+pub queue-submitted : (ch spare : ℕ) (history : List Entry) (memory : List ℕ) (q : Queue) (c : ChannelState) (t : Descriptor) (cookie : ℕ) → IsQueue ch history memory q c → cookie ≡ used c + 1 → IsQueue ch (history ++ Submitted ch t cookie ∷ []) memory (record q { indices = record { items = q.indices.items ++ length history ∷ []; spare = spare } }) (with_transfer c t)
+queue-submitted ch spare history memory q c t cookie h number = record {
+  many = omega (arith, length_push q.indices.items (length history), length_push c.submitted t, h.many);
+  stands = λ k less. elim (cases_lt k (used c)) [
+    | inl old ↦
+        let index = get_or_append_left q.indices.items (length history ∷ []) 0 k (omega (arith, h.many)) in
+        let is = get_or_append_left c.submitted (t ∷ []) no_transfer k old in
+        rw (index, is) (slice_get-push history _ _ _ (h.stands k old))
+    | inr new ↦
+        let last : k ≡ used c = omega (arith, length_push c.submitted t) in
+        let index = get_or_push q.indices.items (length history) 0 k (h.many ∙ sym last) in
+        let is = get_or_push c.submitted t no_transfer k (sym last) in
+        let number' : cookie ≡ k + 1 = omega arith in
+        rw (index, is, ← number') (slice_get-push_last history _ (length history) refl)
+  ];
+  outcomes = h.outcomes;
+  issued = h.issued;
+  halted = h.halted;
+  machine = run-front memory q.channel c (with_transfer c t) (λ u is. front-submitted c u t is) h.machine;
+}
+
+pub holds-submitted : (p : Parts) (ch spare cookie : ℕ) (t : Descriptor) (q : Queue) → Holds p → ch < length p.queues → q ≡ slice_index_or p.queues ch q → Allows (object_of (view_of p)) (Submitted ch t cookie) → Holds (changed p ch (record q { indices = record { items = q.indices.items ++ length p.history ∷ []; spare = spare } }) p.memory p.events (p.history ++ Submitted ch t cookie ∷ []) p.steps)
+holds-submitted p ch spare cookie t q h less read allowed =
+    let v : View = view_of p in
+    let o = object_of v in
+    let e = Submitted ch t cookie in
+    let c = channel o ch in
+    let at = holds-at p h ch q less read in
+    let r = record q { indices = record { items = q.indices.items ++ length p.history ∷ []; spare = spare } } in
+    let history = p.history ++ e ∷ [] in
+    let here : channel (after o e) ch ≡ with_transfer c t = get_or-set_same o.channels ch (with_transfer c t) empty_channel at.there in
+    holds-changed p ch r p.memory p.events history p.steps (after o e) h less (stays p ch q r p.events history (after o e) h less read (record {
+      legal = IsLegal-append v.base p.history (e ∷ []) h.sound.legal (allowed, tt);
+      leaves = object_after-append v.base p.history (e ∷ []);
+      grows = λ k x. slice_get-push p.history e x k;
+      image = refl;
+      events = h.events;
+      marks = refl;
+      many = length-set o.channels ch _;
+      others = λ d k. get_or-set_other o.channels ch d _ empty_channel k;
+      agrees = rw here (agrees-submitted c t (schedule_of q).taken at.agrees);
+      runs_still = ap (λ x. runs_there ch x (schedule_of q).taken) here ∙ runs-submitted ch c t (schedule_of q).taken at.agrees;
+      ranges_still = refl;
+      tied = rw here (queue-submitted ch spare p.history p.memory q c t cookie at.tied allowed.3);
+    }))
+
+pub submitted-allowed : (p : Parts) (ch given : ℕ) (t : Descriptor) (q : Queue) → Holds p → ch < length p.queues → q ≡ slice_index_or p.queues ch q → given ≡ length q.indices.items → given < last_cookie → IsTransfer t → lies_below t (length (object_of (view_of p)).image) ≡ true → Allows (object_of (view_of p)) (Submitted ch t (given + 1))
+submitted-allowed p ch given t q h less read many few rules below =
+    let at = holds-at p h ch q less read in
+    (at.there, rules, below, ap (λ n. n + 1) (many ∙ at.tied.many), omega arith)

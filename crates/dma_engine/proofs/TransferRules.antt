@@ -1,0 +1,152 @@
+-- What holds of each submitted transfer, and of one that runs.
+use Rattle.std.proofs.Common.{◌≡◌, ◌≢◌, ℕ, ◌+◌, ◌-◌, ◌<◌, List, [], ◌∷◌, ◌++◌, length, Option, Some, None, true, false, ◌&&◌, refl, ap, sym, ◌∙◌, subst, arith, inl, inr, ◌⊎◌, zero, suc}
+use Rattle.std.specs.Prelude.{slice_get, slice_index_or, replicate, is_some, nat_lt, ◌==◌, IfSome, IsSomeAnd}
+use Rattle.std.specs.List.{All}
+use Rattle.std.proofs.lemmas.Bool.{cases_eq, cases_lt}
+use Rattle.std.proofs.lemmas.List.{get_or-set_other, get_or_past, get_or-replicate, length-replicate}
+use Rattle.dma_mem.specs.Places.{Descriptor, lies_below}
+use Rattle.dma_mem.specs.Meeting.{IsFree}
+use Rattle.dma_mem.specs.Rules.{IsTransfer}
+use Rattle.dma_mem.proofs.SharedPlaces.{is_free_of-true}
+use Rattle.dma_chan.specs.Channel.{ChannelValue}
+use Rattle.dma_chan.specs.Compiled.{cost}
+use Rattle.dma_chan.specs.inner.At.{IsAt}
+use Rattle.dma_chan.specs.Programs.{ProgramValue}
+use Rattle.dma_engine.specs.declared.entry.Entry.{Entry}
+use Rattle.dma_engine.specs.declared.entry.Entry.TheVariants.{Wrote, ReadBack, Submitted, Issued, Passed, Signalled, Finished, Terminated, Marked, Unmarked}
+use Rattle.dma_engine.specs.declared.entry.Signaller.TheVariants.{Channel, Host}
+use Rattle.dma_engine.specs.declared.queue.Queue.{Queue}
+use Rattle.dma_engine.specs.Object.{Object, ChannelState, Allows, after, channel, empty_channel, with_channel, front, issued_front, opening, finished, with_flag, with_front_laid}
+use Rattle.dma_engine.specs.History.{object_after, IsLegal}
+use Rattle.dma_engine.specs.View.{View, ChannelSchedule, RunningTransfer, Agrees, AreFree, Fits, runs, object_of, size}
+use Rattle.dma_engine.specs.inner.Holds.{Holds, IsRun, Parts, view_of}
+use Rattle.dma_engine.proofs.Boards.{with_channel-at}
+use Rattle.dma_engine.proofs.Entries.{taken-some, runs_at}
+use Rattle.dma_engine.proofs.Queues.{front_where, holds-at}
+use Rattle.dma_engine.proofs.Sizes.{size-after, size-object}
+use Rattle.dma_engine.proofs.WhatRuns.{All-filter_map, below, above}
+
+-- ---- submitted transfers
+
+-- each submitted transfer meets the rules and lies below the size
+abbrev pub IsGood : ℕ → Descriptor → Type 0
+IsGood n t = IsTransfer t × (lies_below t n ≡ true)
+
+abbrev pub AreRuled : ℕ → Object → Type 0
+AreRuled n o = (ch k : ℕ) (t : Descriptor) → slice_get (channel o ch).submitted k ≡ Some t → IsGood n t
+
+ruled-with : (n : ℕ) (o : Object) (ch : ℕ) (c : ChannelState) → AreRuled n o → ((k : ℕ) (t : Descriptor) → slice_get c.submitted k ≡ Some t → IsGood n t) → AreRuled n (with_channel o ch c)
+ruled-with n o ch c h g = λ d k t is. elim (cases_eq d ch) [
+  | inl e ↦ elim (with_channel-at o ch c) [
+    | inl f ↦ g k t (let is' : slice_get (channel (with_channel o ch c) ch).submitted k ≡ Some t = rw e at is in sym (ap (λ (x : ChannelState). slice_get x.submitted k) f) ∙ is')
+    | inr f ↦ h ch k t (let is' : slice_get (channel (with_channel o ch c) ch).submitted k ≡ Some t = rw e at is in sym (ap (λ (x : ChannelState). slice_get x.submitted k) f) ∙ is')
+  ]
+  | inr e ↦ h d k t (sym (ap (λ (x : ChannelState). slice_get x.submitted k) (get_or-set_other o.channels ch d c empty_channel e)) ∙ is)
+]
+
+push-cases : {X : Type 0} (xs : List X) (y x : X) (k : ℕ) → slice_get (xs ++ y ∷ []) k ≡ Some x → (slice_get xs k ≡ Some x) ⊎ (y ≡ x)
+push-cases [] y x zero h = inr cc
+push-cases [] y x (suc k) h = absurd cc
+push-cases (z ∷ xs) y x zero h = inl h
+push-cases (z ∷ xs) y x (suc k) h = push-cases xs y x k h
+
+pub ruled-after : (n : ℕ) (o : Object) (e : Entry) → length o.image ≡ n → AreRuled n o → Allows o e → AreRuled n (after o e)
+ruled-after n o (Wrote addr bytes) m h a = h
+ruled-after n o (ReadBack addr bytes) m h a = h
+ruled-after n o (Submitted ch t cookie) m h a =
+    let below : lies_below t n ≡ true = rw m at a.2 in
+    ruled-with n o ch _ h (λ k u is. elim (push-cases (channel o ch).submitted t u k is) [
+      | inl old ↦ h ch k u old
+      | inr new ↦ subst (IsGood n) new (a.1, below)
+    ])
+ruled-after n o (Issued ch) m h a = ruled-with n o ch _ h (λ k u is. h ch k u is)
+ruled-after n o (Passed ch event) m h a = ruled-with n (with_flag o event false) ch _ h (λ k u is. h ch k u is)
+ruled-after n o (Signalled (Channel ch) event) m h a = ruled-with n (with_flag o event true) ch _ h (λ k u is. h ch k u is)
+ruled-after n o (Signalled Host event) m h a = h
+ruled-after n o (Finished ch result done) m h a = ruled-with n (with_front_laid o ch done) ch _ h (λ k u is. h ch k u is)
+ruled-after n o (Terminated ch done count) m h a = ruled-with n (with_front_laid o ch done) ch _ h (λ k u is. h ch k u is)
+ruled-after n o (Marked kind segment) m h a = h
+ruled-after n o Unmarked m h a = h
+
+pub ruled-object : (n : ℕ) (o : Object) (es : List Entry) → length o.image ≡ n → AreRuled n o → IsLegal o es → AreRuled n (object_after o es)
+ruled-object n o [] m h a = h
+ruled-object n o (e ∷ es) m h a = ruled-object n (after o e) es (size-after o e ∙ m) (ruled-after n o e m h a.0) a.1
+
+none-given : (many ch k : ℕ) (t : Descriptor) → slice_get (slice_index_or (replicate many empty_channel) ch empty_channel).submitted k ≡ Some t → ⊥
+none-given many ch k t h = elim (cases_lt ch many) [
+  | inl less ↦ let e = get_or-replicate many ch empty_channel empty_channel less in let f : slice_get empty_channel.submitted k ≡ Some t = rw e at h in cc
+  | inr past ↦ let e = get_or_past (replicate many empty_channel) ch empty_channel (omega (arith, length-replicate many empty_channel)) in let f : slice_get empty_channel.submitted k ≡ Some t = rw e at h in cc
+]
+
+pub ruled-opening : (n bytes many : ℕ) → AreRuled n (opening bytes many)
+unfolding opening
+ruled-opening n bytes many = λ ch k t is. absurd (none-given many ch k t is)
+
+-- ---- a transfer that runs
+
+-- all that is known of it
+pub record Runs (p : Parts) (ch : ℕ) (q : Queue) : Type 0 where
+  pub transfer : Descriptor
+  pub is : front (channel (object_of (view_of p)) ch) ≡ Some transfer
+  pub issued : issued_front (channel (object_of (view_of p)) ch) ≡ Some transfer
+  pub runs_is : runs (object_of (view_of p)) (view_of p).schedule ch ≡ Some (record { ch = ch; cookie = finished (channel (object_of (view_of p)) ch) + 1; transfer = transfer; taken = q.channel.taken })
+  pub goes : (channel (object_of (view_of p)) ch).halted ≡ false
+  pub within : q.channel.taken < cost transfer
+  pub passed : (channel (object_of (view_of p)) ch).passed ≡ (is_some transfer.wait && nat_lt 0 q.channel.taken)
+  pub signalled : (channel (object_of (view_of p)) ch).signalled ≡ (is_some transfer.signal && q.channel.taken == cost transfer - 1)
+  pub rules : IsTransfer transfer
+  pub below : lies_below transfer (size (view_of p)) ≡ true
+  pub machine : IsAt transfer q.channel.taken p.memory q.channel
+
+machine-at : (memory : List ℕ) (m : ChannelValue) (c : ChannelState) (t : Descriptor) → is_some m.program ≡ true → front c ≡ Some t → IsRun memory m c → IsAt t m.taken memory m
+machine-at memory m c t loaded is h =
+    let by : (o : Option ProgramValue) (f : Option Descriptor) → is_some o ≡ true → f ≡ Some t → IfSome o (λ _. IsSomeAnd f (λ u. IsAt u m.taken memory m)) → IsAt t m.taken memory m = λ o f. elim o as (λ o. is_some o ≡ true → f ≡ Some t → IfSome o (λ _. IsSomeAnd f (λ u. IsAt u m.taken memory m)) → IsAt t m.taken memory m) [
+      | None ↦ λ e. absurd cc
+      | Some x ↦ λ _ e g. let g' : IsSomeAnd (Some t) (λ u. IsAt u m.taken memory m) = rw e at g in g'
+    ] in
+    by m.program (front c) loaded is h
+
+pub good-front : (p : Parts) → Holds p → (ch : ℕ) (t : Descriptor) → front (channel (object_of (view_of p)) ch) ≡ Some t → IsGood (size (view_of p)) t
+good-front p h ch t is =
+    let v : View = view_of p in
+    let n = length v.base.image in
+    let ruled = ruled-object n v.base p.history refl (ruled-opening n p.size (length p.queues)) h.sound.legal in
+    let good = ruled ch _ t is in
+    let same : n ≡ size v = sym (size-object v.base p.history) in
+    (good.0, ap (lies_below t) (sym same) ∙ good.1)
+
+pub running : (p : Parts) → Holds p → (ch : ℕ) (q : Queue) → ch < length p.queues → q ≡ slice_index_or p.queues ch q → is_some q.channel.program ≡ true → Runs p ch q
+running p h ch q less read loaded =
+    let c = channel (object_of (view_of p)) ch in
+    let at = holds-at p h ch q less read in
+    let agrees : Agrees c (Some q.channel.taken) = rw (taken-some q.channel loaded) at at.agrees in
+    let f = front_where c _ agrees.1 in
+    let good = good-front p h ch f.transfer f.is in
+    record {
+      transfer = f.transfer;
+      is = f.is;
+      issued = f.issued;
+      runs_is = runs_at p h ch q f.transfer less read loaded f.is;
+      goes = agrees.0;
+      within = f.holds.0;
+      passed = f.holds.1;
+      signalled = f.holds.2;
+      rules = good.0;
+      below = good.1;
+      machine = machine-at p.memory q.channel c f.transfer loaded f.is at.tied.machine;
+    }
+
+-- ---- what else runs is free of it
+
+free-at : (x : Option RunningTransfer) (r : RunningTransfer) → AreFree (Some r) x → IfSome x (λ s. IsFree r.transfer s.transfer)
+free-at None r h = tt
+free-at (Some s) r h = is_free_of-true r.transfer s.transfer h
+
+pub free-others : (o : Object) (s : List ChannelSchedule) (ch : ℕ) (r : RunningTransfer) → Fits o s → ch < length o.channels → runs o s ch ≡ Some r → All (λ x. IsFree r.transfer x.transfer) (below o s ch) × All (λ x. IsFree r.transfer x.transfer) (above o s ch)
+free-others o s ch r h less is =
+    let P : RunningTransfer → Type 0 = λ x. IsFree r.transfer x.transfer in
+    let each : (d : ℕ) → d < length o.channels → ch ≢ d → IfSome (runs o s d) P = λ d l k.
+    let f : AreFree (Some r) (runs o s d) = rw is at (h.free ch d less l k) in free-at (runs o s d) r f in (
+      All-filter_map P (runs o s) 0 ch (λ d l m. each d (omega arith) (omega arith)),
+      All-filter_map P (runs o s) (ch + 1) (length o.channels - ch - 1) (λ d l m. each d (omega arith) (omega arith)),
+    )

@@ -1,0 +1,80 @@
+-- What an engine keeps: its parts are what its view says.
+use Rattle.std.specs.Prelude.{◌≡◌, ℕ, ◌+◌, ◌<◌, Bool, false, Option, Some, None, List, [], length, map, slice_get, slice_index, slice_index_or, IfSome, IsSomeAnd}
+use Rattle.std.specs.Option.{option_map}
+use Rattle.dma_chan.specs.Channel.{ChannelValue, loaded, unloaded as no_program}
+use Rattle.dma_chan.specs.Compiled.{compiled}
+use Rattle.dma_chan.specs.inner.At.{IsAt}
+use Rattle.dma_chan.specs.Ready.{OnPages}
+use Rattle.dma_mem.specs.Marking.{MarkList}
+use Rattle.dma_mem.specs.Places.{Descriptor, destinations}
+use Rattle.dma_engine.specs.declared.entry.Entry.{Entry}
+use Rattle.dma_engine.specs.declared.entry.Entry.TheVariants.{Submitted}
+use Rattle.dma_engine.specs.declared.queue.Queue.{Queue}
+use Rattle.dma_engine.specs.declared.ranges.Ranges.{Ranges}
+use Rattle.dma_engine.specs.Object.{ChannelState, channel, front, no_transfer, opening, used}
+use Rattle.dma_engine.specs.inner.Ranges.{AreOfRunning}
+use Rattle.dma_engine.specs.View.{View, ChannelSchedule, RunningTransfer, IsSound, object_of, memory_of, runs}
+
+-- the parts of an engine: of its memory the image, and which of its pages are made
+pub record Parts : Type 0 where
+  pub size : ℕ
+  pub memory : List ℕ
+  pub made : List Bool
+  pub events : List Bool
+  pub marks : MarkList
+  pub queues : List Queue
+  pub history : List Entry
+  pub steps : ℕ
+
+-- the instructions that a channel's machine has executed, where a program is loaded
+abbrev pub taken_of : ChannelValue → Option ℕ
+taken_of m = option_map (λ _. m.taken) m.program
+
+-- the schedule of a channel
+abbrev pub schedule_of : Queue → ChannelSchedule
+schedule_of q = record { paused = q.paused; taken = taken_of q.channel }
+
+-- the view of an engine of these parts
+abbrev pub view_of : Parts → View
+view_of p =
+    record { base = opening p.size (length p.queues); history = p.history; steps = p.steps; schedule = map schedule_of p.queues }
+
+-- a queue to which nothing was submitted
+abbrev pub new_queue : Queue
+new_queue =
+    record { indices = record { items = []; spare = 0 }; outcomes = record { items = []; spare = 0 }; issued = 0; paused = false; halted = false; channel = no_program; ranges = None }
+
+-- a queue whose front, which this is and has these ranges, starts
+abbrev pub queue_started : Queue → Descriptor → Ranges → Queue
+queue_started q t r = record q { channel = loaded (compiled t); ranges = Some r }
+
+-- where a program is loaded, it is that of the channel's front
+abbrev pub IsRun : List ℕ → ChannelValue → ChannelState → Type 0
+IsRun memory m c = IfSome m.program (λ _. IsSomeAnd (front c) (λ t. IsAt t m.taken memory m))
+
+-- A queue is what the object knows of its channel; its indices are those of the channel's Submitted entries.
+pub record IsQueue (ch : ℕ) (history : List Entry) (memory : List ℕ) (q : Queue) (c : ChannelState) : Type 0 where
+  pub many : length q.indices.items ≡ used c
+  pub stands : (k : ℕ) → k < used c →
+      slice_get history (slice_index q.indices.items k) ≡ Some (Submitted ch (slice_index_or c.submitted k no_transfer) (k + 1))
+  pub outcomes : q.outcomes.items ≡ c.outcomes
+  pub issued : q.issued ≡ c.issued
+  pub halted : q.halted ≡ c.halted
+  pub machine : IsRun memory q.channel c
+
+-- What runs, if something does, finds its pages: each of its destinations lies on one that is made.
+abbrev pub IsPrepared : List Bool → Option RunningTransfer → Type 0
+IsPrepared made x = IfSome x (λ r. OnPages made (destinations r.transfer))
+
+-- The view is sound, the memory is what it shows, flags and marks are the object's, each queue is its channel's, what runs
+-- finds its pages, and each queue keeps the ranges of what runs on its channel.
+pub record Holds (p : Parts) : Type 0 where
+  pub sound : IsSound (view_of p)
+  pub shown : p.memory ≡ memory_of (view_of p)
+  pub events : p.events ≡ (object_of (view_of p)).events
+  pub marks : p.marks ≡ (object_of (view_of p)).marks
+  pub each : (ch : ℕ) (d : Queue) → ch < length p.queues →
+      IsQueue ch p.history p.memory (slice_index_or p.queues ch d) (channel (object_of (view_of p)) ch)
+  pub prepared : (ch : ℕ) → IsPrepared p.made (runs (object_of (view_of p)) (view_of p).schedule ch)
+  pub ranges : (ch : ℕ) (d : Queue) → ch < length p.queues →
+      AreOfRunning (slice_index_or p.queues ch d).ranges (runs (object_of (view_of p)) (view_of p).schedule ch)

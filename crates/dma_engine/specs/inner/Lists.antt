@@ -1,0 +1,13 @@
+-- Lists with the room that is made for more.
+use Rattle.std.specs.Prelude.{ℕ, List}
+use Rattle.dma_engine.specs.declared.outcome.Outcome.{Outcome}
+
+-- indices of a history, and the room for more
+pub record IndexList : Type 0 where
+  pub items : List ℕ
+  pub spare : ℕ
+
+-- outcomes, and the room for more
+pub record OutcomeList : Type 0 where
+  pub items : List Outcome
+  pub spare : ℕ

@@ -1,0 +1,60 @@
+//! A call as a value, and its reply.
+
+ghost use Rattle.std.specs.Prelude.{◌≡◌};
+ghost use Rattle.dma_engine.specs.Answer.{CallAnswers, reply_of};
+
+use crate::call::{Call, Reply};
+use crate::engine::Engine;
+use crate::fault::EngineFault;
+use crate::turn::Status;
+use dma_mem::lists::Bytes;
+
+impl Engine {
+    /// Carries a call out: the method of its name.
+    #[inline(never)]
+    pub fn carry_out(&mut self, call: &Call) -> Reply
+        ensures { CallAnswers self.old.view call.now result self.new.view }
+    {
+        match call {
+            Call::Write { addr, bytes } => done_or_refused(self.write(*addr, bytes.as_slice())),
+            Call::Read { addr, len } => match self.read(*addr, *len) {
+                Ok(bytes) => Reply::Bytes(bytes),
+                Err(fault) => Reply::Refused(fault),
+            },
+            Call::Submit { ch, transfer } => self.submit_copy(*ch, transfer),
+            Call::Issue { ch } => counted_or_refused(self.issue(*ch)),
+            Call::Pause { ch } => done_or_refused(self.pause(*ch)),
+            Call::Resume { ch } => done_or_refused(self.resume(*ch)),
+            Call::Terminate { ch } => counted_or_refused(self.terminate(*ch)),
+            Call::Step { ch } => match self.step(*ch) {
+                Ok(turn) => Reply::Turned(turn),
+                Err(fault) => Reply::Refused(fault),
+            },
+            Call::Status { ch, cookie } => Reply::State(self.status(*ch, *cookie)),
+            Call::Result { ch, cookie } => Reply::Result(self.result(*ch, *cookie)),
+            Call::Mark { kind, segment } => done_or_refused(self.mark(*kind, *segment)),
+            Call::Unmark => done_or_refused(self.unmark()),
+            Call::Raise { event } => done_or_refused(self.raise(*event)),
+        }
+    }
+}
+
+// The reply of a call that answers nothing but that it was done.
+fn done_or_refused(outcome: Result<(), EngineFault>) -> Reply
+    ensures { result ≡ reply_of (λ _. Reply.Done) outcome }
+{
+    match outcome {
+        Ok(()) => Reply::Done,
+        Err(fault) => Reply::Refused(fault),
+    }
+}
+
+// The reply of a call that answers a count.
+fn counted_or_refused(outcome: Result<u32, EngineFault>) -> Reply
+    ensures { result ≡ reply_of (λ count. Reply.Count count) outcome }
+{
+    match outcome {
+        Ok(count) => Reply::Count(count),
+        Err(fault) => Reply::Refused(fault),
+    }
+}

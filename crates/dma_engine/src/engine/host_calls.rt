@@ -1,0 +1,141 @@
+//! The calls of the host on memory, marks and flags.
+
+ghost use Rattle.std.specs.Prelude.{◌≡◌, ◌≢◌, ◌+◌, ◌≤◌, ℕ, IfErr, IfOk, OnErr, take, drop, length};
+ghost use Rattle.dma_engine.specs.Answer.{CallAnswers, reply_of};
+ghost use Rattle.dma_engine.specs.Room.{HasRoom, KeepsRoom};
+
+use crate::call::{Call, Reply};
+use crate::engine::Engine;
+use crate::entry::{Entry, Signaller};
+use crate::fault::EngineFault;
+use crate::way::Way;
+use dma_mem::lists::Bytes;
+use dma_mem::marks::{MarkKind, Marks};
+use dma_mem::memory::Memory;
+use dma_mem::segment::Segment;
+use dma_mem::transfer::LAST_EVENT;
+use std::alloc::{AllocError, Global};
+
+/// One past the last address (PL330 manual, 32-bit address registers).
+const END_OF_ADDRESSES: u64 = 4_294_967_296;
+
+impl Engine {
+    /// Writes bytes from an address on.
+    ///
+    /// The error is the first that holds of `OutOfMemoryRange`, `Busy` where a running transfer reads or writes an address
+    /// of the range, and `NoMemory`.
+    pub fn write(&mut self, addr: u32, bytes: &[u8]) -> Result<(), EngineFault>
+        ensures answer { CallAnswers self.old.view (Call.Write addr bytes.now) (reply_of (λ _. Reply.Done) result) self.new.view }
+        ensures kept { OnErr result (KeepsRoom self.old self.new) }
+    {
+        if addr as usize + bytes.len() > self.size as usize {
+            return Err(EngineFault::OutOfMemoryRange);
+        }
+        let range = Segment {
+            addr,
+            len: bytes.len() as u32,
+        };
+        if let Some((ch, cookie)) = self.first_in_the_way(&Way::Write(range)) {
+            return Err(EngineFault::Busy { ch, cookie });
+        }
+        let kept = Bytes::from_slice(self.alloc, bytes)?;
+        self.history.reserve(1)?;
+        let Ok(()) = self.memory.write(addr, bytes) else {
+            return Err(EngineFault::NoMemory);
+        };
+        self.history
+            .push_reserved(Entry::Wrote { addr, bytes: kept });
+        Ok(())
+    }
+
+    /// Reads bytes from an address on.
+    ///
+    /// The error is the first that holds of `OutOfMemoryRange`, `Busy` where a running transfer writes an address of the
+    /// range, and `NoMemory`.
+    pub fn read(&mut self, addr: u32, len: u32) -> Result<Bytes, EngineFault>
+        ensures answer { CallAnswers self.old.view (Call.Read addr len) (reply_of (λ bytes. Reply.Bytes bytes) result) self.new.view }
+        ensures kept { OnErr result (KeepsRoom self.old self.new) }
+    {
+        if addr as usize + len as usize > self.size as usize {
+            return Err(EngineFault::OutOfMemoryRange);
+        }
+        let range = Segment { addr, len };
+        if let Some((ch, cookie)) = self.first_in_the_way(&Way::Read(range)) {
+            return Err(EngineFault::Busy { ch, cookie });
+        }
+        let answer = bytes_of(self.alloc, &self.memory, addr, len)?;
+        let kept = Bytes::from_slice(self.alloc, answer.as_slice())?;
+        self.history.reserve(1)?;
+        self.history
+            .push_reserved(Entry::ReadBack { addr, bytes: kept });
+        Ok(answer)
+    }
+
+    /// Marks a range, which need not lie below the memory's size: from then on bursts of that kind fail there, and nothing
+    /// else.
+    ///
+    /// The error is `BadRange` where the range is empty or ends above the last address, else `NoMemory`.
+    pub fn mark(&mut self, kind: MarkKind, segment: Segment) -> Result<(), EngineFault>
+        ensures answer { CallAnswers self.old.view (Call.Mark kind segment) (reply_of (λ _. Reply.Done) result) self.new.view }
+        ensures kept { OnErr result (KeepsRoom self.old self.new) }
+    {
+        if segment.len == 0 {
+            return Err(EngineFault::BadRange);
+        }
+        if u64::from(segment.addr) + u64::from(segment.len) > END_OF_ADDRESSES {
+            return Err(EngineFault::BadRange);
+        }
+        self.history.reserve(1)?;
+        self.marks.add(kind, segment)?;
+        self.history.push_reserved(Entry::Marked { kind, segment });
+        Ok(())
+    }
+
+    /// Removes all marks.
+    ///
+    /// The error is `NoMemory`.
+    pub fn unmark(&mut self) -> Result<(), EngineFault>
+        ensures answer { CallAnswers self.old.view Call.Unmark (reply_of (λ _. Reply.Done) result) self.new.view }
+        ensures kept { OnErr result (KeepsRoom self.old self.new) }
+    {
+        self.history.reserve(1)?;
+        self.history.push_reserved(Entry::Unmarked);
+        self.marks.clear();
+        Ok(())
+    }
+
+    /// Sets the flag of an event.
+    ///
+    /// The error is `BadEvent` above 31, else `NoMemory`.
+    pub fn raise(&mut self, event: u8) -> Result<(), EngineFault>
+        ensures answer { CallAnswers self.old.view (Call.Raise event) (reply_of (λ _. Reply.Done) result) self.new.view }
+        ensures room { (ch : ℕ) → HasRoom self.old ch → IfErr result (λ fault. fault ≢ EngineFault.NoMemory) }
+        ensures kept { OnErr result (KeepsRoom self.old self.new) }
+    {
+        if event > LAST_EVENT {
+            return Err(EngineFault::BadEvent);
+        }
+        self.history.reserve(1)?;
+        self.history.push_reserved(Entry::Signalled {
+            by: Signaller::Host,
+            event,
+        });
+        self.events.set(event);
+        Ok(())
+    }
+}
+
+// The bytes of a memory from an address on.
+fn bytes_of(alloc: Global, memory: &Memory, addr: u32, len: u32) -> Result<Bytes, AllocError>
+    requires { addr + len ≤ length memory.now.image }
+    ensures { IfOk result (λ bytes. bytes ≡ take len (drop addr memory.now.image)) }
+{
+    if let Some(part) = memory.part(addr, len) {
+        return Bytes::from_slice(alloc, part);
+    }
+    let mut bytes = vec![in alloc; 0; len as usize]?;
+    let Ok(()) = memory.read_into(addr, &mut bytes) else {
+        unreachable!();
+    };
+    Ok(Bytes::from_vec(bytes))
+}

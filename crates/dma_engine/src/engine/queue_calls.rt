@@ -1,0 +1,190 @@
+//! The calls on the queue of a channel: submit, issue, pause, resume, terminate, and room for what is to come.
+
+ghost use Rattle.std.specs.Prelude.{◌≡◌, ◌≢◌, ◌+◌, Ok, IfOk, IfErr, OnOk, OnErr, None, unwrap_or, if◌then◌else◌};
+ghost use Rattle.dma_mem.specs.Rules.{IsTransfer};
+ghost use Rattle.dma_engine.specs.Object.{channel, used};
+ghost use Rattle.dma_engine.specs.View.{object_of};
+ghost use Rattle.dma_engine.specs.Answer.{CallAnswers, reply_of, checked, channel_fault, submit_fault, submit_reply};
+ghost use Rattle.dma_engine.specs.Room.{HasRoom, KeepsRoom};
+
+use crate::call::{Call, Reply};
+use crate::engine::Engine;
+use crate::entry::Entry;
+use crate::fault::{EngineFault, SubmitFault};
+use dma_mem::transfer::Transfer;
+
+/// The last cookie of a channel (profile).
+const LAST_COOKIE: usize = 2_147_483_647;
+
+impl Engine {
+    /// The cookie that `submit` would answer, or the fault that it would name before `NoMemory`. Nothing changes.
+    pub fn check_submit(&self, ch: u8, transfer: &Transfer) -> Result<u32, EngineFault>
+        ensures told { result ≡ checked (submit_fault self.now.view ch transfer.now) (used (channel (object_of self.now.view) ch) + 1) }
+        ensures rules { OnOk result (IsTransfer transfer.now) }
+    {
+        let index = self.index_of(ch)?;
+        if !transfer.lies_below(self.size) {
+            return Err(EngineFault::OutOfMemoryRange);
+        }
+        let given = self.queues[index].indices.len();
+        if given >= LAST_COOKIE {
+            return Err(EngineFault::CookiesSpent);
+        }
+        Ok(given as u32 + 1)
+    }
+
+    /// Gives a transfer to a channel, and answers its cookie, 1 for the first of the channel. It starts nothing.
+    ///
+    /// The fault is the first that holds of `NoChannel`, `OutOfMemoryRange` where a segment ends above the memory's size,
+    /// `CookiesSpent` and `NoMemory`; the transfer is handed back with it.
+    pub fn submit(&mut self, ch: u8, transfer: Transfer) -> Result<u32, SubmitFault>
+        ensures answer { CallAnswers self.old.view (Call.Submit ch transfer) (submit_reply result) self.new.view }
+        ensures back { IfErr result (λ refused. refused.transfer ≡ transfer) }
+        ensures room { HasRoom self.old ch → IfErr result (λ refused. refused.fault ≢ EngineFault.NoMemory) }
+        ensures kept { OnErr result (KeepsRoom self.old self.new) }
+    {
+        match self.check_submit(ch, &transfer) {
+            Ok(cookie) => self.submit_here(ch, transfer, cookie),
+            Err(fault) => Err(SubmitFault { fault, transfer }),
+        }
+    }
+
+    // The same where nothing but want of memory can refuse it, with the cookie that is next.
+    fn submit_here(&mut self, ch: u8, transfer: Transfer, cookie: u32) -> Result<u32, SubmitFault>
+        requires told { Ok cookie ≡ checked (submit_fault self.old.view ch transfer) (used (channel (object_of self.old.view) ch) + 1) }
+        requires rules { IsTransfer transfer }
+        ensures answer { CallAnswers self.old.view (Call.Submit ch transfer) (submit_reply result) self.new.view }
+        ensures back { IfErr result (λ refused. refused.transfer ≡ transfer) }
+        ensures room { HasRoom self.old ch → IfErr result (λ refused. refused.fault ≢ EngineFault.NoMemory) }
+        ensures kept { OnErr result (KeepsRoom self.old self.new) }
+    {
+        let Ok(()) = self.history.reserve(1) else {
+            return Err(SubmitFault::no_memory(transfer));
+        };
+        let index = self.history.len();
+        let Ok(()) = self.queues[usize::from(ch)].indices.add(index) else {
+            return Err(SubmitFault::no_memory(transfer));
+        };
+        self.history.push_reserved(Entry::Submitted {
+            ch,
+            transfer,
+            cookie,
+        });
+        Ok(cookie)
+    }
+
+    // Submits a copy of a transfer.
+    pub(super) fn submit_copy(&mut self, ch: u8, transfer: &Transfer) -> Reply
+        ensures { CallAnswers self.old.view (Call.Submit ch transfer.now) result self.new.view }
+    {
+        match self.check_submit(ch, transfer) {
+            Ok(cookie) => self.submit_checked(ch, transfer, cookie),
+            Err(fault) => Reply::Refused(fault),
+        }
+    }
+
+    // The same where nothing but want of memory can refuse it, with the cookie that is next.
+    fn submit_checked(&mut self, ch: u8, transfer: &Transfer, cookie: u32) -> Reply
+        requires told { Ok cookie ≡ checked (submit_fault self.old.view ch transfer.now) (used (channel (object_of self.old.view) ch) + 1) }
+        requires rules { IsTransfer transfer.now }
+        ensures { CallAnswers self.old.view (Call.Submit ch transfer.now) result self.new.view }
+    {
+        let Ok(copy) = transfer.try_copy() else {
+            return Reply::Refused(EngineFault::NoMemory);
+        };
+        match self.submit_here(ch, copy, cookie) {
+            Ok(cookie) => Reply::Cookie(cookie),
+            Err(refused) => Reply::Refused(refused.fault),
+        }
+    }
+
+    /// Issues all submitted cookies of a channel, and answers how many became so.
+    ///
+    /// The error is `NoChannel`, else `NoMemory`.
+    pub fn issue(&mut self, ch: u8) -> Result<u32, EngineFault>
+        ensures answer { CallAnswers self.old.view (Call.Issue ch) (reply_of (λ count. Reply.Count count) result) self.new.view }
+        ensures room { HasRoom self.old ch → IfErr result (λ fault. fault ≢ EngineFault.NoMemory) }
+        ensures kept { OnErr result (KeepsRoom self.old self.new) }
+    {
+        let index = self.index_of(ch)?;
+        self.history.reserve(1)?;
+        self.history.push_reserved(Entry::Issued { ch });
+        let queue = &mut self.queues[index];
+        let before = queue.issued;
+        let after = queue.indices.len() as u32;
+        queue.issued = after;
+        Ok(after - before)
+    }
+
+    /// Pauses a channel, so that its steps execute nothing; a paused one stays so. It adds no entry and takes no memory.
+    ///
+    /// The error is `NoChannel`.
+    pub fn pause(&mut self, ch: u8) -> Result<(), EngineFault>
+        ensures answer { CallAnswers self.old.view (Call.Pause ch) (reply_of (λ _. Reply.Done) result) self.new.view }
+        ensures kept { KeepsRoom self.old self.new }
+    {
+        self.set_paused(ch, true)
+    }
+
+    /// Ends the pause of a channel; one that isn't paused stays so. It adds no entry and takes no memory.
+    ///
+    /// The error is `NoChannel`.
+    pub fn resume(&mut self, ch: u8) -> Result<(), EngineFault>
+        ensures answer { CallAnswers self.old.view (Call.Resume ch) (reply_of (λ _. Reply.Done) result) self.new.view }
+        ensures kept { KeepsRoom self.old self.new }
+    {
+        self.set_paused(ch, false)
+    }
+
+    // What `pause` and `resume` do.
+    fn set_paused(&mut self, ch: u8, paused: bool) -> Result<(), EngineFault>
+        ensures answer { CallAnswers self.old.view (if paused then Call.Pause ch else Call.Resume ch) (reply_of (λ _. Reply.Done) result) self.new.view }
+        ensures kept { KeepsRoom self.old self.new }
+    {
+        let index = self.index_of(ch)?;
+        let queue = &mut self.queues[index];
+        queue.paused = paused;
+        Ok(())
+    }
+
+    /// Ends all unfinished cookies of a channel, issued or not, as aborted, and answers their number. What a running front
+    /// has stored stays stored. The channel is then neither paused nor halted, and all its cookies count as issued.
+    ///
+    /// The error is `NoChannel`, else `NoMemory`.
+    pub fn terminate(&mut self, ch: u8) -> Result<u32, EngineFault>
+        ensures answer { CallAnswers self.old.view (Call.Terminate ch) (reply_of (λ count. Reply.Count count) result) self.new.view }
+        ensures room { HasRoom self.old ch → IfErr result (λ fault. fault ≢ EngineFault.NoMemory) }
+        ensures kept { OnErr result (KeepsRoom self.old self.new) }
+    {
+        let index = self.index_of(ch)?;
+        let done = self.done(index);
+        let count = self.unfinished(ch);
+        self.history.reserve(1)?;
+        let queue = &mut self.queues[index];
+        queue.terminate(&self.history, done)?;
+        self.history
+            .push_reserved(Entry::Terminated { ch, done, count });
+        Ok(count)
+    }
+
+    /// Makes room on a channel: until a call changes the engine, `submit`, `issue` and `terminate` there, `raise`, and each
+    /// `step` there of a transfer that runs take no memory. Refused calls, steps that neither start, move nor finish, pauses
+    /// and resumes keep the room. Nothing else changes.
+    ///
+    /// The error is `NoChannel`, else `NoMemory`.
+    pub fn make_room(&mut self, ch: u8) -> Result<(), EngineFault>
+        ensures view { self.new.view ≡ self.old.view }
+        ensures memory { self.new.memory ≡ self.old.memory }
+        ensures made { OnOk result (HasRoom self.new ch) }
+        ensures answer { IfOk result (λ _. channel_fault self.old.view ch ≡ None) }
+        ensures err { IfErr result (λ fault. fault ≡ unwrap_or (channel_fault self.old.view ch) EngineFault.NoMemory) }
+        ensures room { HasRoom self.old ch → IfErr result (λ fault. fault ≢ EngineFault.NoMemory) }
+        ensures kept { KeepsRoom self.old self.new }
+    {
+        let index = self.index_of(ch)?;
+        self.history.reserve(1)?;
+        let queue = &mut self.queues[index];
+        queue.make_room()?;
+        Ok(())
+    }
+}

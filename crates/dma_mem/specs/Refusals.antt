@@ -1,0 +1,67 @@
+-- The refusals of two lists of segments and two events, in their order: one for each rule of a transfer.
+use Rattle.std.specs.Prelude.{◌+◌, ℕ, List, [], ◌∷◌, length, Option, Some, None, Bool, false, ◌||◌, not, ◌==◌, nat_lt, if◌then◌else◌, sum_by}
+use Rattle.std.specs.List.{list_any}
+use Rattle.dma_mem.specs.declared.segment.Segment.{Segment}
+use Rattle.dma_mem.specs.declared.transfer.TransferFault.{TransferFault}
+use Rattle.dma_mem.specs.declared.transfer.TransferFault.TheVariants.{EmptyList, TooManySegments, EmptySegment, SegmentWraps, TotalsDiffer, TooLong, DestinationsMeet, SourceMeetsDestination, BadEvent}
+use Rattle.dma_mem.specs.Places.{Descriptor}
+use Rattle.dma_mem.specs.Meeting.{meets}
+
+-- whether a test holds of the sources or of the destinations
+abbrev pub of_either_list : (List Segment → Bool) → Descriptor → Bool
+of_either_list test t = test t.src || test t.dst
+
+-- A list has no segment.
+abbrev pub is_empty_list : List Segment → Bool
+is_empty_list list = length list == 0
+
+-- A list has more than 64 segments (profile).
+abbrev pub has_too_many : List Segment → Bool
+has_too_many list = nat_lt 64 (length list)
+
+-- A segment of the list has no byte.
+abbrev pub has_empty_segment : List Segment → Bool
+has_empty_segment list = list_any (λ s. s.len == 0) list
+
+-- A segment of the list ends above 2 ^ 32, the end of the controller's 32-bit addresses (PL330 manual, SAR and DAR).
+abbrev pub has_wrapping_segment : List Segment → Bool
+has_wrapping_segment list = list_any (λ s. nat_lt 4294967296 (s.addr + s.len)) list
+
+-- how many bytes a list has: the sum of its segments' lengths
+abbrev pub total : List Segment → ℕ
+total list = sum_by (λ s. s.len) list
+
+-- Two segments of the list meet.
+abbrev pub some_meet : List Segment → Bool
+some_meet [] = false
+some_meet (s ∷ later) = list_any (meets s) later || some_meet later
+
+-- A segment of the first list meets one of the second.
+abbrev pub meets_any : List Segment → List Segment → Bool
+meets_any list others = list_any (λ s. list_any (meets s) others) list
+
+-- The event is above 31: the controller has 32 (PL330 manual, DMASEV and DMAWFE).
+abbrev pub is_bad_event : Option ℕ → Bool
+is_bad_event None = false
+is_bad_event (Some event) = nat_lt 31 event
+
+-- this refusal where its test holds, else that of the others
+abbrev pub cause : Bool → TransferFault → Option TransferFault → Option TransferFault
+cause holds fault others = if holds then Some fault else others
+
+-- How two lists overlap, if they do: two destinations meet; else a source meets a destination.
+abbrev pub overlap_of : List Segment → List Segment → Option TransferFault
+overlap_of src dst = cause (some_meet dst) DestinationsMeet (cause (meets_any src dst) SourceMeetsDestination None)
+
+-- The first refusal that holds, if one does: each is tested over both lists before the next.
+abbrev pub refusal_of : Descriptor → Option TransferFault
+refusal_of t =
+    cause (of_either_list is_empty_list t) EmptyList (
+    cause (of_either_list has_too_many t) TooManySegments (
+    cause (of_either_list has_empty_segment t) EmptySegment (
+    cause (of_either_list has_wrapping_segment t) SegmentWraps (
+    cause (not (total t.src == total t.dst)) TotalsDiffer (
+    cause (nat_lt 1048576 (total t.dst)) TooLong (
+    cause (some_meet t.dst) DestinationsMeet (
+    cause (meets_any t.src t.dst) SourceMeetsDestination (
+    cause (is_bad_event t.wait || is_bad_event t.signal) BadEvent None))))))))

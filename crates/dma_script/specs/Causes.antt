@@ -1,0 +1,360 @@
+-- What is told of a faulty line (profile): the first cause that holds, each tested over all words of the line, from the
+-- left, before the next. It stands here as a table of causes, apart from how a line is read; that the readers of run, race
+-- and plan scripts tell the same is the law `FirstCausesAreTold` for every line, `FirstFaultsAreTold` for every script.
+use Rattle.std.specs.Prelude.{◌≡◌, ℕ, ◌+◌, Bool, true, false, not, ◌&&◌, ◌||◌, nat_le, nat_lt, if◌then◌else◌, List, [], ◌∷◌, length, map, Option, Some, None, Result, Ok, Err, is_some, unwrap_or, codes}
+use Rattle.std.specs.List.{list_all, list_any}
+use Rattle.std.specs.Option.{option_map, option_or}
+use Rattle.std.specs.Str.{bytes_eq}
+use Rattle.std.specs.Str.Lines.{lines}
+use Rattle.dma_script.specs.Words.{words_of, is_plain, number_of, segment_of, list_of, bytes_in}
+use Rattle.dma_script.specs.Lines.{is_skipped, after_line}
+use Rattle.dma_script.specs.Statements.{keyword_of, run_step, run_script_of}
+use Rattle.dma_script.specs.Plan.{plan_step, plan_of}
+use Rattle.dma_script.specs.Race.{RaceRead, race_keyword_of, is_early, race_step, race_script_of}
+use Rattle.dma_script.specs.declared.fault.Cause.{Cause}
+use Rattle.dma_script.specs.declared.fault.Cause.TheVariants as causes
+use Rattle.dma_script.specs.declared.fault.Fault.{Fault}
+use Rattle.dma_script.specs.declared.plan.TransferLine.{TransferLine}
+use Rattle.dma_script.specs.declared.statements.Keyword.{Keyword}
+use Rattle.dma_script.specs.declared.statements.Keyword.TheVariants as keywords
+use Rattle.dma_script.specs.declared.statements.RunScript.{RunScript}
+use Rattle.dma_script.specs.declared.race.RaceKeyword.{RaceKeyword}
+use Rattle.dma_script.specs.declared.race.RaceKeyword.TheVariants as race_keywords
+
+-- a cause where a test fails
+abbrev pub where_not : Bool → Cause → Option Cause
+where_not holds cause = if holds then None else Some cause
+
+-- the first cause of some tests, each of which tells a cause or none
+abbrev pub first_told : List (Option Cause) → Option Cause
+first_told [] = None
+first_told (test ∷ tests) = option_or test (first_told tests)
+
+-- ---- one word
+
+-- What a word has to be: any number; a number as those of channels and events are; a number of steps; the size of a memory;
+-- how many channels it has; a segment; a list of segments; bytes in hexadecimal digits.
+pub data Form : Type 0 where
+  number : Form
+  byte : Form
+  steps : Form
+  size : Form
+  channels : Form
+  segment : Form
+  list : Form
+  hex : Form
+
+-- a word, and what it has to be
+pub record Operand : Type 0 where
+  pub form : Form
+  pub word : List ℕ
+
+-- the number that a word spells
+abbrev pub value_of : List ℕ → ℕ
+value_of word = unwrap_or (number_of word) 0
+
+-- a word that is not in its form
+abbrev pub form_cause : Form → List ℕ → Option Cause
+form_cause segment word = where_not (is_some (segment_of word)) causes.Number
+form_cause list word = where_not (is_some (list_of word)) causes.Number
+form_cause hex word = where_not (is_some (bytes_in word)) causes.Hex
+form_cause _ word = where_not (is_some (number_of word)) causes.Number
+
+-- a channel or an event above 255, or a number of steps that is 0 or above 1,000,000
+abbrev pub range_cause : Form → List ℕ → Option Cause
+range_cause byte word = where_not (nat_le (value_of word) 255) causes.Range
+range_cause steps word = where_not (nat_le 1 (value_of word) && nat_le (value_of word) 1000000) causes.Range
+range_cause _ word = None
+
+-- a memory without a byte, or with more than 4,294,963,200
+abbrev pub size_cause : Form → List ℕ → Option Cause
+size_cause size word = where_not (nat_le 1 (value_of word) && nat_le (value_of word) 4294963200) causes.SizeOutOfRange
+size_cause _ word = None
+
+-- no channel, or more than 8
+abbrev pub channels_cause : Form → List ℕ → Option Cause
+channels_cause channels word = where_not (nat_le 1 (value_of word) && nat_le (value_of word) 8) causes.BadChannels
+channels_cause _ word = None
+
+-- one test over all words, from the left
+abbrev pub over : (Form → List ℕ → Option Cause) → List Operand → Option Cause
+over test operands = first_told (map (λ operand. test operand.form operand.word) operands)
+
+-- ---- one line
+
+-- What a kind of script asks of a line: its first word is a command that may stand there; it is the memory line exactly
+-- where that has to stand; its other words but the fixed ones, each with its form, or none where a word is missing, one is
+-- too many or a fixed one is wrong; and what else its numbers have to meet.
+pub record Asked : Type 0 where
+  pub command : Bool
+  pub first : Bool
+  pub operands : Option (List Operand)
+  pub in_range : Bool
+
+-- The table: the tests of a line, in their order.
+abbrev pub tests : List ℕ → Asked → List (Option Cause)
+tests line asked =
+    let operands = unwrap_or asked.operands [] in
+    where_not (list_all is_plain line) causes.Byte
+    ∷ where_not asked.command causes.Command
+    ∷ where_not asked.first causes.First
+    ∷ where_not (is_some asked.operands) causes.Words
+    ∷ over form_cause operands
+    ∷ over range_cause operands
+    ∷ where_not asked.in_range causes.Range
+    ∷ over size_cause operands
+    ∷ over channels_cause operands
+    ∷ []
+
+-- What is told of a line, given what is asked of its words: nothing of a line that is skipped.
+abbrev pub line_told : (List (List ℕ) → Asked) → List ℕ → Option Cause
+line_told asks line = if is_skipped (words_of line) then None else first_told (tests line (asks (words_of line)))
+
+-- ---- the words behind the first
+
+-- no word
+abbrev pub bare : List (List ℕ) → Option (List Operand)
+bare [] = Some []
+bare _ = None
+
+-- one word of a form
+abbrev pub one : Form → List (List ℕ) → Option (List Operand)
+one form (a ∷ []) = Some (record { form = form; word = a } ∷ [])
+one form _ = None
+
+-- two words, each of its form
+abbrev pub two : Form → Form → List (List ℕ) → Option (List Operand)
+two first second (a ∷ b ∷ []) = Some (record { form = first; word = a } ∷ record { form = second; word = b } ∷ [])
+two first second _ = None
+
+-- `ADDR HEX`, with one word of digits or more
+abbrev pub address_and_bytes : List (List ℕ) → Option (List Operand)
+address_and_bytes (addr ∷ word ∷ more) =
+    Some (record { form = number; word = addr } ∷ map (λ w. record { form = hex; word = w }) (word ∷ more))
+address_and_bytes _ = None
+
+-- `LIST to LIST`
+abbrev pub two_lists : List (List ℕ) → Option (List Operand)
+two_lists (src ∷ to ∷ dst ∷ []) =
+    if bytes_eq to (codes "to")
+    then Some (record { form = list; word = src } ∷ record { form = list; word = dst } ∷ []) else None
+two_lists _ = None
+
+-- `[wait E] [signal E]`
+abbrev pub events : List (List ℕ) → Option (List Operand)
+events [] = Some []
+events (fixed ∷ e ∷ []) =
+    if bytes_eq fixed (codes "wait") then Some (record { form = byte; word = e } ∷ []) else (
+    if bytes_eq fixed (codes "signal") then Some (record { form = byte; word = e } ∷ []) else None)
+events (wait ∷ e ∷ signal ∷ f ∷ []) =
+    if bytes_eq wait (codes "wait") && bytes_eq signal (codes "signal")
+    then Some (record { form = byte; word = e } ∷ record { form = byte; word = f } ∷ []) else None
+events _ = None
+
+-- `LIST to LIST [wait E] [signal E]`
+abbrev pub transfer : List (List ℕ) → Option (List Operand)
+transfer (src ∷ to ∷ dst ∷ more) =
+    if bytes_eq to (codes "to")
+    then option_map (λ rest. record { form = list; word = src } ∷ record { form = list; word = dst } ∷ rest) (events more) else None
+transfer _ = None
+
+-- `CH LIST to LIST [wait E] [signal E]`
+abbrev pub channel_and_transfer : List (List ℕ) → Option (List Operand)
+channel_and_transfer (ch ∷ words) = option_map (λ rest. record { form = byte; word = ch } ∷ rest) (transfer words)
+channel_and_transfer _ = None
+
+-- `CH [N]`
+abbrev pub channel_and_steps : List (List ℕ) → Option (List Operand)
+channel_and_steps (ch ∷ []) = Some (record { form = byte; word = ch } ∷ [])
+channel_and_steps (ch ∷ n ∷ []) = Some (record { form = byte; word = ch } ∷ record { form = steps; word = n } ∷ [])
+channel_and_steps _ = None
+
+-- `read SEG` or `write SEG`
+abbrev pub kind_and_segment : List (List ℕ) → Option (List Operand)
+kind_and_segment (kind ∷ s ∷ []) =
+    if bytes_eq kind (codes "read") || bytes_eq kind (codes "write")
+    then Some (record { form = segment; word = s } ∷ []) else None
+kind_and_segment _ = None
+
+-- `FIRST LAST TURNS`
+abbrev pub three_numbers : List (List ℕ) → Option (List Operand)
+three_numbers (a ∷ b ∷ c ∷ []) =
+    Some (record { form = number; word = a } ∷ record { form = number; word = b } ∷ record { form = number; word = c } ∷ [])
+three_numbers _ = None
+
+-- the words behind each command of a run script
+abbrev pub operands_of : Keyword → List (List ℕ) → Option (List Operand)
+operands_of keywords.Memory words = two size channels words
+operands_of keywords.Write words = address_and_bytes words
+operands_of keywords.Read words = one segment words
+operands_of keywords.Copy words = two_lists words
+operands_of keywords.Submit words = channel_and_transfer words
+operands_of keywords.Issue words = one byte words
+operands_of keywords.Pause words = one byte words
+operands_of keywords.Resume words = one byte words
+operands_of keywords.Terminate words = one byte words
+operands_of keywords.Step words = channel_and_steps words
+operands_of keywords.Status words = two byte number words
+operands_of keywords.Result words = two byte number words
+operands_of keywords.Mark words = kind_and_segment words
+operands_of keywords.Unmark words = bare words
+operands_of keywords.Raise words = one byte words
+operands_of keywords.Totals words = bare words
+
+-- ---- what each kind of script asks
+
+-- the first word is no command that may stand there
+abbrev pub no_command : Asked
+no_command = record { command = false; first = true; operands = None; in_range = true }
+
+-- the memory line
+abbrev pub is_memory : Keyword → Bool
+is_memory keywords.Memory = true
+is_memory _ = false
+
+-- a line with this command, behind a memory line or not: the first line is the memory line, and no other is
+abbrev pub run_asked : Bool → Keyword → List (List ℕ) → Asked
+run_asked behind keyword words =
+    record {
+      command = true;
+      first = if behind then not (is_memory keyword) else is_memory keyword;
+      operands = operands_of keyword words;
+      in_range = true;
+    }
+
+-- what a run script asks, behind its memory line or not
+abbrev pub run_asks : Bool → List (List ℕ) → Asked
+run_asks behind [] = no_command
+run_asks behind (word ∷ words) = elim (keyword_of word) [ None ↦ no_command | Some keyword ↦ run_asked behind keyword words ]
+
+-- what a plan script asks, whose lines have no command: one line and no more
+abbrev pub plan_asks : Bool → List (List ℕ) → Asked
+plan_asks behind words =
+    record { command = true; first = true; operands = if behind then None else transfer words; in_range = true }
+
+-- FIRST is at most LAST, and LAST at most 7
+abbrev pub job_in_range : List (List ℕ) → Bool
+job_in_range (first ∷ last ∷ turns ∷ []) = nat_le (value_of first) (value_of last) && nat_le (value_of last) 7
+job_in_range _ = true
+
+-- how far a race script is: behind its memory line, behind `go`, and behind so many jobs
+pub record RaceSide : Type 0 where
+  pub behind : Bool
+  pub after_go : Bool
+  pub jobs : ℕ
+
+-- a line with this command on its side of `go`: before it the lines that may stand there, jobs and `go` itself; after it all
+-- lines of a run script. Each stands behind the memory line.
+abbrev pub race_asked : RaceSide → RaceKeyword → List (List ℕ) → Asked
+race_asked side (race_keywords.Line keyword) words =
+    record (run_asked (side.behind || side.after_go) keyword words) { command = side.after_go || is_early keyword }
+race_asked side race_keywords.Job words =
+    record {
+      command = not side.after_go;
+      first = side.behind;
+      operands = three_numbers words;
+      in_range = job_in_range words && nat_lt side.jobs 16;
+    }
+race_asked side race_keywords.Go words =
+    record { command = not side.after_go; first = side.behind; operands = bare words; in_range = true }
+
+-- what a race script asks
+abbrev pub race_asks : RaceSide → List (List ℕ) → Asked
+race_asks side [] = no_command
+race_asks side (word ∷ words) = elim (race_keyword_of word) [ None ↦ no_command | Some keyword ↦ race_asked side keyword words ]
+
+-- how far a race script is, of which so much was read
+abbrev pub side_of : RaceRead → RaceSide
+side_of read =
+    record { behind = is_some read.before || is_some read.after; after_go = is_some read.after; jobs = length read.jobs }
+
+-- ---- the law
+
+-- the cause that a reading tells, and none where it has read
+abbrev pub told : {A : Type 0} → Result A Cause → Option Cause
+told (Ok read) = None
+told (Err cause) = Some cause
+
+-- Each reader tells of each line, behind whatever it has read, the first cause of the table that holds, and reads it exactly
+-- where none holds.
+pub record FirstCausesAreTold : Type 0 where
+  pub run : (read : Option RunScript) (line : List ℕ)
+      → told (after_line run_step read line) ≡ line_told (run_asks (is_some read)) line
+  pub race : (read : RaceRead) (line : List ℕ)
+      → told (after_line race_step read line) ≡ line_told (race_asks (side_of read)) line
+  pub plan : (read : Option TransferLine) (line : List ℕ)
+      → told (after_line plan_step read line) ≡ line_told (plan_asks (is_some read)) line
+
+-- ---- a whole script
+
+-- a line that is not skipped
+abbrev pub is_taken : List ℕ → Bool
+is_taken line = not (is_skipped (words_of line))
+
+-- The first fault of some lines behind n others, given what is told of a line and what a line leaves of how far the script is.
+abbrev pub first_fault : {S : Type 0} → (S → List ℕ → Option Cause) → (S → List ℕ → S) → S → ℕ → List (List ℕ) → Option Fault
+first_fault test after side n [] = None
+first_fault test after side n (line ∷ rest) =
+    option_or (option_map (λ cause. record { line = n + 1; cause = cause }) (test side line)) (first_fault test after (after side line) (n + 1) rest)
+
+-- a script is behind its first line from the first line on that is not skipped
+abbrev pub behind_after : Bool → List ℕ → Bool
+behind_after behind line = behind || is_taken line
+
+-- the fault of a script without a line
+abbrev pub no_line_fault : List ℕ → Option Fault
+no_line_fault input = if list_any is_taken (lines input) then None else Some (record { line = 0; cause = causes.First })
+
+-- the fault that reading a script tells, and none where it is read
+abbrev pub fault_told : {A : Type 0} → Result A Fault → Option Fault
+fault_told (Ok script) = None
+fault_told (Err fault) = Some fault
+
+-- the command of a line's words, where they begin with one
+abbrev pub race_command_of : List (List ℕ) → Option RaceKeyword
+race_command_of [] = None
+race_command_of (word ∷ words) = race_keyword_of word
+
+-- `go`
+abbrev pub is_go : Option RaceKeyword → Bool
+is_go (Some race_keywords.Go) = true
+is_go _ = false
+
+-- `job`
+abbrev pub is_job : Option RaceKeyword → Bool
+is_job (Some race_keywords.Job) = true
+is_job _ = false
+
+-- how far a race script is after a line that is taken, by its command
+abbrev pub after_command : RaceSide → Option RaceKeyword → RaceSide
+after_command side command =
+    record {
+      behind = true;
+      after_go = side.after_go || is_go command;
+      jobs = if is_job command then side.jobs + 1 else side.jobs;
+    }
+
+-- how far a race script is after a line
+abbrev pub race_after : RaceSide → List ℕ → RaceSide
+race_after side line = if is_taken line then after_command side (race_command_of (words_of line)) else side
+
+-- how far a race script is before its first line
+abbrev pub at_start : RaceSide
+at_start = record { behind = false; after_go = false; jobs = 0 }
+
+-- the fault of a race script without `go`
+abbrev pub no_go_fault : List ℕ → Option Fault
+no_go_fault input =
+    if list_any (λ line. is_taken line && is_go (race_command_of (words_of line))) (lines input) then None
+    else Some (record { line = 0; cause = causes.Go })
+
+-- Of a whole script the fault of the first faulty line is told; where there is none, that there is no line, and of a race script
+-- then that there is no `go`.
+pub record FirstFaultsAreTold : Type 0 where
+  pub run : (input : List ℕ) → fault_told (run_script_of input)
+      ≡ option_or (first_fault (λ behind line. line_told (run_asks behind) line) behind_after false 0 (lines input)) (no_line_fault input)
+  pub race : (input : List ℕ) → fault_told (race_script_of input)
+      ≡ option_or (first_fault (λ side line. line_told (race_asks side) line) race_after at_start 0 (lines input))
+      (option_or (no_line_fault input) (no_go_fault input))
+  pub plan : (input : List ℕ) → fault_told (plan_of input)
+      ≡ option_or (first_fault (λ behind line. line_told (plan_asks behind) line) behind_after false 0 (lines input)) (no_line_fault input)

@@ -1,0 +1,2 @@
+-- Lemmas on the first place of a byte.
+pub mod FirstBytes

@@ -1,0 +1,39 @@
+//! Bytes that are looked for, and words that are compared.
+ghost use Rattle.std.specs.Prelude.{◌≡◌, ◌==◌, position};
+ghost use Rattle.std.specs.Str.{bytes_eq};
+
+use memchr::memchr;
+
+/// The position of the first byte of a kind, looked for in many bytes at once.
+#[tactic(auto, using(crate::proofs::FirstBytes::first_place))]
+pub fn position_of(byte: u8, bytes: &[u8]) -> Option<usize>
+    ensures { result ≡ position (λ b. b == byte) bytes.now }
+{
+    memchr(byte, bytes)
+}
+
+/// Whether a word is a text.
+pub fn is_text(word: &[u8], text: &[u8]) -> bool
+    ensures { result ≡ bytes_eq word.now text.now }
+{
+    word == text
+}
+
+#[cfg(test)]
+mod tests {
+    use super::*;
+
+    #[test]
+    fn first_of_several(rt: HostRuntime) {
+        assert_eq!(rt; position_of(b'b', b"abcb"), Some(1));
+        assert_eq!(rt; position_of(b'd', b"abcb"), None);
+        assert_eq!(rt; position_of(b'a', b""), None);
+    }
+
+    #[test]
+    fn whole_words_only(rt: HostRuntime) {
+        assert!(rt; is_text(b"read", b"read"));
+        assert!(rt; !is_text(b"reads", b"read"));
+        assert!(rt; !is_text(b"rea", b"read"));
+    }
+}

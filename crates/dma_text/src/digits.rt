@@ -1,0 +1,41 @@
+//! Numbers and digits that are written.
+ghost use Rattle.std.specs.Prelude.{◌≡◌, ◌++◌, ◌<◌, OnOk, decimal, true};
+ghost use Rattle.std.specs.Fmt.{digit_glyph};
+
+use itoa::Buffer;
+use std::alloc::AllocError;
+
+/// Appends a number in decimal digits. They are made on the stack.
+pub fn push_decimal(line: &mut Vec<u8>, number: u64) -> Result<(), AllocError>
+    ensures { OnOk result (line.new.items ≡ line.old.items ++ decimal number) }
+{
+    line.extend_from_slice(Buffer::new().format(number).as_bytes())
+}
+
+/// The hexadecimal digits in capitals. They're a table, since a branch on digits is often guessed wrong.
+const GLYPHS: [u8; 16] = *b"0123456789ABCDEF";
+
+/// A hexadecimal digit in capitals.
+pub fn glyph(digit: u8) -> u8
+    requires { digit < 16 }
+    ensures { result ≡ digit_glyph true digit }
+{
+    GLYPHS[usize::from(digit)]
+}
+
+#[cfg(test)]
+mod tests {
+    use super::*;
+    use std::test::Fail;
+
+    #[test]
+    fn numbers_and_digits(rt: HostRuntime) -> Result<(), Fail> {
+        let mut line = Vec::new(rt.alloc());
+        push_decimal(&mut line, 0)?;
+        line.push(glyph(9))?;
+        line.push(glyph(10))?;
+        push_decimal(&mut line, u64::MAX)?;
+        assert_eq!(rt; line.as_slice(), b"09A18446744073709551615".as_slice());
+        Ok(())
+    }
+}

@@ -1,0 +1,5 @@
+//! Text as bytes: what the readers and the writers of all formats share.
+#![tactic(auto)]
+
+pub mod bytes;
+pub mod digits;

@@ -1,0 +1,29 @@
+-- Ticks as the code keeps them, and the board that a log begins with.
+use Rattle.std.specs.Prelude.{ℕ, Option, Some, None, List, [], ◌∷◌, replicate}
+use Rattle.dma_engine.specs.Ticks.{Tick, Submitted, Finished as TickFinished, Board, no_counts}
+use Rattle.dma_work.specs.declared.tick.Change.{Change}
+use Rattle.dma_work.specs.declared.tick.Change.TheVariants.{Given, Finished}
+
+-- a channel and what happened on it, as a tick of the engine's history
+abbrev pub tick_of : ℕ → Change → Tick
+tick_of ch Given = Submitted ch
+tick_of ch (Finished count) = TickFinished ch count
+
+-- the channel of a tick
+abbrev pub channel_of : Tick → ℕ
+channel_of (Submitted ch) = ch
+channel_of (TickFinished ch count) = ch
+
+-- what happened, of a tick
+abbrev pub change_of : Tick → Change
+change_of (Submitted ch) = Given
+change_of (TickFinished ch count) = Finished count
+
+-- a list of one tick, or of none
+abbrev pub those : Option Tick → List Tick
+those (Some t) = t ∷ []
+those None = []
+
+-- the board of an engine that has given no cookie
+abbrev pub no_counts_yet : Board
+no_counts_yet = replicate 8 no_counts

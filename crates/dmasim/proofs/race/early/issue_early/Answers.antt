@@ -1,0 +1,11 @@
+use Rattle.std.proofs.lemmas.Result.{on_ok_weaker}
+use Rattle.dma_engine.specs.declared.call.Call.TheVariants as calls
+use Rattle.dma_script.specs.declared.statements.Statement.TheVariants as statements
+use Rattle.dmasim.proofs.RaceLemmas.{early_call}
+use Rattle.dmasim.proofs.race.early.issue_early.Goals as goal
+
+pub returns-clause-ok : goal.returns-clause-ok
+returns-clause-ok g c =
+    on_ok_weaker c.push_answer.result
+    (early_call (statements.Issue c.args.ch) (calls.Issue c.args.ch) (λ v line is. (v, is)) _ c.count_reply-reply.result c.deref_mut.result.now.engine.view c.issue-issued.new.self.engine.view c.args.out.now.items c.push_answer.new.out.items c.count_reply-reply.ensures c.issue-issued.ensures.answer)
+    c.push_answer.ensures.ok

@@ -1,0 +1,4 @@
+-- What no reader of a command's contract has to believe: what clauses of the functions below it say on the way.
+pub mod RunSteps
+pub mod RaceSteps
+pub mod Counting

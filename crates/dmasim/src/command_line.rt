@@ -1,0 +1,101 @@
+//! The commands by their words, over a reader and a writer.
+ghost use Rattle.std.specs.Prelude.{◌≡◌, ◌≤◌, ◌+◌, ◌∷◌, [], None, IfSome};
+ghost use Rattle.dma_script.specs.Command.{Wrote, failures, longest_input, text_of};
+ghost use Rattle.dmasim.specs.CommandLine.{SubcommandEnds, WordEnds, subcommand_of, usage};
+
+use crate::asm::asm_main;
+use crate::dis::dis_main;
+use crate::plan::plan_main;
+use crate::race::race_script;
+use crate::run::run_script;
+use dma_script::command::FAULT;
+use dma_script::input::Source;
+use dma_script::output::{Sink, write_output};
+use std::alloc::Global;
+use std::sync::Wait;
+use std::thread::Threads;
+
+/// The exit status where no command is named.
+pub const WRONG_ARGUMENTS: u8 = 2;
+
+/// A command, by the word that names it.
+#[derive(Clone, Copy, Debug, PartialEq, Eq, Drop)]
+pub enum Subcommand {
+    /// `asm`
+    Asm,
+    /// `dis`
+    Dis,
+    /// `plan`
+    Plan,
+    /// `run`
+    Run,
+    /// `race`
+    Race,
+}
+
+/// The command that a word names, if it names one.
+fn subcommand_of(word: &str) -> Option<Subcommand>
+    ensures { result ≡ subcommand_of word.now }
+{
+    match word {
+        "asm" => Some(Subcommand::Asm),
+        "dis" => Some(Subcommand::Dis),
+        "plan" => Some(Subcommand::Plan),
+        "run" => Some(Subcommand::Run),
+        "race" => Some(Subcommand::Race),
+        _ => None,
+    }
+}
+
+/// Carries out a command, and gives its exit status.
+fn serve_subcommand<R: Threads + Wait + Sync, I: Source, W: Sink>(
+    rt: &R,
+    alloc: Global,
+    subcommand: Subcommand,
+    reader: &mut I,
+    writer: &mut W,
+) -> u8
+    ensures ends { IfSome (I.remaining reader.old) (λ input. SubcommandEnds subcommand input
+        (failures I.has_failed reader.old reader.new) (failures W.has_failed writer.old writer.new)
+        (W.contents writer.old) (W.contents writer.new) result) }
+    ensures reads { I.reads reader.new ≤ I.reads reader.old + (longest_input + 1) }
+{
+    match subcommand {
+        Subcommand::Asm => asm_main(alloc, reader, writer),
+        Subcommand::Dis => dis_main(alloc, reader, writer),
+        Subcommand::Plan => plan_main(alloc, reader, writer),
+        Subcommand::Run => run_script(alloc, reader, writer),
+        Subcommand::Race => race_script(rt, alloc, reader, writer),
+    }
+}
+
+/// Prints the usage, and gives the status of a wrong command line, or of a fault where the writer fails.
+fn push_usage<W: Sink>(writer: &mut W) -> u8
+    ensures { Wrote (failures W.has_failed writer.old writer.new) (W.contents writer.old) (W.contents writer.new) (text_of (usage ∷ [])) 2 result }
+{
+    match write_output(writer, b"usage: dmasim asm|dis|plan|run|race\n") {
+        Ok(()) => WRONG_ARGUMENTS,
+        Err(_) => FAULT,
+    }
+}
+
+/// Carries out the command that a word names, and gives its exit status. Any other word reads nothing, prints the usage, and
+/// has status 2, or 1 where the writer fails.
+pub fn serve_word<R: Threads + Wait + Sync, I: Source, W: Sink>(
+    rt: &R,
+    alloc: Global,
+    word: &str,
+    reader: &mut I,
+    writer: &mut W,
+) -> u8
+    ensures ends { WordEnds (subcommand_of word.now) (I.remaining reader.old)
+        (failures I.has_failed reader.old reader.new) (failures W.has_failed writer.old writer.new)
+        (W.contents writer.old) (W.contents writer.new) result }
+    ensures unread { subcommand_of word.now ≡ None → reader.new ≡ reader.old }
+    ensures reads { I.reads reader.new ≤ I.reads reader.old + (longest_input + 1) }
+{
+    match subcommand_of(word) {
+        Some(subcommand) => serve_subcommand(rt, alloc, subcommand, reader, writer),
+        None => push_usage(writer),
+    }
+}

@@ -1,0 +1,133 @@
+//! Whole calls of the program: its word, an input, the exit status, and what is printed.
+use crate::command_line::serve_word;
+use crate::tests::Kept;
+use dma_script::output::Sink;
+use std::alloc::{AllocError, Global};
+use std::io;
+use std::io::Write;
+use std::sync::Wait;
+use std::test::Fail;
+use std::thread::Threads;
+
+/// Takes no byte.
+#[derive(Drop)]
+struct Full;
+
+impl Write for Full {
+    fn write(&mut self, _buf: &[u8]) -> io::Result<usize> {
+        Ok(0)
+    }
+
+    fn flush(&mut self) -> io::Result<()> {
+        Ok(())
+    }
+}
+
+impl Sink for Full {
+    fn put(&mut self, buf: &[u8]) -> io::Result<usize> {
+        self.write(buf)
+    }
+}
+
+/// The status of a call, and what it printed.
+fn call<R: Threads + Wait + Sync>(
+    rt: &R,
+    alloc: Global,
+    word: &str,
+    input: &[u8],
+) -> Result<(u8, Vec<u8>), AllocError> {
+    let mut reader = input;
+    let mut writer = Kept::new(alloc);
+    let status = serve_word(rt, alloc, word, &mut reader, &mut writer);
+    Ok((status, writer.bytes))
+}
+
+#[test]
+fn each_word_has_its_command(rt: HostRuntime) -> Result<(), Fail> {
+    // one input for all, of which each command prints something else
+    let input = b"memory 16 1\ngo\n";
+    let cases: [(&str, u8, &[u8]); 5] = [
+        ("asm", 1, b"line 1: mnemonic\n"),
+        ("dis", 1, b"line 1: Hex\n"),
+        ("plan", 1, b"line 1: Words\n"),
+        ("run", 1, b"line 2: Command\n"),
+        ("race", 0, b"go steps 0 finished 0\n"),
+    ];
+    for (word, status, text) in cases {
+        let ended = call(&rt, rt.alloc(), word, input)?;
+        assert_eq!(rt; ended.0, status, "{word}");
+        assert_eq!(rt; ended.1.as_slice(), text, "{word}");
+    }
+    Ok(())
+}
+
+/// For each word an input that its command carries out, and what it prints.
+fn carried_out() -> [(&'static str, &'static [u8], &'static [u8]); 5] {
+    [
+        ("asm", b"DMAEND\n", b"00\n"),
+        ("dis", b"00\n", b"DMAEND\n"),
+        (
+            "plan",
+            b"0x1001+1 to 0x2002+1\n",
+            b"BC 00 01 10 00 00 BC 02 02 20 00 00 BC 01 01 40\n\
+              00 00 04 12 08 13 00\n\
+              bytes 23\n\
+              cost 8\n",
+        ),
+        ("run", b"memory 16 1\nread 0+1\n", b"read 0x00000000 00\n"),
+        (
+            "race",
+            b"memory 16 1\n\
+              read 0+1\n\
+              go\n",
+            b"read 0x00000000 00\ngo steps 0 finished 0\n",
+        ),
+    ]
+}
+
+#[test]
+fn each_command_succeeds(rt: HostRuntime) -> Result<(), Fail> {
+    for (word, input, text) in carried_out() {
+        let ended = call(&rt, rt.alloc(), word, input)?;
+        assert_eq!(rt; ended.0, 0, "{word}");
+        assert_eq!(rt; ended.1.as_slice(), text, "{word}");
+    }
+    Ok(())
+}
+
+#[test]
+fn another_word_prints_the_usage(rt: HostRuntime) -> Result<(), Fail> {
+    for word in [
+        "",
+        "help",
+        "--help",
+        "--version",
+        "Run",
+        "RACE",
+        "runs",
+        "ru",
+        "--",
+        "run ",
+    ] {
+        let ended = call(&rt, rt.alloc(), word, b"memory 16 1\n")?;
+        assert_eq!(rt; ended.0, 2);
+        assert_eq!(rt;
+            ended.1.as_slice(),
+            b"usage: dmasim asm|dis|plan|run|race\n".as_slice()
+        );
+    }
+    Ok(())
+}
+
+#[test]
+fn a_writer_that_takes_nothing_is_a_fault(rt: HostRuntime) -> Result<(), Fail> {
+    for (word, input, _) in carried_out() {
+        let mut reader = input;
+        let status = serve_word(&rt, rt.alloc(), word, &mut reader, &mut Full);
+        assert_eq!(rt; status, 1, "{word}");
+    }
+    let mut reader: &[u8] = b"";
+    let status = serve_word(&rt, rt.alloc(), "help", &mut reader, &mut Full);
+    assert_eq!(rt; status, 1);
+    Ok(())
+}

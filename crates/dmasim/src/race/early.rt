@@ -1,0 +1,274 @@
+//! The lines of a race script before `go`: each takes the desk's lock once for its one call, and prints after that; a status
+//! asks the reader.
+ghost use Rattle.std.specs.Prelude.{◌≡◌, ◌≢◌, ◌++◌, ◌∷◌, [], OnOk, OnErr};
+ghost use Rattle.dma_engine.specs.Answer.{reply_of};
+ghost use Rattle.dma_script.specs.Command.{text_of};
+ghost use Rattle.dma_script.specs.Race.{IsEarly};
+ghost use Rattle.dmasim.specs.Printed.{call_line};
+ghost use Rattle.dmasim.specs.inner.RaceSteps.{PrintsCall, PrintsEarly};
+
+use crate::printing::{push_cookie, push_refused_call, push_told};
+use crate::run::calls::{push_unfit, transfer_of};
+use dma_engine::{Call, EngineFault, Reply};
+use dma_mem::lists::Bytes;
+use dma_mem::segment::Segment;
+use dma_mem::transfer::Transfer;
+use dma_script::plan::TransferLine;
+use dma_script::printing::push_line;
+use dma_script::statements::Statement;
+use dma_work::{DeskName, Shared, StatusReader};
+use std::alloc::AllocError;
+use std::sync::{MutexGuard, Wait};
+
+/// The reply of a call that answers bytes.
+fn bytes_reply(bytes: Result<Bytes, EngineFault>) -> Reply
+    ensures { result ≡ reply_of (λ bytes. Reply.Bytes bytes) bytes }
+{
+    match bytes {
+        Ok(bytes) => Reply::Bytes(bytes),
+        Err(fault) => Reply::Refused(fault),
+    }
+}
+
+/// The reply of a call that answers a number of cookies.
+fn count_reply(count: Result<u32, EngineFault>) -> Reply
+    ensures { result ≡ reply_of (λ count. Reply.Count count) count }
+{
+    match count {
+        Ok(count) => Reply::Count(count),
+        Err(fault) => Reply::Refused(fault),
+    }
+}
+
+/// Appends the line of a call, or nothing. Where memory was refused it prints nothing and the script ends.
+fn push_answer(
+    line: &mut Vec<u8>,
+    call: &Call,
+    reply: &Reply,
+    out: &mut Vec<u8>,
+) -> Result<(), AllocError>
+    ensures ok { OnOk result ((reply.now ≢ Reply.Refused EngineFault.NoMemory) × (out.new.items ≡ out.old.items ++ text_of (call_line call.now reply.now ∷ []))) }
+    ensures err { OnErr result (out.new.items ≡ out.old.items) }
+{
+    if let Reply::Refused(EngineFault::NoMemory) = reply {
+        return Err(AllocError);
+    }
+    push_told(line, call, reply, out)
+}
+
+/// Carries out `write ADDR HEX`.
+fn write_early<N: DeskName, R: Wait>(
+    rt: &R,
+    shared: &Shared<N>,
+    addr: u32,
+    bytes: &[u8],
+    line: &mut Vec<u8>,
+    out: &mut Vec<u8>,
+) -> Result<(), AllocError>
+    ensures ok { OnOk result (PrintsEarly (Statement.Write addr bytes.now) out.old.items out.new.items) }
+    ensures err { OnErr result (out.new.items ≡ out.old.items) }
+{
+    let mut desk = shared.desk().lock(rt);
+    let written = desk.write(addr, bytes);
+    MutexGuard::unlock(desk);
+    match written {
+        Ok(()) => push_line(out, b"ok"),
+        Err(fault) => push_refused_call(line, fault, out),
+    }
+}
+
+/// Carries out `read SEG`.
+fn read_early<N: DeskName, R: Wait>(
+    rt: &R,
+    shared: &Shared<N>,
+    segment: Segment,
+    line: &mut Vec<u8>,
+    out: &mut Vec<u8>,
+) -> Result<(), AllocError>
+    ensures ok { OnOk result (PrintsEarly (Statement.Read segment) out.old.items out.new.items) }
+    ensures err { OnErr result (out.new.items ≡ out.old.items) }
+{
+    let Segment { addr, len } = segment;
+    let mut desk = shared.desk().lock(rt);
+    let read = desk.read(addr, len);
+    MutexGuard::unlock(desk);
+    let reply = bytes_reply(read);
+    push_answer(line, &Call::Read { addr, len }, &reply, out)
+}
+
+/// Gives a transfer to a channel, and tells the reader of it.
+fn submit_transfer<N: DeskName, R: Wait>(
+    rt: &R,
+    shared: &Shared<N>,
+    reader: &mut StatusReader,
+    ch: u8,
+    transfer: Transfer,
+    line: &mut Vec<u8>,
+    out: &mut Vec<u8>,
+) -> Result<(), AllocError>
+    requires follows { (N.log ≡ reader.old.log) × (N.base ≡ reader.old.base) }
+    ensures ok { OnOk result (PrintsCall (Call.Submit ch transfer) out.old.items out.new.items) }
+    ensures err { OnErr result (out.new.items ≡ out.old.items) }
+    ensures follows { (N.log ≡ reader.new.log) × (N.base ≡ reader.new.base) }
+{
+    let mut desk = shared.desk().lock(rt);
+    let submitted = desk.submit(rt, ch, transfer);
+    MutexGuard::unlock(desk);
+    match submitted {
+        Ok(receipt) => {
+            reader.learn(receipt.ticket);
+            push_cookie(line, receipt.cookie, out)
+        }
+        Err(refused) => push_refused_call(line, refused.fault, out),
+    }
+}
+
+/// Carries out `submit CH LIST to LIST [wait E] [signal E]`.
+fn submit_early<N: DeskName, R: Wait>(
+    rt: &R,
+    shared: &Shared<N>,
+    reader: &mut StatusReader,
+    ch: u8,
+    words: TransferLine,
+    line: &mut Vec<u8>,
+    out: &mut Vec<u8>,
+) -> Result<(), AllocError>
+    requires follows { (N.log ≡ reader.old.log) × (N.base ≡ reader.old.base) }
+    ensures ok { OnOk result (PrintsEarly (Statement.Submit ch words) out.old.items out.new.items) }
+    ensures err { OnErr result (out.new.items ≡ out.old.items) }
+    ensures follows { (N.log ≡ reader.new.log) × (N.base ≡ reader.new.base) }
+{
+    match transfer_of(words) {
+        Ok(transfer) => submit_transfer(rt, shared, reader, ch, transfer, line, out),
+        Err(fault) => push_unfit(line, fault, out),
+    }
+}
+
+/// Carries out `issue CH`.
+fn issue_early<N: DeskName, R: Wait>(
+    rt: &R,
+    shared: &Shared<N>,
+    ch: u8,
+    line: &mut Vec<u8>,
+    out: &mut Vec<u8>,
+) -> Result<(), AllocError>
+    ensures ok { OnOk result (PrintsEarly (Statement.Issue ch) out.old.items out.new.items) }
+    ensures err { OnErr result (out.new.items ≡ out.old.items) }
+{
+    let mut desk = shared.desk().lock(rt);
+    let issued = desk.issue(ch);
+    MutexGuard::unlock(desk);
+    let reply = count_reply(issued);
+    push_answer(line, &Call::Issue { ch }, &reply, out)
+}
+
+/// Carries out `terminate CH`, and tells the reader of what it ended.
+fn terminate_early<N: DeskName, R: Wait>(
+    rt: &R,
+    shared: &Shared<N>,
+    reader: &mut StatusReader,
+    ch: u8,
+    line: &mut Vec<u8>,
+    out: &mut Vec<u8>,
+) -> Result<(), AllocError>
+    requires follows { (N.log ≡ reader.old.log) × (N.base ≡ reader.old.base) }
+    ensures ok { OnOk result (PrintsEarly (Statement.Terminate ch) out.old.items out.new.items) }
+    ensures err { OnErr result (out.new.items ≡ out.old.items) }
+    ensures follows { (N.log ≡ reader.new.log) × (N.base ≡ reader.new.base) }
+{
+    let mut desk = shared.desk().lock(rt);
+    let closed = desk.terminate(rt, ch);
+    MutexGuard::unlock(desk);
+    let call = Call::Terminate { ch };
+    match closed {
+        Ok(closed) => {
+            reader.learn(closed.ticket);
+            push_answer(line, &call, &Reply::Count(closed.count), out)
+        }
+        Err(fault) => push_answer(line, &call, &Reply::Refused(fault), out),
+    }
+}
+
+/// Carries out `result CH COOKIE`.
+fn result_early<N: DeskName, R: Wait>(
+    rt: &R,
+    shared: &Shared<N>,
+    ch: u8,
+    cookie: u32,
+    line: &mut Vec<u8>,
+    out: &mut Vec<u8>,
+) -> Result<(), AllocError>
+    ensures ok { OnOk result (PrintsEarly (Statement.Result ch cookie) out.old.items out.new.items) }
+    ensures err { OnErr result (out.new.items ≡ out.old.items) }
+{
+    let mut desk = shared.desk().lock(rt);
+    let outcome = desk.result(ch, cookie);
+    MutexGuard::unlock(desk);
+    push_answer(
+        line,
+        &Call::Result { ch, cookie },
+        &Reply::Result(outcome),
+        out,
+    )
+}
+
+/// Carries out `status CH COOKIE`, which asks the reader and takes no lock.
+fn status_early(
+    reader: &mut StatusReader,
+    ch: u8,
+    cookie: u32,
+    line: &mut Vec<u8>,
+    out: &mut Vec<u8>,
+) -> Result<(), AllocError>
+    ensures ok { OnOk result (PrintsEarly (Statement.Status ch cookie) out.old.items out.new.items) }
+    ensures err { OnErr result (out.new.items ≡ out.old.items) }
+    ensures same { (reader.new.log ≡ reader.old.log) × (reader.new.base ≡ reader.old.base) }
+{
+    match reader.status(ch, cookie) {
+        Some(status) => push_answer(
+            line,
+            &Call::Status { ch, cookie },
+            &Reply::State(status),
+            out,
+        ),
+        None => push_line(out, b"status none"),
+    }
+}
+
+/// Carries out a line before `go`, which is done with then, and appends what it prints or nothing.
+pub fn run_early_statement<N: DeskName, R: Wait>(
+    rt: &R,
+    shared: &Shared<N>,
+    reader: &mut StatusReader,
+    statement: Statement,
+    line: &mut Vec<u8>,
+    out: &mut Vec<u8>,
+) -> Result<(), AllocError>
+    requires early { IsEarly statement }
+    requires follows { (N.log ≡ reader.old.log) × (N.base ≡ reader.old.base) }
+    ensures ok { OnOk result (PrintsEarly statement out.old.items out.new.items) }
+    ensures err { OnErr result (out.new.items ≡ out.old.items) }
+    ensures follows { (N.log ≡ reader.new.log) × (N.base ≡ reader.new.base) }
+{
+    match statement {
+        Statement::Write { addr, bytes } => {
+            write_early(rt, shared, addr, bytes.as_slice(), line, out)
+        }
+        Statement::Read(segment) => read_early(rt, shared, segment, line, out),
+        Statement::Submit { ch, transfer } => {
+            submit_early(rt, shared, reader, ch, transfer.into_inner(), line, out)
+        }
+        Statement::Issue { ch } => issue_early(rt, shared, ch, line, out),
+        Statement::Terminate { ch } => terminate_early(rt, shared, reader, ch, line, out),
+        Statement::Status { ch, cookie } => status_early(reader, ch, cookie, line, out),
+        Statement::Result { ch, cookie } => result_early(rt, shared, ch, cookie, line, out),
+        Statement::Copy(_)
+        | Statement::Pause { .. }
+        | Statement::Resume { .. }
+        | Statement::Step { .. }
+        | Statement::Mark { .. }
+        | Statement::Unmark
+        | Statement::Raise { .. }
+        | Statement::Totals => unreachable!(),
+    }
+}

@@ -1,0 +1,107 @@
+//! The lines of a script that copy: submitted to channel 0, issued, and stepped through.
+ghost use Rattle.std.specs.Prelude.{◌≡◌, OnOk, OnErr, IfOk};
+ghost use Rattle.dma_engine.specs.Answer.{answer};
+ghost use Rattle.dmasim.specs.inner.RunSteps.{AnswersLine};
+ghost use Rattle.dmasim.specs.Run.{CopiesEnd, carried_through, copied_after, copy_answer, goes_on, is_in_use, most_steps, stepped_through};
+
+use crate::printing::{push_after, push_refused, push_refused_call};
+use crate::run::calls::{push_unfit, reply_to};
+use crate::run::steps::step_reply;
+use dma_engine::advance::advance;
+use dma_engine::{Call, Engine, Reply, Turn};
+use dma_mem::transfer::Transfer;
+use dma_script::statements::CopyLine;
+use std::alloc::AllocError;
+
+/// At least as many steps as any transfer takes, which are its start and fewer than 2^19 instructions
+/// (`dma_chan::laws::costs_little`). So no copy is cut off by it: that is the law `copies_end`.
+pub const MOST_STEPS: u32 = 524_288;
+
+/// Whether channel 0 has an unfinished cookie, or is paused or halted.
+fn is_in_use(engine: &Engine) -> bool
+    ensures { result ≡ is_in_use engine.now.view }
+{
+    engine.unfinished(0) > 0 || engine.paused(0) || engine.halted(0)
+}
+
+/// Whether a copy goes on after such an answer.
+fn goes_on(reply: &Reply) -> bool
+    ensures { result ≡ goes_on reply.now }
+{
+    matches!(reply, Reply::Turned(Turn::Started(_) | Turn::Moved))
+}
+
+/// Steps channel 0 until an answer is neither Started nor Moved.
+fn step_through(engine: &mut Engine) -> Result<Reply, AllocError>
+    ensures { IfOk result (λ reply. (reply, engine.new.view) ≡ stepped_through most_steps engine.old.view) }
+{
+    let mut left = MOST_STEPS;
+    while left > 0 {
+        let steps = advance(engine, 0, left);
+        left -= steps.moved;
+        if let Some(last) = steps.last {
+            let reply = step_reply(last)?;
+            if !goes_on(&reply) {
+                return Ok(reply);
+            }
+            left -= 1;
+        }
+    }
+    reply_to(engine, &Call::Step { ch: 0 })
+}
+
+/// Issues what was submitted to channel 0 and steps through it.
+fn carry_through(
+    engine: &mut Engine,
+    line: &mut Vec<u8>,
+    out: &mut Vec<u8>,
+) -> Result<(), AllocError>
+    ensures ok { OnOk result (AnswersLine (carried_through engine.old.view) engine.new.view out.old.items out.new.items) }
+    ensures err { OnErr result (out.new.items ≡ out.old.items) }
+{
+    reply_to(engine, &Call::Issue { ch: 0 })?;
+    let last = step_through(engine)?;
+    push_after(line, "copy ", &last, out)
+}
+
+/// Submits a transfer to channel 0, issues it and steps through it.
+fn copy_through(
+    engine: &mut Engine,
+    transfer: Transfer,
+    line: &mut Vec<u8>,
+    out: &mut Vec<u8>,
+) -> Result<(), AllocError>
+    ensures ok { OnOk result (AnswersLine (copied_after (answer engine.old.view (Call.Submit 0 transfer))) engine.new.view out.old.items out.new.items) }
+    ensures err { OnErr result (out.new.items ≡ out.old.items) }
+{
+    match engine.submit(0, transfer) {
+        Ok(_) => carry_through(engine, line, out),
+        Err(refused) => push_refused_call(line, refused.fault, out),
+    }
+}
+
+/// Carries out `copy LIST to LIST`. The transfer takes the line's lists for itself.
+pub fn answer_copy(
+    engine: &mut Engine,
+    lists: CopyLine,
+    line: &mut Vec<u8>,
+    out: &mut Vec<u8>,
+) -> Result<(), AllocError>
+    ensures ok { OnOk result (AnswersLine (copy_answer engine.old.view lists.src lists.dst) engine.new.view out.old.items out.new.items) }
+    ensures err { OnErr result (out.new.items ≡ out.old.items) }
+{
+    let CopyLine { src, dst } = lists;
+    let transfer = match Transfer::from_lists(src, dst, None, None) {
+        Ok(transfer) => transfer,
+        Err(fault) => return push_unfit(line, fault, out),
+    };
+    if is_in_use(engine) {
+        return push_refused(line, "ChannelInUse", out);
+    }
+    copy_through(engine, transfer, line, out)
+}
+
+/// The law that a copy is stepped until its last answer: no copy takes so many steps that the loop ends by its own bound.
+pub fn copies_end()
+    ensures { CopiesEnd }
+{}
