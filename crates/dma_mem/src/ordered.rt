@@ -91,8 +91,8 @@ fn replace(
     Ok(())
 }
 
-/// Adds the addresses of a segment to ranges in order. It takes the place of those that lie in it; where it lies in one
-/// itself, or is empty, nothing changes. Without memory for one more range they stay as they were.
+/// Adds the addresses of a segment to ranges in order. It takes the place of those that lie in it; where one begins
+/// below it and ends above it, or it is empty, nothing changes. Without memory for one more range they stay as they were.
 pub fn add_in_order(ranges: &mut Vec<Segment>, segment: Segment) -> Result<(), AllocError>
     requires { IsOrdered ranges.old.items }
     ensures ordered { IsOrdered ranges.new.items }
