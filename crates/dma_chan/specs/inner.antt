@@ -3,4 +3,5 @@
 pub mod Fields
 pub mod At
 pub mod Spans
+pub mod NextWrites
 pub mod Compiling

@@ -7,7 +7,7 @@ ghost use Rattle.dma_insn.specs.declared.insn.Insn.TheVariants.{Ld, St};
 ghost use Rattle.dma_insn.specs.ControlWord.{beat_bytes};
 ghost use Rattle.dma_mem.specs.Image.{put};
 ghost use Rattle.dma_mem.specs.Places.{range_of};
-ghost use Rattle.dma_mem.specs.Pages.{Paged, AllMade, has_page, Keeps};
+ghost use Rattle.dma_mem.specs.Pages.{Paged, AllMade, has_page, Keeps, MakesNoOther};
 ghost use Rattle.dma_chan.specs.Bursts.{burst_len, touched, left_by, advance, reaches};
 ghost use Rattle.dma_chan.specs.inner.Spans.{span_of, rounds_of};
 ghost use Rattle.dma_chan.specs.Exec.{source_of, destination_of, act, fault_in, faults, read_at, state};
@@ -349,6 +349,7 @@ pub(crate) fn prepare_store(
     ensures short { OnErr result (none_missing memory.new (touched (destination_of registers.now)) ≡ false) }
     ensures image { memory.new.image ≡ memory.old.image }
     ensures keeps { Keeps memory.old memory.new }
+    ensures others { MakesNoOther memory.old memory.new (touched (destination_of registers.now)) }
 {
     let span = destination_burst(registers).span();
     if let Some(page) = known {

@@ -2,7 +2,7 @@
 use Rattle.std.proofs.Common.{◌≡◌, ℕ, ◌+◌, ◌/◌, ◌<◌, ◌≤◌, ◌⊎◌, List, [], ◌∷◌, ◌++◌, length, get_or, take, nat_lt, true, ◌&&◌, refl, ap, sym, ◌∙◌, subst, arith, inl, inr, zero, suc, append-nil, append_assoc}
 use Rattle.std.specs.Prelude.{nat_le}
 use Rattle.std.specs.List.{Contains, range_with_len}
-use Rattle.std.proofs.lemmas.Bool.{leb-true, and_parts}
+use Rattle.std.proofs.lemmas.Bool.{leb-true, le-leb, and_parts}
 use Rattle.std.proofs.lemmas.List.{take_more}
 use Rattle.std.proofs.lemmas.List.Elements.{Contains-append_left, Contains-append_right, Contains-append_cases}
 use Rattle.dma_mem.specs.declared.segment.Segment.{Segment}
@@ -32,6 +32,17 @@ pub below_at : (list : List Segment) (i : ℕ) (d : Segment) (size : ℕ) → al
 below_at [] i d size h l = absurd (omega arith)
 below_at (s ∷ list) zero d size h l = leb-true (s.addr + s.len) size (and_parts (nat_le (s.addr + s.len) size) (all_below list size) h).0
 below_at (s ∷ list) (suc i) d size h l = below_at list i d size (and_parts (nat_le (s.addr + s.len) size) (all_below list size) h).1 (omega arith)
+
+below_push : (rs : List Segment) (s : Segment) (size : ℕ) → all_below rs size ≡ true → s.addr + s.len ≤ size → all_below (rs ++ s ∷ []) size ≡ true
+below_push [] s size h l = rw (le-leb (s.addr + s.len) size l) refl
+below_push (r ∷ rs) s size h l =
+    let parts = and_parts (nat_le (r.addr + r.len) size) (all_below rs size) h in
+    rw (parts.0, below_push rs s size parts.1 l) refl
+
+-- one more segment of a list that ends below a size
+pub below_more : (list : List Segment) (i : ℕ) (d : Segment) (size : ℕ) → i < length list → all_below (take i list) size ≡ true → (get_or list i d).addr + (get_or list i d).len ≤ size → all_below (take (i + 1) list) size ≡ true
+below_more list i d size h first next =
+    ap (λ (xs : List Segment). all_below xs size) (take_more list i d h) ∙ below_push (take i list) (get_or list i d) size first next
 
 -- ---- what is made
 

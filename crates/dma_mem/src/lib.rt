@@ -6,7 +6,7 @@ pub mod lists;
 pub mod marks;
 pub mod memory;
 mod ordered;
-pub mod pages;
+mod pages;
 pub mod range_set;
 pub mod segment;
 mod table;

@@ -1,6 +1,6 @@
 //! A memory of bytes.
 
-ghost use Rattle.std.specs.Prelude.{◌≡◌, ℕ, ◌+◌, ◌%◌, ◌/◌, ◌≤◌, ◌++◌, length, take, drop, replicate, slice_get, nat_lt, true, false, if◌then◌else◌, IsTrue, IfOk, IfErr, IfSome, IsSome, OnOk, OnErr};
+ghost use Rattle.std.specs.Prelude.{◌≡◌, ◌≢◌, ℕ, ◌+◌, ◌%◌, ◌/◌, ◌≤◌, ◌++◌, length, take, drop, replicate, slice_get, nat_lt, true, false, if◌then◌else◌, IsTrue, IfOk, IfErr, IfSome, IsSome, OnOk, OnErr};
 ghost use Rattle.std.specs.List.{list_all, range_with_len};
 ghost use Rattle.dma_mem.specs.Places.{range_of, places, all_below};
 ghost use Rattle.dma_mem.specs.Image.{put, bytes_at, is_size};
@@ -26,7 +26,7 @@ pub enum MemFault {
     NoMemory,
 }
 
-/// Bytes at the addresses from 0 up to a size of 1 to [`MAX_SIZE`] (profile), on [`Pages`] that are made on first write.
+/// Bytes at the addresses from 0 up to a size of 1 to [`MAX_SIZE`] (profile), on pages that are made on first write.
 /// Contracts see its image, and which of its pages are made.
 #[derive(Debug, Drop)]
 pub struct Memory {
@@ -125,11 +125,13 @@ impl Memory {
     /// The error is that of the first that is refused, and some pages may have been made.
     pub fn prepare_all(&mut self, list: &[Segment]) -> Result<(), MemFault>
         ensures ok { OnOk result (AllMade self.new (places list.now)) }
+        ensures within { OnOk result (all_below list.now (length self.old.image) ≡ true) }
         ensures short { all_below list.now (length self.old.image) ≡ true → OnErr result (¬ AllMade self.new (places list.now)) }
         ensures image { self.new.image ≡ self.old.image }
         ensures keeps { Keeps self.old self.new }
         ensures others { MakesNoOther self.old self.new (places list.now) }
         ensures err { all_below list.now (length self.old.image) ≡ true → IfErr result (λ fault. fault ≡ MemFault.NoMemory) }
+        ensures named { IfErr result (λ fault. fault ≢ MemFault.SizeOutOfRange) }
     {
         for s in list {
             match self.prepare(*s) {
@@ -214,6 +216,10 @@ mod tests {
     use super::*;
     use std::test::Fail;
 
+    fn segment(addr: u32, len: u32) -> Segment {
+        Segment { addr, len }
+    }
+
     #[test]
     fn reads_what_was_written(rt: HostRuntime) -> Result<(), Fail> {
         let mut memory = Memory::new(rt.alloc(), 64)?;
@@ -244,23 +250,28 @@ mod tests {
     #[test]
     fn makes_the_pages_of_a_segment(rt: HostRuntime) -> Result<(), Fail> {
         let mut memory = Memory::new(rt.alloc(), 0x4000)?;
-        let first = Segment {
-            addr: 0x1000,
-            len: 1,
-        };
-        assert!(rt; !memory.made(first));
-        memory.prepare_all(&[Segment {
-            addr: 0x1FFF,
-            len: 2,
-        }])?;
-        assert!(rt; memory.made(first));
+        assert!(rt; !memory.made(segment(0x1000, 1)));
+        memory.prepare(segment(0x1FFF, 2))?;
+        assert!(rt; memory.made(segment(0x1000, 8192)));
+        assert!(rt; !memory.made(segment(0x0FFF, 2)));
         let copy = memory.try_copy()?;
-        assert!(rt; copy.made(first));
+        assert!(rt; copy.made(segment(0x1000, 8192)));
+        Ok(())
+    }
+
+    #[test]
+    fn makes_the_pages_of_a_list(rt: HostRuntime) -> Result<(), Fail> {
+        let mut memory = Memory::new(rt.alloc(), 0x4000)?;
+        memory.prepare_all(&[segment(0x0FFF, 1), segment(0x2000, 1)])?;
+        assert!(rt; memory.made(segment(0, 0x1000)));
+        assert!(rt; memory.made(segment(0x2000, 0x1000)));
+        assert!(rt; !memory.made(segment(0x1000, 1)));
         assert_eq!(rt;
-            memory.prepare(Segment {
-                addr: 0x4000,
-                len: 1
-            }),
+            memory.prepare_all(&[segment(0x4000, 0), segment(0x4001, 0)]),
+            Err(MemFault::OutOfMemoryRange)
+        );
+        assert_eq!(rt;
+            memory.prepare(segment(0x4000, 1)),
             Err(MemFault::OutOfMemoryRange)
         );
         Ok(())

@@ -1,6 +1,6 @@
 //! Sets of addresses as coalesced ranges.
 
-ghost use Rattle.std.specs.Prelude.{◌≡◌, ◌+◌, ◌≤◌, ◌<◌, All, IfOk};
+ghost use Rattle.std.specs.Prelude.{◌≡◌, ◌+◌, ◌≤◌, ◌<◌, length, All, IsOk, IfOk};
 ghost use Rattle.std.specs.List.Sorted.{IsNonDecreasingBy};
 ghost use Rattle.dma_mem.specs.declared.segment.Segment.{Segment};
 ghost use Rattle.dma_mem.specs.Places.{places, range_of, share};
@@ -86,6 +86,7 @@ impl RangeSet {
         requires within { All (λ s. s.addr + s.len ≤ 4294967295) segments.now }
         ensures same { IfOk result (λ set. SameAddresses set segments.now) }
         ensures coalesced { IfOk result (λ set. IsCoalesced set) }
+        ensures one { length segments.now ≡ 1 → IsOk result }
     {
         if segments.len() == 1 {
             return Ok(RangeSet {

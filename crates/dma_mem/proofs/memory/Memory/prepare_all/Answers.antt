@@ -1,14 +1,14 @@
-use Rattle.std.proofs.Common.{◌+◌, ◌∙◌, ap, arith, refl, length, take, get_or, subst, List}
+use Rattle.std.proofs.Common.{◌≡◌, ◌+◌, true, ◌∙◌, ap, arith, refl, length, take, get_or, subst, List}
 use Rattle.std.proofs.lemmas.List.{take_all}
 use Rattle.std.proofs.lemmas.Bool.{le-ltb}
 use Rattle.dma_mem.specs.declared.segment.Segment.{Segment}
 use Rattle.dma_mem.specs.Pages.{AllMade}
-use Rattle.dma_mem.specs.Places.{places}
-use Rattle.dma_mem.proofs.PrepareAll.{in_places, below_at, made_more, keeps_made, Keeps-trans, Keeps-refl}
+use Rattle.dma_mem.specs.Places.{places, all_below}
+use Rattle.dma_mem.proofs.PrepareAll.{in_places, below_at, below_more, made_more, keeps_made, Keeps-trans, Keeps-refl}
 use Rattle.dma_mem.proofs.memory.Memory.prepare_all.Goals as goal
 
 pub loop-s-init : goal.loop-s-init
-loop-s-init c = record { image = refl; keeps = Keeps-refl c.args.self.now; made = λ a i. absurd (omega (arith, i.1)); others = λ p off. refl }
+loop-s-init c = record { image = refl; keeps = Keeps-refl c.args.self.now; within = refl; made = λ a i. absurd (omega (arith, i.1)); others = λ p off. refl }
 
 pub loop-s-preserved : goal.loop-s-preserved
 loop-s-preserved c =
@@ -19,6 +19,7 @@ loop-s-preserved c =
     record {
       image = c.prepare.ensures.image ∙ inv.image;
       keeps = Keeps-trans c.args.self.now c.loop-s.self c.prepare.new.self inv.keeps c.prepare.ensures.keeps;
+      within = below_more list i d (length c.args.self.now.image) c.loop-s-test.true inv.within (omega (arith, c.in-Ok.ensures.within, ap length inv.image));
       made = made_more c.prepare.new.self list i d c.loop-s-test.true (keeps_made c.loop-s.self c.prepare.new.self (places (take i list)) c.prepare.ensures.keeps inv.made) c.in-Ok.ensures.ok;
       others = λ p off. c.prepare.ensures.others p (λ a here. off a (in_places list i d a c.loop-s-test.true here)) ∙ inv.others p off;
     }
@@ -40,6 +41,9 @@ returns-in-Err-clause-short c = λ below all.
 
 pub returns-clause-ok : goal.returns-clause-ok
 returns-clause-ok c = subst (λ (xs : List Segment). AllMade c.loop-s.self (places xs)) (take_all c.loop-s.s-index c.args.list.now c.loop-s-test.false) c.loop-s.invariant.made
+
+pub returns-clause-within : goal.returns-clause-within
+returns-clause-within c = subst (λ (xs : List Segment). all_below xs (length c.args.self.now.image) ≡ true) (take_all c.loop-s.s-index c.args.list.now c.loop-s-test.false) c.loop-s.invariant.within
 
 pub returns-in-Err-clause-others : goal.returns-in-Err-clause-others
 returns-in-Err-clause-others c = λ p off.
