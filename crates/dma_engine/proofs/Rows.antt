@@ -1,5 +1,5 @@
 -- Worked rows, computed from the definitions.
-use Rattle.std.proofs.Common.{◌≡◌, ℕ, List, [], ◌∷◌, Option, Some, None, true, refl, sym, arith}
+use Rattle.std.proofs.Common.{◌≡◌, ℕ, ◌<◌, ◌≤◌, List, [], ◌∷◌, Option, Some, None, true, refl, sym, arith}
 use Rattle.std.proofs.lemmas.Bool.{eqb-false}
 use Rattle.dma_mem.specs.Places.{Descriptor, lies_below, share}
 use Rattle.dma_mem.specs.Image.{put, after_moves}
@@ -11,7 +11,8 @@ use Rattle.dma_chan.specs.Traffic.{member, stored_after, burst}
 use Rattle.dma_chan.specs.Bursts.{burst_at}
 use Rattle.dma_mem.specs.Marking.{meets_mark}
 use Rattle.dma_engine.specs.declared.entry.Entry.{Entry}
-use Rattle.dma_engine.specs.declared.entry.Entry.TheVariants.{Wrote, ReadBack, Submitted, Issued, Finished, Marked}
+use Rattle.dma_engine.specs.declared.entry.Entry.TheVariants.{Wrote, ReadBack, Submitted, Issued, Signalled, Finished, Marked}
+use Rattle.dma_engine.specs.declared.entry.Signaller.TheVariants.{Host}
 use Rattle.dma_engine.specs.declared.call.Call.{Call}
 use Rattle.dma_engine.specs.declared.call.Call.TheVariants.{Write, Read, Submit, Issue, Pause, Resume, Terminate, Step, Status, Result as ResultOf, Mark, Raise}
 use Rattle.dma_engine.specs.declared.call.Reply.{Reply}
@@ -149,6 +150,22 @@ marks_up_to_the_last_address : replies 16 1 (Mark Reading (record { addr = 42949
     ≡ Done ∷ Refused BadRange ∷ Refused BadRange ∷ []
 unfolding opening
 marks_up_to_the_last_address = refl
+
+-- what a history may have, whatever it had before
+the_last_event : (o : Object) → Allows o (Signalled Host 31)
+the_last_event o = omega arith
+
+no_later_event : (o : Object) → Allows o (Signalled Host 32) → ⊥
+no_later_event o allowed = let event : 32 ≤ 31 = allowed in omega arith
+
+a_mark_to_the_last_address : (o : Object) (kind : MarkKind) → Allows o (Marked kind (record { addr = 4294967295; len = 1 }))
+a_mark_to_the_last_address o kind = (omega arith, omega arith)
+
+no_mark_beyond_it : (o : Object) (kind : MarkKind) → Allows o (Marked kind (record { addr = 4294967295; len = 2 })) → ⊥
+no_mark_beyond_it o kind allowed = let within : 4294967297 ≤ 4294967296 = allowed.1 in omega arith
+
+no_mark_of_nothing : (o : Object) (kind : MarkKind) → Allows o (Marked kind (record { addr = 0; len = 0 })) → ⊥
+no_mark_of_nothing o kind allowed = let some : 0 < 0 = allowed.0 in omega arith
 
 -- of 300 bytes that are copied from address 0 on, one is marked
 abbrev long_copy : ℕ → Object

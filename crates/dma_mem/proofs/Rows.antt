@@ -1,15 +1,19 @@
 -- The limits, as numbers: rows computed from the definitions, and the code's own constants.
-use Rattle.std.proofs.Common.{◌≡◌, ℕ, ◌+◌, ◌*◌, List, [], ◌∷◌, Option, Some, None, true, false, length, map, refl}
-use Rattle.std.specs.List.{range_with_len}
+use Rattle.std.proofs.Common.{◌≡◌, ℕ, ◌+◌, ◌*◌, ◌<◌, ◌≤◌, List, [], ◌∷◌, Option, Some, None, true, false, length, map, refl, sym, ◌∙◌, arith}
+use Rattle.std.specs.List.{Contains, range_with_len}
 use Rattle.dma_mem.specs.declared.segment.Segment.{Segment}
 use Rattle.dma_mem.specs.declared.transfer.TransferFault.TheVariants.{TooManySegments, SegmentWraps, TooLong, BadEvent}
 use Rattle.dma_mem.specs.declared.transfer.TheConstants.{MAX_SEGMENTS, MAX_BYTES, LAST_EVENT}
 use Rattle.dma_mem.specs.declared.memory.TheConstants.{MAX_SIZE}
 use Rattle.dma_mem.specs.declared.pages.TheConstants.{MAX_PAGED_SIZE}
-use Rattle.dma_mem.specs.Places.{Descriptor, share}
+use Rattle.dma_mem.specs.Places.{Descriptor, places, share}
 use Rattle.dma_mem.specs.Flags.{all_clear}
 use Rattle.dma_mem.specs.Image.{is_size}
 use Rattle.dma_mem.specs.Refusals.{refusal_of}
+use Rattle.dma_mem.specs.Rules.{IsTransfer, IsSegmentList}
+use Rattle.dma_mem.proofs.TransferRules.{IsTransfer-from_no_refusal, length-places, meets_any-places, once-places}
+use Rattle.dma_mem.proofs.SharedPlaces.{share-false, share_none}
+use Rattle.std.proofs.lemmas.List.FromFn.{length-range_with_len, get_or-range_with_len}
 
 -- ---- the code's constants
 
@@ -91,3 +95,76 @@ past_the_last_event_waited = refl
 past_the_last_event_signalled : refusal_of (of_bytes 0 1 1 None (Some 32)) ≡ Some BadEvent
 unfolding share
 past_the_last_event_signalled = refl
+
+-- ---- what a transfer is
+
+sixty_four_segments_are_few : IsTransfer (of_segments 64)
+sixty_four_segments_are_few = IsTransfer-from_no_refusal (of_segments 64) sixty_four_segments
+
+no_segment_is_not : IsTransfer (of_segments 0) → ⊥
+no_segment_is_not t = let some : 0 < 0 = t.source_list.some in omega arith
+
+sixty_five_segments_are_not : IsTransfer (of_segments 65) → ⊥
+sixty_five_segments_are_not t = let few : 65 ≤ 64 = t.source_list.few in omega arith
+
+-- two ranges of which the second begins behind the first
+ranges_apart : (from n to m : ℕ) → from + n ≤ to → share (range_with_len from n) (range_with_len to m) ≡ false
+ranges_apart from n to m behind =
+    share_none (range_with_len from n) (range_with_len to m) (λ a (i : Contains (range_with_len from n) a) (j : Contains (range_with_len to m) a).
+    let x = length-range_with_len from n in
+    let y = length-range_with_len to m in
+    let p = get_or-range_with_len from n i.0 a (omega (arith, i.1, x)) in
+    let q = get_or-range_with_len to m j.0 a (omega (arith, j.1, y)) in
+    omega (arith, i.1, j.1, i.2, j.2, x, y, p, q))
+
+-- a list of one range
+one_range : (addr n : ℕ) → 0 < n → addr + n ≤ 4294967296 → IsSegmentList (record { addr = addr; len = n } ∷ [])
+one_range addr n some within = record {
+  some = omega arith;
+  few = omega arith;
+  filled = λ k d l. let first : k ≡ 0 = omega arith in rw first some;
+  within = λ k d l. let first : k ≡ 0 = omega arith in rw first within;
+}
+
+-- a copy from one range to another behind it, of at most so many bytes
+copies_range : (from to n : ℕ) → 0 < n → n ≤ 1048576 → from + n ≤ to → to + n ≤ 4294967296 → IsTransfer (of_bytes from to n None None)
+copies_range from to n some few behind within =
+    let src : List Segment = record { addr = from; len = n } ∷ [] in
+    let dst : List Segment = record { addr = to; len = n } ∷ [] in
+    record {
+      source_list = one_range from n some (omega arith);
+      destination_list = one_range to n some within;
+      same_length = length-places src ∙ sym (length-places dst);
+      short = omega (arith, length-places dst, few);
+      once = once-places dst refl;
+      apart = share-false (places src) (places dst) (sym (meets_any-places src dst) ∙ rw (ranges_apart from n to n behind) refl);
+      wait_event = tt;
+      signal_event = tt;
+    }
+
+copies_at_most : (from to n : ℕ) → IsTransfer (of_bytes from to n None None) → n ≤ 1048576
+copies_at_most from to n t = omega (arith, t.short, length-places (record { addr = to; len = n } ∷ []))
+
+most_bytes_are_few : IsTransfer (of_bytes 0 2097152 1048576 None None)
+most_bytes_are_few = copies_range 0 2097152 1048576 (omega arith) (omega arith) (omega arith) (omega arith)
+
+no_byte_is_not : IsTransfer (of_bytes 0 1 0 None None) → ⊥
+no_byte_is_not t = let some : 0 < 0 = t.source_list.filled 0 (record { addr = 0; len = 0 }) (omega arith) in omega arith
+
+one_byte_more_is_not : IsTransfer (of_bytes 0 2097152 1048577 None None) → ⊥
+one_byte_more_is_not t = let few = copies_at_most 0 2097152 1048577 t in omega (arith, few)
+
+to_the_last_address : IsTransfer (of_bytes 0 4294967295 1 None None)
+to_the_last_address = IsTransfer-from_no_refusal (of_bytes 0 4294967295 1 None None) up_to_the_last_address
+
+beyond_the_last_address : IsTransfer (of_bytes 0 4294967295 2 None None) → ⊥
+beyond_the_last_address t = let within : 4294967297 ≤ 4294967296 = t.destination_list.within 0 (record { addr = 0; len = 0 }) (omega arith) in omega arith
+
+both_last_events : IsTransfer (of_bytes 0 1 1 (Some 31) (Some 31))
+both_last_events = IsTransfer-from_no_refusal (of_bytes 0 1 1 (Some 31) (Some 31)) last_events
+
+no_later_event_waited : IsTransfer (of_bytes 0 1 1 (Some 32) None) → ⊥
+no_later_event_waited t = let event : 32 ≤ 31 = t.wait_event in omega arith
+
+no_later_event_signalled : IsTransfer (of_bytes 0 1 1 None (Some 32)) → ⊥
+no_later_event_signalled t = let event : 32 ≤ 31 = t.signal_event in omega arith

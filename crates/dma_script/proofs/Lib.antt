@@ -1,10 +1,11 @@
--- Lemmas on how a command ends, on lines, their words, and which are skipped, on the causes of faulty lines, on numbers,
--- hexadecimal words and lists of segments; worked scripts.
+-- Lemmas on how a command ends, on lines, their words, and which are skipped, on the causes of faulty lines, on lines that are
+-- carried out in turn, on numbers, hexadecimal words and lists of segments; worked scripts.
 pub mod CauseLemmas
 pub mod Digits
 pub mod EndLemmas
 pub mod FaultLemmas
 pub mod HexLemmas
+pub mod InterpretedLemmas
 pub mod LineLemmas
 pub mod ListLemmas
 pub mod NumberLemmas

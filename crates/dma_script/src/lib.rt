@@ -9,6 +9,9 @@ pub mod command;
 mod fakes;
 pub mod fault;
 pub mod input;
+pub mod interpreter;
+#[cfg(test)]
+mod interpreter_tests;
 pub mod laws;
 pub mod lines;
 pub mod output;

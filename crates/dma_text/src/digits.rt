@@ -1,13 +1,14 @@
 //! Numbers and digits that are written.
-ghost use Rattle.std.specs.Prelude.{◌≡◌, ◌++◌, ◌<◌, OnOk, decimal, true};
+ghost use Rattle.std.specs.Prelude.{◌≡◌, ◌++◌, ◌<◌, OnErr, OnOk, decimal, true};
 ghost use Rattle.std.specs.Fmt.{digit_glyph};
 
 use itoa::Buffer;
 use std::alloc::AllocError;
 
-/// Appends a number in decimal digits. They are made on the stack.
+/// Appends a number in decimal digits, or nothing. They are made on the stack.
 pub fn push_decimal(line: &mut Vec<u8>, number: u64) -> Result<(), AllocError>
-    ensures { OnOk result (line.new.items ≡ line.old.items ++ decimal number) }
+    ensures ok { OnOk result (line.new.items ≡ line.old.items ++ decimal number) }
+    ensures err { OnErr result (line.new.items ≡ line.old.items) }
 {
     line.extend_from_slice(Buffer::new().format(number).as_bytes())
 }

@@ -1,7 +1,7 @@
 -- What the lines of a race script may print.
 use Rattle.std.proofs.Common.{◌≡◌, ◌≢◌, ℕ, ◌+◌, ◌<◌, ◌≤◌, List, [], ◌∷◌, ◌++◌, length, take, drop, get_or, codes, suc, Option, Some, None, Result, Ok, Err, lit<, inl, refl, ap, sym, subst, ◌∙◌, arith, append_assoc}
 use Rattle.std.specs.List.{All}
-use Rattle.std.proofs.Math.Seq.{take-append_seam, take-append-add}
+use Rattle.std.proofs.Math.Seq.{drop-append_seam, take-append_seam, take-append-add}
 use Rattle.std.proofs.lemmas.List.{append-nil, length-append, length-map, map-append, take-append-drop, take-append-le, take_all, take_more, take-map}
 use Rattle.std.proofs.lemmas.List.Elements.{All-drop, All-head, All-tail}
 use Rattle.std.specs.Prelude.{MatchOption}
@@ -27,7 +27,8 @@ use Rattle.dmasim.specs.Printed.{call_line, refused_line, transfer_fault_name}
 use Rattle.dmasim.specs.Run.{Answered, call_answer, lines_answered, submitted, unless_unfit}
 use Rattle.dmasim.specs.Race.{EachPrints, EarlyPrints, RacePrints, alone, go_line, race_may_print, race_prints_of, missing_tally, no_reader, raced_refused, raced_whole, whole}
 use Rattle.dmasim.specs.inner.RaceSteps.{PrintsAll, PrintsCall, PrintsEarly, PrintsFirst, PrintsGo, PrintsMissing, PrintsRefusal, PrintsTotals}
-use Rattle.dmasim.proofs.RunLemmas.{printed_text-append}
+use Rattle.dma_script.specs.Interpreted.{ActsInTurn, PrintsLine, PrintsLines, StopsAtALine}
+use Rattle.dma_script.proofs.InterpretedLemmas.{printed_text-append, text_after}
 use Rattle.dmasim.proofs.Served.{served-one}
 
 -- ---- one line
@@ -104,42 +105,41 @@ each_append (s ∷ xs) ys (line ∷ front) back first others = (first.0, each_ap
 alone-append : (xs ys : List (List ℕ)) → alone (xs ++ ys) ≡ alone xs ++ alone ys
 alone-append xs ys = map-append (λ line. line ∷ []) xs ys
 
--- the text of one line more
-text_after : (old mid new : List ℕ) (groups : List (List (List ℕ))) (lines : List (List ℕ)) → mid ≡ old ++ printed_text groups → new ≡ mid ++ text_of lines → new ≡ old ++ printed_text (groups ++ lines ∷ [])
-text_after old mid new groups lines before more =
-    more ∙ ap (λ o. o ++ text_of lines) before ∙ append_assoc old (printed_text groups) (text_of lines)
-    ∙ ap (λ t. old ++ (printed_text groups ++ t)) (sym (append-nil (text_of lines))) ∙ ap (λ t. old ++ t) (sym (printed_text-append groups (lines ∷ [])))
+-- an interpreter that carries out the lines before `go`
+abbrev pub ActsEarly : {S : Type 0} → S → Statement → List (List ℕ) → S → Type 0
+ActsEarly found statement group left = (line : List ℕ) × (group ≡ line ∷ []) × EarlyPrints statement line
 
--- No line was carried out yet.
-pub all_none : (statements : List Statement) (old : List ℕ) → PrintsAll (take 0 statements) old old
-all_none statements old = record { early = []; each = tt; text = sym (append-nil old) }
+-- one of them
+pub early_line : {S : Type 0} (found left : S) (statement : Statement) (old new : List ℕ) → PrintsEarly statement old new → PrintsLine (ActsEarly found statement) left old new
+early_line found left statement old new one = record { group = one.line ∷ []; acted = (one.line, refl, one.allowed); text = one.text }
 
--- One line more.
-pub all_more : (statements : List Statement) (i : ℕ) (s : Statement) (old mid new : List ℕ) → i < length statements → s ≡ get_or statements i s → PrintsAll (take i statements) old mid → PrintsEarly s mid new → PrintsAll (take (i + 1) statements) old new
-all_more statements i s old mid new within at before one =
-    let more : take (i + 1) statements ≡ take i statements ++ s ∷ [] = take_more statements i s within ∙ ap (λ x. take i statements ++ x ∷ []) (sym at) in
-    record {
-      early = before.early ++ one.line ∷ [];
-      each = subst (λ xs. EachPrints xs (before.early ++ one.line ∷ [])) (sym more) (each_append (take i statements) (s ∷ []) before.early (one.line ∷ []) before.each (one.allowed, tt));
-      text = text_after old mid new (alone before.early) (one.line ∷ []) before.text one.text ∙ ap (λ g. old ++ printed_text g) (sym (alone-append before.early (one.line ∷ [])));
-    }
+-- what lines before `go` print that are carried out in turn
+early-in_turn : {S : Type 0} (statements : List Statement) (found left : S) (groups : List (List (List ℕ))) → ActsInTurn ActsEarly statements found groups left → (early : List (List ℕ)) × EachPrints statements early × (groups ≡ alone early)
+early-in_turn [] found left [] done = ([], tt, refl)
+early-in_turn [] found left (g ∷ groups) done = absurd done
+early-in_turn (s ∷ statements) found left [] done = absurd done
+early-in_turn (s ∷ statements) found left (g ∷ groups) (next, (line, is, prints), rest) =
+    let others = early-in_turn statements next left groups rest in
+    (line ∷ others.0, (prints, others.1), ap (λ group. group ∷ groups) is ∙ ap (λ l. (line ∷ []) ∷ l) others.2)
 
 -- All lines were carried out.
-pub all_whole : (statements : List Statement) (i : ℕ) (old new : List ℕ) → length statements ≤ i → PrintsAll (take i statements) old new → PrintsAll statements old new
-all_whole statements i old new past all = subst (λ xs. PrintsAll xs old new) (take_all i statements past) all
+pub all_early : {S : Type 0} (found left : S) (statements : List Statement) (old new : List ℕ) → PrintsLines ActsEarly found statements left old new → PrintsAll statements old new
+all_early found left statements old new done =
+    let lines = early-in_turn statements found left done.groups done.acted in
+    record { early = lines.0; each = lines.1; text = done.text ∙ ap (λ g. old ++ printed_text g) lines.2 }
 
--- The line at a place may stand before `go`, where each of them may.
-pub early_at : (statements : List Statement) (i : ℕ) (s : Statement) → i < length statements → s ≡ get_or statements i s → All IsEarly statements → IsEarly s
-early_at statements i s within at early = subst IsEarly (sym at) (early i s within)
-
--- Some were, and the others may print something.
-pub all_first : (statements : List Statement) (i : ℕ) (old new : List ℕ) → All IsEarly statements → PrintsAll (take i statements) old new → PrintsFirst statements old new
-all_first statements i old new early all =
-    let others = each_some (drop i statements) (All-drop IsEarly i statements early) in
+-- A line was refused memory: those before it printed what they may, and the others may print something.
+pub first_early : {S : Type 0} (is_refused : S → Statement → S → Type 0) (found left : S) (statements : List Statement) (old new : List ℕ) → All IsEarly statements → StopsAtALine ActsEarly is_refused found statements left old new → PrintsFirst statements old new
+first_early is_refused found left statements old new early stop =
+    let behind = stop.line ∷ stop.behind in
+    let split = stop.before ++ behind in
+    let all = all_early found stop.between stop.before old new stop.printed in
+    let those : All IsEarly (drop (length stop.before) split) = All-drop IsEarly (length stop.before) split (subst (All IsEarly) stop.split early) in
+    let others = each_some behind (subst (All IsEarly) (drop-append_seam stop.before behind) those) in
     let front : take (length all.early) (all.early ++ others.0) ≡ all.early = take-append_seam all.early others.0 in
     record {
       early = all.early ++ others.0;
-      each = subst (λ xs. EachPrints xs (all.early ++ others.0)) (take-append-drop i statements) (each_append (take i statements) (drop i statements) all.early others.0 all.each others.1);
+      each = subst (λ xs. EachPrints xs (all.early ++ others.0)) (sym stop.split) (each_append stop.before behind all.early others.0 all.each others.1);
       count = length all.early;
       within = omega (arith, length-append all.early others.0);
       text = all.text ∙ ap (λ e. old ++ printed_text (alone e)) (sym front);
@@ -153,10 +153,6 @@ all_then_none statements old new all = record {
   within = omega arith;
   text = all.text ∙ ap (λ e. old ++ printed_text (alone e)) (sym (take_all (length all.early) all.early (omega arith)));
 }
-
--- Memory was refused before the first of them.
-pub none_first : (statements : List Statement) (old : List ℕ) → All IsEarly statements → PrintsFirst statements old old
-none_first statements old early = all_first statements 0 old old early (all_none statements old)
 
 -- ---- `go`
 

@@ -16,6 +16,7 @@ use Rattle.std.specs.Option.{option_map}
 use Rattle.dma_engine.specs.Object.{Object}
 use Rattle.dma_engine.specs.View.{View, ChannelSchedule, running, runs}
 use Rattle.dma_script.specs.Command.{text_of, printed_text, AppendsGroups}
+use Rattle.dma_script.specs.Interpreted.{ActsInTurn, PrintsLines, StopsAtALine}
 use Rattle.dma_script.specs.declared.statements.Statement.{Statement}
 use Rattle.dmasim.specs.Printed.{transfer_fault_name, refused_line}
 use Rattle.dmasim.specs.Run.{Answered, copied, copied_after, is_in_use, told, unless_unfit, line_answer, lines_answered}
@@ -89,27 +90,40 @@ pub length-lines_answered : (v : View) (lines : List Statement) → length (line
 length-lines_answered v [] = refl
 length-lines_answered v (line ∷ rest) = ap (λ n. suc n) (length-lines_answered (line_answer v line).1 rest)
 
--- the line after the first i, where what the others print is known from what all print
-pub answered-more : (v first : View) (lines : List Statement) (i : ℕ) (d : Statement) → i < length lines → lines_answered v (drop i lines) ≡ drop i (lines_answered first lines) → (let a = line_answer v (get_or lines i d) in (lines_answered a.1 (drop (i + 1) lines) ≡ drop (i + 1) (lines_answered first lines)) × (take (i + 1) (lines_answered first lines) ≡ take i (lines_answered first lines) ++ a.0 ∷ []))
-answered-more v first lines i d less here =
-    let a = line_answer v (get_or lines i d) in
-    let all = lines_answered first lines in
-    let rest = lines_answered a.1 (drop (i + 1) lines) in
-    let split : drop i lines ≡ get_or lines i d ∷ drop (i + 1) lines = rw add-one (drop-cons lines i d less) in
-    let next : a.0 ∷ rest ≡ drop i all = ap (lines_answered v) (sym split) ∙ here in (
-      ap (drop 1) next ∙ drop-drop 1 i all,
-      take-add i 1 all ∙ ap (λ l. take i all ++ take 1 l) (sym next),
-    )
+-- an interpreter of which so much is seen carries a line out as `run` does
+abbrev pub AnswersSeen : {S : Type 0} → (S → View) → S → Statement → List (List ℕ) → S → Type 0
+AnswersSeen seen found line group left = line_answer (seen found) line ≡ (group, seen left)
 
-pub printed_text-append : (xs ys : List (List (List ℕ))) → printed_text (xs ++ ys) ≡ printed_text xs ++ printed_text ys
-printed_text-append xs ys = flat_map-append text_of xs ys
+-- what lines print that are carried out in turn
+answered-in_turn : {S : Type 0} (seen : S → View) (lines : List Statement) (found left : S) (groups : List (List (List ℕ))) → ActsInTurn (AnswersSeen seen) lines found groups left → groups ≡ lines_answered (seen found) lines
+answered-in_turn seen [] found left [] done = refl
+answered-in_turn seen [] found left (g ∷ groups) done = absurd done
+answered-in_turn seen (line ∷ lines) found left [] done = absurd done
+answered-in_turn seen (line ∷ lines) found left (g ∷ groups) (next, acts, rest) =
+    let more = answered-in_turn seen lines next left groups rest in
+    let a = line_answer (seen found) line in
+    ap (λ (b : Answered). b.0 ∷ groups) (sym acts) ∙ ap (λ l. a.0 ∷ l) (more ∙ ap (λ (b : Answered). lines_answered b.1 lines) (sym acts))
 
--- the text after one line more
-pub text-more : (out out' out'' : List ℕ) (all : List (List (List ℕ))) (lines : List (List ℕ)) (i : ℕ) → out' ≡ out ++ printed_text (take i all) → out'' ≡ out' ++ text_of lines → take (i + 1) all ≡ take i all ++ lines ∷ [] → out'' ≡ out ++ printed_text (take (i + 1) all)
-text-more out out' out'' all lines i before line more =
-    line ∙ ap (λ o. o ++ text_of lines) before ∙ append_assoc out (printed_text (take i all)) (text_of lines)
-    ∙ ap (λ t. out ++ (printed_text (take i all) ++ t)) (sym (append-nil (text_of lines)))
-    ∙ ap (λ t. out ++ t) (sym (printed_text-append (take i all) (lines ∷ [])) ∙ ap printed_text (sym more))
+-- the first of some lines print what they print alone
+answered-first : (v : View) (before behind : List Statement) → take (length before) (lines_answered v (before ++ behind)) ≡ lines_answered v before
+answered-first v [] behind = refl
+answered-first v (line ∷ before) behind = ap (λ l. (line_answer v line).0 ∷ l) (answered-first (line_answer v line).1 before behind)
+
+-- all lines were carried out
+pub answered-all : {S : Type 0} (seen : S → View) (found left : S) (lines : List Statement) (old new : List ℕ) → PrintsLines (AnswersSeen seen) found lines left old new → new ≡ old ++ printed_text (lines_answered (seen found) lines)
+answered-all seen found left lines old new done = done.text ∙ ap (λ g. old ++ printed_text g) (answered-in_turn seen lines found left done.groups done.acted)
+
+-- a line was refused memory
+pub answered-some : {S : Type 0} (seen : S → View) (is_refused : S → Statement → S → Type 0) (found left : S) (lines : List Statement) (old new : List ℕ) → StopsAtALine (AnswersSeen seen) is_refused found lines left old new → AppendsGroups (lines_answered (seen found) lines) old new
+answered-some seen is_refused found left lines old new stop =
+    let v = seen found in
+    let first : take (length stop.before) (lines_answered v lines) ≡ lines_answered v stop.before =
+    ap (λ l. take (length stop.before) (lines_answered v l)) stop.split ∙ answered-first v stop.before (stop.line ∷ stop.behind) in
+    record {
+      count = length stop.before;
+      some_left = omega (arith, length-lines_answered v lines, ap length stop.split, length-append stop.before (stop.line ∷ stop.behind));
+      whole = answered-all seen found stop.between stop.before old new stop.printed ∙ ap (λ g. old ++ printed_text g) (sym first);
+    }
 
 -- what the memory line prints comes before what the others print
 pub AppendsGroups-memory : (groups : List (List (List ℕ))) (old new : List ℕ) → AppendsGroups groups old new → AppendsGroups ([] ∷ groups) old new

@@ -29,6 +29,7 @@ fn transfer_fault_name(fault: TransferFault) -> &'static str
 /// The name of the rule that a transfer breaks. Where memory was refused there is none, and the error comes.
 pub fn rule_name(fault: TransferFault) -> Result<&'static str, AllocError>
     ensures ok { IfOk result (λ name. (fault ≢ TransferFault.NoMemory) × (name.now ≡ transfer_fault_name fault)) }
+    ensures err { OnErr result (fault ≡ TransferFault.NoMemory) }
 {
     match fault {
         TransferFault::NoMemory => Err(AllocError),

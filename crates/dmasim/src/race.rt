@@ -13,7 +13,7 @@ ghost use Rattle.dmasim.specs.Race.{RacePrints, go_line, race_may_print};
 mod early;
 
 use crate::printing::{push_refused, push_worded};
-use crate::race::early::run_early_statement;
+use crate::race::early::run_early_statements;
 use crate::run::run_statements;
 use dma_engine::{Engine, NewFault, NoMemory};
 use dma_script::command::{FAULT, OpenCommand, SUCCESS, serve_open};
@@ -65,7 +65,7 @@ fn until_go<N: DeskName + Send + Sync, R: Threads + Wait + Sync>(
     rt: &R,
     alloc: Global,
     shared: &Shared<N>,
-    mut reader: StatusReader,
+    reader: StatusReader,
     lines: Statements,
     jobs: &[Job],
     out: &mut Vec<u8>,
@@ -76,10 +76,7 @@ fn until_go<N: DeskName + Send + Sync, R: Threads + Wait + Sync>(
     ensures ok { OnOk result (PrintsAll lines out.old.items out.new.items) }
     ensures err { OnErr result (PrintsFirst lines out.old.items out.new.items) }
 {
-    let mut text = Vec::new(alloc);
-    for line in lines.into_vec() {
-        run_early_statement(rt, shared, &mut reader, line, &mut text, out)?;
-    }
+    run_early_statements(rt, alloc, shared, reader, lines, out)?;
     match run_workers(rt, alloc, shared, jobs, &NoGate) {
         Ok(tallies) => Ok(tallies),
         Err(NoMemory) => Err(AllocError),

@@ -16,6 +16,7 @@ use dma_mem::segment::Segment;
 use dma_script::command::{Command, FAULT, SUCCESS, serve};
 use dma_script::fault::ScriptError;
 use dma_script::input::Source;
+use dma_script::interpreter::{Interpreter, interpret_lines};
 use dma_script::output::Sink;
 use dma_script::printing::push_fault;
 use dma_script::statements::{Statement, Statements, read_run_script};
@@ -56,6 +57,23 @@ fn run_statement(
     answer_call(engine, &call, line, out)
 }
 
+/// Carries out lines on an engine.
+#[derive(Drop)]
+struct LinesOnEngine<'a> {
+    engine: &'a mut Engine,
+    told: StepLines,
+}
+
+impl Interpreter for LinesOnEngine<'_> {
+    type Line = Statement;
+
+    ghost acts = { λ found line group left. line_answer found.engine.now.view line ≡ (group, left.engine.now.view) };
+
+    fn interpret(&mut self, line: Statement, out: &mut Vec<u8>) -> Result<(), AllocError> {
+        run_statement(self.engine, line, &mut self.told, out)
+    }
+}
+
 /// Carries out the lines of a script, each of which is done with then. Where memory is refused, what the lines before
 /// printed stands there.
 pub fn run_statements(
@@ -67,11 +85,9 @@ pub fn run_statements(
     ensures ok { OnOk result (out.new.items ≡ out.old.items ++ printed_text (lines_answered engine.old.view statements)) }
     ensures err { OnErr result (AppendsGroups (lines_answered engine.old.view statements) out.old.items out.new.items) }
 {
-    let mut told = StepLines::new(alloc);
-    for statement in statements.into_vec() {
-        run_statement(engine, statement, &mut told, out)?;
-    }
-    Ok(())
+    let told = StepLines::new(alloc);
+    let mut lines = LinesOnEngine { engine, told };
+    interpret_lines(&mut lines, statements.into_vec(), out)
 }
 
 /// The command `run`.

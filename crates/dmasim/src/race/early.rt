@@ -1,11 +1,12 @@
 //! The lines of a race script before `go`: each takes the desk's lock once for its one call, and prints after that; a status
 //! asks the reader.
 ghost use Rattle.std.specs.Prelude.{◌≡◌, ◌≢◌, ◌++◌, ◌∷◌, [], OnOk, OnErr};
+ghost use Rattle.std.specs.List.{All};
 ghost use Rattle.dma_engine.specs.Answer.{reply_of};
 ghost use Rattle.dma_script.specs.Command.{text_of};
 ghost use Rattle.dma_script.specs.Race.{IsEarly};
 ghost use Rattle.dmasim.specs.Printed.{call_line};
-ghost use Rattle.dmasim.specs.inner.RaceSteps.{PrintsCall, PrintsEarly};
+ghost use Rattle.dmasim.specs.inner.RaceSteps.{PrintsAll, PrintsCall, PrintsEarly, PrintsFirst};
 
 use crate::printing::{push_cookie, push_refused_call, push_told};
 use crate::run::calls::{push_unfit, transfer_of};
@@ -13,11 +14,12 @@ use dma_engine::{Call, EngineFault, Reply};
 use dma_mem::lists::Bytes;
 use dma_mem::segment::Segment;
 use dma_mem::transfer::Transfer;
+use dma_script::interpreter::{Interpreter, interpret_lines};
 use dma_script::plan::TransferLine;
 use dma_script::printing::push_line;
-use dma_script::statements::Statement;
+use dma_script::statements::{Statement, Statements};
 use dma_work::{DeskName, Shared, StatusReader};
-use std::alloc::AllocError;
+use std::alloc::{AllocError, Global};
 use std::sync::{MutexGuard, Wait};
 
 /// The reply of a call that answers bytes.
@@ -236,7 +238,7 @@ fn status_early(
 }
 
 /// Carries out a line before `go`, which is done with then, and appends what it prints or nothing.
-pub fn run_early_statement<N: DeskName, R: Wait>(
+fn run_early_statement<N: DeskName, R: Wait>(
     rt: &R,
     shared: &Shared<N>,
     reader: &mut StatusReader,
@@ -271,4 +273,62 @@ pub fn run_early_statement<N: DeskName, R: Wait>(
         | Statement::Raise { .. }
         | Statement::Totals => unreachable!(),
     }
+}
+
+/// Carries out lines before `go` on a desk, and tells its reader of them.
+#[derive(Drop)]
+struct LinesOnDesk<'a, N: DeskName, R: Wait> {
+    rt: &'a R,
+    shared: &'a Shared<N>,
+    reader: StatusReader,
+    text: Vec<u8>,
+}
+
+impl<N: DeskName, R: Wait> Interpreter for LinesOnDesk<'_, N, R> {
+    ghost use Rattle.std.specs.Prelude.{List, ℕ};
+    ghost use Rattle.dmasim.specs.Race.{EarlyPrints};
+
+    type Line = Statement;
+
+    ghost takes = { IsEarly };
+
+    ghost is_ready = { λ lines. (N.log ≡ lines.reader.log) × (N.base ≡ lines.reader.base) };
+
+    ghost acts = { λ _ statement group _. (line : List ℕ) × (group ≡ line ∷ []) × EarlyPrints statement line };
+
+    fn interpret(&mut self, line: Statement, out: &mut Vec<u8>) -> Result<(), AllocError> {
+        run_early_statement(
+            self.rt,
+            self.shared,
+            &mut self.reader,
+            line,
+            &mut self.text,
+            out,
+        )
+    }
+}
+
+/// Carries out the lines before `go`, each of which is done with then. Where memory is refused, what the lines before printed
+/// stands there.
+pub fn run_early_statements<N: DeskName, R: Wait>(
+    rt: &R,
+    alloc: Global,
+    shared: &Shared<N>,
+    reader: StatusReader,
+    lines: Statements,
+    out: &mut Vec<u8>,
+) -> Result<(), AllocError>
+    requires follows { (N.log ≡ reader.log) × (N.base ≡ reader.base) }
+    requires early { All IsEarly lines }
+    ensures ok { OnOk result (PrintsAll lines out.old.items out.new.items) }
+    ensures err { OnErr result (PrintsFirst lines out.old.items out.new.items) }
+{
+    let text = Vec::new(alloc);
+    let mut desk = LinesOnDesk {
+        rt,
+        shared,
+        reader,
+        text,
+    };
+    interpret_lines(&mut desk, lines.into_vec(), out)
 }
