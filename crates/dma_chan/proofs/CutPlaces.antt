@@ -2,6 +2,9 @@
 use Rattle.std.proofs.Common.{◌≡◌, ℕ, zero, suc, ◌+◌, ◌-◌, ◌^◌, ◌≤◌, ◌<◌, Bool, true, false, cond, ltb, List, [], ◌∷◌, ◌++◌, length, refl, sym, ap, ◌∙◌, arith, append_assoc, append-nil, length-append}
 use Rattle.std.specs.List.{AllByRecursion, range_with_len}
 use Rattle.std.proofs.lemmas.Bool.{ltb-true, ltb-false}
+use Rattle.std.specs.Prelude.{replicate}
+use Rattle.std.proofs.lemmas.List.{length-replicate, replicate-append-replicate}
+use Rattle.std.proofs.lemmas.List.FromFn.{length-range_with_len}
 use Rattle.dma_mem.specs.declared.segment.Segment.{Segment}
 use Rattle.dma_mem.specs.Places.{places}
 use Rattle.dma_chan.specs.declared.pieces.Piece.{Piece}
@@ -15,10 +18,36 @@ range-add a (suc m) n =
     let f : a + 1 + m ≡ a + suc m = omega arith in
     ap (range_with_len a) e ∙ ap (λ (xs : List ℕ). a ∷ xs) (range-add (a + 1) m n ∙ ap (λ (k : ℕ). range_with_len (a + 1) m ++ range_with_len k n) f)
 
+-- how far a source address moves over n bytes, and the addresses that n bytes are read from: one after the other, and of a
+-- fill the first again
+abbrev pub way : Bool → ℕ → ℕ
+way false n = n
+way true n = 0
+
+abbrev pub run_of : Bool → ℕ → ℕ → List ℕ
+run_of false a n = range_with_len a n
+run_of true a n = replicate n a
+
+pub way-zero : (fill : Bool) → way fill 0 ≡ 0
+way-zero false = refl
+way-zero true = refl
+
+pub way-add : (fill : Bool) (m n : ℕ) → way fill (m + n) ≡ way fill m + way fill n
+way-add false m n = refl
+way-add true m n = refl
+
+pub length-run : (fill : Bool) (a n : ℕ) → length (run_of fill a n) ≡ n
+length-run false a n = length-range_with_len a n
+length-run true a n = length-replicate n a
+
+pub run-add : (fill : Bool) (a m n : ℕ) → run_of fill a (m + n) ≡ run_of fill a m ++ run_of fill (a + way fill m) n
+run-add false a m n = range-add a m n
+run-add true a m n = let e : a + 0 ≡ a = omega arith in rw e (sym (replicate-append-replicate m n a))
+
 -- the addresses that pieces read, and those that they write
 abbrev pub read_by : List Piece → List ℕ
 read_by [] = []
-read_by (p ∷ ps) = range_with_len p.src p.len ++ read_by ps
+read_by (p ∷ ps) = run_of p.fill p.src p.len ++ read_by ps
 
 abbrev pub written_by : List Piece → List ℕ
 written_by [] = []
@@ -27,13 +56,13 @@ written_by (p ∷ ps) = range_with_len p.dst p.len ++ written_by ps
 pub record IsPiece (p : Piece) : Type 0 where
   pub some : 0 < p.len
   pub below : p.len ≤ 2 ^ 20
-  pub src : p.src + p.len ≤ 2 ^ 32
+  pub src : p.src < 2 ^ 32
   pub dst : p.dst + p.len ≤ 2 ^ 32
 
 read_by-append : (a b : List Piece) → read_by (a ++ b) ≡ read_by a ++ read_by b
 read_by-append [] b = refl
 read_by-append (p ∷ a) b =
-    ap (λ (xs : List ℕ). range_with_len p.src p.len ++ xs) (read_by-append a b) ∙ sym (append_assoc (range_with_len p.src p.len) (read_by a) (read_by b))
+    ap (λ (xs : List ℕ). run_of p.fill p.src p.len ++ xs) (read_by-append a b) ∙ sym (append_assoc (run_of p.fill p.src p.len) (read_by a) (read_by b))
 
 written_by-append : (a b : List Piece) → written_by (a ++ b) ≡ written_by a ++ written_by b
 written_by-append [] b = refl
@@ -68,7 +97,7 @@ cut_right a n (d ∷ ds) some below fits enough all =
       sources = append-nil (range_with_len a n);
       destinations = ap (λ (xs : List ℕ). xs ++ (range_with_len (d.addr + n) (d.len - n) ++ places ds)) (append-nil (range_with_len d.addr n)) ∙ sym (append_assoc _ _ (places ds)) ∙ ap (λ (xs : List ℕ). xs ++ places ds) (sym split);
       totals = omega arith;
-      fit = (record { some = some; below = below; src = fits; dst = omega (arith, all.0.1) }, tt);
+      fit = (record { some = some; below = below; src = omega arith; dst = omega (arith, all.0.1) }, tt);
       rest = ((omega arith, omega (arith, all.0.1)), all.1);
       few = omega arith;
       last = λ z. absurd (omega arith);
@@ -92,7 +121,7 @@ cut_right a n (d ∷ ds) some below fits enough all =
       sources = append-nil (range_with_len a n);
       destinations = ap (λ (xs : List ℕ). xs ++ places ds) (append-nil (range_with_len d.addr n) ∙ ap (range_with_len d.addr) same);
       totals = omega arith;
-      fit = (record { some = some; below = below; src = fits; dst = omega (arith, all.0.1) }, tt);
+      fit = (record { some = some; below = below; src = omega arith; dst = omega (arith, all.0.1) }, tt);
       rest = all.1;
       few = omega arith;
       last = λ z. omega arith;

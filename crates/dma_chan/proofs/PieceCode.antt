@@ -1,17 +1,18 @@
 -- The code of pieces, one after the other: its bytes and its cost.
-use Rattle.std.proofs.Common.{◌≡◌, ℕ, zero, suc, ◌+◌, ◌*◌, ◌/◌, ◌%◌, ◌^◌, ◌<◌, ◌≤◌, List, [], ◌∷◌, ◌++◌, length, refl, sym, ap, ◌∙◌, arith, drop, get_or, map, drop-cons, add-one, append_assoc, length-append, Option, Some, None}
-use Rattle.std.specs.List.{AllByRecursion, All, range_with_len}
+use Rattle.std.proofs.Common.{◌≡◌, ℕ, zero, suc, ◌+◌, ◌*◌, ◌/◌, ◌%◌, ◌^◌, ◌<◌, ◌≤◌, List, [], ◌∷◌, ◌++◌, length, refl, sym, ap, ◌∙◌, arith, drop, get_or, map, drop-cons, add-one, append_assoc, length-append, Option, Some, None, Bool, true, false, subst}
+use Rattle.std.specs.Prelude.{replicate, if◌then◌else◌}
+use Rattle.std.specs.List.{AllByRecursion, All, range_with_len, flat_map}
 use Rattle.std.proofs.lemmas.List.Elements.{All-from_recursion, All-head, All-tail}
 use Rattle.std.proofs.lemmas.List.{drop_all}
 use Rattle.std.proofs.lemmas.List.FromFn.{length-range_with_len}
 use Rattle.dma_mem.specs.declared.segment.Segment.{Segment}
-use Rattle.dma_mem.specs.Places.{Descriptor, places}
+use Rattle.dma_mem.specs.Places.{Descriptor, places, sources, destinations}
 use Rattle.dma_mem.specs.Rules.{IsTransfer, IsSegmentList}
 use Rattle.dma_chan.specs.declared.pieces.Piece.{Piece}
-use Rattle.dma_chan.specs.Compiled.{pieces, pieces_of, piece_tree, beat_of, parts, where_some, under, control_word, bursts, body, wait_tree, signal_tree, tree_of}
+use Rattle.dma_chan.specs.Compiled.{pieces, fill_piece, fill_pieces, pieces_of, piece_tree, beat_of, parts, where_some, under, control_word, bursts, body, wait_tree, signal_tree, tree_of}
 use Rattle.dma_chan.specs.inner.Compiling.{byte_count, IsRange, cost_of}
 use Rattle.dma_chan.specs.Tree.{Tree, bytes_of, unrolled, in_order}
-use Rattle.dma_chan.proofs.CutPlaces.{IsPiece, Pieces, pieces_right}
+use Rattle.dma_chan.proofs.CutPlaces.{IsPiece, pieces_right, read_by, written_by}
 
 -- what is left to spell, after one more piece
 pub rest_more : (ps : List Piece) (i : ℕ) (d : Piece) (old now new : List ℕ) → i < length ps → new ≡ now ++ bytes_of (piece_tree (get_or ps i d)) → now ++ bytes_of (in_order (map piece_tree (drop i ps))) ≡ old → new ++ bytes_of (in_order (map piece_tree (drop (i + 1) ps))) ≡ old
@@ -49,25 +50,66 @@ pub byte_count-places : (list : List Segment) → length (places list) ≡ byte_
 byte_count-places [] = refl
 byte_count-places (s ∷ ss) = length-append (range_with_len s.addr s.len) (places ss) ∙ omega (arith, length-range_with_len s.addr s.len, byte_count-places ss)
 
-pub same_count : (t : Descriptor) → IsTransfer t → byte_count t.src ≡ byte_count t.dst
-same_count t h = sym (byte_count-places t.src) ∙ h.same_length ∙ byte_count-places t.dst
+same_count_by : (fill : Bool) (src dst : List Segment) → fill ≡ false → length (if fill then flat_map (λ (d : ℕ). places src) (places dst) else places src) ≡ length (places dst) → byte_count src ≡ byte_count dst
+same_count_by false src dst e h = sym (byte_count-places src) ∙ h ∙ byte_count-places dst
+same_count_by true src dst e h = absurd (cc)
 
-pub cut_well : (t : Descriptor) → IsTransfer t → Pieces t.src t.dst (pieces t.src t.dst)
+pub same_count : (t : Descriptor) → IsTransfer t → t.fill ≡ false → byte_count t.src ≡ byte_count t.dst
+same_count t h e = same_count_by t.fill t.src t.dst e h.same_length
+
+-- what holds of a transfer's pieces
+pub record IsCut (src dst : List ℕ) (ps : List Piece) : Type 0 where
+  pub sources : read_by ps ≡ src
+  pub destinations : written_by ps ≡ dst
+  pub fit : AllByRecursion IsPiece ps
+  pub few : length ps ≤ 127
+
+-- one place again, for each place of a list
+again_places : (a : ℕ) (s n : ℕ) (rest : List ℕ) → flat_map (λ (d : ℕ). a ∷ []) (range_with_len s n ++ rest) ≡ replicate n a ++ flat_map (λ (d : ℕ). a ∷ []) rest
+again_places a s zero rest = refl
+again_places a s (suc n) rest = ap (λ (xs : List ℕ). a ∷ xs) (again_places a (s + 1) n rest)
+
+fill_reads : (a : ℕ) (ds : List Segment) → read_by (map (fill_piece a) ds) ≡ flat_map (λ (d : ℕ). a ∷ []) (places ds)
+fill_reads a [] = refl
+fill_reads a (d ∷ ds) = ap (λ (xs : List ℕ). replicate d.len a ++ xs) (fill_reads a ds) ∙ sym (again_places a d.addr d.len (places ds))
+
+fill_writes : (a : ℕ) (ds : List Segment) → written_by (map (fill_piece a) ds) ≡ places ds
+fill_writes a [] = refl
+fill_writes a (d ∷ ds) = ap (λ (xs : List ℕ). range_with_len d.addr d.len ++ xs) (fill_writes a ds)
+
+length-fill : (a : ℕ) (ds : List Segment) → length (map (fill_piece a) ds) ≡ length ds
+length-fill a [] = refl
+length-fill a (d ∷ ds) = ap suc (length-fill a ds)
+
+fill_fits : (a : ℕ) (ds : List Segment) → a < 2 ^ 32 → byte_count ds ≤ 2 ^ 20 → AllByRecursion IsRange ds → AllByRecursion IsPiece (map (fill_piece a) ds)
+fill_fits a [] low few all = tt
+fill_fits a (d ∷ ds) low few all = (record { some = all.0.0; below = omega arith; src = low; dst = all.0.1 }, fill_fits a ds low (omega arith) all.1)
+
+cut_by : (fill : Bool) (src dst : List Segment) → (fill ≡ true → (a : ℕ) × (src ≡ record { addr = a; len = 1 } ∷ [])) → IsSegmentList src → IsSegmentList dst → (fill ≡ false → byte_count src ≡ byte_count dst) → byte_count dst ≤ 2 ^ 20 → IsCut (if fill then flat_map (λ (d : ℕ). places src) (places dst) else places src) (places dst) (if fill then fill_pieces src dst else pieces src dst)
+cut_by false src dst one ss ds same low =
+    let all = pieces_right src dst (are_ranges src ss) (are_ranges dst ds) (same refl) (omega (arith, same refl)) in
+    record { sources = all.sources; destinations = all.destinations; fit = all.fit; few = omega (arith, ss.few, ds.few, all.fewer ss.some) }
+cut_by true src dst one ss ds same low =
+    let w = one refl in
+    let a = w.0 in
+    let range : AllByRecursion IsRange (record { addr = a; len = 1 } ∷ []) = subst (λ (list : List Segment). AllByRecursion IsRange list) w.1 (are_ranges src ss) in
+    rw w.1 (record { sources = fill_reads a dst; destinations = fill_writes a dst; fit = fill_fits a dst (omega (arith, range.0.1)) low (are_ranges dst ds); few = omega (arith, ds.few, length-fill a dst) })
+
+pub cut_well : (t : Descriptor) → IsTransfer t → IsCut (sources t) (destinations t) (pieces_of t)
 cut_well t h =
-    let low : byte_count t.src ≤ 2 ^ 20 = omega (arith, h.short, byte_count-places t.dst, same_count t h) in
-    pieces_right t.src t.dst (are_ranges t.src h.source_list) (are_ranges t.dst h.destination_list) (same_count t h) low
+    cut_by t.fill t.src t.dst h.one_byte h.source_list h.destination_list (same_count t h) (omega (arith, h.short, byte_count-places t.dst))
 
 all_small : (ps : List Piece) → AllByRecursion IsPiece ps → AllByRecursion (λ p. p.len ≤ 2 ^ 20) ps
 all_small [] h = tt
 all_small (p ∷ ps) h = (h.0.below, all_small ps h.1)
 
 -- no piece is longer than a transfer
-pub pieces_small : (t : Descriptor) → IsTransfer t → All (λ p. p.len ≤ 2 ^ 20) (pieces t.src t.dst)
-pieces_small t h = All-from_recursion (λ (p : Piece). p.len ≤ 2 ^ 20) (pieces t.src t.dst) (all_small (pieces t.src t.dst) (cut_well t h).fit)
+pub pieces_small : (t : Descriptor) → IsTransfer t → All (λ p. p.len ≤ 2 ^ 20) (pieces_of t)
+pieces_small t h = All-from_recursion (λ (p : Piece). p.len ≤ 2 ^ 20) (pieces_of t) (all_small (pieces_of t) (cut_well t h).fit)
 
--- two lists of at most 64 segments have at most 127 pieces
-pub pieces_few : (t : Descriptor) → IsTransfer t → length (pieces t.src t.dst) ≤ 127
-pieces_few t h = let fewer = (cut_well t h).fewer h.source_list.some in omega (arith, h.source_list.few, h.destination_list.few, fewer)
+-- two lists of at most 64 segments have at most 127 pieces, and a fill one for each destination
+pub pieces_few : (t : Descriptor) → IsTransfer t → length (pieces_of t) ≤ 127
+pieces_few t h = (cut_well t h).few
 
 -- ---- how long the code is
 
@@ -90,16 +132,16 @@ bursts_bytes q = two_bytes _ _ 12 8 (some_bytes (q / 256) 12 _ (omega arith)) (s
 under_bytes : (w k : ℕ) (t : Tree) → length (bytes_of t) ≤ k → length (bytes_of (under w t)) ≤ 6 + k
 under_bytes w k t h = omega arith
 
-parts_bytes : (b n : ℕ) → length (bytes_of (parts b n)) ≤ 46
+parts_bytes : (fill : Bool) (b n : ℕ) → length (bytes_of (parts fill b n)) ≤ 46
 unfolding parts
-parts_bytes b n =
+parts_bytes fill b n =
     three_bytes _ _ _ 26 10 10
-    (some_bytes (n / (16 * b)) 26 (under (control_word b 16) (bursts (n / (16 * b)))) (under_bytes (control_word b 16) 20 (bursts (n / (16 * b))) (bursts_bytes (n / (16 * b)))))
-    (some_bytes (n % (16 * b) / b) 10 (under (control_word b (n % (16 * b) / b)) body) (omega arith))
-    (some_bytes (n % (16 * b) % b) 10 (under (control_word 1 (n % (16 * b) % b)) body) (omega arith))
+    (some_bytes (n / (16 * b)) 26 (under (control_word fill b 16) (bursts (n / (16 * b)))) (under_bytes (control_word fill b 16) 20 (bursts (n / (16 * b))) (bursts_bytes (n / (16 * b)))))
+    (some_bytes (n % (16 * b) / b) 10 (under (control_word fill b (n % (16 * b) / b)) body) (omega arith))
+    (some_bytes (n % (16 * b) % b) 10 (under (control_word fill 1 (n % (16 * b) % b)) body) (omega arith))
 
 piece_bytes : (p : Piece) → length (bytes_of (piece_tree p)) ≤ 58
-piece_bytes p = omega (arith, parts_bytes (beat_of p) p.len)
+piece_bytes p = omega (arith, parts_bytes p.fill (beat_of p) p.len)
 
 pub pieces_bytes : (ps : List Piece) → length (bytes_of (in_order (map piece_tree ps))) ≤ 58 * length ps
 pieces_bytes [] = omega arith
@@ -118,3 +160,10 @@ pub compiled_bytes : (t : Descriptor) → IsTransfer t → length (bytes_of (tre
 compiled_bytes t h =
     let all = four_bytes (bytes_of (wait_tree t.wait)) (bytes_of (in_order (map piece_tree (pieces_of t)))) (bytes_of (signal_tree t.signal)) 2 (58 * length (pieces_of t)) 2 (wait_bytes t.wait) (pieces_bytes (pieces_of t)) (signal_bytes t.signal) in
     omega (arith, all, pieces_few t h)
+
+-- what is left to fill, after one more destination
+pub fill_more : (a : ℕ) (ds : List Segment) (i : ℕ) (d : Segment) (all now new : List Piece) → i < length ds → new ≡ now ++ fill_piece a (get_or ds i d) ∷ [] → now ++ map (fill_piece a) (drop i ds) ≡ all → new ++ map (fill_piece a) (drop (i + 1) ds) ≡ all
+fill_more a ds i d all now new h e inv =
+    let cut : drop i ds ≡ get_or ds i d ∷ drop (i + 1) ds = drop-cons ds i d h ∙ rw add-one refl in
+    let rest = map (fill_piece a) (drop (i + 1) ds) in
+    ap (λ (xs : List Piece). xs ++ rest) e ∙ append_assoc now (fill_piece a (get_or ds i d) ∷ []) rest ∙ ap (λ (xs : List Segment). now ++ map (fill_piece a) xs) (sym cut) ∙ inv

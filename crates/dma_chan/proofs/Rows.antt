@@ -1,6 +1,6 @@
 -- The limits, as numbers, and a program worked out: rows computed from the definitions, and the code's own constants.
-use Rattle.std.proofs.Common.{◌≡◌, ◌+◌, ◌*◌, ◌^◌, [], ◌∷◌, None, refl}
-use Rattle.dma_mem.specs.Places.{Descriptor}
+use Rattle.std.proofs.Common.{◌≡◌, ◌+◌, ◌*◌, ◌^◌, [], ◌∷◌, None, false, refl}
+use Rattle.dma_mem.specs.Places.{Descriptor, filling}
 use Rattle.dma_chan.specs.declared.program.TheConstants.{MAX_BYTES}
 use Rattle.dma_chan.specs.declared.bursts.TheConstants.{BUFFER_SIZE}
 use Rattle.dma_chan.specs.declared.compile.TheConstants.{MAX_COMPILED}
@@ -43,7 +43,7 @@ least_bytes_of_a_burst = refl
 -- four bytes from 0x1000 to 0x2000
 abbrev four : Descriptor
 four =
-    record { src = record { addr = 4096; len = 4 } ∷ []; dst = record { addr = 8192; len = 4 } ∷ []; wait = None; signal = None }
+    record { fill = false; src = record { addr = 4096; len = 4 } ∷ []; dst = record { addr = 8192; len = 4 } ∷ []; wait = None; signal = None }
 
 -- DMAMOV SAR, DMAMOV DAR, DMAMOV CCR with one beat of four bytes at both ends, DMALD, DMARMB, DMAST, DMAWMB, DMAEND
 four_compiled : (compiled four).bytes ≡ 188 ∷ 0 ∷ 0 ∷ 16 ∷ 0 ∷ 0 ∷ 188 ∷ 2 ∷ 0 ∷ 32 ∷ 0 ∷ 0 ∷ 188 ∷ 1 ∷ 5 ∷ 64 ∷ 1 ∷ 0 ∷ 4 ∷ 18 ∷ 8 ∷ 19 ∷ 0 ∷ []
@@ -53,3 +53,16 @@ four_compiled = refl
 four_costs : cost four ≡ 8
 unfolding cost members parts beat_of
 four_costs = refl
+
+-- 20 bytes from 0x20 on with the byte at 0x10
+abbrev twenty : Descriptor
+twenty = filling 16 (record { addr = 32; len = 20 } ∷ []) None None
+
+-- one burst of 16 beats of a byte, and one of four: their control words are 0x003C40F0 and 0x000C4030, with bit 0 clear
+twenty_compiled : (compiled twenty).bytes ≡ 188 ∷ 0 ∷ 16 ∷ 0 ∷ 0 ∷ 0 ∷ 188 ∷ 2 ∷ 32 ∷ 0 ∷ 0 ∷ 0 ∷ 188 ∷ 1 ∷ 240 ∷ 64 ∷ 60 ∷ 0 ∷ 34 ∷ 0 ∷ 4 ∷ 18 ∷ 8 ∷ 19 ∷ 60 ∷ 4 ∷ 188 ∷ 1 ∷ 48 ∷ 64 ∷ 12 ∷ 0 ∷ 4 ∷ 18 ∷ 8 ∷ 19 ∷ 0 ∷ []
+unfolding compiled parts beat_of
+twenty_compiled = refl
+
+twenty_costs : cost twenty ≡ 15
+unfolding cost members parts beat_of
+twenty_costs = refl

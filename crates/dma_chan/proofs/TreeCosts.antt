@@ -1,8 +1,6 @@
 -- How many instructions running a tree executes, counted without writing them out, and a bound for a transfer's.
-use Rattle.std.proofs.Common.{◌≡◌, ℕ, zero, suc, ◌+◌, ◌*◌, ◌/◌, ◌%◌, ◌^◌, ◌≤◌, List, [], ◌∷◌, length, map, Option, Some, None, refl, ap, ◌∙◌, arith, length-append}
+use Rattle.std.proofs.Common.{◌≡◌, ℕ, zero, suc, ◌+◌, ◌*◌, ◌/◌, ◌%◌, ◌^◌, ◌≤◌, List, [], ◌∷◌, length, map, Bool, Option, Some, None, refl, ap, ◌∙◌, arith, length-append}
 use Rattle.std.proofs.Math.Nat.{div-mul-le_self}
-use Rattle.std.specs.List.{range_with_len}
-use Rattle.std.proofs.lemmas.List.FromFn.{length-range_with_len}
 use Rattle.dma_insn.specs.declared.insn.Counter.TheVariants.{Lc0, Lc1}
 use Rattle.dma_insn.specs.declared.insn.Insn.{Insn}
 use Rattle.dma_insn.specs.declared.insn.Insn.TheVariants.{LpEnd}
@@ -12,7 +10,7 @@ use Rattle.dma_chan.specs.Compiled.{pieces_of, members, cost, tree_of, piece_tre
 use Rattle.dma_chan.specs.Tree.{Tree, One, Then, Nothing, Repeat, bytes_of, unrolled, times, turn_of, in_order}
 use Rattle.dma_chan.specs.inner.Compiling.{cost_of}
 use Rattle.dma_chan.specs.Layer.{CostIs}
-use Rattle.dma_chan.proofs.CutPlaces.{read_by}
+use Rattle.dma_chan.proofs.CutPlaces.{read_by, run_of, length-run}
 use Rattle.dma_chan.proofs.PieceCode.{cut_well, pieces_few}
 use Rattle.dma_chan.proofs.ControlWords.{beat_right}
 
@@ -71,15 +69,15 @@ bursts_below : (q b : ℕ) → 1 ≤ b → 16 * q ≤ q * (16 * b)
 bursts_below zero b low = omega arith
 bursts_below (suc q) b low = omega (arith, bursts_below q b low)
 
-parts_counted : (b n : ℕ) → 1 ≤ b → 16 * counted (parts b n) ≤ 208 + 6 * n
+parts_counted : (fill : Bool) (b n : ℕ) → 1 ≤ b → 16 * counted (parts fill b n) ≤ 208 + 6 * n
 unfolding parts
-parts_counted b n low =
+parts_counted fill b n low =
     let q = n / (16 * b) in
     let m = n % (16 * b) / b in
     let l = n % (16 * b) % b in
-    let x = under (control_word b 16) (bursts q) in
-    let y = under (control_word b m) body in
-    let z = under (control_word 1 l) body in
+    let x = under (control_word fill b 16) (bursts q) in
+    let y = under (control_word fill b m) body in
+    let z = under (control_word fill 1 l) body in
     let one : counted x ≤ 3 + 6 * q = let all = bursts_counted q in omega (arith, all) in
     let two : counted y ≤ 5 = omega arith in
     let three : counted z ≤ 5 = omega arith in
@@ -88,14 +86,14 @@ parts_counted b n low =
     omega (arith, all, whole)
 
 piece_counted : (p : Piece) → 16 * counted (piece_tree p) ≤ 240 + 6 * p.len
-piece_counted p = let all = parts_counted (beat_of p) p.len (beat_right p).low in omega (arith, all)
+piece_counted p = let all = parts_counted p.fill (beat_of p) p.len (beat_right p).low in omega (arith, all)
 
 pieces_counted : (ps : List Piece) → 16 * counted (in_order (map piece_tree ps)) ≤ 240 * length ps + 6 * length (read_by ps)
 pieces_counted [] = omega arith
 pieces_counted (p ∷ ps) =
     let one = piece_counted p in
     let more = pieces_counted ps in
-    let bytes : length (read_by (p ∷ ps)) ≡ p.len + length (read_by ps) = length-append (range_with_len p.src p.len) (read_by ps) ∙ omega (arith, length-range_with_len p.src p.len) in
+    let bytes : length (read_by (p ∷ ps)) ≡ p.len + length (read_by ps) = length-append (run_of p.fill p.src p.len) (read_by ps) ∙ omega (arith, length-run p.fill p.src p.len) in
     omega (arith, one, more, bytes)
 
 event_counted : (o : Option ℕ) → (counted (wait_tree o) ≤ 1) × (counted (signal_tree o) ≤ 1)

@@ -1,5 +1,5 @@
 -- The compiled form of a transfer (profile; the instructions are the PL330 manual's).
-use Rattle.std.specs.Prelude.{ℕ, zero, suc, ◌+◌, ◌-◌, ◌*◌, ◌/◌, ◌%◌, ◌^◌, Bool, false, ◌&&◌, ◌==◌, nat_le, nat_lt, if◌then◌else◌, List, [], ◌∷◌, ◌++◌, map, length, Option, Some, None}
+use Rattle.std.specs.Prelude.{ℕ, zero, suc, ◌+◌, ◌-◌, ◌*◌, ◌/◌, ◌%◌, ◌^◌, Bool, true, false, ◌&&◌, ◌==◌, nat_le, nat_lt, if◌then◌else◌, List, [], ◌∷◌, ◌++◌, map, length, Option, Some, None}
 use Rattle.dma_insn.specs.declared.insn.Reg.TheVariants.{Sar, Ccr, Dar}
 use Rattle.dma_insn.specs.declared.insn.Counter.TheVariants.{Lc0, Lc1}
 use Rattle.dma_insn.specs.declared.insn.Insn.{Insn}
@@ -17,21 +17,31 @@ abbrev pub cut_one : ℕ → ℕ → List Segment → List Piece × List Segment
 cut_one a n [] = ([], [])
 cut_one a n (d ∷ ds) =
     if nat_lt n d.len then
-    (record { src = a; dst = d.addr; len = n } ∷ [], record { addr = d.addr + n; len = d.len - n } ∷ ds)
+    (record { src = a; dst = d.addr; len = n; fill = false } ∷ [], record { addr = d.addr + n; len = d.len - n } ∷ ds)
     else (
     if nat_lt d.len n then (
     let rest = cut_one (a + d.len) (n - d.len) ds in
-    (record { src = a; dst = d.addr; len = d.len } ∷ rest.0, rest.1))
-    else (record { src = a; dst = d.addr; len = n } ∷ [], ds))
+    (record { src = a; dst = d.addr; len = d.len; fill = false } ∷ rest.0, rest.1))
+    else (record { src = a; dst = d.addr; len = n; fill = false } ∷ [], ds))
 
 -- Two lists of as many bytes, cut at every end of a segment of either.
 abbrev pub pieces : List Segment → List Segment → List Piece
 pieces [] ds = []
 pieces (s ∷ ss) ds = let cut = cut_one s.addr s.len ds in cut.0 ++ pieces ss cut.1
 
--- The pieces of a transfer: the parts of it that lie together at both ends (profile).
+-- A destination segment, with the byte of a fill for each of its places.
+abbrev pub fill_piece : ℕ → Segment → Piece
+fill_piece a d = record { src = a; dst = d.addr; len = d.len; fill = true }
+
+-- Each destination segment with the first source address: a fill has one source segment, of one byte.
+abbrev pub fill_pieces : List Segment → List Segment → List Piece
+fill_pieces [] ds = []
+fill_pieces (s ∷ ss) ds = map (fill_piece s.addr) ds
+
+-- The pieces of a transfer: the parts of it that lie together at both ends, and of a fill one for each destination segment
+-- (profile).
 abbrev pub pieces_of : Descriptor → List Piece
-pieces_of t = pieces t.src t.dst
+pieces_of t = if t.fill then fill_pieces t.src t.dst else pieces t.src t.dst
 
 -- ---- their code
 
@@ -39,18 +49,22 @@ pieces_of t = pieces t.src t.dst
 abbrev pub fits : ℕ → Piece → Bool
 fits b p = p.src % b == 0 && p.dst % b == 0 && nat_le b p.len
 
--- the bytes a beat of a piece: the largest of 16, 8, 4, 2, 1 that fits
+-- the bytes a beat of a piece: the largest of 16, 8, 4, 2, 1 that fits, and of a fill 1
 unfoldable pub beat_of : Piece → ℕ
-beat_of p = if fits 16 p then 16 else (if fits 8 p then 8 else (if fits 4 p then 4 else (if fits 2 p then 2 else 1)))
+beat_of p =
+    if p.fill then 1 else (
+    if fits 16 p then 16 else (if fits 8 p then 8 else (if fits 4 p then 4 else (if fits 2 p then 2 else 1))))
 
 -- the code of a beat's size in the control word (PL330 manual, channel control register)
 abbrev pub size_code : ℕ → ℕ
 size_code b = if b == 16 then 4 else (if b == 8 then 3 else (if b == 4 then 2 else (if b == 2 then 1 else 0)))
 
--- The control word of bursts of k beats of b bytes at both ends, with both increments: source increment in bit 0, source
--- size from bit 1 and length from bit 4, destination increment in bit 14, size from bit 15 and length from bit 18.
-abbrev pub control_word : ℕ → ℕ → ℕ
-control_word b k = 1 + 2 * size_code b + 2 ^ 4 * (k - 1) + 2 ^ 14 + 2 ^ 15 * size_code b + 2 ^ 18 * (k - 1)
+-- The control word of bursts of k beats of b bytes at both ends, with both increments, or of a fill with that of the
+-- destination alone: source increment in bit 0, source size from bit 1 and length from bit 4, destination increment in bit
+-- 14, size from bit 15 and length from bit 18.
+abbrev pub control_word : Bool → ℕ → ℕ → ℕ
+control_word fill b k =
+    (if fill then 0 else 1) + 2 * size_code b + 2 ^ 4 * (k - 1) + 2 ^ 14 + 2 ^ 15 * size_code b + 2 ^ 18 * (k - 1)
 
 -- One burst read and written, each with its barrier.
 abbrev pub body : Tree
@@ -74,19 +88,19 @@ under w t = Then (One (Mov Ccr w)) t
 
 -- n bytes from where the registers point: bursts of 16 beats of b bytes, one burst of the whole beats left, and one of
 -- the bytes left
-unfoldable pub parts : ℕ → ℕ → Tree
-parts b n =
+unfoldable pub parts : Bool → ℕ → ℕ → Tree
+parts fill b n =
     let q = n / (16 * b) in
     let m = n % (16 * b) / b in
     let t = n % (16 * b) % b in
     in_order (
-    where_some q (under (control_word b 16) (bursts q))
-    ∷ where_some m (under (control_word b m) body)
-    ∷ where_some t (under (control_word 1 t) body) ∷ [])
+    where_some q (under (control_word fill b 16) (bursts q))
+    ∷ where_some m (under (control_word fill b m) body)
+    ∷ where_some t (under (control_word fill 1 t) body) ∷ [])
 
 -- the code of a piece by beats of b bytes: both addresses, and then its bytes
 abbrev pub piece_code : ℕ → Piece → Tree
-piece_code b p = Then (One (Mov Sar p.src)) (Then (One (Mov Dar p.dst)) (parts b p.len))
+piece_code b p = Then (One (Mov Sar p.src)) (Then (One (Mov Dar p.dst)) (parts p.fill b p.len))
 
 -- The code of a piece.
 abbrev pub piece_tree : Piece → Tree

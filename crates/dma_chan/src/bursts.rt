@@ -24,6 +24,9 @@ use dma_mem::segment::Segment;
 /// The most bytes that a channel's buffer holds (profile), and the most of one burst (PL330 manual: 16 beats of 16 bytes).
 pub const BUFFER_SIZE: usize = 256;
 
+// The most beats of a burst (PL330 manual, CCR).
+const MAX_BEATS: usize = 16;
+
 // How many bytes a page of a memory has.
 const PAGE_SIZE: u32 = 4096;
 
@@ -82,6 +85,7 @@ impl Burst {
         requires { (self.size ≤ 16) × (self.beats ≤ 16) }
         ensures value { result ≡ rounds_of self }
         ensures bytes { result * span_of self ≡ burst_len self }
+        ensures limit { result ≤ 16 }
     {
         if self.increments { 1 } else { self.beats }
     }
@@ -132,11 +136,26 @@ fn may_touch(kind: MarkKind, marks: &Marks, memory: &Memory, burst: Burst) -> bo
     end <= u64::from(memory.size()) && !marks.hits(kind, span)
 }
 
-// Puts the bytes into the buffer so often.
+// Puts a byte into the buffer so often, as one run.
+fn fill_run(buffer: &mut HeapCircularBuffer<u8>, byte: u8, count: u32)
+    requires few { count ≤ 16 }
+    requires room { length buffer.old.items + count ≤ buffer.old.capacity }
+    ensures { buffer.new ≡ ring (buffer.old.items ++ replicate count byte) buffer.old.capacity }
+{
+    let run = [byte; MAX_BEATS];
+    buffer.fill_from_slice(&run[..count as usize]);
+}
+
+// Puts the bytes into the buffer so often: a single one, as the source of a fill has, as a run.
 fn fill(buffer: &mut HeapCircularBuffer<u8>, bytes: &[u8], rounds: u32)
-    requires { length buffer.old.items + rounds * length bytes.now ≤ buffer.old.capacity }
+    requires few { rounds ≤ 16 }
+    requires room { length buffer.old.items + rounds * length bytes.now ≤ buffer.old.capacity }
     ensures { buffer.new ≡ ring (buffer.old.items ++ flat_map (λ xs. xs) (replicate rounds bytes.now)) buffer.old.capacity }
 {
+    if bytes.len() == 1 {
+        fill_run(buffer, bytes[0], rounds);
+        return;
+    }
     for _round in 0..rounds {
         buffer.fill_from_slice(bytes);
     }

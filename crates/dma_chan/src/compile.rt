@@ -8,7 +8,7 @@ ghost use Rattle.dma_chan.specs.inner.Compiling.{cost_of};
 ghost use Rattle.dma_chan.specs.Compiled.{where_some, body, bursts, under, fits, beat_of, control_word, parts, piece_tree, wait_tree, signal_tree, tree_of, cost, compiled, pieces_of};
 ghost use Rattle.dma_mem.specs.Rules.{IsTransfer};
 
-use crate::pieces::{Piece, cut};
+use crate::pieces::{Piece, pieces_of};
 use crate::program::Program;
 use dma_insn::codec::encode;
 use dma_insn::control::{BeatSize, Beats, BurstEnd, Cache, Control, Protection};
@@ -39,7 +39,8 @@ impl From<AllocError> for NoMemory {
     }
 }
 
-/// The program that copies a transfer's sources to its destinations, piece by piece, after its wait and before its signal.
+/// The program that copies a transfer's sources to its destinations, piece by piece, after its wait and before its signal. A
+/// fill has a piece for each destination segment, and its bursts read their byte once.
 ///
 /// The work is in proportion to the number of pieces. The error comes where memory is refused.
 #[tactic(auto, unfolding(crate::specs::Compiled::compiled))]
@@ -48,7 +49,7 @@ pub fn compile(alloc: Global, transfer: &Transfer) -> Result<Program, NoMemory>
     ensures limit { IfOk result (λ program. length program.bytes ≤ 7371) }
     ensures constant { MAX_COMPILED ≡ 7371 }
 {
-    let pieces = cut(alloc, transfer.src(), transfer.dst())?;
+    let pieces = pieces_of(alloc, transfer)?;
     let code = code_of(alloc, transfer, &pieces)?;
     let cost = cost_of(transfer, &pieces);
     Ok(Program::of_compiled(code, cost))
@@ -139,35 +140,40 @@ fn push_piece(code: &mut Vec<u8>, piece: Piece) -> Result<(), AllocError>
     let size = beat_of(piece);
     push(code, Insn::Mov(Reg::Sar, piece.src))?;
     push(code, Insn::Mov(Reg::Dar, piece.dst))?;
-    push_parts(code, size, piece.len)?;
+    push_parts(code, piece.fill, size, piece.len)?;
     Ok(())
 }
 
-// Appends what copies so many bytes from where the registers point.
+// Appends what copies so many bytes from where the registers point, or fills them.
 #[tactic(auto, unfolding(crate::specs::Compiled::parts))]
-fn push_parts(code: &mut Vec<u8>, size: BeatSize, len: u32) -> Result<(), AllocError>
+fn push_parts(code: &mut Vec<u8>, fill: bool, size: BeatSize, len: u32) -> Result<(), AllocError>
     requires { len ≤ 2 ^ 20 }
-    ensures ok { OnOk result (code.new.items ≡ code.old.items ++ bytes_of (parts (beat_bytes size) len)) }
+    ensures ok { OnOk result (code.new.items ≡ code.old.items ++ bytes_of (parts fill (beat_bytes size) len)) }
 {
     let beat = size.bytes();
     let whole = 16 * beat;
     let left = len % whole;
-    push_whole_bursts(code, size, len / whole)?;
-    push_burst(code, size, left / beat)?;
-    push_burst(code, BeatSize::One, left % beat)?;
+    push_whole_bursts(code, fill, size, len / whole)?;
+    push_burst(code, fill, size, left / beat)?;
+    push_burst(code, fill, BeatSize::One, left % beat)?;
     Ok(())
 }
 
 // Appends bursts of 16 beats, where there are any.
 #[tactic(auto, using(crate::proofs::TreeParts::where_some_there, crate::proofs::TreeParts::where_some_none))]
-fn push_whole_bursts(code: &mut Vec<u8>, size: BeatSize, count: u32) -> Result<(), AllocError>
+fn push_whole_bursts(
+    code: &mut Vec<u8>,
+    fill: bool,
+    size: BeatSize,
+    count: u32,
+) -> Result<(), AllocError>
     requires { count ≤ 65536 }
-    ensures ok { OnOk result (code.new.items ≡ code.old.items ++ bytes_of (where_some count (under (control_word (beat_bytes size) 16) (bursts count)))) }
+    ensures ok { OnOk result (code.new.items ≡ code.old.items ++ bytes_of (where_some count (under (control_word fill (beat_bytes size) 16) (bursts count)))) }
 {
     if count == 0 {
         return Ok(());
     }
-    push(code, Insn::Mov(Reg::Ccr, control_word(size, 16)))?;
+    push(code, Insn::Mov(Reg::Ccr, control_word(fill, size, 16)))?;
     push_bursts(code, count)
 }
 
@@ -248,14 +254,14 @@ fn push_loop(code: &mut Vec<u8>, turns: u16) -> Result<(), AllocError>
 
 // Appends one burst of so many beats, where there are any.
 #[tactic(auto, using(crate::proofs::TreeParts::where_some_there, crate::proofs::TreeParts::where_some_none))]
-fn push_burst(code: &mut Vec<u8>, size: BeatSize, beats: u32) -> Result<(), AllocError>
+fn push_burst(code: &mut Vec<u8>, fill: bool, size: BeatSize, beats: u32) -> Result<(), AllocError>
     requires { beats ≤ 16 }
-    ensures ok { OnOk result (code.new.items ≡ code.old.items ++ bytes_of (where_some beats (under (control_word (beat_bytes size) beats) body))) }
+    ensures ok { OnOk result (code.new.items ≡ code.old.items ++ bytes_of (where_some beats (under (control_word fill (beat_bytes size) beats) body))) }
 {
     if beats == 0 {
         return Ok(());
     }
-    push(code, Insn::Mov(Reg::Ccr, control_word(size, beats)))?;
+    push(code, Insn::Mov(Reg::Ccr, control_word(fill, size, beats)))?;
     push_body(code)
 }
 
@@ -288,12 +294,14 @@ fn fits(size: BeatSize, piece: Piece) -> bool
     piece.src % beat == 0 && piece.dst % beat == 0 && beat <= piece.len
 }
 
-// The size of a piece's beats.
+// The size of a piece's beats: a byte where it is filled.
 #[tactic(auto, unfolding(crate::specs::Compiled::beat_of))]
 fn beat_of(piece: Piece) -> BeatSize
     ensures { beat_bytes result ≡ beat_of piece }
 {
-    if fits(BeatSize::Sixteen, piece) {
+    if piece.fill {
+        BeatSize::One
+    } else if fits(BeatSize::Sixteen, piece) {
         BeatSize::Sixteen
     } else if fits(BeatSize::Eight, piece) {
         BeatSize::Eight
@@ -306,21 +314,25 @@ fn beat_of(piece: Piece) -> BeatSize
     }
 }
 
-// The control word of bursts of so many beats of a size, with both increments.
+// The control word of bursts of so many beats of a size, with both increments, or of a fill with that of the destination
+// alone.
 #[tactic(auto, using(crate::proofs::ControlWords::both_ends))]
-fn control_word(size: BeatSize, beats: u32) -> u32
+fn control_word(fill: bool, size: BeatSize, beats: u32) -> u32
     requires low { 1 ≤ beats }
     requires high { beats ≤ 16 }
-    ensures { result ≡ control_word (beat_bytes size) beats }
+    ensures { result ≡ control_word fill (beat_bytes size) beats }
 {
-    let src = BurstEnd {
+    let dst = BurstEnd {
         increments: true,
         size,
         beats: Beats::of_number(beats as u8),
         protection: Protection::of_code(0),
         cache: Cache::of_code(0),
     };
-    let dst = src;
+    let src = BurstEnd {
+        increments: !fill,
+        ..dst
+    };
     Control { src, dst }.bits()
 }
 

@@ -185,3 +185,92 @@ fn three_hundred_bytes_copied(rt: HostRuntime) -> Result<(), Fail> {
     assert_eq!(rt; back, [0x00, 0x44, 0x55, 0x66, 0x00]);
     Ok(())
 }
+
+#[test]
+fn a_fill_reads_its_byte_again(rt: HostRuntime) -> Result<(), Fail> {
+    let alloc = rt.alloc();
+    let transfer = Transfer::fill(alloc, 0x10, &[segment(0x20, 20)], None, None)?;
+    let program = compile(alloc, &transfer)?;
+    let bytes = [
+        0xbc, 0x00, 0x10, 0x00, 0x00, 0x00, 0xbc, 0x02, 0x20, 0x00, 0x00, 0x00, 0xbc, 0x01, 0xf0,
+        0x40, 0x3c, 0x00, 0x22, 0x00, 0x04, 0x12, 0x08, 0x13, 0x3c, 0x04, 0xbc, 0x01, 0x30, 0x40,
+        0x0c, 0x00, 0x04, 0x12, 0x08, 0x13, 0x00,
+    ];
+    assert_eq!(rt; program.bytes(), bytes.as_slice());
+    assert_eq!(rt; program.cost(), Some(15));
+    let mut memory = Memory::new(alloc, 64)?;
+    memory.write(0x10, &[0x5A])?;
+    let end = run_program(alloc, program.bytes(), &mut memory, 15)?;
+    assert_eq!(rt; end, RunEnd::Ended { turns: 15 });
+    let mut seen = [0; 22];
+    memory.read_into(0x1F, &mut seen)?;
+    let mut wanted = [0x5A; 22];
+    wanted[0] = 0;
+    wanted[21] = 0;
+    assert_eq!(rt; seen, wanted);
+    Ok(())
+}
+
+// The program that fills one segment with the byte at an address.
+fn fill_program(alloc: Global, src: u32, dst: u32, len: u32) -> Result<Program, Fail> {
+    let transfer = Transfer::fill(alloc, src, &[segment(dst, len)], None, None)?;
+    Ok(compile(alloc, &transfer)?)
+}
+
+// Addresses that wide beats would fit are filled by beats of one byte.
+#[test]
+fn three_hundred_bytes_filled(rt: HostRuntime) -> Result<(), Fail> {
+    let program = fill_program(rt.alloc(), 0x1000, 0x2000, 300)?;
+    let bytes = [
+        0xbc, 0x00, 0x00, 0x10, 0x00, 0x00, 0xbc, 0x02, 0x00, 0x20, 0x00, 0x00, 0xbc, 0x01, 0xf0,
+        0x40, 0x3c, 0x00, 0x22, 0x11, 0x04, 0x12, 0x08, 0x13, 0x3c, 0x04, 0xbc, 0x01, 0xb0, 0x40,
+        0x2c, 0x00, 0x04, 0x12, 0x08, 0x13, 0x00,
+    ];
+    assert_eq!(rt; program.bytes(), bytes.as_slice());
+    assert_eq!(rt; program.cost(), Some(100));
+    Ok(())
+}
+
+#[test]
+fn the_most_bytes_filled(rt: HostRuntime) -> Result<(), Fail> {
+    let program = fill_program(rt.alloc(), 0x1, 0x200000, 1_048_576)?;
+    assert_eq!(rt; program.cost(), Some(328_197));
+    Ok(())
+}
+
+#[test]
+fn a_piece_for_each_segment_that_is_filled(rt: HostRuntime) -> Result<(), Fail> {
+    let alloc = rt.alloc();
+    let dst = [segment(0x20, 3), segment(0x23, 1)];
+    let transfer = Transfer::fill(alloc, 0x10, &dst, Some(3), Some(4))?;
+    let program = compile(alloc, &transfer)?;
+    let bytes = [
+        0x36, 0x18, 0xbc, 0x00, 0x10, 0x00, 0x00, 0x00, 0xbc, 0x02, 0x20, 0x00, 0x00, 0x00, 0xbc,
+        0x01, 0x20, 0x40, 0x08, 0x00, 0x04, 0x12, 0x08, 0x13, 0xbc, 0x00, 0x10, 0x00, 0x00, 0x00,
+        0xbc, 0x02, 0x23, 0x00, 0x00, 0x00, 0xbc, 0x01, 0x00, 0x40, 0x00, 0x00, 0x04, 0x12, 0x08,
+        0x13, 0x34, 0x20, 0x00,
+    ];
+    assert_eq!(rt; program.bytes(), bytes.as_slice());
+    assert_eq!(rt; program.cost(), Some(17));
+    Ok(())
+}
+
+// A byte on a page that isn't made is zero; a run may lie on two pages.
+#[test]
+fn a_fill_over_two_pages(rt: HostRuntime) -> Result<(), Fail> {
+    let alloc = rt.alloc();
+    let mut memory = Memory::new(alloc, 0x3000)?;
+    memory.write(0x0FFD, &[1, 2, 3, 4, 5, 6])?;
+    let zeros = fill_program(alloc, 0x2FFF, 0x0FFE, 4)?;
+    let end = run_program(alloc, zeros.bytes(), &mut memory, 8)?;
+    assert_eq!(rt; end, RunEnd::Ended { turns: 8 });
+    let mut seen = [7; 6];
+    memory.read_into(0x0FFD, &mut seen)?;
+    assert_eq!(rt; seen, [1, 0, 0, 0, 0, 6]);
+    let ones = fill_program(alloc, 0x0FFD, 0x1FFF, 2)?;
+    let end = run_program(alloc, ones.bytes(), &mut memory, 8)?;
+    assert_eq!(rt; end, RunEnd::Ended { turns: 8 });
+    memory.read_into(0x1FFD, &mut seen)?;
+    assert_eq!(rt; seen, [0, 0, 1, 1, 0, 0]);
+    Ok(())
+}

@@ -2,10 +2,12 @@
 
 ghost use Rattle.std.specs.Prelude.{◌≡◌, ◌∷◌, ◌++◌, OnOk, IfOk};
 ghost use Rattle.std.specs.List.{AllByRecursion};
-ghost use Rattle.dma_chan.specs.Compiled.{pieces};
+ghost use Rattle.dma_mem.specs.Rules.{IsTransfer};
+ghost use Rattle.dma_chan.specs.Compiled.{pieces, fill_pieces, pieces_of};
 ghost use Rattle.dma_chan.specs.inner.Compiling.{byte_count, IsRange};
 
 use dma_mem::segment::Segment;
+use dma_mem::transfer::Transfer;
 use std::alloc::{AllocError, Global};
 
 /// Bytes that lie together at both ends.
@@ -17,10 +19,48 @@ pub struct Piece {
     pub dst: u32,
     /// The number of bytes.
     pub len: u32,
+    /// Whether the byte at the source address is read for each of them.
+    pub fill: bool,
+}
+
+// The pieces of a transfer, in order.
+pub(crate) fn pieces_of(alloc: Global, transfer: &Transfer) -> Result<Vec<Piece>, AllocError>
+    ensures value { IfOk result (λ v. v.items ≡ pieces_of transfer.now) }
+    ensures rules { IsTransfer transfer.now }
+{
+    if transfer.is_fill() {
+        filled(alloc, transfer.src(), transfer.dst())
+    } else {
+        cut(alloc, transfer.src(), transfer.dst())
+    }
+}
+
+// Each destination segment with the first source address.
+#[tactic(auto, using(crate::proofs::PieceCode::fill_more))]
+fn filled(
+    alloc: Global,
+    sources: &[Segment],
+    destinations: &[Segment],
+) -> Result<Vec<Piece>, AllocError>
+    ensures { IfOk result (λ v. v.items ≡ fill_pieces sources.now destinations.now) }
+{
+    let mut out = Vec::new(alloc);
+    if let Some(src) = sources.first() {
+        let from = src.addr;
+        for dst in destinations {
+            out.push(Piece {
+                src: from,
+                dst: dst.addr,
+                len: dst.len,
+                fill: true,
+            })?;
+        }
+    }
+    Ok(out)
 }
 
 // Two lists of as many bytes, cut at every end of a segment of either.
-pub(crate) fn cut(
+fn cut(
     alloc: Global,
     sources: &[Segment],
     destinations: &[Segment],
@@ -59,6 +99,7 @@ fn cut_from(
         src: src.addr,
         dst: dst.addr,
         len,
+        fill: false,
     })?;
     if src.len < dst.len {
         let rest = Segment {

@@ -1,7 +1,7 @@
 -- Worked rows, computed from the definitions.
-use Rattle.std.proofs.Common.{◌≡◌, ℕ, ◌<◌, ◌≤◌, List, [], ◌∷◌, Option, Some, None, true, refl, sym, arith}
+use Rattle.std.proofs.Common.{◌≡◌, ℕ, ◌<◌, ◌≤◌, List, [], ◌∷◌, Option, Some, None, true, false, refl, sym, arith}
 use Rattle.std.proofs.lemmas.Bool.{eqb-false}
-use Rattle.dma_mem.specs.Places.{Descriptor, lies_below, share}
+use Rattle.dma_mem.specs.Places.{Descriptor, filling, lies_below, share}
 use Rattle.dma_mem.specs.Image.{put, after_moves}
 use Rattle.dma_mem.specs.declared.marks.MarkKind.{MarkKind}
 use Rattle.dma_mem.specs.declared.marks.MarkKind.TheVariants.{Reading, Writing}
@@ -31,7 +31,7 @@ use Rattle.dma_engine.specs.Answer.{answer, answers}
 -- a transfer of so many bytes from one range to another, and one of a byte with events
 abbrev copy : ℕ → ℕ → ℕ → Descriptor
 copy from to n =
-    record { src = record { addr = from; len = n } ∷ []; dst = record { addr = to; len = n } ∷ []; wait = None; signal = None }
+    record { fill = false; src = record { addr = from; len = n } ∷ []; dst = record { addr = to; len = n } ∷ []; wait = None; signal = None }
 
 abbrev byte : ℕ → ℕ → Option ℕ → Option ℕ → Descriptor
 byte from to wait signal = record (copy from to 1) { wait = wait; signal = signal }
@@ -55,7 +55,7 @@ unfolding opening put after_moves share
 copied_is_legal = (
   omega arith,
   (
-    (omega arith, IsTransfer-from_no_refusal (copy 0 2 2) refl, refl, refl, omega arith),
+    (omega arith, IsTransfer-from_no_refusal (copy 0 2 2) (λ e. absurd (cc)) refl, refl, refl, omega arith),
     (omega arith, ((refl, ((λ waits. waits), (λ signals. signals), refl)), ((omega arith, refl), tt))),
   ),
 )
@@ -72,6 +72,27 @@ a_marked_source_fails = (refl, ((λ waits. waits), refl, omega arith, refl))
 other_kind_fails_nothing : Allows (over_a_mark Writing) (Finished 0 ReadFailed 0) → ⊥
 unfolding opening meets_mark
 other_kind_fails_nothing allowed = eqb-false 0 0 (sym allowed.1.3) refl
+
+-- three bytes are filled with the one before them
+abbrev filled : List Entry
+filled = Wrote 0 (17 ∷ []) ∷ Submitted 0 (filling 0 (record { addr = 1; len = 3 } ∷ []) None None) 1 ∷ Issued 0 ∷ Finished 0 NoError 3 ∷ []
+
+filled_image : (object_after (opening 4 1) filled).image ≡ 17 ∷ 17 ∷ 17 ∷ 17 ∷ []
+unfolding opening put after_moves
+filled_image = refl
+
+-- a mark on a fill's byte can fail it at its first byte, and after its second
+abbrev fill_of_a_marked_byte : Object
+fill_of_a_marked_byte =
+    object_after (opening 4 1) (Submitted 0 (filling 0 (record { addr = 1; len = 3 } ∷ []) None None) 1 ∷ Issued 0 ∷ Marked Reading (record { addr = 0; len = 1 }) ∷ [])
+
+fails_at_its_first_byte : Allows fill_of_a_marked_byte (Finished 0 ReadFailed 0)
+unfolding opening meets_mark
+fails_at_its_first_byte = (refl, ((λ waits. waits), refl, omega arith, refl))
+
+fails_after_its_second_byte : Allows fill_of_a_marked_byte (Finished 0 ReadFailed 2)
+unfolding opening meets_mark
+fails_after_its_second_byte = (refl, ((λ waits. waits), refl, omega arith, refl))
 
 -- ---- answers
 
@@ -95,6 +116,12 @@ residues_of_a_terminate : replies 16 1 (Write 0 (17 ∷ 34 ∷ 51 ∷ []) ∷ Su
     ≡ Done ∷ Cookie 1 ∷ Cookie 2 ∷ Count 2 ∷ Turned (Started 1) ∷ Turned Moved ∷ Turned Moved ∷ Turned Moved ∷ Turned Moved ∷ Turned Moved ∷ Turned Moved ∷ Count 2 ∷ Told (Some (record { result = Aborted; residue = 1 })) ∷ Told (Some (record { result = Aborted; residue = 2 })) ∷ Told None ∷ Bytes (17 ∷ 34 ∷ 0 ∷ []) ∷ []
 unfolding opening put after_moves share running member members stored_after burst meets_mark parts beat_of burst_at
 residues_of_a_terminate = refl
+
+-- a fill's two pieces are a burst each; the first is stored when the channel is terminated
+a_fill_stops_halfway : replies 16 1 (Write 0 (17 ∷ []) ∷ Submit 0 (filling 0 (record { addr = 8; len = 2 } ∷ record { addr = 12; len = 1 } ∷ []) None None) ∷ Issue 0 ∷ Step 0 ∷ Step 0 ∷ Step 0 ∷ Step 0 ∷ Step 0 ∷ Step 0 ∷ Step 0 ∷ Terminate 0 ∷ ResultOf 0 1 ∷ Read 8 5 ∷ [])
+    ≡ Done ∷ Cookie 1 ∷ Count 1 ∷ Turned (Started 1) ∷ Turned Moved ∷ Turned Moved ∷ Turned Moved ∷ Turned Moved ∷ Turned Moved ∷ Turned Moved ∷ Count 1 ∷ Told (Some (record { result = Aborted; residue = 1 })) ∷ Bytes (17 ∷ 17 ∷ 0 ∷ 0 ∷ 0 ∷ []) ∷ []
+unfolding opening put after_moves share running member members stored_after burst meets_mark parts beat_of burst_at
+a_fill_stops_halfway = refl
 
 one_event_lets_one_pass : replies 16 2 (Submit 0 (byte 0 4 (Some 3) None) ∷ Submit 1 (byte 0 8 (Some 3) None) ∷ Issue 0 ∷ Issue 1 ∷ Step 0 ∷ Step 1 ∷ Step 0 ∷ Raise 3 ∷ Step 1 ∷ Step 0 ∷ Raise 32 ∷ [])
     ≡ Cookie 1 ∷ Cookie 1 ∷ Count 1 ∷ Count 1 ∷ Turned (Started 1) ∷ Turned (Started 1) ∷ Turned (Waiting 3) ∷ Done ∷ Turned Moved ∷ Turned (Waiting 3) ∷ Refused BadEvent ∷ []

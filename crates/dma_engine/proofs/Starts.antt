@@ -1,5 +1,5 @@
 -- What an engine keeps where a front starts, and what it may answer where one finishes.
-use Rattle.std.proofs.Common.{◌≡◌, ◌≢◌, ℕ, ◌+◌, ◌-◌, ◌<◌, ◌≤◌, List, [], ◌∷◌, ◌++◌, length, take, drop, Option, Some, None, Bool, true, false, ◌&&◌, ◌||◌, not, refl, ap, sym, ◌∙◌, subst, arith, zero, suc}
+use Rattle.std.proofs.Common.{◌≡◌, ◌≢◌, ℕ, ◌+◌, ◌-◌, ◌<◌, ◌≤◌, List, [], ◌∷◌, ◌++◌, length, take, drop, Option, Some, None, Ok, Bool, true, false, ◌&&◌, ◌||◌, not, refl, ap, sym, ◌∙◌, subst, arith, zero, suc}
 use Rattle.std.specs.Prelude.{slice_index_or, slice_set, is_some, nat_lt, ◌==◌, unwrap_or, IfSome, IsSome, IsSomeAnd}
 use Rattle.std.specs.List.{list_any}
 use Rattle.std.specs.Option.{option_map}
@@ -25,15 +25,16 @@ use Rattle.dma_engine.specs.declared.fault.EngineFault.TheVariants.{NoMemory}
 use Rattle.dma_engine.specs.declared.outcome.TransResult.TheVariants.{NoError, ReadFailed, WriteFailed, Aborted}
 use Rattle.dma_engine.specs.declared.queue.Queue.{Queue}
 use Rattle.dma_engine.specs.declared.turn.Turn.TheVariants.{Held, Started, Finished as TurnFinished}
-use Rattle.dma_engine.specs.Object.{ChannelState, Allows, channel, front, issued_front, finished}
+use Rattle.dma_engine.specs.Object.{ChannelState, Allows, channel, front, issued_front, finished, unfinished}
 use Rattle.dma_engine.specs.View.{View, ChannelSchedule, RunningTransfer, Agrees, AreFree, runs, runs_there, object_of, size}
-use Rattle.dma_engine.specs.Turn.{front_cookie, in_the_way, start_turn, with_entry, with_step, with_taken}
+use Rattle.dma_engine.specs.Turn.{front_cookie, in_the_way, start_turn, turn, with_entry, with_step, with_taken}
 use Rattle.dma_engine.specs.inner.Ways.{named}
 use Rattle.dma_engine.specs.Answer.{CallAnswers, is_started, done_on, done_by}
 use Rattle.dma_engine.specs.inner.Due.{MayStart, Finishes}
 use Rattle.dma_engine.specs.declared.ranges.Ranges.{Ranges}
 use Rattle.dma_engine.specs.inner.Ranges.{AreOfRunning, HasRangesOf}
 use Rattle.dma_engine.specs.inner.Holds.{Holds, IsPrepared, Parts, view_of, schedule_of, queue_started}
+use Rattle.dma_engine.proofs.CallCases.{starved}
 use Rattle.dma_engine.proofs.Changes.{changed, view-changed, holds-changed, runs-here, runs-other}
 use Rattle.dma_engine.proofs.Endings.{queue_finished}
 use Rattle.dma_engine.proofs.InstructionSteps.{and-false}
@@ -259,3 +260,21 @@ finish-answers p ch spare cookie residue how q outcome halted u flags memory h l
     ∙ ap (λ k. (Turned (TurnFinished k how residue), with_step (with_taken (with_entry v (Finished ch how (stored_after t n))) ch None))) number
     ∙ ap (λ k. (Turned (TurnFinished (front_cookie v ch) how k), with_step (with_taken (with_entry v (Finished ch how (stored_after t n))) ch None))) left
     ∙ stepped-so v _ ch (TurnFinished (front_cookie v ch) how (size_of t - stored_after t n)) (d.turn_is ∙ finish-turn v ch n t how d.holds)
+
+-- a finish that is refused memory leaves the view
+pub finish-starved : (p : Parts) (w : View) (ch : ℕ) (how : TransResult) (q : Queue) → (d : Due p ch q (Finishes (view_of p) how)) → w ≡ view_of p → CallAnswers (view_of p) (Step ch) (Refused NoMemory) w
+finish-starved p w ch how q d same =
+    let v : View = view_of p in
+    let t = d.it.transfer in
+    let n = q.channel.taken in
+    let entry = Finished ch how (stored_after t n) in
+    let turned = TurnFinished (front_cookie v ch) how (size_of t - stored_after t n) in
+    let after : View = with_step (with_taken (with_entry v entry) ch None) in
+    let is : turn v ch ≡ (Ok turned, after) = d.turn_is ∙ finish-turn v ch n t how d.holds in
+    ((starved v (Step ch) (Turned turned) after entry (sym (stepped-so v after ch turned is)) refl).0, same)
+
+-- the front that runs isn't finished
+pub unfinished-some : (p : Parts) (ch : ℕ) (q : Queue) → Runs p ch q → 0 < unfinished (channel (object_of (view_of p)) ch)
+unfinished-some p ch q r =
+    let known = front_known (channel (object_of (view_of p)) ch) r.transfer r.issued in
+    omega (arith, known.within)

@@ -150,7 +150,7 @@ Allows o Unmarked = Unit {0}
 
 -- in place of a front that isn't there
 abbrev pub no_transfer : Descriptor
-no_transfer = record { src = []; dst = []; wait = None; signal = None }
+no_transfer = record { fill = false; src = []; dst = []; wait = None; signal = None }
 
 -- the front, or a transfer of nothing
 abbrev pub front_of : ChannelState → Descriptor

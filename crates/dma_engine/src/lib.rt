@@ -28,6 +28,8 @@ pub use turn::{Running, Status, Turn};
 #[cfg(test)]
 mod example;
 #[cfg(test)]
+mod fill_tests;
+#[cfg(test)]
 mod test_lines;
 #[cfg(test)]
 mod tests;

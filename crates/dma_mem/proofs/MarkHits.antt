@@ -15,7 +15,7 @@ use Rattle.dma_mem.specs.Marking.{MarkList, same_kind, lies_in, is_marked}
 use Rattle.dma_mem.specs.inner.MarkRanges.{AreRangesOf, RangesOfMarks}
 use Rattle.dma_mem.proofs.SharedPlaces.{share-true, shared_by, in_range, range_in}
 
-same_bool : (a b : Bool) → (a ≡ true → b ≡ true) → (b ≡ true → a ≡ true) → a ≡ b
+pub same_bool : (a b : Bool) → (a ≡ true → b ≡ true) → (b ≡ true → a ≡ true) → a ≡ b
 same_bool true b f g = sym (f refl)
 same_bool false true f g = g refl
 same_bool false false f g = refl

@@ -10,9 +10,11 @@ use Rattle.std.proofs.lemmas.List.Kept.{AllPairs-cons}
 use Rattle.std.proofs.lemmas.List.Sorted.{Contains-permutation, IsPermutation-sym}
 use Rattle.dma_mem.specs.declared.segment.Segment.{Segment}
 use Rattle.dma_mem.specs.Places.{Descriptor, places, share, range_of, sources, destinations, writes, touches, is_free_of}
-use Rattle.dma_mem.specs.Ranges.{IsCoalesced, SameAddresses}
+use Rattle.dma_mem.specs.Rules.{IsTransfer}
+use Rattle.dma_mem.specs.Ranges.{IsCoalesced, HasSources, SameAddresses}
 use Rattle.dma_mem.specs.inner.RangesInOrder.{IsOrdered, Joins}
 use Rattle.dma_mem.proofs.SharedPlaces.{share-true, share_none, shared_by, in_range, range_in, share-append_left}
+use Rattle.dma_mem.proofs.TransferRules.{same-sources}
 
 -- ---- the addresses of a list
 
@@ -266,15 +268,20 @@ pub share_right : (xs ys zs : List ℕ) → ((a : ℕ) → Contains ys a ↔ Con
 share_right xs ys zs h =
     same_tests _ _ (λ e. let w = shared_by xs ys e in share-true xs zs w.0 w.1 ((h w.0).0 w.2)) (λ e. let w = shared_by xs zs e in share-true xs ys w.0 w.1 ((h w.0).1 w.2))
 
+-- ranges of a source list are ranges of the sources
+pub sources-from : (src : List Segment) (t : Descriptor) → IsTransfer t → SameAddresses src t.src → HasSources src t
+sources-from src t h same =
+    λ a. (λ i. (same-sources t h a).0 ((same a).0 i), λ i. (same a).1 ((same-sources t h a).1 i))
+
 -- the tests of a transfer, by ranges that have its sources' addresses and ranges that have its destinations'
 pub writes-ranges : (u : Descriptor) (s : Segment) (dst : List Segment) → SameAddresses dst u.dst → share (range_of s) (places dst) ≡ writes u s
 writes-ranges u s dst d = share_right (range_of s) (places dst) (destinations u) d
 
-pub touches-ranges : (u : Descriptor) (s : Segment) (src dst : List Segment) → SameAddresses src u.src → SameAddresses dst u.dst → (share (range_of s) (places dst) || share (range_of s) (places src)) ≡ touches u s
+pub touches-ranges : (u : Descriptor) (s : Segment) (src dst : List Segment) → HasSources src u → SameAddresses dst u.dst → (share (range_of s) (places dst) || share (range_of s) (places src)) ≡ touches u s
 touches-ranges u s src dst h d =
     ap (λ b. b || share (range_of s) (places src)) (writes-ranges u s dst d) ∙ ap (λ b. writes u s || b) (share_right (range_of s) (places src) (sources u) h)
 
-pub is_free_of-ranges : (t u : Descriptor) (src dst : List Segment) → SameAddresses src u.src → SameAddresses dst u.dst → not (share (destinations t) (places dst) || (share (destinations t) (places src) || share (sources t) (places dst))) ≡ is_free_of t u
+pub is_free_of-ranges : (t u : Descriptor) (src dst : List Segment) → HasSources src u → SameAddresses dst u.dst → not (share (destinations t) (places dst) || (share (destinations t) (places src) || share (sources t) (places dst))) ≡ is_free_of t u
 is_free_of-ranges t u src dst h d =
     let one = share_right (destinations t) (places dst) (destinations u) d in
     let two = share_right (destinations t) (places src) (sources u) h in

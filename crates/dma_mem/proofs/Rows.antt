@@ -2,16 +2,16 @@
 use Rattle.std.proofs.Common.{◌≡◌, ℕ, ◌+◌, ◌*◌, ◌<◌, ◌≤◌, List, [], ◌∷◌, Option, Some, None, true, false, length, map, refl, sym, ◌∙◌, arith}
 use Rattle.std.specs.List.{Contains, range_with_len}
 use Rattle.dma_mem.specs.declared.segment.Segment.{Segment}
-use Rattle.dma_mem.specs.declared.transfer.TransferFault.TheVariants.{TooManySegments, SegmentWraps, TooLong, BadEvent}
+use Rattle.dma_mem.specs.declared.transfer.TransferFault.TheVariants.{TooManySegments, SegmentWraps, TooLong, SourceMeetsDestination, BadEvent}
 use Rattle.dma_mem.specs.declared.transfer.TheConstants.{MAX_SEGMENTS, MAX_BYTES, LAST_EVENT}
 use Rattle.dma_mem.specs.declared.memory.TheConstants.{MAX_SIZE}
 use Rattle.dma_mem.specs.declared.pages.TheConstants.{MAX_PAGED_SIZE}
-use Rattle.dma_mem.specs.Places.{Descriptor, places, share}
+use Rattle.dma_mem.specs.Places.{Descriptor, filling, moves, places, share, sources}
 use Rattle.dma_mem.specs.Flags.{all_clear}
 use Rattle.dma_mem.specs.Image.{is_size}
-use Rattle.dma_mem.specs.Refusals.{refusal_of}
+use Rattle.dma_mem.specs.Refusals.{refusal_of, refusal_of_fill}
 use Rattle.dma_mem.specs.Rules.{IsTransfer, IsSegmentList}
-use Rattle.dma_mem.proofs.TransferRules.{IsTransfer-from_no_refusal, length-places, meets_any-places, once-places}
+use Rattle.dma_mem.proofs.TransferRules.{copy-from_no_refusal, length-places, meets_any-places, once-places}
 use Rattle.dma_mem.proofs.SharedPlaces.{share-false, share_none}
 use Rattle.std.proofs.lemmas.List.FromFn.{length-range_with_len, get_or-range_with_len}
 
@@ -60,12 +60,12 @@ bytes_from addr n = map (λ k. record { addr = addr + 2 * k; len = 1 }) (range_w
 
 -- a transfer of so many segments of a byte each
 abbrev of_segments : ℕ → Descriptor
-of_segments n = record { src = bytes_from 0 n; dst = bytes_from 1000 n; wait = None; signal = None }
+of_segments n = record { fill = false; src = bytes_from 0 n; dst = bytes_from 1000 n; wait = None; signal = None }
 
 -- a transfer of one segment, with an event to wait for and one to signal
 abbrev of_bytes : ℕ → ℕ → ℕ → Option ℕ → Option ℕ → Descriptor
 of_bytes from to n wait signal =
-    record { src = record { addr = from; len = n } ∷ []; dst = record { addr = to; len = n } ∷ []; wait = wait; signal = signal }
+    record { fill = false; src = record { addr = from; len = n } ∷ []; dst = record { addr = to; len = n } ∷ []; wait = wait; signal = signal }
 
 sixty_four_segments : refusal_of (of_segments 64) ≡ None
 unfolding share
@@ -99,7 +99,7 @@ past_the_last_event_signalled = refl
 -- ---- what a transfer is
 
 sixty_four_segments_are_few : IsTransfer (of_segments 64)
-sixty_four_segments_are_few = IsTransfer-from_no_refusal (of_segments 64) sixty_four_segments
+sixty_four_segments_are_few = copy-from_no_refusal (bytes_from 0 64) (bytes_from 1000 64) None None sixty_four_segments
 
 no_segment_is_not : IsTransfer (of_segments 0) → ⊥
 no_segment_is_not t = let some : 0 < 0 = t.source_list.some in omega arith
@@ -132,6 +132,7 @@ copies_range from to n some few behind within =
     let src : List Segment = record { addr = from; len = n } ∷ [] in
     let dst : List Segment = record { addr = to; len = n } ∷ [] in
     record {
+      one_byte = λ e. absurd (cc);
       source_list = one_range from n some (omega arith);
       destination_list = one_range to n some within;
       same_length = length-places src ∙ sym (length-places dst);
@@ -155,16 +156,36 @@ one_byte_more_is_not : IsTransfer (of_bytes 0 2097152 1048577 None None) → ⊥
 one_byte_more_is_not t = let few = copies_at_most 0 2097152 1048577 t in omega (arith, few)
 
 to_the_last_address : IsTransfer (of_bytes 0 4294967295 1 None None)
-to_the_last_address = IsTransfer-from_no_refusal (of_bytes 0 4294967295 1 None None) up_to_the_last_address
+to_the_last_address = copy-from_no_refusal (record { addr = 0; len = 1 } ∷ []) (record { addr = 4294967295; len = 1 } ∷ []) None None up_to_the_last_address
 
 beyond_the_last_address : IsTransfer (of_bytes 0 4294967295 2 None None) → ⊥
 beyond_the_last_address t = let within : 4294967297 ≤ 4294967296 = t.destination_list.within 0 (record { addr = 0; len = 0 }) (omega arith) in omega arith
 
 both_last_events : IsTransfer (of_bytes 0 1 1 (Some 31) (Some 31))
-both_last_events = IsTransfer-from_no_refusal (of_bytes 0 1 1 (Some 31) (Some 31)) last_events
+both_last_events = copy-from_no_refusal (record { addr = 0; len = 1 } ∷ []) (record { addr = 1; len = 1 } ∷ []) (Some 31) (Some 31) last_events
 
 no_later_event_waited : IsTransfer (of_bytes 0 1 1 (Some 32) None) → ⊥
 no_later_event_waited t = let event : 32 ≤ 31 = t.wait_event in omega arith
 
 no_later_event_signalled : IsTransfer (of_bytes 0 1 1 None (Some 32)) → ⊥
 no_later_event_signalled t = let event : 32 ≤ 31 = t.signal_event in omega arith
+
+-- ---- fills
+
+-- three bytes and one, with the byte at 16
+abbrev four_filled : Descriptor
+four_filled = filling 16 (record { addr = 32; len = 3 } ∷ record { addr = 48; len = 1 } ∷ []) None None
+
+read_again : sources four_filled ≡ 16 ∷ 16 ∷ 16 ∷ 16 ∷ []
+read_again = refl
+
+filled_in_order : moves four_filled 4 ≡ (32, 16) ∷ (33, 16) ∷ (34, 16) ∷ (48, 16) ∷ []
+filled_in_order = refl
+
+over_its_byte : refusal_of_fill 16 (record { addr = 14; len = 4 } ∷ []) None None ≡ Some SourceMeetsDestination
+unfolding share
+over_its_byte = refl
+
+up_to_its_byte : refusal_of_fill 16 (record { addr = 14; len = 2 } ∷ record { addr = 17; len = 2 } ∷ []) None None ≡ None
+unfolding share
+up_to_its_byte = refl

@@ -1,20 +1,25 @@
 -- Two lists and two events that nothing refuses make a transfer.
-use Rattle.std.proofs.Common.{◌≡◌, ◌≢◌, ℕ, ◌+◌, ◌-◌, ◌<◌, ◌≤◌, List, [], ◌∷◌, ◌++◌, length, Option, Some, None, Bool, true, false, ◌||◌, nat_lt, refl, ap, sym, ◌∙◌, arith, inl, inr, IfSome}
-use Rattle.std.specs.Prelude.{◌==◌, All, AllPairs}
-use Rattle.std.specs.List.{Contains, list_any, range_with_len}
-use Rattle.std.proofs.lemmas.Bool.{true≢false, or_parts, not-false, ltb-false, false_from_ne_true, eqb-true, cases_lt}
+use Rattle.std.proofs.Common.{◌≡◌, ◌≢◌, ℕ, ◌+◌, ◌-◌, ◌<◌, ◌≤◌, List, [], ◌∷◌, ◌++◌, length, Option, Some, None, Bool, true, false, ◌||◌, ◌&&◌, nat_lt, refl, zero, suc, ap, sym, ◌∙◌, arith, inl, inr, IfSome}
+use Rattle.std.specs.Prelude.{◌==◌, ◌↔◌, All, AllPairs, not, if◌then◌else◌}
+use Rattle.std.specs.List.{Contains, list_any, range_with_len, flat_map, slice_get}
+use Rattle.std.proofs.lemmas.Bool.{true≢false, or_parts, not-false, ltb-false, false_from_ne_true, eqb-true, cases_lt, le-ltb}
+use Rattle.std.proofs.Math.Bool.{or-false}
 use Rattle.std.proofs.lemmas.List.{length-append, get_or_append_left, get_or-append_right}
-use Rattle.std.proofs.lemmas.List.Elements.{All-weaker, All-head, Contains-get_or}
+use Rattle.std.proofs.lemmas.List.Elements.{All-weaker, All-head, Contains-get_or, Contains-append_cases, Contains-append_left}
 use Rattle.std.proofs.lemmas.List.Sums.{sum_by-cons}
 use Rattle.std.proofs.lemmas.Bool.Decides.{nat_tests}
 use Rattle.std.proofs.lemmas.List.FromFn.{length-range_with_len, get_or-range_with_len}
 use Rattle.std.proofs.lemmas.List.Folds.{list_any_at}
+use Rattle.std.proofs.lemmas.Option.{slice_get_past}
 use Rattle.dma_mem.specs.declared.segment.Segment.{Segment}
 use Rattle.dma_mem.specs.declared.transfer.TransferFault.{TransferFault}
-use Rattle.dma_mem.specs.Places.{Apart, Descriptor, places, sources, destinations, size_of, share}
-use Rattle.dma_mem.specs.Rules.{IsTransfer, IsSegmentList}
-use Rattle.dma_mem.specs.Refusals.{refusal_of, cause, total, some_meet, meets_any, is_bad_event, is_empty_list, has_too_many, has_empty_segment, has_wrapping_segment}
-use Rattle.dma_mem.proofs.SharedPlaces.{share-false, share_places, share_none, share-append_left}
+use Rattle.dma_mem.specs.Places.{Apart, Descriptor, filling, places, sources, destinations, size_of, share, touches, is_free_of}
+use Rattle.dma_mem.specs.Rules.{IsTransfer, IsSegmentList, HasOneByte}
+use Rattle.dma_mem.specs.declared.transfer.TransferFault.TheVariants.{EmptyList, TooManySegments, EmptySegment, SegmentWraps, TooLong, DestinationsMeet, SourceMeetsDestination, BadEvent}
+use Rattle.dma_mem.specs.Meeting.{meets}
+use Rattle.dma_mem.specs.Refusals.{refusal_of, refusal_of_fill, cause, total, some_meet, meets_any, is_bad_event, is_empty_list, has_too_many, has_empty_segment, has_wrapping_segment}
+use Rattle.dma_mem.proofs.SharedPlaces.{share-false, share-true, shared_by, share_places, share_none, share-append_left}
+use Rattle.dma_mem.proofs.MarkHits.{same_bool, share-sym}
 
 -- ---- lists of segments
 
@@ -85,6 +90,36 @@ good_event : (event : Option ℕ) → is_bad_event event ≡ false → IfSome ev
 good_event None h = tt
 good_event (Some e) h = ltb-false 31 e h
 
+-- ---- the places of a fill's sources
+
+-- each is a place of the source list
+source-again : (xs ds : List ℕ) (a : ℕ) → Contains (flat_map (λ (d : ℕ). xs) ds) a → Contains xs a
+source-again xs [] a i = absurd (omega (arith, i.1))
+source-again xs (d ∷ ds) a i = elim (Contains-append_cases xs (flat_map (λ (d : ℕ). xs) ds) a i) [ inl here ↦ here | inr later ↦ source-again xs ds a later ]
+
+source-in_by : (fill : Bool) (xs ds : List ℕ) (a : ℕ) → Contains (if fill then flat_map (λ (d : ℕ). xs) ds else xs) a → Contains xs a
+source-in_by true xs ds a i = source-again xs ds a i
+source-in_by false xs ds a i = i
+
+pub source-in : (t : Descriptor) (a : ℕ) → Contains (sources t) a → Contains (places t.src) a
+source-in t a i = source-in_by t.fill (places t.src) (destinations t) a i
+
+-- one place again for each of a list is as many
+again-length : (a : ℕ) (ds : List ℕ) → length (flat_map (λ (d : ℕ). a ∷ []) ds) ≡ length ds
+again-length a [] = refl
+again-length a (d ∷ ds) = ap suc (again-length a ds)
+
+as_many_by : (fill : Bool) (src dst : List Segment) → (fill ≡ true → (a : ℕ) × (src ≡ record { addr = a; len = 1 } ∷ [])) → (not fill && not (total src == total dst)) ≡ false → length (if fill then flat_map (λ (d : ℕ). places src) (places dst) else places src) ≡ length (places dst)
+as_many_by true src dst one h =
+    let w = one refl in
+    rw w.1 (again-length w.0 (places dst))
+as_many_by false src dst one h =
+    let same : total src ≡ total dst = eqb-true _ _ (not-false _ h) in
+    length-places src ∙ same ∙ sym (length-places dst)
+
+as_many : (t : Descriptor) → HasOneByte t → (not t.fill && not (total t.src == total t.dst)) ≡ false → length (sources t) ≡ length (destinations t)
+as_many t one h = as_many_by t.fill t.src t.dst one h
+
 -- ---- the law
 
 cause-none : (b : Bool) (fault : TransferFault) (others : Option TransferFault) → cause b fault others ≡ None → (b ≡ false) × (others ≡ None)
@@ -92,8 +127,8 @@ cause-none true fault others h = cc
 cause-none false fault others h = (refl, h)
 
 -- what no rule refuses is a transfer
-pub IsTransfer-from_no_refusal : (t : Descriptor) → refusal_of t ≡ None → IsTransfer t
-IsTransfer-from_no_refusal t h =
+pub IsTransfer-from_no_refusal : (t : Descriptor) → HasOneByte t → refusal_of t ≡ None → IsTransfer t
+IsTransfer-from_no_refusal t one h =
     let empty = cause-none _ _ _ h in
     let many = cause-none _ _ _ empty.1 in
     let filled = cause-none _ _ _ many.1 in
@@ -108,23 +143,110 @@ IsTransfer-from_no_refusal t h =
     let filled' = or_parts _ _ filled.0 in
     let wraps' = or_parts _ _ wraps.0 in
     let events' = or_parts _ _ events.0 in
-    let same : total t.src ≡ total t.dst = eqb-true _ _ (not-false _ totals.0) in
     record {
+      one_byte = one;
       source_list = is_segment_list t.src empty'.0 many'.0 filled'.0 wraps'.0;
       destination_list = is_segment_list t.dst empty'.1 many'.1 filled'.1 wraps'.1;
-      same_length = length-places t.src ∙ same ∙ sym (length-places t.dst);
+      same_length = as_many t one totals.0;
       short = rw (length-places t.dst) (ltb-false 1048576 (total t.dst) long.0);
       once = once-places t.dst once.0;
-      apart = share-false (sources t) (destinations t) (sym (meets_any-places t.src t.dst) ∙ apart.0);
+      apart = λ a i. share-false (places t.src) (destinations t) (sym (meets_any-places t.src t.dst) ∙ apart.0) a (source-in t a i);
       wait_event = good_event t.wait events'.0;
       signal_event = good_event t.signal events'.1;
     }
 
+-- the two kinds of transfers
+pub copy-from_no_refusal : (src dst : List Segment) (wait signal : Option ℕ) → refusal_of (record { fill = false; src = src; dst = dst; wait = wait; signal = signal }) ≡ None → IsTransfer (record { fill = false; src = src; dst = dst; wait = wait; signal = signal })
+copy-from_no_refusal src dst wait signal h =
+    IsTransfer-from_no_refusal (record { fill = false; src = src; dst = dst; wait = wait; signal = signal }) (λ e. absurd (cc)) h
+
+pub fill-from_no_refusal : (src : ℕ) (dst : List Segment) (wait signal : Option ℕ) → refusal_of (filling src dst wait signal) ≡ None → IsTransfer (filling src dst wait signal)
+fill-from_no_refusal src dst wait signal h =
+    IsTransfer-from_no_refusal (filling src dst wait signal) (λ e. (src, refl)) h
+
+-- a fill is refused as a transfer from one byte is
+no_wrap : (src : ℕ) → src < 4294967296 → (nat_lt 4294967296 (src + 1) || false) ≡ false
+no_wrap src low = or-false (nat_lt 4294967296 (src + 1)) ∙ le-ltb 4294967296 (src + 1) (omega (arith, low))
+
+pub fill_refusals : (src : ℕ) (dst : List Segment) (wait signal : Option ℕ) → src < 4294967296 → refusal_of_fill src dst wait signal ≡ refusal_of (filling src dst wait signal)
+fill_refusals src dst wait signal low =
+    let met = list_any (meets (record { addr = src; len = 1 })) dst in
+    let told : Bool → Bool → Option TransferFault = λ wraps meet.
+    cause (is_empty_list dst) EmptyList (
+    cause (has_too_many dst) TooManySegments (
+    cause (has_empty_segment dst) EmptySegment (
+    cause (wraps || has_wrapping_segment dst) SegmentWraps (
+    cause (nat_lt 1048576 (total dst)) TooLong (
+    cause (some_meet dst) DestinationsMeet (
+    cause meet SourceMeetsDestination (
+    cause (is_bad_event wait || is_bad_event signal) BadEvent None))))))) in
+    ap (λ (b : Bool). told b met) (sym (no_wrap src low)) ∙ ap (λ (b : Bool). told (nat_lt 4294967296 (src + 1) || false) b) (sym (or-false met))
+
 -- a list with a segment, none of them empty, has a place
-places_some : (list : List Segment) → IsSegmentList list → 1 ≤ length (places list)
+pub places_some : (list : List Segment) → IsSegmentList list → 1 ≤ length (places list)
 places_some [] h = omega (arith, h.some)
 places_some (s ∷ rest) h =
     omega (arith, All-head (λ (t : Segment). 0 < t.len) s rest h.filled, length-append (range_with_len s.addr s.len) (places rest), length-range_with_len s.addr s.len)
 
 pub size_of-some : (t : Descriptor) → IsTransfer t → 1 ≤ size_of t
 size_of-some t h = places_some t.dst h.destination_list
+
+-- ---- a fill's one place stands for its sources
+
+share-again : (fill : Bool) (zs xs ds : List ℕ) → 1 ≤ length ds → share zs (if fill then flat_map (λ (d : ℕ). xs) ds else xs) ≡ share zs xs
+share-again false zs xs ds some = refl
+share-again true zs xs [] some = absurd (omega arith)
+share-again true zs xs (d ∷ ds) some =
+    let again = flat_map (λ (e : ℕ). xs) (d ∷ ds) in
+    same_bool (share zs again) (share zs xs)
+    (λ h. let w = shared_by zs again h in share-true zs xs w.0 w.1 (source-again xs (d ∷ ds) w.0 w.2))
+    (λ h. let w = shared_by zs xs h in share-true zs again w.0 w.1 (Contains-append_left xs (flat_map (λ (e : ℕ). xs) ds) w.0 w.2))
+
+same-again : (fill : Bool) (xs ds : List ℕ) → 1 ≤ length ds → (a : ℕ) → Contains xs a ↔ Contains (if fill then flat_map (λ (d : ℕ). xs) ds else xs) a
+same-again false xs ds some a = (λ i. i, λ i. i)
+same-again true xs [] some a = absurd (omega arith)
+same-again true xs (d ∷ ds) some a =
+    (λ i. Contains-append_left xs (flat_map (λ (e : ℕ). xs) ds) a i, λ i. source-again xs (d ∷ ds) a i)
+
+-- a source list has the addresses of the sources
+pub same-sources : (t : Descriptor) → IsTransfer t → (a : ℕ) → Contains (places t.src) a ↔ Contains (sources t) a
+same-sources t h a = same-again t.fill (places t.src) (destinations t) (size_of-some t h) a
+
+-- what meets a source list meets the sources
+pub share-sources : (zs : List ℕ) (t : Descriptor) → IsTransfer t → share zs (sources t) ≡ share zs (places t.src)
+share-sources zs t h = share-again t.fill zs (places t.src) (destinations t) (size_of-some t h)
+
+pub sources-share : (t : Descriptor) (zs : List ℕ) → IsTransfer t → share (sources t) zs ≡ share (places t.src) zs
+sources-share t zs h = share-sym (sources t) zs ∙ share-sources zs t h ∙ share-sym zs (places t.src)
+
+pub touches-lists : (t : Descriptor) (s : Segment) → IsTransfer t → touches t s ≡ (share (range_with_len s.addr s.len) (destinations t) || share (range_with_len s.addr s.len) (places t.src))
+touches-lists t s h = ap (λ b. share (range_with_len s.addr s.len) (destinations t) || b) (share-sources (range_with_len s.addr s.len) t h)
+
+pub is_free_of-lists : (t u : Descriptor) → IsTransfer t → IsTransfer u → is_free_of t u ≡ not (share (destinations t) (destinations u) || (share (destinations t) (places u.src) || share (places t.src) (destinations u)))
+is_free_of-lists t u h i =
+    let theirs : share (destinations t) (sources u) ≡ share (destinations t) (places u.src) = share-sources (destinations t) u i in
+    let own : share (sources t) (destinations u) ≡ share (places t.src) (destinations u) = sources-share t (destinations u) h in
+    rw (theirs, own) refl
+
+at_again : (a p : ℕ) (ds : List ℕ) → p < length ds → Some a ≡ slice_get (flat_map (λ (d : ℕ). a ∷ []) ds) p
+at_again a p [] l = absurd (omega arith)
+at_again a zero (d ∷ ds) l = refl
+at_again a (suc p) (d ∷ ds) l = at_again a p ds (omega arith)
+
+place_again_by : (fill : Bool) (src : List Segment) (ds : List ℕ) (p : ℕ) → fill ≡ true → (a : ℕ) × (src ≡ record { addr = a; len = 1 } ∷ []) → p < length ds → slice_get (places src) 0 ≡ slice_get (if fill then flat_map (λ (d : ℕ). places src) ds else places src) p
+place_again_by true src ds p e w l = rw w.1 (at_again w.0 p ds l)
+place_again_by false src ds p e w l = absurd (true≢false (sym e))
+
+-- a fill reads its first place at every position
+pub place-again : (t : Descriptor) (p : ℕ) → IsTransfer t → t.fill ≡ true → p < size_of t → slice_get (places t.src) 0 ≡ slice_get (sources t) p
+place-again t p h e l = place_again_by t.fill t.src (destinations t) p e (h.one_byte e) l
+
+pub place-past : (t : Descriptor) (p : ℕ) → IsTransfer t → size_of t ≤ p → None ≡ slice_get (sources t) p
+place-past t p h l = sym (slice_get_past (sources t) p (omega (arith, h.same_length)))
+
+place_listed_by : (fill : Bool) (xs ds : List ℕ) → fill ≡ false → (if fill then flat_map (λ (d : ℕ). xs) ds else xs) ≡ xs
+place_listed_by false xs ds e = refl
+place_listed_by true xs ds e = absurd (true≢false e)
+
+pub sources-listed : (t : Descriptor) → t.fill ≡ false → sources t ≡ places t.src
+sources-listed t e = place_listed_by t.fill (places t.src) (destinations t) e

@@ -1,5 +1,5 @@
 -- The places of a list of segments, and what it is for two transfers to be free of each other.
-use Rattle.std.specs.Prelude.{ℕ, List, length, take, Option, Bool, ◌||◌, ◌&&◌, not, nat_eq, nat_le, ◌+◌}
+use Rattle.std.specs.Prelude.{ℕ, List, [], ◌∷◌, length, take, Option, Bool, true, ◌||◌, ◌&&◌, not, nat_eq, nat_le, ◌+◌, if◌then◌else◌}
 use Rattle.std.specs.List.{flat_map, range_with_len, Contains, list_any, list_all, zip}
 use Rattle.dma_mem.specs.declared.segment.Segment.{Segment}
 
@@ -19,20 +19,28 @@ Apart xs ys = (a : ℕ) → Contains xs a → ¬ Contains ys a
 unfoldable pub share : List ℕ → List ℕ → Bool
 share xs ys = list_any (λ a. list_any (nat_eq a) ys) xs
 
--- What a transfer copies from where to where, and the events that it waits for and signals.
+-- What a transfer copies from where to where, whether it is a fill, and the events that it waits for and signals. The
+-- sources of a fill are one segment of one byte.
 pub record Descriptor : Type 0 where
+  pub fill : Bool
   pub src : List Segment
   pub dst : List Segment
   pub wait : Option ℕ
   pub signal : Option ℕ
 
--- the places that a transfer reads; position p of these is copied to position p of those that it writes
-abbrev pub sources : Descriptor → List ℕ
-sources t = places t.src
+-- A fill: the byte at one address, to every place of a list (dmaengine memset).
+abbrev pub filling : ℕ → List Segment → Option ℕ → Option ℕ → Descriptor
+filling src dst wait signal =
+    record { fill = true; src = record { addr = src; len = 1 } ∷ []; dst = dst; wait = wait; signal = signal }
 
--- the places that it writes
+-- the places that a transfer writes
 abbrev pub destinations : Descriptor → List ℕ
 destinations t = places t.dst
+
+-- The places that it reads: position p of these is copied to position p of those that it writes. A fill reads its one place
+-- again for each of those.
+abbrev pub sources : Descriptor → List ℕ
+sources t = if t.fill then flat_map (λ d. places t.src) (destinations t) else places t.src
 
 -- how many bytes it copies
 abbrev pub size_of : Descriptor → ℕ

@@ -2,11 +2,15 @@
 use Rattle.std.specs.Prelude.{ℕ, ◌+◌, ◌<◌, ◌↔◌, List, All, AllPairs}
 use Rattle.std.specs.List.{Contains}
 use Rattle.dma_mem.specs.declared.segment.Segment.{Segment}
-use Rattle.dma_mem.specs.Places.{places}
+use Rattle.dma_mem.specs.Places.{Descriptor, places, sources}
 
 -- Two lists of segments have the same addresses.
 abbrev pub SameAddresses : List Segment → List Segment → Type 0
 SameAddresses xs ys = (a : ℕ) → Contains (places xs) a ↔ Contains (places ys) a
+
+-- Segments have the addresses that a transfer reads.
+abbrev pub HasSources : List Segment → Descriptor → Type 0
+HasSources ranges t = (a : ℕ) → Contains (places ranges) a ↔ Contains (sources t) a
 
 -- Coalesced ranges: each has bytes, and ends below the first address of every later one, so that they rise and no two meet
 -- or touch. A set of addresses has one such list.

@@ -1,5 +1,5 @@
 -- The refusals of two lists of segments and two events, in their order: one for each rule of a transfer.
-use Rattle.std.specs.Prelude.{◌+◌, ℕ, List, [], ◌∷◌, length, Option, Some, None, Bool, false, ◌||◌, not, ◌==◌, nat_lt, if◌then◌else◌, sum_by}
+use Rattle.std.specs.Prelude.{◌+◌, ℕ, List, [], ◌∷◌, length, Option, Some, None, Bool, false, ◌||◌, ◌&&◌, not, ◌==◌, nat_lt, if◌then◌else◌, sum_by}
 use Rattle.std.specs.List.{list_any}
 use Rattle.dma_mem.specs.declared.segment.Segment.{Segment}
 use Rattle.dma_mem.specs.declared.transfer.TransferFault.{TransferFault}
@@ -53,15 +53,28 @@ cause holds fault others = if holds then Some fault else others
 abbrev pub overlap_of : List Segment → List Segment → Option TransferFault
 overlap_of src dst = cause (some_meet dst) DestinationsMeet (cause (meets_any src dst) SourceMeetsDestination None)
 
--- The first refusal that holds, if one does: each is tested over both lists before the next.
+-- The first refusal that holds, if one does: each is tested over both lists before the next. The lists of a fill may differ
+-- in length.
 abbrev pub refusal_of : Descriptor → Option TransferFault
 refusal_of t =
     cause (of_either_list is_empty_list t) EmptyList (
     cause (of_either_list has_too_many t) TooManySegments (
     cause (of_either_list has_empty_segment t) EmptySegment (
     cause (of_either_list has_wrapping_segment t) SegmentWraps (
-    cause (not (total t.src == total t.dst)) TotalsDiffer (
+    cause (not t.fill && not (total t.src == total t.dst)) TotalsDiffer (
     cause (nat_lt 1048576 (total t.dst)) TooLong (
     cause (some_meet t.dst) DestinationsMeet (
     cause (meets_any t.src t.dst) SourceMeetsDestination (
     cause (is_bad_event t.wait || is_bad_event t.signal) BadEvent None))))))))
+
+-- The first refusal of a fill that holds, if one does: each is tested over its destinations, and its one byte against them.
+abbrev pub refusal_of_fill : ℕ → List Segment → Option ℕ → Option ℕ → Option TransferFault
+refusal_of_fill src dst wait signal =
+    cause (is_empty_list dst) EmptyList (
+    cause (has_too_many dst) TooManySegments (
+    cause (has_empty_segment dst) EmptySegment (
+    cause (has_wrapping_segment dst) SegmentWraps (
+    cause (nat_lt 1048576 (total dst)) TooLong (
+    cause (some_meet dst) DestinationsMeet (
+    cause (list_any (meets (record { addr = src; len = 1 })) dst) SourceMeetsDestination (
+    cause (is_bad_event wait || is_bad_event signal) BadEvent None)))))))

@@ -1,5 +1,5 @@
 -- The rules of a transfer.
-use Rattle.std.specs.Prelude.{◌≡◌, ◌≢◌, ◌+◌, ◌<◌, ◌≤◌, List, length, All, AllPairs, IfSome}
+use Rattle.std.specs.Prelude.{◌≡◌, ◌≢◌, ◌+◌, ◌<◌, ◌≤◌, ℕ, List, [], ◌∷◌, length, true, All, AllPairs, IfSome}
 use Rattle.dma_mem.specs.declared.segment.Segment.{Segment}
 use Rattle.dma_mem.specs.Places.{Descriptor, Apart, sources, destinations, size_of}
 
@@ -10,9 +10,15 @@ pub record IsSegmentList (list : List Segment) : Type 0 where
   pub filled : All (λ s. 0 < s.len) list
   pub within : All (λ s. s.addr + s.len ≤ 4294967296) list
 
--- What holds of every transfer: two such lists of as many bytes, at most 1,048,576 (profile); no place is written twice,
--- and none is both read and written, so that all bytes can be copied at once; both events are at most 31.
+-- A fill has one source segment, of one byte.
+abbrev pub HasOneByte : Descriptor → Type 0
+HasOneByte t = t.fill ≡ true → (a : ℕ) × (t.src ≡ record { addr = a; len = 1 } ∷ [])
+
+-- What holds of every transfer: two such lists, of one byte the first where it is a fill; as many places to read as to
+-- write, at most 1,048,576 (profile); no place is written twice, and none is both read and written, so that all bytes can be
+-- copied at once; both events are at most 31.
 pub record IsTransfer (t : Descriptor) : Type 0 where
+  pub one_byte : HasOneByte t
   pub source_list : IsSegmentList t.src
   pub destination_list : IsSegmentList t.dst
   pub same_length : length (sources t) ≡ length (destinations t)

@@ -4,3 +4,4 @@ pub mod PageTable
 pub mod RangesInOrder
 pub mod MarkRanges
 pub mod KeptRanges
+pub mod Origins

@@ -1,13 +1,14 @@
 //! Transfers from a list of segments to another.
 
-ghost use Rattle.std.specs.Prelude.{◌≡◌, ◌+◌, ◌<◌, ◌≤◌, ◌↔◌, All, IsTrue, IfOk, IfErr, MatchResult, length, slice_get, unwrap_or};
-ghost use Rattle.dma_mem.specs.Places.{Descriptor, places, sources, destinations, size_of, lies_below, all_below, share, range_of, touches, writes, is_free_of};
+ghost use Rattle.std.specs.Prelude.{◌≡◌, ◌+◌, ◌<◌, ◌≤◌, ◌↔◌, All, IsTrue, false, IfOk, IfErr, MatchResult, length, slice_get, unwrap_or};
+ghost use Rattle.dma_mem.specs.Places.{Descriptor, filling, places, sources, destinations, size_of, lies_below, all_below, share, range_of, touches, writes, is_free_of};
 ghost use Rattle.dma_mem.specs.Meeting.{meets, IsFree};
 ghost use Rattle.std.specs.List.{list_any};
 ghost use Rattle.std.specs.List.Sorted.{IsNonDecreasingBy};
 ghost use Rattle.dma_mem.specs.declared.segment.Segment.{Segment};
 ghost use Rattle.dma_mem.specs.Rules.{IsTransfer};
-ghost use Rattle.dma_mem.specs.Refusals.{refusal_of, overlap_of, total, some_meet, meets_any, has_empty_segment, has_wrapping_segment, is_bad_event};
+ghost use Rattle.dma_mem.specs.inner.Origins.{segments_of, is_byte};
+ghost use Rattle.dma_mem.specs.Refusals.{refusal_of, refusal_of_fill, overlap_of, total, some_meet, meets_any, has_empty_segment, has_wrapping_segment, is_bad_event};
 
 use crate::lists::Segments;
 use crate::ordered::{any_meets_ordered, end_of, sort_by_address};
@@ -53,13 +54,50 @@ pub enum TransferFault {
     NoMemory,
 }
 
+// Where a transfer reads: the places of a list, or of a fill one byte. Its segment stands in place, so that a fill takes no
+// memory for it.
+#[derive(Debug, Drop)]
+enum Origin {
+    Listed(Segments),
+    Byte(Segment),
+}
+
+impl Origin {
+    // The segments, in order.
+    fn as_slice(&self) -> &[Segment]
+        ensures { result.now ≡ segments_of self.now }
+    {
+        match self {
+            Origin::Listed(segments) => segments.as_slice(),
+            Origin::Byte(segment) => std::slice::from_ref(segment),
+        }
+    }
+
+    // Whether it is one byte, for every destination.
+    fn is_byte(&self) -> bool
+        ensures { result ≡ is_byte self.now }
+    {
+        matches!(self, Origin::Byte(_))
+    }
+
+    // The same again, in memory of its own.
+    fn try_copy(&self) -> Result<Origin, AllocError>
+        ensures { IfOk result (λ copy. copy ≡ self.now) }
+    {
+        Ok(match self {
+            Origin::Listed(segments) => Origin::Listed(segments.try_copy()?),
+            Origin::Byte(segment) => Origin::Byte(*segment),
+        })
+    }
+}
+
 /// What is copied from where to where, and the events that it waits for first and signals last.
 ///
 /// The places of a list are the addresses of its segments, segment after segment, each rising. Position p of the sources
-/// is copied to position p of the destinations.
+/// is copied to position p of the destinations. A fill has one source byte, which is copied to every destination.
 #[derive(Debug, Drop)]
 pub struct Transfer {
-    src: Segments,
+    src: Origin,
     dst: Segments,
     wait: Option<u8>,
     signal: Option<u8>,
@@ -73,11 +111,14 @@ impl Model for Transfer {
     ghost Value = { Descriptor };
 
     ghost use Rattle.dma_mem.specs.Rules.{IsTransfer};
+    ghost use Rattle.dma_mem.specs.inner.Origins.{segments_of, is_byte};
 
-    ghost view = { λ t. record { src = t.src; dst = t.dst; wait = t.wait; signal = t.signal } };
+    ghost view = { λ t. record { fill = is_byte t.src; src = segments_of t.src; dst = t.dst; wait = t.wait; signal = t.signal } };
 
-    ghost invariant = { λ t. IsTransfer (record { src = t.src; dst = t.dst; wait = t.wait; signal = t.signal })
-        × (t.len ≡ size_of (record { src = t.src; dst = t.dst; wait = t.wait; signal = t.signal })) };
+    ghost invariant = { λ t. IsTransfer
+        (record { fill = is_byte t.src; src = segments_of t.src; dst = t.dst; wait = t.wait; signal = t.signal })
+        × (t.len ≡ size_of
+        (record { fill = is_byte t.src; src = segments_of t.src; dst = t.dst; wait = t.wait; signal = t.signal })) };
 }
 
 // Whether a segment of the list has no byte.
@@ -183,14 +224,15 @@ fn is_bad_event(event: Option<u8>) -> bool
     event.is_some_and(|e| e > LAST_EVENT)
 }
 
-// How many bytes a transfer of these lists copies, or the first refusal that holds.
+// How many bytes a transfer of these lists copies, or a fill, or the first refusal that holds.
 fn checked_len(
+    fill: bool,
     src: &[Segment],
     dst: &[Segment],
     wait: Option<u8>,
     signal: Option<u8>,
 ) -> Result<u32, TransferFault>
-    ensures { let t : Descriptor = record { src = src.now; dst = dst.now; wait = wait; signal = signal } in
+    ensures { let t : Descriptor = record { fill = fill; src = src.now; dst = dst.now; wait = wait; signal = signal } in
         MatchResult result (λ len. (refusal_of t ≡ None) × (len ≡ total dst.now)) (λ fault. refusal_of t ≡ Some fault) }
 {
     if src.is_empty() || dst.is_empty() {
@@ -206,7 +248,7 @@ fn checked_len(
         return Err(TransferFault::SegmentWraps);
     }
     let len = total(dst);
-    if total(src) != len {
+    if !fill && total(src) != len {
         return Err(TransferFault::TotalsDiffer);
     }
     if len > u64::from(MAX_BYTES) {
@@ -265,17 +307,17 @@ impl Transfer {
         wait: Option<u8>,
         signal: Option<u8>,
     ) -> Result<Transfer, TransferFault>
-        ensures ok { IfOk result (λ t. t ≡ record { src = src.now; dst = dst.now; wait = wait; signal = signal }) }
+        ensures ok { IfOk result (λ t. t ≡ record { fill = false; src = src.now; dst = dst.now; wait = wait; signal = signal }) }
         ensures accepted { IfOk result (λ t. refusal_of t ≡ None) }
         ensures rules { IfOk result (λ t. IsTransfer t) }
         ensures err { IfErr result (λ fault. fault ≡ unwrap_or
-            (refusal_of (record { src = src.now; dst = dst.now; wait = wait; signal = signal })) TransferFault.NoMemory) }
+            (refusal_of (record { fill = false; src = src.now; dst = dst.now; wait = wait; signal = signal })) TransferFault.NoMemory) }
     {
-        let len = checked_len(src, dst, wait, signal)?;
+        let len = checked_len(false, src, dst, wait, signal)?;
         let src = copied(alloc, src)?;
         let dst = copied(alloc, dst)?;
         Ok(Transfer {
-            src,
+            src: Origin::Listed(src),
             dst,
             wait,
             signal,
@@ -291,14 +333,14 @@ impl Transfer {
         wait: Option<u8>,
         signal: Option<u8>,
     ) -> Result<Transfer, TransferFault>
-        ensures ok { IfOk result (λ t. t ≡ record { src = src; dst = dst; wait = wait; signal = signal }) }
+        ensures ok { IfOk result (λ t. t ≡ record { fill = false; src = src; dst = dst; wait = wait; signal = signal }) }
         ensures accepted { IfOk result (λ t. refusal_of t ≡ None) }
         ensures rules { IfOk result (λ t. IsTransfer t) }
-        ensures err { IfErr result (λ fault. refusal_of (record { src = src; dst = dst; wait = wait; signal = signal }) ≡ Some fault) }
+        ensures err { IfErr result (λ fault. refusal_of (record { fill = false; src = src; dst = dst; wait = wait; signal = signal }) ≡ Some fault) }
     {
-        let len = checked_len(src.as_slice(), dst.as_slice(), wait, signal)?;
+        let len = checked_len(false, src.as_slice(), dst.as_slice(), wait, signal)?;
         Ok(Transfer {
-            src,
+            src: Origin::Listed(src),
             dst,
             wait,
             signal,
@@ -306,7 +348,68 @@ impl Transfer {
         })
     }
 
-    /// The source segments, in order.
+    /// A fill: a transfer of the byte at `src` to every place of `dst`, which waits for one event first and signals one
+    /// last.
+    ///
+    /// The error is the first that holds, as for [`Transfer::new`] with a source segment of one byte, but each is tested
+    /// over `dst` alone, and `TotalsDiffer` is none of them; `SourceMeetsDestination` comes where a place of `dst` is `src`.
+    pub fn fill(
+        alloc: Global,
+        src: u32,
+        dst: &[Segment],
+        wait: Option<u8>,
+        signal: Option<u8>,
+    ) -> Result<Transfer, TransferFault>
+        ensures ok { IfOk result (λ t. t ≡ filling src dst.now wait signal) }
+        ensures accepted { IfOk result (λ t. refusal_of_fill src dst.now wait signal ≡ None) }
+        ensures rules { IfOk result (λ t. IsTransfer t) }
+        ensures err { IfErr result (λ fault. fault ≡ unwrap_or (refusal_of_fill src dst.now wait signal) TransferFault.NoMemory) }
+    {
+        let byte = Segment { addr: src, len: 1 };
+        let len = checked_len(true, &[byte], dst, wait, signal)?;
+        let list = copied(alloc, dst)?;
+        Ok(Transfer {
+            src: Origin::Byte(byte),
+            dst: list,
+            wait,
+            signal,
+            len,
+        })
+    }
+
+    /// The same of a list that it takes for itself, so that no memory is asked for. The errors are those of
+    /// [`Transfer::fill`] in their order, without `NoMemory`.
+    pub fn fill_list(
+        src: u32,
+        dst: Segments,
+        wait: Option<u8>,
+        signal: Option<u8>,
+    ) -> Result<Transfer, TransferFault>
+        ensures ok { IfOk result (λ t. t ≡ filling src dst wait signal) }
+        ensures accepted { IfOk result (λ t. refusal_of_fill src dst wait signal ≡ None) }
+        ensures rules { IfOk result (λ t. IsTransfer t) }
+        ensures err { IfErr result (λ fault. refusal_of_fill src dst wait signal ≡ Some fault) }
+    {
+        let byte = Segment { addr: src, len: 1 };
+        let len = checked_len(true, &[byte], dst.as_slice(), wait, signal)?;
+        Ok(Transfer {
+            src: Origin::Byte(byte),
+            dst,
+            wait,
+            signal,
+            len,
+        })
+    }
+
+    /// Whether it is a fill, which copies one byte to every destination.
+    pub fn is_fill(&self) -> bool
+        ensures fill { result ≡ self.now.fill }
+        ensures rules { IsTransfer self.now }
+    {
+        self.src.is_byte()
+    }
+
+    /// The source segments, in order: of a fill one of one byte.
     pub fn src(&self) -> &[Segment]
         ensures segments { result.now ≡ self.now.src }
         ensures rules { IsTransfer self.now }
@@ -347,11 +450,20 @@ impl Transfer {
         self.len
     }
 
-    /// The address that position `position` is read from, or none at or past the length.
+    /// The address that position `position` is read from, or none at or past the length: of a fill the same at each.
     pub fn src_place(&self, position: u32) -> Option<u32>
         ensures { result ≡ slice_get (sources self.now) position }
     {
-        place_at(self.src(), position)
+        let Transfer { len, .. } = self;
+        if self.is_fill() {
+            if position < *len {
+                place_at(self.src(), 0)
+            } else {
+                None
+            }
+        } else {
+            place_at(self.src(), position)
+        }
     }
 
     /// The address that position `position` is written to, or none at or past the length.
@@ -577,6 +689,134 @@ mod tests {
         }
         assert_eq!(rt; t.dst(), [seg((0x40, 8))].as_slice());
         assert!(rt; t.lies_below(0x48) && !t.lies_below(0x47));
+        Ok(())
+    }
+
+    #[test]
+    fn fills_from_one_place(rt: HostRuntime) -> Result<(), Fail> {
+        let dst = [seg((0x20, 3)), seg((0x30, 2))];
+        let t = Transfer::fill(rt.alloc(), 0x10, &dst, None, Some(2))?;
+        assert!(rt; t.is_fill());
+        assert_eq!(rt; t.len(), 5);
+        assert_eq!(rt; t.src(), [seg((0x10, 1))].as_slice());
+        let places = [
+            (0, Some(0x10), Some(0x20)),
+            (4, Some(0x10), Some(0x31)),
+            (5, None, None),
+        ];
+        for (position, from, to) in places {
+            assert_eq!(rt; t.src_place(position), from);
+            assert_eq!(rt; t.dst_place(position), to);
+        }
+        assert!(rt; t.touches(seg((0x10, 1))) && !t.writes(seg((0x10, 1))));
+        assert!(rt; !t.touches(seg((0x11, 5))));
+        assert!(rt; t.lies_below(0x32) && !t.lies_below(0x31));
+        let copy = t.try_copy()?;
+        assert!(rt; copy.is_fill() && copy.signal() == Some(2));
+        let plain = Transfer::new(rt.alloc(), &[seg((0x10, 1))], &[seg((0x20, 1))], None, None)?;
+        assert!(rt; !plain.is_fill());
+        Ok(())
+    }
+
+    #[test]
+    fn fills_take_lists_for_themselves(rt: HostRuntime) -> Result<(), Fail> {
+        let dst = Segments::from_slice(rt.alloc(), &[seg((0x20, 3)), seg((0x30, 2))])?;
+        let t = Transfer::fill_list(0x31FF, dst, Some(7), None)?;
+        assert!(rt; t.is_fill() && !t.lies_below(0x31FF));
+        assert_eq!(rt; (t.len(), t.wait()), (5, Some(7)));
+        assert_eq!(rt; t.src(), [seg((0x31FF, 1))].as_slice());
+        let none = Transfer::fill_list(0, Segments::new(rt.alloc()), Some(32), None);
+        assert_eq!(rt; none.err(), Some(TransferFault::EmptyList));
+        Ok(())
+    }
+
+    #[test]
+    fn fills_are_free_of_readers_of_their_byte(rt: HostRuntime) -> Result<(), Fail> {
+        let first = Transfer::fill(rt.alloc(), 0x10, &[seg((0x20, 4))], None, None)?;
+        let cases = [
+            ((0x10, 1), (0x30, 1), true),
+            ((0x30, 1), (0x10, 1), false),
+            ((0x22, 1), (0x30, 1), false),
+            ((0x11, 1), (0x24, 1), true),
+        ];
+        for (src, dst, free) in cases {
+            let copy = Transfer::new(rt.alloc(), &[seg(src)], &[seg(dst)], None, None)?;
+            let fill = Transfer::fill(rt.alloc(), src.0, &[seg(dst)], None, None)?;
+            for other in [copy, fill] {
+                assert_eq!(rt; first.is_free_of(&other), free, "at {src:?} to {dst:?}");
+                assert_eq!(rt; other.is_free_of(&first), free, "at {src:?} to {dst:?}");
+            }
+        }
+        Ok(())
+    }
+
+    // From the seventh row on, two causes that follow each other in the order hold.
+    #[test]
+    fn refuses_fills_by_their_destinations(rt: HostRuntime) -> Result<(), Fail> {
+        let cases = [
+            ((0x0E, 2), None, None, None),
+            (
+                (0x0E, 4),
+                None,
+                None,
+                Some(TransferFault::SourceMeetsDestination),
+            ),
+            (
+                (0x11, 4),
+                Some((0x14, 2)),
+                None,
+                Some(TransferFault::DestinationsMeet),
+            ),
+            ((0x11, 0), None, None, Some(TransferFault::EmptySegment)),
+            (
+                (0xFFFF_FFFF, 2),
+                None,
+                None,
+                Some(TransferFault::SegmentWraps),
+            ),
+            ((0x11, 2), None, Some(32), Some(TransferFault::BadEvent)),
+            (
+                (0xFFFF_FFFF, 2),
+                Some((8, 0)),
+                None,
+                Some(TransferFault::EmptySegment),
+            ),
+            (
+                (0xFFFF_FFFF, 2),
+                Some((0, 1_048_577)),
+                None,
+                Some(TransferFault::SegmentWraps),
+            ),
+            (
+                (0x100, 1_048_576),
+                Some((0x100, 1)),
+                None,
+                Some(TransferFault::TooLong),
+            ),
+            (
+                (0x0E, 4),
+                Some((0x0E, 1)),
+                None,
+                Some(TransferFault::DestinationsMeet),
+            ),
+            (
+                (0x0E, 4),
+                None,
+                Some(32),
+                Some(TransferFault::SourceMeetsDestination),
+            ),
+        ];
+        for (dst, more, wait, fault) in cases {
+            let mut list = Segments::from_slice(rt.alloc(), &[seg(dst)])?;
+            if let Some(second) = more {
+                list.push(seg(second))?;
+            }
+            let answer = Transfer::fill(rt.alloc(), 0x10, list.as_slice(), wait, None);
+            assert_eq!(rt; answer.err(), fault, "to {dst:?}");
+        }
+        let many = repeated(rt.alloc(), seg((0, 0)), 65)?;
+        let answer = Transfer::fill(rt.alloc(), 0x10, many.as_slice(), None, None);
+        assert_eq!(rt; answer.err(), Some(TransferFault::TooManySegments));
         Ok(())
     }
 

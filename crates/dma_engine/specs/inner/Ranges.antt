@@ -1,13 +1,13 @@
 -- The addresses of what runs, as ranges.
 use Rattle.std.specs.Prelude.{Option, Some, None}
 use Rattle.dma_mem.specs.Places.{Descriptor}
-use Rattle.dma_mem.specs.Ranges.{SameAddresses}
+use Rattle.dma_mem.specs.Ranges.{HasSources, SameAddresses}
 use Rattle.dma_engine.specs.declared.ranges.Ranges.{Ranges}
 use Rattle.dma_engine.specs.View.{RunningTransfer}
 
 -- The ranges have a transfer's addresses: those that it reads, and those that it writes.
 pub record HasRangesOf (r : Ranges) (t : Descriptor) : Type 0 where
-  pub sources : SameAddresses r.sources t.src
+  pub sources : HasSources r.sources t
   pub destinations : SameAddresses r.destinations t.dst
 
 -- There are ranges exactly where something runs, and they have its addresses.

@@ -1,5 +1,6 @@
-use Rattle.std.proofs.Common.{rules, ◌≡◌, ◌||◌, ◌∙◌, ap}
+use Rattle.std.proofs.Common.{rules, ◌≡◌, ◌||◌, ◌∙◌, ap, sym}
 use Rattle.dma_mem.specs.Places.{destinations, places, range_of, share, sources}
+use Rattle.dma_mem.proofs.TransferRules.{sources-share}
 use Rattle.dma_engine.proofs.WaysByRanges.{or-first, or-second, read-way, start-way, write-way}
 use Rattle.dma_engine.proofs.way.Way.has.Goals as goal
 use Rattle.dma_engine.proofs.way.Way.has.Goals.{then-meets_any, else-meets_any}
@@ -42,6 +43,7 @@ returns-else-meets_any-2 c =
       | then-meets_any w ↦ w.value-is ∙ or-first c.meets_any.result _ _ first w.if-meets_any.true
       | else-meets_any w ↦ w.value-is ∙ or-second c.meets_any.result _ _ _ first w.if-meets_any.false (w.meets_any-else-meets_any.ensures ∙ ap (λ l. share (places l) (places r.sources)) w.dst-else-meets_any.ensures.segments)
     ] in
-    let reads : c.meets_any-else-meets_any-2.result ≡ share (sources other) (places r.destinations) = rw (← c.src.ensures.segments) (search (rules, c.meets_any-else-meets_any-2.ensures)) in
+    let listed : c.meets_any-else-meets_any-2.result ≡ share (places other.src) (places r.destinations) = rw (← c.src.ensures.segments) (search (rules, c.meets_any-else-meets_any-2.ensures)) in
+    let reads : c.meets_any-else-meets_any-2.result ≡ share (sources other) (places r.destinations) = listed ∙ sym (sources-share other (places r.destinations) c.src.ensures.rules) in
     let is = or-second c.if-meets_any.value c.meets_any-else-meets_any-2.result _ _ writes c.if-meets_any-2.false reads in
     rw c.in-Start.is (λ t h. start-way r t other c.meets_any-else-meets_any-2.result h is)
