@@ -8,13 +8,15 @@ use Rattle.dma_mem.specs.declared.segment.Segment.{Segment}
 use Rattle.dma_mem.specs.declared.marks.MarkKind.TheVariants.{Reading, Writing}
 use Rattle.dma_script.specs.Words.{words_of, is_plain, number_of, segment_of, list_of, bytes_in}
 use Rattle.dma_script.specs.Lines.{◌>>=◌, after_line, is_skipped}
-use Rattle.dma_script.specs.Arguments.{where_holds, no_word, byte_alone, byte_of, byte_where, number_at, list_at, bytes_at}
-use Rattle.dma_script.specs.Plan.{WordsOfTransfer, after_fixed, events_of, transfer_words, transfer_numbers, transfer_of, plan_step}
+use Rattle.dma_script.specs.Arguments.{where_holds, no_word, byte_alone, byte_of, byte_where, number_at, number_where, list_at, bytes_at}
+use Rattle.dma_script.specs.Plan.{WordsOfTransfer, after_fixed, events_of, words_after, transfer_words, source_at, transfer_numbers, transfer_of, plan_step}
 use Rattle.dma_script.specs.Statements.{keyword_of, count_of, channel_and_cookie, memory_line, first_line, later_line, next_line, run_step}
 use Rattle.dma_script.specs.Race.{RaceRead, race_keyword_of, is_early, job_line, next_race_line, race_step}
-use Rattle.dma_script.specs.Causes.{where_not, first_told, number, byte, size, channels, segment, list, hex, Operand, form_cause, range_cause, size_cause, channels_cause, over, Asked, line_told, bare, one, two, events, transfer, three_numbers, operands_of, no_command, is_memory, run_asked, run_asks, plan_asks, job_in_range, race_asked, race_asks, side_of, told, FirstCausesAreTold}
+use Rattle.dma_script.specs.Causes.{where_not, first_told, Form, number, byte, size, channels, segment, list, hex, Operand, form_cause, range_cause, size_cause, channels_cause, over, Asked, line_told, bare, one, two, events, one_to_list_and_events, transfer, three_numbers, operands_of, no_command, is_memory, run_asked, run_asks, plan_asks, job_in_range, race_asked, race_asks, side_of, told, FirstCausesAreTold}
 use Rattle.dma_script.specs.declared.fault.Cause.{Cause}
 use Rattle.dma_script.specs.declared.fault.Cause.TheVariants as causes
+use Rattle.dma_script.specs.declared.plan.Origin.{Origin}
+use Rattle.dma_script.specs.declared.plan.Origin.TheVariants as origins
 use Rattle.dma_script.specs.declared.plan.TransferLine.{TransferLine}
 use Rattle.dma_script.specs.declared.plan.TransferNumbers.{TransferNumbers}
 use Rattle.dma_script.specs.declared.statements.Keyword.{Keyword}
@@ -53,11 +55,11 @@ one_segment : {B : Type 0} (o : Option Segment) (f : Segment → B) → told (ok
 one_segment None f = refl
 one_segment (Some s) f = refl
 
--- two lists
-lists : {B : Type 0} (a b : Option (List Segment)) (f : List Segment → List Segment → B) → told (ok_or a causes.Number >>= (λ src. ok_or b causes.Number >>= (λ dst. Ok (f src dst)))) ≡ first_told (first_told (number_test a ∷ number_test b ∷ []) ∷ [])
-lists None b f = refl
-lists (Some src) None f = refl
-lists (Some src) (Some dst) f = refl
+-- two words, each in its form
+both_read : {A B C : Type 0} (a : Option A) (b : Option B) (f : A → B → C) → told (ok_or a causes.Number >>= (λ x. ok_or b causes.Number >>= (λ y. Ok (f x y)))) ≡ first_told (first_told (number_test a ∷ number_test b ∷ []) ∷ [])
+both_read None b f = refl
+both_read (Some x) None f = refl
+both_read (Some x) (Some y) f = refl
 
 -- a channel and a number
 channel_and_number : {B : Type 0} (a b : Option ℕ) (f : ℕ → ℕ → B) → told ((ok_or a causes.Number >>= (λ n. ok_or b causes.Number >>= (λ m. byte_of n >>= (λ ch. let w : ℕ × ℕ = (ch, m) in Ok w)))) >>= (λ w. Ok (f w.0 w.1))) ≡ first_told (first_told (number_test a ∷ number_test b ∷ []) ∷ first_told (byte_test a ∷ []) ∷ [])
@@ -135,9 +137,13 @@ abbrev event_operands : Option (List ℕ) → List Operand → List Operand
 event_operands None rest = rest
 event_operands (Some word) rest = record { form = byte; word = word } ∷ rest
 
+-- what the source of a transfer has to be, by whether it is a fill
+abbrev source_form : Bool → Form
+source_form fill = if fill then number else list
+
 -- the words of a transfer, each with its form
 abbrev transfer_operands : WordsOfTransfer → List Operand
-transfer_operands p = record { form = list; word = p.src } ∷ record { form = list; word = p.dst } ∷ event_operands p.wait (event_operands p.signal [])
+transfer_operands p = record { form = source_form p.fill; word = p.src } ∷ record { form = list; word = p.dst } ∷ event_operands p.wait (event_operands p.signal [])
 
 -- Words are read where they have their forms, and else their number is wrong.
 abbrev FitsWords : {X : Type 0} → (X → List Operand) → Result X Cause → Option (List Operand) → Type 0
@@ -212,20 +218,32 @@ events_fit (a ∷ b ∷ d ∷ e ∷ []) = two_events a b d e
 events_fit (a ∷ b ∷ d ∷ e ∷ h ∷ rest) = many_events a b d e h rest
 
 -- the words of a transfer whose second word is `to`
-fixed_fit : (src dst : List ℕ) (x : Bool) (found : Result (Option (List ℕ) × Option (List ℕ)) Cause) (placed : Option (List Operand)) → FitsWords both_events found placed
-    → FitsWords transfer_operands (where_holds x causes.Words >>= (λ fixed. found >>= (λ events. let p : WordsOfTransfer = record { src = src; dst = dst; wait = events.0; signal = events.1 } in Ok p)))
-    (if x then option_map (λ rest. record { form = list; word = src } ∷ record { form = list; word = dst } ∷ rest) placed else None)
-fixed_fit src dst false found placed fit = refl
-fixed_fit src dst true (Ok found) (Some operands) fit = ap (λ rest. record { form = list; word = src } ∷ record { form = list; word = dst } ∷ rest) fit
-fixed_fit src dst true (Ok found) None fit = absurd fit
-fixed_fit src dst true (Err cause) (Some operands) fit = absurd fit
-fixed_fit src dst true (Err cause) None fit = fit
+fixed_fit : (fill : Bool) (src dst : List ℕ) (x : Bool) (found : Result (Option (List ℕ) × Option (List ℕ)) Cause) (placed : Option (List Operand)) → FitsWords both_events found placed
+    → FitsWords transfer_operands (where_holds x causes.Words >>= (λ fixed. found >>= (λ events. let p : WordsOfTransfer = record { fill = fill; src = src; dst = dst; wait = events.0; signal = events.1 } in Ok p)))
+    (if x then option_map (λ rest. record { form = source_form fill; word = src } ∷ record { form = list; word = dst } ∷ rest) placed else None)
+fixed_fit fill src dst false found placed fit = refl
+fixed_fit fill src dst true (Ok found) (Some operands) fit = ap (λ rest. record { form = source_form fill; word = src } ∷ record { form = list; word = dst } ∷ rest) fit
+fixed_fit fill src dst true (Ok found) None fit = absurd fit
+fixed_fit fill src dst true (Err cause) (Some operands) fit = absurd fit
+fixed_fit fill src dst true (Err cause) None fit = fit
+
+-- the words of a transfer that is a fill or not
+words_fit : (fill : Bool) (words : List (List ℕ)) → FitsWords transfer_operands (words_after fill words) (one_to_list_and_events (source_form fill) words)
+words_fit fill [] = refl
+words_fit fill (src ∷ []) = refl
+words_fit fill (src ∷ to ∷ []) = refl
+words_fit fill (src ∷ to ∷ dst ∷ more) = fixed_fit fill src dst (bytes_eq to (codes "to")) (events_of more) (events more) (events_fit more)
+
+-- the first word is `fill` or not
+fill_fits : (fill : Bool) (word : List ℕ) (words : List (List ℕ)) → FitsWords transfer_operands
+    (let rest : Bool × List (List ℕ) = if fill then (true, words) else (false, word ∷ words) in words_after rest.0 rest.1)
+    (if fill then one_to_list_and_events number words else one_to_list_and_events list (word ∷ words))
+fill_fits true word words = words_fit true words
+fill_fits false word words = words_fit false (word ∷ words)
 
 transfer_fits : (words : List (List ℕ)) → FitsWords transfer_operands (transfer_words words) (transfer words)
 transfer_fits [] = refl
-transfer_fits (src ∷ []) = refl
-transfer_fits (src ∷ to ∷ []) = refl
-transfer_fits (src ∷ to ∷ dst ∷ more) = fixed_fit src dst (bytes_eq to (codes "to")) (events_of more) (events more) (events_fit more)
+transfer_fits (word ∷ words) = fill_fits (bytes_eq word (codes "fill")) word words
 
 -- ---- what is read of a transfer's words
 
@@ -248,19 +266,29 @@ abbrev event_ranges : Option ℕ → List (Option Cause) → List (Option Cause)
 event_ranges None rest = rest
 event_ranges (Some n) rest = where_not (nat_le n 255) causes.Range ∷ rest
 
+-- What is read of a word tells whether it is in its form.
+form_told : {A B : Type 0} (read : Option A) (f : A → B) → told (ok_or read causes.Number >>= (λ a. Ok (f a))) ≡ number_test read
+form_told None f = refl
+form_told (Some a) f = refl
+
+-- What is read of a source tells whether its word is in its form.
+source_told : (fill : Bool) (word : List ℕ) → told (source_at fill word) ≡ form_cause (source_form fill) word
+source_told true word = form_told (number_of word) (λ addr. origins.Byte addr)
+source_told false word = form_told (list_of word) (λ l. origins.List l)
+
 -- What follows once all numbers are read.
-numbers_then : {B : Type 0} (a b : Option (List Segment)) (wait signal : Option (Option ℕ)) (k : TransferNumbers → Result B Cause) (ranges : Option Cause) → ((n : TransferNumbers) → n.wait ≡ event_value wait → n.signal ≡ event_value signal → told (k n) ≡ ranges)
-    → told ((ok_or a causes.Number >>= (λ src. ok_or b causes.Number >>= (λ dst. event_read wait >>= (λ wait. event_read signal >>= (λ signal. let n : TransferNumbers = record { src = src; dst = dst; wait = wait; signal = signal } in Ok n))))) >>= k)
-    ≡ option_or (first_told (number_test a ∷ number_test b ∷ event_forms wait (event_forms signal []))) ranges
-numbers_then None b wait signal k ranges same = refl
-numbers_then (Some src) None wait signal k ranges same = refl
-numbers_then (Some src) (Some dst) None None k ranges same = same _ refl refl
-numbers_then (Some src) (Some dst) None (Some None) k ranges same = refl
-numbers_then (Some src) (Some dst) None (Some (Some s)) k ranges same = same _ refl refl
-numbers_then (Some src) (Some dst) (Some None) signal k ranges same = refl
-numbers_then (Some src) (Some dst) (Some (Some w)) None k ranges same = same _ refl refl
-numbers_then (Some src) (Some dst) (Some (Some w)) (Some None) k ranges same = refl
-numbers_then (Some src) (Some dst) (Some (Some w)) (Some (Some s)) k ranges same = same _ refl refl
+numbers_then : {B : Type 0} (a : Result Origin Cause) (b : Option (List Segment)) (wait signal : Option (Option ℕ)) (k : TransferNumbers → Result B Cause) (ranges : Option Cause) → ((n : TransferNumbers) → n.wait ≡ event_value wait → n.signal ≡ event_value signal → told (k n) ≡ ranges)
+    → told ((a >>= (λ src. ok_or b causes.Number >>= (λ dst. event_read wait >>= (λ wait. event_read signal >>= (λ signal. let n : TransferNumbers = record { src = src; dst = dst; wait = wait; signal = signal } in Ok n))))) >>= k)
+    ≡ option_or (first_told (told a ∷ number_test b ∷ event_forms wait (event_forms signal []))) ranges
+numbers_then (Err cause) b wait signal k ranges same = refl
+numbers_then (Ok src) None wait signal k ranges same = refl
+numbers_then (Ok src) (Some dst) None None k ranges same = same _ refl refl
+numbers_then (Ok src) (Some dst) None (Some None) k ranges same = refl
+numbers_then (Ok src) (Some dst) None (Some (Some s)) k ranges same = same _ refl refl
+numbers_then (Ok src) (Some dst) (Some None) signal k ranges same = refl
+numbers_then (Ok src) (Some dst) (Some (Some w)) None k ranges same = same _ refl refl
+numbers_then (Ok src) (Some dst) (Some (Some w)) (Some None) k ranges same = refl
+numbers_then (Ok src) (Some dst) (Some (Some w)) (Some (Some s)) k ranges same = same _ refl refl
 
 -- A number in its range, and then another.
 byte_then : {B C : Type 0} (n : ℕ) (r : Result B Cause) (f : ℕ → B → C) → told (byte_of n >>= (λ b. r >>= (λ x. Ok (f b x)))) ≡ option_or (where_not (nat_le n 255) causes.Range) (told r)
@@ -280,19 +308,32 @@ events_in_range (Some w) (Some s) f = elim (nat_le w 255) as (λ x. told (((if x
 transfer_in_range : (n : TransferNumbers) (wait signal : Option ℕ) → n.wait ≡ wait → n.signal ≡ signal → told (transfer_of n) ≡ first_told (event_ranges wait (event_ranges signal []))
 transfer_in_range n wait signal w s = events_in_range n.wait n.signal (λ wait signal. let line : TransferLine = record { src = n.src; dst = n.dst; wait = wait; signal = signal } in line) ∙ rw (w, s) refl
 
+-- A fill's source or a list has no range.
+source_range : (fill : Bool) (word : List ℕ) → range_cause (source_form fill) word ≡ None
+source_range true word = refl
+source_range false word = refl
+
+-- a list and events behind a source, behind which something else is read of the numbers
+events_then : {B : Type 0} (source : Result Origin Cause) (dst : List ℕ) (wait signal : Option (List ℕ)) (k : TransferNumbers → Result B Cause) (front : Option Cause) → ((n : TransferNumbers) → told (k n) ≡ option_or front (told (transfer_of n)))
+    → told ((source >>= (λ src. list_at dst >>= (λ dst. number_where wait >>= (λ wait. number_where signal >>= (λ signal. let n : TransferNumbers = record { src = src; dst = dst; wait = wait; signal = signal } in Ok n))))) >>= k)
+    ≡ option_or (option_or (told source) (over form_cause (record { form = list; word = dst } ∷ event_operands wait (event_operands signal [])))) (option_or front (over range_cause (event_operands wait (event_operands signal []))))
+events_then source dst None None k front same = numbers_then source (list_of dst) None None k _ (λ n w s. same n ∙ ap (option_or front) (transfer_in_range n _ _ w s))
+events_then source dst None (Some f) k front same = numbers_then source (list_of dst) None (Some (number_of f)) k _ (λ n w s. same n ∙ ap (option_or front) (transfer_in_range n _ _ w s))
+events_then source dst (Some e) None k front same = numbers_then source (list_of dst) (Some (number_of e)) None k _ (λ n w s. same n ∙ ap (option_or front) (transfer_in_range n _ _ w s))
+events_then source dst (Some e) (Some f) k front same = numbers_then source (list_of dst) (Some (number_of e)) (Some (number_of f)) k _ (λ n w s. same n ∙ ap (option_or front) (transfer_in_range n _ _ w s))
+
+-- the tests of a source before those of the other words
+source_first : (read form range forms ranges front : Option Cause) → read ≡ form → range ≡ None
+    → option_or (option_or read forms) (option_or front ranges) ≡ option_or (option_or form forms) (option_or front (option_or range ranges))
+source_first read form range forms ranges front same none = rw (same, none) refl
+
 -- the words of a transfer, behind which something else is read of the numbers
 transfer_then : {B : Type 0} (p : WordsOfTransfer) (k : TransferNumbers → Result B Cause) (front : Option Cause) → ((n : TransferNumbers) → told (k n) ≡ option_or front (told (transfer_of n)))
     → told (transfer_numbers p >>= k) ≡ option_or (over form_cause (transfer_operands p)) (option_or front (over range_cause (transfer_operands p)))
-transfer_then p k front same = elim p.wait as (λ wait. told (transfer_numbers (record p { wait = wait }) >>= k) ≡ option_or (over form_cause (transfer_operands (record p { wait = wait }))) (option_or front (over range_cause (transfer_operands (record p { wait = wait }))))) [
-  | None ↦ elim p.signal as (λ signal. told (transfer_numbers (record p { wait = None; signal = signal }) >>= k) ≡ option_or (over form_cause (transfer_operands (record p { wait = None; signal = signal }))) (option_or front (over range_cause (transfer_operands (record p { wait = None; signal = signal }))))) [
-    | None ↦ numbers_then (list_of p.src) (list_of p.dst) None None k _ (λ n w s. same n ∙ ap (option_or front) (transfer_in_range n _ _ w s))
-    | Some f ↦ numbers_then (list_of p.src) (list_of p.dst) None (Some (number_of f)) k _ (λ n w s. same n ∙ ap (option_or front) (transfer_in_range n _ _ w s))
-  ]
-  | Some e ↦ elim p.signal as (λ signal. told (transfer_numbers (record p { wait = Some e; signal = signal }) >>= k) ≡ option_or (over form_cause (transfer_operands (record p { wait = Some e; signal = signal }))) (option_or front (over range_cause (transfer_operands (record p { wait = Some e; signal = signal }))))) [
-    | None ↦ numbers_then (list_of p.src) (list_of p.dst) (Some (number_of e)) None k _ (λ n w s. same n ∙ ap (option_or front) (transfer_in_range n _ _ w s))
-    | Some f ↦ numbers_then (list_of p.src) (list_of p.dst) (Some (number_of e)) (Some (number_of f)) k _ (λ n w s. same n ∙ ap (option_or front) (transfer_in_range n _ _ w s))
-  ]
-]
+transfer_then p k front same =
+    let behind : List Operand = event_operands p.wait (event_operands p.signal []) in
+    events_then (source_at p.fill p.src) p.dst p.wait p.signal k front same
+    ∙ source_first (told (source_at p.fill p.src)) (form_cause (source_form p.fill) p.src) (range_cause (source_form p.fill) p.src) (over form_cause (record { form = list; word = p.dst } ∷ behind)) (over range_cause behind) front (source_told p.fill p.src) (source_range p.fill p.src)
 
 -- ---- the words behind a command
 
@@ -304,17 +345,23 @@ word_tests found in_range =
     ∷ over size_cause operands ∷ over channels_cause operands ∷ []
 
 -- The words of a transfer have no size of a memory and no number of channels.
+events_sizes : (wait signal : Option (List ℕ)) → over size_cause (event_operands wait (event_operands signal [])) ≡ None
+events_sizes None None = refl
+events_sizes None (Some f) = refl
+events_sizes (Some e) None = refl
+events_sizes (Some e) (Some f) = refl
+
 transfer_sizes : (p : WordsOfTransfer) → over size_cause (transfer_operands p) ≡ None
-transfer_sizes p = elim p.wait as (λ wait. over size_cause (transfer_operands (record p { wait = wait })) ≡ None) [
-  | None ↦ elim p.signal as (λ signal. over size_cause (transfer_operands (record p { wait = None; signal = signal })) ≡ None) [ None ↦ refl | Some f ↦ refl ]
-  | Some e ↦ elim p.signal as (λ signal. over size_cause (transfer_operands (record p { wait = Some e; signal = signal })) ≡ None) [ None ↦ refl | Some f ↦ refl ]
-]
+transfer_sizes p = elim p.fill as (λ fill. over size_cause (transfer_operands (record p { fill = fill })) ≡ None) [ true ↦ events_sizes p.wait p.signal | false ↦ events_sizes p.wait p.signal ]
+
+events_channels : (wait signal : Option (List ℕ)) → over channels_cause (event_operands wait (event_operands signal [])) ≡ None
+events_channels None None = refl
+events_channels None (Some f) = refl
+events_channels (Some e) None = refl
+events_channels (Some e) (Some f) = refl
 
 transfer_channels : (p : WordsOfTransfer) → over channels_cause (transfer_operands p) ≡ None
-transfer_channels p = elim p.wait as (λ wait. over channels_cause (transfer_operands (record p { wait = wait })) ≡ None) [
-  | None ↦ elim p.signal as (λ signal. over channels_cause (transfer_operands (record p { wait = None; signal = signal })) ≡ None) [ None ↦ refl | Some f ↦ refl ]
-  | Some e ↦ elim p.signal as (λ signal. over channels_cause (transfer_operands (record p { wait = Some e; signal = signal })) ≡ None) [ None ↦ refl | Some f ↦ refl ]
-]
+transfer_channels p = elim p.fill as (λ fill. over channels_cause (transfer_operands (record p { fill = fill })) ≡ None) [ true ↦ events_channels p.wait p.signal | false ↦ events_channels p.wait p.signal ]
 
 -- two tests, and two that tell nothing
 four_tests : (forms ranges sizes channel_counts : Option Cause) → sizes ≡ None → channel_counts ≡ None → option_or forms ranges ≡ first_told (forms ∷ ranges ∷ None ∷ sizes ∷ channel_counts ∷ [])
@@ -344,7 +391,14 @@ submit_fit ch (Err cause) (Some operands) fit = absurd fit
 copy_told : (src to dst : List ℕ) → told (where_holds (bytes_eq to (codes "to")) causes.Words >>= (λ fixed. list_at src >>= (λ src. list_at dst >>= (λ dst. Ok (statements.Copy (record { src = src; dst = dst }))))))
     ≡ first_told (word_tests (if bytes_eq to (codes "to") then Some (record { form = list; word = src } ∷ record { form = list; word = dst } ∷ []) else None) true)
 copy_told src to dst = elim (bytes_eq to (codes "to")) as (λ x. told (where_holds x causes.Words >>= (λ fixed. list_at src >>= (λ src. list_at dst >>= (λ dst. Ok (statements.Copy (record { src = src; dst = dst })))))) ≡ first_told (word_tests (if x then Some (record { form = list; word = src } ∷ record { form = list; word = dst } ∷ []) else None) true)) [
-  | true ↦ lists (list_of src) (list_of dst) (λ src dst. statements.Copy (record { src = src; dst = dst }))
+  | true ↦ both_read (list_of src) (list_of dst) (λ src dst. statements.Copy (record { src = src; dst = dst }))
+  | false ↦ refl
+]
+
+fill_told : (src to dst : List ℕ) → told (where_holds (bytes_eq to (codes "to")) causes.Words >>= (λ fixed. number_at src >>= (λ src. list_at dst >>= (λ dst. Ok (statements.Fill src dst)))))
+    ≡ first_told (word_tests (if bytes_eq to (codes "to") then Some (record { form = number; word = src } ∷ record { form = list; word = dst } ∷ []) else None) true)
+fill_told src to dst = elim (bytes_eq to (codes "to")) as (λ x. told (where_holds x causes.Words >>= (λ fixed. number_at src >>= (λ src. list_at dst >>= (λ dst. Ok (statements.Fill src dst))))) ≡ first_told (word_tests (if x then Some (record { form = number; word = src } ∷ record { form = list; word = dst } ∷ []) else None) true)) [
+  | true ↦ both_read (number_of src) (list_of dst) (λ src dst. statements.Fill src dst)
   | false ↦ refl
 ]
 
@@ -383,6 +437,11 @@ later_told keywords.Copy (a ∷ []) = refl
 later_told keywords.Copy (a ∷ b ∷ []) = refl
 later_told keywords.Copy (a ∷ b ∷ d ∷ []) = copy_told a b d
 later_told keywords.Copy (a ∷ b ∷ d ∷ e ∷ rest) = refl
+later_told keywords.Fill [] = refl
+later_told keywords.Fill (a ∷ []) = refl
+later_told keywords.Fill (a ∷ b ∷ []) = refl
+later_told keywords.Fill (a ∷ b ∷ d ∷ []) = fill_told a b d
+later_told keywords.Fill (a ∷ b ∷ d ∷ e ∷ rest) = refl
 later_told keywords.Submit [] = refl
 later_told keywords.Submit (ch ∷ words) = submit_fit ch (transfer_words words) (transfer words) (transfer_fits words)
 later_told keywords.Issue words = byte_line (λ ch. statements.Issue ch) words
@@ -426,6 +485,7 @@ first_line_told keywords.Memory words = memory_told words
 first_line_told keywords.Write words = refl
 first_line_told keywords.Read words = refl
 first_line_told keywords.Copy words = refl
+first_line_told keywords.Fill words = refl
 first_line_told keywords.Submit words = refl
 first_line_told keywords.Issue words = refl
 first_line_told keywords.Pause words = refl

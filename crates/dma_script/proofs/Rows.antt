@@ -10,6 +10,7 @@ use Rattle.dma_script.specs.Pairs.{pairs_of}
 use Rattle.dma_script.specs.Plan.{plan_of}
 use Rattle.dma_script.specs.declared.fault.Cause.TheVariants.{Byte, Command, First, Words, Number, Hex, Range, SizeOutOfRange, BadChannels, Go}
 use Rattle.dma_mem.specs.declared.marks.MarkKind.TheVariants.{Reading, Writing}
+use Rattle.dma_script.specs.declared.plan.Origin.TheVariants as origins
 use Rattle.dma_script.specs.declared.statements.Statement.TheVariants as statements
 
 -- a script of a memory line and one more
@@ -58,7 +59,7 @@ hex = refl
 return_at_the_end : run_script_of (after_memory (codes "read 0+1" ++ 13 ∷ [])) ≡ Err (record { line = 2; cause = Byte })
 return_at_the_end = refl
 
-channel_lines : run_script_of (after_memory (codes "submit 1 1+2 to 3+2 signal 255" ++ 10 ∷ codes "issue 1" ++ 10 ∷ codes "step 1" ++ 10 ∷ codes "step 1 1000000" ++ 10 ∷ codes "status 1 2" ++ 10 ∷ codes "result 2 1")) ≡ Ok (record { size = 64; channels = 1; statements = statements.Submit 1 (record { src = record { addr = 1; len = 2 } ∷ []; dst = record { addr = 3; len = 2 } ∷ []; wait = None; signal = Some 255 }) ∷ statements.Issue 1 ∷ statements.Step 1 1 ∷ statements.Step 1 1000000 ∷ statements.Status 1 2 ∷ statements.Result 2 1 ∷ [] })
+channel_lines : run_script_of (after_memory (codes "submit 1 1+2 to 3+2 signal 255" ++ 10 ∷ codes "issue 1" ++ 10 ∷ codes "step 1" ++ 10 ∷ codes "step 1 1000000" ++ 10 ∷ codes "status 1 2" ++ 10 ∷ codes "result 2 1")) ≡ Ok (record { size = 64; channels = 1; statements = statements.Submit 1 (record { src = origins.List (record { addr = 1; len = 2 } ∷ []); dst = record { addr = 3; len = 2 } ∷ []; wait = None; signal = Some 255 }) ∷ statements.Issue 1 ∷ statements.Step 1 1 ∷ statements.Step 1 1000000 ∷ statements.Status 1 2 ∷ statements.Result 2 1 ∷ [] })
 channel_lines = refl
 
 other_lines : run_script_of (after_memory (codes "pause 1" ++ 10 ∷ codes "resume 2" ++ 10 ∷ codes "terminate 3" ++ 10 ∷ codes "mark read 1+2" ++ 10 ∷ codes "mark write 3+4" ++ 10 ∷ codes "unmark" ++ 10 ∷ codes "raise 255" ++ 10 ∷ codes "totals")) ≡ Ok (record { size = 64; channels = 1; statements = statements.Pause 1 ∷ statements.Resume 2 ∷ statements.Terminate 3 ∷ statements.Mark Reading (record { addr = 1; len = 2 }) ∷ statements.Mark Writing (record { addr = 3; len = 4 }) ∷ statements.Unmark ∷ statements.Raise 255 ∷ statements.Totals ∷ [] })
@@ -103,7 +104,7 @@ lone_digit = refl
 lone_digit_before_a_line_feed : pairs_of (codes "22" ++ 10 ∷ codes "3" ++ 10 ∷ codes "4") ≡ Err 2
 lone_digit_before_a_line_feed = refl
 
-whole_plan : plan_of (codes "# one" ++ 10 ∷ codes "1+2 to 3+2 wait 3 signal 255") ≡ Ok (record { line = 2; transfer = record { src = record { addr = 1; len = 2 } ∷ []; dst = record { addr = 3; len = 2 } ∷ []; wait = Some 3; signal = Some 255 } })
+whole_plan : plan_of (codes "# one" ++ 10 ∷ codes "1+2 to 3+2 wait 3 signal 255") ≡ Ok (record { line = 2; transfer = record { src = origins.List (record { addr = 1; len = 2 } ∷ []); dst = record { addr = 3; len = 2 } ∷ []; wait = Some 3; signal = Some 255 } })
 whole_plan = refl
 
 no_plan : plan_of [] ≡ Err (record { line = 0; cause = First })
@@ -117,6 +118,36 @@ wait_signal = refl
 
 event_out_of_range : plan_of (codes "1+1 to 2+1 signal 256") ≡ Err (record { line = 1; cause = Range })
 event_out_of_range = refl
+
+fill_lines : run_script_of (after_memory (codes "fill 0x10 to 0x20+3,0x30+2" ++ 10 ∷ codes "submit 1 fill 5 to 8+4 wait 3 signal 255")) ≡ Ok (record { size = 64; channels = 1; statements = statements.Fill 16 (record { addr = 32; len = 3 } ∷ record { addr = 48; len = 2 } ∷ []) ∷ statements.Submit 1 (record { src = origins.Byte 5; dst = record { addr = 8; len = 4 } ∷ []; wait = Some 3; signal = Some 255 }) ∷ [] })
+fill_lines = refl
+
+fill_of_a_segment : run_script_of (after_memory (codes "fill 0x10+1 to 0x20+3")) ≡ Err (record { line = 2; cause = Number })
+fill_of_a_segment = refl
+
+fill_waits_for_nothing : run_script_of (after_memory (codes "fill 0x10 to 0x20+3 wait 3")) ≡ Err (record { line = 2; cause = Words })
+fill_waits_for_nothing = refl
+
+submit_fill_without_address : run_script_of (after_memory (codes "submit x fill to 0x20+3 wait 3")) ≡ Err (record { line = 2; cause = Words })
+submit_fill_without_address = refl
+
+submit_fill_number_before_range : run_script_of (after_memory (codes "submit 256 fill 0x10+1 to 8+4 wait 300")) ≡ Err (record { line = 2; cause = Number })
+submit_fill_number_before_range = refl
+
+submit_fill_out_of_range : run_script_of (after_memory (codes "submit 256 fill 0x10 to 8+4 wait 300")) ≡ Err (record { line = 2; cause = Range })
+submit_fill_out_of_range = refl
+
+fill_plan : plan_of (codes "fill 0x10 to 0x20+20 signal 3") ≡ Ok (record { line = 1; transfer = record { src = origins.Byte 16; dst = record { addr = 32; len = 20 } ∷ []; wait = None; signal = Some 3 } })
+fill_plan = refl
+
+fill_without_address : plan_of (codes "fill to 0x20+20") ≡ Err (record { line = 1; cause = Words })
+fill_without_address = refl
+
+list_of_the_word_fill : plan_of (codes "1+1 to fill") ≡ Err (record { line = 1; cause = Number })
+list_of_the_word_fill = refl
+
+fill_before_go : race_script_of (after_memory (codes "fill x" ++ 10 ∷ codes "go")) ≡ Err (record { line = 2; cause = Command })
+fill_before_go = refl
 
 whole_race : race_script_of (after_memory (codes "job 0 1 20" ++ 10 ∷ codes "issue 1" ++ 10 ∷ codes "job 7 7 0" ++ 10 ∷ codes "go" ++ 10 ∷ codes "totals")) ≡ Ok (record { before = record { size = 64; channels = 1; statements = statements.Issue 1 ∷ [] }; jobs = record { first = 0; last = 1; turns = 20 } ∷ record { first = 7; last = 7; turns = 0 } ∷ []; after = statements.Totals ∷ [] })
 whole_race = refl

@@ -133,12 +133,12 @@ address_and_bytes (addr ∷ word ∷ more) =
     Some (record { form = number; word = addr } ∷ map (λ w. record { form = hex; word = w }) (word ∷ more))
 address_and_bytes _ = None
 
--- `LIST to LIST`
-abbrev pub two_lists : List (List ℕ) → Option (List Operand)
-two_lists (src ∷ to ∷ dst ∷ []) =
+-- a word of a form, and then `to LIST`
+abbrev pub one_to_list : Form → List (List ℕ) → Option (List Operand)
+one_to_list form (src ∷ to ∷ dst ∷ []) =
     if bytes_eq to (codes "to")
-    then Some (record { form = list; word = src } ∷ record { form = list; word = dst } ∷ []) else None
-two_lists _ = None
+    then Some (record { form = form; word = src } ∷ record { form = list; word = dst } ∷ []) else None
+one_to_list form _ = None
 
 -- `[wait E] [signal E]`
 abbrev pub events : List (List ℕ) → Option (List Operand)
@@ -151,14 +151,20 @@ events (wait ∷ e ∷ signal ∷ f ∷ []) =
     then Some (record { form = byte; word = e } ∷ record { form = byte; word = f } ∷ []) else None
 events _ = None
 
--- `LIST to LIST [wait E] [signal E]`
-abbrev pub transfer : List (List ℕ) → Option (List Operand)
-transfer (src ∷ to ∷ dst ∷ more) =
+-- a word of a form, and then `to LIST [wait E] [signal E]`
+abbrev pub one_to_list_and_events : Form → List (List ℕ) → Option (List Operand)
+one_to_list_and_events form (src ∷ to ∷ dst ∷ more) =
     if bytes_eq to (codes "to")
-    then option_map (λ rest. record { form = list; word = src } ∷ record { form = list; word = dst } ∷ rest) (events more) else None
-transfer _ = None
+    then option_map (λ rest. record { form = form; word = src } ∷ record { form = list; word = dst } ∷ rest) (events more) else None
+one_to_list_and_events form _ = None
 
--- `CH LIST to LIST [wait E] [signal E]`
+-- `LIST to LIST [wait E] [signal E]`, or `fill ADDR to LIST [wait E] [signal E]`: the word `fill` begins no list
+abbrev pub transfer : List (List ℕ) → Option (List Operand)
+transfer (word ∷ words) =
+    if bytes_eq word (codes "fill") then one_to_list_and_events number words else one_to_list_and_events list (word ∷ words)
+transfer [] = None
+
+-- `CH`, and then a transfer
 abbrev pub channel_and_transfer : List (List ℕ) → Option (List Operand)
 channel_and_transfer (ch ∷ words) = option_map (λ rest. record { form = byte; word = ch } ∷ rest) (transfer words)
 channel_and_transfer _ = None
@@ -187,7 +193,8 @@ abbrev pub operands_of : Keyword → List (List ℕ) → Option (List Operand)
 operands_of keywords.Memory words = two size channels words
 operands_of keywords.Write words = address_and_bytes words
 operands_of keywords.Read words = one segment words
-operands_of keywords.Copy words = two_lists words
+operands_of keywords.Copy words = one_to_list list words
+operands_of keywords.Fill words = one_to_list number words
 operands_of keywords.Submit words = channel_and_transfer words
 operands_of keywords.Issue words = one byte words
 operands_of keywords.Pause words = one byte words

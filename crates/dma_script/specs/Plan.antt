@@ -1,20 +1,23 @@
 -- The words of a transfer with its events, and the line of a plan script (profile). All words are counted before any is read,
 -- and all are read before any is tested against a range.
-use Rattle.std.specs.Prelude.{ℕ, ◌==◌, if◌then◌else◌, List, ◌∷◌, length, Option, Some, None, Result, Ok, Err, codes}
+use Rattle.std.specs.Prelude.{ℕ, ◌==◌, if◌then◌else◌, Bool, true, false, List, [], ◌∷◌, length, Option, Some, None, Result, Ok, Err, codes}
 use Rattle.std.specs.Option.{ok_or, option_map}
 use Rattle.std.specs.Str.{bytes_eq}
 use Rattle.dma_script.specs.Lines.{◌>>=◌, after_script, first_number}
-use Rattle.dma_script.specs.Arguments.{where_holds, number_where, byte_where, list_at}
+use Rattle.dma_script.specs.Arguments.{where_holds, number_at, number_where, byte_where, list_at}
 use Rattle.dma_script.specs.declared.fault.Cause.{Cause}
 use Rattle.dma_script.specs.declared.fault.Cause.TheVariants as causes
 use Rattle.dma_script.specs.declared.fault.Fault.{Fault}
+use Rattle.dma_script.specs.declared.plan.Origin.{Origin}
+use Rattle.dma_script.specs.declared.plan.Origin.TheVariants as origins
 use Rattle.dma_script.specs.declared.plan.TransferWords.{TransferWords}
 use Rattle.dma_script.specs.declared.plan.TransferNumbers.{TransferNumbers}
 use Rattle.dma_script.specs.declared.plan.TransferLine.{TransferLine}
 use Rattle.dma_script.specs.declared.plan.PlanLine.{PlanLine}
 
--- the words of a transfer: its two lists, and its events where there are any
+-- the words of a transfer: whether it is a fill, its source and its list, and its events where there are any
 pub record WordsOfTransfer : Type 0 where
+  pub fill : Bool
   pub src : List ℕ
   pub dst : List ℕ
   pub wait : Option (List ℕ)
@@ -22,7 +25,7 @@ pub record WordsOfTransfer : Type 0 where
 
 -- the bytes of the words
 abbrev pub seen_words : TransferWords → WordsOfTransfer
-seen_words words = record { src = words.src.now; dst = words.dst.now; wait = option_map (λ word. word.now) words.wait; signal = option_map (λ word. word.now) words.signal }
+seen_words words = record { fill = words.fill; src = words.src.now; dst = words.dst.now; wait = option_map (λ word. word.now) words.wait; signal = option_map (λ word. word.now) words.signal }
 
 -- the word after a fixed one, where that stands first, and the words that follow
 abbrev pub after_fixed : List ℕ → List (List ℕ) → Option (List ℕ) × List (List ℕ)
@@ -36,18 +39,36 @@ events_of words =
     let signal = after_fixed (codes "signal") wait.1 in
     if length signal.1 == 0 then Ok (wait.0, signal.0) else Err causes.Words
 
--- `LIST to LIST [wait E] [signal E]`, of which the words are counted
-abbrev pub transfer_words : List (List ℕ) → Result WordsOfTransfer Cause
-transfer_words (src ∷ to ∷ dst ∷ more) = do
+-- whether a transfer is a fill, and the words that follow
+abbrev pub after_fill : List (List ℕ) → Bool × List (List ℕ)
+after_fill (a ∷ rest) = if bytes_eq a (codes "fill") then (true, rest) else (false, a ∷ rest)
+after_fill [] = (false, [])
+
+-- the words of a transfer that is a fill or not: its source, `to LIST [wait E] [signal E]`
+abbrev pub words_after : Bool → List (List ℕ) → Result WordsOfTransfer Cause
+words_after fill (src ∷ to ∷ dst ∷ more) = do
   fixed ← where_holds (bytes_eq to (codes "to")) causes.Words
   events ← events_of more
-  Ok (record { src = src; dst = dst; wait = events.0; signal = events.1 })
-transfer_words words = Err causes.Words
+  Ok (record { fill = fill; src = src; dst = dst; wait = events.0; signal = events.1 })
+words_after fill words = Err causes.Words
+
+-- `LIST to LIST [wait E] [signal E]` or `fill ADDR to LIST [wait E] [signal E]`, of which the words are counted
+abbrev pub transfer_words : List (List ℕ) → Result WordsOfTransfer Cause
+transfer_words words = let rest = after_fill words in words_after rest.0 rest.1
+
+-- the source that a word spells: of a fill an address, else a list
+abbrev pub source_at : Bool → List ℕ → Result Origin Cause
+source_at true word = do
+  addr ← number_at word
+  Ok (origins.Byte addr)
+source_at false word = do
+  list ← list_at word
+  Ok (origins.List list)
 
 -- the segments and numbers that the words spell
 abbrev pub transfer_numbers : WordsOfTransfer → Result TransferNumbers Cause
 transfer_numbers words = do
-  src ← list_at words.src
+  src ← source_at words.fill words.src
   dst ← list_at words.dst
   wait ← number_where words.wait
   signal ← number_where words.signal
@@ -60,7 +81,7 @@ transfer_of numbers = do
   signal ← byte_where numbers.signal
   Ok (record { src = numbers.src; dst = numbers.dst; wait = wait; signal = signal })
 
--- `LIST to LIST [wait E] [signal E]`
+-- `LIST to LIST [wait E] [signal E]` or `fill ADDR to LIST [wait E] [signal E]`
 abbrev pub transfer_line : List (List ℕ) → Result TransferLine Cause
 transfer_line words = do
   parts ← transfer_words words

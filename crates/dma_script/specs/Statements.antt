@@ -24,6 +24,7 @@ keyword_of word =
     if bytes_eq word (codes "write") then Some keywords.Write else (
     if bytes_eq word (codes "read") then Some keywords.Read else (
     if bytes_eq word (codes "copy") then Some keywords.Copy else (
+    if bytes_eq word (codes "fill") then Some keywords.Fill else (
     if bytes_eq word (codes "submit") then Some keywords.Submit else (
     if bytes_eq word (codes "issue") then Some keywords.Issue else (
     if bytes_eq word (codes "pause") then Some keywords.Pause else (
@@ -35,7 +36,7 @@ keyword_of word =
     if bytes_eq word (codes "mark") then Some keywords.Mark else (
     if bytes_eq word (codes "unmark") then Some keywords.Unmark else (
     if bytes_eq word (codes "raise") then Some keywords.Raise else (
-    if bytes_eq word (codes "totals") then Some keywords.Totals else None)))))))))))))))
+    if bytes_eq word (codes "totals") then Some keywords.Totals else None))))))))))))))))
 
 -- `memory SIZE CHANNELS`: a script with no line after it yet
 abbrev pub memory_line : List (List ℕ) → Result RunScript Cause
@@ -75,7 +76,16 @@ copy_line words = do
   dst ← list_at w.2
   Ok (statements.Copy (record { src = src; dst = dst }))
 
--- `submit CH LIST to LIST [wait E] [signal E]`
+-- `fill ADDR to LIST`
+abbrev pub fill_line : List (List ℕ) → Result Statement Cause
+fill_line words = do
+  w ← three_of words
+  fixed ← where_holds (bytes_eq w.1 (codes "to")) causes.Words
+  src ← number_at w.0
+  dst ← list_at w.2
+  Ok (statements.Fill src dst)
+
+-- `submit CH LIST to LIST [wait E] [signal E]` or `submit CH fill ADDR to LIST [wait E] [signal E]`
 abbrev pub submit_line : List (List ℕ) → Result Statement Cause
 submit_line words = do
   w ← first_and_rest words
@@ -147,6 +157,7 @@ later_line keywords.Memory words = Err causes.First
 later_line keywords.Write words = write_line words
 later_line keywords.Read words = read_line words
 later_line keywords.Copy words = copy_line words
+later_line keywords.Fill words = fill_line words
 later_line keywords.Submit words = submit_line words
 later_line keywords.Issue words = do
   ch ← byte_alone words

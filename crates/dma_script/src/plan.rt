@@ -2,20 +2,29 @@
 ghost use Rattle.std.specs.Prelude.{◌≡◌, map};
 ghost use Rattle.std.specs.Option.{option_map};
 ghost use Rattle.dma_script.specs.Lines.{Gives, ScriptGives, seen_by};
-ghost use Rattle.dma_script.specs.Plan.{after_fixed, events_of, plan_of, seen_words, transfer_line, transfer_numbers, transfer_of, transfer_words};
+ghost use Rattle.dma_script.specs.Plan.{after_fill, after_fixed, events_of, plan_of, seen_words, source_at, transfer_line, transfer_numbers, transfer_of, transfer_words};
 
-use crate::arguments::{byte_where, list_at, number_where};
+use crate::arguments::{byte_where, list_at, number_at, number_where};
 use crate::fault::{Cause, Fault, LineError, ScriptError};
 use crate::lines::{Script, first_number, read_script};
 use dma_mem::lists::Segments;
 use dma_text::bytes::is_text;
 use std::alloc::Global;
 
-/// What a line `LIST to LIST [wait E] [signal E]` says.
+/// Where the bytes of a transfer come from.
+#[derive(Debug, Drop)]
+pub enum Origin {
+    /// The places of a list, one byte each.
+    List(Segments),
+    /// The one place of a fill, whose byte goes to every place of the destinations.
+    Byte(u32),
+}
+
+/// What a line `LIST to LIST [wait E] [signal E]` or `fill ADDR to LIST [wait E] [signal E]` says.
 #[derive(Debug, Drop)]
 pub struct TransferLine {
     /// Where the bytes come from.
-    pub src: Segments,
+    pub src: Origin,
     /// Where they go.
     pub dst: Segments,
     /// The event that is waited for first.
@@ -24,9 +33,10 @@ pub struct TransferLine {
     pub signal: Option<u8>,
 }
 
-/// The words of a transfer: its two lists, and its events where there are any.
+/// The words of a transfer: whether it is a fill, its source and its list, and its events where there are any.
 #[derive(Clone, Copy)]
 pub(crate) struct TransferWords<'a> {
+    fill: bool,
     src: &'a [u8],
     dst: &'a [u8],
     wait: Option<&'a [u8]>,
@@ -36,7 +46,7 @@ pub(crate) struct TransferWords<'a> {
 /// The segments and numbers of a transfer, whose events are not yet tested against their range.
 #[derive(Drop)]
 pub(crate) struct TransferNumbers {
-    src: Segments,
+    src: Origin,
     dst: Segments,
     wait: Option<u32>,
     signal: Option<u32>,
@@ -77,10 +87,24 @@ fn events_of<'a>(words: &[&'a [u8]]) -> Result<(Option<&'a [u8]>, Option<&'a [u8
     }
 }
 
-/// `LIST to LIST [wait E] [signal E]`, of which the words are counted.
+/// Whether a transfer is a fill, and the words that follow.
+fn after_fill<'a, 'w>(words: &'w [&'a [u8]]) -> (bool, &'w [&'a [u8]])
+    ensures fill { result.0 ≡ (after_fill (map (λ word. word.now) words.now)).0 }
+    ensures rest { map (λ word. word.now) result.1.now ≡ (after_fill (map (λ word. word.now) words.now)).1 }
+{
+    if let [first, rest @ ..] = words {
+        if is_text(first, b"fill") {
+            return (true, rest);
+        }
+    }
+    (false, words)
+}
+
+/// `LIST to LIST [wait E] [signal E]` or `fill ADDR to LIST [wait E] [signal E]`, of which the words are counted.
 pub(crate) fn transfer_words<'a>(words: &[&'a [u8]]) -> Result<TransferWords<'a>, Cause>
     ensures { seen_by seen_words result ≡ transfer_words (map (λ word. word.now) words.now) }
 {
+    let (fill, words) = after_fill(words);
     let [src, to, dst, more @ ..] = words else {
         return Err(Cause::Words);
     };
@@ -89,11 +113,25 @@ pub(crate) fn transfer_words<'a>(words: &[&'a [u8]]) -> Result<TransferWords<'a>
     }
     let (wait, signal) = events_of(more)?;
     Ok(TransferWords {
+        fill,
         src,
         dst,
         wait,
         signal,
     })
+}
+
+/// The source that a word spells: of a fill an address, else a list.
+fn source_at(alloc: Global, fill: bool, word: &[u8]) -> Result<Origin, LineError>
+    ensures { Gives (λ source. source) result (source_at fill word.now) }
+{
+    if fill {
+        let addr = number_at(word)?;
+        Ok(Origin::Byte(addr))
+    } else {
+        let list = list_at(alloc, word)?;
+        Ok(Origin::List(list))
+    }
 }
 
 /// The segments and numbers that the words spell.
@@ -103,7 +141,7 @@ pub(crate) fn transfer_numbers(
 ) -> Result<TransferNumbers, LineError>
     ensures { Gives (λ numbers. numbers) result (transfer_numbers (seen_words words.entry)) }
 {
-    let src = list_at(alloc, words.src)?;
+    let src = source_at(alloc, words.fill, words.src)?;
     let dst = list_at(alloc, words.dst)?;
     let wait = number_where(words.wait)?;
     let signal = number_where(words.signal)?;
@@ -129,7 +167,7 @@ pub(crate) fn transfer_of(numbers: TransferNumbers) -> Result<TransferLine, Caus
     })
 }
 
-/// `LIST to LIST [wait E] [signal E]`
+/// `LIST to LIST [wait E] [signal E]` or `fill ADDR to LIST [wait E] [signal E]`
 fn transfer_line(alloc: Global, words: &[&[u8]]) -> Result<TransferLine, LineError>
     ensures { Gives (λ line. line) result (transfer_line (map (λ word. word.now) words.now)) }
 {

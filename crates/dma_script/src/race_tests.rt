@@ -27,6 +27,7 @@ fn no_faults(rt: HostRuntime) -> Result<(), Fail> {
           write 0 AA\n\
           read 0+1\n\
           submit 0 0+1 to 1+1\n\
+          submit 0 fill 0 to 1+1 wait 3\n\
           issue 0\n\
           terminate 0\n\
           result 0 1\n\
@@ -38,7 +39,8 @@ fn no_faults(rt: HostRuntime) -> Result<(), Fail> {
           write 0 AA\n\
           read 0+1\n\
           copy 0+1 to 1+1\n\
-          submit 0 0+1 to 1+1\n\
+          fill 0 to 1+1\n\
+          submit 0 fill 0 to 1+1\n\
           issue 0\n\
           pause 0\n\
           resume 0\n\
@@ -80,7 +82,7 @@ fn no_faults(rt: HostRuntime) -> Result<(), Fail> {
 
 #[test]
 fn faults_of_the_sides(rt: HostRuntime) -> Result<(), Fail> {
-    let cases: [(&[u8], usize, Cause); 32] = [
+    let cases: [(&[u8], usize, Cause); 36] = [
         // No line at all, and no `go`, which is told after the faults of all lines.
         (b"", 0, Cause::First),
         (b"# go\n", 0, Cause::First),
@@ -103,6 +105,9 @@ fn faults_of_the_sides(rt: HostRuntime) -> Result<(), Fail> {
         (b"memory 64 1\ngo\nmemory 64 1", 3, Cause::First),
         // Lines that may not stand before `go`.
         (b"memory 64 1\ncopy 0+1 to 1+1\ngo", 2, Cause::Command),
+        (b"memory 64 1\nfill 0 to 1+1\ngo", 2, Cause::Command),
+        (b"memory 64 1\nfill\ngo", 2, Cause::Command),
+        (b"fill 0 to 1+1", 1, Cause::Command),
         (b"memory 64 1\npause 0\ngo", 2, Cause::Command),
         (b"memory 64 1\nresume 0\ngo", 2, Cause::Command),
         (b"memory 64 1\nstep 0 0\ngo", 2, Cause::Command),
@@ -115,6 +120,7 @@ fn faults_of_the_sides(rt: HostRuntime) -> Result<(), Fail> {
         (b"memory 64 1\ngo\nread 0+1\ngo now", 4, Cause::Command),
         (b"memory 64 1\ngo\njob 0 0 1", 3, Cause::Command),
         (b"memory 64 1\ngo\njob x", 3, Cause::Command),
+        (b"memory 64 1\ngo\nfill 0 to 1", 3, Cause::Number),
         // The memory line's own, before any fault of a later line.
         (b"memory 0 9\ncopy", 1, Cause::SizeOutOfRange),
         (b"memory 64 9\ngo\ngo", 1, Cause::BadChannels),

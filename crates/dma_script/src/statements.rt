@@ -34,7 +34,9 @@ pub enum Keyword {
     Read,
     /// `copy LIST to LIST`
     Copy,
-    /// `submit CH LIST to LIST [wait E] [signal E]`
+    /// `fill ADDR to LIST`
+    Fill,
+    /// `submit CH LIST to LIST [wait E] [signal E]` or `submit CH fill ADDR to LIST [wait E] [signal E]`
     Submit,
     /// `issue CH`
     Issue,
@@ -83,6 +85,13 @@ pub enum Statement {
     Read(Segment),
     /// Copies the bytes of one list of segments to another.
     Copy(Apart<CopyLine>),
+    /// Copies one byte to every place of a list of segments.
+    Fill {
+        /// The address of the byte.
+        src: u32,
+        /// Where it goes.
+        dst: Segments,
+    },
     /// Submits a transfer on a channel.
     Submit {
         /// The channel.
@@ -212,7 +221,7 @@ pub struct RunScript {
 
 ghost use Rattle.std.specs.Option.{ForSome};
 ghost use Rattle.dma_script.specs.Lines.{Gives, LineGives, ScriptGives};
-ghost use Rattle.dma_script.specs.Statements.{channel_and_cookie, copy_line, count_of, first_line, IsWithin, keyword_of, later_line, mark_kind_of, mark_line, memory_line, next_line, read_line, result_line, run_script_of, status_line, step_line, submit_line, write_line};
+ghost use Rattle.dma_script.specs.Statements.{channel_and_cookie, copy_line, count_of, fill_line, first_line, IsWithin, keyword_of, later_line, mark_kind_of, mark_line, memory_line, next_line, read_line, result_line, run_script_of, status_line, step_line, submit_line, write_line};
 
 /// The command that a word is.
 pub(crate) fn keyword_in(word: &[u8]) -> Option<Keyword>
@@ -223,6 +232,7 @@ pub(crate) fn keyword_in(word: &[u8]) -> Option<Keyword>
         _ if is_text(word, b"write") => Some(Keyword::Write),
         _ if is_text(word, b"read") => Some(Keyword::Read),
         _ if is_text(word, b"copy") => Some(Keyword::Copy),
+        _ if is_text(word, b"fill") => Some(Keyword::Fill),
         _ if is_text(word, b"submit") => Some(Keyword::Submit),
         _ if is_text(word, b"issue") => Some(Keyword::Issue),
         _ if is_text(word, b"pause") => Some(Keyword::Pause),
@@ -291,7 +301,20 @@ fn copy_line(alloc: Global, words: &[&[u8]]) -> Result<Statement, LineError>
     Ok(Statement::Copy(Apart::new(alloc, CopyLine { src, dst })?))
 }
 
-/// `submit CH LIST to LIST [wait E] [signal E]`
+/// `fill ADDR to LIST`
+fn fill_line(alloc: Global, words: &[&[u8]]) -> Result<Statement, LineError>
+    ensures { Gives (λ line. line) result (fill_line (map (λ word. word.now) words.now)) }
+{
+    let (src, to, dst) = three_of(words)?;
+    if !is_text(to, b"to") {
+        return Err(LineError::Fault(Cause::Words));
+    }
+    let src = number_at(src)?;
+    let dst = list_at(alloc, dst)?;
+    Ok(Statement::Fill { src, dst })
+}
+
+/// `submit CH LIST to LIST [wait E] [signal E]` or `submit CH fill ADDR to LIST [wait E] [signal E]`
 fn submit_line(alloc: Global, words: &[&[u8]]) -> Result<Statement, LineError>
     ensures { Gives (λ line. line) result (submit_line (map (λ word. word.now) words.now)) }
 {
@@ -406,6 +429,7 @@ pub(crate) fn later_line(
         Keyword::Write => write_line(alloc, words),
         Keyword::Read => Ok(read_line(words)?),
         Keyword::Copy => copy_line(alloc, words),
+        Keyword::Fill => fill_line(alloc, words),
         Keyword::Submit => submit_line(alloc, words),
         Keyword::Issue => Ok(Statement::Issue {
             ch: byte_alone(words)?,

@@ -3,7 +3,7 @@
 use crate::fault::{Cause, Fault, ScriptError};
 use crate::laws::{first_causes_are_told, first_faults_are_told};
 use crate::pairs::{PairsError, push_pairs_fault, read_pairs};
-use crate::plan::{PlanLine, TransferLine, read_plan};
+use crate::plan::{Origin, PlanLine, TransferLine, read_plan};
 use crate::printing::{
     push_address, push_bytes, push_decimal, push_fault, push_line, push_program,
 };
@@ -28,7 +28,7 @@ fn fault(line: usize, cause: Cause) -> Option<Fault> {
 
 #[test]
 fn no_faults(rt: HostRuntime) -> Result<(), Fail> {
-    let cases: [&[u8]; 17] = [
+    let cases: [&[u8]; 18] = [
         b"memory 1 1",
         b"memory 16777217 1",
         b"memory 4294963200 8\n",
@@ -52,6 +52,11 @@ fn no_faults(rt: HostRuntime) -> Result<(), Fail> {
           terminate 255\n\
           raise 255",
         b"memory 64 1\nstep 255\nstep 255 1\nstep 0 1000000",
+        b"memory 64 1\n\
+          fill 0 to 0+0\n\
+          fill\t0xFFFFFFFF to 1+2,3+4\n\
+          submit 255 fill 4294967295 to 5+6 wait 0xFF signal 255\n\
+          submit 0 fill 007 to 0+0 signal 0",
         b"memory 64 1\nstatus 255 4294967295\nresult 255 0\nmark write 4294967295+4294967295",
     ];
     for input in cases {
@@ -64,7 +69,7 @@ fn no_faults(rt: HostRuntime) -> Result<(), Fail> {
 fn causes_in_order(rt: HostRuntime) -> Result<(), Fail> {
     first_causes_are_told();
     first_faults_are_told();
-    let cases: [(&[u8], usize, Cause); 20] = [
+    let cases: [(&[u8], usize, Cause); 27] = [
         // No line at all.
         (b"", 0, Cause::First),
         (b"\n# no line\n \t\r\n", 0, Cause::First),
@@ -82,6 +87,26 @@ fn causes_in_order(rt: HostRuntime) -> Result<(), Fail> {
         // Number and Hex are one stage, from the left.
         (b"memory 64 1\nwrite zz gg", 2, Cause::Number),
         (b"memory 64 1\nwrite 0 gg A", 2, Cause::Hex),
+        // The same of fills, whose source is a number; Range comes after both.
+        (b"fill to\x80", 1, Cause::Byte),
+        (b"fill to", 1, Cause::First),
+        (b"memory 64 1\nfill 1+1 too 2", 2, Cause::Words),
+        (b"memory 64 1\nfill 1+1 to 2", 2, Cause::Number),
+        (
+            b"memory 64 1\nsubmit 256 fill 1+1 too 2 wait 300",
+            2,
+            Cause::Words,
+        ),
+        (
+            b"memory 64 1\nsubmit 256 fill 1+1 to 2+2 wait 300",
+            2,
+            Cause::Number,
+        ),
+        (
+            b"memory 64 1\nsubmit 256 fill 1 to 2+2 wait 300",
+            2,
+            Cause::Range,
+        ),
         // Then the size, and then the channels.
         (b"memory 0 x", 1, Cause::Number),
         (b"memory 0 9", 1, Cause::SizeOutOfRange),
@@ -99,7 +124,7 @@ fn causes_in_order(rt: HostRuntime) -> Result<(), Fail> {
 
 #[test]
 fn faults_of_words(rt: HostRuntime) -> Result<(), Fail> {
-    let cases: [(&[u8], Cause); 32] = [
+    let cases: [(&[u8], Cause); 46] = [
         // A carriage return without its line feed, a second one, and a control byte that makes a word.
         (b"read 0+1\r", Cause::Byte),
         (b"\r", Cause::Byte),
@@ -129,6 +154,20 @@ fn faults_of_words(rt: HostRuntime) -> Result<(), Fail> {
         (b"copy 1+1, to 0+1", Cause::Number),
         (b"copy ,1+1 to 0+1", Cause::Number),
         (b"copy 1+1 to fill", Cause::Number),
+        (b"copy fill 1 to 2+1", Cause::Words),
+        (b"filled 1 to 2+1", Cause::Command),
+        (b"FILL 1 to 2+1", Cause::Command),
+        (b"fill", Cause::Words),
+        (b"fill x to", Cause::Words),
+        (b"fill to 2+1", Cause::Words),
+        (b"fill x too 2+1", Cause::Words),
+        (b"fill x to 2+1 wait 3", Cause::Words),
+        (b"fill 1+1 to 2+1", Cause::Number),
+        (b"fill 0X1 to 2+1", Cause::Number),
+        (b"fill 4294967296 to 2+1", Cause::Number),
+        (b"fill 1 to 2", Cause::Number),
+        (b"fill 1 to 2+1,", Cause::Number),
+        (b"fill to to 2+1", Cause::Number),
         (b"write 4294967296 00", Cause::Number),
         (b"write 0 0", Cause::Hex),
         (b"write 0 0x00", Cause::Hex),
@@ -144,7 +183,7 @@ fn faults_of_words(rt: HostRuntime) -> Result<(), Fail> {
 
 #[test]
 fn faults_of_channel_lines(rt: HostRuntime) -> Result<(), Fail> {
-    let cases: [(&[u8], Cause); 40] = [
+    let cases: [(&[u8], Cause); 52] = [
         (b"submit", Cause::Words),
         (b"submit 0", Cause::Words),
         (b"submit x 0+4 to 8+4 wait", Cause::Words),
@@ -157,6 +196,18 @@ fn faults_of_channel_lines(rt: HostRuntime) -> Result<(), Fail> {
         (b"submit 256 0+4 to 8+4 wait 300", Cause::Range),
         (b"submit 0 0+4 to 8+4 wait 300", Cause::Range),
         (b"submit 0 0+4 to 8+4 signal 256", Cause::Range),
+        (b"submit fill 1 to 8+4", Cause::Number),
+        (b"submit x fill", Cause::Words),
+        (b"submit x fill to 8+4", Cause::Words),
+        (b"submit x fill to 8+4 wait 3", Cause::Words),
+        (b"submit x fill 1 too 8+4", Cause::Words),
+        (b"submit x fill 1 to 8+4 signal 1 wait 2", Cause::Words),
+        (b"submit 256 fill 1+1 to 8+4", Cause::Number),
+        (b"submit x fill 1 to 8+4 wait 300", Cause::Number),
+        (b"submit 256 fill 1 to fill wait 300", Cause::Number),
+        (b"submit 256 fill 1 to 8+4", Cause::Range),
+        (b"submit 0 fill 1 to 8+4 wait 300", Cause::Range),
+        (b"submit 0 fill 1 to 8+4 signal 256", Cause::Range),
         (b"issue", Cause::Words),
         (b"issue x 0", Cause::Words),
         (b"issue x", Cause::Number),
@@ -260,7 +311,7 @@ fn statement_text(alloc: Global, line: &[u8]) -> Result<String, Fail> {
 
 #[test]
 fn each_statement(rt: HostRuntime) -> Result<(), Fail> {
-    let cases: [(&[u8], &str); 15] = [
+    let cases: [(&[u8], &str); 17] = [
         (b"read 0x1F+5", "Read(Segment { addr: 31, len: 5 })"),
         (b"issue 2", "Issue { ch: 2 }"),
         (b"pause 3", "Pause { ch: 3 }"),
@@ -286,8 +337,17 @@ fn each_statement(rt: HostRuntime) -> Result<(), Fail> {
         (b"totals", "Totals"),
         (
             b"submit 1 0+4 to 8+4 wait 3 signal 255",
-            "Submit { ch: 1, transfer: Apart { part: TransferLine { src: Segments { segments: [Segment { addr: 0, len: 4 }] }, \
+            "Submit { ch: 1, transfer: Apart { part: TransferLine { src: List(Segments { segments: [Segment { addr: 0, len: 4 }] }), \
                 dst: Segments { segments: [Segment { addr: 8, len: 4 }] }, wait: Some(3), signal: Some(255) } } }",
+        ),
+        (
+            b"submit 1 fill 0x10 to 8+4 signal 255",
+            "Submit { ch: 1, transfer: Apart { part: TransferLine { src: Byte(16), \
+                dst: Segments { segments: [Segment { addr: 8, len: 4 }] }, wait: None, signal: Some(255) } } }",
+        ),
+        (
+            b"fill 0x10 to 8+4,32+1",
+            "Fill { src: 16, dst: Segments { segments: [Segment { addr: 8, len: 4 }, Segment { addr: 32, len: 1 }] } }",
         ),
     ];
     for (line, text) in cases {
@@ -387,6 +447,9 @@ fn plans(rt: HostRuntime) -> Result<(), Fail> {
         signal,
     } = transfer;
     assert_eq!(rt; (line, wait, signal), (3, Some(3), Some(255)));
+    let Origin::List(src) = src else {
+        return Err(Fail::from("a list"));
+    };
     assert_eq!(rt;
         src.as_slice(),
         [Segment {
@@ -410,6 +473,7 @@ fn plans(rt: HostRuntime) -> Result<(), Fail> {
         (b"1+1 to 2+1".as_slice(), None, None),
         (b"1+1 to 2+1 wait 31".as_slice(), Some(31), None),
         (b"1+1 to 2+1\tsignal 32".as_slice(), None, Some(32)),
+        (b"fill 1 to 2+1 wait 31".as_slice(), Some(31), None),
     ] {
         let plan = read_plan(rt.alloc(), input).ok().ok_or("a plan")?;
         assert_eq!(rt;
@@ -422,7 +486,7 @@ fn plans(rt: HostRuntime) -> Result<(), Fail> {
 
 #[test]
 fn faults_of_plans(rt: HostRuntime) -> Result<(), Fail> {
-    let cases: [(&[u8], usize, Cause); 18] = [
+    let cases: [(&[u8], usize, Cause); 28] = [
         (b"", 0, Cause::First),
         (b"# no line\n", 0, Cause::First),
         (b"1+1 to 2+1\n1+1 to 2+1", 2, Cause::Words),
@@ -440,7 +504,17 @@ fn faults_of_plans(rt: HostRuntime) -> Result<(), Fail> {
         (b"1+1 to 2+1 wait 256 signal x", 1, Cause::Number),
         (b"1+1 to 2+1 wait 256", 1, Cause::Range),
         (b"1+1 to 2+1 wait 4294967296", 1, Cause::Number),
-        (b"fill to 2+1 signal 4294967295", 1, Cause::Number),
+        (b"fill to 2+1 signal 4294967295", 1, Cause::Words),
+        (b"fill", 1, Cause::Words),
+        (b"fill x to", 1, Cause::Words),
+        (b"fill x too 2+1", 1, Cause::Words),
+        (b"fill x to 2+1 wait", 1, Cause::Words),
+        (b"fill 1 to 2+1\nfill 1 to 2+1", 2, Cause::Words),
+        (b"fill\x80 to", 1, Cause::Byte),
+        (b"fill 1+1 to 2+1 wait 256", 1, Cause::Number),
+        (b"fill 1 to fill wait 256", 1, Cause::Number),
+        (b"fill 1 to 2+1 signal 256", 1, Cause::Range),
+        (b"1+1 to fill", 1, Cause::Number),
     ];
     for (input, line, cause) in cases {
         let fault = read_plan(rt.alloc(), input).err();
