@@ -22,9 +22,10 @@ use Rattle.dma_script.specs.Race.{IsEarly, race_script_of}
 use Rattle.dma_script.specs.declared.fault.Fault.{Fault}
 use Rattle.dma_script.specs.declared.race.RaceScript.{RaceScript}
 use Rattle.dma_script.specs.declared.statements.Statement.{Statement}
-use Rattle.dma_script.specs.declared.statements.Statement.TheVariants.{Write, Read, Copy, Submit, Issue, Pause, Resume, Terminate, Step, Status, Result as Outcome, Mark, Unmark, Raise, Totals}
+use Rattle.dma_script.specs.declared.statements.Statement.TheVariants.{Write, Read, Copy, Fill, Submit, Issue, Pause, Resume, Terminate, Step, Status, Result as Outcome, Mark, Unmark, Raise, Totals}
 use Rattle.dmasim.specs.Printed.{call_line, refused_line, transfer_fault_name}
-use Rattle.dmasim.specs.Run.{Answered, call_answer, lines_answered, submitted, unless_unfit}
+use Rattle.dmasim.specs.Run.{Answered, call_answer, lines_answered, unless_unfit}
+use Rattle.dmasim.specs.Transfers.{transfer_of}
 use Rattle.dmasim.specs.Race.{EachPrints, EarlyPrints, RacePrints, alone, go_line, race_may_print, race_prints_of, missing_tally, no_reader, raced_refused, raced_whole, whole}
 use Rattle.dmasim.specs.inner.RaceSteps.{PrintsAll, PrintsCall, PrintsEarly, PrintsFirst, PrintsGo, PrintsMissing, PrintsRefusal, PrintsTotals}
 use Rattle.dma_script.specs.Interpreted.{ActsInTurn, PrintsLine, PrintsLines, StopsAtALine}
@@ -54,9 +55,9 @@ submit_some None answered line is = (line, is)
 submit_some (Some fault) answered line is = (refused_line (transfer_fault_name fault), refl)
 
 -- A submit line whose transfer breaks a rule.
-pub unfit_early : (ch : ℕ) (line : TransferLine) (e : TransferFault) (old new : List ℕ) → refusal_of (submitted line) ≡ Some e → (e ≢ transfers.NoMemory) × (new ≡ old ++ text_of (refused_line (transfer_fault_name e) ∷ [])) → PrintsEarly (Submit ch line) old new
+pub unfit_early : (ch : ℕ) (line : TransferLine) (e : TransferFault) (old new : List ℕ) → refusal_of (transfer_of line) ≡ Some e → (e ≢ transfers.NoMemory) × (new ≡ old ++ text_of (refused_line (transfer_fault_name e) ∷ [])) → PrintsEarly (Submit ch line) old new
 unfit_early ch line e old new is prints =
-    let t = submitted line in
+    let t = transfer_of line in
     record {
       line = refused_line (transfer_fault_name e);
       allowed = (some_view, ap (λ fault. (unless_unfit fault some_view (call_answer some_view (calls.Submit ch t))).0) is);
@@ -72,8 +73,9 @@ unfolding of_call
 early_some (Write addr bytes) early = (of_call (calls.Write addr bytes), (some_view, refl))
 early_some (Read segment) early = (of_call (calls.Read segment.addr segment.len), (some_view, refl))
 early_some (Copy lists) early = absurd early
+early_some (Fill src dst) early = absurd early
 early_some (Submit ch transfer) early =
-    let one = submit_some (refusal_of (submitted transfer)) (call_answer some_view (calls.Submit ch (submitted transfer))) (of_call (calls.Submit ch (submitted transfer))) refl in
+    let one = submit_some (refusal_of (transfer_of transfer)) (call_answer some_view (calls.Submit ch (transfer_of transfer))) (of_call (calls.Submit ch (transfer_of transfer))) refl in
     (one.0, (some_view, one.1))
 early_some (Issue ch) early = (of_call (calls.Issue ch), (some_view, refl))
 early_some (Pause ch) early = absurd early

@@ -39,6 +39,14 @@ rules : (printed (script (codes "memory 8 1" ∷ codes "copy 0+0 to 4+0" ∷ cod
 unfolding put after_moves opening share running
 rules = refl
 
+fill_rules : (printed (script (codes "memory 8 1" ∷ codes "fill 0 to 4+0" ∷ codes "fill 0 to 4+2,5+1" ∷ codes "fill 4 to 1+4" ∷ codes "fill 8 to 1+4" ∷ []))).groups ≡ [] ∷ one_each (codes "refused EmptySegment" ∷ codes "refused DestinationsMeet" ∷ codes "refused SourceMeetsDestination" ∷ codes "refused OutOfMemoryRange" ∷ [])
+unfolding put after_moves opening share running
+fill_rules = refl
+
+fill_in_a_queue : (printed (script (codes "memory 8 1" ∷ codes "submit 0 fill 0 to 2+2,6+1" ∷ codes "fill 0 to 2+2" ∷ codes "issue 0" ∷ codes "terminate 0" ∷ codes "result 0 1" ∷ []))).groups ≡ [] ∷ one_each (numbered (codes "cookie ") 1 ∷ codes "refused ChannelInUse" ∷ numbered (codes "issued ") 1 ∷ numbered (codes "aborted ") 1 ∷ numbered (codes "result Aborted residue ") 3 ∷ [])
+unfolding put after_moves opening share running
+fill_in_a_queue = refl
+
 queues : (printed (script (codes "memory 8 1" ∷ codes "submit 0 0+2 to 2+2" ∷ codes "status 0 1" ∷ codes "copy 0+2 to 2+2" ∷ codes "issue 0" ∷ codes "terminate 0" ∷ codes "result 0 1" ∷ codes "status 0 1" ∷ codes "step 0 2" ∷ []))).groups ≡ [] ∷ one_each (numbered (codes "cookie ") 1 ∷ codes "status InProgress" ∷ codes "refused ChannelInUse" ∷ numbered (codes "issued ") 1 ∷ numbered (codes "aborted ") 1 ∷ numbered (codes "result Aborted residue ") 2 ∷ codes "status Complete" ∷ step_line 0 (codes "nothing", 2) ∷ [])
 unfolding put after_moves opening share running
 queues = refl

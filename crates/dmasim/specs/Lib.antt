@@ -1,5 +1,6 @@
 -- What the program prints for an input, and which command its words name.
 pub mod Printed
+pub mod Transfers
 pub mod Run
 pub mod Race
 pub mod Assembled

@@ -2,7 +2,6 @@
 use Rattle.std.specs.Prelude.{ℕ, ◌∷◌, [], ◌++◌, List, length, Option, Some, None, Result, Ok, Err, codes, decimal}
 use Rattle.std.specs.List.{concat}
 use Rattle.dma_mem.specs.declared.transfer.TransferFault.{TransferFault}
-use Rattle.dma_mem.specs.Places.{Descriptor}
 use Rattle.dma_mem.specs.Refusals.{refusal_of}
 use Rattle.dma_chan.specs.Programs.{ProgramValue}
 use Rattle.dma_chan.specs.Compiled.{compiled}
@@ -12,10 +11,7 @@ use Rattle.dma_script.specs.Plan.{plan_of}
 use Rattle.dma_script.specs.declared.fault.Fault.{Fault}
 use Rattle.dma_script.specs.declared.plan.PlanLine.{PlanLine}
 use Rattle.dmasim.specs.Printed.{transfer_fault_name}
-
--- the transfer of a line
-abbrev pub transfer_of : PlanLine → Descriptor
-transfer_of line = record { src = line.transfer.src; dst = line.transfer.dst; wait = line.transfer.wait; signal = line.transfer.signal }
+use Rattle.dmasim.specs.Transfers.{transfer_of}
 
 -- `line N: NAME`
 abbrev pub unfit_line : ℕ → TransferFault → List ℕ
@@ -33,12 +29,12 @@ program_printed program =
 
 -- A transfer that meets its rules prints its program, another the first rule that it breaks.
 abbrev pub transfer_printed : PlanLine → Option TransferFault → Printed
-transfer_printed line None = record { groups = program_printed (compiled (transfer_of line)) ∷ []; status = 0 }
+transfer_printed line None = record { groups = program_printed (compiled (transfer_of line.transfer)) ∷ []; status = 0 }
 transfer_printed line (Some fault) = refusal (unfit_line line.line fault)
 
 -- What is printed for a line that is read, and for an input that has a fault.
 abbrev pub plan_printed_of : Result PlanLine Fault → Printed
-plan_printed_of (Ok line) = transfer_printed line (refusal_of (transfer_of line))
+plan_printed_of (Ok line) = transfer_printed line (refusal_of (transfer_of line.transfer))
 plan_printed_of (Err fault) = refusal (fault_line fault)
 
 -- What is printed for an input.

@@ -3,7 +3,7 @@ use Rattle.std.specs.Prelude.{◌≡◌, ℕ, ◌+◌, ◌++◌, ◌∷◌, [], 
 use Rattle.std.specs.Str.{bytes_eq}
 use Rattle.dma_mem.specs.declared.segment.Segment.{Segment}
 use Rattle.dma_mem.specs.declared.transfer.TransferFault.{TransferFault}
-use Rattle.dma_mem.specs.Places.{Descriptor}
+use Rattle.dma_mem.specs.Places.{Descriptor, filling}
 use Rattle.dma_mem.specs.Rules.{IsTransfer}
 use Rattle.dma_mem.specs.Refusals.{refusal_of}
 use Rattle.dma_engine.specs.declared.call.Call.{Call}
@@ -21,8 +21,9 @@ use Rattle.dma_script.specs.declared.fault.Fault.{Fault}
 use Rattle.dma_script.specs.declared.plan.TransferLine.{TransferLine}
 use Rattle.dma_script.specs.declared.statements.RunScript.{RunScript}
 use Rattle.dma_script.specs.declared.statements.Statement.{Statement}
-use Rattle.dma_script.specs.declared.statements.Statement.TheVariants.{Write, Read, Copy, Submit, Issue, Pause, Resume, Terminate, Step, Status, Result as Outcome, Mark, Unmark, Raise, Totals}
+use Rattle.dma_script.specs.declared.statements.Statement.TheVariants.{Write, Read, Copy, Fill, Submit, Issue, Pause, Resume, Terminate, Step, Status, Result as Outcome, Mark, Unmark, Raise, Totals}
 use Rattle.dmasim.specs.Printed.{transfer_fault_name, refused_line, reply_text, call_line}
+use Rattle.dmasim.specs.Transfers.{transfer_of}
 
 -- the lines that a line of the script prints, and the view after it
 abbrev pub Answered : Type 0
@@ -41,14 +42,10 @@ abbrev pub unless_unfit : Option TransferFault → View → Answered → Answere
 unless_unfit (Some fault) v answered = told (refused_line (transfer_fault_name fault)) v
 unless_unfit None v answered = answered
 
--- the transfer of a submit line
-abbrev pub submitted : TransferLine → Descriptor
-submitted line = record { src = line.src; dst = line.dst; wait = line.wait; signal = line.signal }
-
 -- a submit line: its transfer's own rules first, then the call
 abbrev pub submit_answer : View → ℕ → TransferLine → Answered
 submit_answer v ch line =
-    unless_unfit (refusal_of (submitted line)) v (call_answer v (calls.Submit ch (submitted line)))
+    unless_unfit (refusal_of (transfer_of line)) v (call_answer v (calls.Submit ch (transfer_of line)))
 
 -- ---- step lines
 
@@ -77,7 +74,7 @@ step_answer v ch count =
     let after = answers v (replicate count (calls.Step ch)) in
     (step_lines ch (map reply_text after.0), after.1)
 
--- ---- copy lines
+-- ---- copy and fill lines
 
 -- channel 0 has an unfinished cookie, or is paused or halted
 abbrev pub is_in_use : View → Bool
@@ -98,18 +95,18 @@ stepped_through (suc n) v =
     let first = answer v (calls.Step 0) in
     if goes_on first.0 then stepped_through n first.1 else first
 
--- `copy ANSWER`
-abbrev pub copy_line : Reply → List ℕ
-copy_line reply = codes "copy " ++ reply_text reply
+-- `copy ANSWER` or `fill ANSWER`, by the line's command
+abbrev pub through_line : List ℕ → Reply → List ℕ
+through_line command reply = command ++ reply_text reply
 
 -- more steps than any copy takes (`CopiesEnd`)
 abbrev pub most_steps : ℕ
 most_steps = 524288
 
 -- What was submitted to channel 0 is issued and stepped through.
-abbrev pub carried_through : View → Answered
-carried_through v =
-    let last = stepped_through most_steps (answer v (calls.Issue 0)).1 in told (copy_line last.0) last.1
+abbrev pub carried_through : List ℕ → View → Answered
+carried_through command v =
+    let last = stepped_through most_steps (answer v (calls.Issue 0)).1 in told (through_line command last.0) last.1
 
 -- a reply that is a refusal
 abbrev pub is_refused : Reply → Bool
@@ -117,21 +114,34 @@ is_refused (Refused fault) = true
 is_refused _ = false
 
 -- what follows a transfer's submission
-abbrev pub copied_after : Reply × View → Answered
-copied_after after = if is_refused after.0 then told (reply_text after.0) after.1 else carried_through after.1
+abbrev pub copied_after : List ℕ → Reply × View → Answered
+copied_after command after =
+    if is_refused after.0 then told (reply_text after.0) after.1 else carried_through command after.1
 
 -- a transfer that meets its rules is copied, unless channel 0 is in use
-abbrev pub copied : View → Descriptor → Answered
-copied v t =
-    if is_in_use v then told (refused_line (codes "ChannelInUse")) v else copied_after (answer v (calls.Submit 0 t))
+abbrev pub copied : List ℕ → View → Descriptor → Answered
+copied command v t =
+    if is_in_use v then told (refused_line (codes "ChannelInUse")) v else copied_after command (answer v (calls.Submit 0 t))
 
 -- the transfer of a copy line, which neither waits nor signals
 abbrev pub plain_copy : List Segment → List Segment → Descriptor
-plain_copy src dst = record { src = src; dst = dst; wait = None; signal = None }
+plain_copy src dst = record { fill = false; src = src; dst = dst; wait = None; signal = None }
 
--- a copy line: its transfer's own rules first
+-- that of a fill line
+abbrev pub plain_fill : ℕ → List Segment → Descriptor
+plain_fill src dst = filling src dst None None
+
+-- a copy or a fill line, by its command: its transfer's own rules first
+abbrev pub through_answer : View → List ℕ → Descriptor → Answered
+through_answer v command t = unless_unfit (refusal_of t) v (copied command v t)
+
+-- a copy line
 abbrev pub copy_answer : View → List Segment → List Segment → Answered
-copy_answer v src dst = unless_unfit (refusal_of (plain_copy src dst)) v (copied v (plain_copy src dst))
+copy_answer v src dst = through_answer v (codes "copy ") (plain_copy src dst)
+
+-- a fill line
+abbrev pub fill_answer : View → ℕ → List Segment → Answered
+fill_answer v src dst = through_answer v (codes "fill ") (plain_fill src dst)
 
 -- The steps of a copy end by themselves: where channel 0 of a sound view isn't in use, and a transfer is submitted to it and
 -- issued, the last answer of its steps is one after which no copy goes on. So no copy is cut off by most_steps.
@@ -157,6 +167,7 @@ abbrev pub line_answer : View → Statement → Answered
 line_answer v (Write addr bytes) = call_answer v (calls.Write addr bytes)
 line_answer v (Read segment) = call_answer v (calls.Read segment.addr segment.len)
 line_answer v (Copy lists) = copy_answer v lists.src lists.dst
+line_answer v (Fill src dst) = fill_answer v src dst
 line_answer v (Submit ch transfer) = submit_answer v ch transfer
 line_answer v (Issue ch) = call_answer v (calls.Issue ch)
 line_answer v (Pause ch) = call_answer v (calls.Pause ch)

@@ -16,6 +16,7 @@ mod run;
 mod run_tests;
 #[cfg(test)]
 mod tests;
+mod transfers;
 
 use clap::error::ErrorKind;
 use clap::{Command, Error};

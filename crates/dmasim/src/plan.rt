@@ -2,12 +2,14 @@
 ghost use Rattle.std.specs.Prelude.{◌≡◌, ◌≢◌, ◌≤◌, ◌+◌, ◌++◌, ◌∷◌, [], OnOk, OnErr, IfOk, IfSome};
 ghost use Rattle.dma_mem.specs.Refusals.{refusal_of};
 ghost use Rattle.dma_script.specs.Command.{Ends, failures, longest_input, printed_text, printed_within, text_of};
-ghost use Rattle.dmasim.specs.Planned.{plan_printed, program_printed, transfer_of, transfer_printed, unfit_line};
+ghost use Rattle.dmasim.specs.Planned.{plan_printed, program_printed, transfer_printed, unfit_line};
+ghost use Rattle.dmasim.specs.Transfers.{transfer_of};
 
 use crate::printing::rule_name;
+use crate::transfers::transfer_of;
 use dma_chan::compile::compile;
 use dma_chan::program::Program;
-use dma_mem::transfer::{Transfer, TransferFault};
+use dma_mem::transfer::TransferFault;
 use dma_script::command::{Command, FAULT, SUCCESS, serve};
 use dma_script::fault::ScriptError;
 use dma_script::input::Source;
@@ -49,19 +51,16 @@ fn program_text(alloc: Global, program: &Program) -> Result<Vec<u8>, AllocError>
 
 /// Appends the program of a transfer or the line of the first rule that it breaks, and gives the status; or appends
 /// nothing.
-fn push_transfer(alloc: Global, out: &mut Vec<u8>, line: &PlanLine) -> Result<u8, AllocError>
-    ensures text { OnOk result (out.new.items ≡ out.old.items ++ printed_text (transfer_printed line.now (refusal_of (transfer_of line.now))).groups) }
-    ensures status { IfOk result (λ status. status ≡ (transfer_printed line.now (refusal_of (transfer_of line.now))).status) }
+fn push_transfer(alloc: Global, out: &mut Vec<u8>, line: PlanLine) -> Result<u8, AllocError>
+    ensures text { OnOk result (out.new.items ≡ out.old.items ++ printed_text (transfer_printed line (refusal_of (transfer_of line.transfer))).groups) }
+    ensures status { IfOk result (λ status. status ≡ (transfer_printed line (refusal_of (transfer_of line.transfer))).status) }
     ensures err { OnErr result (out.new.items ≡ out.old.items) }
 {
-    let built = Transfer::new(
-        alloc,
-        line.transfer.src.as_slice(),
-        line.transfer.dst.as_slice(),
-        line.transfer.wait,
-        line.transfer.signal,
-    );
-    match built {
+    let PlanLine {
+        line: number,
+        transfer: words,
+    } = line;
+    match transfer_of(words) {
         Ok(transfer) => {
             let Ok(program) = compile(alloc, &transfer) else {
                 return Err(AllocError);
@@ -71,7 +70,7 @@ fn push_transfer(alloc: Global, out: &mut Vec<u8>, line: &PlanLine) -> Result<u8
             Ok(SUCCESS)
         }
         Err(fault) => {
-            push_rule(alloc, out, line.line, fault)?;
+            push_rule(alloc, out, number, fault)?;
             Ok(FAULT)
         }
     }
@@ -86,13 +85,14 @@ impl Command for Plan {
     ghost use Rattle.std.proofs.Math.Nat.{zero-lt-suc};
     ghost use Rattle.dma_mem.specs.Refusals.{refusal_of};
     ghost use Rattle.dma_script.specs.Plan.{plan_of};
-    ghost use Rattle.dmasim.specs.Planned.{plan_printed, plan_printed_of, transfer_of, transfer_printed};
+    ghost use Rattle.dmasim.specs.Planned.{plan_printed, plan_printed_of, transfer_printed};
+    ghost use Rattle.dmasim.specs.Transfers.{transfer_of};
 
     ghost printed = { plan_printed };
 
     fn answer(&self, alloc: Global, input: &[u8], out: &mut Vec<u8>) -> Result<u8, AllocError> {
         match read_plan(alloc, input) {
-            Ok(line) => push_transfer(alloc, out, &line),
+            Ok(line) => push_transfer(alloc, out, line),
             Err(ScriptError::Fault(fault)) => {
                 push_fault(alloc, out, fault)?;
                 Ok(FAULT)
@@ -102,7 +102,7 @@ impl Command for Plan {
     }
 
     ghost some_group = { λ input. elim (plan_of input) as (λ read. 0 < length (plan_printed_of read).groups) [
-      | Ok line ↦ elim (refusal_of (transfer_of line)) as (λ unfit. 0 < length (transfer_printed line unfit).groups) [
+      | Ok line ↦ elim (refusal_of (transfer_of line.transfer)) as (λ unfit. 0 < length (transfer_printed line unfit).groups) [
         | None ↦ zero-lt-suc _
         | Some fault ↦ zero-lt-suc _
       ]

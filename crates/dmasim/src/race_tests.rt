@@ -320,3 +320,134 @@ fn last_line(text: &[u8]) -> Option<&[u8]> {
     let text = text.strip_suffix(b"\n")?;
     text.rsplit(|b| *b == b'\n').next()
 }
+
+#[test]
+fn fills_on_both_sides_of_go(rt: HostRuntime) -> Result<(), Fail> {
+    let ran = race(
+        &rt,
+        rt.alloc(),
+        b"memory 0x400 2\n\
+          write 0x100 5A\n\
+          submit 0 fill 0x100 to 0x200+3\n\
+          submit 1 fill 0x100 to 0x300+2\n\
+          submit 1 fill 0x100 to 0x100+1\n\
+          submit 1 fill 0x400 to 0x100+1\n\
+          issue 0\n\
+          issue 1\n\
+          job 0 0 9\n\
+          job 1 1 9\n\
+          go\n\
+          fill 0x200 to 0x210+2\n\
+          read 0x1FF+5\n\
+          read 0x300+3\n\
+          read 0x210+3\n\
+          totals",
+    );
+    assert_eq!(rt; ran.0, 0);
+    assert_eq!(rt;
+        ran.1.as_slice(),
+        b"ok\n\
+          cookie 1\n\
+          cookie 1\n\
+          refused SourceMeetsDestination\n\
+          refused OutOfMemoryRange\n\
+          issued 1\n\
+          issued 1\n\
+          go steps 16 finished 2\n\
+          fill finished 2 NoError residue 0\n\
+          read 0x000001FF 00 5A 5A 5A 00\n\
+          read 0x00000300 5A 5A 00\n\
+          read 0x00000210 5A 5A 00\n\
+          totals entries 13 steps 24 running 0\n"
+            .as_slice()
+    );
+    Ok(())
+}
+
+// Nothing before `go` raises its event: it waits through all turns, in the way of writers of its byte.
+#[test]
+fn a_fill_waits_through_go(rt: HostRuntime) -> Result<(), Fail> {
+    let ran = race(
+        &rt,
+        rt.alloc(),
+        b"memory 0x400 2\n\
+          write 0x100 5A\n\
+          submit 0 fill 0x100 to 0x200+3,0x300+2 wait 3\n\
+          submit 1 fill 0x100 to 0x240+1 signal 4\n\
+          issue 0\n\
+          issue 1\n\
+          job 0 0 9\n\
+          job 1 1 10\n\
+          go\n\
+          status 0 1\n\
+          step 0 2\n\
+          write 0x100 00\n\
+          raise 3\n\
+          step 0 16\n\
+          read 0x1FF+5\n\
+          read 0x300+3\n\
+          read 0x240+2\n\
+          totals",
+    );
+    assert_eq!(rt; ran.0, 0);
+    assert_eq!(rt;
+        ran.1.as_slice(),
+        b"ok\n\
+          cookie 1\n\
+          cookie 1\n\
+          issued 1\n\
+          issued 1\n\
+          go steps 9 finished 1\n\
+          status InProgress\n\
+          step 0 waiting 3 x2\n\
+          refused Busy 0 1\n\
+          ok\n\
+          step 0 moved x15\n\
+          step 0 finished 1 NoError residue 0 x1\n\
+          read 0x000001FF 00 5A 5A 5A 00\n\
+          read 0x00000300 5A 5A 00\n\
+          read 0x00000240 5A 00\n\
+          totals entries 13 steps 25 running 0\n"
+            .as_slice()
+    );
+    Ok(())
+}
+
+// One worker steps both channels: the fill that waits goes on once the other has signalled.
+#[test]
+fn a_fill_waits_for_another(rt: HostRuntime) -> Result<(), Fail> {
+    let ran = race(
+        &rt,
+        rt.alloc(),
+        b"memory 0x400 2\n\
+          write 0x100 5A\n\
+          submit 0 fill 0x100 to 0x200+3 wait 3\n\
+          submit 1 fill 0x100 to 0x300+2 signal 3\n\
+          issue 0\n\
+          issue 1\n\
+          status 0 1\n\
+          job 0 1 40\n\
+          go\n\
+          status 0 1\n\
+          read 0x1FF+5\n\
+          read 0x300+3\n\
+          totals",
+    );
+    assert_eq!(rt; ran.0, 0);
+    assert_eq!(rt;
+        ran.1.as_slice(),
+        b"ok\n\
+          cookie 1\n\
+          cookie 1\n\
+          issued 1\n\
+          issued 1\n\
+          status InProgress\n\
+          go steps 18 finished 2\n\
+          status Complete\n\
+          read 0x000001FF 00 5A 5A 5A 00\n\
+          read 0x00000300 5A 5A 00\n\
+          totals entries 11 steps 18 running 0\n"
+            .as_slice()
+    );
+    Ok(())
+}

@@ -9,7 +9,7 @@ mod copies;
 mod steps;
 
 use crate::run::calls::{answer_call, answer_totals, submit_line, write_line};
-use crate::run::copies::answer_copy;
+use crate::run::copies::{answer_copy, answer_fill};
 use crate::run::steps::{StepLines, answer_steps};
 use dma_engine::{Call, Engine, NewFault};
 use dma_mem::segment::Segment;
@@ -38,6 +38,7 @@ fn run_statement(
             return write_line(engine, addr, bytes.as_slice(), line, out);
         }
         Statement::Copy(lists) => return answer_copy(engine, lists.into_inner(), line, out),
+        Statement::Fill { src, dst } => return answer_fill(engine, src, dst, line, out),
         Statement::Submit { ch, transfer } => {
             return submit_line(engine, ch, transfer.into_inner(), line, out);
         }

@@ -1,5 +1,6 @@
 //! Whole runs over an engine: what is printed for an input, by the rules of the formats.
 use crate::tests::run;
+use std::alloc::Global;
 use std::test::Fail;
 
 #[test]
@@ -526,6 +527,282 @@ fn idle_steps_are_counted_line_by_line(rt: HostRuntime) -> Result<(), Fail> {
           step 0 nothing x1\n\
           step 0 nothing x3000\n\
           totals entries 0 steps 0 running 0\n"
+            .as_slice()
+    );
+    Ok(())
+}
+
+// What a script prints that has no fault.
+fn printed(alloc: Global, input: &[u8]) -> Result<Vec<u8>, Fail> {
+    let (status, text) = run(alloc, input);
+    if status == 0 {
+        Ok(text)
+    } else {
+        Err(Fail::from("a status"))
+    }
+}
+
+#[test]
+fn a_fill(rt: HostRuntime) -> Result<(), Fail> {
+    let text = printed(
+        rt.alloc(),
+        b"memory 64 1\n\
+          write 0x10 5A\n\
+          fill 0x10 to 0x20+3,0x30+2\n\
+          read 0x1F+5\n\
+          read 0x2F+4\n\
+          fill 0x10 to 0x0E+4",
+    )?;
+    assert_eq!(rt;
+        text.as_slice(),
+        b"ok\n\
+          fill finished 1 NoError residue 0\n\
+          read 0x0000001F 00 5A 5A 5A 00\n\
+          read 0x0000002F 00 5A 5A 00\n\
+          refused SourceMeetsDestination\n"
+            .as_slice()
+    );
+    Ok(())
+}
+
+#[test]
+fn a_fill_waits(rt: HostRuntime) -> Result<(), Fail> {
+    let text = printed(
+        rt.alloc(),
+        b"memory 0x400 2\n\
+          write 0x100 5A\n\
+          submit 0 fill 0x100 to 0x200+3,0x300+2 wait 3\n\
+          issue 0\n\
+          step 0 3\n\
+          read 0x202+1\n\
+          read 0x100+1\n\
+          write 0x100 00\n\
+          raise 3\n\
+          step 0 16\n\
+          read 0x1FF+5\n\
+          read 0x300+3\n\
+          totals",
+    )?;
+    assert_eq!(rt;
+        text.as_slice(),
+        b"ok\n\
+          cookie 1\n\
+          issued 1\n\
+          step 0 started 1 x1\n\
+          step 0 waiting 3 x2\n\
+          refused Busy 0 1\n\
+          read 0x00000100 5A\n\
+          refused Busy 0 1\n\
+          ok\n\
+          step 0 moved x15\n\
+          step 0 finished 1 NoError residue 0 x1\n\
+          read 0x000001FF 00 5A 5A 5A 00\n\
+          read 0x00000300 5A 5A 00\n\
+          totals entries 9 steps 16 running 0\n"
+            .as_slice()
+    );
+    Ok(())
+}
+
+#[test]
+fn a_fill_is_terminated_halfway(rt: HostRuntime) -> Result<(), Fail> {
+    let text = printed(
+        rt.alloc(),
+        b"memory 0x400 1\n\
+          write 0x100 5A\n\
+          submit 0 fill 0x100 to 0x200+20\n\
+          submit 0 fill 0x100 to 0x300+20\n\
+          issue 0\n\
+          step 0 8\n\
+          terminate 0\n\
+          result 0 1\n\
+          result 0 2\n\
+          read 0x20E+4\n\
+          submit 0 fill 0x100 to 0x300+20\n\
+          issue 0\n\
+          step 0 7\n\
+          terminate 0\n\
+          result 0 3\n\
+          read 0x300+2",
+    )?;
+    assert_eq!(rt;
+        text.as_slice(),
+        b"ok\n\
+          cookie 1\n\
+          cookie 2\n\
+          issued 2\n\
+          step 0 started 1 x1\n\
+          step 0 moved x7\n\
+          aborted 2\n\
+          result Aborted residue 4\n\
+          result Aborted residue 20\n\
+          read 0x0000020E 5A 5A 00 00\n\
+          cookie 3\n\
+          issued 1\n\
+          step 0 started 3 x1\n\
+          step 0 moved x6\n\
+          aborted 1\n\
+          result Aborted residue 20\n\
+          read 0x00000300 00 00\n"
+            .as_slice()
+    );
+    Ok(())
+}
+
+#[test]
+fn a_load_of_a_fill_fails(rt: HostRuntime) -> Result<(), Fail> {
+    let text = printed(
+        rt.alloc(),
+        b"memory 0x400 1\n\
+          write 0x100 5A\n\
+          mark read 0x100+1\n\
+          fill 0x100 to 0x200+20\n\
+          read 0x200+2\n\
+          fill 0x100 to 0x300+1\n\
+          terminate 0\n\
+          unmark\n\
+          fill 0x100 to 0x300+1\n\
+          read 0x300+2\n\
+          totals",
+    )?;
+    assert_eq!(rt;
+        text.as_slice(),
+        b"ok\n\
+          ok\n\
+          fill finished 1 ReadFailed residue 20\n\
+          read 0x00000200 00 00\n\
+          refused ChannelInUse\n\
+          aborted 0\n\
+          ok\n\
+          fill finished 2 NoError residue 0\n\
+          read 0x00000300 5A 00\n\
+          totals entries 12 steps 13 running 0\n"
+            .as_slice()
+    );
+    Ok(())
+}
+
+// A mark in the destinations fails the burst that meets it. One of the other kind fails nothing, nor one beside the source.
+#[test]
+fn a_store_of_a_fill_fails(rt: HostRuntime) -> Result<(), Fail> {
+    let text = printed(
+        rt.alloc(),
+        b"memory 0x400 1\n\
+          write 0x100 5A A5\n\
+          mark write 0x100+1\n\
+          mark read 0x101+1\n\
+          mark read 0x200+20\n\
+          fill 0x100 to 0x200+20\n\
+          read 0x213+2\n\
+          mark write 0x310+1\n\
+          submit 0 fill 0x100 to 0x240+2,0x300+20 signal 3\n\
+          issue 0\n\
+          step 0 25\n\
+          result 0 2\n\
+          read 0x240+3\n\
+          read 0x30E+4",
+    )?;
+    assert_eq!(rt;
+        text.as_slice(),
+        b"ok\n\
+          ok\n\
+          ok\n\
+          ok\n\
+          fill finished 1 NoError residue 0\n\
+          read 0x00000213 5A 00\n\
+          ok\n\
+          cookie 2\n\
+          issued 1\n\
+          step 0 started 2 x1\n\
+          step 0 moved x19\n\
+          step 0 finished 2 WriteFailed residue 4 x1\n\
+          step 0 halted x4\n\
+          result WriteFailed residue 4\n\
+          read 0x00000240 5A 5A 00\n\
+          read 0x0000030E 5A 5A 00 00\n"
+            .as_slice()
+    );
+    Ok(())
+}
+
+#[test]
+fn refused_fills(rt: HostRuntime) -> Result<(), Fail> {
+    let text = printed(
+        rt.alloc(),
+        b"memory 64 1\n\
+          fill 64 to 0+1\n\
+          fill 0 to 63+2\n\
+          fill 63 to 0+1\n\
+          submit 0 fill 64 to 0+1\n\
+          submit 1 fill 64 to 0+1\n\
+          submit 1 fill 0 to 0+1\n\
+          submit 0 fill 0 to 1+1 signal 32\n\
+          fill 64 to 1+2,2+1\n\
+          fill 0xFFFFFFFF to 0+0\n\
+          pause 0\n\
+          fill 0 to 1+1\n\
+          fill 0 to 1+0",
+    )?;
+    assert_eq!(rt;
+        text.as_slice(),
+        b"refused OutOfMemoryRange\n\
+          refused OutOfMemoryRange\n\
+          fill finished 1 NoError residue 0\n\
+          refused OutOfMemoryRange\n\
+          refused NoChannel\n\
+          refused SourceMeetsDestination\n\
+          refused BadEvent\n\
+          refused DestinationsMeet\n\
+          refused EmptySegment\n\
+          ok\n\
+          refused ChannelInUse\n\
+          refused EmptySegment\n"
+            .as_slice()
+    );
+    Ok(())
+}
+
+// A fill is in the way of a writer of its one byte, and of no other reader of it.
+#[test]
+fn held_by_the_byte_of_a_fill(rt: HostRuntime) -> Result<(), Fail> {
+    let text = printed(
+        rt.alloc(),
+        b"memory 0x400 4\n\
+          submit 0 fill 0x100 to 0x200+4\n\
+          submit 1 0x300+4 to 0xFD+4\n\
+          submit 2 0x100+4 to 0x220+4\n\
+          submit 3 fill 0x203 to 0x240+4\n\
+          issue 0\n\
+          issue 1\n\
+          issue 2\n\
+          issue 3\n\
+          step 0\n\
+          step 1\n\
+          step 2\n\
+          step 3\n\
+          fill 0x100 to 0x260+4\n\
+          terminate 0\n\
+          fill 0x220 to 0x260+4\n\
+          totals",
+    )?;
+    assert_eq!(rt;
+        text.as_slice(),
+        b"cookie 1\n\
+          cookie 1\n\
+          cookie 1\n\
+          cookie 1\n\
+          issued 1\n\
+          issued 1\n\
+          issued 1\n\
+          issued 1\n\
+          step 0 started 1 x1\n\
+          step 1 held 0 1 x1\n\
+          step 2 started 1 x1\n\
+          step 3 held 0 1 x1\n\
+          refused ChannelInUse\n\
+          aborted 1\n\
+          fill held 2 1\n\
+          totals entries 11 steps 0 running 1\n"
             .as_slice()
     );
     Ok(())

@@ -172,6 +172,57 @@ fn disassembled(rt: HostRuntime) -> Result<(), Fail> {
 }
 
 #[test]
+fn planned_fills(rt: HostRuntime) -> Result<(), Fail> {
+    let cases: [(&[u8], u8, &[u8]); 10] = [
+        (
+            b"fill 0x10 to 0x20+20",
+            0,
+            b"BC 00 10 00 00 00 BC 02 20 00 00 00 BC 01 F0 40\n\
+              3C 00 22 00 04 12 08 13 3C 04 BC 01 30 40 0C 00\n\
+              04 12 08 13 00\n\
+              bytes 37\n\
+              cost 15\n",
+        ),
+        (
+            b"# one piece for each segment\n\
+              fill 16 to 0x20+3,0x30+2 wait 3 signal 5\n",
+            0,
+            b"36 18 BC 00 10 00 00 00 BC 02 20 00 00 00 BC 01\n\
+              20 40 08 00 04 12 08 13 BC 00 10 00 00 00 BC 02\n\
+              30 00 00 00 BC 01 10 40 04 00 04 12 08 13 34 28\n\
+              00\n\
+              bytes 49\n\
+              cost 17\n",
+        ),
+        (
+            b"fill 0xFFFFFFFF to 0+1",
+            0,
+            b"BC 00 FF FF FF FF BC 02 00 00 00 00 BC 01 00 40\n\
+              00 00 04 12 08 13 00\n\
+              bytes 23\n\
+              cost 8\n",
+        ),
+        (
+            b"\nfill 0x10 to 0x0E+4",
+            1,
+            b"line 2: SourceMeetsDestination\n",
+        ),
+        (b"fill 0 to 1+0", 1, b"line 1: EmptySegment\n"),
+        (b"fill 0 to 0xFFFFFFFF+2", 1, b"line 1: SegmentWraps\n"),
+        (b"fill 0 to 1+1048577", 1, b"line 1: TooLong\n"),
+        (b"fill 0 to 1+2,2+1", 1, b"line 1: DestinationsMeet\n"),
+        (b"fill 0 to 1+1 wait 32", 1, b"line 1: BadEvent\n"),
+        (b"fill to 1+1", 1, b"line 1: Words\n"),
+    ];
+    for (input, status, text) in cases {
+        let ran = plan(rt.alloc(), input);
+        assert_eq!(rt; ran.0, status);
+        assert_eq!(rt; ran.1.as_slice(), text);
+    }
+    Ok(())
+}
+
+#[test]
 fn planned(rt: HostRuntime) -> Result<(), Fail> {
     let cases: [(&[u8], u8, &[u8]); 12] = [
         (

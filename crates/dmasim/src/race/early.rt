@@ -9,7 +9,8 @@ ghost use Rattle.dmasim.specs.Printed.{call_line};
 ghost use Rattle.dmasim.specs.inner.RaceSteps.{PrintsAll, PrintsCall, PrintsEarly, PrintsFirst};
 
 use crate::printing::{push_cookie, push_refused_call, push_told};
-use crate::run::calls::{push_unfit, transfer_of};
+use crate::run::calls::push_unfit;
+use crate::transfers::transfer_of;
 use dma_engine::{Call, EngineFault, Reply};
 use dma_mem::lists::Bytes;
 use dma_mem::segment::Segment;
@@ -125,7 +126,7 @@ fn submit_transfer<N: DeskName, R: Wait>(
     }
 }
 
-/// Carries out `submit CH LIST to LIST [wait E] [signal E]`.
+/// Carries out `submit CH LIST to LIST [wait E] [signal E]` or `submit CH fill ADDR to LIST [wait E] [signal E]`.
 fn submit_early<N: DeskName, R: Wait>(
     rt: &R,
     shared: &Shared<N>,
@@ -265,6 +266,7 @@ fn run_early_statement<N: DeskName, R: Wait>(
         Statement::Status { ch, cookie } => status_early(reader, ch, cookie, line, out),
         Statement::Result { ch, cookie } => result_early(rt, shared, ch, cookie, line, out),
         Statement::Copy(_)
+        | Statement::Fill { .. }
         | Statement::Pause { .. }
         | Statement::Resume { .. }
         | Statement::Step { .. }

@@ -1,16 +1,16 @@
 //! The lines of a script that are one call, and the totals.
-ghost use Rattle.std.specs.Prelude.{◌≡◌, ◌≢◌, ◌++◌, ◌∷◌, [], None, Some, OnOk, OnErr, IfErr, IfOk, length};
+ghost use Rattle.std.specs.Prelude.{◌≡◌, ◌≢◌, ◌++◌, ◌∷◌, [], OnOk, OnErr, IfOk, length};
 ghost use Rattle.dma_engine.specs.Answer.{CallAnswers, answer};
-ghost use Rattle.dma_mem.specs.Refusals.{refusal_of};
 ghost use Rattle.dma_engine.specs.View.{object_of, running};
 ghost use Rattle.dma_script.specs.Command.{text_of};
 ghost use Rattle.dmasim.specs.Printed.{refused_line, transfer_fault_name};
 ghost use Rattle.dmasim.specs.inner.RunSteps.{AnswersLine};
-ghost use Rattle.dmasim.specs.Run.{call_answer, submit_answer, submitted, totals_line, totals_of};
+ghost use Rattle.dmasim.specs.Run.{call_answer, submit_answer, totals_line, totals_of};
 
 use crate::printing::{
     push_cookie, push_refused, push_refused_call, push_told, push_worded, rule_name,
 };
+use crate::transfers::transfer_of;
 use dma_engine::{Call, Engine, EngineFault, Reply};
 use dma_mem::transfer::{Transfer, TransferFault};
 use dma_script::plan::TransferLine;
@@ -88,22 +88,7 @@ fn submit(
     }
 }
 
-/// The transfer of a submit line, which takes the line's lists for itself.
-pub fn transfer_of(words: TransferLine) -> Result<Transfer, TransferFault>
-    ensures ok { IfOk result (λ t. t ≡ submitted words) }
-    ensures accepted { IfOk result (λ t. refusal_of t ≡ None) }
-    ensures err { IfErr result (λ fault. refusal_of (submitted words) ≡ Some fault) }
-{
-    let TransferLine {
-        src,
-        dst,
-        wait,
-        signal,
-    } = words;
-    Transfer::from_lists(src, dst, wait, signal)
-}
-
-/// Carries out `submit CH LIST to LIST [wait E] [signal E]`.
+/// Carries out `submit CH LIST to LIST [wait E] [signal E]` or `submit CH fill ADDR to LIST [wait E] [signal E]`.
 pub fn submit_line(
     engine: &mut Engine,
     ch: u8,

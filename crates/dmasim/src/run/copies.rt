@@ -1,15 +1,19 @@
-//! The lines of a script that copy: submitted to channel 0, issued, and stepped through.
+//! The lines of a script that copy or fill: submitted to channel 0, issued, and stepped through.
 ghost use Rattle.std.specs.Prelude.{◌≡◌, OnOk, OnErr, IfOk};
 ghost use Rattle.dma_engine.specs.Answer.{answer};
 ghost use Rattle.dmasim.specs.inner.RunSteps.{AnswersLine};
-ghost use Rattle.dmasim.specs.Run.{CopiesEnd, carried_through, copied_after, copy_answer, goes_on, is_in_use, most_steps, stepped_through};
+ghost use Rattle.dmasim.specs.Run.{CopiesEnd, carried_through, copied_after, copy_answer, fill_answer, goes_on, is_in_use, most_steps, stepped_through, through_answer};
+ghost use Rattle.dmasim.specs.Transfers.{transfer_of};
 
 use crate::printing::{push_after, push_refused, push_refused_call};
 use crate::run::calls::{push_unfit, reply_to};
 use crate::run::steps::step_reply;
+use crate::transfers::transfer_of;
 use dma_engine::advance::advance;
 use dma_engine::{Call, Engine, Reply, Turn};
+use dma_mem::lists::Segments;
 use dma_mem::transfer::Transfer;
+use dma_script::plan::{Origin, TransferLine};
 use dma_script::statements::CopyLine;
 use std::alloc::AllocError;
 
@@ -53,34 +57,57 @@ fn step_through(engine: &mut Engine) -> Result<Reply, AllocError>
 /// Issues what was submitted to channel 0 and steps through it.
 fn carry_through(
     engine: &mut Engine,
+    command: &str,
     line: &mut Vec<u8>,
     out: &mut Vec<u8>,
 ) -> Result<(), AllocError>
-    ensures ok { OnOk result (AnswersLine (carried_through engine.old.view) engine.new.view out.old.items out.new.items) }
+    ensures ok { OnOk result (AnswersLine (carried_through command.now engine.old.view) engine.new.view out.old.items out.new.items) }
     ensures err { OnErr result (out.new.items ≡ out.old.items) }
 {
     reply_to(engine, &Call::Issue { ch: 0 })?;
     let last = step_through(engine)?;
-    push_after(line, "copy ", &last, out)
+    push_after(line, command, &last, out)
 }
 
 /// Submits a transfer to channel 0, issues it and steps through it.
 fn copy_through(
     engine: &mut Engine,
+    command: &str,
     transfer: Transfer,
     line: &mut Vec<u8>,
     out: &mut Vec<u8>,
 ) -> Result<(), AllocError>
-    ensures ok { OnOk result (AnswersLine (copied_after (answer engine.old.view (Call.Submit 0 transfer))) engine.new.view out.old.items out.new.items) }
+    ensures ok { OnOk result (AnswersLine (copied_after command.now (answer engine.old.view (Call.Submit 0 transfer))) engine.new.view out.old.items out.new.items) }
     ensures err { OnErr result (out.new.items ≡ out.old.items) }
 {
     match engine.submit(0, transfer) {
-        Ok(_) => carry_through(engine, line, out),
+        Ok(_) => carry_through(engine, command, line, out),
         Err(refused) => push_refused_call(line, refused.fault, out),
     }
 }
 
-/// Carries out `copy LIST to LIST`. The transfer takes the line's lists for itself.
+/// Carries out a transfer within its line, which begins with `command`. The transfer takes the line's lists for itself.
+fn answer_through(
+    engine: &mut Engine,
+    command: &str,
+    words: TransferLine,
+    line: &mut Vec<u8>,
+    out: &mut Vec<u8>,
+) -> Result<(), AllocError>
+    ensures ok { OnOk result (AnswersLine (through_answer engine.old.view command.now (transfer_of words)) engine.new.view out.old.items out.new.items) }
+    ensures err { OnErr result (out.new.items ≡ out.old.items) }
+{
+    let transfer = match transfer_of(words) {
+        Ok(transfer) => transfer,
+        Err(fault) => return push_unfit(line, fault, out),
+    };
+    if is_in_use(engine) {
+        return push_refused(line, "ChannelInUse", out);
+    }
+    copy_through(engine, command, transfer, line, out)
+}
+
+/// Carries out `copy LIST to LIST`.
 pub fn answer_copy(
     engine: &mut Engine,
     lists: CopyLine,
@@ -91,17 +118,37 @@ pub fn answer_copy(
     ensures err { OnErr result (out.new.items ≡ out.old.items) }
 {
     let CopyLine { src, dst } = lists;
-    let transfer = match Transfer::from_lists(src, dst, None, None) {
-        Ok(transfer) => transfer,
-        Err(fault) => return push_unfit(line, fault, out),
+    let words = TransferLine {
+        src: Origin::List(src),
+        dst,
+        wait: None,
+        signal: None,
     };
-    if is_in_use(engine) {
-        return push_refused(line, "ChannelInUse", out);
-    }
-    copy_through(engine, transfer, line, out)
+    answer_through(engine, "copy ", words, line, out)
 }
 
-/// The law that a copy is stepped until its last answer: no copy takes so many steps that the loop ends by its own bound.
+/// Carries out `fill ADDR to LIST`.
+pub fn answer_fill(
+    engine: &mut Engine,
+    src: u32,
+    dst: Segments,
+    line: &mut Vec<u8>,
+    out: &mut Vec<u8>,
+) -> Result<(), AllocError>
+    ensures ok { OnOk result (AnswersLine (fill_answer engine.old.view src dst) engine.new.view out.old.items out.new.items) }
+    ensures err { OnErr result (out.new.items ≡ out.old.items) }
+{
+    let words = TransferLine {
+        src: Origin::Byte(src),
+        dst,
+        wait: None,
+        signal: None,
+    };
+    answer_through(engine, "fill ", words, line, out)
+}
+
+/// The law that a copy or a fill is stepped until its last answer: neither takes so many steps that the loop ends by its own
+/// bound.
 pub fn copies_end()
     ensures { CopiesEnd }
 {}

@@ -5,14 +5,15 @@ use Rattle.dma_mem.specs.Places.{Descriptor}
 use Rattle.dma_mem.specs.Refusals.{refusal_of}
 use Rattle.dma_engine.specs.declared.call.Call.TheVariants.{Submit}
 use Rattle.dmasim.specs.inner.RunSteps.{AnswersLine}
-use Rattle.dmasim.specs.Run.{call_answer, submitted}
+use Rattle.dmasim.specs.Run.{call_answer}
+use Rattle.dmasim.specs.Transfers.{transfer_of}
 use Rattle.dmasim.proofs.RunLemmas.{unfit, unless_unfit-none}
 use Rattle.dmasim.proofs.run.calls.submit_line.Goals as goal
 
 pub returns-in-Ok-clause-ok : goal.returns-in-Ok-clause-ok
 returns-in-Ok-clause-ok c =
     let v = c.args.engine.now.view in
-    let t = submitted c.args.words in
+    let t = transfer_of c.args.words in
     let is : c.in-Ok.transfer ≡ t = c.in-Ok.ensures.ok in
     let fits : refusal_of t ≡ None = ap refusal_of (sym is) ∙ c.in-Ok.ensures.accepted in
     let out = c.args.out.now.items in
@@ -22,7 +23,7 @@ returns-in-Ok-clause-ok c =
 pub returns-in-Err-clause-ok : goal.returns-in-Err-clause-ok
 returns-in-Err-clause-ok c =
     let v = c.args.engine.now.view in
-    let t = submitted c.args.words in
+    let t = transfer_of c.args.words in
     on_ok_weaker c.push_unfit.result
     (unfit v c.args.out.now.items c.push_unfit.new.out.items (refusal_of t) c.in-Err.fault (call_answer v (Submit c.args.ch t)) c.in-Err.ensures.err)
     c.push_unfit.ensures.ok

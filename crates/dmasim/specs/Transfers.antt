@@ -1,0 +1,16 @@
+-- The transfer that a line names.
+use Rattle.std.specs.Prelude.{ℕ, false, List, Option}
+use Rattle.dma_mem.specs.declared.segment.Segment.{Segment}
+use Rattle.dma_mem.specs.Places.{Descriptor, filling}
+use Rattle.dma_script.specs.declared.plan.Origin.{Origin}
+use Rattle.dma_script.specs.declared.plan.Origin.TheVariants as origins
+use Rattle.dma_script.specs.declared.plan.TransferLine.{TransferLine}
+
+-- from the places of a list, or a fill from one place
+abbrev pub transfer_from : Origin → List Segment → Option ℕ → Option ℕ → Descriptor
+transfer_from (origins.List src) dst wait signal = record { fill = false; src = src; dst = dst; wait = wait; signal = signal }
+transfer_from (origins.Byte src) dst wait signal = filling src dst wait signal
+
+-- the transfer of a line
+abbrev pub transfer_of : TransferLine → Descriptor
+transfer_of line = transfer_from line.src line.dst line.wait line.signal
