@@ -1,11 +1,1 @@
-pub mod RunLemmas
 pub mod RaceLemmas
-pub mod Served
-pub mod Advances
-pub mod StepLemmas
-pub mod CopyLemmas
-pub mod CopyEnds
-pub mod DisLemmas
-pub mod PlanLemmas
-pub mod AsmLemmas
-pub mod Rows

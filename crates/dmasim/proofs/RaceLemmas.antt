@@ -23,14 +23,14 @@ use Rattle.dma_script.specs.declared.fault.Fault.{Fault}
 use Rattle.dma_script.specs.declared.race.RaceScript.{RaceScript}
 use Rattle.dma_script.specs.declared.statements.Statement.{Statement}
 use Rattle.dma_script.specs.declared.statements.Statement.TheVariants.{Write, Read, Copy, Fill, Submit, Issue, Pause, Resume, Terminate, Step, Status, Result as Outcome, Mark, Unmark, Raise, Totals}
-use Rattle.dmasim.specs.Printed.{call_line, refused_line, transfer_fault_name}
-use Rattle.dmasim.specs.Run.{Answered, call_answer, lines_answered, unless_unfit}
-use Rattle.dmasim.specs.Transfers.{transfer_of}
+use Rattle.dma_commands.specs.Printed.{call_line, refused_line, transfer_fault_name}
+use Rattle.dma_commands.specs.Run.{Answered, call_answer, lines_answered, unless_unfit}
+use Rattle.dma_commands.specs.Transfers.{transfer_of}
 use Rattle.dmasim.specs.Race.{EachPrints, EarlyPrints, RacePrints, alone, go_line, race_may_print, race_prints_of, missing_tally, no_reader, raced_refused, raced_whole, whole}
 use Rattle.dmasim.specs.inner.RaceSteps.{PrintsAll, PrintsCall, PrintsEarly, PrintsFirst, PrintsGo, PrintsMissing, PrintsRefusal, PrintsTotals}
 use Rattle.dma_script.specs.Interpreted.{ActsInTurn, PrintsLine, PrintsLines, StopsAtALine}
 use Rattle.dma_script.proofs.InterpretedLemmas.{printed_text-append, text_after}
-use Rattle.dmasim.proofs.Served.{served-one}
+use Rattle.dma_commands.proofs.Served.{served-one}
 
 -- ---- one line
 

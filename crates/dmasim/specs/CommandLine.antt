@@ -4,11 +4,11 @@ use Rattle.std.specs.Str.{bytes_eq}
 use Rattle.dma_script.specs.Command.{Ends, Failures, MayEnd, Wrote, may_print_within, printed_within, text_of}
 use Rattle.dmasim.specs.declared.command_line.Subcommand.{Subcommand}
 use Rattle.dmasim.specs.declared.command_line.Subcommand.TheVariants.{Asm, Dis, Plan, Run, Race}
-use Rattle.dmasim.specs.Assembled.{asm_printed}
-use Rattle.dmasim.specs.Disassembled.{dis_printed}
-use Rattle.dmasim.specs.Planned.{plan_printed}
+use Rattle.dma_commands.specs.Assembled.{asm_printed}
+use Rattle.dma_commands.specs.Disassembled.{dis_printed}
+use Rattle.dma_commands.specs.Planned.{plan_printed}
 use Rattle.dmasim.specs.Race.{race_may_print}
-use Rattle.dmasim.specs.Run.{printed}
+use Rattle.dma_commands.specs.Run.{printed}
 
 -- The command that a word names.
 abbrev pub subcommand_of : List ℕ → Option Subcommand

@@ -13,8 +13,8 @@ use Rattle.dma_script.specs.declared.fault.Fault.{Fault}
 use Rattle.dma_script.specs.declared.race.RaceScript.{RaceScript}
 use Rattle.dma_script.specs.declared.statements.Statement.{Statement}
 use Rattle.dma_script.specs.declared.statements.Statement.TheVariants.{Status}
-use Rattle.dmasim.specs.Printed.{call_line, refused_line}
-use Rattle.dmasim.specs.Run.{line_answer, lines_answered}
+use Rattle.dma_commands.specs.Printed.{call_line, refused_line}
+use Rattle.dma_commands.specs.Run.{line_answer, lines_answered}
 
 -- A status is told by a reader that asks nobody: `status none`, or the line of some status.
 abbrev pub StatusPrints : ℕ → ℕ → List ℕ → Type 0

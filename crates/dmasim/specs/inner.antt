@@ -1,4 +1,2 @@
 -- What no reader of a command's contract has to believe: what clauses of the functions below it say on the way.
-pub mod RunSteps
 pub mod RaceSteps
-pub mod Counting

@@ -1,6 +1,6 @@
 //! Whole calls of the program: its word, an input, the exit status, and what is printed.
 use crate::command_line::serve_word;
-use crate::tests::Kept;
+use crate::test_sink::Kept;
 use dma_script::output::Sink;
 use std::alloc::{AllocError, Global};
 use std::io;

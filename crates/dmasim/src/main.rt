@@ -1,22 +1,14 @@
 //! dmasim assembles, disassembles and plans channel programs, and carries out scripts of a DMA controller.
 #![tactic(auto)]
 
-mod asm;
 mod command_line;
 #[cfg(test)]
 mod command_line_tests;
-mod dis;
-mod plan;
-mod printing;
 mod race;
 #[cfg(test)]
 mod race_tests;
-mod run;
 #[cfg(test)]
-mod run_tests;
-#[cfg(test)]
-mod tests;
-mod transfers;
+mod test_sink;
 
 use clap::error::ErrorKind;
 use clap::{Command, Error};

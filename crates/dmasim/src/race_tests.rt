@@ -1,6 +1,6 @@
 //! Whole race scripts over a desk, its workers and its reader: what is printed for an input, whatever the schedule.
 use crate::race::race_script;
-use crate::tests::{Kept, run};
+use crate::test_sink::{Kept, run};
 use std::alloc::{AllocError, Global};
 use std::sync::Wait;
 use std::test::Fail;

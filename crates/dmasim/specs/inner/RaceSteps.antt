@@ -4,9 +4,9 @@ use Rattle.dma_engine.specs.declared.call.Call.{Call}
 use Rattle.dma_engine.specs.View.{View}
 use Rattle.dma_script.specs.Command.{printed_text, text_of}
 use Rattle.dma_script.specs.declared.statements.Statement.{Statement}
-use Rattle.dmasim.specs.Printed.{refused_line}
+use Rattle.dma_commands.specs.Printed.{refused_line}
 use Rattle.dmasim.specs.Race.{EachPrints, EarlyPrints, Leaves, alone, go_line}
-use Rattle.dmasim.specs.Run.{call_answer}
+use Rattle.dma_commands.specs.Run.{call_answer}
 
 -- The line of a call was printed, as the call answers it to some view.
 pub record PrintsCall (call : Call) (old new : List ℕ) : Type 0 where

@@ -5,12 +5,12 @@ ghost use Rattle.std.specs.List.{All};
 ghost use Rattle.dma_engine.specs.Answer.{reply_of};
 ghost use Rattle.dma_script.specs.Command.{text_of};
 ghost use Rattle.dma_script.specs.Race.{IsEarly};
-ghost use Rattle.dmasim.specs.Printed.{call_line};
+ghost use Rattle.dma_commands.specs.Printed.{call_line};
 ghost use Rattle.dmasim.specs.inner.RaceSteps.{PrintsAll, PrintsCall, PrintsEarly, PrintsFirst};
 
-use crate::printing::{push_cookie, push_refused_call, push_told};
-use crate::run::calls::push_unfit;
-use crate::transfers::transfer_of;
+use dma_commands::printing::{push_cookie, push_refused_call, push_told};
+use dma_commands::run::calls::push_unfit;
+use dma_commands::transfers::transfer_of;
 use dma_engine::{Call, EngineFault, Reply};
 use dma_mem::lists::Bytes;
 use dma_mem::segment::Segment;

@@ -2,7 +2,7 @@ use Rattle.std.proofs.lemmas.Result.{on_ok_weaker}
 use Rattle.dma_engine.specs.declared.call.Call.TheVariants as calls
 use Rattle.dma_engine.specs.declared.call.Reply.TheVariants.{Cookie, Refused}
 use Rattle.dmasim.proofs.RaceLemmas.{told_so}
-use Rattle.dmasim.proofs.Served.{refused-served}
+use Rattle.dma_commands.proofs.Served.{refused-served}
 use Rattle.dmasim.proofs.race.early.submit_transfer.Goals as goal
 
 pub returns-in-Ok-clause-ok : goal.returns-in-Ok-clause-ok

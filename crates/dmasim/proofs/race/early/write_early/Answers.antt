@@ -4,7 +4,7 @@ use Rattle.dma_engine.specs.declared.call.Call.TheVariants as calls
 use Rattle.dma_engine.specs.declared.call.Reply.TheVariants as replies
 use Rattle.dma_script.specs.declared.statements.Statement.TheVariants as statements
 use Rattle.dmasim.proofs.RaceLemmas.{early_call}
-use Rattle.dmasim.proofs.Served.{refused-served}
+use Rattle.dma_commands.proofs.Served.{refused-served}
 use Rattle.dmasim.proofs.race.early.write_early.Goals as goal
 
 pub returns-in-Ok-clause-ok : goal.returns-in-Ok-clause-ok

@@ -1,0 +1,10 @@
+pub mod RunLemmas
+pub mod Served
+pub mod Advances
+pub mod StepLemmas
+pub mod CopyLemmas
+pub mod CopyEnds
+pub mod DisLemmas
+pub mod PlanLemmas
+pub mod AsmLemmas
+pub mod Rows

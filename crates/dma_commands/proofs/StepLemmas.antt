@@ -1,0 +1,102 @@
+-- Runs of equal answers, and the lines of those before.
+use Rattle.std.proofs.Common.{◌≡◌, ℕ, ◌+◌, ◌<◌, List, [], ◌∷◌, ◌++◌, map, Bool, true, false, refl, ap, sym, ◌∙◌, zero, suc, add-one, append_assoc, arith}
+use Rattle.std.specs.Prelude.{replicate}
+use Rattle.std.specs.Str.{bytes_eq}
+use Rattle.std.proofs.Math.Nat.{zero-lt-suc}
+use Rattle.std.proofs.lemmas.List.{append-nil, map-append, replicate-append-replicate}
+use Rattle.std.proofs.lemmas.Slice.Eq.{bytes_eq-Decides}
+use Rattle.dma_script.specs.Command.{text_of}
+use Rattle.dma_engine.specs.declared.call.Call.{Call}
+use Rattle.dma_engine.specs.declared.call.Reply.{Reply}
+use Rattle.dma_engine.specs.View.{View}
+use Rattle.dma_engine.specs.Answer.{answers}
+use Rattle.dma_commands.specs.Printed.{reply_text}
+use Rattle.dma_commands.specs.inner.Counting.{text_with}
+use Rattle.dma_commands.specs.Run.{joined, runs_of, step_line, step_lines}
+use Rattle.dma_commands.proofs.Served.{answers-append}
+
+-- ---- runs
+
+-- the first run has the first text
+head-by : (x next : List ℕ) (count : ℕ) (rest : List (List ℕ × ℕ)) (b : Bool) → bytes_eq x next ≡ b → (k : ℕ) × (more : List (List ℕ × ℕ)) × (joined x ((next, count) ∷ rest) ≡ (x, k) ∷ more)
+head-by x next count rest true e = (count + 1, rest, rw e refl)
+head-by x next count rest false e = (1, (next, count) ∷ rest, rw e refl)
+
+joined-head : (x : List ℕ) (runs : List (List ℕ × ℕ)) → (k : ℕ) × (more : List (List ℕ × ℕ)) × (joined x runs ≡ (x, k) ∷ more)
+joined-head x [] = (1, [], refl)
+joined-head x ((next, count) ∷ rest) = head-by x next count rest (bytes_eq x next) refl
+
+bytes_eq-refl : (x : List ℕ) → bytes_eq x x ≡ true
+bytes_eq-refl x = (bytes_eq-Decides x x).1 refl
+
+-- equal texts, and then another
+runs-more : (n : ℕ) (t x : List ℕ) (rest : List (List ℕ)) → bytes_eq t x ≡ false → runs_of (replicate (suc n) t ++ x ∷ rest) ≡ (t, suc n) ∷ runs_of (x ∷ rest)
+runs-more zero t x rest other =
+    let head = joined-head x (runs_of rest) in
+    let one : joined t ((x, head.0) ∷ head.1) ≡ (t, 1) ∷ (x, head.0) ∷ head.1 = rw other refl in
+    ap (joined t) head.2 ∙ one ∙ ap (λ r. (t, 1) ∷ r) (sym head.2)
+runs-more (suc n) t x rest other =
+    let one : joined t ((t, suc n) ∷ runs_of (x ∷ rest)) ≡ (t, suc n + 1) ∷ runs_of (x ∷ rest) = rw (bytes_eq-refl t) refl in
+    ap (joined t) (runs-more n t x rest other) ∙ one ∙ ap (λ k. (t, k) ∷ runs_of (x ∷ rest)) (add-one (suc n))
+
+-- equal texts alone
+runs-alone : (n : ℕ) (t : List ℕ) → runs_of (replicate (suc n) t ++ []) ≡ (t, suc n) ∷ []
+runs-alone zero t = refl
+runs-alone (suc n) t =
+    let one : joined t ((t, suc n) ∷ []) ≡ (t, suc n + 1) ∷ [] = rw (bytes_eq-refl t) refl in
+    ap (joined t) (runs-alone n t) ∙ one ∙ ap (λ k. (t, k) ∷ []) (add-one (suc n))
+
+replicate-shift : {X : Type 0} (n m : ℕ) (x : X) (rest : List X) → replicate (n + m) x ++ rest ≡ replicate n x ++ (replicate m x ++ rest)
+replicate-shift n m x rest = ap (λ l. l ++ rest) (sym (replicate-append-replicate n m x)) ∙ append_assoc (replicate n x) (replicate m x) rest
+
+-- ---- equal answers more
+
+pub take-equal : (ch : ℕ) (lines last : List ℕ) (count many : ℕ) (text : List ℕ) (rest : List (List ℕ)) → bytes_eq last text ≡ true → text_with ch lines last (count + many) rest ≡ text_with ch lines last count (replicate many text ++ rest)
+take-equal ch lines last count many text rest same =
+    ap (λ l. lines ++ text_of (step_lines ch l)) (replicate-shift count many last rest ∙ ap (λ t. replicate count last ++ (replicate many t ++ rest)) ((bytes_eq-Decides last text).0 same))
+
+line-then : (line : List ℕ) (lines : List (List ℕ)) → text_of (line ∷ lines) ≡ text_of (line ∷ []) ++ text_of lines
+line-then line lines = ap (λ l. l ++ text_of lines) (sym (append-nil (line ++ 10 ∷ [])))
+
+one-other : (ch : ℕ) (lines lines' last : List ℕ) (count : ℕ) (text : List ℕ) (rest : List (List ℕ)) → bytes_eq last text ≡ false → (count ≡ 0 → lines' ≡ lines) → (0 < count → lines' ≡ lines ++ text_of (step_line ch (last, count) ∷ [])) → text_with ch lines' text 1 rest ≡ text_with ch lines last count (text ∷ rest)
+one-other ch lines lines' last zero text rest other none line =
+    ap (λ l. l ++ text_of (step_lines ch (text ∷ rest))) (none refl)
+one-other ch lines lines' last (suc n) text rest other none line =
+    ap (λ l. l ++ text_of (step_lines ch (text ∷ rest))) (line (zero-lt-suc n))
+    ∙ append_assoc lines (text_of (step_line ch (last, suc n) ∷ [])) (text_of (step_lines ch (text ∷ rest)))
+    ∙ ap (λ l. lines ++ l) (sym (line-then (step_line ch (last, suc n)) (step_lines ch (text ∷ rest))))
+    ∙ ap (λ r. lines ++ text_of (map (step_line ch) r)) (sym (runs-more n last text rest other))
+
+pub take-other : (ch : ℕ) (lines lines' last : List ℕ) (count many : ℕ) (text : List ℕ) (rest : List (List ℕ)) → bytes_eq last text ≡ false → 0 < many → (count ≡ 0 → lines' ≡ lines) → (0 < count → lines' ≡ lines ++ text_of (step_line ch (last, count) ∷ [])) → text_with ch lines' text many rest ≡ text_with ch lines last count (replicate many text ++ rest)
+take-other ch lines lines' last count zero text rest other some none line = absurd (omega (arith, some))
+take-other ch lines lines' last count (suc n) text rest other some none line =
+    one-other ch lines lines' last count text (replicate n text ++ rest) other none line
+
+-- the lines with the last one ended
+pub ended : (ch : ℕ) (lines lines' last : List ℕ) (count : ℕ) → (count ≡ 0 → lines' ≡ lines) → (0 < count → lines' ≡ lines ++ text_of (step_line ch (last, count) ∷ [])) → lines' ≡ text_with ch lines last count []
+ended ch lines lines' last zero none line = none refl ∙ sym (append-nil lines)
+ended ch lines lines' last (suc n) none line =
+    line (zero-lt-suc n) ∙ ap (λ r. lines ++ text_of (map (step_line ch) r)) (sym (runs-alone n last))
+
+-- ---- steps in rows
+
+-- after so many steps, and then more
+pub steps-more : (v : View) (step : Call) (m n k : ℕ) → m + n ≡ k → answers v (replicate k step) ≡ (let a = answers v (replicate m step) in let b = answers a.1 (replicate n step) in (a.0 ++ b.0, b.1))
+steps-more v step m n k sum =
+    ap (λ (c : ℕ). answers v (replicate c step)) (sym sum)
+    ∙ ap (answers v) (sym (replicate-append-replicate m n step))
+    ∙ answers-append v (replicate m step) (replicate n step)
+
+-- the view after more steps, and all answers
+pub more-view : (v w : View) (step : Call) (calls : List Call) (m n k : ℕ) → m + n ≡ k → w ≡ (answers v (replicate m step)).1 → calls ≡ replicate n step → (answers w calls).1 ≡ (answers v (replicate k step)).1
+more-view v w step calls m n k sum is same =
+    ap (λ (u : View). (answers u calls).1) is ∙ ap (λ (l : List Call). (answers (answers v (replicate m step)).1 l).1) same
+    ∙ ap (λ (a : List Reply × View). a.1) (sym (steps-more v step m n k sum))
+
+pub more-texts : (v w : View) (step : Call) (calls : List Call) (m n k : ℕ) (rest : List (List ℕ)) → m + n ≡ k → w ≡ (answers v (replicate m step)).1 → calls ≡ replicate n step → map reply_text (answers v (replicate m step)).0 ++ (map reply_text (answers w calls).0 ++ rest) ≡ map reply_text (answers v (replicate k step)).0 ++ rest
+more-texts v w step calls m n k rest sum is same =
+    let a = answers v (replicate m step) in
+    let later : (answers w calls).0 ≡ (answers a.1 (replicate n step)).0 = ap (λ (u : View). (answers u calls).0) is ∙ ap (λ (l : List Call). (answers a.1 l).0) same in
+    ap (λ (l : List Reply). map reply_text a.0 ++ (map reply_text l ++ rest)) later
+    ∙ sym (append_assoc (map reply_text a.0) (map reply_text (answers a.1 (replicate n step)).0) rest)
+    ∙ ap (λ l. l ++ rest) (sym (map-append reply_text a.0 (answers a.1 (replicate n step)).0) ∙ ap (λ (b : List Reply × View). map reply_text b.0) (sym (steps-more v step m n k sum)))

@@ -1,0 +1,8 @@
+-- What the commands print for an input.
+pub mod Printed
+pub mod Transfers
+pub mod Run
+pub mod Assembled
+pub mod Disassembled
+pub mod Planned
+pub mod inner

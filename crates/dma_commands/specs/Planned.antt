@@ -1,0 +1,42 @@
+-- What `dmasim plan` prints for an input.
+use Rattle.std.specs.Prelude.{ℕ, ◌∷◌, [], ◌++◌, List, length, Option, Some, None, Result, Ok, Err, codes, decimal}
+use Rattle.std.specs.List.{concat}
+use Rattle.dma_mem.specs.declared.transfer.TransferFault.{TransferFault}
+use Rattle.dma_mem.specs.Refusals.{refusal_of}
+use Rattle.dma_chan.specs.Programs.{ProgramValue}
+use Rattle.dma_chan.specs.Compiled.{compiled}
+use Rattle.dma_script.specs.Command.{Printed, refusal}
+use Rattle.dma_script.specs.Printing.{program_lines, fault_line}
+use Rattle.dma_script.specs.Plan.{plan_of}
+use Rattle.dma_script.specs.declared.fault.Fault.{Fault}
+use Rattle.dma_script.specs.declared.plan.PlanLine.{PlanLine}
+use Rattle.dma_commands.specs.Printed.{transfer_fault_name}
+use Rattle.dma_commands.specs.Transfers.{transfer_of}
+
+-- `line N: NAME`
+abbrev pub unfit_line : ℕ → TransferFault → List ℕ
+unfit_line line fault = concat (codes "line " ∷ decimal line ∷ codes ": " ∷ transfer_fault_name fault ∷ [])
+
+-- `cost N`, for a program that has one
+abbrev pub cost_lines : Option ℕ → List (List ℕ)
+cost_lines None = []
+cost_lines (Some cost) = concat (codes "cost " ∷ decimal cost ∷ []) ∷ []
+
+-- the lines of a program: its bytes, their number, and its cost
+abbrev pub program_printed : ProgramValue → List (List ℕ)
+program_printed program =
+    program_lines program.bytes ++ concat (codes "bytes " ∷ decimal (length program.bytes) ∷ []) ∷ cost_lines program.cost
+
+-- A transfer that meets its rules prints its program, another the first rule that it breaks.
+abbrev pub transfer_printed : PlanLine → Option TransferFault → Printed
+transfer_printed line None = record { groups = program_printed (compiled (transfer_of line.transfer)) ∷ []; status = 0 }
+transfer_printed line (Some fault) = refusal (unfit_line line.line fault)
+
+-- What is printed for a line that is read, and for an input that has a fault.
+abbrev pub plan_printed_of : Result PlanLine Fault → Printed
+plan_printed_of (Ok line) = transfer_printed line (refusal_of (transfer_of line.transfer))
+plan_printed_of (Err fault) = refusal (fault_line fault)
+
+-- What is printed for an input.
+abbrev pub plan_printed : List ℕ → Printed
+plan_printed input = plan_printed_of (plan_of input)

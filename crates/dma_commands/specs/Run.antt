@@ -1,0 +1,197 @@
+-- What `dmasim run` prints for an input.
+use Rattle.std.specs.Prelude.{◌≡◌, ℕ, ◌+◌, ◌++◌, ◌∷◌, [], if◌then◌else◌, ◌||◌, Bool, true, false, nat_lt, zero, suc, Option, Some, None, Result, Ok, Err, List, length, map, replicate, codes, decimal}
+use Rattle.std.specs.Str.{bytes_eq}
+use Rattle.dma_mem.specs.declared.segment.Segment.{Segment}
+use Rattle.dma_mem.specs.declared.transfer.TransferFault.{TransferFault}
+use Rattle.dma_mem.specs.Places.{Descriptor, filling}
+use Rattle.dma_mem.specs.Rules.{IsTransfer}
+use Rattle.dma_mem.specs.Refusals.{refusal_of}
+use Rattle.dma_engine.specs.declared.call.Call.{Call}
+use Rattle.dma_engine.specs.declared.call.Call.TheVariants as calls
+use Rattle.dma_engine.specs.declared.call.Reply.{Reply}
+use Rattle.dma_engine.specs.declared.call.Reply.TheVariants.{Turned, Cookie, Refused}
+use Rattle.dma_engine.specs.declared.turn.Turn.TheVariants.{Started, Moved}
+use Rattle.dma_engine.specs.Object.{channel, unfinished}
+use Rattle.dma_engine.specs.View.{View, IsSound, new_view, object_of, schedule_at, running}
+use Rattle.dma_engine.specs.Answer.{answer, answers}
+use Rattle.dma_script.specs.Command.{Printed, refusal}
+use Rattle.dma_script.specs.Statements.{run_script_of}
+use Rattle.dma_script.specs.Printing.{fault_line}
+use Rattle.dma_script.specs.declared.fault.Fault.{Fault}
+use Rattle.dma_script.specs.declared.plan.TransferLine.{TransferLine}
+use Rattle.dma_script.specs.declared.statements.RunScript.{RunScript}
+use Rattle.dma_script.specs.declared.statements.Statement.{Statement}
+use Rattle.dma_script.specs.declared.statements.Statement.TheVariants.{Write, Read, Copy, Fill, Submit, Issue, Pause, Resume, Terminate, Step, Status, Result as Outcome, Mark, Unmark, Raise, Totals}
+use Rattle.dma_commands.specs.Printed.{transfer_fault_name, refused_line, reply_text, call_line}
+use Rattle.dma_commands.specs.Transfers.{transfer_of}
+
+-- the lines that a line of the script prints, and the view after it
+abbrev pub Answered : Type 0
+Answered = List (List ℕ) × View
+
+-- one line, and the view after it
+abbrev pub told : List ℕ → View → Answered
+told line v = (line ∷ [], v)
+
+-- a line that is one call
+abbrev pub call_answer : View → Call → Answered
+call_answer v call = told (call_line call (answer v call).0) (answer v call).1
+
+-- a transfer's own rules are tested before anything else; a refusal changes nothing
+abbrev pub unless_unfit : Option TransferFault → View → Answered → Answered
+unless_unfit (Some fault) v answered = told (refused_line (transfer_fault_name fault)) v
+unless_unfit None v answered = answered
+
+-- a submit line: its transfer's own rules first, then the call
+abbrev pub submit_answer : View → ℕ → TransferLine → Answered
+submit_answer v ch line =
+    unless_unfit (refusal_of (transfer_of line)) v (call_answer v (calls.Submit ch (transfer_of line)))
+
+-- ---- step lines
+
+-- one text more before the runs of those that follow it
+abbrev pub joined : List ℕ → List (List ℕ × ℕ) → List (List ℕ × ℕ)
+joined text [] = (text, 1) ∷ []
+joined text ((next, count) ∷ rest) =
+    if bytes_eq text next then (text, count + 1) ∷ rest else (text, 1) ∷ (next, count) ∷ rest
+
+-- each run of equal texts that follow each other, and how many they are
+abbrev pub runs_of : List (List ℕ) → List (List ℕ × ℕ)
+runs_of [] = []
+runs_of (text ∷ rest) = joined text (runs_of rest)
+
+-- `step CH ANSWER xCOUNT`
+abbrev pub step_line : ℕ → List ℕ × ℕ → List ℕ
+step_line ch run = codes "step " ++ decimal ch ++ codes " " ++ run.0 ++ codes " x" ++ decimal run.1
+
+-- the lines that answers of steps of a channel print
+abbrev pub step_lines : ℕ → List (List ℕ) → List (List ℕ)
+step_lines ch texts = map (step_line ch) (runs_of texts)
+
+-- a step line: as many steps of the channel, one after another
+abbrev pub step_answer : View → ℕ → ℕ → Answered
+step_answer v ch count =
+    let after = answers v (replicate count (calls.Step ch)) in
+    (step_lines ch (map reply_text after.0), after.1)
+
+-- ---- copy and fill lines
+
+-- channel 0 has an unfinished cookie, or is paused or halted
+abbrev pub is_in_use : View → Bool
+is_in_use v =
+    nat_lt 0 (unfinished (channel (object_of v) 0)) || ((schedule_at v 0).paused || (channel (object_of v) 0).halted)
+
+-- an answer after which a copy goes on
+abbrev pub goes_on : Reply → Bool
+goes_on (Turned (Started cookie)) = true
+goes_on (Turned Moved) = true
+goes_on _ = false
+
+-- Steps of channel 0 until an answer is neither Started nor Moved, or after so many that were: the last answer, and the view
+-- after it.
+unfoldable pub stepped_through : ℕ → View → Reply × View
+stepped_through zero v = answer v (calls.Step 0)
+stepped_through (suc n) v =
+    let first = answer v (calls.Step 0) in
+    if goes_on first.0 then stepped_through n first.1 else first
+
+-- `copy ANSWER` or `fill ANSWER`, by the line's command
+abbrev pub through_line : List ℕ → Reply → List ℕ
+through_line command reply = command ++ reply_text reply
+
+-- more steps than any copy takes (`CopiesEnd`)
+abbrev pub most_steps : ℕ
+most_steps = 524288
+
+-- What was submitted to channel 0 is issued and stepped through.
+abbrev pub carried_through : List ℕ → View → Answered
+carried_through command v =
+    let last = stepped_through most_steps (answer v (calls.Issue 0)).1 in told (through_line command last.0) last.1
+
+-- a reply that is a refusal
+abbrev pub is_refused : Reply → Bool
+is_refused (Refused fault) = true
+is_refused _ = false
+
+-- what follows a transfer's submission
+abbrev pub copied_after : List ℕ → Reply × View → Answered
+copied_after command after =
+    if is_refused after.0 then told (reply_text after.0) after.1 else carried_through command after.1
+
+-- a transfer that meets its rules is copied, unless channel 0 is in use
+abbrev pub copied : List ℕ → View → Descriptor → Answered
+copied command v t =
+    if is_in_use v then told (refused_line (codes "ChannelInUse")) v else copied_after command (answer v (calls.Submit 0 t))
+
+-- the transfer of a copy line, which neither waits nor signals
+abbrev pub plain_copy : List Segment → List Segment → Descriptor
+plain_copy src dst = record { fill = false; src = src; dst = dst; wait = None; signal = None }
+
+-- that of a fill line
+abbrev pub plain_fill : ℕ → List Segment → Descriptor
+plain_fill src dst = filling src dst None None
+
+-- a copy or a fill line, by its command: its transfer's own rules first
+abbrev pub through_answer : View → List ℕ → Descriptor → Answered
+through_answer v command t = unless_unfit (refusal_of t) v (copied command v t)
+
+-- a copy line
+abbrev pub copy_answer : View → List Segment → List Segment → Answered
+copy_answer v src dst = through_answer v (codes "copy ") (plain_copy src dst)
+
+-- a fill line
+abbrev pub fill_answer : View → ℕ → List Segment → Answered
+fill_answer v src dst = through_answer v (codes "fill ") (plain_fill src dst)
+
+-- The steps of a copy end by themselves: where channel 0 of a sound view isn't in use, and a transfer is submitted to it and
+-- issued, the last answer of its steps is one after which no copy goes on. So no copy is cut off by most_steps.
+abbrev pub CopiesEnd : Type 0
+CopiesEnd =
+    (v : View) (t : Descriptor) (cookie : ℕ) (w : View) → IsSound v → IsTransfer t → is_in_use v ≡ false →
+    answer v (calls.Submit 0 t) ≡ (Cookie cookie, w) →
+    goes_on (stepped_through most_steps (answer w (calls.Issue 0)).1).0 ≡ false
+
+-- ---- whole scripts
+
+-- `totals entries N steps N running N`
+abbrev pub totals_line : ℕ → ℕ → ℕ → List ℕ
+totals_line entries steps running =
+    codes "totals entries " ++ decimal entries ++ codes " steps " ++ decimal steps ++ codes " running " ++ decimal running
+
+-- the line of a view's totals
+abbrev pub totals_of : View → List ℕ
+totals_of v = totals_line (length v.history) v.steps (length (running (object_of v) v.schedule))
+
+-- What a line prints to the view that it finds, and the view after it.
+abbrev pub line_answer : View → Statement → Answered
+line_answer v (Write addr bytes) = call_answer v (calls.Write addr bytes)
+line_answer v (Read segment) = call_answer v (calls.Read segment.addr segment.len)
+line_answer v (Copy lists) = copy_answer v lists.src lists.dst
+line_answer v (Fill src dst) = fill_answer v src dst
+line_answer v (Submit ch transfer) = submit_answer v ch transfer
+line_answer v (Issue ch) = call_answer v (calls.Issue ch)
+line_answer v (Pause ch) = call_answer v (calls.Pause ch)
+line_answer v (Resume ch) = call_answer v (calls.Resume ch)
+line_answer v (Terminate ch) = call_answer v (calls.Terminate ch)
+line_answer v (Step ch count) = step_answer v ch count
+line_answer v (Status ch cookie) = call_answer v (calls.Status ch cookie)
+line_answer v (Outcome ch cookie) = call_answer v (calls.Result ch cookie)
+line_answer v (Mark kind segment) = call_answer v (calls.Mark kind segment)
+line_answer v Unmark = call_answer v calls.Unmark
+line_answer v (Raise event) = call_answer v (calls.Raise event)
+line_answer v Totals = told (totals_of v) v
+
+-- what each line prints, the first of them finding this view
+abbrev pub lines_answered : View → List Statement → List (List (List ℕ))
+lines_answered v [] = []
+lines_answered v (line ∷ rest) = (line_answer v line).0 ∷ lines_answered (line_answer v line).1 rest
+
+-- A script that is read prints nothing for its memory line, and then what its lines print; another prints its first fault.
+abbrev pub printed_of : Result RunScript Fault → Printed
+printed_of (Ok script) =
+    record { groups = [] ∷ lines_answered (new_view script.size script.channels) script.statements; status = 0 }
+printed_of (Err fault) = refusal (fault_line fault)
+
+-- What is printed for an input.
+abbrev pub printed : List ℕ → Printed
+printed input = printed_of (run_script_of input)

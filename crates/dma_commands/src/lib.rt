@@ -1,0 +1,13 @@
+//! The commands that one thread carries out, over a reader and a writer: `asm`, `dis`, `plan` and `run`.
+#![tactic(auto)]
+
+pub mod asm;
+pub mod dis;
+pub mod plan;
+pub mod printing;
+pub mod run;
+#[cfg(test)]
+mod run_tests;
+#[cfg(test)]
+mod tests;
+pub mod transfers;

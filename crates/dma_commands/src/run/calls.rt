@@ -1,0 +1,145 @@
+//! The lines of a script that are one call, and the totals.
+ghost use Rattle.std.specs.Prelude.{◌≡◌, ◌≢◌, ◌++◌, ◌∷◌, [], OnOk, OnErr, IfOk, length};
+ghost use Rattle.dma_engine.specs.Answer.{CallAnswers, answer};
+ghost use Rattle.dma_engine.specs.View.{object_of, running};
+ghost use Rattle.dma_script.specs.Command.{text_of};
+ghost use Rattle.dma_commands.specs.Printed.{refused_line, transfer_fault_name};
+ghost use Rattle.dma_commands.specs.inner.RunSteps.{AnswersLine};
+ghost use Rattle.dma_commands.specs.Run.{call_answer, submit_answer, totals_line, totals_of};
+
+use crate::printing::{
+    push_cookie, push_refused, push_refused_call, push_told, push_worded, rule_name,
+};
+use crate::transfers::transfer_of;
+use dma_engine::{Call, Engine, EngineFault, Reply};
+use dma_mem::transfer::{Transfer, TransferFault};
+use dma_script::plan::TransferLine;
+use dma_script::printing::push_line;
+use std::alloc::AllocError;
+
+/// Carries out one call. Where memory is refused the error comes.
+pub fn reply_to(engine: &mut Engine, call: &Call) -> Result<Reply, AllocError>
+    ensures answer { IfOk result (λ reply. (reply, engine.new.view) ≡ answer engine.old.view call.now) }
+    ensures refused { OnErr result (CallAnswers engine.old.view call.now (Reply.Refused EngineFault.NoMemory) engine.new.view) }
+{
+    match engine.carry_out(call) {
+        Reply::Refused(EngineFault::NoMemory) => Err(AllocError),
+        reply => Ok(reply),
+    }
+}
+
+/// Carries out one call, and appends its line or nothing.
+pub fn answer_call(
+    engine: &mut Engine,
+    call: &Call,
+    line: &mut Vec<u8>,
+    out: &mut Vec<u8>,
+) -> Result<(), AllocError>
+    ensures ok { OnOk result (AnswersLine (call_answer engine.old.view call.now) engine.new.view out.old.items out.new.items) }
+    ensures err { OnErr result (out.new.items ≡ out.old.items) }
+{
+    let reply = reply_to(engine, call)?;
+    push_told(line, call, &reply, out)
+}
+
+/// Carries out `write ADDR HEX`.
+pub fn write_line(
+    engine: &mut Engine,
+    addr: u32,
+    bytes: &[u8],
+    line: &mut Vec<u8>,
+    out: &mut Vec<u8>,
+) -> Result<(), AllocError>
+    ensures ok { OnOk result (AnswersLine (call_answer engine.old.view (Call.Write addr bytes.now)) engine.new.view out.old.items out.new.items) }
+    ensures err { OnErr result (out.new.items ≡ out.old.items) }
+{
+    match engine.write(addr, bytes) {
+        Ok(()) => push_line(out, b"ok"),
+        Err(fault) => push_refused_call(line, fault, out),
+    }
+}
+
+/// Appends what a transfer that breaks a rule prints. Where memory was refused it prints nothing and the script ends.
+pub fn push_unfit(
+    line: &mut Vec<u8>,
+    fault: TransferFault,
+    out: &mut Vec<u8>,
+) -> Result<(), AllocError>
+    ensures ok { OnOk result ((fault ≢ TransferFault.NoMemory) × (out.new.items ≡ out.old.items ++ text_of (refused_line (transfer_fault_name fault) ∷ []))) }
+    ensures err { OnErr result (out.new.items ≡ out.old.items) }
+{
+    push_refused(line, rule_name(fault)?, out)
+}
+
+/// Gives a transfer to a channel.
+fn submit(
+    engine: &mut Engine,
+    ch: u8,
+    transfer: Transfer,
+    line: &mut Vec<u8>,
+    out: &mut Vec<u8>,
+) -> Result<(), AllocError>
+    ensures ok { OnOk result (AnswersLine (call_answer engine.old.view (Call.Submit ch transfer)) engine.new.view out.old.items out.new.items) }
+    ensures err { OnErr result (out.new.items ≡ out.old.items) }
+{
+    match engine.submit(ch, transfer) {
+        Ok(cookie) => push_cookie(line, cookie, out),
+        Err(refused) => push_refused_call(line, refused.fault, out),
+    }
+}
+
+/// Carries out `submit CH LIST to LIST [wait E] [signal E]` or `submit CH fill ADDR to LIST [wait E] [signal E]`.
+pub fn submit_line(
+    engine: &mut Engine,
+    ch: u8,
+    words: TransferLine,
+    line: &mut Vec<u8>,
+    out: &mut Vec<u8>,
+) -> Result<(), AllocError>
+    ensures ok { OnOk result (AnswersLine (submit_answer engine.old.view ch words) engine.new.view out.old.items out.new.items) }
+    ensures err { OnErr result (out.new.items ≡ out.old.items) }
+{
+    match transfer_of(words) {
+        Ok(transfer) => submit(engine, ch, transfer, line, out),
+        Err(fault) => push_unfit(line, fault, out),
+    }
+}
+
+/// How many transfers run.
+fn running_count(engine: &Engine) -> usize
+    ensures { result ≡ length (running (object_of engine.now.view) engine.now.view.schedule) }
+{
+    let mut count = 0usize;
+    for ch in 0..engine.channels() {
+        if engine.running(ch).is_some() {
+            count += 1;
+        }
+    }
+    count
+}
+
+/// `totals entries N steps N running N`, at the end.
+fn push_totals(line: &mut Vec<u8>, entries: u64, steps: u64, running: u64) -> Result<(), AllocError>
+    ensures { OnOk result (line.new.items ≡ line.old.items ++ totals_line entries steps running) }
+{
+    push_worded(line, "totals entries ", entries)?;
+    push_worded(line, " steps ", steps)?;
+    push_worded(line, " running ", running)
+}
+
+/// Carries out `totals`.
+pub fn answer_totals(
+    engine: &Engine,
+    line: &mut Vec<u8>,
+    out: &mut Vec<u8>,
+) -> Result<(), AllocError>
+    ensures ok { OnOk result (out.new.items ≡ out.old.items ++ text_of (totals_of engine.now.view ∷ [])) }
+    ensures err { OnErr result (out.new.items ≡ out.old.items) }
+{
+    let entries = engine.history().len();
+    let steps = engine.steps();
+    let running = running_count(engine);
+    line.clear();
+    push_totals(line, entries as u64, steps, running as u64)?;
+    push_line(out, line)
+}

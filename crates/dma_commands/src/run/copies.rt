@@ -1,0 +1,154 @@
+//! The lines of a script that copy or fill: submitted to channel 0, issued, and stepped through.
+ghost use Rattle.std.specs.Prelude.{◌≡◌, OnOk, OnErr, IfOk};
+ghost use Rattle.dma_engine.specs.Answer.{answer};
+ghost use Rattle.dma_commands.specs.inner.RunSteps.{AnswersLine};
+ghost use Rattle.dma_commands.specs.Run.{CopiesEnd, carried_through, copied_after, copy_answer, fill_answer, goes_on, is_in_use, most_steps, stepped_through, through_answer};
+ghost use Rattle.dma_commands.specs.Transfers.{transfer_of};
+
+use crate::printing::{push_after, push_refused, push_refused_call};
+use crate::run::calls::{push_unfit, reply_to};
+use crate::run::steps::step_reply;
+use crate::transfers::transfer_of;
+use dma_engine::advance::advance;
+use dma_engine::{Call, Engine, Reply, Turn};
+use dma_mem::lists::Segments;
+use dma_mem::transfer::Transfer;
+use dma_script::plan::{Origin, TransferLine};
+use dma_script::statements::CopyLine;
+use std::alloc::AllocError;
+
+/// At least as many steps as any transfer takes, which are its start and fewer than 2^19 instructions
+/// (`dma_chan::laws::costs_little`). So no copy is cut off by it: that is the law `copies_end`.
+pub const MOST_STEPS: u32 = 524_288;
+
+/// Whether channel 0 has an unfinished cookie, or is paused or halted.
+fn is_in_use(engine: &Engine) -> bool
+    ensures { result ≡ is_in_use engine.now.view }
+{
+    engine.unfinished(0) > 0 || engine.paused(0) || engine.halted(0)
+}
+
+/// Whether a copy goes on after such an answer.
+fn goes_on(reply: &Reply) -> bool
+    ensures { result ≡ goes_on reply.now }
+{
+    matches!(reply, Reply::Turned(Turn::Started(_) | Turn::Moved))
+}
+
+/// Steps channel 0 until an answer is neither Started nor Moved.
+fn step_through(engine: &mut Engine) -> Result<Reply, AllocError>
+    ensures { IfOk result (λ reply. (reply, engine.new.view) ≡ stepped_through most_steps engine.old.view) }
+{
+    let mut left = MOST_STEPS;
+    while left > 0 {
+        let steps = advance(engine, 0, left);
+        left -= steps.moved;
+        if let Some(last) = steps.last {
+            let reply = step_reply(last)?;
+            if !goes_on(&reply) {
+                return Ok(reply);
+            }
+            left -= 1;
+        }
+    }
+    reply_to(engine, &Call::Step { ch: 0 })
+}
+
+/// Issues what was submitted to channel 0 and steps through it.
+fn carry_through(
+    engine: &mut Engine,
+    command: &str,
+    line: &mut Vec<u8>,
+    out: &mut Vec<u8>,
+) -> Result<(), AllocError>
+    ensures ok { OnOk result (AnswersLine (carried_through command.now engine.old.view) engine.new.view out.old.items out.new.items) }
+    ensures err { OnErr result (out.new.items ≡ out.old.items) }
+{
+    reply_to(engine, &Call::Issue { ch: 0 })?;
+    let last = step_through(engine)?;
+    push_after(line, command, &last, out)
+}
+
+/// Submits a transfer to channel 0, issues it and steps through it.
+fn copy_through(
+    engine: &mut Engine,
+    command: &str,
+    transfer: Transfer,
+    line: &mut Vec<u8>,
+    out: &mut Vec<u8>,
+) -> Result<(), AllocError>
+    ensures ok { OnOk result (AnswersLine (copied_after command.now (answer engine.old.view (Call.Submit 0 transfer))) engine.new.view out.old.items out.new.items) }
+    ensures err { OnErr result (out.new.items ≡ out.old.items) }
+{
+    match engine.submit(0, transfer) {
+        Ok(_) => carry_through(engine, command, line, out),
+        Err(refused) => push_refused_call(line, refused.fault, out),
+    }
+}
+
+/// Carries out a transfer within its line, which begins with `command`. The transfer takes the line's lists for itself.
+fn answer_through(
+    engine: &mut Engine,
+    command: &str,
+    words: TransferLine,
+    line: &mut Vec<u8>,
+    out: &mut Vec<u8>,
+) -> Result<(), AllocError>
+    ensures ok { OnOk result (AnswersLine (through_answer engine.old.view command.now (transfer_of words)) engine.new.view out.old.items out.new.items) }
+    ensures err { OnErr result (out.new.items ≡ out.old.items) }
+{
+    let transfer = match transfer_of(words) {
+        Ok(transfer) => transfer,
+        Err(fault) => return push_unfit(line, fault, out),
+    };
+    if is_in_use(engine) {
+        return push_refused(line, "ChannelInUse", out);
+    }
+    copy_through(engine, command, transfer, line, out)
+}
+
+/// Carries out `copy LIST to LIST`.
+pub fn answer_copy(
+    engine: &mut Engine,
+    lists: CopyLine,
+    line: &mut Vec<u8>,
+    out: &mut Vec<u8>,
+) -> Result<(), AllocError>
+    ensures ok { OnOk result (AnswersLine (copy_answer engine.old.view lists.src lists.dst) engine.new.view out.old.items out.new.items) }
+    ensures err { OnErr result (out.new.items ≡ out.old.items) }
+{
+    let CopyLine { src, dst } = lists;
+    let words = TransferLine {
+        src: Origin::List(src),
+        dst,
+        wait: None,
+        signal: None,
+    };
+    answer_through(engine, "copy ", words, line, out)
+}
+
+/// Carries out `fill ADDR to LIST`.
+pub fn answer_fill(
+    engine: &mut Engine,
+    src: u32,
+    dst: Segments,
+    line: &mut Vec<u8>,
+    out: &mut Vec<u8>,
+) -> Result<(), AllocError>
+    ensures ok { OnOk result (AnswersLine (fill_answer engine.old.view src dst) engine.new.view out.old.items out.new.items) }
+    ensures err { OnErr result (out.new.items ≡ out.old.items) }
+{
+    let words = TransferLine {
+        src: Origin::Byte(src),
+        dst,
+        wait: None,
+        signal: None,
+    };
+    answer_through(engine, "fill ", words, line, out)
+}
+
+/// The law that a copy or a fill is stepped until its last answer: neither takes so many steps that the loop ends by its own
+/// bound.
+pub fn copies_end()
+    ensures { CopiesEnd }
+{}

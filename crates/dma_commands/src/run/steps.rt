@@ -1,0 +1,168 @@
+//! The lines of a script that step a channel. Equal answers that follow each other are counted in one printed line.
+ghost use Rattle.std.specs.Prelude.{◌≡◌, ◌≢◌, ◌≤◌, ◌<◌, ◌+◌, ◌++◌, ◌∷◌, [], List, ℕ, OnOk, OnErr, IfOk, IsTrue, Err, map, replicate};
+ghost use Rattle.dma_engine.specs.Answer.{answers, reply_of};
+ghost use Rattle.dma_engine.specs.Room.{IsIdle};
+ghost use Rattle.dma_engine.specs.declared.call.Call.TheVariants as calls;
+ghost use Rattle.dma_script.specs.Command.{text_of};
+ghost use Rattle.dma_commands.specs.Printed.{reply_text};
+ghost use Rattle.dma_commands.specs.inner.Counting.{text_with};
+ghost use Rattle.dma_commands.specs.inner.RunSteps.{AnswersLine};
+ghost use Rattle.dma_commands.specs.Run.{step_answer, step_line};
+
+use crate::printing::{push_reply, push_text, push_worded};
+use dma_engine::advance::{Advanced, advance};
+use dma_engine::{Engine, EngineFault, Reply, Turn};
+use std::alloc::{AllocError, Global};
+use std::mem;
+
+/// The answers of steps so far: the lines of those before, and how many equal ones come last. A script keeps one for all its
+/// lines, and other lines write theirs in `lines`.
+#[derive(Drop)]
+pub struct StepLines {
+    pub lines: Vec<u8>,
+    last: Vec<u8>,
+    count: u32,
+    next: Vec<u8>,
+}
+
+impl StepLines {
+    /// No answers, which take no memory.
+    pub fn new(alloc: Global) -> StepLines
+        ensures lines { result.lines.items ≡ [] }
+        ensures count { result.count ≡ 0 }
+    {
+        StepLines {
+            lines: Vec::new(alloc),
+            last: Vec::new(alloc),
+            count: 0,
+            next: Vec::new(alloc),
+        }
+    }
+
+    /// Ends the line of the last answers, if there are any.
+    fn end_line(&mut self, ch: u8) -> Result<(), AllocError>
+        ensures none { OnOk result (self.old.count ≡ 0 → self.new.lines.items ≡ self.old.lines.items) }
+        ensures line { OnOk result (0 < self.old.count → self.new.lines.items ≡ self.old.lines.items ++ text_of (step_line ch (self.old.last.items, self.old.count) ∷ [])) }
+        ensures last { self.new.last.items ≡ self.old.last.items }
+        ensures count { self.new.count ≡ self.old.count }
+        ensures next { self.new.next.items ≡ self.old.next.items }
+    {
+        if self.count == 0 {
+            return Ok(());
+        }
+        push_worded(&mut self.lines, "step ", u64::from(ch))?;
+        push_text(&mut self.lines, " ")?;
+        self.lines.extend_from_slice(&self.last)?;
+        push_worded(&mut self.lines, " x", u64::from(self.count))?;
+        push_text(&mut self.lines, "\n")
+    }
+
+    /// Takes so many equal answers more.
+    fn take(&mut self, ch: u8, reply: &Reply, many: u32) -> Result<(), AllocError>
+        requires { self.old.count + many ≤ 4294967295 }
+        ensures text { OnOk result ((rest : List (List ℕ)) → text_with ch self.new.lines.items self.new.last.items self.new.count rest
+            ≡ text_with ch self.old.lines.items self.old.last.items self.old.count (replicate many (reply_text reply.now) ++ rest)) }
+        ensures count { OnOk result (self.new.count ≤ self.old.count + many) }
+    {
+        if many == 0 {
+            return Ok(());
+        }
+        self.next.clear();
+        push_reply(&mut self.next, reply)?;
+        if self.last.as_slice() == self.next.as_slice() {
+            self.count += many;
+            return Ok(());
+        }
+        self.end_line(ch)?;
+        mem::swap(&mut self.last, &mut self.next);
+        self.count = many;
+        Ok(())
+    }
+}
+
+/// The reply of a step. Where memory is refused the error comes.
+pub fn step_reply(turn: Result<Turn, EngineFault>) -> Result<Reply, AllocError>
+    ensures reply { IfOk result (λ reply. (reply ≡ reply_of (λ turn. Reply.Turned turn) turn) × (reply ≢ Reply.Refused EngineFault.NoMemory)) }
+    ensures refused { OnErr result (turn ≡ Err EngineFault.NoMemory) }
+{
+    match turn {
+        Ok(turn) => Ok(Reply::Turned(turn)),
+        Err(EngineFault::NoMemory) => Err(AllocError),
+        Err(fault) => Ok(Reply::Refused(fault)),
+    }
+}
+
+/// Whether such an answer to a step changed nothing, so that it comes again with the next step.
+fn is_idle(turn: Result<Turn, EngineFault>) -> bool
+    ensures idle { IsTrue result → IsIdle turn }
+    ensures all { IsIdle turn → IsTrue result }
+{
+    !matches!(
+        turn,
+        Ok(Turn::Started(_) | Turn::Moved | Turn::Finished { .. })
+    )
+}
+
+/// Steps a channel at most so often, until one doesn't move, and takes the answers. One that comes again is taken for all
+/// steps that are left, which aren't carried out. Answers how many it took.
+fn take_steps(
+    engine: &mut Engine,
+    ch: u8,
+    most: u32,
+    told: &mut StepLines,
+) -> Result<u32, AllocError>
+    requires some { 0 < most }
+    requires few { told.old.count + most ≤ 4294967295 }
+    ensures many { IfOk result (λ many. (0 < many) × (many ≤ most)) }
+    ensures view { IfOk result (λ many. engine.new.view ≡ (answers engine.old.view (replicate many (calls.Step ch))).1) }
+    ensures text { IfOk result (λ many. (rest : List (List ℕ)) → text_with ch told.new.lines.items told.new.last.items told.new.count rest
+        ≡ text_with ch told.old.lines.items told.old.last.items told.old.count (map reply_text (answers engine.old.view (replicate many (calls.Step ch))).0 ++ rest)) }
+    ensures count { IfOk result (λ many. told.new.count ≤ told.old.count + many) }
+{
+    let Advanced { moved, last } = advance(engine, ch, most);
+    told.take(ch, &Reply::Turned(Turn::Moved), moved)?;
+    let Some(last) = last else {
+        return Ok(moved);
+    };
+    let reply = step_reply(last)?;
+    let many = if is_idle(last) { most - moved } else { 1 };
+    told.take(ch, &reply, many)?;
+    Ok(moved + many)
+}
+
+/// Steps a channel so often, and leaves the lines.
+fn step_text(
+    engine: &mut Engine,
+    ch: u8,
+    count: u32,
+    told: &mut StepLines,
+) -> Result<(), AllocError>
+    ensures text { OnOk result (told.new.lines.items ≡ text_of (step_answer engine.old.view ch count).0) }
+    ensures view { OnOk result (engine.new.view ≡ (step_answer engine.old.view ch count).1) }
+{
+    told.lines.clear();
+    told.count = 0;
+    let mut left = count;
+    while left > 0 {
+        let many = take_steps(engine, ch, left, told)?;
+        left -= many;
+    }
+    told.end_line(ch)?;
+    Ok(())
+}
+
+/// Carries out `step CH [N]`. No step takes memory for its answer, and those after one that changed nothing take no time.
+pub fn answer_steps(
+    engine: &mut Engine,
+    ch: u8,
+    count: u32,
+    told: &mut StepLines,
+    out: &mut Vec<u8>,
+) -> Result<(), AllocError>
+    ensures ok { OnOk result (AnswersLine (step_answer engine.old.view ch count) engine.new.view out.old.items out.new.items) }
+    ensures err { OnErr result (out.new.items ≡ out.old.items) }
+{
+    step_text(engine, ch, count, told)?;
+    out.extend_from_slice(&told.lines)?;
+    Ok(())
+}
