@@ -2,8 +2,7 @@
 use Rattle.std.proofs.Common.{◌≡◌, ◌≢◌, ℕ, ◌+◌, ◌-◌, ◌<◌, ◌≤◌, List, [], ◌∷◌, ◌++◌, length, Option, Some, None, Bool, true, false, ◌||◌, ◌&&◌, nat_lt, refl, zero, suc, ap, sym, ◌∙◌, arith, inl, inr, IfSome}
 use Rattle.std.specs.Prelude.{◌==◌, ◌↔◌, All, AllPairs, not, if◌then◌else◌}
 use Rattle.std.specs.List.{Contains, list_any, range_with_len, flat_map, slice_get}
-use Rattle.std.proofs.lemmas.Bool.{true≢false, or_parts, not-false, ltb-false, false_from_ne_true, eqb-true, cases_lt, le-ltb}
-use Rattle.std.proofs.Math.Bool.{or-false}
+use Rattle.std.proofs.lemmas.Bool.{true≢false, or_parts, not-false, ltb-false, false_from_ne_true, eqb-true, cases_lt}
 use Rattle.std.proofs.lemmas.List.{length-append, get_or_append_left, get_or-append_right}
 use Rattle.std.proofs.lemmas.List.Elements.{All-weaker, All-head, Contains-get_or, Contains-append_cases, Contains-append_left}
 use Rattle.std.proofs.lemmas.List.Sums.{sum_by-cons}
@@ -15,9 +14,7 @@ use Rattle.dma_mem.specs.declared.segment.Segment.{Segment}
 use Rattle.dma_mem.specs.declared.transfer.TransferFault.{TransferFault}
 use Rattle.dma_mem.specs.Places.{Apart, Descriptor, filling, places, sources, destinations, size_of, share, touches, is_free_of}
 use Rattle.dma_mem.specs.Rules.{IsTransfer, IsSegmentList, HasOneByte}
-use Rattle.dma_mem.specs.declared.transfer.TransferFault.TheVariants.{EmptyList, TooManySegments, EmptySegment, SegmentWraps, TooLong, DestinationsMeet, SourceMeetsDestination, BadEvent}
-use Rattle.dma_mem.specs.Meeting.{meets}
-use Rattle.dma_mem.specs.Refusals.{refusal_of, refusal_of_fill, cause, total, some_meet, meets_any, is_bad_event, is_empty_list, has_too_many, has_empty_segment, has_wrapping_segment}
+use Rattle.dma_mem.specs.Refusals.{refusal_of, cause, total, some_meet, meets_any, is_bad_event, is_empty_list, has_too_many, has_empty_segment, has_wrapping_segment}
 use Rattle.dma_mem.proofs.SharedPlaces.{share-false, share-true, shared_by, share_places, share_none, share-append_left}
 use Rattle.dma_mem.proofs.MarkHits.{same_bool, share-sym}
 
@@ -163,24 +160,6 @@ copy-from_no_refusal src dst wait signal h =
 pub fill-from_no_refusal : (src : ℕ) (dst : List Segment) (wait signal : Option ℕ) → refusal_of (filling src dst wait signal) ≡ None → IsTransfer (filling src dst wait signal)
 fill-from_no_refusal src dst wait signal h =
     IsTransfer-from_no_refusal (filling src dst wait signal) (λ e. (src, refl)) h
-
--- a fill is refused as a transfer from one byte is
-no_wrap : (src : ℕ) → src < 4294967296 → (nat_lt 4294967296 (src + 1) || false) ≡ false
-no_wrap src low = or-false (nat_lt 4294967296 (src + 1)) ∙ le-ltb 4294967296 (src + 1) (omega (arith, low))
-
-pub fill_refusals : (src : ℕ) (dst : List Segment) (wait signal : Option ℕ) → src < 4294967296 → refusal_of_fill src dst wait signal ≡ refusal_of (filling src dst wait signal)
-fill_refusals src dst wait signal low =
-    let met = list_any (meets (record { addr = src; len = 1 })) dst in
-    let told : Bool → Bool → Option TransferFault = λ wraps meet.
-    cause (is_empty_list dst) EmptyList (
-    cause (has_too_many dst) TooManySegments (
-    cause (has_empty_segment dst) EmptySegment (
-    cause (wraps || has_wrapping_segment dst) SegmentWraps (
-    cause (nat_lt 1048576 (total dst)) TooLong (
-    cause (some_meet dst) DestinationsMeet (
-    cause meet SourceMeetsDestination (
-    cause (is_bad_event wait || is_bad_event signal) BadEvent None))))))) in
-    ap (λ (b : Bool). told b met) (sym (no_wrap src low)) ∙ ap (λ (b : Bool). told (nat_lt 4294967296 (src + 1) || false) b) (sym (or-false met))
 
 -- a list with a segment, none of them empty, has a place
 pub places_some : (list : List Segment) → IsSegmentList list → 1 ≤ length (places list)
