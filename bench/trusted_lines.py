@@ -3,11 +3,13 @@
 
 Prints a line a file, in the order in which they are met: how many lines of its definitions are cited, how many lines the
 sentences above these are, how many lines the file has, and the names. Imports and blank lines aren't counted. Of src/ it is
-the declarations of types and constants; of a type that contracts see as another value, that value, and not how it is kept.
-Names of the standard library and of the kit's crates aren't followed.
+the declarations of types and constants, and of a trait that bounds a parameter its members and the clauses of its methods; of
+a type that contracts see as another value, that value, and not how it is kept. An operator is followed as a name is, also where
+only the arrows of a `do` stand for it. Names of the standard library and of the kit's crates aren't followed.
 
     bench/trusted_lines.py [FILE FUNCTION [CLAUSE..]]     else the headline: crates/dma_engine/src/run.rt run
-    bench/trusted_lines.py --check                        whether the table in docs/TRUST.md has these lines of the headline
+    bench/trusted_lines.py --check                        whether docs/TRUST.md and README.md have these lines: the table of the
+                                                          headline, its totals, those of its clauses, and of the commands
 """
 
 import re
@@ -16,11 +18,13 @@ from pathlib import Path
 
 TOP = Path(__file__).resolve().parent.parent
 CRATES = TOP / "crates"
+HEADLINE = CRATES / "dma_engine/src/run.rt"
 WORD = re.compile(r"[A-Za-z_][\w']*")
 SPECS_IMPORT = re.compile(r"use Rattle\.((?:\w+\.)*\w+)\.\{([^}]*)\}")
 CODE_IMPORT = re.compile(r"^(?:pub )?use ((?:\w+::)*)(?:(\w+)|\{([^}]*)\});", re.M)
-DEFINITION = re.compile(r"(?:(?:abbrev|unfoldable|data|record|pub) )+([A-Za-z_][\w']*)")
-DECLARATION = re.compile(r"pub(?:\(crate\))? (?:enum|struct|const) (\w+)")
+DEFINITION = re.compile(r"(?:(?:abbrev|unfoldable|data|record|pub) )+([A-Za-z_][\w']*|◌\S+◌)")
+LABEL = re.compile(r"(?<=ensures |equires )\w+(?= \{)")
+DECLARATION = re.compile(r"pub(?:\(crate\))? (?:enum|struct|const|trait) (\w+)")
 
 
 def place_of(path):
@@ -59,11 +63,11 @@ class Source:
         for block in re.split(r"\n\s*\n", self.text):
             rows = [row for row in block.splitlines() if row.strip() and not row.startswith("use ")]
             code = [row for row in rows if not row.startswith("--")]
-            head = DEFINITION.match(code[0]) if code else None
+            head = next(filter(None, map(DEFINITION.match, code)), None) if code else None
             if head is None:
                 continue
             names = [head.group(1)]
-            if "data " in code[0]:
+            if "data " in head.group(0):
                 names += [row.split()[0] for row in code[1:]]
             for name in names:
                 self.blocks[name] = (names[0], len(code), len(rows) - len(code), "\n".join(code))
@@ -80,11 +84,19 @@ class Source:
             head = DECLARATION.match(row)
             if head is None:
                 continue
-            end = next(k for k in range(start, len(rows)) if rows[k].startswith("}") or rows[k].endswith(";"))
+            of_one_line = "trait" not in head.group(0)
+            end = next(k for k in range(start, len(rows)) if rows[k].startswith("}") or of_one_line and rows[k].endswith(";"))
             kept = [line for line in rows[start : end + 1] if line.strip() and not line.strip().startswith(("//", "#["))]
             value = re.search(rf"Model for {head.group(1)}\b.*?ghost Value = \{{(.*?)\}};", self.text, re.S)
             kept = [value.group(1)] if value else kept
             self.blocks[head.group(1)] = (head.group(1), len(kept), 0, "\n".join(kept))
+
+
+def cited_in(source, text):
+    """The names and the operators in a text of a file."""
+    operators = [name for name in (*source.imports, *source.blocks) if name.startswith("◌")]
+    stand = {*text.split(), ">>="} if "←" in text else {*text.split()}
+    return WORD.findall(LABEL.sub("", text)) + [name for name in operators if name.strip("◌") in stand]
 
 
 def contract_of(text, function, wanted):
@@ -115,7 +127,7 @@ def resolved(files, at, word):
 def cited(file, function, wanted):
     """The definitions to which the contract of a function leads, by file."""
     files = {file: Source(file)}
-    todo = [(file, word) for word in WORD.findall(contract_of(files[file].text, function, wanted))]
+    todo = [(file, word) for word in cited_in(files[file], contract_of(files[file].text, function, wanted))]
     found = {}
     for at, word in todo:
         target, name = resolved(files, at, word) or (None, None)
@@ -124,38 +136,83 @@ def cited(file, function, wanted):
         first, size, said, text = files[target].blocks[name]
         if first not in found.setdefault(target, {}):
             found[target][first] = (size, said)
-            todo += [(target, other) for other in WORD.findall(text)]
+            todo += [(target, other) for other in cited_in(files[target], text)]
     return {at: (blocks, files[at].size) for at, blocks in found.items() if blocks}
 
 
-def differences(found):
+def part(found, folder):
+    """Of specs/ or of src/: each file with its definitions, and how many lines it has."""
+    return {at: it for at, it in found.items() if folder in at.relative_to(CRATES).parts}
+
+
+def total(found, folder):
+    """How many lines, how many lines of sentences above them, and how many files."""
+    rows = [row for blocks, _ in part(found, folder).values() for row in blocks.values()]
+    return sum(code for code, _ in rows), sum(said for _, said in rows), len(part(found, folder))
+
+
+def rows_that_differ(found):
     """The rows of the table that are not those of the headline, and those that the table lacks."""
     wanted = {}
-    for at, (blocks, size) in found.items():
-        if "specs" in at.relative_to(CRATES).parts:
-            wanted[str(at.relative_to(CRATES))] = f"{sum(code for code, _ in blocks.values())} of {size}"
+    for at, (blocks, size) in part(found, "specs").items():
+        wanted[str(at.relative_to(CRATES))] = f"{sum(code for code, _ in blocks.values())} of {size}"
     rows = re.findall(r"^\| \d+ \| `(\S+)` \| (\d+) \| (\d+) \|", (TOP / "docs/TRUST.md").read_text(), re.M)
     told = {at: f"{code} of {size}" for at, code, size in rows}
     differ = (at for at in {**wanted, **told} if wanted.get(at) != told.get(at))
     return [f"{at}: {told.get(at)} in the table, {wanted.get(at)} in the tree" for at in differ]
 
 
-def main():
-    file = TOP / sys.argv[1] if len(sys.argv) > 2 else CRATES / "dma_engine/src/run.rt"
-    found = cited(file, sys.argv[2] if len(sys.argv) > 2 else "run", sys.argv[3:])
-    if sys.argv[1:] == ["--check"]:
-        wrong = differences(found)
-        print("\n".join(wrong) or "the table has them all")
-        sys.exit(1 if wrong else 0)
+def tens(lines):
+    """A number of lines, to the nearest ten."""
+    return (lines + 5) // 10 * 10
+
+
+def file_of(command):
+    """The file that has the function of a command."""
+    return next(file for file in CRATES.glob("*/src/*.rt") if f"pub fn {command}<" in file.read_text())
+
+
+def sentences_of(found):
+    """What the documents have to say of the totals, each with its document."""
+    trust = "docs/TRUST.md"
+    lines, said, files = total(found, "specs")
+    declared, _, sources = total(found, "src")
+    yield trust, f"That is {lines} lines in {files} files (with the sentences {lines + said})."
+    yield trust, f"Besides, {declared} lines declare the types of the values in {sources} files of `src/`"
+    yield "README.md", f"the definitions behind these words, some {tens(lines)} lines"
+    for clause in ("begins", "kept", "memory", "sound", "answers"):
+        lines, _, files = total(cited(HEADLINE, "run", [clause]), "specs")
+        yield trust, f"| `{clause}` | {lines} lines in {files} files |"
+    for command in ("run_script", "asm_main", "dis_main"):
+        lines, _, files = total(cited(file_of(command), command, []), "specs")
+        yield trust, f"of `{command}` some {tens(lines)} lines in {files} files"
+
+
+def differences(found):
+    """What the documents say otherwise than the tree."""
+    yield from rows_that_differ(found)
+    for file, sentence in sentences_of(found):
+        if sentence not in " ".join((TOP / file).read_text().split()):
+            yield f"{file} lacks: {sentence}"
+
+
+def show(found):
+    """Prints a line a file, and the totals."""
     for folder, what in (("specs", "definitions"), ("src", "declarations")):
-        lines = sentences = files = 0
-        for at, (blocks, size) in found.items():
-            if folder not in at.relative_to(CRATES).parts:
-                continue
+        for at, (blocks, size) in part(found, folder).items():
             code, said = (sum(column) for column in zip(*blocks.values()))
-            lines, sentences, files = lines + code, sentences + said, files + 1
             print(f"{code:4} +{said:3} of {size:4}  {at.relative_to(CRATES)}: {' '.join(blocks)}")
+        lines, sentences, files = total(found, folder)
         print(f"{lines:4} +{sentences:3} lines of {what} in {files} files\n")
+
+
+def main():
+    if sys.argv[1:] == ["--check"]:
+        wrong = list(differences(cited(HEADLINE, "run", [])))
+        print("\n".join(wrong) or "the documents have them all")
+        sys.exit(1 if wrong else 0)
+    file, function, *clauses = sys.argv[1:] or [HEADLINE, "run"]
+    show(cited(TOP / file, function, clauses))
 
 
 main()

@@ -79,12 +79,18 @@ stays p ch q r flags history o h less read w =
 
 -- ---- pause and resume
 
-pub holds-paused : (p : Parts) (ch : ℕ) (q : Queue) (b : Bool) → Holds p → ch < length p.queues → q ≡ slice_index_or p.queues ch q → Holds (changed p ch (record q { paused = b }) p.memory p.events p.history p.steps)
-holds-paused p ch q b h less read =
+-- a queue with other room, paused or not
+abbrev pub with_room_paused : Queue → ℕ → ℕ → Bool → Queue
+with_room_paused q a b paused =
+    record q { indices = record { items = q.indices.items; spare = a }; outcomes = record { items = q.outcomes.items; spare = b }; paused = paused }
+
+-- neither the room of a queue nor its pause changes what its channel does
+pub holds-besides : (p : Parts) (ch a b : ℕ) (paused : Bool) (q : Queue) → Holds p → ch < length p.queues → q ≡ slice_index_or p.queues ch q → Holds (changed p ch (with_room_paused q a b paused) p.memory p.events p.history p.steps)
+holds-besides p ch a b paused q h less read =
     let v : View = view_of p in
     let at = holds-at p h ch q less read in
     let t = at.tied in
-    let r = record q { paused = b } in
+    let r = with_room_paused q a b paused in
     holds-changed p ch r p.memory p.events p.history p.steps (object_of v) h less (stays p ch q r p.events p.history (object_of v) h less read (record {
       legal = h.sound.legal;
       leaves = refl;
@@ -99,6 +105,9 @@ holds-paused p ch q b h less read =
       ranges_still = refl;
       tied = record { many = t.many; stands = t.stands; outcomes = t.outcomes; issued = t.issued; halted = t.halted; machine = t.machine };
     }))
+
+pub holds-paused : (p : Parts) (ch : ℕ) (q : Queue) (b : Bool) → Holds p → ch < length p.queues → q ≡ slice_index_or p.queues ch q → Holds (changed p ch (record q { paused = b }) p.memory p.events p.history p.steps)
+holds-paused p ch q b h less read = holds-besides p ch q.indices.spare q.outcomes.spare b q h less read
 
 pub view-paused : (p : Parts) (ch : ℕ) (q : Queue) (b : Bool) → Holds p → ch < length p.queues → q ≡ slice_index_or p.queues ch q → view_of (changed p ch (record q { paused = b }) p.memory p.events p.history p.steps) ≡ with_pause (view_of p) ch b
 view-paused p ch q b h less read =

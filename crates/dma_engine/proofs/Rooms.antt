@@ -28,7 +28,7 @@ use Rattle.dma_engine.specs.View.{View, EngineState, RunningTransfer, object_of}
 use Rattle.dma_engine.specs.inner.Holds.{Holds, IsQueue, Parts, view_of}
 use Rattle.dma_engine.proofs.Changes.{changed, view-changed, holds-changed, schedule-kept}
 use Rattle.dma_engine.proofs.Queues.{holds-at}
-use Rattle.dma_engine.proofs.QueueCalls.{stays}
+use Rattle.dma_engine.proofs.QueueCalls.{holds-besides}
 
 -- ---- room
 
@@ -38,25 +38,7 @@ with_room q a b =
     record q { indices = record { items = q.indices.items; spare = a }; outcomes = record { items = q.outcomes.items; spare = b } }
 
 pub holds-room : (p : Parts) (ch a b : ℕ) (q : Queue) → Holds p → ch < length p.queues → q ≡ slice_index_or p.queues ch q → Holds (changed p ch (with_room q a b) p.memory p.events p.history p.steps)
-holds-room p ch a b q h less read =
-    let v : View = view_of p in
-    let at = holds-at p h ch q less read in
-    let t = at.tied in
-    let r = with_room q a b in
-    holds-changed p ch r p.memory p.events p.history p.steps (object_of v) h less (stays p ch q r p.events p.history (object_of v) h less read (record {
-      legal = h.sound.legal;
-      leaves = refl;
-      grows = λ k e x. x;
-      image = refl;
-      events = h.events;
-      marks = refl;
-      many = refl;
-      others = λ c d. refl;
-      agrees = at.agrees;
-      runs_still = refl;
-      ranges_still = refl;
-      tied = record { many = t.many; stands = t.stands; outcomes = t.outcomes; issued = t.issued; halted = t.halted; machine = t.machine };
-    }))
+holds-room p ch a b q h less read = holds-besides p ch a b q.paused q h less read
 
 pub view-room : (p : Parts) (ch a b : ℕ) (q : Queue) → ch < length p.queues → q ≡ slice_index_or p.queues ch q → view_of (changed p ch (with_room q a b) p.memory p.events p.history p.steps) ≡ view_of p
 view-room p ch a b q less read =

@@ -1,5 +1,5 @@
--- The text of channel programs (profile; the words that name instructions and registers are those of the PL330 manual). It is
--- told as a relation between lines and instructions, apart from what reads and what writes it.
+-- The text of channel programs (profile; the words that name instructions and registers are those of the PL330 manual). It
+-- is told as a relation between lines and instructions, apart from what reads and what writes it.
 use Rattle.std.specs.Prelude.{◌≡◌, ℕ, ◌+◌, ◌/◌, ◌%◌, ◌^◌, ◌<◌, ◌≤◌, Bool, true, false, ◌==◌, ◌||◌, ◌&&◌, if◌then◌else◌, List, [], ◌∷◌, ◌++◌, length, slice_index, map, flat_map, Option, Some, None, codes, nat_le, MatchBool}
 use Rattle.std.specs.List.{list_all, list_any}
 use Rattle.std.specs.Option.{option_and_then}
@@ -47,7 +47,8 @@ pub record IsDecimal (word : List ℕ) (n : ℕ) : Type 0 where
 -- the eight hexadecimal digits of a number below 2 ^ 32, of 0 to 9 and A to F
 abbrev pub hex_digits : ℕ → List ℕ
 hex_digits v =
-    map (λ weight. digit_glyph true (v / weight % 16)) (0x10000000 ∷ 0x1000000 ∷ 0x100000 ∷ 0x10000 ∷ 0x1000 ∷ 0x100 ∷ 0x10 ∷ 0x1 ∷ [])
+    map (λ weight. digit_glyph true (v / weight % 16))
+    (0x10000000 ∷ 0x1000000 ∷ 0x100000 ∷ 0x10000 ∷ 0x1000 ∷ 0x100 ∷ 0x10 ∷ 0x1 ∷ [])
 
 -- 0x and these digits
 abbrev pub value_word : ℕ → List ℕ
@@ -171,7 +172,8 @@ pub record WritesFirst (line : List ℕ) (is : List Insn) (Rest : List Insn → 
 -- The lines of a program's text: each one is skipped, or writes one instruction.
 abbrev pub WriteAll : List (List ℕ) → List Insn → Type 0
 WriteAll [] is = is ≡ []
-WriteAll (line ∷ lines) is = MatchBool (is_skipped line) (WriteAll lines is) (WritesFirst line is (λ rest. WriteAll lines rest))
+WriteAll (line ∷ lines) is =
+    MatchBool (is_skipped line) (WriteAll lines is) (WritesFirst line is (λ rest. WriteAll lines rest))
 
 -- A text is the text of a program.
 abbrev pub ProgramText : List ℕ → List Insn → Type 0
@@ -204,7 +206,8 @@ pub record StandsAt (text line : List ℕ) (n : ℕ) (insns : List Insn) : Type 
 -- The first fault of a text: in line n, behind lines without one; the line with which the program is too long, behind
 -- lines without a fault; or none, and memory was refused.
 abbrev pub IsFirstFault : List ℕ → AsmFault → Type 0
-IsFirstFault text (faults.Line n cause) = (line : List ℕ) × (insns : List Insn) × StandsAt text line n insns × HasCause line cause
+IsFirstFault text (faults.Line n cause) =
+    (line : List ℕ) × (insns : List Insn) × StandsAt text line n insns × HasCause line cause
 IsFirstFault text (faults.ProgramTooLong n) =
     (line : List ℕ) × (insns : List Insn) × (i : Insn) × StandsAt text line n insns × Writes line i
     × (most_bytes < length (joined insns) + length (spelling i))

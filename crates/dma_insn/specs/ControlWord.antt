@@ -28,7 +28,11 @@ size_code Sixteen = 4
 -- the size of a code, if it is not reserved
 abbrev pub size_of : ℕ → Option BeatSize
 size_of c =
-    if c == 0 then Some One else (if c == 1 then Some Two else (if c == 2 then Some Four else (if c == 3 then Some Eight else (if c == 4 then Some Sixteen else None))))
+    if c == 0 then Some One else (
+    if c == 1 then Some Two else (
+    if c == 2 then Some Four else (
+    if c == 3 then Some Eight else (
+    if c == 4 then Some Sixteen else None))))
 
 -- the bytes of one beat
 abbrev pub beat_bytes : BeatSize → ℕ

@@ -69,7 +69,8 @@ pub record StopsAt (bytes : List ℕ) (offset : ℕ) (fault : DecodeFault) : Typ
   pub fault_is : decoded rest ≡ Err fault
   pub refused : IsRefusedFor rest fault
   pub none : (i : Insn) (n : ℕ) → IsSpelledAt rest i n → ⊥
-  pub longest : (others : List Insn) (more : List ℕ) → AllInRange others → bytes ≡ joined others ++ more → length (joined others) ≤ offset
+  pub longest : (others : List Insn) (more : List ℕ) → AllInRange others → bytes ≡ joined others ++ more
+      → length (joined others) ≤ offset
 
 -- Why bytes have no text: they are no spellings joined; or they are, and memory was refused.
 abbrev pub IsDisFault : List ℕ → DisFault → Type 0
@@ -88,7 +89,9 @@ DisassemblyAssembles =
 pub record DisassemblyTells : Type 0 where
   pub one : (bytes : List ℕ) → ((i : ℕ) → slice_index bytes i < 256)
       → ((text : List ℕ) × Disassembles bytes text) ⊎ ((offset : ℕ) × (fault : DecodeFault) × StopsAt bytes offset fault)
-  pub not_both : (bytes text : List ℕ) (offset : ℕ) (fault : DecodeFault) → Disassembles bytes text → StopsAt bytes offset fault → ⊥
+  pub not_both : (bytes text : List ℕ) (offset : ℕ) (fault : DecodeFault) → Disassembles bytes text
+      → StopsAt bytes offset fault → ⊥
   pub one_text : (bytes text other : List ℕ) → Disassembles bytes text → Disassembles bytes other → text ≡ other
   pub one_way : (text : List ℕ) (insns : List Insn) → AllInRange insns → ProgramText text insns
-      → list_any is_skipped (text_lines text) ≡ false → text ≡ flat_map (λ line. line ++ 10 ∷ []) (text_lines text) → text ≡ text_of insns
+      → list_any is_skipped (text_lines text) ≡ false → text ≡ flat_map (λ line. line ++ 10 ∷ []) (text_lines text)
+      → text ≡ text_of insns

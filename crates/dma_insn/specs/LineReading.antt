@@ -225,11 +225,13 @@ at_line n (Err cause) = Err (Line n cause)
 
 -- a program with one more instruction
 abbrev pub with_insn : ℕ → List ℕ → Insn → Result (List ℕ) AsmFault
-with_insn n program i = if nat_le (length program + length (spelling i)) 8192 then Ok (program ++ spelling i) else Err (ProgramTooLong n)
+with_insn n program i =
+    if nat_le (length program + length (spelling i)) 8192 then Ok (program ++ spelling i) else Err (ProgramTooLong n)
 
 -- a program after line n
 unfoldable pub after_line : ℕ → List ℕ → List ℕ → Result (List ℕ) AsmFault
-after_line n program line = if is_skipped line then Ok program else (at_line n (line_in (words_of line)) >>= with_insn n program)
+after_line n program line =
+    if is_skipped line then Ok program else (at_line n (line_in (words_of line)) >>= with_insn n program)
 
 -- a program after the lines that follow n others
 abbrev pub after_lines : ℕ → List ℕ → List (List ℕ) → Result (List ℕ) AsmFault
@@ -246,7 +248,8 @@ assembled text = after_lines 0 [] (text_lines text)
 -- where it does; and its first fault, exactly where it has one.
 pub record ReadingTells : Type 0 where
   pub program : (text bytes : List ℕ) → (assembled text ≡ Ok bytes) ↔ Assembles text bytes
-  pub fault : (text : List ℕ) (fault : AsmFault) → (assembled text ≡ Err fault) ↔ ((fault ≢ NoMemory) × IsFirstFault text fault)
+  pub fault : (text : List ℕ) (fault : AsmFault)
+      → (assembled text ≡ Err fault) ↔ ((fault ≢ NoMemory) × IsFirstFault text fault)
 
 -- What a function returned, seen by view, is what reading gives; or memory was refused where reading gives bytes.
 abbrev pub AnswersAs : {X : Type 0} → (X → List ℕ) → Result X AsmFault → Result (List ℕ) AsmFault → Type 0

@@ -1,5 +1,5 @@
-//! The bytes of a program while it is assembled, in a buffer of their own, so that nothing is asked of the allocator before the
-//! whole text is known to be right.
+//! The bytes of a program while it is assembled, in a buffer of their own, so that nothing is asked of the allocator before
+//! the whole text is known to be right.
 
 ghost use Rattle.std.specs.Prelude.{◌≡◌, ◌+◌, [], ◌++◌, length, nat_le, if◌then◌else◌, IfOk};
 ghost use Rattle.dma_insn.specs.Spelling.{spelling};

@@ -11,8 +11,8 @@ use byteorder::{ByteOrder, LittleEndian};
 use thiserror::Error;
 
 /// Why bytes begin no instruction, in the order in which the causes are tested: no byte at all is `Cut`, a first byte that
-/// begins no instruction is `Unknown`, too few bytes behind it are `Cut`, and a register or an event byte outside the grammar
-/// is `BadField`.
+/// begins no instruction is `Unknown`, too few bytes behind it are `Cut`, and a register or an event byte outside the
+/// grammar is `BadField`.
 #[derive(Clone, Copy, PartialEq, Eq, Debug, Error)]
 pub enum DecodeFault {
     #[error("the bytes end within an instruction")]

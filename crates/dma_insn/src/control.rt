@@ -316,7 +316,8 @@ impl Control {
     }
 }
 
-/// A control word that is accepted: no size is reserved, no swap is asked for, and bit 31 is clear. A contract sees the word.
+/// A control word that is accepted: no size is reserved, no swap is asked for, and bit 31 is clear. A contract sees the
+/// word.
 #[derive(Clone, Copy, PartialEq, Eq, Debug)]
 pub struct ControlWord {
     bits: u32,

@@ -1,4 +1,5 @@
-//! One channel instruction as a value. Its types keep the ranges of what it carries, so that no value is outside the grammar.
+//! One channel instruction as a value. Its types keep the ranges of what it carries, so that no value is outside the
+//! grammar.
 
 ghost use Rattle.std.specs.Prelude.{◌≡◌, ℕ, ◌<◌, ◌≤◌, ◌↔◌, IsSome, IfSome};
 
@@ -112,8 +113,8 @@ impl Times {
     }
 }
 
-/// One channel instruction (PL330 manual, instruction chapter). The field `back` of a loop's end is how many bytes before its
-/// own address the loop's body begins.
+/// One channel instruction (PL330 manual, instruction chapter). The field `back` of a loop's end is how many bytes before
+/// its own address the loop's body begins.
 #[derive(Clone, Copy, PartialEq, Eq, Debug)]
 pub enum Insn {
     /// DMAMOV

@@ -26,7 +26,8 @@ refusal line = record { groups = (line ∷ []) ∷ []; status = 1 }
 
 -- What is printed for an input of any length, given what is printed for one that is not too long (profile).
 abbrev pub printed_within : (List ℕ → Printed) → List ℕ → Printed
-printed_within printed input = if nat_lt longest_input (length input) then refusal (codes "line 0: InputTooLong") else printed input
+printed_within printed input =
+    if nat_lt longest_input (length input) then refusal (codes "line 0: InputTooLong") else printed input
 
 -- the new bytes are the old ones and then the text of the first groups, at least one group being left out
 pub record AppendsGroups (groups : List (List (List ℕ))) (old new : List ℕ) : Type 0 where
@@ -52,19 +53,27 @@ Unfailed stream = stream.after → stream.before
 -- and one line says so; or the writer failed. Where no stream is named, no call of a stream failed: a failure is never
 -- tried again and hidden.
 pub data Ends (reader writer : Failures) (printed : Printed) (old new : Option (List ℕ)) (status : ℕ) : Type 0 where
-  complete : Unfailed reader → Unfailed writer → Appends old new (printed_text printed.groups) → status ≡ printed.status → Ends reader writer printed old new status
-  out_of_memory : Unfailed reader → Unfailed writer → (count : ℕ) → count < length printed.groups → Appends old new (printed_text (take count printed.groups)) → status ≡ 3 → Ends reader writer printed old new status
-  input_fault : reader.after → Unfailed writer → Appends old new (text_of (codes "input failed" ∷ [])) → status ≡ 1 → Ends reader writer printed old new status
+  complete : Unfailed reader → Unfailed writer → Appends old new (printed_text printed.groups) → status ≡ printed.status
+      → Ends reader writer printed old new status
+  out_of_memory : Unfailed reader → Unfailed writer → (count : ℕ) → count < length printed.groups
+      → Appends old new (printed_text (take count printed.groups)) → status ≡ 3 → Ends reader writer printed old new status
+  input_fault : reader.after → Unfailed writer → Appends old new (text_of (codes "input failed" ∷ [])) → status ≡ 1
+      → Ends reader writer printed old new status
   output_fault : writer.after → status ≡ 1 → Ends reader writer printed old new status
 
 -- How a text was written, and the status that came of it.
 abbrev pub Wrote : Failures → Option (List ℕ) → Option (List ℕ) → List ℕ → ℕ → ℕ → Type 0
-Wrote writer old new text status result = ((result ≡ status) × Appends old new text × Unfailed writer) ⊎ ((result ≡ 1) × writer.after)
+Wrote writer old new text status result =
+    ((result ≡ status) × Appends old new text × Unfailed writer) ⊎ ((result ≡ 1) × writer.after)
 
 -- How a call ends that has no input to carry out.
-pub data EndsUnread (input : Option (List ℕ)) (reader writer : Failures) (old new : Option (List ℕ)) (status : ℕ) : Type 0 where
-  reader_failed : reader.after → Wrote writer old new (text_of (codes "input failed" ∷ [])) 1 status → EndsUnread input reader writer old new status
-  too_long : IfSome input (λ all. longest_input < length all) → Unfailed reader → Wrote writer old new (text_of (codes "line 0: InputTooLong" ∷ [])) 1 status → EndsUnread input reader writer old new status
+pub data EndsUnread
+    (input : Option (List ℕ)) (reader writer : Failures) (old new : Option (List ℕ)) (status : ℕ) : Type 0 where
+  reader_failed : reader.after → Wrote writer old new (text_of (codes "input failed" ∷ [])) 1 status
+      → EndsUnread input reader writer old new status
+  too_long : IfSome input (λ all. longest_input < length all) → Unfailed reader
+      → Wrote writer old new (text_of (codes "line 0: InputTooLong" ∷ [])) 1 status
+      → EndsUnread input reader writer old new status
   no_memory : Unfailed reader → Unfailed writer → new ≡ old → status ≡ 3 → EndsUnread input reader writer old new status
 
 -- ---- where the input alone doesn't settle what is printed
@@ -72,7 +81,8 @@ pub data EndsUnread (input : Option (List ℕ)) (reader writer : Failures) (old 
 -- What may be printed for an input of any length, given what may be for one that is not too long (profile).
 abbrev pub may_print_within : (List ℕ → Printed → Type 0) → List ℕ → Printed → Type 0
 may_print_within may input printed =
-    ((longest_input < length input) × (printed ≡ refusal (codes "line 0: InputTooLong"))) ⊎ ((length input ≤ longest_input) × may input printed)
+    ((longest_input < length input) × (printed ≡ refusal (codes "line 0: InputTooLong")))
+    ⊎ ((length input ≤ longest_input) × may input printed)
 
 -- All of something that may be printed was appended, with its status.
 pub record MayComplete (may : Printed → Type 0) (status : ℕ) (old new : List ℕ) : Type 0 where

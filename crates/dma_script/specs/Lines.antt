@@ -1,5 +1,6 @@
 -- How a script is read, line by line, up to its first fault (profile). What a line means is a step: it takes what was read
--- so far and the words of a line, and gives what is read then, or the cause of a fault. Each kind of script has its own step.
+-- so far and the words of a line, and gives what is read then, or the cause of a fault. Each kind of script has its own
+-- step.
 use Rattle.std.specs.Prelude.{◌≡◌, ℕ, ◌+◌, Bool, true, ◌==◌, not, if◌then◌else◌, List, [], ◌∷◌, slice_index, Result, Ok, Err}
 use Rattle.std.specs.List.{list_all, position_or_len}
 use Rattle.std.specs.Str.Lines.{lines}
@@ -19,7 +20,9 @@ is_skipped (word ∷ more) = slice_index word 0 == 35
 
 -- What is read after a line: a skipped one changes nothing, and a byte that is not plain is the first cause.
 abbrev pub after_line : {S : Type 0} → (S → List (List ℕ) → Result S Cause) → S → List ℕ → Result S Cause
-after_line step read line = if is_skipped (words_of line) then Ok read else (if list_all is_plain line then step read (words_of line) else Err Byte)
+after_line step read line =
+    if is_skipped (words_of line) then Ok read else (
+    if list_all is_plain line then step read (words_of line) else Err Byte)
 
 -- the fault of a line, with the number of the line
 abbrev pub at_line : {S : Type 0} → ℕ → Result S Cause → Result S Fault

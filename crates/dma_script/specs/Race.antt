@@ -1,5 +1,5 @@
--- The lines of a race script (profile): those before `go`, with jobs among them, and those after it. A line is tested for its
--- side of `go` before it is tested for being the first.
+-- The lines of a race script (profile): those before `go`, with jobs among them, and those after it. A line is tested for
+-- its side of `go` before it is tested for being the first.
 use Rattle.std.specs.Prelude.{ℕ, ◌≤◌, ◌&&◌, Bool, true, false, nat_le, nat_lt, if◌then◌else◌, List, [], ◌∷◌, ◌++◌, length, Option, Some, None, IfSome, Result, Ok, Err, codes}
 use Rattle.std.specs.List.{All}
 use Rattle.std.specs.Option.{ok_or, option_map}

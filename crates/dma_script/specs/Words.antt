@@ -28,7 +28,10 @@ words_of line = filter (λ word. not (length word == 0)) (slice_split is_blank l
 
 -- the number that one or more digits of a base spell, where it is below 2 ^ 32
 abbrev pub number_in : ℕ → List ℕ → Option ℕ
-number_in base digits = if not (length digits == 0) && list_all (λ c. nat_lt (digit_value c) base) digits && nat_lt (digits_value base digits) (2 ^ 32) then Some (digits_value base digits) else None
+number_in base digits =
+    if not (length digits == 0) && list_all (λ c. nat_lt (digit_value c) base) digits
+        && nat_lt (digits_value base digits) (2 ^ 32)
+    then Some (digits_value base digits) else None
 
 -- 0x and hexadecimal digits in either case, or decimal digits
 abbrev pub number_of : List ℕ → Option ℕ
@@ -36,7 +39,10 @@ number_of word = if starts_with nat_eq word (codes "0x") then number_in 16 (drop
 
 -- ADDR+LEN: a number before the first plus, and a number after it
 abbrev pub segment_of : List ℕ → Option Segment
-segment_of word = option_and_then (λ plus. option_and_then (λ addr. option_map (λ len. record { addr = addr; len = len }) (number_of (drop (plus + 1) word))) (number_of (take plus word))) (position (λ b. b == 43) word)
+segment_of word =
+    option_and_then (λ plus.
+    option_and_then (λ addr. option_map (λ len. record { addr = addr; len = len }) (number_of (drop (plus + 1) word)))
+    (number_of (take plus word))) (position (λ b. b == 43) word)
 
 -- what each part is, where each is something
 abbrev pub each_of : {A : Type 0} → List (Option A) → Option (List A)
@@ -60,4 +66,6 @@ hex_pair_of a b = option_and_then (λ high. option_map (λ low. 16 * high + low)
 abbrev pub bytes_in : List ℕ → Option (List ℕ)
 bytes_in [] = Some []
 bytes_in (a ∷ []) = None
-bytes_in (a ∷ b ∷ rest) = option_and_then (λ high. option_and_then (λ low. option_map (λ more. (16 * high + low) ∷ more) (bytes_in rest)) (hex_digit_of b)) (hex_digit_of a)
+bytes_in (a ∷ b ∷ rest) =
+    option_and_then (λ high.
+    option_and_then (λ low. option_map (λ more. (16 * high + low) ∷ more) (bytes_in rest)) (hex_digit_of b)) (hex_digit_of a)

@@ -99,8 +99,8 @@ pub trait OpenCommand {
     // What it may print for an input that is not too long.
     ghost may_print: { List ℕ → Printed → Type 0 };
 
-    /// Appends a text that may be printed, and gives its status. Where memory is refused, exactly the text of the first groups
-    /// of such a text is appended, at least one group being left out.
+    /// Appends a text that may be printed, and gives its status. Where memory is refused, exactly the text of the first
+    /// groups of such a text is appended, at least one group being left out.
     fn answer<H: Threads + Wait + Sync>(
         &self,
         rt: &H,

@@ -7,7 +7,8 @@ pub fn first_causes_are_told()
     ensures { FirstCausesAreTold }
 {}
 
-/// Of a script the fault of its first faulty line is told; where there is none, that it has no line, or a race script no `go`.
+/// Of a script the fault of its first faulty line is told; where there is none, that it has no line, or a race script no
+/// `go`.
 pub fn first_faults_are_told()
     ensures { FirstFaultsAreTold }
 {}

@@ -1,4 +1,5 @@
-//! The lines that are printed, and their parts. A line is appended whole or not at all; what is said of a part is said of Ok.
+//! The lines that are printed, and their parts. A line is appended whole or not at all; what is said of a part is said of
+//! Ok.
 ghost use Rattle.std.specs.Prelude.{◌≡◌, ◌++◌, ◌∷◌, [], IfOk, OnErr, OnOk};
 ghost use Rattle.dma_script.specs.Command.{text_of};
 ghost use Rattle.dma_script.specs.Printing.{fault_line, hex_address, hex_byte_of, program_lines, row_line, spaced_bytes};

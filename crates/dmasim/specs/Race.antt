@@ -61,7 +61,8 @@ raced_refused early name = record { groups = [] ∷ alone early ++ (refused_line
 -- for the reader of statuses, or a tally that is missing (no script is known to meet either).
 pub data RacePrints (script : RaceScript) (p : Printed) : Type 0 where
   whole : (early : List (List ℕ)) → EachPrints script.before.statements early
-      → (steps finished : ℕ) (v : View) → Leaves steps finished v → p ≡ raced_whole early steps finished v script.after → RacePrints script p
+      → (steps finished : ℕ) (v : View) → Leaves steps finished v
+      → p ≡ raced_whole early steps finished v script.after → RacePrints script p
   no_reader : p ≡ raced_refused [] (codes "NoReader") → RacePrints script p
   missing_tally : (early : List (List ℕ)) → EachPrints script.before.statements early
       → p ≡ raced_refused early (codes "MissingTally") → RacePrints script p

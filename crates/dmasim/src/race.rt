@@ -239,8 +239,16 @@ impl OpenCommand for Race {
     }
 
     ghost some_print = { λ input. elim (race_script_of input) as (λ read. MayAppend (race_prints_of read) [] []) [
-      | Ok script ↦ record { printed = raced_refused [] (codes "NoReader"); allowed = no_reader refl; first = record { count = 0; some_left = zero-lt-suc _; whole = refl } }
-      | Err fault ↦ record { printed = refusal (fault_line fault); allowed = refl; first = record { count = 0; some_left = zero-lt-suc _; whole = refl } }
+      | Ok script ↦ record {
+        printed = raced_refused [] (codes "NoReader");
+        allowed = no_reader refl;
+        first = record { count = 0; some_left = zero-lt-suc _; whole = refl };
+      }
+      | Err fault ↦ record {
+        printed = refusal (fault_line fault);
+        allowed = refl;
+        first = record { count = 0; some_left = zero-lt-suc _; whole = refl };
+      }
     ] };
 }
 

@@ -12,7 +12,8 @@ use Rattle.dma_work.specs.Ticks.{base_of, board_from}
 -- what is published ends with the ticks of the history, and nothing is pending; what stands before them adds up to the
 -- counts from which the history begins; and the book is the rise of step count and finished cookies.
 pub record IsKept
-    (steps finished : ℕ) (base : Board) (log : Book) (before : List Tick) (engine : EngineState) (p : Publication) (book : Totals)
+    (steps finished : ℕ) (base : Board) (log : Book) (before : List Tick) (engine : EngineState) (p : Publication)
+    (book : Totals)
     : Type 0 where
   pub shown : p.shown ≡ record { base = base; ticks = before ++ ticks_of engine.view.history; log = log }
   pub pending : p.pending ≡ []

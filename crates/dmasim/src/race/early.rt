@@ -310,8 +310,8 @@ impl<N: DeskName, R: Wait> Interpreter for LinesOnDesk<'_, N, R> {
     }
 }
 
-/// Carries out the lines before `go`, each of which is done with then. Where memory is refused, what the lines before printed
-/// stands there.
+/// Carries out the lines before `go`, each of which is done with then. Where memory is refused, what the lines before
+/// printed stands there.
 pub fn run_early_statements<N: DeskName, R: Wait>(
     rt: &R,
     alloc: Global,
