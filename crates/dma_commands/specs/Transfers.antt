@@ -8,7 +8,8 @@ use Rattle.dma_script.specs.declared.plan.TransferLine.{TransferLine}
 
 -- from the places of a list, or a fill from one place
 abbrev pub transfer_from : Origin → List Segment → Option ℕ → Option ℕ → Descriptor
-transfer_from (origins.List src) dst wait signal = record { fill = false; src = src; dst = dst; wait = wait; signal = signal }
+transfer_from (origins.List src) dst wait signal =
+    record { fill = false; src = src; dst = dst; wait = wait; signal = signal }
 transfer_from (origins.Byte src) dst wait signal = filling src dst wait signal
 
 -- the transfer of a line

@@ -186,7 +186,8 @@ Extends old new = (new.base ≡ old.base) × ((more : List Entry) × (new.histor
 -- Outcome number k is cookie k's, and never changes.
 abbrev pub KeepsOutcomes : View → View → Type 0
 KeepsOutcomes old new =
-    (ch cookie : ℕ) (x : Outcome) → result_of (object_of old) ch cookie ≡ Some x → result_of (object_of new) ch cookie ≡ Some x
+    (ch cookie : ℕ) (x : Outcome) → result_of (object_of old) ch cookie ≡ Some x
+    → result_of (object_of new) ch cookie ≡ Some x
 
 -- the replies to calls in order, where memory is not wanting
 abbrev pub answers : View → List Call → List Reply × View

@@ -98,7 +98,8 @@ abbrev pub BoardsOpen : Type 0
 BoardsOpen =
     (v : View) → IsSound v
     → (length (board_of v.base) ≡ channels v) × (channels v ≤ 8)
-    × ((ch : ℕ) → ((counts (board_of v.base) ch).used ≤ last_cookie) × ((counts (board_of v.base) ch).finished ≤ last_cookie))
+    × ((ch : ℕ)
+    → ((counts (board_of v.base) ch).used ≤ last_cookie) × ((counts (board_of v.base) ch).finished ≤ last_cookie))
 
 -- A history has no more ticks than entries.
 abbrev pub TicksAreFew : Type 0
@@ -106,4 +107,5 @@ TicksAreFew = (es : List Entry) → length (ticks_of es) ≤ length es
 
 -- Where the answer to a step is idle, the view is the one before.
 abbrev pub IdleStepsStay : Type 0
-IdleStepsStay = (v w : View) (ch : ℕ) (r : Result Turn EngineFault) → IsIdle r → (reply_of Turned r, w) ≡ answer v (Step ch) → w ≡ v
+IdleStepsStay =
+    (v w : View) (ch : ℕ) (r : Result Turn EngineFault) → IsIdle r → (reply_of Turned r, w) ≡ answer v (Step ch) → w ≡ v

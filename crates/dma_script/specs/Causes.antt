@@ -155,7 +155,8 @@ events _ = None
 abbrev pub one_to_list_and_events : Form → List (List ℕ) → Option (List Operand)
 one_to_list_and_events form (src ∷ to ∷ dst ∷ more) =
     if bytes_eq to (codes "to")
-    then option_map (λ rest. record { form = form; word = src } ∷ record { form = list; word = dst } ∷ rest) (events more) else None
+    then option_map (λ rest. record { form = form; word = src } ∷ record { form = list; word = dst } ∷ rest) (events more)
+    else None
 one_to_list_and_events form _ = None
 
 -- `LIST to LIST [wait E] [signal E]`, or `fill ADDR to LIST [wait E] [signal E]`: the word `fill` begins no list
@@ -268,7 +269,8 @@ race_asked side race_keywords.Go words =
 -- what a race script asks
 abbrev pub race_asks : RaceSide → List (List ℕ) → Asked
 race_asks side [] = no_command
-race_asks side (word ∷ words) = elim (race_keyword_of word) [ None ↦ no_command | Some keyword ↦ race_asked side keyword words ]
+race_asks side (word ∷ words) =
+    elim (race_keyword_of word) [ None ↦ no_command | Some keyword ↦ race_asked side keyword words ]
 
 -- how far a race script is, of which so much was read
 abbrev pub side_of : RaceRead → RaceSide
@@ -298,11 +300,13 @@ pub record FirstCausesAreTold : Type 0 where
 abbrev pub is_taken : List ℕ → Bool
 is_taken line = not (is_skipped (words_of line))
 
--- The first fault of some lines behind n others, given what is told of a line and what a line leaves of how far the script is.
+-- The first fault of some lines behind n others, given what is told of a line and what a line leaves of how far the script
+-- is.
 abbrev pub first_fault : {S : Type 0} → (S → List ℕ → Option Cause) → (S → List ℕ → S) → S → ℕ → List (List ℕ) → Option Fault
 first_fault test after side n [] = None
 first_fault test after side n (line ∷ rest) =
-    option_or (option_map (λ cause. record { line = n + 1; cause = cause }) (test side line)) (first_fault test after (after side line) (n + 1) rest)
+    option_or (option_map (λ cause. record { line = n + 1; cause = cause }) (test side line))
+    (first_fault test after (after side line) (n + 1) rest)
 
 -- a script is behind its first line from the first line on that is not skipped
 abbrev pub behind_after : Bool → List ℕ → Bool
@@ -355,13 +359,15 @@ no_go_fault input =
     if list_any (λ line. is_taken line && is_go (race_command_of (words_of line))) (lines input) then None
     else Some (record { line = 0; cause = causes.Go })
 
--- Of a whole script the fault of the first faulty line is told; where there is none, that there is no line, and of a race script
--- then that there is no `go`.
+-- Of a whole script the fault of the first faulty line is told; where there is none, that there is no line, and of a race
+-- script then that there is no `go`.
 pub record FirstFaultsAreTold : Type 0 where
   pub run : (input : List ℕ) → fault_told (run_script_of input)
-      ≡ option_or (first_fault (λ behind line. line_told (run_asks behind) line) behind_after false 0 (lines input)) (no_line_fault input)
+      ≡ option_or (first_fault (λ behind line. line_told (run_asks behind) line) behind_after false 0 (lines input))
+      (no_line_fault input)
   pub race : (input : List ℕ) → fault_told (race_script_of input)
       ≡ option_or (first_fault (λ side line. line_told (race_asks side) line) race_after at_start 0 (lines input))
       (option_or (no_line_fault input) (no_go_fault input))
   pub plan : (input : List ℕ) → fault_told (plan_of input)
-      ≡ option_or (first_fault (λ behind line. line_told (plan_asks behind) line) behind_after false 0 (lines input)) (no_line_fault input)
+      ≡ option_or (first_fault (λ behind line. line_told (plan_asks behind) line) behind_after false 0 (lines input))
+      (no_line_fault input)

@@ -1,5 +1,5 @@
--- The words of a transfer with its events, and the line of a plan script (profile). All words are counted before any is read,
--- and all are read before any is tested against a range.
+-- The words of a transfer with its events, and the line of a plan script (profile). All words are counted before any is
+-- read, and all are read before any is tested against a range.
 use Rattle.std.specs.Prelude.{ℕ, ◌==◌, if◌then◌else◌, Bool, true, false, List, [], ◌∷◌, length, Option, Some, None, Result, Ok, Err, codes}
 use Rattle.std.specs.Option.{ok_or, option_map}
 use Rattle.std.specs.Str.{bytes_eq}
@@ -25,7 +25,13 @@ pub record WordsOfTransfer : Type 0 where
 
 -- the bytes of the words
 abbrev pub seen_words : TransferWords → WordsOfTransfer
-seen_words words = record { fill = words.fill; src = words.src.now; dst = words.dst.now; wait = option_map (λ word. word.now) words.wait; signal = option_map (λ word. word.now) words.signal }
+seen_words words = record {
+  fill = words.fill;
+  src = words.src.now;
+  dst = words.dst.now;
+  wait = option_map (λ word. word.now) words.wait;
+  signal = option_map (λ word. word.now) words.signal;
+}
 
 -- the word after a fixed one, where that stands first, and the words that follow
 abbrev pub after_fixed : List ℕ → List (List ℕ) → Option (List ℕ) × List (List ℕ)

@@ -37,12 +37,25 @@ schedule_of q = record { paused = q.paused; taken = taken_of q.channel }
 -- the view of an engine of these parts
 abbrev pub view_of : Parts → View
 view_of p =
-    record { base = opening p.size (length p.queues); history = p.history; steps = p.steps; schedule = map schedule_of p.queues }
+    record {
+      base = opening p.size (length p.queues);
+      history = p.history;
+      steps = p.steps;
+      schedule = map schedule_of p.queues;
+    }
 
 -- a queue to which nothing was submitted
 abbrev pub new_queue : Queue
 new_queue =
-    record { indices = record { items = []; spare = 0 }; outcomes = record { items = []; spare = 0 }; issued = 0; paused = false; halted = false; channel = no_program; ranges = None }
+    record {
+      indices = record { items = []; spare = 0 };
+      outcomes = record { items = []; spare = 0 };
+      issued = 0;
+      paused = false;
+      halted = false;
+      channel = no_program;
+      ranges = None;
+    }
 
 -- a queue whose front, which this is and has these ranges, starts
 abbrev pub queue_started : Queue → Descriptor → Ranges → Queue
@@ -56,7 +69,8 @@ IsRun memory m c = IfSome m.program (λ _. IsSomeAnd (front c) (λ t. IsAt t m.t
 pub record IsQueue (ch : ℕ) (history : List Entry) (memory : List ℕ) (q : Queue) (c : ChannelState) : Type 0 where
   pub many : length q.indices.items ≡ used c
   pub stands : (k : ℕ) → k < used c →
-      slice_get history (slice_index q.indices.items k) ≡ Some (Submitted ch (slice_index_or c.submitted k no_transfer) (k + 1))
+      slice_get history (slice_index q.indices.items k)
+      ≡ Some (Submitted ch (slice_index_or c.submitted k no_transfer) (k + 1))
   pub outcomes : q.outcomes.items ≡ c.outcomes
   pub issued : q.issued ≡ c.issued
   pub halted : q.halted ≡ c.halted
