@@ -161,8 +161,7 @@ fn fill(buffer: &mut HeapCircularBuffer<u8>, bytes: &[u8], rounds: u32)
     }
 }
 
-// Loads the bytes of a burst into the buffer: those of one page in place, and by the block those that lie on two pages,
-// or on one that isn't made.
+// Loads the bytes of a burst into the buffer: those of one page in place, and by the block those that lie on two pages.
 #[tactic(auto, using(crate::proofs::BurstRounds::read_touched))]
 fn load_span(burst: Burst, buffer: &mut HeapCircularBuffer<u8>, block: &mut [u8], memory: &Memory)
     requires limit { (burst.size ≤ 16) × (burst.beats ≤ 16) }

@@ -239,18 +239,6 @@ read_found size pages addr n buf e h read =
     ext_get_or 0 buf (take n (drop addr image)) (e ∙ sym long) (λ k l.
     read k l ∙ sym (get_or-image_of size pages (addr + k) (omega arith)) ∙ sym (get_or-take n (drop addr image) k 0 (omega arith) ∙ get_or-drop addr image k 0))
 
--- the bytes of one page from an address on are those of the image
-pub part_found : (size : ℕ) (pages : List (List ℕ)) (addr n : ℕ) → addr + n ≤ size → length (page_at pages (addr / 4096)) ≤ 4096 → addr % 4096 + n ≤ length (page_at pages (addr / 4096)) → take n (drop (addr % 4096) (page_at pages (addr / 4096))) ≡ take n (drop addr (image_of size pages))
-part_found size pages addr n h whole fits =
-    let page = page_at pages (addr / 4096) in
-    let part = take n (drop (addr % 4096) page) in
-    let long : length part ≡ n = omega (arith, length-take n (drop (addr % 4096) page), length-drop (addr % 4096) page) in
-    read_found size pages addr n part long h (λ k l.
-    let number : addr / 4096 ≡ (addr + k) / 4096 = omega (arith, long) in
-    let offset : addr % 4096 + k ≡ (addr + k) % 4096 = omega (arith, long) in
-    get_or-take n (drop (addr % 4096) page) k 0 (omega (arith, long)) ∙ get_or-drop (addr % 4096) page k 0
-    ∙ ap (λ x. get_or page x 0) offset ∙ ap (λ p. get_or (page_at pages p) ((addr + k) % 4096) 0) number)
-
 -- ---- by what contracts see of pages
 
 -- their size is the image's
@@ -261,8 +249,3 @@ size_seen size pages m is = ap (λ (p : Paged). length p.image) (sym is) ∙ len
 pub read_seen : (size : ℕ) (pages : List (List ℕ)) (m : Paged) → paged size pages ≡ m → (addr n : ℕ) (buf : List ℕ) → length buf ≡ n → addr + n ≤ length m.image → ((k : ℕ) → k < length buf → get_or buf k 0 ≡ get_or (page_at pages ((addr + k) / 4096)) ((addr + k) % 4096) 0) → buf ≡ take n (drop addr m.image)
 read_seen size pages m is addr n buf long within bytes =
     read_found size pages addr n buf long (omega (arith, within, size_seen size pages m is)) bytes ∙ ap (λ (p : Paged). take n (drop addr p.image)) is
-
--- and so are bytes of one page
-pub part_seen : (size : ℕ) (pages : List (List ℕ)) (m : Paged) → paged size pages ≡ m → (addr n : ℕ) → addr + n ≤ length m.image → length (page_at pages (addr / 4096)) ≤ 4096 → addr % 4096 + n ≤ length (page_at pages (addr / 4096)) → take n (drop (addr % 4096) (page_at pages (addr / 4096))) ≡ take n (drop addr m.image)
-part_seen size pages m is addr n within whole fits =
-    part_found size pages addr n (omega (arith, within, size_seen size pages m is)) whole fits ∙ ap (λ (p : Paged). take n (drop addr p.image)) is

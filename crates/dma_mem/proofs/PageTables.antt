@@ -1,13 +1,20 @@
 -- Pages in groups.
-use Rattle.std.proofs.Common.{◌≡◌, ◌≢◌, ℕ, ◌+◌, ◌*◌, ◌/◌, ◌%◌, ◌<◌, ◌≤◌, List, [], length, get_or, set, ap, sym, ◌∙◌, arith, inl, inr}
+use Rattle.std.proofs.Common.{◌≡◌, ◌≢◌, ℕ, ◌+◌, ◌*◌, ◌/◌, ◌%◌, ◌<◌, ◌≤◌, List, [], length, get_or, replicate, set, ap, sym, ◌∙◌, arith, inl, inr}
 use Rattle.std.proofs.lemmas.Bool.{cases_lt, cases_eq}
-use Rattle.std.proofs.lemmas.List.{ext_get_or, length-set, get_or-set_same, get_or-set_other, get_or_past, get_or_default}
+use Rattle.std.proofs.lemmas.List.{ext_get_or, length-set, get_or-set_same, get_or-set_other, get_or_past, get_or_default, length-replicate, get_or-replicate}
 use Rattle.std.proofs.lemmas.List.FromFn.{length-map-range_with_len, get_or-map-range_with_len}
 use Rattle.std.specs.Prelude.{unwrap_or}
 use Rattle.dma_mem.specs.Image.{put, bytes_at}
 use Rattle.dma_mem.specs.inner.PageTable.{page_at, flat, IsLaid}
 use Rattle.dma_mem.proofs.ImagePut.{length-put, get_or-put}
 use Rattle.dma_mem.proofs.BytesPut.{lookup-bytes_past}
+
+-- a list of zeros has a zero at each place, and past its end
+pub zero_at : (n k : ℕ) → get_or {A = ℕ} (replicate n 0) k 0 ≡ 0
+zero_at n k = elim (cases_lt k n) [
+  | inl l ↦ get_or-replicate n k 0 0 l
+  | inr l ↦ get_or_past (replicate n 0) k 0 (omega (arith, length-replicate {A = ℕ} n 0, l))
+]
 
 -- bytes that are put into a page are laid
 pub laid-put : (page : List ℕ) (offset : ℕ) (bs : List ℕ) → offset + length bs ≤ length page → IsLaid page offset bs (put page (bytes_at offset bs))

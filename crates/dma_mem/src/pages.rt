@@ -84,17 +84,17 @@ impl Pages {
         end <= self.size as usize && self.table.are_made(start, end)
     }
 
-    /// The bytes from an address on, so many, in place, where one page that is made has them all: a look-up and no copy.
+    /// The bytes from an address on, so many, in place, where one page has them all: a look-up and no copy.
     pub fn part(&self, addr: u32, len: u32) -> Option<&[u8]>
         requires { addr + len ≤ length self.now.image }
         ensures bytes { IfSome result (λ part. part.now ≡ take len (drop addr self.now.image)) }
-        ensures some { has_page self.now (addr / 4096) ≡ true → addr % 4096 + len ≤ 4096 → IsSome result }
+        ensures some { addr % 4096 + len ≤ 4096 → IsSome result }
     {
         self.table.part(addr as usize, len as usize)
     }
 
-    /// The bytes from an address on, as many as the block has: in place where one page that is made has them all, else the
-    /// block, filled with them.
+    /// The bytes from an address on, as many as the block has: in place where one page has them all, else the block, filled
+    /// with them.
     pub fn bytes<'a>(&'a self, addr: u32, block: &'a mut [u8]) -> &'a [u8]
         requires { addr + length block.old ≤ length self.now.image }
         ensures { result.now ≡ take (length block.old) (drop addr self.now.image) }

@@ -13,6 +13,9 @@ pub(crate) const PAGE_SIZE: usize = 4096;
 // How many pages stand in one group of the table.
 const GROUP_SIZE: usize = 1024;
 
+// What a page that isn't made reads as.
+static BLANK_PAGE: [u8; PAGE_SIZE] = [0; PAGE_SIZE];
+
 // So many zeros.
 fn zeros(alloc: Global, len: usize) -> Result<Vec<u8>, AllocError>
     ensures len { IfOk result (λ v. length v.items ≡ len) }
@@ -346,34 +349,32 @@ impl Table {
     }
 }
 
-// Fills the slice with the bytes of a page from an offset on, with zeros where it isn't made.
-fn read_page(page: &[u8], offset: usize, part: &mut [u8])
-    requires whole { 0 < length page.now → length page.now ≡ 4096 }
-    requires fits { offset + length part.old ≤ 4096 }
-    ensures { (k : ℕ) → k < length part.new → slice_index part.new k ≡ slice_index page.now (offset + k) }
+// The bytes of a page, which reads as zeros where it isn't made.
+fn shown(page: &[u8]) -> &[u8]
+    requires { 0 < length page.now → length page.now ≡ 4096 }
+    ensures len { length result.now ≡ 4096 }
+    ensures bytes { (k : ℕ) → slice_index result.now k ≡ slice_index page.now k }
 {
     if page.is_empty() {
-        part.fill(0);
-    } else {
-        part.copy_from_slice(&page[offset..offset + part.len()]);
+        return &BLANK_PAGE;
     }
+    page
 }
 
 // By addresses: page after page, each of 4,096 bytes. The loops over pages stand out of line: a burst mostly lies on one
 // page, and a channel's loop of instructions has no room for them.
 impl Table {
-    /// The bytes from `start` on, so many, where they stand on one page that is made.
+    /// The bytes from `start` on, so many, where they stand on one page.
     pub(crate) fn part(&self, start: usize, len: usize) -> Option<&[u8]>
         requires { start + len < 2 ^ 33 }
-        ensures bytes { IfSome result (λ part. (part.now ≡ take len (drop (start % 4096) (page_at self.now (start / 4096)))) × (start % 4096 + len ≤ length (page_at self.now (start / 4096)))) }
-        ensures whole { length (page_at self.now (start / 4096)) ≤ 4096 }
-        ensures some { 0 < length (page_at self.now (start / 4096)) → start % 4096 + len ≤ 4096 → IsSome result }
+        ensures bytes { IfSome result (λ part. (length part.now ≡ len) × ((k : ℕ) → k < length part.now → slice_index part.now k ≡ slice_index (page_at self.now ((start + k) / 4096)) ((start + k) % 4096))) }
+        ensures some { start % 4096 + len ≤ 4096 → IsSome result }
     {
-        let page = self.page(start / PAGE_SIZE);
         let offset = start % PAGE_SIZE;
-        if offset + len > page.len() {
+        if offset + len > PAGE_SIZE {
             return None;
         }
+        let page = shown(self.page(start / PAGE_SIZE));
         Some(&page[offset..offset + len])
     }
 
@@ -388,11 +389,8 @@ impl Table {
             let at = start + done;
             let offset = at % PAGE_SIZE;
             let count = (PAGE_SIZE - offset).min(buf.len() - done);
-            read_page(
-                self.page(at / PAGE_SIZE),
-                offset,
-                &mut buf[done..done + count],
-            );
+            let page = shown(self.page(at / PAGE_SIZE));
+            buf[done..done + count].copy_from_slice(&page[offset..offset + count]);
             done += count;
         }
     }

@@ -1,5 +1,5 @@
-use Rattle.std.proofs.Common.{length, ◌∙◌, arith}
-use Rattle.dma_mem.proofs.PageImages.{size_seen, read_seen, part_seen}
+use Rattle.std.proofs.Common.{length, arith}
+use Rattle.dma_mem.proofs.PageImages.{size_seen, read_seen}
 use Rattle.dma_mem.proofs.pages.Pages.bytes.Goals as goal
 
 pub part-requires : goal.part-requires
@@ -14,8 +14,7 @@ read-requires c =
 
 pub returns-in-Some : goal.returns-in-Some
 returns-in-Some c =
-    c.in-Some.ensures.bytes.0
-    ∙ part_seen c.self.inside.size c.self.inside.table c.args.self.now c.self.view_is c.args.addr (length c.args.block.now) (omega (arith, c.requires)) c.part.ensures.whole c.in-Some.ensures.bytes.1
+    read_seen c.self.inside.size c.self.inside.table c.args.self.now c.self.view_is c.args.addr (length c.args.block.now) c.in-Some.part.now c.in-Some.ensures.bytes.0 (omega (arith, c.requires)) c.in-Some.ensures.bytes.1
 
 pub returns : goal.returns
 returns c =

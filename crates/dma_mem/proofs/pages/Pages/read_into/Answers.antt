@@ -1,5 +1,5 @@
 use Rattle.std.proofs.Common.{length, ◌∙◌, arith}
-use Rattle.dma_mem.proofs.PageImages.{size_seen, read_seen, part_seen}
+use Rattle.dma_mem.proofs.PageImages.{size_seen, read_seen}
 use Rattle.dma_mem.proofs.pages.Pages.read_into.Goals as goal
 
 pub part-requires : goal.part-requires
@@ -14,8 +14,8 @@ read-requires c =
 
 pub returns-in-Some : goal.returns-in-Some
 returns-in-Some c =
-    c.copy_from_slice.ensures.after ∙ c.in-Some.ensures.bytes.0
-    ∙ part_seen c.self.inside.size c.self.inside.table c.args.self.now c.self.view_is c.args.addr (length c.args.buf.now) (omega (arith, c.requires)) c.part.ensures.whole c.in-Some.ensures.bytes.1
+    c.copy_from_slice.ensures.after
+    ∙ read_seen c.self.inside.size c.self.inside.table c.args.self.now c.self.view_is c.args.addr (length c.args.buf.now) c.in-Some.part.now c.in-Some.ensures.bytes.0 (omega (arith, c.requires)) c.in-Some.ensures.bytes.1
 
 pub returns-in-None : goal.returns-in-None
 returns-in-None c =
