@@ -1,5 +1,5 @@
 -- The code of pieces, one after the other: its bytes and its cost.
-use Rattle.std.proofs.Common.{◌≡◌, ℕ, zero, suc, ◌+◌, ◌*◌, ◌/◌, ◌%◌, ◌^◌, ◌<◌, ◌≤◌, List, [], ◌∷◌, ◌++◌, length, refl, sym, ap, ◌∙◌, arith, drop, get_or, map, drop-cons, add-one, append_assoc, length-append, Option, Some, None, Bool, true, false, subst}
+use Rattle.std.proofs.Common.{◌≡◌, ℕ, zero, suc, ◌+◌, ◌*◌, ◌/◌, ◌%◌, ◌^◌, ◌<◌, ◌≤◌, List, [], ◌∷◌, ◌++◌, length, refl, sym, ap, ◌∙◌, arith, drop, get_or, map, drop-cons, add-one, append_assoc, append-nil, length-append, Option, Some, None, Bool, true, false, subst}
 use Rattle.std.specs.Prelude.{replicate, if◌then◌else◌}
 use Rattle.std.specs.List.{AllByRecursion, All, range_with_len, flat_map}
 use Rattle.std.proofs.lemmas.List.Elements.{All-from_recursion, All-head, All-tail}
@@ -85,6 +85,10 @@ fill_fits : (a : ℕ) (ds : List Segment) → a < 2 ^ 32 → byte_count ds ≤ 2
 fill_fits a [] low few all = tt
 fill_fits a (d ∷ ds) low few all = (record { some = all.0.0; below = omega arith; src = low; dst = all.0.1 }, fill_fits a ds low (omega arith) all.1)
 
+-- the pieces of a fill's one place
+pub fill_pieces-one : (a : ℕ) (src dst : List Segment) → src ≡ record { addr = a; len = 1 } ∷ [] → map (fill_piece a) dst ≡ fill_pieces src dst
+fill_pieces-one a src dst is = rw is (sym (append-nil (map (fill_piece a) dst)))
+
 cut_by : (fill : Bool) (src dst : List Segment) → (fill ≡ true → (a : ℕ) × (src ≡ record { addr = a; len = 1 } ∷ [])) → IsSegmentList src → IsSegmentList dst → (fill ≡ false → byte_count src ≡ byte_count dst) → byte_count dst ≤ 2 ^ 20 → IsCut (if fill then flat_map (λ (d : ℕ). places src) (places dst) else places src) (places dst) (if fill then fill_pieces src dst else pieces src dst)
 cut_by false src dst one ss ds same low =
     let all = pieces_right src dst (are_ranges src ss) (are_ranges dst ds) (same refl) (omega (arith, same refl)) in
@@ -93,7 +97,8 @@ cut_by true src dst one ss ds same low =
     let w = one refl in
     let a = w.0 in
     let range : AllByRecursion IsRange (record { addr = a; len = 1 } ∷ []) = subst (λ (list : List Segment). AllByRecursion IsRange list) w.1 (are_ranges src ss) in
-    rw w.1 (record { sources = fill_reads a dst; destinations = fill_writes a dst; fit = fill_fits a dst (omega (arith, range.0.1)) low (are_ranges dst ds); few = omega (arith, ds.few, length-fill a dst) })
+    rw (← fill_pieces-one a src dst w.1) (
+    rw w.1 (record { sources = fill_reads a dst; destinations = fill_writes a dst; fit = fill_fits a dst (omega (arith, range.0.1)) low (are_ranges dst ds); few = omega (arith, ds.few, length-fill a dst) }))
 
 pub cut_well : (t : Descriptor) → IsTransfer t → IsCut (sources t) (destinations t) (pieces_of t)
 cut_well t h =

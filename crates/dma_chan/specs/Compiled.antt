@@ -1,5 +1,6 @@
 -- The compiled form of a transfer (profile; the instructions are the PL330 manual's).
 use Rattle.std.specs.Prelude.{ℕ, zero, suc, ◌+◌, ◌-◌, ◌*◌, ◌/◌, ◌%◌, ◌^◌, Bool, true, false, ◌&&◌, ◌==◌, nat_le, nat_lt, if◌then◌else◌, List, [], ◌∷◌, ◌++◌, map, length, Option, Some, None}
+use Rattle.std.specs.List.{flat_map}
 use Rattle.dma_insn.specs.declared.insn.Reg.TheVariants.{Sar, Ccr, Dar}
 use Rattle.dma_insn.specs.declared.insn.Counter.TheVariants.{Lc0, Lc1}
 use Rattle.dma_insn.specs.declared.insn.Insn.{Insn}
@@ -33,10 +34,9 @@ pieces (s ∷ ss) ds = let cut = cut_one s.addr s.len ds in cut.0 ++ pieces ss c
 abbrev pub fill_piece : ℕ → Segment → Piece
 fill_piece a d = record { src = a; dst = d.addr; len = d.len; fill = true }
 
--- Each destination segment with the first source address: a fill has one source segment, of one byte.
+-- For the source segment of a fill, of which there is one, each destination segment.
 abbrev pub fill_pieces : List Segment → List Segment → List Piece
-fill_pieces [] ds = []
-fill_pieces (s ∷ ss) ds = map (fill_piece s.addr) ds
+fill_pieces src dst = flat_map (λ s. map (fill_piece s.addr) dst) src
 
 -- The pieces of a transfer: the parts of it that lie together at both ends, and of a fill one for each destination segment
 -- (profile).

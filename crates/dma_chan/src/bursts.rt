@@ -137,7 +137,7 @@ fn may_touch(kind: MarkKind, marks: &Marks, memory: &Memory, burst: Burst) -> bo
 }
 
 // Puts a byte into the buffer so often, as one run.
-fn fill_run(buffer: &mut HeapCircularBuffer<u8>, byte: u8, count: u32)
+fn put_run(buffer: &mut HeapCircularBuffer<u8>, byte: u8, count: u32)
     requires few { count ≤ 16 }
     requires room { length buffer.old.items + count ≤ buffer.old.capacity }
     ensures { buffer.new ≡ ring (buffer.old.items ++ replicate count byte) buffer.old.capacity }
@@ -147,13 +147,13 @@ fn fill_run(buffer: &mut HeapCircularBuffer<u8>, byte: u8, count: u32)
 }
 
 // Puts the bytes into the buffer so often: a single one, as the source of a fill has, as a run.
-fn fill(buffer: &mut HeapCircularBuffer<u8>, bytes: &[u8], rounds: u32)
+fn put_rounds(buffer: &mut HeapCircularBuffer<u8>, bytes: &[u8], rounds: u32)
     requires few { rounds ≤ 16 }
     requires room { length buffer.old.items + rounds * length bytes.now ≤ buffer.old.capacity }
     ensures { buffer.new ≡ ring (buffer.old.items ++ flat_map (λ xs. xs) (replicate rounds bytes.now)) buffer.old.capacity }
 {
     if bytes.len() == 1 {
-        fill_run(buffer, bytes[0], rounds);
+        put_run(buffer, bytes[0], rounds);
         return;
     }
     for _round in 0..rounds {
@@ -172,7 +172,7 @@ fn load_span(burst: Burst, buffer: &mut HeapCircularBuffer<u8>, block: &mut [u8]
 {
     let len = burst.span().len as usize;
     let bytes = memory.bytes(burst.addr, &mut block[..len]);
-    fill(buffer, bytes, burst.rounds());
+    put_rounds(buffer, bytes, burst.rounds());
 }
 
 // The fault that DMALD answers. Without one there is room for its bytes, and it may touch its addresses.

@@ -1,9 +1,9 @@
 //! A transfer's lists, cut into pieces that lie together at both ends.
 
-ghost use Rattle.std.specs.Prelude.{◌≡◌, ◌∷◌, ◌++◌, OnOk, IfOk};
+ghost use Rattle.std.specs.Prelude.{◌≡◌, ◌∷◌, ◌++◌, OnOk, IfOk, map};
 ghost use Rattle.std.specs.List.{AllByRecursion};
 ghost use Rattle.dma_mem.specs.Rules.{IsTransfer};
-ghost use Rattle.dma_chan.specs.Compiled.{pieces, fill_pieces, pieces_of};
+ghost use Rattle.dma_chan.specs.Compiled.{pieces, fill_piece, pieces_of};
 ghost use Rattle.dma_chan.specs.inner.Compiling.{byte_count, IsRange};
 
 use dma_mem::segment::Segment;
@@ -29,32 +29,25 @@ pub(crate) fn pieces_of(alloc: Global, transfer: &Transfer) -> Result<Vec<Piece>
     ensures rules { IsTransfer transfer.now }
 {
     if transfer.is_fill() {
-        filled(alloc, transfer.src(), transfer.dst())
+        filled(alloc, transfer.src()[0].addr, transfer.dst())
     } else {
         cut(alloc, transfer.src(), transfer.dst())
     }
 }
 
-// Each destination segment with the first source address.
+// Each destination segment, filled from one address. Room for all of them is taken first.
 #[tactic(auto, using(crate::proofs::PieceCode::fill_more))]
-fn filled(
-    alloc: Global,
-    sources: &[Segment],
-    destinations: &[Segment],
-) -> Result<Vec<Piece>, AllocError>
-    ensures { IfOk result (λ v. v.items ≡ fill_pieces sources.now destinations.now) }
+fn filled(alloc: Global, from: u32, destinations: &[Segment]) -> Result<Vec<Piece>, AllocError>
+    ensures { IfOk result (λ v. v.items ≡ map (fill_piece from) destinations.now) }
 {
-    let mut out = Vec::new(alloc);
-    if let Some(src) = sources.first() {
-        let from = src.addr;
-        for dst in destinations {
-            out.push(Piece {
-                src: from,
-                dst: dst.addr,
-                len: dst.len,
-                fill: true,
-            })?;
-        }
+    let mut out = Vec::with_capacity(alloc, destinations.len())?;
+    for dst in destinations {
+        out.push(Piece {
+            src: from,
+            dst: dst.addr,
+            len: dst.len,
+            fill: true,
+        })?;
     }
     Ok(out)
 }

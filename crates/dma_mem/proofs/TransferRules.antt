@@ -1,8 +1,9 @@
 -- Two lists and two events that nothing refuses make a transfer.
-use Rattle.std.proofs.Common.{◌≡◌, ◌≢◌, ℕ, ◌+◌, ◌-◌, ◌<◌, ◌≤◌, List, [], ◌∷◌, ◌++◌, length, Option, Some, None, Bool, true, false, ◌||◌, ◌&&◌, nat_lt, refl, zero, suc, ap, sym, ◌∙◌, arith, inl, inr, IfSome}
+use Rattle.std.proofs.Common.{◌≡◌, ◌≢◌, ℕ, ◌+◌, ◌-◌, ◌<◌, ◌≤◌, List, [], ◌∷◌, ◌++◌, length, Option, Some, None, Bool, true, false, ◌||◌, ◌&&◌, nat_lt, refl, zero, suc, ap, sym, ◌∙◌, arith, inl, inr, IfSome, get_or}
 use Rattle.std.specs.Prelude.{◌==◌, ◌↔◌, All, AllPairs, not, if◌then◌else◌}
+use Rattle.std.specs.Bool.{then_some}
 use Rattle.std.specs.List.{Contains, list_any, range_with_len, flat_map, slice_get}
-use Rattle.std.proofs.lemmas.Bool.{true≢false, or_parts, not-false, ltb-false, false_from_ne_true, eqb-true, cases_lt}
+use Rattle.std.proofs.lemmas.Bool.{true≢false, or_parts, not-false, ltb-false, false_from_ne_true, eqb-true, cases_lt, lt-ltb}
 use Rattle.std.proofs.lemmas.List.{length-append, get_or_append_left, get_or-append_right}
 use Rattle.std.proofs.lemmas.List.Elements.{All-weaker, All-head, Contains-get_or, Contains-append_cases, Contains-append_left}
 use Rattle.std.proofs.lemmas.List.Sums.{sum_by-cons}
@@ -212,20 +213,22 @@ at_again a p [] l = absurd (omega arith)
 at_again a zero (d ∷ ds) l = refl
 at_again a (suc p) (d ∷ ds) l = at_again a p ds (omega arith)
 
-place_again_by : (fill : Bool) (src : List Segment) (ds : List ℕ) (p : ℕ) → fill ≡ true → (a : ℕ) × (src ≡ record { addr = a; len = 1 } ∷ []) → p < length ds → slice_get (places src) 0 ≡ slice_get (if fill then flat_map (λ (d : ℕ). places src) ds else places src) p
-place_again_by true src ds p e w l = rw w.1 (at_again w.0 p ds l)
-place_again_by false src ds p e w l = absurd (true≢false (sym e))
+-- one place at each position below the end
+place_below : (a p : ℕ) (ds : List ℕ) → then_some (nat_lt p (length ds)) a ≡ slice_get (flat_map (λ (d : ℕ). a ∷ []) ds) p
+place_below a p ds =
+    elim (cases_lt p (length ds)) [
+      | inl low ↦ ap (λ (b : Bool). then_some b a) (lt-ltb p (length ds) low) ∙ at_again a p ds low
+      | inr past ↦
+          ap (λ (b : Bool). then_some b a) (le-ltb p (length ds) past)
+          ∙ sym (slice_get_past (flat_map (λ (d : ℕ). a ∷ []) ds) p (omega (arith, past, again-length a ds)))
+    ]
 
--- a fill reads its first place at every position
-pub place-again : (t : Descriptor) (p : ℕ) → IsTransfer t → t.fill ≡ true → p < size_of t → slice_get (places t.src) 0 ≡ slice_get (sources t) p
-place-again t p h e l = place_again_by t.fill t.src (destinations t) p e (h.one_byte e) l
+place_of_fill_by : (fill : Bool) (src : List Segment) (ds : List ℕ) (s : Segment) (p : ℕ) → fill ≡ true → src ≡ s ∷ [] → (a : ℕ) × (src ≡ record { addr = a; len = 1 } ∷ []) → then_some (nat_lt p (length ds)) s.addr ≡ slice_get (if fill then flat_map (λ (d : ℕ). places src) ds else places src) p
+place_of_fill_by true src ds s p e is w =
+    let same : s.addr ≡ w.0 = ap (λ (list : List Segment). (get_or list 0 s).addr) (sym is ∙ w.1) in
+    rw w.1 (ap (λ (a : ℕ). then_some (nat_lt p (length ds)) a) same ∙ place_below w.0 p ds)
+place_of_fill_by false src ds s p e is w = absurd (true≢false (sym e))
 
-pub place-past : (t : Descriptor) (p : ℕ) → IsTransfer t → size_of t ≤ p → None ≡ slice_get (sources t) p
-place-past t p h l = sym (slice_get_past (sources t) p (omega (arith, h.same_length)))
-
-place_listed_by : (fill : Bool) (xs ds : List ℕ) → fill ≡ false → (if fill then flat_map (λ (d : ℕ). xs) ds else xs) ≡ xs
-place_listed_by false xs ds e = refl
-place_listed_by true xs ds e = absurd (true≢false e)
-
-pub sources-listed : (t : Descriptor) → t.fill ≡ false → sources t ≡ places t.src
-sources-listed t e = place_listed_by t.fill (places t.src) (destinations t) e
+-- a fill reads its one place at every position
+pub place_of_fill : (t : Descriptor) (s : Segment) (p : ℕ) → IsTransfer t → t.fill ≡ true → t.src ≡ s ∷ [] → then_some (nat_lt p (size_of t)) s.addr ≡ slice_get (sources t) p
+place_of_fill t s p h e is = place_of_fill_by t.fill t.src (destinations t) s p e is (h.one_byte e)

@@ -5,3 +5,4 @@ pub mod RangesInOrder
 pub mod MarkRanges
 pub mod KeptRanges
 pub mod Origins
+pub mod Checking

@@ -7,7 +7,8 @@ ghost use Rattle.std.specs.List.{list_any};
 ghost use Rattle.std.specs.List.Sorted.{IsNonDecreasingBy};
 ghost use Rattle.dma_mem.specs.declared.segment.Segment.{Segment};
 ghost use Rattle.dma_mem.specs.Rules.{IsTransfer};
-ghost use Rattle.dma_mem.specs.inner.Origins.{segments_of, is_byte};
+ghost use Rattle.dma_mem.specs.inner.Origins.{segments_of, is_place};
+ghost use Rattle.dma_mem.specs.inner.Checking.{may_differ};
 ghost use Rattle.dma_mem.specs.Refusals.{refusal_of, refusal_of_fill, overlap_of, total, some_meet, meets_any, has_empty_segment, has_wrapping_segment, is_bad_event};
 
 use crate::lists::Segments;
@@ -54,12 +55,12 @@ pub enum TransferFault {
     NoMemory,
 }
 
-// Where a transfer reads: the places of a list, or of a fill one byte. Its segment stands in place, so that a fill takes no
-// memory for it.
+// Where a transfer reads: the places of a list, or of a fill one place. Its segment, of one byte, stands in the variant, so
+// that a fill takes no memory for it.
 #[derive(Debug, Drop)]
 enum Origin {
-    Listed(Segments),
-    Byte(Segment),
+    List(Segments),
+    Place(Segment),
 }
 
 impl Origin {
@@ -68,16 +69,16 @@ impl Origin {
         ensures { result.now ≡ segments_of self.now }
     {
         match self {
-            Origin::Listed(segments) => segments.as_slice(),
-            Origin::Byte(segment) => std::slice::from_ref(segment),
+            Origin::List(segments) => segments.as_slice(),
+            Origin::Place(segment) => std::slice::from_ref(segment),
         }
     }
 
-    // Whether it is one byte, for every destination.
-    fn is_byte(&self) -> bool
-        ensures { result ≡ is_byte self.now }
+    // Whether it is one place, for every destination.
+    fn is_place(&self) -> bool
+        ensures { result ≡ is_place self.now }
     {
-        matches!(self, Origin::Byte(_))
+        matches!(self, Origin::Place(_))
     }
 
     // The same again, in memory of its own.
@@ -85,8 +86,8 @@ impl Origin {
         ensures { IfOk result (λ copy. copy ≡ self.now) }
     {
         Ok(match self {
-            Origin::Listed(segments) => Origin::Listed(segments.try_copy()?),
-            Origin::Byte(segment) => Origin::Byte(*segment),
+            Origin::List(segments) => Origin::List(segments.try_copy()?),
+            Origin::Place(segment) => Origin::Place(*segment),
         })
     }
 }
@@ -111,14 +112,14 @@ impl Model for Transfer {
     ghost Value = { Descriptor };
 
     ghost use Rattle.dma_mem.specs.Rules.{IsTransfer};
-    ghost use Rattle.dma_mem.specs.inner.Origins.{segments_of, is_byte};
+    ghost use Rattle.dma_mem.specs.inner.Origins.{segments_of, is_place};
 
-    ghost view = { λ t. record { fill = is_byte t.src; src = segments_of t.src; dst = t.dst; wait = t.wait; signal = t.signal } };
+    ghost view = { λ t. record { fill = is_place t.src; src = segments_of t.src; dst = t.dst; wait = t.wait; signal = t.signal } };
 
     ghost invariant = { λ t. IsTransfer
-        (record { fill = is_byte t.src; src = segments_of t.src; dst = t.dst; wait = t.wait; signal = t.signal })
+        (record { fill = is_place t.src; src = segments_of t.src; dst = t.dst; wait = t.wait; signal = t.signal })
         × (t.len ≡ size_of
-        (record { fill = is_byte t.src; src = segments_of t.src; dst = t.dst; wait = t.wait; signal = t.signal })) };
+        (record { fill = is_place t.src; src = segments_of t.src; dst = t.dst; wait = t.wait; signal = t.signal })) };
 }
 
 // Whether a segment of the list has no byte.
@@ -224,15 +225,22 @@ fn is_bad_event(event: Option<u8>) -> bool
     event.is_some_and(|e| e > LAST_EVENT)
 }
 
+// Which totals the two lists of a transfer may have: a copy's are the same, and the one byte of a fill goes to any number.
+#[derive(Clone, Copy, PartialEq, Eq)]
+enum Totals {
+    Same,
+    Any,
+}
+
 // How many bytes a transfer of these lists copies, or a fill, or the first refusal that holds.
 fn checked_len(
-    fill: bool,
+    totals: Totals,
     src: &[Segment],
     dst: &[Segment],
     wait: Option<u8>,
     signal: Option<u8>,
 ) -> Result<u32, TransferFault>
-    ensures { let t : Descriptor = record { fill = fill; src = src.now; dst = dst.now; wait = wait; signal = signal } in
+    ensures { let t : Descriptor = record { fill = may_differ totals; src = src.now; dst = dst.now; wait = wait; signal = signal } in
         MatchResult result (λ len. (refusal_of t ≡ None) × (len ≡ total dst.now)) (λ fault. refusal_of t ≡ Some fault) }
 {
     if src.is_empty() || dst.is_empty() {
@@ -248,7 +256,7 @@ fn checked_len(
         return Err(TransferFault::SegmentWraps);
     }
     let len = total(dst);
-    if !fill && total(src) != len {
+    if totals == Totals::Same && total(src) != len {
         return Err(TransferFault::TotalsDiffer);
     }
     if len > u64::from(MAX_BYTES) {
@@ -313,11 +321,11 @@ impl Transfer {
         ensures err { IfErr result (λ fault. fault ≡ unwrap_or
             (refusal_of (record { fill = false; src = src.now; dst = dst.now; wait = wait; signal = signal })) TransferFault.NoMemory) }
     {
-        let len = checked_len(false, src, dst, wait, signal)?;
+        let len = checked_len(Totals::Same, src, dst, wait, signal)?;
         let src = copied(alloc, src)?;
         let dst = copied(alloc, dst)?;
         Ok(Transfer {
-            src: Origin::Listed(src),
+            src: Origin::List(src),
             dst,
             wait,
             signal,
@@ -338,9 +346,9 @@ impl Transfer {
         ensures rules { IfOk result (λ t. IsTransfer t) }
         ensures err { IfErr result (λ fault. refusal_of (record { fill = false; src = src; dst = dst; wait = wait; signal = signal }) ≡ Some fault) }
     {
-        let len = checked_len(false, src.as_slice(), dst.as_slice(), wait, signal)?;
+        let len = checked_len(Totals::Same, src.as_slice(), dst.as_slice(), wait, signal)?;
         Ok(Transfer {
-            src: Origin::Listed(src),
+            src: Origin::List(src),
             dst,
             wait,
             signal,
@@ -366,10 +374,10 @@ impl Transfer {
         ensures err { IfErr result (λ fault. fault ≡ unwrap_or (refusal_of_fill src dst.now wait signal) TransferFault.NoMemory) }
     {
         let byte = Segment { addr: src, len: 1 };
-        let len = checked_len(true, &[byte], dst, wait, signal)?;
+        let len = checked_len(Totals::Any, &[byte], dst, wait, signal)?;
         let list = copied(alloc, dst)?;
         Ok(Transfer {
-            src: Origin::Byte(byte),
+            src: Origin::Place(byte),
             dst: list,
             wait,
             signal,
@@ -391,9 +399,9 @@ impl Transfer {
         ensures err { IfErr result (λ fault. refusal_of_fill src dst wait signal ≡ Some fault) }
     {
         let byte = Segment { addr: src, len: 1 };
-        let len = checked_len(true, &[byte], dst.as_slice(), wait, signal)?;
+        let len = checked_len(Totals::Any, &[byte], dst.as_slice(), wait, signal)?;
         Ok(Transfer {
-            src: Origin::Byte(byte),
+            src: Origin::Place(byte),
             dst,
             wait,
             signal,
@@ -406,7 +414,7 @@ impl Transfer {
         ensures fill { result ≡ self.now.fill }
         ensures rules { IsTransfer self.now }
     {
-        self.src.is_byte()
+        self.src.is_place()
     }
 
     /// The source segments, in order: of a fill one of one byte.
@@ -454,15 +462,10 @@ impl Transfer {
     pub fn src_place(&self, position: u32) -> Option<u32>
         ensures { result ≡ slice_get (sources self.now) position }
     {
-        let Transfer { len, .. } = self;
-        if self.is_fill() {
-            if position < *len {
-                place_at(self.src(), 0)
-            } else {
-                None
-            }
-        } else {
-            place_at(self.src(), position)
+        let Transfer { src, len, .. } = self;
+        match src {
+            Origin::List(list) => place_at(list.as_slice(), position),
+            Origin::Place(byte) => (position < *len).then_some(byte.addr),
         }
     }
 

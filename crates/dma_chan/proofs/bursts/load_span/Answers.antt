@@ -9,5 +9,5 @@ returns c =
     let image = c.args.memory.now.image in
     let old = c.args.buffer.now in
     let bytes = c.bytes-bytes.ensures ∙ ap (λ n. take n (drop burst.addr image)) (omega (arith, c.span-len.ensures.len, c.span-len.ensures.limit, c.requires.block, length-take {A = ℕ})) in
-    c.fill.ensures
+    c.put_rounds.ensures
     ∙ rw (c.rounds.ensures.value, bytes) (ap (λ xs. ring (old.items ++ xs) old.capacity) (sym (read_touched image burst c.requires.within)))
