@@ -40,7 +40,7 @@ impl From<AllocError> for NoMemory {
 }
 
 /// The program that copies a transfer's sources to its destinations, piece by piece, after its wait and before its signal. A
-/// fill has a piece for each destination segment, and its bursts read their byte once.
+/// fill has a piece for each destination segment, with beats of one byte and a source address that stays.
 ///
 /// The work is in proportion to the number of pieces. The error comes where memory is refused.
 #[tactic(auto, unfolding(crate::specs::Compiled::compiled))]

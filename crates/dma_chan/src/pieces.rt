@@ -1,4 +1,4 @@
-//! A transfer's lists, cut into pieces that lie together at both ends.
+//! A transfer's lists, cut into pieces, each of bytes that are moved together.
 
 ghost use Rattle.std.specs.Prelude.{◌≡◌, ◌∷◌, ◌++◌, OnOk, IfOk, map};
 ghost use Rattle.std.specs.List.{AllByRecursion};
@@ -10,10 +10,10 @@ use dma_mem::segment::Segment;
 use dma_mem::transfer::Transfer;
 use std::alloc::{AllocError, Global};
 
-/// Bytes that lie together at both ends.
+/// Bytes that lie together at both ends, or of a fill at the destination alone.
 #[derive(Clone, Copy, PartialEq, Eq, Debug)]
 pub struct Piece {
-    /// The first source address.
+    /// The first source address, or that of a fill's byte.
     pub src: u32,
     /// The first destination address.
     pub dst: u32,

@@ -32,11 +32,11 @@ pub unfit : (v : View) (out out' : List ℕ) (fault : Option TransferFault) (e :
 unfit v out out' fault e answered is prints = rw is (record { acts = refl; prints = prints.1 })
 
 -- channel 0 in use or not
-pub where_used : (command : List ℕ) (v : View) (t : Descriptor) → is_in_use v ≡ true → copied command v t ≡ told (refused_line (codes "ChannelInUse")) v
-where_used command v t used = ap (λ b. if b then told (refused_line (codes "ChannelInUse")) v else copied_after command (answer v (Submit 0 t))) used
+pub where_used : (start : List ℕ) (v : View) (t : Descriptor) → is_in_use v ≡ true → copied start v t ≡ told (refused_line (codes "ChannelInUse")) v
+where_used start v t used = ap (λ b. if b then told (refused_line (codes "ChannelInUse")) v else copied_after start (answer v (Submit 0 t))) used
 
-pub where_free : (command : List ℕ) (v : View) (t : Descriptor) → is_in_use v ≡ false → copied command v t ≡ copied_after command (answer v (Submit 0 t))
-where_free command v t free = ap (λ b. if b then told (refused_line (codes "ChannelInUse")) v else copied_after command (answer v (Submit 0 t))) free
+pub where_free : (start : List ℕ) (v : View) (t : Descriptor) → is_in_use v ≡ false → copied start v t ≡ copied_after start (answer v (Submit 0 t))
+where_free start v t free = ap (λ b. if b then told (refused_line (codes "ChannelInUse")) v else copied_after start (answer v (Submit 0 t))) free
 
 -- ---- what runs
 

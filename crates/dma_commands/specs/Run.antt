@@ -81,7 +81,7 @@ abbrev pub is_in_use : View → Bool
 is_in_use v =
     nat_lt 0 (unfinished (channel (object_of v) 0)) || ((schedule_at v 0).paused || (channel (object_of v) 0).halted)
 
--- an answer after which a copy goes on
+-- an answer after which a copy or a fill goes on
 abbrev pub goes_on : Reply → Bool
 goes_on (Turned (Started cookie)) = true
 goes_on (Turned Moved) = true
@@ -95,18 +95,18 @@ stepped_through (suc n) v =
     let first = answer v (calls.Step 0) in
     if goes_on first.0 then stepped_through n first.1 else first
 
--- `copy ANSWER` or `fill ANSWER`, by the line's command
+-- `copy ANSWER` or `fill ANSWER`, by how the line starts: `copy ` or `fill `
 abbrev pub through_line : List ℕ → Reply → List ℕ
-through_line command reply = command ++ reply_text reply
+through_line start reply = start ++ reply_text reply
 
--- more steps than any copy takes (`CopiesEnd`)
+-- more steps than any copy or fill takes (`CopiesEnd`)
 abbrev pub most_steps : ℕ
 most_steps = 524288
 
 -- What was submitted to channel 0 is issued and stepped through.
 abbrev pub carried_through : List ℕ → View → Answered
-carried_through command v =
-    let last = stepped_through most_steps (answer v (calls.Issue 0)).1 in told (through_line command last.0) last.1
+carried_through start v =
+    let last = stepped_through most_steps (answer v (calls.Issue 0)).1 in told (through_line start last.0) last.1
 
 -- a reply that is a refusal
 abbrev pub is_refused : Reply → Bool
@@ -115,13 +115,13 @@ is_refused _ = false
 
 -- what follows a transfer's submission
 abbrev pub copied_after : List ℕ → Reply × View → Answered
-copied_after command after =
-    if is_refused after.0 then told (reply_text after.0) after.1 else carried_through command after.1
+copied_after start after =
+    if is_refused after.0 then told (reply_text after.0) after.1 else carried_through start after.1
 
--- a transfer that meets its rules is copied, unless channel 0 is in use
+-- a copy or a fill whose transfer meets its rules is carried out, unless channel 0 is in use
 abbrev pub copied : List ℕ → View → Descriptor → Answered
-copied command v t =
-    if is_in_use v then told (refused_line (codes "ChannelInUse")) v else copied_after command (answer v (calls.Submit 0 t))
+copied start v t =
+    if is_in_use v then told (refused_line (codes "ChannelInUse")) v else copied_after start (answer v (calls.Submit 0 t))
 
 -- the transfer of a copy line, which neither waits nor signals
 abbrev pub plain_copy : List Segment → List Segment → Descriptor
@@ -131,9 +131,9 @@ plain_copy src dst = record { fill = false; src = src; dst = dst; wait = None; s
 abbrev pub plain_fill : ℕ → List Segment → Descriptor
 plain_fill src dst = filling src dst None None
 
--- a copy or a fill line, by its command: its transfer's own rules first
+-- a copy or a fill line, by how it starts: its transfer's own rules first
 abbrev pub through_answer : View → List ℕ → Descriptor → Answered
-through_answer v command t = unless_unfit (refusal_of t) v (copied command v t)
+through_answer v start t = unless_unfit (refusal_of t) v (copied start v t)
 
 -- a copy line
 abbrev pub copy_answer : View → List Segment → List Segment → Answered
@@ -143,8 +143,8 @@ copy_answer v src dst = through_answer v (codes "copy ") (plain_copy src dst)
 abbrev pub fill_answer : View → ℕ → List Segment → Answered
 fill_answer v src dst = through_answer v (codes "fill ") (plain_fill src dst)
 
--- The steps of a copy end by themselves: where channel 0 of a sound view isn't in use, and a transfer is submitted to it and
--- issued, the last answer of its steps is one after which no copy goes on. So no copy is cut off by most_steps.
+-- The steps of a copy or a fill end by themselves: where channel 0 of a sound view isn't in use, and a transfer is submitted
+-- to it and issued, the last answer of its steps is one after which neither goes on. So none is cut off by most_steps.
 abbrev pub CopiesEnd : Type 0
 CopiesEnd =
     (v : View) (t : Descriptor) (cookie : ℕ) (w : View) → IsSound v → IsTransfer t → is_in_use v ≡ false →

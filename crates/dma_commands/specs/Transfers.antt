@@ -10,7 +10,7 @@ use Rattle.dma_script.specs.declared.plan.TransferLine.{TransferLine}
 abbrev pub transfer_from : Origin → List Segment → Option ℕ → Option ℕ → Descriptor
 transfer_from (origins.List src) dst wait signal =
     record { fill = false; src = src; dst = dst; wait = wait; signal = signal }
-transfer_from (origins.Byte src) dst wait signal = filling src dst wait signal
+transfer_from (origins.Place src) dst wait signal = filling src dst wait signal
 
 -- the transfer of a line
 abbrev pub transfer_of : TransferLine → Descriptor

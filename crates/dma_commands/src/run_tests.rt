@@ -741,6 +741,7 @@ fn refused_fills(rt: HostRuntime) -> Result<(), Fail> {
           fill 0xFFFFFFFF to 0+0\n\
           pause 0\n\
           fill 0 to 1+1\n\
+          fill 64 to 1+1\n\
           fill 0 to 1+0",
     )?;
     assert_eq!(rt;
@@ -755,6 +756,7 @@ fn refused_fills(rt: HostRuntime) -> Result<(), Fail> {
           refused DestinationsMeet\n\
           refused EmptySegment\n\
           ok\n\
+          refused ChannelInUse\n\
           refused ChannelInUse\n\
           refused EmptySegment\n"
             .as_slice()

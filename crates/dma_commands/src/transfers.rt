@@ -20,6 +20,6 @@ pub fn transfer_of(line: TransferLine) -> Result<Transfer, TransferFault>
     } = line;
     match src {
         Origin::List(list) => Transfer::from_lists(list, dst, wait, signal),
-        Origin::Byte(addr) => Transfer::fill_list(addr, dst, wait, signal),
+        Origin::Place(addr) => Transfer::fill_list(addr, dst, wait, signal),
     }
 }

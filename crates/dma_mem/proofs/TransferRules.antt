@@ -3,7 +3,7 @@ use Rattle.std.proofs.Common.{◌≡◌, ◌≢◌, ℕ, ◌+◌, ◌-◌, ◌<�
 use Rattle.std.specs.Prelude.{◌==◌, ◌↔◌, All, AllPairs, not, if◌then◌else◌}
 use Rattle.std.specs.Bool.{then_some}
 use Rattle.std.specs.List.{Contains, list_any, range_with_len, flat_map, slice_get}
-use Rattle.std.proofs.lemmas.Bool.{true≢false, or_parts, not-false, ltb-false, false_from_ne_true, eqb-true, cases_lt, lt-ltb}
+use Rattle.std.proofs.lemmas.Bool.{true≢false, or_parts, not-false, ltb-false, false_from_ne_true, eqb-true, cases_lt, lt-ltb, le-ltb}
 use Rattle.std.proofs.lemmas.List.{length-append, get_or_append_left, get_or-append_right}
 use Rattle.std.proofs.lemmas.List.Elements.{All-weaker, All-head, Contains-get_or, Contains-append_cases, Contains-append_left}
 use Rattle.std.proofs.lemmas.List.Sums.{sum_by-cons}

@@ -28,7 +28,8 @@ pub record Descriptor : Type 0 where
   pub wait : Option ℕ
   pub signal : Option ℕ
 
--- A fill: the byte at one address, to every place of a list (dmaengine memset).
+-- A fill: the byte at one address, to every place of a list (profile; after dmaengine memset, by a source address that
+-- doesn't rise: PL330 manual, CCR bit 0).
 abbrev pub filling : ℕ → List Segment → Option ℕ → Option ℕ → Descriptor
 filling src dst wait signal =
     record { fill = true; src = record { addr = src; len = 1 } ∷ []; dst = dst; wait = wait; signal = signal }

@@ -273,7 +273,7 @@ form_told (Some a) f = refl
 
 -- What is read of a source tells whether its word is in its form.
 source_told : (fill : Bool) (word : List ℕ) → told (source_at fill word) ≡ form_cause (source_form fill) word
-source_told true word = form_told (number_of word) (λ addr. origins.Byte addr)
+source_told true word = form_told (number_of word) (λ addr. origins.Place addr)
 source_told false word = form_told (list_of word) (λ l. origins.List l)
 
 -- What follows once all numbers are read.

@@ -119,7 +119,7 @@ wait_signal = refl
 event_out_of_range : plan_of (codes "1+1 to 2+1 signal 256") ≡ Err (record { line = 1; cause = Range })
 event_out_of_range = refl
 
-fill_lines : run_script_of (after_memory (codes "fill 0x10 to 0x20+3,0x30+2" ++ 10 ∷ codes "submit 1 fill 5 to 8+4 wait 3 signal 255")) ≡ Ok (record { size = 64; channels = 1; statements = statements.Fill 16 (record { addr = 32; len = 3 } ∷ record { addr = 48; len = 2 } ∷ []) ∷ statements.Submit 1 (record { src = origins.Byte 5; dst = record { addr = 8; len = 4 } ∷ []; wait = Some 3; signal = Some 255 }) ∷ [] })
+fill_lines : run_script_of (after_memory (codes "fill 0x10 to 0x20+3,0x30+2" ++ 10 ∷ codes "submit 1 fill 5 to 8+4 wait 3 signal 255")) ≡ Ok (record { size = 64; channels = 1; statements = statements.Fill 16 (record { addr = 32; len = 3 } ∷ record { addr = 48; len = 2 } ∷ []) ∷ statements.Submit 1 (record { src = origins.Place 5; dst = record { addr = 8; len = 4 } ∷ []; wait = Some 3; signal = Some 255 }) ∷ [] })
 fill_lines = refl
 
 fill_of_a_segment : run_script_of (after_memory (codes "fill 0x10+1 to 0x20+3")) ≡ Err (record { line = 2; cause = Number })
@@ -137,7 +137,7 @@ submit_fill_number_before_range = refl
 submit_fill_out_of_range : run_script_of (after_memory (codes "submit 256 fill 0x10 to 8+4 wait 300")) ≡ Err (record { line = 2; cause = Range })
 submit_fill_out_of_range = refl
 
-fill_plan : plan_of (codes "fill 0x10 to 0x20+20 signal 3") ≡ Ok (record { line = 1; transfer = record { src = origins.Byte 16; dst = record { addr = 32; len = 20 } ∷ []; wait = None; signal = Some 3 } })
+fill_plan : plan_of (codes "fill 0x10 to 0x20+20 signal 3") ≡ Ok (record { line = 1; transfer = record { src = origins.Place 16; dst = record { addr = 32; len = 20 } ∷ []; wait = None; signal = Some 3 } })
 fill_plan = refl
 
 fill_without_address : plan_of (codes "fill to 0x20+20") ≡ Err (record { line = 1; cause = Words })

@@ -10,6 +10,8 @@ use Rattle.dma_script.specs.declared.fault.Cause.TheVariants as causes
 use Rattle.dma_script.specs.declared.fault.Fault.{Fault}
 use Rattle.dma_script.specs.declared.plan.Origin.{Origin}
 use Rattle.dma_script.specs.declared.plan.Origin.TheVariants as origins
+use Rattle.dma_script.specs.declared.plan.OriginWord.{OriginWord}
+use Rattle.dma_script.specs.declared.plan.OriginWord.TheVariants as origin_words
 use Rattle.dma_script.specs.declared.plan.TransferWords.{TransferWords}
 use Rattle.dma_script.specs.declared.plan.TransferNumbers.{TransferNumbers}
 use Rattle.dma_script.specs.declared.plan.TransferLine.{TransferLine}
@@ -23,11 +25,21 @@ pub record WordsOfTransfer : Type 0 where
   pub wait : Option (List ℕ)
   pub signal : Option (List ℕ)
 
+-- whether the word of a source has to spell a fill's address
+abbrev pub is_place : OriginWord → Bool
+is_place (origin_words.List word) = false
+is_place (origin_words.Place word) = true
+
+-- the bytes of the word of a source
+abbrev pub spelling : OriginWord → List ℕ
+spelling (origin_words.List word) = word.now
+spelling (origin_words.Place word) = word.now
+
 -- the bytes of the words
 abbrev pub seen_words : TransferWords → WordsOfTransfer
 seen_words words = record {
-  fill = words.fill;
-  src = words.src.now;
+  fill = is_place words.src;
+  src = spelling words.src;
   dst = words.dst.now;
   wait = option_map (λ word. word.now) words.wait;
   signal = option_map (λ word. word.now) words.signal;
@@ -66,7 +78,7 @@ transfer_words words = let rest = after_fill words in words_after rest.0 rest.1
 abbrev pub source_at : Bool → List ℕ → Result Origin Cause
 source_at true word = do
   addr ← number_at word
-  Ok (origins.Byte addr)
+  Ok (origins.Place addr)
 source_at false word = do
   list ← list_at word
   Ok (origins.List list)

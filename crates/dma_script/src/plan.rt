@@ -2,7 +2,7 @@
 ghost use Rattle.std.specs.Prelude.{◌≡◌, map};
 ghost use Rattle.std.specs.Option.{option_map};
 ghost use Rattle.dma_script.specs.Lines.{Gives, ScriptGives, seen_by};
-ghost use Rattle.dma_script.specs.Plan.{after_fill, after_fixed, events_of, plan_of, seen_words, source_at, transfer_line, transfer_numbers, transfer_of, transfer_words};
+ghost use Rattle.dma_script.specs.Plan.{after_fill, after_fixed, events_of, is_place, plan_of, seen_words, source_at, spelling, transfer_line, transfer_numbers, transfer_of, transfer_words};
 
 use crate::arguments::{byte_where, list_at, number_at, number_where};
 use crate::fault::{Cause, Fault, LineError, ScriptError};
@@ -16,8 +16,8 @@ use std::alloc::Global;
 pub enum Origin {
     /// The places of a list, one byte each.
     List(Segments),
-    /// The one place of a fill, whose byte goes to every place of the destinations.
-    Byte(u32),
+    /// The address of a fill's byte, which goes to every place of the destinations.
+    Place(u32),
 }
 
 /// What a line `LIST to LIST [wait E] [signal E]` or `fill ADDR to LIST [wait E] [signal E]` says.
@@ -33,11 +33,19 @@ pub struct TransferLine {
     pub signal: Option<u8>,
 }
 
-/// The words of a transfer: whether it is a fill, its source and its list, and its events where there are any.
+/// The word of a transfer's source, by what it has to spell.
+#[derive(Clone, Copy)]
+pub(crate) enum OriginWord<'a> {
+    /// The list of a copy.
+    List(&'a [u8]),
+    /// The address of a fill.
+    Place(&'a [u8]),
+}
+
+/// The words of a transfer: its source and its list, and its events where there are any.
 #[derive(Clone, Copy)]
 pub(crate) struct TransferWords<'a> {
-    fill: bool,
-    src: &'a [u8],
+    src: OriginWord<'a>,
     dst: &'a [u8],
     wait: Option<&'a [u8]>,
     signal: Option<&'a [u8]>,
@@ -112,8 +120,12 @@ pub(crate) fn transfer_words<'a>(words: &[&'a [u8]]) -> Result<TransferWords<'a>
         return Err(Cause::Words);
     }
     let (wait, signal) = events_of(more)?;
+    let src = if fill {
+        OriginWord::Place(src)
+    } else {
+        OriginWord::List(src)
+    };
     Ok(TransferWords {
-        fill,
         src,
         dst,
         wait,
@@ -122,15 +134,18 @@ pub(crate) fn transfer_words<'a>(words: &[&'a [u8]]) -> Result<TransferWords<'a>
 }
 
 /// The source that a word spells: of a fill an address, else a list.
-fn source_at(alloc: Global, fill: bool, word: &[u8]) -> Result<Origin, LineError>
-    ensures { Gives (λ source. source) result (source_at fill word.now) }
+fn source_at(alloc: Global, word: OriginWord<'_>) -> Result<Origin, LineError>
+    ensures { Gives (λ source. source) result (source_at (is_place word.entry) (spelling word.entry)) }
 {
-    if fill {
-        let addr = number_at(word)?;
-        Ok(Origin::Byte(addr))
-    } else {
-        let list = list_at(alloc, word)?;
-        Ok(Origin::List(list))
+    match word {
+        OriginWord::List(word) => {
+            let list = list_at(alloc, word)?;
+            Ok(Origin::List(list))
+        }
+        OriginWord::Place(word) => {
+            let addr = number_at(word)?;
+            Ok(Origin::Place(addr))
+        }
     }
 }
 
@@ -141,7 +156,7 @@ pub(crate) fn transfer_numbers(
 ) -> Result<TransferNumbers, LineError>
     ensures { Gives (λ numbers. numbers) result (transfer_numbers (seen_words words.entry)) }
 {
-    let src = source_at(alloc, words.fill, words.src)?;
+    let src = source_at(alloc, words.src)?;
     let dst = list_at(alloc, words.dst)?;
     let wait = number_where(words.wait)?;
     let signal = number_where(words.signal)?;

@@ -342,7 +342,7 @@ fn each_statement(rt: HostRuntime) -> Result<(), Fail> {
         ),
         (
             b"submit 1 fill 0x10 to 8+4 signal 255",
-            "Submit { ch: 1, transfer: Apart { part: TransferLine { src: Byte(16), \
+            "Submit { ch: 1, transfer: Apart { part: TransferLine { src: Place(16), \
                 dst: Segments { segments: [Segment { addr: 8, len: 4 }] }, wait: None, signal: Some(255) } } }",
         ),
         (

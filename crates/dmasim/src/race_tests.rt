@@ -90,7 +90,7 @@ fn two_jobs_over_both_channels(rt: HostRuntime) -> Result<(), Fail> {
 
 #[test]
 fn faults_alone(rt: HostRuntime) -> Result<(), Fail> {
-    let cases: [(&[u8], &[u8]); 16] = [
+    let cases: [(&[u8], &[u8]); 17] = [
         (b"", b"line 0: First\n"),
         (b"memory 16 1\nread 0+1", b"line 0: Go\n"),
         (b"memory 16 1\njob 0 0 1\nread 0", b"line 3: Number\n"),
@@ -98,6 +98,7 @@ fn faults_alone(rt: HostRuntime) -> Result<(), Fail> {
         (b"job 0 0 1", b"line 1: First\n"),
         (b"step 0", b"line 1: Command\n"),
         (b"memory 16 1\nstep 0\ngo", b"line 2: Command\n"),
+        (b"memory 16 1\nfill 0 to 1+1\ngo", b"line 2: Command\n"),
         (b"memory 16 1\ngo\ngo", b"line 3: Command\n"),
         (b"memory 16 1\ngo\njob 0 0 1", b"line 3: Command\n"),
         (b"memory 16 1\ngo\nmemory 16 1", b"line 3: First\n"),

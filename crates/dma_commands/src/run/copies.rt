@@ -18,7 +18,7 @@ use dma_script::statements::CopyLine;
 use std::alloc::AllocError;
 
 /// At least as many steps as any transfer takes, which are its start and fewer than 2^19 instructions
-/// (`dma_chan::laws::costs_little`). So no copy is cut off by it: that is the law `copies_end`.
+/// (`dma_chan::laws::costs_little`). So no copy or fill is cut off by it: that is the law `copies_end`.
 pub const MOST_STEPS: u32 = 524_288;
 
 /// Whether channel 0 has an unfinished cookie, or is paused or halted.
@@ -28,7 +28,7 @@ fn is_in_use(engine: &Engine) -> bool
     engine.unfinished(0) > 0 || engine.paused(0) || engine.halted(0)
 }
 
-/// Whether a copy goes on after such an answer.
+/// Whether a copy or a fill goes on after such an answer.
 fn goes_on(reply: &Reply) -> bool
     ensures { result ≡ goes_on reply.now }
 {
@@ -57,44 +57,44 @@ fn step_through(engine: &mut Engine) -> Result<Reply, AllocError>
 /// Issues what was submitted to channel 0 and steps through it.
 fn carry_through(
     engine: &mut Engine,
-    command: &str,
+    start: &str,
     line: &mut Vec<u8>,
     out: &mut Vec<u8>,
 ) -> Result<(), AllocError>
-    ensures ok { OnOk result (AnswersLine (carried_through command.now engine.old.view) engine.new.view out.old.items out.new.items) }
+    ensures ok { OnOk result (AnswersLine (carried_through start.now engine.old.view) engine.new.view out.old.items out.new.items) }
     ensures err { OnErr result (out.new.items ≡ out.old.items) }
 {
     reply_to(engine, &Call::Issue { ch: 0 })?;
     let last = step_through(engine)?;
-    push_after(line, command, &last, out)
+    push_after(line, start, &last, out)
 }
 
 /// Submits a transfer to channel 0, issues it and steps through it.
 fn copy_through(
     engine: &mut Engine,
-    command: &str,
+    start: &str,
     transfer: Transfer,
     line: &mut Vec<u8>,
     out: &mut Vec<u8>,
 ) -> Result<(), AllocError>
-    ensures ok { OnOk result (AnswersLine (copied_after command.now (answer engine.old.view (Call.Submit 0 transfer))) engine.new.view out.old.items out.new.items) }
+    ensures ok { OnOk result (AnswersLine (copied_after start.now (answer engine.old.view (Call.Submit 0 transfer))) engine.new.view out.old.items out.new.items) }
     ensures err { OnErr result (out.new.items ≡ out.old.items) }
 {
     match engine.submit(0, transfer) {
-        Ok(_) => carry_through(engine, command, line, out),
+        Ok(_) => carry_through(engine, start, line, out),
         Err(refused) => push_refused_call(line, refused.fault, out),
     }
 }
 
-/// Carries out a transfer within its line, which begins with `command`. The transfer takes the line's lists for itself.
+/// Carries out a transfer within its line, whose answer starts with `start`. The transfer takes the line's lists for itself.
 fn answer_through(
     engine: &mut Engine,
-    command: &str,
+    start: &str,
     words: TransferLine,
     line: &mut Vec<u8>,
     out: &mut Vec<u8>,
 ) -> Result<(), AllocError>
-    ensures ok { OnOk result (AnswersLine (through_answer engine.old.view command.now (transfer_of words)) engine.new.view out.old.items out.new.items) }
+    ensures ok { OnOk result (AnswersLine (through_answer engine.old.view start.now (transfer_of words)) engine.new.view out.old.items out.new.items) }
     ensures err { OnErr result (out.new.items ≡ out.old.items) }
 {
     let transfer = match transfer_of(words) {
@@ -104,7 +104,7 @@ fn answer_through(
     if is_in_use(engine) {
         return push_refused(line, "ChannelInUse", out);
     }
-    copy_through(engine, command, transfer, line, out)
+    copy_through(engine, start, transfer, line, out)
 }
 
 /// Carries out `copy LIST to LIST`.
@@ -139,7 +139,7 @@ pub fn answer_fill(
     ensures err { OnErr result (out.new.items ≡ out.old.items) }
 {
     let words = TransferLine {
-        src: Origin::Byte(src),
+        src: Origin::Place(src),
         dst,
         wait: None,
         signal: None,
