@@ -1,5 +1,5 @@
 //! Whole runs over an engine: what is printed for an input, by the rules of the formats.
-use crate::tests::run;
+use crate::tests::{assert_ran, run};
 use std::alloc::Global;
 use std::test::Fail;
 
@@ -9,11 +9,7 @@ fn refused_while_in_use(rt: HostRuntime) -> Result<(), Fail> {
         rt.alloc(),
         b"memory 64 1\nsubmit 0 0+4 to 8+4\ncopy 16+4 to 24+4",
     );
-    assert_eq!(rt; ran.0, 0);
-    assert_eq!(rt;
-        ran.1.as_slice(),
-        b"cookie 1\nrefused ChannelInUse\n".as_slice()
-    );
+    assert_ran(&rt, &ran, 0, b"cookie 1\nrefused ChannelInUse\n");
     Ok(())
 }
 
@@ -31,9 +27,10 @@ fn a_copy_by_steps(rt: HostRuntime) -> Result<(), Fail> {
           result 0 1\n\
           totals",
     );
-    assert_eq!(rt; ran.0, 0);
-    assert_eq!(rt;
-        ran.1.as_slice(),
+    assert_ran(
+        &rt,
+        &ran,
+        0,
         b"ok\n\
           cookie 1\n\
           issued 1\n\
@@ -43,8 +40,7 @@ fn a_copy_by_steps(rt: HostRuntime) -> Result<(), Fail> {
           read 0x00002000 01 02 03 04\n\
           status Complete\n\
           result NoError residue 0\n\
-          totals entries 5 steps 8 running 0\n"
-            .as_slice()
+          totals entries 5 steps 8 running 0\n",
     );
     Ok(())
 }
@@ -66,9 +62,10 @@ fn held_and_busy(rt: HostRuntime) -> Result<(), Fail> {
           step 0 5\n\
           step 1",
     );
-    assert_eq!(rt; ran.0, 0);
-    assert_eq!(rt;
-        ran.1.as_slice(),
+    assert_ran(
+        &rt,
+        &ran,
+        0,
         b"cookie 1\n\
           cookie 1\n\
           issued 1\n\
@@ -81,8 +78,7 @@ fn held_and_busy(rt: HostRuntime) -> Result<(), Fail> {
           refused Busy 0 1\n\
           step 0 moved x4\n\
           step 0 finished 1 NoError residue 0 x1\n\
-          step 1 started 1 x1\n"
-            .as_slice()
+          step 1 started 1 x1\n",
     );
     Ok(())
 }
@@ -99,16 +95,16 @@ fn one_source_for_two(rt: HostRuntime) -> Result<(), Fail> {
           step 0\n\
           step 1",
     );
-    assert_eq!(rt; ran.0, 0);
-    assert_eq!(rt;
-        ran.1.as_slice(),
+    assert_ran(
+        &rt,
+        &ran,
+        0,
         b"cookie 1\n\
           cookie 1\n\
           issued 1\n\
           issued 1\n\
           step 0 started 1 x1\n\
-          step 1 started 1 x1\n"
-            .as_slice()
+          step 1 started 1 x1\n",
     );
     Ok(())
 }
@@ -130,9 +126,10 @@ fn terminated(rt: HostRuntime) -> Result<(), Fail> {
           result 0 3\n\
           read 0x201E+4",
     );
-    assert_eq!(rt; ran.0, 0);
-    assert_eq!(rt;
-        ran.1.as_slice(),
+    assert_ran(
+        &rt,
+        &ran,
+        0,
         b"ok\n\
           cookie 1\n\
           cookie 2\n\
@@ -144,8 +141,7 @@ fn terminated(rt: HostRuntime) -> Result<(), Fail> {
           result Aborted residue 4\n\
           result Aborted residue 8\n\
           result Aborted residue 5\n\
-          read 0x0000201E 11 22 00 00\n"
-            .as_slice()
+          read 0x0000201E 11 22 00 00\n",
     );
     Ok(())
 }
@@ -166,9 +162,10 @@ fn paused(rt: HostRuntime) -> Result<(), Fail> {
           result 0 1\n\
           terminate 0",
     );
-    assert_eq!(rt; ran.0, 0);
-    assert_eq!(rt;
-        ran.1.as_slice(),
+    assert_ran(
+        &rt,
+        &ran,
+        0,
         b"cookie 1\n\
           issued 1\n\
           step 0 started 1 x1\n\
@@ -180,8 +177,7 @@ fn paused(rt: HostRuntime) -> Result<(), Fail> {
           step 0 moved x5\n\
           step 0 finished 1 NoError residue 0 x1\n\
           result NoError residue 0\n\
-          aborted 0\n"
-            .as_slice()
+          aborted 0\n",
     );
     Ok(())
 }
@@ -206,9 +202,10 @@ fn statuses_and_pauses(rt: HostRuntime) -> Result<(), Fail> {
           raise 32\n\
           read 16+0",
     );
-    assert_eq!(rt; ran.0, 0);
-    assert_eq!(rt;
-        ran.1.as_slice(),
+    assert_ran(
+        &rt,
+        &ran,
+        0,
         b"status Unknown\n\
           status Unknown\n\
           cookie 1\n\
@@ -222,8 +219,7 @@ fn statuses_and_pauses(rt: HostRuntime) -> Result<(), Fail> {
           refused OutOfMemoryRange\n\
           step 9 refused NoChannel x1\n\
           refused BadEvent\n\
-          read 0x00000010\n"
-            .as_slice()
+          read 0x00000010\n",
     );
     Ok(())
 }
@@ -243,9 +239,10 @@ fn a_load_fails(rt: HostRuntime) -> Result<(), Fail> {
           terminate 0\n\
           step 0",
     );
-    assert_eq!(rt; ran.0, 0);
-    assert_eq!(rt;
-        ran.1.as_slice(),
+    assert_ran(
+        &rt,
+        &ran,
+        0,
         b"ok\n\
           ok\n\
           cookie 1\n\
@@ -257,8 +254,7 @@ fn a_load_fails(rt: HostRuntime) -> Result<(), Fail> {
           result ReadFailed residue 4\n\
           read 0x0000201E 11 22 00 00\n\
           aborted 0\n\
-          step 0 nothing x1\n"
-            .as_slice()
+          step 0 nothing x1\n",
     );
     Ok(())
 }
@@ -278,9 +274,10 @@ fn one_event_passes_one(rt: HostRuntime) -> Result<(), Fail> {
           step 0\n\
           step 1",
     );
-    assert_eq!(rt; ran.0, 0);
-    assert_eq!(rt;
-        ran.1.as_slice(),
+    assert_ran(
+        &rt,
+        &ran,
+        0,
         b"cookie 1\n\
           cookie 1\n\
           issued 1\n\
@@ -291,8 +288,7 @@ fn one_event_passes_one(rt: HostRuntime) -> Result<(), Fail> {
           step 1 waiting 3 x1\n\
           ok\n\
           step 0 moved x1\n\
-          step 1 waiting 3 x1\n"
-            .as_slice()
+          step 1 waiting 3 x1\n",
     );
     Ok(())
 }
@@ -311,9 +307,10 @@ fn one_signals_the_other(rt: HostRuntime) -> Result<(), Fail> {
           step 1 10\n\
           read 0x300+4",
     );
-    assert_eq!(rt; ran.0, 0);
-    assert_eq!(rt;
-        ran.1.as_slice(),
+    assert_ran(
+        &rt,
+        &ran,
+        0,
         b"ok\n\
           cookie 1\n\
           cookie 1\n\
@@ -325,8 +322,7 @@ fn one_signals_the_other(rt: HostRuntime) -> Result<(), Fail> {
           step 1 started 1 x1\n\
           step 1 moved x8\n\
           step 1 finished 1 NoError residue 0 x1\n\
-          read 0x00000300 0A 0B 0C 0D\n"
-            .as_slice()
+          read 0x00000300 0A 0B 0C 0D\n",
     );
     Ok(())
 }
@@ -346,9 +342,10 @@ fn a_waiting_one_holds(rt: HostRuntime) -> Result<(), Fail> {
           step 1 9\n\
           step 0",
     );
-    assert_eq!(rt; ran.0, 0);
-    assert_eq!(rt;
-        ran.1.as_slice(),
+    assert_ran(
+        &rt,
+        &ran,
+        0,
         b"cookie 1\n\
           cookie 1\n\
           issued 1\n\
@@ -359,8 +356,7 @@ fn a_waiting_one_holds(rt: HostRuntime) -> Result<(), Fail> {
           ok\n\
           step 1 moved x8\n\
           step 1 finished 1 NoError residue 0 x1\n\
-          step 0 started 1 x1\n"
-            .as_slice()
+          step 0 started 1 x1\n",
     );
     Ok(())
 }
@@ -377,16 +373,16 @@ fn marks_and_events(rt: HostRuntime) -> Result<(), Fail> {
           mark read 0xFFFFFFFF+2\n\
           unmark",
     );
-    assert_eq!(rt; ran.0, 0);
-    assert_eq!(rt;
-        ran.1.as_slice(),
+    assert_ran(
+        &rt,
+        &ran,
+        0,
         b"refused BadEvent\n\
           ok\n\
           refused BadRange\n\
           ok\n\
           refused BadRange\n\
-          ok\n"
-            .as_slice()
+          ok\n",
     );
     Ok(())
 }
@@ -407,9 +403,10 @@ fn a_store_fails(rt: HostRuntime) -> Result<(), Fail> {
           read 0x300+4\n\
           totals",
     );
-    assert_eq!(rt; ran.0, 0);
-    assert_eq!(rt;
-        ran.1.as_slice(),
+    assert_ran(
+        &rt,
+        &ran,
+        0,
         b"ok\n\
           ok\n\
           copy finished 1 WriteFailed residue 4\n\
@@ -419,8 +416,7 @@ fn a_store_fails(rt: HostRuntime) -> Result<(), Fail> {
           copy finished 2 NoError residue 0\n\
           read 0x00000200 00 00 00 00\n\
           read 0x00000300 01 02 03 04\n\
-          totals entries 12 steps 14 running 0\n"
-            .as_slice()
+          totals entries 12 steps 14 running 0\n",
     );
     Ok(())
 }
@@ -441,9 +437,10 @@ fn copies_of_a_controller(rt: HostRuntime) -> Result<(), Fail> {
           copy 8+4 to 16+4\n\
           totals",
     );
-    assert_eq!(rt; ran.0, 0);
-    assert_eq!(rt;
-        ran.1.as_slice(),
+    assert_ran(
+        &rt,
+        &ran,
+        0,
         b"ok\n\
           refused ChannelInUse\n\
           ok\n\
@@ -453,8 +450,7 @@ fn copies_of_a_controller(rt: HostRuntime) -> Result<(), Fail> {
           issued 1\n\
           step 1 started 1 x1\n\
           copy held 1 1\n\
-          totals entries 4 steps 0 running 1\n"
-            .as_slice()
+          totals entries 4 steps 0 running 1\n",
     );
     Ok(())
 }
@@ -465,11 +461,7 @@ fn the_longest_copy_from_odd_addresses(rt: HostRuntime) -> Result<(), Fail> {
         rt.alloc(),
         b"memory 0x400000 1\ncopy 0x1+1048576 to 0x200001+1048576\n",
     );
-    assert_eq!(rt; ran.0, 0);
-    assert_eq!(rt;
-        ran.1.as_slice(),
-        b"copy finished 1 NoError residue 0\n".as_slice()
-    );
+    assert_ran(&rt, &ran, 0, b"copy finished 1 NoError residue 0\n");
     Ok(())
 }
 
@@ -490,9 +482,10 @@ fn channels_that_are_not_there(rt: HostRuntime) -> Result<(), Fail> {
           result 1 1\n\
           result 0 0",
     );
-    assert_eq!(rt; ran.0, 0);
-    assert_eq!(rt;
-        ran.1.as_slice(),
+    assert_ran(
+        &rt,
+        &ran,
+        0,
         b"refused NoChannel\n\
           refused NoChannel\n\
           refused EmptySegment\n\
@@ -503,8 +496,7 @@ fn channels_that_are_not_there(rt: HostRuntime) -> Result<(), Fail> {
           step 1 refused NoChannel x3\n\
           status Unknown\n\
           result none\n\
-          result none\n"
-            .as_slice()
+          result none\n",
     );
     Ok(())
 }
@@ -520,14 +512,14 @@ fn idle_steps_are_counted_line_by_line(rt: HostRuntime) -> Result<(), Fail> {
           step 0 3000\n\
           totals",
     );
-    assert_eq!(rt; ran.0, 0);
-    assert_eq!(rt;
-        ran.1.as_slice(),
+    assert_ran(
+        &rt,
+        &ran,
+        0,
         b"step 0 nothing x1000000\n\
           step 0 nothing x1\n\
           step 0 nothing x3000\n\
-          totals entries 0 steps 0 running 0\n"
-            .as_slice()
+          totals entries 0 steps 0 running 0\n",
     );
     Ok(())
 }

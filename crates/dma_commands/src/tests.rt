@@ -7,6 +7,7 @@ use dma_script::output::Sink;
 use std::alloc::Global;
 use std::io;
 use std::io::Write;
+use std::process::Abort;
 use std::test::Fail;
 
 /// Keeps what is written.
@@ -39,6 +40,12 @@ impl Sink for Kept {
     fn put(&mut self, buf: &[u8]) -> io::Result<usize> {
         self.write(buf)
     }
+}
+
+/// A call ended with this status, and printed this.
+pub fn assert_ran(rt: &impl Abort, ran: &(u8, Vec<u8>), status: u8, text: &[u8]) {
+    assert_eq!(rt; ran.0, status);
+    assert_eq!(rt; ran.1.as_slice(), text);
 }
 
 /// The status of a run, and what it printed.
@@ -120,8 +127,7 @@ fn assembled(rt: HostRuntime) -> Result<(), Fail> {
     ];
     for (input, status, text) in cases {
         let ran = asm(rt.alloc(), input);
-        assert_eq!(rt; ran.0, status);
-        assert_eq!(rt; ran.1.as_slice(), text);
+        assert_ran(&rt, &ran, status, text);
     }
     asm_prints();
     Ok(())
@@ -162,8 +168,7 @@ fn disassembled(rt: HostRuntime) -> Result<(), Fail> {
     ];
     for (input, status, text) in cases {
         let ran = dis(rt.alloc(), input);
-        assert_eq!(rt; ran.0, status);
-        assert_eq!(rt; ran.1.as_slice(), text);
+        assert_ran(&rt, &ran, status, text);
     }
     let ran = dis(rt.alloc(), b"00 34 01");
     assert_eq!(rt; ran.1.as_slice(), b"offset 1: BadField\n".as_slice());
@@ -216,8 +221,7 @@ fn planned_fills(rt: HostRuntime) -> Result<(), Fail> {
     ];
     for (input, status, text) in cases {
         let ran = plan(rt.alloc(), input);
-        assert_eq!(rt; ran.0, status);
-        assert_eq!(rt; ran.1.as_slice(), text);
+        assert_ran(&rt, &ran, status, text);
     }
     Ok(())
 }
@@ -270,8 +274,7 @@ fn planned(rt: HostRuntime) -> Result<(), Fail> {
     ];
     for (input, status, text) in cases {
         let ran = plan(rt.alloc(), input);
-        assert_eq!(rt; ran.0, status);
-        assert_eq!(rt; ran.1.as_slice(), text);
+        assert_ran(&rt, &ran, status, text);
     }
     Ok(())
 }
@@ -288,8 +291,7 @@ fn longest_program(rt: HostRuntime) -> Result<(), Fail> {
     assert_eq!(rt; ran.1.len(), 3 * 8192);
     text.extend_from_slice(b"DMAEND")?;
     let ran = asm(rt.alloc(), &text);
-    assert_eq!(rt; ran.0, 1);
-    assert_eq!(rt; ran.1.as_slice(), b"line 8193: ProgramTooLong\n".as_slice());
+    assert_ran(&rt, &ran, 1, b"line 8193: ProgramTooLong\n");
     Ok(())
 }
 
@@ -303,12 +305,10 @@ fn disassembled_without_limit(rt: HostRuntime) -> Result<(), Fail> {
         text.extend_from_slice(b"DMANOP\n")?;
     }
     let ran = dis(rt.alloc(), &pairs);
-    assert_eq!(rt; ran.0, 0);
-    assert_eq!(rt; ran.1.as_slice(), text.as_slice());
+    assert_ran(&rt, &ran, 0, &text);
     pairs.extend_from_slice(b"28")?;
     let ran = dis(rt.alloc(), &pairs);
-    assert_eq!(rt; ran.0, 1);
-    assert_eq!(rt; ran.1.as_slice(), b"offset 8193: Unknown 28\n".as_slice());
+    assert_ran(&rt, &ran, 1, b"offset 8193: Unknown 28\n");
     Ok(())
 }
 
@@ -362,8 +362,7 @@ fn planned_pieces(rt: HostRuntime) -> Result<(), Fail> {
     ];
     for (input, status, text) in cases {
         let ran = plan(rt.alloc(), input);
-        assert_eq!(rt; ran.0, status);
-        assert_eq!(rt; ran.1.as_slice(), text);
+        assert_ran(&rt, &ran, status, text);
     }
     Ok(())
 }
@@ -389,8 +388,7 @@ fn planned_refusals(rt: HostRuntime) -> Result<(), Fail> {
     ];
     for (input, status, text) in cases {
         let ran = plan(rt.alloc(), input);
-        assert_eq!(rt; ran.0, status);
-        assert_eq!(rt; ran.1.as_slice(), text);
+        assert_ran(&rt, &ran, status, text);
     }
     Ok(())
 }
@@ -471,8 +469,7 @@ fn whole_runs(rt: HostRuntime) -> Result<(), Fail> {
     ];
     for (input, status, text) in cases {
         let ran = run(rt.alloc(), input);
-        assert_eq!(rt; ran.0, status);
-        assert_eq!(rt; ran.1.as_slice(), text);
+        assert_ran(&rt, &ran, status, text);
     }
     Ok(())
 }

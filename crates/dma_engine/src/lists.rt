@@ -38,12 +38,12 @@ impl Indices {
         self.items.len()
     }
 
-    /// The one that stands at a place of the list.
-    pub fn at(&self, place: usize) -> usize
-        requires { place < length self.now.items }
-        ensures { result ≡ slice_index self.now.items place }
+    /// The one with this number in the list, from 0.
+    pub fn at(&self, index: usize) -> usize
+        requires { index < length self.now.items }
+        ensures { result ≡ slice_index self.now.items index }
     {
-        self.items[place]
+        self.items[index]
     }
 
     /// Makes room for one more.

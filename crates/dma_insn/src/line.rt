@@ -178,7 +178,7 @@ fn hex_digit(byte: u8) -> Option<u32>
 }
 
 // Eight hexadecimal digits.
-fn hex_digits(digits: &[u8]) -> Option<u32>
+fn hex_value(digits: &[u8]) -> Option<u32>
     requires { length digits.now ≡ 8 }
     ensures { result ≡ hex_from 0 digits.now }
 {
@@ -194,7 +194,7 @@ fn value(word: &[u8]) -> Result<u32, Cause>
     ensures { result ≡ value_at word.now }
 {
     match word {
-        [b'0', b'x', digits @ ..] if digits.len() == 8 => hex_digits(digits).ok_or(Cause::Operand),
+        [b'0', b'x', digits @ ..] if digits.len() == 8 => hex_value(digits).ok_or(Cause::Operand),
         _ => Err(Cause::Operand),
     }
 }

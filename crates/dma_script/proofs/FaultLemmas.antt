@@ -9,7 +9,7 @@ use Rattle.dma_script.specs.Plan.{transfer_line, plan_step, plan_of}
 use Rattle.dma_script.specs.Arguments.{where_holds, no_word}
 use Rattle.dma_script.specs.Race.{RaceRead, nothing_read, race_keyword_of, is_early, job_line, next_race_line, race_step, race_script_of}
 use Rattle.dma_script.specs.Statements.{keyword_of, first_line, later_line, next_line, run_step, run_script_of}
-use Rattle.dma_script.specs.Causes.{told, line_told, run_asks, plan_asks, is_taken, first_fault, behind_after, no_line_fault, fault_told, race_asks, RaceSide, side_of, race_command_of, is_go, after_command, race_after, at_start, no_go_fault, FirstFaultsAreTold}
+use Rattle.dma_script.specs.Causes.{cause_told, line_told, run_asks, plan_asks, is_taken, first_fault, behind_after, no_line_fault, fault_told, race_asks, RaceSide, side_of, race_command_of, is_go, after_command, race_after, at_start, no_go_fault, FirstFaultsAreTold}
 use Rattle.dma_script.specs.declared.fault.Cause.{Cause}
 use Rattle.dma_script.specs.declared.fault.Cause.TheVariants as causes
 use Rattle.dma_script.specs.declared.fault.Fault.{Fault}
@@ -25,14 +25,14 @@ use Rattle.dma_script.specs.declared.race.RaceScript.{RaceScript}
 use Rattle.dma_script.proofs.CauseLemmas.{run_line, race_line, plan_line}
 
 -- one line, of which a fault is told or not, and what follows it
-one_line : {S : Type 0} (n : ℕ) (r : Result S Cause) (f : S → Result S Fault) (test : Option Cause) (rest : Option Fault) → told r ≡ test → ((next : S) → r ≡ Ok next → fault_told (f next) ≡ rest)
+one_line : {S : Type 0} (n : ℕ) (r : Result S Cause) (f : S → Result S Fault) (test : Option Cause) (rest : Option Fault) → cause_told r ≡ test → ((next : S) → r ≡ Ok next → fault_told (f next) ≡ rest)
     → fault_told (at_line n r >>= f) ≡ option_or (option_map (λ cause. let fault : Fault = record { line = n; cause = cause } in fault) test) rest
 one_line n (Ok next) f test rest same more = more next refl ∙ ap (λ t. option_or (option_map (λ cause. let fault : Fault = record { line = n; cause = cause } in fault) t) rest) same
 one_line n (Err cause) f test rest same more = ap (λ t. option_or (option_map (λ cause. let fault : Fault = record { line = n; cause = cause } in fault) t) rest) same
 
 -- The fault of some lines, for any reader whose lines tell by how far the script is.
 lines_told : {S K : Type 0} (step : S → List (List ℕ) → Result S Cause) (side : S → K) (test : K → List ℕ → Option Cause) (after : K → List ℕ → K)
-    → ((read : S) (line : List ℕ) → told (after_line step read line) ≡ test (side read) line)
+    → ((read : S) (line : List ℕ) → cause_told (after_line step read line) ≡ test (side read) line)
     → ((read : S) (line : List ℕ) (next : S) → after_line step read line ≡ Ok next → side next ≡ after (side read) line)
     → (n : ℕ) (read : S) (rest : List (List ℕ)) → fault_told (after_lines step n read rest) ≡ first_fault test after (side read) n rest
 lines_told step side test after tells goes n read [] = refl

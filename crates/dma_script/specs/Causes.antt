@@ -50,8 +50,8 @@ pub record Operand : Type 0 where
   pub word : List ℕ
 
 -- the number that a word spells
-abbrev pub value_of : List ℕ → ℕ
-value_of word = unwrap_or (number_of word) 0
+abbrev pub number_or_zero : List ℕ → ℕ
+number_or_zero word = unwrap_or (number_of word) 0
 
 -- a word that is not in its form
 abbrev pub form_cause : Form → List ℕ → Option Cause
@@ -62,23 +62,23 @@ form_cause _ word = where_not (is_some (number_of word)) causes.Number
 
 -- a channel or an event above 255, or a number of steps that is 0 or above 1,000,000
 abbrev pub range_cause : Form → List ℕ → Option Cause
-range_cause byte word = where_not (nat_le (value_of word) 255) causes.Range
-range_cause steps word = where_not (nat_le 1 (value_of word) && nat_le (value_of word) 1000000) causes.Range
+range_cause byte word = where_not (nat_le (number_or_zero word) 255) causes.Range
+range_cause steps word = where_not (nat_le 1 (number_or_zero word) && nat_le (number_or_zero word) 1000000) causes.Range
 range_cause _ word = None
 
 -- a memory without a byte, or with more than 4,294,963,200
 abbrev pub size_cause : Form → List ℕ → Option Cause
-size_cause size word = where_not (nat_le 1 (value_of word) && nat_le (value_of word) 4294963200) causes.SizeOutOfRange
+size_cause size word = where_not (nat_le 1 (number_or_zero word) && nat_le (number_or_zero word) 4294963200) causes.SizeOutOfRange
 size_cause _ word = None
 
 -- no channel, or more than 8
 abbrev pub channels_cause : Form → List ℕ → Option Cause
-channels_cause channels word = where_not (nat_le 1 (value_of word) && nat_le (value_of word) 8) causes.BadChannels
+channels_cause channels word = where_not (nat_le 1 (number_or_zero word) && nat_le (number_or_zero word) 8) causes.BadChannels
 channels_cause _ word = None
 
 -- one test over all words, from the left
-abbrev pub over : (Form → List ℕ → Option Cause) → List Operand → Option Cause
-over test operands = first_told (map (λ operand. test operand.form operand.word) operands)
+abbrev pub first_over : (Form → List ℕ → Option Cause) → List Operand → Option Cause
+first_over test operands = first_told (map (λ operand. test operand.form operand.word) operands)
 
 -- ---- one line
 
@@ -99,11 +99,11 @@ tests line asked =
     ∷ where_not asked.command causes.Command
     ∷ where_not asked.first causes.First
     ∷ where_not (is_some asked.operands) causes.Words
-    ∷ over form_cause operands
-    ∷ over range_cause operands
+    ∷ first_over form_cause operands
+    ∷ first_over range_cause operands
     ∷ where_not asked.in_range causes.Range
-    ∷ over size_cause operands
-    ∷ over channels_cause operands
+    ∷ first_over size_cause operands
+    ∷ first_over channels_cause operands
     ∷ []
 
 -- What is told of a line, given what is asked of its words: nothing of a line that is skipped.
@@ -242,7 +242,7 @@ plan_asks behind words =
 
 -- FIRST is at most LAST, and LAST at most 7
 abbrev pub job_in_range : List (List ℕ) → Bool
-job_in_range (first ∷ last ∷ turns ∷ []) = nat_le (value_of first) (value_of last) && nat_le (value_of last) 7
+job_in_range (first ∷ last ∷ turns ∷ []) = nat_le (number_or_zero first) (number_or_zero last) && nat_le (number_or_zero last) 7
 job_in_range _ = true
 
 -- how far a race script is: behind its memory line, behind `go`, and behind so many jobs
@@ -280,19 +280,19 @@ side_of read =
 -- ---- the law
 
 -- the cause that a reading tells, and none where it has read
-abbrev pub told : {A : Type 0} → Result A Cause → Option Cause
-told (Ok read) = None
-told (Err cause) = Some cause
+abbrev pub cause_told : {A : Type 0} → Result A Cause → Option Cause
+cause_told (Ok read) = None
+cause_told (Err cause) = Some cause
 
 -- Each reader tells of each line, behind whatever it has read, the first cause of the table that holds, and reads it exactly
 -- where none holds.
 pub record FirstCausesAreTold : Type 0 where
   pub run : (read : Option RunScript) (line : List ℕ)
-      → told (after_line run_step read line) ≡ line_told (run_asks (is_some read)) line
+      → cause_told (after_line run_step read line) ≡ line_told (run_asks (is_some read)) line
   pub race : (read : RaceRead) (line : List ℕ)
-      → told (after_line race_step read line) ≡ line_told (race_asks (side_of read)) line
+      → cause_told (after_line race_step read line) ≡ line_told (race_asks (side_of read)) line
   pub plan : (read : Option TransferLine) (line : List ℕ)
-      → told (after_line plan_step read line) ≡ line_told (plan_asks (is_some read)) line
+      → cause_told (after_line plan_step read line) ≡ line_told (plan_asks (is_some read)) line
 
 -- ---- a whole script
 

@@ -30,7 +30,7 @@ words_of line = filter (λ word. not (length word == 0)) (slice_split is_blank l
 abbrev pub number_in : ℕ → List ℕ → Option ℕ
 number_in base digits =
     if not (length digits == 0) && list_all (λ c. nat_lt (digit_value c) base) digits
-        && nat_lt (digits_value base digits) (2 ^ 32)
+    && nat_lt (digits_value base digits) (2 ^ 32)
     then Some (digits_value base digits) else None
 
 -- 0x and hexadecimal digits in either case, or decimal digits

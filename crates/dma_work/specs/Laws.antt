@@ -2,7 +2,7 @@
 use Rattle.std.specs.Prelude.{◌≡◌, ◌≢◌, ℕ, ◌<◌, ◌≤◌, List}
 use Rattle.dma_engine.specs.Ticks.{Board, Tick, counts}
 use Rattle.dma_engine.specs.declared.turn.Status.TheVariants.{Unknown, Complete}
-use Rattle.dma_work.specs.Ticks.{AreFinished, IsGiven, StartsWith, status_in}
+use Rattle.dma_work.specs.Ticks.{AreFinished, IsGiven, StartsWith, status_after}
 
 -- the counts of a board are numbers of 32 bits
 abbrev pub AreCounts : Board → Type 0
@@ -12,16 +12,16 @@ AreCounts board = (ch : ℕ) → ((counts board ch).used ≤ 4294967295) × ((co
 abbrev pub StaysKnown : Type 0
 StaysKnown =
     (base : Board) (told seen : List Tick) (ch cookie : ℕ) → AreCounts base → StartsWith seen told
-    → IsGiven base told ch cookie → status_in base seen ch cookie ≢ Unknown
+    → IsGiven base told ch cookie → status_after base seen ch cookie ≢ Unknown
 
 -- A cookie that is complete in a list is complete in each list that begins with that one.
 abbrev pub StaysComplete : Type 0
 StaysComplete =
     (base : Board) (earlier later : List Tick) (ch cookie : ℕ) → AreCounts base → StartsWith later earlier
-    → status_in base earlier ch cookie ≡ Complete → status_in base later ch cookie ≡ Complete
+    → status_after base earlier ch cookie ≡ Complete → status_after base later ch cookie ≡ Complete
 
 -- A cookie up to the last one that was closed is complete in each list that begins with that of the closing.
 abbrev pub ClosedIsComplete : Type 0
 ClosedIsComplete =
     (base : Board) (told seen : List Tick) (ch through cookie : ℕ) → AreCounts base → StartsWith seen told
-    → AreFinished base told ch through → 0 < cookie → cookie ≤ through → status_in base seen ch cookie ≡ Complete
+    → AreFinished base told ch through → 0 < cookie → cookie ≤ through → status_after base seen ch cookie ≡ Complete

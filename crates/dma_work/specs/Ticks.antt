@@ -14,8 +14,8 @@ abbrev pub board_from : Board → List Tick → Board
 board_from base ticks = board_after base ticks
 
 -- how far a cookie is after these ticks
-abbrev pub status_in : Board → List Tick → ℕ → ℕ → Status
-status_in base ticks ch cookie = status_of (board_from base ticks) ch cookie
+abbrev pub status_after : Board → List Tick → ℕ → ℕ → Status
+status_after base ticks ch cookie = status_of (board_from base ticks) ch cookie
 
 -- the counts of the channels 0 to 7
 abbrev pub eight : Board → Board

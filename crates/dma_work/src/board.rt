@@ -2,7 +2,7 @@
 
 ghost use Rattle.std.specs.Prelude.{◌≡◌, ◌++◌, [], ◌∷◌, IsTrue};
 ghost use Rattle.dma_work.specs.inner.Posted.{with_ticks};
-ghost use Rattle.dma_work.specs.Ticks.{StartsWith, board_from, status_in};
+ghost use Rattle.dma_work.specs.Ticks.{StartsWith, board_from, status_after};
 
 use crate::counts::Counts;
 use crate::log::Front;
@@ -74,7 +74,7 @@ impl Board {
 
     /// How far a cookie is.
     pub(crate) fn status(&self, ch: u8, cookie: u32) -> Status
-        ensures { result ≡ status_in self.now.base self.now.ticks ch cookie }
+        ensures { result ≡ status_after self.now.base self.now.ticks ch cookie }
     {
         self.counts.status(ch, cookie)
     }

@@ -4,7 +4,7 @@ ghost use Rattle.std.specs.Prelude.{◌≡◌, ◌⊎◌, Some, IfSome};
 ghost use Rattle.left_right.specs.Sides.{view};
 ghost use Rattle.dma_work.specs.inner.Seen.{known_by, seen_list};
 ghost use Rattle.dma_work.specs.inner.Posted.{Later};
-ghost use Rattle.dma_work.specs.Ticks.{StartsWith, status_in};
+ghost use Rattle.dma_work.specs.Ticks.{StartsWith, status_after};
 
 use crate::names::DeskName;
 use crate::rule::{BoardReader, Look};
@@ -41,7 +41,7 @@ fn look(reader: BoardReader, longest: &Told, ch: u8, cookie: u32) -> (BoardReade
     ensures there { view result.0.place ≡ Some (seen_list (view result.0.place)) }
     ensures later { Later (seen_list (view reader.place)) (seen_list (view result.0.place)) }
     ensures covers { IfSome result.1 (λ s. StartsWith (seen_list (view result.0.place)).ticks longest.now.ticks) }
-    ensures some { IfSome result.1 (λ s. s ≡ status_in (seen_list (view result.0.place)).base (seen_list (view result.0.place)).ticks ch cookie) }
+    ensures some { IfSome result.1 (λ s. s ≡ status_after (seen_list (view result.0.place)).base (seen_list (view result.0.place)).ticks ch cookie) }
 {
     match reader.enter_as::<Look>() {
         Ok(reading) => {
@@ -87,7 +87,7 @@ impl StatusReader {
         ensures same { self.new ≡ record (self.old) { seen = self.new.seen } }
         ensures later { StartsWith self.new.seen self.old.seen }
         ensures covers { IfSome result (λ s. StartsWith self.new.seen self.old.learnt) }
-        ensures some { IfSome result (λ s. s ≡ status_in self.old.base self.new.seen ch cookie) }
+        ensures some { IfSome result (λ s. s ≡ status_after self.old.base self.new.seen ch cookie) }
     {
         replace_with(
             &mut self.reader,

@@ -3,10 +3,10 @@ ghost use Rattle.std.specs.Prelude.{◌≡◌, ◌≤◌, ◌+◌, ◌∷◌, []
 ghost use Rattle.dma_script.specs.Command.{Wrote, failures, longest_input, text_of};
 ghost use Rattle.dmasim.specs.CommandLine.{SubcommandEnds, WordEnds, subcommand_of, usage};
 
+use crate::race::race_script;
 use dma_commands::asm::asm_main;
 use dma_commands::dis::dis_main;
 use dma_commands::plan::plan_main;
-use crate::race::race_script;
 use dma_commands::run::run_script;
 use dma_script::command::FAULT;
 use dma_script::input::Source;

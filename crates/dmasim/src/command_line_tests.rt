@@ -1,6 +1,6 @@
 //! Whole calls of the program: its word, an input, the exit status, and what is printed.
 use crate::command_line::serve_word;
-use crate::test_sink::Kept;
+use crate::test_sink::{Kept, assert_ran};
 use dma_script::output::Sink;
 use std::alloc::{AllocError, Global};
 use std::io;
@@ -110,11 +110,7 @@ fn another_word_prints_the_usage(rt: HostRuntime) -> Result<(), Fail> {
         "run ",
     ] {
         let ended = call(&rt, rt.alloc(), word, b"memory 16 1\n")?;
-        assert_eq!(rt; ended.0, 2);
-        assert_eq!(rt;
-            ended.1.as_slice(),
-            b"usage: dmasim asm|dis|plan|run|race\n".as_slice()
-        );
+        assert_ran(&rt, &ended, 2, b"usage: dmasim asm|dis|plan|run|race\n");
     }
     Ok(())
 }

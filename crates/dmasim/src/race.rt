@@ -12,8 +12,8 @@ ghost use Rattle.dmasim.specs.Race.{RacePrints, go_line, race_may_print};
 
 mod early;
 
-use dma_commands::printing::{push_refused, push_worded};
 use crate::race::early::run_early_statements;
+use dma_commands::printing::{push_refused, push_worded};
 use dma_commands::run::run_statements;
 use dma_engine::{Engine, NewFault, NoMemory};
 use dma_script::command::{FAULT, OpenCommand, SUCCESS, serve_open};

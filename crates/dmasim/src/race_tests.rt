@@ -1,6 +1,6 @@
 //! Whole race scripts over a desk, its workers and its reader: what is printed for an input, whatever the schedule.
 use crate::race::race_script;
-use crate::test_sink::{Kept, run};
+use crate::test_sink::{Kept, assert_ran, run};
 use std::alloc::{AllocError, Global};
 use std::sync::Wait;
 use std::test::Fail;
@@ -33,9 +33,10 @@ fn two_jobs_and_two_channels(rt: HostRuntime) -> Result<(), Fail> {
           read 0x300+4\n\
           totals",
     );
-    assert_eq!(rt; ran.0, 0);
-    assert_eq!(rt;
-        ran.1.as_slice(),
+    assert_ran(
+        &rt,
+        &ran,
+        0,
         b"ok\n\
           cookie 1\n\
           cookie 1\n\
@@ -45,8 +46,7 @@ fn two_jobs_and_two_channels(rt: HostRuntime) -> Result<(), Fail> {
           go steps 16 finished 2\n\
           read 0x00000200 0A 0B 0C 0D\n\
           read 0x00000300 0A 0B 0C 0D\n\
-          totals entries 9 steps 16 running 0\n"
-            .as_slice()
+          totals entries 9 steps 16 running 0\n",
     );
     Ok(())
 }
@@ -70,9 +70,10 @@ fn two_jobs_over_both_channels(rt: HostRuntime) -> Result<(), Fail> {
           read 0x300+4\n\
           totals",
     );
-    assert_eq!(rt; ran.0, 0);
-    assert_eq!(rt;
-        ran.1.as_slice(),
+    assert_ran(
+        &rt,
+        &ran,
+        0,
         b"ok\n\
           cookie 1\n\
           cookie 1\n\
@@ -82,8 +83,7 @@ fn two_jobs_over_both_channels(rt: HostRuntime) -> Result<(), Fail> {
           go steps 16 finished 2\n\
           read 0x00000200 0A 0B 0C 0D\n\
           read 0x00000300 0A 0B 0C 0D\n\
-          totals entries 9 steps 16 running 0\n"
-            .as_slice()
+          totals entries 9 steps 16 running 0\n",
     );
     Ok(())
 }
@@ -111,8 +111,7 @@ fn faults_alone(rt: HostRuntime) -> Result<(), Fail> {
     ];
     for (input, text) in cases {
         let ran = race(&rt, rt.alloc(), input);
-        assert_eq!(rt; ran.0, 1);
-        assert_eq!(rt; ran.1.as_slice(), text);
+        assert_ran(&rt, &ran, 1, text);
     }
     Ok(())
 }
@@ -127,11 +126,9 @@ fn a_seventeenth_job(rt: HostRuntime) -> Result<(), Fail> {
     more.extend_from_slice(b"job 0 0 1\ngo\n")?;
     input.extend_from_slice(b"go\n")?;
     let ran = race(&rt, rt.alloc(), &input);
-    assert_eq!(rt; ran.0, 0);
-    assert_eq!(rt; ran.1.as_slice(), b"go steps 0 finished 0\n".as_slice());
+    assert_ran(&rt, &ran, 0, b"go steps 0 finished 0\n");
     let ran = race(&rt, rt.alloc(), &more);
-    assert_eq!(rt; ran.0, 1);
-    assert_eq!(rt; ran.1.as_slice(), b"line 18: Range\n".as_slice());
+    assert_ran(&rt, &ran, 1, b"line 18: Range\n");
     Ok(())
 }
 
@@ -159,9 +156,10 @@ fn refused_before_and_after_go(rt: HostRuntime) -> Result<(), Fail> {
           step 1\n\
           copy 0+4 to 13+4",
     );
-    assert_eq!(rt; ran.0, 0);
-    assert_eq!(rt;
-        ran.1.as_slice(),
+    assert_ran(
+        &rt,
+        &ran,
+        0,
         b"refused OutOfMemoryRange\n\
           refused OutOfMemoryRange\n\
           refused EmptySegment\n\
@@ -177,8 +175,7 @@ fn refused_before_and_after_go(rt: HostRuntime) -> Result<(), Fail> {
           refused NoChannel\n\
           refused BadEvent\n\
           step 1 refused NoChannel x1\n\
-          refused OutOfMemoryRange\n"
-            .as_slice()
+          refused OutOfMemoryRange\n",
     );
     Ok(())
 }
@@ -212,9 +209,10 @@ fn statuses_and_a_terminate_before_go(rt: HostRuntime) -> Result<(), Fail> {
           read 0x300+4\n\
           totals",
     );
-    assert_eq!(rt; ran.0, 0);
-    assert_eq!(rt;
-        ran.1.as_slice(),
+    assert_ran(
+        &rt,
+        &ran,
+        0,
         b"ok\n\
           status Unknown\n\
           cookie 1\n\
@@ -234,8 +232,7 @@ fn statuses_and_a_terminate_before_go(rt: HostRuntime) -> Result<(), Fail> {
           result NoError residue 0\n\
           read 0x00000200 00 00 00 00\n\
           read 0x00000300 0A 0B 0C 0D\n\
-          totals entries 9 steps 8 running 0\n"
-            .as_slice()
+          totals entries 9 steps 8 running 0\n",
     );
     Ok(())
 }
@@ -256,9 +253,10 @@ fn go_without_jobs(rt: HostRuntime) -> Result<(), Fail> {
           copy 0x100+2 to 0x300+2\n\
           totals",
     );
-    assert_eq!(rt; ran.0, 0);
-    assert_eq!(rt;
-        ran.1.as_slice(),
+    assert_ran(
+        &rt,
+        &ran,
+        0,
         b"ok\n\
           cookie 1\n\
           issued 1\n\
@@ -268,8 +266,7 @@ fn go_without_jobs(rt: HostRuntime) -> Result<(), Fail> {
           step 0 finished 1 NoError residue 0 x1\n\
           read 0x00000200 0A 0B 0C 0D\n\
           copy finished 2 NoError residue 0\n\
-          totals entries 8 steps 16 running 0\n"
-            .as_slice()
+          totals entries 8 steps 16 running 0\n",
     );
     Ok(())
 }
@@ -344,9 +341,10 @@ fn fills_on_both_sides_of_go(rt: HostRuntime) -> Result<(), Fail> {
           read 0x210+3\n\
           totals",
     );
-    assert_eq!(rt; ran.0, 0);
-    assert_eq!(rt;
-        ran.1.as_slice(),
+    assert_ran(
+        &rt,
+        &ran,
+        0,
         b"ok\n\
           cookie 1\n\
           cookie 1\n\
@@ -359,8 +357,7 @@ fn fills_on_both_sides_of_go(rt: HostRuntime) -> Result<(), Fail> {
           read 0x000001FF 00 5A 5A 5A 00\n\
           read 0x00000300 5A 5A 00\n\
           read 0x00000210 5A 5A 00\n\
-          totals entries 13 steps 24 running 0\n"
-            .as_slice()
+          totals entries 13 steps 24 running 0\n",
     );
     Ok(())
 }
@@ -390,9 +387,10 @@ fn a_fill_waits_through_go(rt: HostRuntime) -> Result<(), Fail> {
           read 0x240+2\n\
           totals",
     );
-    assert_eq!(rt; ran.0, 0);
-    assert_eq!(rt;
-        ran.1.as_slice(),
+    assert_ran(
+        &rt,
+        &ran,
+        0,
         b"ok\n\
           cookie 1\n\
           cookie 1\n\
@@ -408,8 +406,7 @@ fn a_fill_waits_through_go(rt: HostRuntime) -> Result<(), Fail> {
           read 0x000001FF 00 5A 5A 5A 00\n\
           read 0x00000300 5A 5A 00\n\
           read 0x00000240 5A 00\n\
-          totals entries 13 steps 25 running 0\n"
-            .as_slice()
+          totals entries 13 steps 25 running 0\n",
     );
     Ok(())
 }
@@ -434,9 +431,10 @@ fn a_fill_waits_for_another(rt: HostRuntime) -> Result<(), Fail> {
           read 0x300+3\n\
           totals",
     );
-    assert_eq!(rt; ran.0, 0);
-    assert_eq!(rt;
-        ran.1.as_slice(),
+    assert_ran(
+        &rt,
+        &ran,
+        0,
         b"ok\n\
           cookie 1\n\
           cookie 1\n\
@@ -447,8 +445,7 @@ fn a_fill_waits_for_another(rt: HostRuntime) -> Result<(), Fail> {
           status Complete\n\
           read 0x000001FF 00 5A 5A 5A 00\n\
           read 0x00000300 5A 5A 00\n\
-          totals entries 11 steps 18 running 0\n"
-            .as_slice()
+          totals entries 11 steps 18 running 0\n",
     );
     Ok(())
 }

@@ -4,6 +4,7 @@ use dma_script::output::Sink;
 use std::alloc::Global;
 use std::io;
 use std::io::Write;
+use std::process::Abort;
 
 /// Keeps what is written.
 #[derive(Drop)]
@@ -35,6 +36,12 @@ impl Sink for Kept {
     fn put(&mut self, buf: &[u8]) -> io::Result<usize> {
         self.write(buf)
     }
+}
+
+/// A call ended with this status, and printed this.
+pub fn assert_ran(rt: &impl Abort, ran: &(u8, Vec<u8>), status: u8, text: &[u8]) {
+    assert_eq!(rt; ran.0, status);
+    assert_eq!(rt; ran.1.as_slice(), text);
 }
 
 /// The status of a run, and what it printed.

@@ -1,7 +1,7 @@
 -- The digits that are left, behind the value so far, read as all of them do; the value has as many digits.
 use Rattle.std.proofs.Common.{◌≡◌, ◌<◌, ◌^◌, drop, length}
 use Rattle.dma_insn.specs.LineReading.{hex_from}
-use Rattle.dma_insn.proofs.line.hex_digits.Given as goal
+use Rattle.dma_insn.proofs.line.hex_value.Given as goal
 
 abbrev pub invariant-loop-byte : goal.invariant-loop-byte
 invariant-loop-byte l = record {

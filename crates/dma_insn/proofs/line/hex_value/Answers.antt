@@ -1,6 +1,6 @@
 use Rattle.std.proofs.Common.{ℕ, ◌<◌, ◌≤◌, ◌+◌, ◌*◌, ◌^◌, arith}
 use Rattle.std.proofs.Math.Nat.{pow-le-pow_right}
-use Rattle.dma_insn.proofs.line.hex_digits.Goals as goal
+use Rattle.dma_insn.proofs.line.hex_value.Goals as goal
 
 -- one more digit behind at most seven
 digit_fits : (value place : ℕ) → place < 8 → value < 16 ^ place → value * 16 + 16 ≤ 2 ^ 32
