@@ -31,13 +31,14 @@ def main():
     argparse.ArgumentParser(description=__doc__, formatter_class=argparse.RawDescriptionHelpFormatter).parse_args()
     subprocess.run(["rt", "run"], cwd=CRATE, stdout=subprocess.DEVNULL, stderr=subprocess.DEVNULL)
     least = [min(times) for times in zip(*[measure() for _ in range(TURNS)])]
-    into, out, bursts, nops, compiled = least[:5]
-    writes, plain_writes, reads, plain_reads = (min(least[at::4]) for at in range(5, 9))
+    into, out, bursts, nops, compiled, narrow, fills = least[:7]
+    writes, plain_writes, reads, plain_reads = (min(least[at::4]) for at in range(7, 11))
     size = 160 * (1 << 20)
     copy = (into + out) / 2  # two plain copies were timed, of blocks of 8 MiB
     print("bursts of 256 bytes    %6.2f GB/s, a plain copy %6.2f GB/s, ratio %.2f"
           % (size / bursts / 1e9, size / copy / 1e9, copy / bursts))
     print("compiled copies of 1 MiB %4.2f GB/s, ratio to the loop of bursts %.2f" % (size / compiled / 1e9, bursts / compiled))
+    print("compiled fills of 1 MiB  %4.2f GB/s, ratio to copies of a byte a beat %.2f" % (size / fills / 1e9, narrow / fills))
     print("instructions           %6.1f million a second (DMANOP, its loops and ends)" % (INSTRUCTIONS / nops / 1e6))
     print("blocks written         ratio to a plain copy %.2f, read %.2f" % (plain_writes / writes, plain_reads / reads))
 

@@ -1,5 +1,5 @@
-//! Times a loop of bursts, a loop of DMANOP, a compiled copy, and blocks of a memory. It does nothing unless it is given an
-//! argument.
+//! Times a loop of bursts, a loop of DMANOP, compiled copies and fills, and blocks of a memory. It does nothing unless it is
+//! given an argument.
 #![tactic(auto)]
 
 mod blocks;
@@ -59,6 +59,7 @@ fn main(rt: HostRuntime) -> io::Result<()> {
         return Ok(());
     }
     measure(&rt)?;
+    measure_transfers(&rt)?;
     measure_blocks(&rt)
 }
 
@@ -116,19 +117,38 @@ fn measure(rt: &HostRuntime) -> io::Result<()> {
     tell(rt, "160 MiB by bursts of 256, 3280000 instructions", start)?;
     let start = Instant::now(rt)?;
     runs(rt.alloc(), NOPS, &mut memory);
-    tell(rt, "22292520 instructions, most of them DMANOP", start)?;
-    let from = [Segment {
-        addr: 0,
-        len: 1048576,
-    }];
-    let to = [Segment {
-        addr: 8388608,
-        len: 1048576,
-    }];
-    let Ok(transfer) = Transfer::new(rt.alloc(), &from, &to, None, None) else {
+    tell(rt, "22292520 instructions, most of them DMANOP", start)
+}
+
+// 1 MiB from an address
+fn mebibyte(addr: u32) -> [Segment; 1] {
+    [Segment { addr, len: 1048576 }]
+}
+
+// A fill goes by beats of one byte, and so does a copy between such addresses that no wider beat divides both. The pages are
+// made before.
+fn measure_transfers(rt: &HostRuntime) -> io::Result<()> {
+    let Ok(mut memory) = Memory::new(rt.alloc(), 16777216) else {
         return Ok(());
     };
-    let start = Instant::now(rt)?;
-    compiled(rt.alloc(), &transfer, &mut memory);
-    tell(rt, "160 MiB by compiled copies of 1 MiB", start)
+    let _ = memory.prepare(Segment {
+        addr: 0,
+        len: 16777216,
+    });
+    let wide = Transfer::new(rt.alloc(), &mebibyte(0), &mebibyte(8388608), None, None);
+    let narrow = Transfer::new(rt.alloc(), &mebibyte(1), &mebibyte(8388610), None, None);
+    let fill = Transfer::fill(rt.alloc(), 1, &mebibyte(8388608), None, None);
+    for (name, made) in [
+        ("160 MiB by compiled copies of 1 MiB", wide),
+        ("160 MiB by compiled copies of 1 MiB, a byte a beat", narrow),
+        ("160 MiB by compiled fills of 1 MiB", fill),
+    ] {
+        let Ok(transfer) = made else {
+            return Ok(());
+        };
+        let start = Instant::now(rt)?;
+        compiled(rt.alloc(), &transfer, &mut memory);
+        tell(rt, name, start)?;
+    }
+    Ok(())
 }

@@ -172,7 +172,7 @@ abbrev end_of : Bool → BeatSize → ℕ → BurstEnd
 end_of rises s k = record { increments = rises; size = s; beats = k; protection = 0; cache = 0 }
 
 -- the word of two such ends
-pub both_ends : (fill : Bool) (s : BeatSize) (k : ℕ) → bits_of (record { src = end_of (not fill) s k; dst = end_of true s k }) ≡ control_word fill (beat_bytes s) k
+pub both_ends : (rises : Bool) (s : BeatSize) (k : ℕ) → bits_of (record { src = end_of rises s k; dst = end_of true s k }) ≡ control_word (not rises) (beat_bytes s) k
 unfolding bits_of end_bits
 both_ends false One k = omega arith
 both_ends false Two k = omega arith

@@ -1,6 +1,6 @@
 //! The compiler: a transfer as the program that copies it.
 
-ghost use Rattle.std.specs.Prelude.{ℕ, ◌≡◌, ◌+◌, ◌-◌, ◌*◌, ◌≤◌, ◌<◌, ◌^◌, ◌++◌, length, IfOk, IfSome, OnOk, map, All};
+ghost use Rattle.std.specs.Prelude.{ℕ, ◌≡◌, ◌+◌, ◌-◌, ◌*◌, ◌≤◌, ◌<◌, ◌^◌, ◌++◌, length, IfOk, IfSome, OnOk, map, All, not};
 ghost use Rattle.dma_insn.specs.Spelling.{spelling};
 ghost use Rattle.dma_insn.specs.ControlWord.{beat_bytes};
 ghost use Rattle.dma_chan.specs.Tree.{bytes_of, in_order, Repeat};
@@ -26,6 +26,13 @@ const PIECE_BYTES: usize = 58;
 
 // The bytes of a wait, a signal and the end.
 const OTHER_BYTES: usize = 5;
+
+// A beat of a piece: how many bytes it moves, and whether the source address rises past them, as it doesn't in a fill.
+#[derive(Clone, Copy)]
+struct Beat {
+    size: BeatSize,
+    source_rises: bool,
+}
 
 /// Memory was refused.
 #[derive(Clone, Copy, PartialEq, Eq, Debug, Error)]
@@ -137,43 +144,45 @@ fn push_piece(code: &mut Vec<u8>, piece: Piece) -> Result<(), AllocError>
     requires { piece.len ≤ 2 ^ 20 }
     ensures ok { OnOk result (code.new.items ≡ code.old.items ++ bytes_of (piece_tree piece)) }
 {
-    let size = beat_of(piece);
+    let beat = Beat {
+        size: beat_of(piece),
+        source_rises: !piece.fill,
+    };
     push(code, Insn::Mov(Reg::Sar, piece.src))?;
     push(code, Insn::Mov(Reg::Dar, piece.dst))?;
-    push_parts(code, piece.fill, size, piece.len)?;
+    push_parts(code, beat, piece.len)?;
     Ok(())
 }
 
 // Appends what copies so many bytes from where the registers point, or fills them.
 #[tactic(auto, unfolding(crate::specs::Compiled::parts))]
-fn push_parts(code: &mut Vec<u8>, fill: bool, size: BeatSize, len: u32) -> Result<(), AllocError>
+fn push_parts(code: &mut Vec<u8>, beat: Beat, len: u32) -> Result<(), AllocError>
     requires { len ≤ 2 ^ 20 }
-    ensures ok { OnOk result (code.new.items ≡ code.old.items ++ bytes_of (parts fill (beat_bytes size) len)) }
+    ensures ok { OnOk result (code.new.items ≡ code.old.items ++ bytes_of (parts (not beat.source_rises) (beat_bytes beat.size) len)) }
 {
-    let beat = size.bytes();
-    let whole = 16 * beat;
+    let bytes = beat.size.bytes();
+    let whole = 16 * bytes;
     let left = len % whole;
-    push_whole_bursts(code, fill, size, len / whole)?;
-    push_burst(code, fill, size, left / beat)?;
-    push_burst(code, fill, BeatSize::One, left % beat)?;
+    let tail = Beat {
+        size: BeatSize::One,
+        ..beat
+    };
+    push_whole_bursts(code, beat, len / whole)?;
+    push_burst(code, beat, left / bytes)?;
+    push_burst(code, tail, left % bytes)?;
     Ok(())
 }
 
 // Appends bursts of 16 beats, where there are any.
 #[tactic(auto, using(crate::proofs::TreeParts::where_some_there, crate::proofs::TreeParts::where_some_none))]
-fn push_whole_bursts(
-    code: &mut Vec<u8>,
-    fill: bool,
-    size: BeatSize,
-    count: u32,
-) -> Result<(), AllocError>
+fn push_whole_bursts(code: &mut Vec<u8>, beat: Beat, count: u32) -> Result<(), AllocError>
     requires { count ≤ 65536 }
-    ensures ok { OnOk result (code.new.items ≡ code.old.items ++ bytes_of (where_some count (under (control_word fill (beat_bytes size) 16) (bursts count)))) }
+    ensures ok { OnOk result (code.new.items ≡ code.old.items ++ bytes_of (where_some count (under (control_word (not beat.source_rises) (beat_bytes beat.size) 16) (bursts count)))) }
 {
     if count == 0 {
         return Ok(());
     }
-    push(code, Insn::Mov(Reg::Ccr, control_word(fill, size, 16)))?;
+    push(code, Insn::Mov(Reg::Ccr, control_word(beat, 16)))?;
     push_bursts(code, count)
 }
 
@@ -254,14 +263,14 @@ fn push_loop(code: &mut Vec<u8>, turns: u16) -> Result<(), AllocError>
 
 // Appends one burst of so many beats, where there are any.
 #[tactic(auto, using(crate::proofs::TreeParts::where_some_there, crate::proofs::TreeParts::where_some_none))]
-fn push_burst(code: &mut Vec<u8>, fill: bool, size: BeatSize, beats: u32) -> Result<(), AllocError>
+fn push_burst(code: &mut Vec<u8>, beat: Beat, beats: u32) -> Result<(), AllocError>
     requires { beats ≤ 16 }
-    ensures ok { OnOk result (code.new.items ≡ code.old.items ++ bytes_of (where_some beats (under (control_word fill (beat_bytes size) beats) body))) }
+    ensures ok { OnOk result (code.new.items ≡ code.old.items ++ bytes_of (where_some beats (under (control_word (not beat.source_rises) (beat_bytes beat.size) beats) body))) }
 {
     if beats == 0 {
         return Ok(());
     }
-    push(code, Insn::Mov(Reg::Ccr, control_word(fill, size, beats)))?;
+    push(code, Insn::Mov(Reg::Ccr, control_word(beat, beats)))?;
     push_body(code)
 }
 
@@ -314,23 +323,22 @@ fn beat_of(piece: Piece) -> BeatSize
     }
 }
 
-// The control word of bursts of so many beats of a size, with both increments, or of a fill with that of the destination
-// alone.
+// The control word of bursts of so many beats, with the increment of the destination, and that of the source where it rises.
 #[tactic(auto, using(crate::proofs::ControlWords::both_ends))]
-fn control_word(fill: bool, size: BeatSize, beats: u32) -> u32
+fn control_word(beat: Beat, beats: u32) -> u32
     requires low { 1 ≤ beats }
     requires high { beats ≤ 16 }
-    ensures { result ≡ control_word fill (beat_bytes size) beats }
+    ensures { result ≡ control_word (not beat.source_rises) (beat_bytes beat.size) beats }
 {
     let dst = BurstEnd {
         increments: true,
-        size,
+        size: beat.size,
         beats: Beats::of_number(beats as u8),
         protection: Protection::of_code(0),
         cache: Cache::of_code(0),
     };
     let src = BurstEnd {
-        increments: !fill,
+        increments: beat.source_rises,
         ..dst
     };
     Control { src, dst }.bits()

@@ -1,6 +1,7 @@
+use Rattle.std.proofs.Math.Bool.{not-not}
 use Rattle.dma_chan.proofs.TreeParts.{appended}
 use Rattle.dma_chan.proofs.compile.push_piece.Goals as goal
 
 pub returns : goal.returns
 returns c =
-    rw (← c.beat_of-size.ensures) (record { ok = appended _ _ _ _ _ _ _ c.in_ok-push.ensures.ok c.in_ok-push-2.ensures.ok c.in_ok-push_parts.ensures.ok })
+    rw (← c.beat_of.ensures, ← not-not c.args.piece.fill) (record { ok = appended _ _ _ _ _ _ _ c.in_ok-push.ensures.ok c.in_ok-push-2.ensures.ok c.in_ok-push_parts.ensures.ok })
