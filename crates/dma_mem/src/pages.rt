@@ -199,7 +199,7 @@ mod tests {
         assert!(rt; pages.made(segment(0, 0x2000)));
         assert!(rt; !pages.made(segment(0x3000, 1)));
         assert!(rt; pages.part(0x0FFE, 3).is_none());
-        assert!(rt; pages.part(0x2000, 3).is_none());
+        assert_eq!(rt; pages.part(0x2000, 3), Some([0; 3].as_slice()));
         let second = [2, 3];
         assert_eq!(rt; pages.part(0x0FFF, 1), Some(&second[..1]));
         Ok(())
