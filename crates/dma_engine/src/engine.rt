@@ -233,7 +233,6 @@ impl Engine {
     }
 
     // Where the queue of a channel stands. The error is `NoChannel`.
-    #[inline(always)]
     fn index_of(&self, ch: u8) -> Result<usize, EngineFault>
         ensures there { IfOk result (λ index. (index ≡ ch) × (ch < channels self.now.view)) }
         ensures none { IfErr result (λ fault. (fault ≡ EngineFault.NoChannel) × (channels self.now.view ≤ ch)) }

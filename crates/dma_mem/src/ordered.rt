@@ -45,7 +45,6 @@ fn ended_by(ranges: &[Segment], end: u64) -> usize
 
 // Whether the segment ends below the first range or begins above the last, or there are none: then none has an address of
 // it.
-#[inline(always)]
 fn lies_outside(ranges: &[Segment], segment: Segment) -> bool
     requires { IsOrdered ranges.now }
     ensures { IsTrue result → share (range_of segment) (places ranges.now) ≡ false }
@@ -112,7 +111,6 @@ pub fn add_in_order(ranges: &mut Vec<Segment>, segment: Segment) -> Result<(), A
 
 /// Whether one of the ranges has an address of the segment. It is a binary search, unless the segment lies outside them all,
 /// as most do that are asked for: that look stands where it is asked, without a call.
-#[inline(always)]
 pub fn meets_ordered(ranges: &[Segment], segment: Segment) -> bool
     requires { IsOrdered ranges.now }
     ensures { result ≡ share (range_of segment) (places ranges.now) }
@@ -124,7 +122,6 @@ pub fn meets_ordered(ranges: &[Segment], segment: Segment) -> bool
 }
 
 /// Whether one of the ranges has an address of one of the segments.
-#[inline(always)]
 pub fn any_meets_ordered(ranges: &[Segment], segments: &[Segment]) -> bool
     requires { IsOrdered ranges.now }
     ensures { result ≡ list_any (λ s. share (range_of s) (places ranges.now)) segments.now }
