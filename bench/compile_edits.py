@@ -1,10 +1,11 @@
 #!/usr/bin/env python3
-"""Whether the must-fail edits can still be applied and compile: some 4 seconds an edit, and nothing is proved.
+"""Whether the must-fail edits can still be applied and compile. Nothing is proved: 8 seconds for all edits of a crate.
 
 An edit that doesn't (its 'old:' text is gone, a name that it uses was renamed) fails the gate as BAD EDIT, but only after an
-hour. This applies each to a copy of its crate, as the gate does, and asks the prover for a function that isn't there: it reads
-and types the whole crate first, so that where it then says that there is no such function, the edit compiles. Whether the prover
-refuses what the edit says is for `rt must-fail` to tell.
+hour. This asks the prover for a function that isn't there, of a copy of the crate: it reads and types the whole crate first, so
+that where it then says that there is no such function, the edits in the copy compile. Edits that touch different places are
+tried together, and by halves where such a copy doesn't compile. Whether the prover refuses what an edit says is for
+`rt must-fail` to tell.
 
     bench/compile_edits.py [CRATE..]        else all crates
 
@@ -36,13 +37,56 @@ def toolchain():
     return made
 
 
-def what_is_wrong(rt, crate, edit):
-    """Why an edit can't be applied or doesn't compile; nothing where it does."""
-    texts, why = rt.read_edit(edit, crate.folder)
-    if why:
-        return why
+def changes(folder, texts):
+    """What an edit changes: for each file the place of its first change, that of its last, and the text in between."""
+    found = {}
+    for path, new in texts.items():
+        old = (Path(folder) / path).read_text(encoding="utf-8")
+        start = len(os.path.commonprefix([old, new]))
+        tail = len(os.path.commonprefix([old[start:][::-1], new[start:][::-1]]))
+        found[path] = (start, len(old) - tail, new[start : len(new) - tail])
+    return found
+
+
+def apart(one, others):
+    """Whether a change lies beside all others of its file, with a place between."""
+    return all(one[1] < other[0] or other[1] < one[0] for other in others)
+
+
+def joined(folder, edits):
+    """The texts of the files with all these edits, which lie apart."""
+    texts = {}
+    for path in {path for edit in edits for path in edit}:
+        text = (Path(folder) / path).read_text(encoding="utf-8")
+        for start, end, new in sorted((edit[path] for edit in edits if path in edit), reverse=True):
+            text = text[:start] + new + text[end:]
+        texts[path] = text
+    return texts
+
+
+def batches(edits):
+    """The edits in groups, those of each of which lie apart."""
+    groups = []
+    for name, edit in edits:
+        for group in groups:
+            if all(apart(one, [other[path] for _, other in group if path in other]) for path, one in edit.items()):
+                group.append((name, edit))
+                break
+        else:
+            groups.append([(name, edit)])
+    return groups
+
+
+def wrong_ones(rt, crate, group):
+    """The edits of a group that don't compile, each with what the prover said of it alone."""
+    texts = joined(crate.folder, [edit for _, edit in group])
     said = rt.checked(crate, texts, ["--jobs", "1", "--only", NO_FUNCTION], None).stdout
-    return None if f"has no function `{NO_FUNCTION}`" in said else said[-600:]
+    if f"has no function `{NO_FUNCTION}`" in said:
+        return []
+    if len(group) == 1:
+        return [(group[0][0], said[-600:])]
+    half = len(group) // 2
+    return wrong_ones(rt, crate, group[:half]) + wrong_ones(rt, crate, group[half:])
 
 
 def main():
@@ -53,15 +97,21 @@ def main():
     unknown = [name for name in names if name not in crates]
     if unknown:
         sys.exit(f"there is no crate {', '.join(unknown)}")
-    tried = wrong = 0
+    tried, wrong = 0, []
     for name in names:
-        for edit in rt.edits_of(crates[name])[0]:
-            why = what_is_wrong(rt, crates[name], edit)
+        crate, good = crates[name], []
+        for edit in rt.edits_of(crate)[0]:
             tried += 1
+            texts, why = rt.read_edit(edit, crate.folder)
             if why:
-                wrong += 1
-                print(f"{name}/{os.path.basename(edit)}: {why}", flush=True)
-    print(f"{tried} edits, {wrong} wrong")
+                wrong.append((f"{name}/{os.path.basename(edit)}", why))
+            else:
+                good.append((f"{name}/{os.path.basename(edit)}", changes(crate.folder, texts)))
+        for group in batches(good):
+            wrong += wrong_ones(rt, crate, group)
+    for edit, why in wrong:
+        print(f"{edit}: {why}")
+    print(f"{tried} edits, {len(wrong)} wrong")
     sys.exit(1 if wrong else 0)
 
 

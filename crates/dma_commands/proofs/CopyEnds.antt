@@ -217,12 +217,13 @@ all_issued c = record c { issued = used c }
 issued-is : (c : ChannelState) (t : Descriptor) → used c ≤ finished c → (issued_front (all_issued (with_transfer c t)) ≡ Some t) ⊎ (issued_front (all_issued (with_transfer c t)) ≡ None)
 issued-is c t none =
     let all = c.submitted ++ t ∷ [] in
-    let at : Bool → Option Descriptor = λ b. if b then slice_get all (finished c) else None in
+    let n = length c.outcomes in
+    let at : Bool → Option Descriptor = λ b. if b then slice_get all n else None in
     let by : (b : Bool) → (at b ≡ Some t) ⊎ (at b ≡ None) = λ b. elim b as (λ b. (at b ≡ Some t) ⊎ (at b ≡ None)) [
-      | true ↦ pushed-at c.submitted t (finished c) none
+      | true ↦ pushed-at c.submitted t n (omega (arith, none))
       | false ↦ inr refl
     ] in
-    by (nat_lt (finished c) (length all))
+    by (nat_lt (finished c) (c.forgotten + length all))
 
 -- what is known of a submission that was answered by a cookie
 accepted : (a b c : Bool) (v u w : View) (k cookie : ℕ) → unless (cause a NoChannel (cause b OutOfMemoryRange (cause c CookiesSpent None))) v (Cookie k, u) ≡ (Cookie cookie, w) → (a ≡ false) × (u ≡ w)

@@ -4,7 +4,7 @@ use Rattle.dma_engine.specs.declared.call.Call.{Call}
 use Rattle.dma_engine.specs.declared.call.Reply.{Reply}
 use Rattle.dma_engine.specs.declared.call.Reply.TheVariants.{Done, Bytes, Cookie, Count, Turned, State, Result, Refused}
 use Rattle.dma_engine.specs.declared.fault.EngineFault.{EngineFault}
-use Rattle.dma_engine.specs.declared.fault.EngineFault.TheVariants.{OutOfMemoryRange, Busy, NoChannel, CookiesSpent, StepsSpent, BadEvent, BadRange, NoMemory}
+use Rattle.dma_engine.specs.declared.fault.EngineFault.TheVariants.{OutOfMemoryRange, Busy, Running, NoChannel, CookiesSpent, StepsSpent, BadEvent, BadRange, NoMemory}
 use Rattle.dma_engine.specs.View.{View}
 use Rattle.dma_engine.specs.Answer.{CallAnswers, AreAnswers, answer, answers}
 
@@ -24,6 +24,7 @@ served-one v call (State status) w served is = is
 served-one v call (Result outcome) w served is = is
 served-one v call (Refused OutOfMemoryRange) w served is = is
 served-one v call (Refused (Busy ch cookie)) w served is = is
+served-one v call (Refused (Running ch cookie)) w served is = is
 served-one v call (Refused NoChannel) w served is = is
 served-one v call (Refused CookiesSpent) w served is = is
 served-one v call (Refused StepsSpent) w served is = is

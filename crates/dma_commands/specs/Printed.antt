@@ -34,6 +34,7 @@ transfer_fault_name transfers.NoMemory = codes "NoMemory"
 abbrev pub fault_text : EngineFault → List ℕ
 fault_text faults.OutOfMemoryRange = codes "OutOfMemoryRange"
 fault_text (faults.Busy ch cookie) = codes "Busy " ++ decimal ch ++ codes " " ++ decimal cookie
+fault_text (faults.Running ch cookie) = codes "Running " ++ decimal ch ++ codes " " ++ decimal cookie
 fault_text faults.NoChannel = codes "NoChannel"
 fault_text faults.CookiesSpent = codes "CookiesSpent"
 fault_text faults.StepsSpent = codes "StepsSpent"

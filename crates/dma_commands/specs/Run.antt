@@ -21,7 +21,7 @@ use Rattle.dma_script.specs.declared.fault.Fault.{Fault}
 use Rattle.dma_script.specs.declared.plan.TransferLine.{TransferLine}
 use Rattle.dma_script.specs.declared.statements.RunScript.{RunScript}
 use Rattle.dma_script.specs.declared.statements.Statement.{Statement}
-use Rattle.dma_script.specs.declared.statements.Statement.TheVariants.{Write, Read, Copy, Fill, Submit, Issue, Pause, Resume, Terminate, Step, Status, Result as Outcome, Mark, Unmark, Raise, Totals}
+use Rattle.dma_script.specs.declared.statements.Statement.TheVariants.{Write, Read, Copy, Fill, Submit, Issue, Pause, Resume, Terminate, Step, Status, Result as Outcome, Mark, Unmark, Raise, Checkpoint, Totals}
 use Rattle.dma_commands.specs.Printed.{transfer_fault_name, refused_line, reply_text, call_line}
 use Rattle.dma_commands.specs.Transfers.{transfer_of}
 
@@ -179,6 +179,7 @@ line_answer v (Outcome ch cookie) = call_answer v (calls.Result ch cookie)
 line_answer v (Mark kind segment) = call_answer v (calls.Mark kind segment)
 line_answer v Unmark = call_answer v calls.Unmark
 line_answer v (Raise event) = call_answer v (calls.Raise event)
+line_answer v Checkpoint = call_answer v calls.Checkpoint
 line_answer v Totals = told (totals_of v) v
 
 -- what each line prints, the first of them finding this view

@@ -94,6 +94,9 @@ fn push_fault(line: &mut Vec<u8>, fault: EngineFault) -> Result<(), AllocError>
         EngineFault::Busy { ch, cookie } => {
             push_pair(line, "Busy ", u64::from(ch), u64::from(cookie))
         }
+        EngineFault::Running { ch, cookie } => {
+            push_pair(line, "Running ", u64::from(ch), u64::from(cookie))
+        }
         EngineFault::NoChannel => push_text(line, "NoChannel"),
         EngineFault::CookiesSpent => push_text(line, "CookiesSpent"),
         EngineFault::StepsSpent => push_text(line, "StepsSpent"),
@@ -205,7 +208,8 @@ fn push_call(line: &mut Vec<u8>, call: &Call) -> Result<(), AllocError>
         | Call::Step { .. }
         | Call::Mark { .. }
         | Call::Unmark
-        | Call::Raise { .. } => Ok(()),
+        | Call::Raise { .. }
+        | Call::Checkpoint => Ok(()),
     }
 }
 

@@ -54,6 +54,7 @@ fn run_statement(
         Statement::Mark { kind, segment } => Call::Mark { kind, segment },
         Statement::Unmark => Call::Unmark,
         Statement::Raise { event } => Call::Raise { event },
+        Statement::Checkpoint => Call::Checkpoint,
     };
     answer_call(engine, &call, line, out)
 }

@@ -801,3 +801,66 @@ fn held_by_the_byte_of_a_fill(rt: HostRuntime) -> Result<(), Fail> {
     );
     Ok(())
 }
+
+// What a checkpoint forgets, and that the next cookie is the next.
+#[test]
+fn a_checkpoint_between_two_copies(rt: HostRuntime) -> Result<(), Fail> {
+    let ran = run(
+        rt.alloc(),
+        b"memory 64 1\n\
+          write 0x10 AA\n\
+          copy 0x10+1 to 0x20+1\n\
+          checkpoint\n\
+          result 0 1\n\
+          status 0 1\n\
+          status 0 2\n\
+          totals\n\
+          copy 0x20+1 to 0x30+1\n\
+          result 0 2\n\
+          totals",
+    );
+    assert_eq!(rt; ran.0, 0);
+    assert_eq!(rt;
+        ran.1.as_slice(),
+        b"ok\n\
+          copy finished 1 NoError residue 0\n\
+          ok\n\
+          result none\n\
+          status Complete\n\
+          status Unknown\n\
+          totals entries 0 steps 8 running 0\n\
+          copy finished 2 NoError residue 0\n\
+          result NoError residue 0\n\
+          totals entries 3 steps 16 running 0\n"
+            .as_slice()
+    );
+    Ok(())
+}
+
+#[test]
+fn a_checkpoint_while_a_transfer_runs(rt: HostRuntime) -> Result<(), Fail> {
+    let ran = run(
+        rt.alloc(),
+        b"memory 0x400 1\n\
+          submit 0 0x100+4 to 0x200+4\n\
+          issue 0\n\
+          step 0\n\
+          checkpoint\n\
+          terminate 0\n\
+          checkpoint\n\
+          totals",
+    );
+    assert_eq!(rt; ran.0, 0);
+    assert_eq!(rt;
+        ran.1.as_slice(),
+        b"cookie 1\n\
+          issued 1\n\
+          step 0 started 1 x1\n\
+          refused Running 0 1\n\
+          aborted 1\n\
+          ok\n\
+          totals entries 0 steps 0 running 0\n"
+            .as_slice()
+    );
+    Ok(())
+}

@@ -12,14 +12,14 @@ use Rattle.dma_mem.specs.declared.marks.MarkKind.TheVariants.{Reading, Writing}
 use Rattle.dma_mem.specs.Marking.{meets_mark}
 use Rattle.dma_chan.specs.Traffic.{member, stored_after, read_places, written_places}
 use Rattle.dma_engine.specs.declared.call.Call.{Call}
-use Rattle.dma_engine.specs.declared.call.Call.TheVariants.{Write, Read, Submit, Issue, Pause, Resume, Terminate, Step, Status, Result as ResultOf, Mark, Unmark, Raise}
+use Rattle.dma_engine.specs.declared.call.Call.TheVariants.{Write, Read, Submit, Issue, Pause, Resume, Terminate, Step, Status, Result as ResultOf, Mark, Unmark, Raise, Checkpoint, Checkpoint}
 use Rattle.dma_engine.specs.declared.call.Reply.{Reply}
 use Rattle.dma_engine.specs.declared.call.Reply.TheVariants.{Done, Bytes, Cookie, Count, Turned, State, Result as Told, Refused}
 use Rattle.dma_engine.specs.declared.entry.Entry.{Entry}
 use Rattle.dma_engine.specs.declared.entry.Entry.TheVariants.{Wrote, ReadBack, Submitted as SubmittedEntry, Issued, Passed, Signalled, Finished as FinishedEntry, Terminated, Marked, Unmarked}
 use Rattle.dma_engine.specs.declared.entry.Signaller.TheVariants.{Channel, Host}
 use Rattle.dma_engine.specs.declared.fault.EngineFault.{EngineFault}
-use Rattle.dma_engine.specs.declared.fault.EngineFault.TheVariants.{OutOfMemoryRange, Busy, NoChannel, CookiesSpent, StepsSpent, BadEvent, BadRange, NoMemory}
+use Rattle.dma_engine.specs.declared.fault.EngineFault.TheVariants.{OutOfMemoryRange, Busy, Running, NoChannel, CookiesSpent, StepsSpent, BadEvent, BadRange, NoMemory}
 use Rattle.dma_engine.specs.declared.outcome.TransResult.{TransResult}
 use Rattle.dma_engine.specs.declared.outcome.TransResult.TheVariants.{NoError, ReadFailed, WriteFailed}
 use Rattle.dma_engine.specs.declared.turn.Turn.{Turn}
@@ -126,6 +126,7 @@ answered v w call (Told x) P o h is = by-answer v w call (Told x) P h is
 answered v w call (Refused NoMemory) P o h is = subst P (sym is.1) o
 answered v w call (Refused OutOfMemoryRange) P o h is = by-answer v w call (Refused OutOfMemoryRange) P h is
 answered v w call (Refused (Busy ch cookie)) P o h is = by-answer v w call (Refused (Busy ch cookie)) P h is
+answered v w call (Refused (Running ch cookie)) P o h is = by-answer v w call (Refused (Running ch cookie)) P h is
 answered v w call (Refused NoChannel) P o h is = by-answer v w call (Refused NoChannel) P h is
 answered v w call (Refused CookiesSpent) P o h is = by-answer v w call (Refused CookiesSpent) P h is
 answered v w call (Refused StepsSpent) P o h is = by-answer v w call (Refused StepsSpent) P h is
@@ -148,6 +149,7 @@ call-still v (ResultOf ch cookie) q = same v
 call-still v (Mark kind segment) q = unless-still v (mark_fault segment) _ (entry-still v (Marked kind segment) tt)
 call-still v Unmark q = entry-still v Unmarked tt
 call-still v (Raise event) q = unless-still v (raise_fault event) _ (entry-still v (Signalled Host event) tt)
+call-still v Checkpoint q = absurd q
 
 pub quiet_calls_keep : QuietCallsKeep
 quiet_calls_keep v w call reply q h = answered v w call reply (Still v) (same v) (call-still v call q) h
@@ -238,6 +240,7 @@ stepped v w ch (Ok t) h = inr (by-turn v w ch (Turned t) (Ok t) h (λ e. told-ok
 stepped v w ch (Err NoMemory) h = inl (refl, h.1)
 stepped v w ch (Err OutOfMemoryRange) h = inr (by-turn v w ch (Refused OutOfMemoryRange) (Err OutOfMemoryRange) h (λ e. told-err (turn v ch).0 OutOfMemoryRange e))
 stepped v w ch (Err (Busy c k)) h = inr (by-turn v w ch (Refused (Busy c k)) (Err (Busy c k)) h (λ e. told-err (turn v ch).0 (Busy c k) e))
+stepped v w ch (Err (Running c k)) h = inr (by-turn v w ch (Refused (Running c k)) (Err (Running c k)) h (λ e. told-err (turn v ch).0 (Running c k) e))
 stepped v w ch (Err NoChannel) h = inr (by-turn v w ch (Refused NoChannel) (Err NoChannel) h (λ e. told-err (turn v ch).0 NoChannel e))
 stepped v w ch (Err CookiesSpent) h = inr (by-turn v w ch (Refused CookiesSpent) (Err CookiesSpent) h (λ e. told-err (turn v ch).0 CookiesSpent e))
 stepped v w ch (Err StepsSpent) h = inr (by-turn v w ch (Refused StepsSpent) (Err StepsSpent) h (λ e. told-err (turn v ch).0 StepsSpent e))
@@ -307,7 +310,7 @@ closed v w ch n none less h =
     let number : n ≡ m = let both : Count n ≡ Count m = ap (λ (x : Reply × View). x.0) (h ∙ given) in cc in
     let is : w ≡ terminated v ch = ap (λ (x : Reply × View). x.1) (h ∙ given) in
     let set = finished-with (with_front_laid o ch done) ch (with_all_aborted c done) less in
-    let more : finished (with_all_aborted c done) ≡ finished c + m = omega (arith, length-append c.outcomes (aborted done (drop (finished c) c.submitted)), length-aborted done (drop (finished c) c.submitted), length-drop (finished c) c.submitted) in
+    let more : finished (with_all_aborted c done) ≡ finished c + m = omega (arith, length-append c.outcomes (aborted done (drop (length c.outcomes) c.submitted)), length-aborted done (drop (length c.outcomes) c.submitted), length-drop (length c.outcomes) c.submitted) in
     let all : finished_all (after o e) ≡ finished_all o + m = omega (arith, set, more) in (
       number,
       ap (λ (u : View). ticks_of u.history) is ∙ ticks-append v.history (e ∷ []) ∙ ap (λ k. ticks_of v.history ++ Finished ch k ∷ []) (sym number),

@@ -1,8 +1,8 @@
 -- The counts of cookies: what bounds them, and that the ticks of a history add up to them.
 use Rattle.std.proofs.Common.{◌≡◌, ◌≢◌, ℕ, ◌+◌, ◌<◌, ◌≤◌, List, [], ◌∷◌, ◌++◌, length, drop, true, false, refl, ap, sym, ◌∙◌, arith, inl, inr, ◌⊎◌, suc}
-use Rattle.std.specs.Prelude.{slice_index_or, slice_set, replicate, if◌then◌else◌, ◌==◌, ◌||◌, nat_lt, nat_le}
+use Rattle.std.specs.Prelude.{slice_index_or, slice_set, if◌then◌else◌, ◌==◌, ◌||◌, nat_lt, nat_le}
 use Rattle.std.proofs.lemmas.Bool.{cases_eq, cases_lt, eq-eqb, ne_eqb, lt-ltb, le-ltb, le-leb, lt-leb}
-use Rattle.std.proofs.lemmas.List.{map-set, length-set, length-map, length-drop, length-append, length_push, get_or-set_same, get_or-set_other, get_or_past, get_or-replicate, length-replicate, set-get_or}
+use Rattle.std.proofs.lemmas.List.{map-set, length-set, length-map, length-drop, length-append, length_push, get_or-set_same, get_or-set_other, get_or_past, set-get_or}
 use Rattle.std.proofs.Math.ListN.{get_or-map}
 use Rattle.dma_mem.specs.Places.{Descriptor}
 use Rattle.dma_engine.specs.declared.entry.Entry.{Entry}
@@ -10,7 +10,7 @@ use Rattle.dma_engine.specs.declared.entry.Entry.TheVariants.{Wrote, ReadBack, S
 use Rattle.dma_engine.specs.declared.entry.Signaller.TheVariants.{Channel, Host}
 use Rattle.dma_engine.specs.declared.outcome.TransResult.{TransResult}
 use Rattle.dma_engine.specs.declared.outcome.TransResult.TheVariants.{NoError, ReadFailed, WriteFailed, Aborted}
-use Rattle.dma_engine.specs.Object.{Object, ChannelState, Allows, after, channel, empty_channel, with_channel, used, finished, last_cookie, aborted, opening, FrontIs, outcome_of, front_of, with_flag, with_front_laid}
+use Rattle.dma_engine.specs.Object.{Object, ChannelState, Allows, after, channel, empty_channel, with_channel, used, finished, last_cookie, aborted, IsBase, FrontIs, outcome_of, front_of, with_flag, with_front_laid}
 use Rattle.dma_engine.specs.History.{object_after, IsLegal}
 use Rattle.dma_engine.specs.Ticks.{Board, Counts, board_after, board_of, counts, counts_of, no_counts, ticks_of, added_up, status_of}
 use Rattle.dma_engine.specs.declared.queue.Queue.{Queue}
@@ -22,9 +22,10 @@ use Rattle.dma_engine.proofs.Queues.{front_where, holds-at}
 
 -- ---- what bounds the counts
 
--- no more cookies are finished, or issued, than were given, and not more were given than there are
+-- no more cookies are finished than issued, no more issued than given, and not more were given than there are
 pub record IsCounted (c : ChannelState) : Type 0 where
   pub finish : finished c ≤ used c
+  pub order : finished c ≤ c.issued
   pub issue : c.issued ≤ used c
   pub give : used c ≤ last_cookie
 
@@ -52,9 +53,12 @@ length-aborted done (t ∷ ts) = ap suc (length-map ts _)
 pub finished-one : (c : ChannelState) (P : Descriptor → Type 0) → FrontIs c P → finished c + 1 ≤ used c
 finished-one c P h = let f = front_where c P h.1 in omega (arith, f.within)
 
-pub finished-all : (c : ChannelState) (done : ℕ) → finished c ≤ used c → length (c.outcomes ++ aborted done (drop (finished c) c.submitted)) ≡ used c
+pub finished-all : (c : ChannelState) (done : ℕ) → finished c ≤ used c → c.forgotten + length (c.outcomes ++ aborted done (drop (length c.outcomes) c.submitted)) ≡ used c
 finished-all c done h =
-    omega (arith, length-append c.outcomes (aborted done (drop (finished c) c.submitted)), length-aborted done (drop (finished c) c.submitted), length-drop (finished c) c.submitted, h)
+    omega (arith, length-append c.outcomes (aborted done (drop (length c.outcomes) c.submitted)), length-aborted done (drop (length c.outcomes) c.submitted), length-drop (length c.outcomes) c.submitted, h)
+
+pub issued-one : (c : ChannelState) (P : Descriptor → Type 0) → FrontIs c P → finished c + 1 ≤ c.issued
+issued-one c P h = let f = front_where c P h.1 in omega (arith, f.below)
 
 -- a front that finishes
 fronts : (o : Object) (ch : ℕ) (result : TransResult) (done : ℕ) → Allows o (Finished ch result done) → finished (channel o ch) + 1 ≤ used (channel o ch)
@@ -63,6 +67,12 @@ fronts o ch ReadFailed done h = finished-one (channel o ch) _ h
 fronts o ch WriteFailed done h = finished-one (channel o ch) _ h
 fronts o ch Aborted done h = absurd h
 
+issued-fronts : (o : Object) (ch : ℕ) (result : TransResult) (done : ℕ) → Allows o (Finished ch result done) → finished (channel o ch) + 1 ≤ (channel o ch).issued
+issued-fronts o ch NoError done h = issued-one (channel o ch) _ h
+issued-fronts o ch ReadFailed done h = issued-one (channel o ch) _ h
+issued-fronts o ch WriteFailed done h = issued-one (channel o ch) _ h
+issued-fronts o ch Aborted done h = absurd h
+
 pub counted-after : (o : Object) (e : Entry) → AreCounted o → Allows o e → AreCounted (after o e)
 counted-after o (Wrote addr bytes) h a = h
 counted-after o (ReadBack addr bytes) h a = h
@@ -70,26 +80,26 @@ counted-after o (Submitted ch t cookie) h a =
     let c = channel o ch in
     let n = length_push c.submitted t in
     let old = h ch in
-    counted-with o ch _ h (record { finish = omega (arith, old.finish, n); issue = omega (arith, old.issue, n); give = omega (arith, a.3, a.4, n) })
+    counted-with o ch _ h (record { finish = omega (arith, old.finish, n); order = old.order; issue = omega (arith, old.issue, n); give = omega (arith, a.3, a.4, n) })
 counted-after o (Issued ch) h a =
     let old = h ch in
-    counted-with o ch _ h (record { finish = old.finish; issue = omega arith; give = old.give })
+    counted-with o ch _ h (record { finish = old.finish; order = old.finish; issue = omega arith; give = old.give })
 counted-after o (Passed ch event) h a =
     let old = h ch in
-    counted-with (with_flag o event false) ch _ h (record { finish = old.finish; issue = old.issue; give = old.give })
+    counted-with (with_flag o event false) ch _ h (record { finish = old.finish; order = old.order; issue = old.issue; give = old.give })
 counted-after o (Signalled (Channel ch) event) h a =
     let old = h ch in
-    counted-with (with_flag o event true) ch _ h (record { finish = old.finish; issue = old.issue; give = old.give })
+    counted-with (with_flag o event true) ch _ h (record { finish = old.finish; order = old.order; issue = old.issue; give = old.give })
 counted-after o (Signalled Host event) h a = h
 counted-after o (Finished ch result done) h a =
     let c = channel o ch in
     let old = h ch in
     let n = length_push c.outcomes (outcome_of result (front_of c) done) in
-    counted-with (with_front_laid o ch done) ch _ h (record { finish = omega (arith, fronts o ch result done a, n); issue = old.issue; give = old.give })
+    counted-with (with_front_laid o ch done) ch _ h (record { finish = omega (arith, fronts o ch result done a, n); order = omega (arith, issued-fronts o ch result done a, n); issue = old.issue; give = old.give })
 counted-after o (Terminated ch done count) h a =
     let c = channel o ch in
     let old = h ch in
-    counted-with (with_front_laid o ch done) ch _ h (record { finish = omega (arith, finished-all c done old.finish); issue = omega arith; give = old.give })
+    counted-with (with_front_laid o ch done) ch _ h (record { finish = omega (arith, finished-all c done old.finish); order = omega (arith, finished-all c done old.finish); issue = omega arith; give = old.give })
 counted-after o (Marked kind segment) h a = h
 counted-after o Unmarked h a = h
 
@@ -97,16 +107,14 @@ pub counted-object : (o : Object) (es : List Entry) → AreCounted o → IsLegal
 counted-object o [] h a = h
 counted-object o (e ∷ es) h a = counted-object (after o e) es (counted-after o e h a.0) a.1
 
-pub counted-opening : (bytes many : ℕ) → AreCounted (opening bytes many)
-unfolding opening
-counted-opening bytes many = λ ch. elim (cases_lt ch many) [
-  | inl less ↦ rw (get_or-replicate many ch empty_channel empty_channel less) (record { finish = omega arith; issue = omega arith; give = omega arith })
-  | inr past ↦ rw (get_or_past (replicate many empty_channel) ch empty_channel (omega (arith, length-replicate many empty_channel))) (record { finish = omega arith; issue = omega arith; give = omega arith })
-]
+pub counted-base : (o : Object) → IsBase o → AreCounted o
+counted-base o h = λ ch.
+    let b = h.each ch in
+    record { finish = omega (arith, b.counts); order = b.counts.0; issue = b.counts.1; give = b.counts.2 }
 
 -- ---- the ticks add up to the counts
 
-counts-at : (o : Object) (ch : ℕ) → counts (board_of o) ch ≡ counts_of (channel o ch)
+pub counts-at : (o : Object) (ch : ℕ) → counts (board_of o) ch ≡ counts_of (channel o ch)
 counts-at o ch = get_or-map counts_of o.channels ch empty_channel
 
 board-with : (o : Object) (ch : ℕ) (c : ChannelState) → board_of (with_channel o ch c) ≡ slice_set (board_of o) ch (counts_of c)
@@ -125,7 +133,7 @@ board-after o (Wrote addr bytes) h a = refl
 board-after o (ReadBack addr bytes) h a = refl
 board-after o (Submitted ch t cookie) h a =
     let c = channel o ch in
-    let n : added_up (used c) 1 ≡ length (c.submitted ++ t ∷ []) = omega (arith, length_push c.submitted t, a.3, a.4) in
+    let n : added_up (used c) 1 ≡ c.forgotten + length (c.submitted ++ t ∷ []) = omega (arith, length_push c.submitted t, a.3, a.4) in
     ap (λ x. slice_set (board_of o) ch (record x { used = added_up x.used 1 })) (counts-at o ch)
     ∙ ap (λ k. slice_set (board_of o) ch (record { used = k; finished = finished c })) n
     ∙ sym (board-with o ch _)
@@ -138,14 +146,14 @@ board-after o (Finished ch result done) h a =
     let c = channel o ch in
     let old = h ch in
     let outcome = outcome_of result (front_of c) done in
-    let n : added_up (finished c) 1 ≡ length (c.outcomes ++ outcome ∷ []) = omega (arith, length_push c.outcomes outcome, fronts o ch result done a, old.give) in
+    let n : added_up (finished c) 1 ≡ c.forgotten + length (c.outcomes ++ outcome ∷ []) = omega (arith, length_push c.outcomes outcome, fronts o ch result done a, old.give) in
     ap (λ x. slice_set (board_of o) ch (record x { finished = added_up x.finished 1 })) (counts-at o ch)
     ∙ ap (λ k. slice_set (board_of o) ch (record { used = used c; finished = k })) n
     ∙ sym (board-with o ch _)
 board-after o (Terminated ch done count) h a =
     let c = channel o ch in
     let old = h ch in
-    let n : added_up (finished c) count ≡ length (c.outcomes ++ aborted done (drop (finished c) c.submitted)) = omega (arith, finished-all c done old.finish, a.1, old.finish, old.give) in
+    let n : added_up (finished c) count ≡ c.forgotten + length (c.outcomes ++ aborted done (drop (length c.outcomes) c.submitted)) = omega (arith, finished-all c done old.finish, a.1, old.finish, old.give) in
     ap (λ x. slice_set (board_of o) ch (record x { finished = added_up x.finished count })) (counts-at o ch)
     ∙ ap (λ k. slice_set (board_of o) ch (record { used = used c; finished = k })) n
     ∙ sym (board-with o ch _)
@@ -173,12 +181,12 @@ board-is o (e ∷ es) h a =
 -- ---- the readings
 
 -- what bounds a queue
-pub queue-small : (p : Parts) → Holds p → (ch : ℕ) (q : Queue) → ch < length p.queues → q ≡ slice_index_or p.queues ch q → (length q.indices.items ≤ last_cookie) × (length q.outcomes.items ≤ length q.indices.items)
+pub queue-small : (p : Parts) → Holds p → (ch : ℕ) (q : Queue) → ch < length p.queues → q ≡ slice_index_or p.queues ch q → (q.given ≤ last_cookie) × (q.forgotten + length q.outcomes.items ≤ q.given)
 queue-small p h ch q less read =
     let v : View = view_of p in
     let at = holds-at p h ch q less read in
-    let c = counted-object v.base p.history (counted-opening p.size (length p.queues)) h.sound.legal ch in
-    (omega (arith, at.tied.many, c.give), omega (arith, at.tied.many, ap length at.tied.outcomes, c.finish))
+    let c = counted-object v.base p.history (counted-base p.base h.sound.opens) h.sound.legal ch in
+    (omega (arith, at.tied.given, c.give), omega (arith, at.tied.given, at.tied.forgotten, ap length at.tied.outcomes, c.finish))
 
 -- how far a cookie is, in each case of the reading
 pub status-zero : (v : View) (ch cookie : ℕ) → cookie ≡ 0 → Unknown ≡ status_in v ch cookie
@@ -213,4 +221,4 @@ status-by-board v ch cookie counted legal =
 
 pub counted-at : (p : Parts) → Holds p → (ch : ℕ) → IsCounted (channel (object_of (view_of p)) ch)
 counted-at p h ch =
-    counted-object (view_of p).base p.history (counted-opening p.size (length p.queues)) h.sound.legal ch
+    counted-object (view_of p).base p.history (counted-base p.base h.sound.opens) h.sound.legal ch

@@ -1,22 +1,23 @@
 -- From what a call found to its answer.
 use Rattle.std.proofs.Common.{◌≡◌, ℕ, ◌+◌, ◌-◌, ◌<◌, ◌≤◌, List, [], ◌∷◌, ◌++◌, length, take, drop, Option, Some, None, Bool, true, false, refl, ap, sym, ◌∙◌, subst, arith, ◌||◌, not}
+use Rattle.std.specs.Option.{option_map}
 use Rattle.std.specs.Prelude.{IsErrAnd, Result, nat_lt, nat_le, unwrap_or, Ok, Err, if◌then◌else◌}
 use Rattle.std.proofs.lemmas.Bool.{lt-ltb, le-ltb, le-leb, lt-leb, leb-false}
 use Rattle.std.proofs.lemmas.List.{length_push}
 use Rattle.dma_mem.specs.Places.{Descriptor, lies_below}
 use Rattle.dma_engine.specs.declared.call.Call.{Call}
-use Rattle.dma_engine.specs.declared.call.Call.TheVariants.{Write, Read, Submit, Issue, Pause, Resume, Terminate}
+use Rattle.dma_engine.specs.declared.call.Call.TheVariants.{Write, Read, Submit, Issue, Pause, Resume, Terminate, Checkpoint}
 use Rattle.dma_engine.specs.declared.call.Reply.{Reply}
 use Rattle.dma_engine.specs.declared.call.Reply.TheVariants.{Done, Bytes, Cookie, Count, Refused}
 use Rattle.dma_engine.specs.declared.entry.Entry.{Entry}
 use Rattle.dma_engine.specs.declared.entry.Entry.TheVariants.{Wrote, ReadBack, Submitted, Issued}
 use Rattle.dma_engine.specs.declared.fault.EngineFault.{EngineFault}
-use Rattle.dma_engine.specs.declared.fault.EngineFault.TheVariants.{OutOfMemoryRange, Busy, NoChannel, CookiesSpent, StepsSpent, BadEvent, BadRange, NoMemory}
+use Rattle.dma_engine.specs.declared.fault.EngineFault.TheVariants.{OutOfMemoryRange, Busy, Running, NoChannel, CookiesSpent, StepsSpent, BadEvent, BadRange, NoMemory}
 use Rattle.dma_engine.specs.declared.way.Way.TheVariants.{Write as WriteWay, Read as ReadWay}
 use Rattle.dma_engine.specs.Object.{channel, used, unfinished, last_cookie}
 use Rattle.dma_engine.specs.View.{View, RunningTransfer, object_of, size, channels}
 use Rattle.dma_engine.specs.Turn.{with_entry}
-use Rattle.dma_engine.specs.Answer.{CallAnswers, answer, reply_of, takes_memory, write_fault, read_fault, channel_fault, submit_fault, cause, checked, busy, first_running, with_pause, is_started, terminated}
+use Rattle.dma_engine.specs.Answer.{CallAnswers, answer, reply_of, takes_memory, stores_base, checkpointed, write_fault, read_fault, channel_fault, submit_fault, cause, checked, busy, first_running, with_pause, is_started, terminated}
 use Rattle.dma_engine.specs.inner.Ways.{named, is_in_the_way}
 
 -- ---- a call that adds an entry takes memory
@@ -28,7 +29,8 @@ or-true false = refl
 pub starved : (v : View) (call : Call) (reply : Reply) (w : View) (e : Entry) → answer v call ≡ (reply, w) → w.history ≡ v.history ++ e ∷ [] → CallAnswers v call (Refused NoMemory) v
 starved v call reply w e is more =
     let longer : nat_lt (length v.history) (length w.history) ≡ true = lt-ltb _ _ (omega (arith, ap length more, length_push v.history e)) in
-    let takes : takes_memory v call ≡ true = ap (λ (x : Reply × View). is_started x.0 || nat_lt (length v.history) (length x.1.history)) is ∙ ap (λ b. is_started reply || b) longer ∙ or-true (is_started reply) in
+    let grown : (is_started (answer v call).0 || nat_lt (length v.history) (length (answer v call).1.history)) ≡ true = ap (λ (x : Reply × View). is_started x.0 || nat_lt (length v.history) (length x.1.history)) is ∙ ap (λ b. is_started reply || b) longer ∙ or-true (is_started reply) in
+    let takes : takes_memory v call ≡ true = ap (λ b. stores_base v call || b) grown ∙ or-true (stores_base v call) in
     (takes, refl)
 
 -- a result that is an error, which is this fault
@@ -193,6 +195,7 @@ named-cause false f others fault n rest h = rest h
 refused-as : (v : View) (call : Call) (fault : EngineFault) → IsNamed fault → answer v call ≡ (Refused fault, v) → CallAnswers v call (Refused fault) v
 refused-as v call OutOfMemoryRange n is = sym is
 refused-as v call (Busy ch cookie) n is = sym is
+refused-as v call (Running ch cookie) n is = sym is
 refused-as v call NoChannel n is = sym is
 refused-as v call CookiesSpent n is = sym is
 refused-as v call StepsSpent n is = sym is
@@ -212,3 +215,31 @@ submit-checked v ch n t fault h =
 pub checked-cookie : (x : Option EngineFault) (n k : ℕ) → Ok k ≡ checked x n → k ≡ n
 checked-cookie None n k h = cc
 checked-cookie (Some f) n k h = absurd cc
+
+-- ---- checkpoint
+
+running-known : (x : Option RunningTransfer) (ch cookie : ℕ) → Some (ch, cookie) ≡ named x → option_map (λ (r : RunningTransfer). Running r.ch r.cookie) x ≡ Some (Running ch cookie)
+running-known None ch cookie h = absurd cc
+running-known (Some r) ch cookie h =
+    let pair : Option (ℕ × ℕ) → ℕ × ℕ = λ x. unwrap_or x (ch, cookie) in
+    let e : r.ch ≡ ch = sym (ap (λ x. (pair x).0) h) in
+    let f : r.cookie ≡ cookie = sym (ap (λ x. (pair x).1) h) in
+    rw (e, f) refl
+
+running-none : (x : Option RunningTransfer) → None ≡ named x → x ≡ None
+running-none None h = refl
+running-none (Some r) h = absurd cc
+
+pub checkpoint-refused : (v : View) (ch cookie : ℕ) → Some (ch, cookie) ≡ named (first_running v (λ _. true)) → CallAnswers v Checkpoint (Refused (Running ch cookie)) v
+checkpoint-refused v ch cookie h = rw (running-known (first_running v (λ _. true)) ch cookie h) refl
+
+pub checkpoint-open : (v : View) → None ≡ named (first_running v (λ _. true)) → first_running v (λ _. true) ≡ None
+checkpoint-open v h = running-none (first_running v (λ _. true)) h
+
+pub checkpoint-starved : (v : View) → first_running v (λ _. true) ≡ None → CallAnswers v Checkpoint (Refused NoMemory) v
+checkpoint-starved v h = (rw h refl, refl)
+
+pub checkpoint-done : (v w : View) → first_running v (λ _. true) ≡ None → w ≡ checkpointed v → CallAnswers v Checkpoint Done w
+checkpoint-done v w h is =
+    let given : answer v Checkpoint ≡ (Done, checkpointed v) = rw h refl in
+    ap (λ x. (Done, x)) is ∙ sym given

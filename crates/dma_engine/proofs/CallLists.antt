@@ -1,13 +1,14 @@
 -- Calls one after another.
-use Rattle.std.proofs.Common.{◌≡◌, ℕ, ◌+◌, ◌-◌, List, [], ◌∷◌, ◌++◌, length, take, drop, Option, Some, None, Bool, true, false, refl, ap, sym, ◌∙◌, subst, append-nil, append_assoc}
-use Rattle.std.specs.Prelude.{if◌then◌else◌, ◌==◌, nat_le, Ok, Err}
+use Rattle.std.proofs.Common.{◌≡◌, ℕ, ◌+◌, ◌-◌, List, [], ◌∷◌, ◌++◌, length, take, drop, Option, Some, None, Bool, true, false, refl, ap, sym, ◌∙◌, subst, append-nil, append_assoc, suc, zero}
+use Rattle.std.specs.Prelude.{if◌then◌else◌, ◌==◌, nat_le, replicate, Result, Ok, Err}
+use Rattle.std.proofs.lemmas.Bool.{or_parts, true≢false}
 use Rattle.dma_insn.specs.declared.insn.Insn.{Insn}
 use Rattle.dma_insn.specs.declared.insn.Insn.TheVariants.{Ld, St, End, Sev, Wfe, Mov, Rmb, Wmb, Nop, Lp, LpEnd}
 use Rattle.dma_mem.specs.Places.{Descriptor}
 use Rattle.dma_mem.specs.Marking.{meets_mark}
 use Rattle.dma_chan.specs.Traffic.{member, stored_after, read_places, written_places}
 use Rattle.dma_engine.specs.declared.call.Call.{Call}
-use Rattle.dma_engine.specs.declared.call.Call.TheVariants.{Write, Read, Submit, Issue, Pause, Resume, Terminate, Step, Status, Result as ResultOf, Mark, Unmark, Raise}
+use Rattle.dma_engine.specs.declared.call.Call.TheVariants.{Write, Read, Submit, Issue, Pause, Resume, Terminate, Step, Status, Result as ResultOf, Mark, Unmark, Raise, Checkpoint}
 use Rattle.dma_engine.specs.declared.call.Reply.{Reply}
 use Rattle.dma_engine.specs.declared.call.Reply.TheVariants.{Done, Bytes, Cookie, Count, Turned, State, Result as Told, Refused}
 use Rattle.dma_engine.specs.declared.entry.Entry.{Entry}
@@ -15,14 +16,18 @@ use Rattle.dma_engine.specs.declared.entry.Entry.TheVariants.{Wrote, ReadBack, S
 use Rattle.dma_engine.specs.declared.entry.Signaller.TheVariants.{Channel, Host}
 use Rattle.dma_engine.specs.declared.outcome.TransResult.{TransResult}
 use Rattle.dma_engine.specs.declared.outcome.TransResult.TheVariants.{NoError, ReadFailed, WriteFailed}
-use Rattle.dma_engine.specs.declared.turn.Turn.TheVariants.{Paused, Halted, Waiting}
+use Rattle.dma_engine.specs.declared.turn.Turn.{Turn}
+use Rattle.dma_engine.specs.declared.advance.Advanced.{Advanced}
+use Rattle.dma_engine.specs.Advance.{IsAdvance, last_call, last_reply}
+use Rattle.dma_engine.specs.declared.turn.Turn.TheVariants.{Moved, Paused, Halted, Waiting}
 use Rattle.dma_mem.specs.declared.marks.MarkKind.TheVariants.{Reading, Writing}
 use Rattle.dma_engine.specs.declared.fault.EngineFault.{EngineFault}
-use Rattle.dma_engine.specs.declared.fault.EngineFault.TheVariants.{OutOfMemoryRange, Busy, NoChannel, CookiesSpent, StepsSpent, BadEvent, BadRange, NoMemory}
+use Rattle.dma_engine.specs.declared.fault.EngineFault.TheVariants.{OutOfMemoryRange, Busy, Running, NoChannel, CookiesSpent, StepsSpent, BadEvent, BadRange, NoMemory}
 use Rattle.dma_engine.specs.Object.{channel, issued_front, is_set, used, unfinished}
 use Rattle.dma_engine.specs.View.{View, RunningTransfer, object_of, channels, schedule_at}
 use Rattle.dma_engine.specs.Turn.{Stepped, turn, front_turn, start_turn, insn_turn, moves_on, finishes, with_entry, in_the_way, last_step}
-use Rattle.dma_engine.specs.Answer.{CallAnswers, AreAnswers, Extends, answer, unless, write_fault, read_fault, submit_fault, channel_fault, mark_fault, raise_fault, with_pause, terminated, done_on}
+use Rattle.dma_engine.specs.Laws.{IsQuiet}
+use Rattle.dma_engine.specs.Answer.{CallAnswers, AreAnswers, Extends, answer, unless, write_fault, read_fault, submit_fault, channel_fault, mark_fault, raise_fault, with_pause, terminated, done_on, checkpoint_fault, checkpointed, is_checkpoint, has_checkpoint}
 
 -- ---- the chain of answers
 
@@ -93,51 +98,120 @@ turn-extends v ch =
     if-extends v (nat_le (channels v) ch) (Err NoChannel, v) second (still v)
     (if-extends v c.halted (Ok Halted, v) third (still v) (if-extends v s.paused (Ok Paused, v) last (still v) (front-extends v ch (issued_front c) s.taken)))
 
-pub answer-extends : (v : View) (call : Call) → Extends v (answer v call).1
-answer-extends v (Write addr bytes) = unless-extends v (write_fault v addr (length bytes)) (Done, with_entry v (Wrote addr bytes)) (one v (Wrote addr bytes))
-answer-extends v (Read addr len) =
+refused-still : (v : View) (f : Option EngineFault) (x : Reply × View) (reply : Reply) (w : View) → (reply, w) ≡ unless f v x → (f ≡ None → ⊥) → Extends v w
+refused-still v None x reply w is h = absurd (h refl)
+refused-still v (Some fault) x reply w is h = extends-same v w (ap (λ (y : Reply × View). y.1) is)
+
+-- a checkpoint with another reply than Done was refused
+checkpoint-extends : (v w : View) (reply : Reply) → (reply, w) ≡ answer v Checkpoint → is_checkpoint Checkpoint reply ≡ false → Extends v w
+checkpoint-extends v w reply is other =
+    refused-still v (checkpoint_fault v) (Done, checkpointed v) reply w is (λ e.
+    let done : (reply, w) ≡ (Done, checkpointed v) = is ∙ ap (λ f. unless f v (Done, checkpointed v)) e in
+    let same : reply ≡ Done = ap (λ (y : Reply × View). y.0) done in
+    true≢false (sym (ap (is_checkpoint Checkpoint) same) ∙ other))
+
+abbrev IsOther : Call → Type 0
+IsOther Checkpoint = ⊥
+IsOther _ = Unit {0}
+
+answer-extends : (v : View) (call : Call) → IsOther call → Extends v (answer v call).1
+answer-extends v (Write addr bytes) o = unless-extends v (write_fault v addr (length bytes)) (Done, with_entry v (Wrote addr bytes)) (one v (Wrote addr bytes))
+answer-extends v (Read addr len) o =
     let bytes = take len (drop addr (object_of v).image) in
     unless-extends v (read_fault v addr len) (Bytes bytes, with_entry v (ReadBack addr bytes)) (one v (ReadBack addr bytes))
-answer-extends v (Submit ch t) =
+answer-extends v (Submit ch t) o =
     let cookie = used (channel (object_of v) ch) + 1 in
     unless-extends v (submit_fault v ch t) (Cookie cookie, with_entry v (Submitted ch t cookie)) (one v (Submitted ch t cookie))
-answer-extends v (Issue ch) =
+answer-extends v (Issue ch) o =
     let c = channel (object_of v) ch in
     unless-extends v (channel_fault v ch) (Count (used c - c.issued), with_entry v (Issued ch)) (one v (Issued ch))
-answer-extends v (Pause ch) = unless-extends v (channel_fault v ch) (Done, with_pause v ch true) (still v)
-answer-extends v (Resume ch) = unless-extends v (channel_fault v ch) (Done, with_pause v ch false) (still v)
-answer-extends v (Terminate ch) =
+answer-extends v (Pause ch) o = unless-extends v (channel_fault v ch) (Done, with_pause v ch true) (still v)
+answer-extends v (Resume ch) o = unless-extends v (channel_fault v ch) (Done, with_pause v ch false) (still v)
+answer-extends v (Terminate ch) o =
     let count = unfinished (channel (object_of v) ch) in
     unless-extends v (channel_fault v ch) (Count count, terminated v ch) (one v (Terminated ch (done_on v ch) count))
-answer-extends v (Step ch) = turn-extends v ch
-answer-extends v (Status ch cookie) = still v
-answer-extends v (ResultOf ch cookie) = still v
-answer-extends v (Mark kind segment) = unless-extends v (mark_fault segment) (Done, with_entry v (Marked kind segment)) (one v (Marked kind segment))
-answer-extends v Unmark = one v Unmarked
-answer-extends v (Raise event) = unless-extends v (raise_fault event) (Done, with_entry v (Signalled Host event)) (one v (Signalled Host event))
+answer-extends v (Step ch) o = turn-extends v ch
+answer-extends v (Status ch cookie) o = still v
+answer-extends v (ResultOf ch cookie) o = still v
+answer-extends v (Mark kind segment) o = unless-extends v (mark_fault segment) (Done, with_entry v (Marked kind segment)) (one v (Marked kind segment))
+answer-extends v Unmark o = one v Unmarked
+answer-extends v (Raise event) o = unless-extends v (raise_fault event) (Done, with_entry v (Signalled Host event)) (one v (Signalled Host event))
+answer-extends v Checkpoint o = absurd o
 
-by-answer : (v w : View) (call : Call) (reply : Reply) → (reply, w) ≡ answer v call → Extends v w
-by-answer v w call reply is = subst (λ (u : View). Extends v u) (sym (ap (λ (x : Reply × View). x.1) is)) (answer-extends v call)
+by-other : (v w : View) (call : Call) (reply : Reply) → IsOther call → (reply, w) ≡ answer v call → Extends v w
+by-other v w call reply o is = subst (λ (u : View). Extends v u) (sym (ap (λ (x : Reply × View). x.1) is)) (answer-extends v call o)
 
-pub answers-extend : (v w : View) (call : Call) (reply : Reply) → CallAnswers v call reply w → Extends v w
-answers-extend v w call Done is = by-answer v w call Done is
-answers-extend v w call (Bytes b) is = by-answer v w call (Bytes b) is
-answers-extend v w call (Cookie n) is = by-answer v w call (Cookie n) is
-answers-extend v w call (Count n) is = by-answer v w call (Count n) is
-answers-extend v w call (Turned t) is = by-answer v w call (Turned t) is
-answers-extend v w call (State s) is = by-answer v w call (State s) is
-answers-extend v w call (Told o) is = by-answer v w call (Told o) is
-answers-extend v w call (Refused NoMemory) is = extends-same v w is.1
-answers-extend v w call (Refused OutOfMemoryRange) is = by-answer v w call (Refused OutOfMemoryRange) is
-answers-extend v w call (Refused (Busy ch cookie)) is = by-answer v w call (Refused (Busy ch cookie)) is
-answers-extend v w call (Refused NoChannel) is = by-answer v w call (Refused NoChannel) is
-answers-extend v w call (Refused CookiesSpent) is = by-answer v w call (Refused CookiesSpent) is
-answers-extend v w call (Refused StepsSpent) is = by-answer v w call (Refused StepsSpent) is
-answers-extend v w call (Refused BadEvent) is = by-answer v w call (Refused BadEvent) is
-answers-extend v w call (Refused BadRange) is = by-answer v w call (Refused BadRange) is
+by-answer : (v w : View) (call : Call) (reply : Reply) → is_checkpoint call reply ≡ false → (reply, w) ≡ answer v call → Extends v w
+by-answer v w Checkpoint reply n is = checkpoint-extends v w reply is n
+by-answer v w (Write addr bytes) reply n is = by-other v w (Write addr bytes) reply tt is
+by-answer v w (Read addr len) reply n is = by-other v w (Read addr len) reply tt is
+by-answer v w (Submit ch t) reply n is = by-other v w (Submit ch t) reply tt is
+by-answer v w (Issue ch) reply n is = by-other v w (Issue ch) reply tt is
+by-answer v w (Pause ch) reply n is = by-other v w (Pause ch) reply tt is
+by-answer v w (Resume ch) reply n is = by-other v w (Resume ch) reply tt is
+by-answer v w (Terminate ch) reply n is = by-other v w (Terminate ch) reply tt is
+by-answer v w (Step ch) reply n is = by-other v w (Step ch) reply tt is
+by-answer v w (Status ch cookie) reply n is = by-other v w (Status ch cookie) reply tt is
+by-answer v w (ResultOf ch cookie) reply n is = by-other v w (ResultOf ch cookie) reply tt is
+by-answer v w (Mark kind segment) reply n is = by-other v w (Mark kind segment) reply tt is
+by-answer v w Unmark reply n is = by-other v w Unmark reply tt is
+by-answer v w (Raise event) reply n is = by-other v w (Raise event) reply tt is
 
-pub chain-extends : (v w : View) (calls : List Call) (replies : List Reply) → AreAnswers v calls replies w → Extends v w
-chain-extends v w [] [] h = extends-same v w h
-chain-extends v w [] (r ∷ rs) h = absurd h
-chain-extends v w (c ∷ cs) [] h = absurd h
-chain-extends v w (c ∷ cs) (r ∷ rs) h = extends-trans v h.0 w (answers-extend v h.0 c r h.1) (chain-extends h.0 w cs rs h.2)
+pub answers-extend : (v w : View) (call : Call) (reply : Reply) → is_checkpoint call reply ≡ false → CallAnswers v call reply w → Extends v w
+answers-extend v w call Done n is = by-answer v w call Done n is
+answers-extend v w call (Bytes b) n is = by-answer v w call (Bytes b) n is
+answers-extend v w call (Cookie k) n is = by-answer v w call (Cookie k) n is
+answers-extend v w call (Count k) n is = by-answer v w call (Count k) n is
+answers-extend v w call (Turned t) n is = by-answer v w call (Turned t) n is
+answers-extend v w call (State s) n is = by-answer v w call (State s) n is
+answers-extend v w call (Told o) n is = by-answer v w call (Told o) n is
+answers-extend v w call (Refused NoMemory) n is = extends-same v w is.1
+answers-extend v w call (Refused OutOfMemoryRange) n is = by-answer v w call (Refused OutOfMemoryRange) n is
+answers-extend v w call (Refused (Busy ch cookie)) n is = by-answer v w call (Refused (Busy ch cookie)) n is
+answers-extend v w call (Refused (Running ch cookie)) n is = by-answer v w call (Refused (Running ch cookie)) n is
+answers-extend v w call (Refused NoChannel) n is = by-answer v w call (Refused NoChannel) n is
+answers-extend v w call (Refused CookiesSpent) n is = by-answer v w call (Refused CookiesSpent) n is
+answers-extend v w call (Refused StepsSpent) n is = by-answer v w call (Refused StepsSpent) n is
+answers-extend v w call (Refused BadEvent) n is = by-answer v w call (Refused BadEvent) n is
+answers-extend v w call (Refused BadRange) n is = by-answer v w call (Refused BadRange) n is
+
+pub chain-extends : (v w : View) (calls : List Call) (replies : List Reply) → has_checkpoint calls replies ≡ false → AreAnswers v calls replies w → Extends v w
+chain-extends v w [] [] n h = extends-same v w h
+chain-extends v w [] (r ∷ rs) n h = absurd h
+chain-extends v w (c ∷ cs) [] n h = absurd h
+chain-extends v w (c ∷ cs) (r ∷ rs) n h =
+    let both = or_parts (is_checkpoint c r) (has_checkpoint cs rs) n in
+    extends-trans v h.0 w (answers-extend v h.0 c r both.0 h.1) (chain-extends h.0 w cs rs both.1 h.2)
+
+-- ---- steps of one channel in a row
+
+no-checkpoint : (ch n : ℕ) (calls : List Call) (replies : List Reply) → has_checkpoint calls replies ≡ false → has_checkpoint (replicate n (Step ch) ++ calls) (replicate n (Turned Moved) ++ replies) ≡ false
+no-checkpoint ch zero calls replies h = h
+no-checkpoint ch (suc n) calls replies h = no-checkpoint ch n calls replies h
+
+last-none : (ch : ℕ) (last : Option (Result Turn EngineFault)) → has_checkpoint (last_call ch last) (last_reply last) ≡ false
+last-none ch None = refl
+last-none ch (Some r) = refl
+
+pub advance-extends : (v w : View) (ch : ℕ) (told : Advanced) → IsAdvance v ch told w → Extends v w
+advance-extends v w ch told h =
+    chain-extends v w (replicate told.moved (Step ch) ++ last_call ch told.last) (replicate told.moved (Turned Moved) ++ last_reply told.last)
+    (no-checkpoint ch told.moved (last_call ch told.last) (last_reply told.last) (last-none ch told.last)) h
+
+-- ---- calls that are no checkpoint
+
+pub quiet-extends : (call : Call) (reply : Reply) → IsQuiet call → is_checkpoint call reply ≡ false
+quiet-extends (Write addr bytes) reply q = refl
+quiet-extends (Read addr len) reply q = refl
+quiet-extends (Submit ch t) reply q = refl
+quiet-extends (Issue ch) reply q = refl
+quiet-extends (Pause ch) reply q = refl
+quiet-extends (Resume ch) reply q = refl
+quiet-extends (Terminate ch) reply q = refl
+quiet-extends (Step ch) reply q = refl
+quiet-extends (Status ch cookie) reply q = refl
+quiet-extends (ResultOf ch cookie) reply q = refl
+quiet-extends (Mark kind segment) reply q = refl
+quiet-extends Unmark reply q = refl
+quiet-extends (Raise event) reply q = refl
+quiet-extends Checkpoint reply q = absurd q

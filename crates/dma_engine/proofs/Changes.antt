@@ -54,10 +54,13 @@ run-kept memory other m c same h =
     by _ _ refl refl h
 
 -- a queue stays as it is when the history grows
-pub queue-kept : (ch : ℕ) (history longer : List Entry) (memory other : List ℕ) (q : Queue) (c : ChannelState) → ((k : ℕ) (e : Entry) → slice_get history k ≡ Some e → slice_get longer k ≡ Some e) → IsRun other q.channel c → IsQueue ch history memory q c → IsQueue ch longer other q c
-queue-kept ch history longer memory other q c grows machine h = record {
+pub queue-kept : (ch : ℕ) (kept : List Descriptor) (history longer : List Entry) (memory other : List ℕ) (q : Queue) (c : ChannelState) → ((k : ℕ) (e : Entry) → slice_get history k ≡ Some e → slice_get longer k ≡ Some e) → IsRun other q.channel c → IsQueue ch kept history memory q c → IsQueue ch kept longer other q c
+queue-kept ch kept history longer memory other q c grows machine h = record {
+  forgotten = h.forgotten;
+  given = h.given;
   many = h.many;
-  stands = λ k less. grows _ _ (h.stands k less);
+  first = h.first;
+  stands = λ k less. let s = h.stands k less in (s.0, grows _ _ s.1);
   outcomes = h.outcomes;
   issued = h.issued;
   halted = h.halted;
@@ -106,8 +109,9 @@ holds-entered p e memory events marks h w =
       shown = rw step w.shown;
       events = rw step w.events;
       marks = rw step w.marks;
+      size = h.size;
       each = λ ch d less.
-          let kept = queue-kept ch p.history (p.history ++ e ∷ []) p.memory memory (slice_index_or p.queues ch d) (channel o ch) (λ k x. slice_get-push p.history e x k) (w.machines ch d less (h.each ch d less).machine) (h.each ch d less) in
+          let kept = queue-kept ch (channel p.base ch).submitted p.history (p.history ++ e ∷ []) p.memory memory (slice_index_or p.queues ch d) (channel o ch) (λ k x. slice_get-push p.history e x k) (w.machines ch d less (h.each ch d less).machine) (h.each ch d less) in
           rw (step, w.stay) kept;
       prepared = λ ch. subst (IsPrepared p.made) (sym (same ch)) (h.prepared ch);
       ranges = λ ch d less. subst (AreOfRunning (slice_index_or p.queues ch d).ranges) (sym (same ch)) (h.ranges ch d less);
@@ -124,6 +128,7 @@ prepared-more made more (Some r) keeps h = λ a i. keeps (a / 4096) (h a i)
 pub holds-pages : (p : Parts) (more : List Bool) → Holds p → ((page : ℕ) → slice_index_or p.made page false ≡ true → slice_index_or more page false ≡ true) → Holds (record p { made = more })
 holds-pages p more h keeps = record {
   sound = h.sound;
+  size = h.size;
   shown = h.shown;
   events = h.events;
   marks = h.marks;
@@ -175,7 +180,7 @@ fits-changed o p s ch x h w =
 
 -- the parts after a change of one queue
 abbrev pub changed : Parts → ℕ → Queue → List ℕ → List Bool → List Entry → ℕ → Parts
-changed p ch q memory events history steps = record { size = p.size; memory = memory; made = p.made; events = events; marks = p.marks; queues = slice_set p.queues ch q; history = history; steps = steps }
+changed p ch q memory events history steps = record { size = p.size; memory = memory; made = p.made; events = events; marks = p.marks; queues = slice_set p.queues ch q; base = p.base; history = history; steps = steps }
 
 -- their view
 abbrev pub changed_view : Parts → ℕ → Queue → List Entry → ℕ → View
@@ -184,8 +189,7 @@ changed_view p ch q history steps = record { base = (view_of p).base; history = 
 pub view-changed : (p : Parts) (ch : ℕ) (q : Queue) (memory : List ℕ) (events : List Bool) (history : List Entry) (steps : ℕ) → view_of (changed p ch q memory events history steps) ≡ changed_view p ch q history steps
 view-changed p ch q memory events history steps =
     let s = map-set schedule_of p.queues ch q in
-    let n = length-set p.queues ch q in
-    rw (s, n) refl
+    rw s refl
 
 -- what has to be so, with the object that the new history leaves
 pub record ChangesTo (p : Parts) (ch : ℕ) (q : Queue) (memory : List ℕ) (flags : List Bool) (history : List Entry) (o : Object) : Type 0 where
@@ -196,7 +200,7 @@ pub record ChangesTo (p : Parts) (ch : ℕ) (q : Queue) (memory : List ℕ) (fla
   pub shown : memory ≡ memory_shown o (slice_set (view_of p).schedule ch (schedule_of q))
   pub events : flags ≡ o.events
   pub marks : (object_of (view_of p)).marks ≡ o.marks
-  pub tied : IsQueue ch history memory q (channel o ch)
+  pub tied : IsQueue ch (channel p.base ch).submitted history memory q (channel o ch)
   pub prepared : IsPrepared p.made (runs_there ch (channel o ch) (schedule_of q).taken)
   pub ranges : AreOfRunning q.ranges (runs_there ch (channel o ch) (schedule_of q).taken)
   pub machines : (c : ℕ) (d : Queue) → c < length p.queues → c ≢ ch →
@@ -227,12 +231,13 @@ holds-changed p ch q memory events history steps o h less w =
       shown = w.shown ∙ ap (λ x. memory_shown x (slice_set v.schedule ch (schedule_of q))) (sym w.leaves) ∙ ap memory_of is;
       events = w.events ∙ ap (λ (x : Object). x.events) (sym leaves);
       marks = h.marks ∙ w.marks ∙ ap (λ (x : Object). x.marks) (sym leaves);
+      size = h.size;
       each = λ c d l. elim (cases_eq c ch) [
         | inl e ↦ rw (e, leaves, get_or-set_same p.queues ch q d less) w.tied
         | inr f ↦
             let l' : c < length p.queues = omega (arith, l, length-set p.queues ch q) in
             let old = h.each c d l' in
-            let kept = queue-kept c p.history history p.memory memory (slice_index_or p.queues c d) (channel (object_of v) c) w.grows (w.machines c d l' f old.machine) old in
+            let kept = queue-kept c (channel p.base c).submitted p.history history p.memory memory (slice_index_or p.queues c d) (channel (object_of v) c) w.grows (w.machines c d l' f old.machine) old in
             rw (leaves, get_or-set_other p.queues ch c q d f, w.fits.others c f) kept
       ];
       prepared = λ c. elim (cases_eq c ch) [

@@ -1,8 +1,10 @@
 -- What a submit and a terminate leave on their channel, and the counts that the ticks of a history add up to.
-use Rattle.std.proofs.Common.{◌≡◌, ℕ, zero, suc, ◌+◌, ◌<◌, ◌≤◌, List, [], ◌∷◌, length, map, drop, Bool, true, false, refl, ap, sym, ◌∙◌, arith}
-use Rattle.std.specs.Prelude.{replicate, nat_le, Option, Some, None}
-use Rattle.std.proofs.lemmas.Bool.{leb-false}
-use Rattle.std.proofs.lemmas.List.{length-map, length-set, length_push, get_or-set_same, length-append, length-drop}
+use Rattle.std.proofs.Common.{◌≡◌, ℕ, ◌+◌, ◌<◌, ◌≤◌, List, [], ◌∷◌, length, drop, Bool, true, false, refl, ap, sym, ◌∙◌, arith, inl, inr}
+use Rattle.std.specs.List.{All}
+use Rattle.std.specs.Prelude.{nat_le, Option, Some, None}
+use Rattle.std.proofs.lemmas.Bool.{cases_lt, leb-false}
+use Rattle.std.proofs.lemmas.List.{length-map, length_push, get_or-set_same, get_or_past, length-append, length-drop}
+use Rattle.std.proofs.lemmas.List.Elements.{All-cons, All-nil}
 use Rattle.std.proofs.Math.ListN.{get_or-map}
 use Rattle.dma_mem.specs.Places.{Descriptor}
 use Rattle.dma_engine.specs.declared.call.Call.TheVariants.{Submit, Terminate}
@@ -12,38 +14,20 @@ use Rattle.dma_engine.specs.declared.fault.EngineFault.{EngineFault}
 use Rattle.dma_engine.specs.declared.fault.EngineFault.TheVariants.{NoChannel}
 use Rattle.dma_engine.specs.declared.entry.Entry.{Entry}
 use Rattle.dma_engine.specs.declared.entry.Entry.TheVariants.{Wrote, ReadBack, Submitted as SubmittedEntry, Issued, Passed, Signalled, Finished as FinishedEntry, Terminated as TerminatedEntry, Marked, Unmarked}
-use Rattle.dma_engine.specs.declared.entry.Signaller.TheVariants.{Channel, Host}
+use Rattle.dma_engine.specs.declared.outcome.TransResult.{TransResult}
+use Rattle.dma_engine.specs.declared.outcome.TransResult.TheVariants.{NoError, ReadFailed, WriteFailed, Aborted}
 use Rattle.dma_engine.specs.Answer.{CallAnswers, answer, unless, cause, channel_fault, done_on, submit_fault, terminated}
-use Rattle.dma_engine.specs.History.{object_after}
-use Rattle.dma_engine.specs.Laws.{SubmitsGive, TerminatesFinish, BoardsCount, StatusByTicks, BoardsOpen, TicksAreFew}
-use Rattle.dma_engine.specs.Object.{Object, after, channel, empty_channel, opening, used, finished, unfinished, aborted, with_transfer, with_all_aborted}
-use Rattle.dma_engine.specs.Ticks.{Counts, counts_of, no_counts, board_of}
+use Rattle.dma_engine.specs.History.{IsLegal}
+use Rattle.dma_engine.specs.Laws.{SubmitsGive, TerminatesFinish, BoardsCount, StatusByTicks, BoardsOpen, TicksAreFew, TicksAreThere}
+use Rattle.dma_engine.specs.Object.{Allows, FrontIs, Object, after, channel, empty_channel, used, finished, unfinished, aborted, with_transfer, with_all_aborted}
+use Rattle.dma_engine.specs.Ticks.{Counts, Finished, Submitted, counts_of, tick_channel, ticks_of}
 use Rattle.dma_engine.specs.Turn.{with_entry}
-use Rattle.dma_engine.specs.View.{View, IsSound, object_of, channels}
+use Rattle.dma_engine.specs.View.{View, object_of, channels}
 use Rattle.dma_engine.proofs.CallCases.{submit-open}
-use Rattle.dma_engine.proofs.Boards.{AreCounted, board-is, counted-opening, status-by-board}
+use Rattle.dma_engine.proofs.Boards.{AreCounted, board-is, counted-base, status-by-board}
 use Rattle.dma_engine.proofs.AnswerCounts.{object-one, submitted, closed}
 use Rattle.dma_engine.proofs.Endings.{length-aborted}
-use Rattle.dma_engine.proofs.Sizes.{made}
-
--- ---- the channels stay as many
-
-channels-after : (o : Object) (e : Entry) → length (after o e).channels ≡ length o.channels
-channels-after o (Wrote addr bytes) = refl
-channels-after o (ReadBack addr bytes) = refl
-channels-after o (SubmittedEntry ch t cookie) = length-set o.channels ch _
-channels-after o (Issued ch) = length-set o.channels ch _
-channels-after o (Passed ch event) = length-set o.channels ch _
-channels-after o (Signalled (Channel ch) event) = length-set o.channels ch _
-channels-after o (Signalled Host event) = refl
-channels-after o (FinishedEntry ch result done) = length-set o.channels ch _
-channels-after o (TerminatedEntry ch done count) = length-set o.channels ch _
-channels-after o (Marked kind segment) = refl
-channels-after o Unmarked = refl
-
-channels-object : (o : Object) (es : List Entry) → length (object_after o es).channels ≡ length o.channels
-channels-object o [] = refl
-channels-object o (e ∷ es) = channels-object (after o e) es ∙ channels-after o e
+use Rattle.dma_engine.proofs.Sizes.{made, many-after as channels-after, many-channels as channels-object}
 
 -- ---- a reply that is no refusal
 
@@ -62,10 +46,11 @@ given v w ch k t none h =
     let told : answer v (Submit ch t) ≡ (Cookie (used c + 1), with_entry v e) = rw none refl in
     let number : k ≡ used c + 1 = let both : Cookie k ≡ Cookie (used c + 1) = ap (λ (x : Reply × View). x.0) (h ∙ told) in cc in
     let is : w ≡ with_entry v e = ap (λ (x : Reply × View). x.1) (h ∙ told) in
-    let many : channels w ≡ channels v = ap channels is ∙ ap (λ (o : Object). length o.channels) (object-one v e) ∙ channels-after (object_of v) e in (
+    let many : channels w ≡ channels v = ap channels is ∙ ap (λ (o : Object). length o.channels) (object-one v e) ∙ channels-after (object_of v) e in
+    let more : used (with_transfer c t) ≡ used c + 1 = omega (arith, length_push c.submitted t) in (
       number,
       ap (λ (u : View). used (channel (object_of u) ch)) is ∙ ap (λ o. used (channel o ch)) (object-one v e)
-          ∙ ap used (get_or-set_same (object_of v).channels ch (with_transfer c t) empty_channel less) ∙ length_push c.submitted t,
+          ∙ ap used (get_or-set_same (object_of v).channels ch (with_transfer c t) empty_channel less) ∙ more,
       omega (arith, many, less),
     )
 
@@ -102,9 +87,9 @@ closes v w ch n none h =
     let is : w ≡ terminated v ch = ap (λ (x : Reply × View). x.1) (h ∙ told) in
     let leaves : object_of w ≡ after o e = ap object_of is ∙ object-one v e in
     let here : channel (object_of w) ch ≡ with_all_aborted c done = ap (λ x. channel x ch) leaves ∙ get_or-set_same o.channels ch (with_all_aborted c done) empty_channel less in
-    let more = length-append c.outcomes (aborted done (drop (finished c) c.submitted)) in
+    let more = length-append c.outcomes (aborted done (drop (length c.outcomes) c.submitted)) in
     let many : channels w ≡ channels v = ap (λ (x : Object). length x.channels) leaves ∙ channels-after o e in
-    (omega (arith, ap used here, ap finished here, more, length-aborted done (drop (finished c) c.submitted), length-drop (finished c) c.submitted), omega (arith, many, less))
+    (omega (arith, ap used here, ap finished here, more, length-aborted done (drop (length c.outcomes) c.submitted), length-drop (length c.outcomes) c.submitted), omega (arith, many, less))
 
 pub terminates_finish : TerminatesFinish
 terminates_finish v w ch count h =
@@ -121,32 +106,18 @@ terminates_finish v w ch count h =
 
 pub boards_count : BoardsCount
 boards_count v h =
-    let counted : AreCounted v.base = rw h.opens (counted-opening (length v.base.image) (length v.base.channels)) in
+    let counted : AreCounted v.base = counted-base v.base h.opens in
     board-is v.base v.history counted h.legal
 
 pub status_by_ticks : StatusByTicks
 status_by_ticks v ch cookie h =
-    let counted : AreCounted v.base = rw h.opens (counted-opening (length v.base.image) (length v.base.channels)) in
+    let counted : AreCounted v.base = counted-base v.base h.opens in
     status-by-board v ch cookie counted h.legal
-
-map-replicate : {A B : Type 0} (f : A → B) (n : ℕ) (x : A) → map f (replicate n x) ≡ replicate n (f x)
-map-replicate f zero x = refl
-map-replicate f (suc n) x = ap (λ l. f x ∷ l) (map-replicate f n x)
-
-opens-empty : (bytes many : ℕ) → board_of (opening bytes many) ≡ replicate many no_counts
-unfolding opening
-opens-empty bytes many = map-replicate counts_of many empty_channel
-
--- today a history begins with nothing given
-pub boards_empty : (v : View) → IsSound v → board_of v.base ≡ replicate (channels v) no_counts
-boards_empty v h =
-    let many : channels v ≡ length v.base.channels = channels-object v.base v.history in
-    ap board_of h.opens ∙ opens-empty (length v.base.image) (length v.base.channels) ∙ ap (λ n. replicate n no_counts) (sym many)
 
 pub boards_open : BoardsOpen
 boards_open v h =
     let many : channels v ≡ length v.base.channels = channels-object v.base v.history in
-    let counted : AreCounted v.base = rw h.opens (counted-opening (length v.base.image) (length v.base.channels)) in (
+    let counted : AreCounted v.base = counted-base v.base h.opens in (
       omega (arith, many, length-map v.base.channels counts_of),
       omega (arith, many, (made (length v.base.image) (length v.base.channels) h.makes).0),
       (λ ch.
@@ -154,6 +125,36 @@ boards_open v h =
           let c = counted ch in
           (omega (arith, ap (λ (x : Counts). x.used) at, c.give), omega (arith, ap (λ (x : Counts). x.finished) at, c.finish, c.give))),
     )
+
+-- a front stands on a channel that is there
+front-there : (o : Object) (ch : ℕ) (P : Descriptor → Type 0) → FrontIs (channel o ch) P → ch < length o.channels
+front-there o ch P h = elim (cases_lt ch (length o.channels)) [
+  | inl less ↦ less
+  | inr past ↦ let g : FrontIs empty_channel P = rw (get_or_past o.channels ch empty_channel past) at h in absurd g.1
+]
+
+finish-there : (o : Object) (ch : ℕ) (result : TransResult) (done : ℕ) → Allows o (FinishedEntry ch result done) → ch < length o.channels
+finish-there o ch NoError done h = front-there o ch _ h
+finish-there o ch ReadFailed done h = front-there o ch _ h
+finish-there o ch WriteFailed done h = front-there o ch _ h
+finish-there o ch Aborted done h = absurd h
+
+-- the ticks of a legal history are of channels that are there
+ticks-there : (n : ℕ) (o : Object) (es : List Entry) → length o.channels ≡ n → IsLegal o es → All (λ t. tick_channel t < n) (ticks_of es)
+ticks-there n o [] many h = All-nil (λ t. tick_channel t < n)
+ticks-there n o (Wrote addr bytes ∷ es) many h = ticks-there n (after o (Wrote addr bytes)) es (channels-after o (Wrote addr bytes) ∙ many) h.1
+ticks-there n o (ReadBack addr bytes ∷ es) many h = ticks-there n (after o (ReadBack addr bytes)) es (channels-after o (ReadBack addr bytes) ∙ many) h.1
+ticks-there n o (SubmittedEntry ch t cookie ∷ es) many h = All-cons (λ t. tick_channel t < n) (Submitted ch) (ticks_of es) (omega (arith, h.0.0, many)) (ticks-there n (after o (SubmittedEntry ch t cookie)) es (channels-after o (SubmittedEntry ch t cookie) ∙ many) h.1)
+ticks-there n o (Issued ch ∷ es) many h = ticks-there n (after o (Issued ch)) es (channels-after o (Issued ch) ∙ many) h.1
+ticks-there n o (Passed ch event ∷ es) many h = ticks-there n (after o (Passed ch event)) es (channels-after o (Passed ch event) ∙ many) h.1
+ticks-there n o (Signalled by event ∷ es) many h = ticks-there n (after o (Signalled by event)) es (channels-after o (Signalled by event) ∙ many) h.1
+ticks-there n o (FinishedEntry ch result done ∷ es) many h = All-cons (λ t. tick_channel t < n) (Finished ch 1) (ticks_of es) (omega (arith, finish-there o ch result done h.0, many)) (ticks-there n (after o (FinishedEntry ch result done)) es (channels-after o (FinishedEntry ch result done) ∙ many) h.1)
+ticks-there n o (TerminatedEntry ch done count ∷ es) many h = All-cons (λ t. tick_channel t < n) (Finished ch count) (ticks_of es) (omega (arith, h.0.0, many)) (ticks-there n (after o (TerminatedEntry ch done count)) es (channels-after o (TerminatedEntry ch done count) ∙ many) h.1)
+ticks-there n o (Marked kind segment ∷ es) many h = ticks-there n (after o (Marked kind segment)) es (channels-after o (Marked kind segment) ∙ many) h.1
+ticks-there n o (Unmarked ∷ es) many h = ticks-there n (after o Unmarked) es (channels-after o Unmarked ∙ many) h.1
+
+pub ticks_are_there : TicksAreThere
+ticks_are_there v h = ticks-there (channels v) v.base v.history (sym (channels-object v.base v.history)) h.legal
 
 pub ticks_are_few : TicksAreFew
 ticks_are_few [] = omega arith

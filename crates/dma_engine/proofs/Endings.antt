@@ -125,7 +125,7 @@ abbrev pub queue_terminated : Queue → ℕ → List Outcome → ℕ → Queue
 queue_terminated q spare outcomes issued =
     record q { outcomes = record { items = q.outcomes.items ++ outcomes; spare = spare }; issued = issued; paused = false; halted = false; channel = record (q.channel) { program = None }; ranges = None }
 
-pub holds-terminated : (p : Parts) (ch spare count issued : ℕ) (q : Queue) (outcomes : List Outcome) → Holds p → ch < length p.queues → q ≡ slice_index_or p.queues ch q → let c = channel (object_of (view_of p)) ch in let done = done_on (view_of p) ch in outcomes ≡ aborted done (drop (finished c) c.submitted) → issued ≡ length q.indices.items → count ≡ unfinished c → Holds (changed p ch (queue_terminated q spare outcomes issued) p.memory p.events (p.history ++ Terminated ch done count ∷ []) p.steps)
+pub holds-terminated : (p : Parts) (ch spare count issued : ℕ) (q : Queue) (outcomes : List Outcome) → Holds p → ch < length p.queues → q ≡ slice_index_or p.queues ch q → let c = channel (object_of (view_of p)) ch in let done = done_on (view_of p) ch in outcomes ≡ aborted done (drop (length c.outcomes) c.submitted) → issued ≡ q.given → count ≡ unfinished c → Holds (changed p ch (queue_terminated q spare outcomes issued) p.memory p.events (p.history ++ Terminated ch done count ∷ []) p.steps)
 holds-terminated p ch spare count issued q outcomes h less read all_of many number =
     let v : View = view_of p in
     let o = object_of v in
@@ -150,10 +150,13 @@ holds-terminated p ch spare count issued q outcomes h less read all_of many numb
       events = h.events;
       marks = refl;
       tied = rw here (record {
+        forgotten = t.forgotten;
+        given = t.given;
         many = t.many;
-        stands = λ k l. slice_get-push p.history e _ _ (t.stands k l);
+        first = t.first;
+        stands = λ k l. let s = t.stands k l in (s.0, slice_get-push p.history e _ _ s.1);
         outcomes = ap (λ l. l ++ outcomes) t.outcomes ∙ ap (λ l. c.outcomes ++ l) all_of;
-        issued = many ∙ t.many;
+        issued = many ∙ t.given;
         halted = refl;
         machine = tt;
       });
@@ -200,8 +203,11 @@ holds-finished p ch spare steps result q outcome halted h less read told fails a
       events = h.events;
       marks = refl;
       tied = rw here (record {
+        forgotten = t.forgotten;
+        given = t.given;
         many = t.many;
-        stands = λ k l. slice_get-push p.history e _ _ (t.stands k l);
+        first = t.first;
+        stands = λ k l. let s = t.stands k l in (s.0, slice_get-push p.history e _ _ s.1);
         outcomes = ap (λ l. l ++ outcome ∷ []) t.outcomes ∙ ap (λ y. c.outcomes ++ y ∷ []) told;
         issued = t.issued;
         halted = fails;

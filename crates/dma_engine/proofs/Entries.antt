@@ -1,5 +1,5 @@
 -- What an engine keeps when an entry is added that changes no channel: a write, a read, a mark, an unmark, a raise.
-use Rattle.std.proofs.Common.{◌≡◌, ◌≢◌, ℕ, ◌+◌, ◌<◌, ◌≤◌, List, [], ◌∷◌, ◌++◌, length, Option, Some, None, Bool, true, false, refl, ap, sym, ◌∙◌, arith, suc, zero, take, drop, inr, get_or}
+use Rattle.std.proofs.Common.{◌≡◌, ◌≢◌, ℕ, ◌+◌, ◌<◌, ◌≤◌, List, [], ◌∷◌, ◌++◌, length, Option, Some, None, Bool, true, false, refl, ap, sym, ◌∙◌, arith, take, drop, inr}
 use Rattle.std.specs.Prelude.{nat_lt, slice_index, slice_index_or, slice_set, is_some}
 use Rattle.std.specs.List.{Contains, range_with_len}
 use Rattle.std.specs.Map.{keys_of}
@@ -26,7 +26,7 @@ use Rattle.dma_engine.specs.Answer.{write_fault, read_fault, busy, cause, first_
 use Rattle.dma_engine.specs.inner.Holds.{Holds, Parts, view_of, taken_of}
 use Rattle.dma_engine.proofs.Changes.{holds-entered, with_entry_at, run-kept}
 use Rattle.dma_engine.proofs.Memory.{shown-wrote, shown-read}
-use Rattle.dma_engine.proofs.Queues.{holds-at, many-queues, runs_front}
+use Rattle.dma_engine.proofs.Queues.{holds-at, many-queues, runs_front, get_or_any}
 use Rattle.dma_engine.proofs.WhatRuns.{find-none_at}
 
 -- ---- what runs, by its queue
@@ -38,12 +38,6 @@ taken-some m h =
       | Some p ↦ λ _ e. rw (← e) refl
     ] in
     by m.program h refl
-
--- within a list the default doesn't matter
-pub get_or_any : {X : Type 0} (xs : List X) (k : ℕ) (d e : X) → k < length xs → get_or xs k d ≡ get_or xs k e
-get_or_any [] k d e h = absurd (omega arith)
-get_or_any (x ∷ xs) zero d e h = refl
-get_or_any (x ∷ xs) (suc k) d e h = get_or_any xs k d e (omega arith)
 
 pub runs_at : (p : Parts) → Holds p → (ch : ℕ) (q : Queue) (t : Descriptor) → ch < length p.queues → q ≡ slice_index_or p.queues ch q → is_some q.channel.program ≡ true → front (channel (object_of (view_of p)) ch) ≡ Some t → runs (object_of (view_of p)) (view_of p).schedule ch ≡ Some (record { ch = ch; cookie = finished (channel (object_of (view_of p)) ch) + 1; transfer = t; taken = q.channel.taken })
 runs_at p h ch q t less read loaded is =

@@ -1,22 +1,22 @@
 -- The fronts that are found by their entries, and the first running transfer that is in the way.
-use Rattle.std.proofs.Common.{◌≡◌, ℕ, ◌+◌, ◌<◌, ◌≤◌, List, [], ◌∷◌, length, Option, Some, None, Bool, true, false, cond, refl, ap, sym, ◌∙◌, arith, suc, zero}
+use Rattle.std.proofs.Common.{◌≡◌, ℕ, ◌+◌, ◌-◌, ◌<◌, ◌≤◌, List, [], ◌∷◌, length, Option, Some, None, Bool, true, false, cond, refl, ap, sym, ◌∙◌, arith, suc, zero}
 use Rattle.std.specs.Prelude.{find, slice_get, slice_index_or, unwrap_or, is_some, nat_lt}
 use Rattle.std.specs.Option.{option_map, option_to_list}
-use Rattle.std.proofs.lemmas.Bool.{lt-ltb, ltb-true, false≢true}
+use Rattle.std.proofs.lemmas.Bool.{le-ltb, lt-ltb, ltb-false, ltb-true, false≢true}
+use Rattle.std.proofs.lemmas.Option.{get_or_from_slice_get}
 use Rattle.dma_mem.specs.Places.{Descriptor}
 use Rattle.dma_chan.specs.Channel.{ChannelValue}
 use Rattle.dma_chan.specs.Programs.{ProgramValue}
 use Rattle.dma_engine.specs.declared.queue.Queue.{Queue}
 use Rattle.dma_engine.specs.declared.ranges.Ranges.{Ranges}
 use Rattle.dma_engine.specs.inner.Ranges.{AreOfRunning, HasRangesOf}
-use Rattle.dma_engine.specs.Object.{Object, ChannelState, channel, front, finished, used}
+use Rattle.dma_engine.specs.Object.{Object, ChannelState, channel, front, issued_front, finished, no_transfer, used}
 use Rattle.dma_engine.specs.View.{ChannelSchedule, RunningTransfer, object_of, runs, runs_there, running, idle}
 use Rattle.dma_engine.specs.inner.Ways.{named}
-use Rattle.dma_engine.specs.inner.Due.{front_told}
-use Rattle.dma_engine.specs.inner.Found.{front_in, given_by}
+use Rattle.dma_engine.specs.inner.Found.{front_in, transfer_at}
 use Rattle.dma_engine.specs.inner.Holds.{Holds, Parts, view_of, taken_of}
 use Rattle.dma_engine.proofs.Boards.{counted-at}
-use Rattle.dma_engine.proofs.Queues.{Front, HoldsAt, front_stands, holds-at}
+use Rattle.dma_engine.proofs.Queues.{Front, HoldsAt, holds-at, transfer_found}
 use Rattle.dma_engine.proofs.WaysByRanges.{kept-ranges, no-ranges}
 use Rattle.dma_engine.proofs.WhatRuns.{below, find-here}
 
@@ -28,45 +28,57 @@ some_within (x ∷ xs) zero h = (x, refl)
 some_within (x ∷ xs) (suc k) h = some_within xs k (omega arith)
 
 -- where fewer are finished than issued there is an issued front
-pub front_queued : (p : Parts) → Holds p → (ch : ℕ) (q : Queue) → ch < length p.queues → q ≡ slice_index_or p.queues ch q → length q.outcomes.items < q.issued → Front (channel (object_of (view_of p)) ch) (λ t. Unit {0})
+pub front_queued : (p : Parts) → Holds p → (ch : ℕ) (q : Queue) → ch < length p.queues → q ≡ slice_index_or p.queues ch q → q.forgotten + length q.outcomes.items < q.issued → Front (channel (object_of (view_of p)) ch) (λ t. Unit {0})
 front_queued p h ch q less read open_one =
     let c = channel (object_of (view_of p)) ch in
     let at = holds-at p h ch q less read in
     let counted = counted-at p h ch in
-    let many : length q.outcomes.items ≡ finished c = ap length at.tied.outcomes in
-    let before : finished c < c.issued = omega (arith, many, at.tied.issued) in
-    let inside : finished c < used c = omega (arith, counted.issue) in
-    let some = some_within c.submitted (finished c) inside in
+    let many : length q.outcomes.items ≡ length c.outcomes = ap length at.tied.outcomes in
+    let before : finished c < c.issued = omega (arith, many, at.tied.forgotten, at.tied.issued, open_one) in
+    let inside : finished c < used c = omega (arith, counted.issue, before) in
+    let some = some_within c.submitted (length c.outcomes) (omega (arith, inside)) in
     let e : nat_lt (finished c) c.issued ≡ true = lt-ltb _ _ before in
-    record { transfer = some.0; is = some.1; issued = rw e some.1; holds = tt; within = inside }
+    record { transfer = some.0; is = some.1; issued = rw e some.1; holds = tt; within = inside; below = before }
 
--- and its entry is found in the history
-pub front_found : (p : Parts) → Holds p → (ch : ℕ) (q : Queue) → ch < length p.queues → q ≡ slice_index_or p.queues ch q → front_in q p.history ≡ front_told (channel (object_of (view_of p)) ch)
-front_found p h ch q less read = by (nat_lt (length q.outcomes.items) q.issued) refl where
+-- and it is found in the base or in the history
+pub front_found : (p : Parts) → Holds p → (ch : ℕ) (q : Queue) → ch < length p.queues → q ≡ slice_index_or p.queues ch q → front_in q (channel p.base ch).submitted p.history ≡ issued_front (channel (object_of (view_of p)) ch)
+front_found p h ch q less read = by (nat_lt (length q.outcomes.items) (q.issued - q.forgotten)) refl where
   c : ChannelState
   c = channel (object_of (view_of p)) ch
 
   at : HoldsAt p ch q
   at = holds-at p h ch q less read
 
-  same : nat_lt (finished c) c.issued ≡ nat_lt (length q.outcomes.items) q.issued
-  same = ap (λ l. nat_lt (length l) c.issued) (sym at.tied.outcomes) ∙ ap (nat_lt (length q.outcomes.items)) (sym at.tied.issued)
+  n : ℕ
+  n = length q.outcomes.items
 
-  by : (b : Bool) → nat_lt (length q.outcomes.items) q.issued ≡ b → front_in q p.history ≡ front_told c
+  kept : List Descriptor
+  kept = (channel p.base ch).submitted
+
+  many : n ≡ length c.outcomes
+  many = ap length at.tied.outcomes
+
+  by : (b : Bool) → nat_lt n (q.issued - q.forgotten) ≡ b → front_in q kept p.history ≡ issued_front c
   by true e =
-      let f = front_queued p h ch q less read (ltb-true _ _ e) in
-      let stands = front_stands ch p.history p.memory q c f.transfer at.tied f.is in
-      rw (e, f.issued) (ap given_by stands)
+      let below : n < q.issued - q.forgotten = ltb-true _ _ e in
+      let f = front_queued p h ch q less read (omega (arith, below)) in
+      let there : n < length c.submitted = omega (arith, f.within, many) in
+      let found : transfer_at kept p.history q.indices.items n ≡ Some f.transfer =
+      transfer_found ch kept p.history p.memory q c n at.tied there
+      ∙ ap (λ k. Some (slice_index_or c.submitted k no_transfer)) many
+      ∙ ap (λ t. Some t) (get_or_from_slice_get c.submitted (length c.outcomes) f.transfer no_transfer f.is) in
+      rw (e, f.issued) found
   by false e =
-      let d : nat_lt (finished c) c.issued ≡ false = same ∙ e in
+      let past : q.issued - q.forgotten ≤ n = ltb-false _ _ e in
+      let d : nat_lt (finished c) c.issued ≡ false = le-ltb _ _ (omega (arith, past, many, at.tied.issued, at.tied.forgotten)) in
       rw (e, d) refl
 
--- no more are issued than there are indices
-pub few-issued : (p : Parts) → Holds p → (ch : ℕ) (q : Queue) → ch < length p.queues → q ≡ slice_index_or p.queues ch q → q.issued ≤ length q.indices.items
+-- no more are issued than are known
+pub few-issued : (p : Parts) → Holds p → (ch : ℕ) (q : Queue) → ch < length p.queues → q ≡ slice_index_or p.queues ch q → q.issued ≤ q.forgotten + length (channel p.base ch).submitted + length q.indices.items
 few-issued p h ch q less read =
     let at = holds-at p h ch q less read in
     let counted = counted-at p h ch in
-    omega (arith, at.tied.issued, at.tied.many, counted.issue)
+    omega (arith, at.tied.issued, at.tied.forgotten, at.tied.many, counted.issue)
 
 -- ---- what runs
 

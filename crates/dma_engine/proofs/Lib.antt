@@ -22,6 +22,8 @@ pub mod Rooms
 pub mod Opening
 pub mod CallLists
 pub mod OutcomesStay
+pub mod Checkpoint
+pub mod Remembered
 pub mod Rows
 pub mod AnswerCounts
 pub mod CookieCounts

@@ -1,18 +1,19 @@
 -- What a new engine keeps.
-use Rattle.std.proofs.Common.{◌≡◌, ◌≢◌, ℕ, ◌+◌, ◌<◌, ◌≤◌, [], ◌∷◌, ◌++◌, length, map, Option, None, true, false, refl, ap, sym, ◌∙◌, subst, arith, inl, inr, zero, suc, add-one}
+use Rattle.std.proofs.Common.{◌≡◌, ◌≢◌, ℕ, ◌+◌, ◌<◌, ◌≤◌, List, [], ◌∷◌, ◌++◌, length, map, Option, None, true, false, refl, ap, sym, ◌∙◌, subst, arith, inl, inr, zero, suc, add-one}
 use Rattle.std.specs.Prelude.{List, Bool, slice_index_or, replicate, nat_lt, ◌==◌}
 use Rattle.dma_mem.specs.Image.{is_size, over, after_moves}
 use Rattle.std.specs.List.{filter_map, range_with_len}
 use Rattle.std.proofs.lemmas.Bool.{cases_lt, ne_eqb, le-ltb}
 use Rattle.std.proofs.lemmas.List.{length-replicate, get_or-replicate, get_or_past}
 use Rattle.dma_mem.specs.Flags.{all_clear}
-use Rattle.dma_engine.specs.Object.{channel, empty_channel, opening}
+use Rattle.dma_engine.specs.Object.{IsBase, channel, empty_channel, opening}
 use Rattle.dma_engine.specs.View.{View, ChannelSchedule, RunningTransfer, Fits, runs, runs_there, running, with_stored, memory_shown, memory_of, object_of, IsSound, idle, new_fault, new_view}
 use Rattle.dma_engine.specs.declared.queue.Queue.{Queue}
 use Rattle.dma_engine.specs.inner.Ranges.{AreOfRunning}
 use Rattle.dma_engine.specs.inner.Holds.{Holds, IsPrepared, Parts, view_of, schedule_of, new_queue}
 use Rattle.dma_engine.proofs.Endings.{put-nil}
-use Rattle.dma_engine.proofs.Sizes.{opening-size, opening-many}
+use Rattle.dma_engine.proofs.Sizes.{opening-size, opening-many, opening-flags}
+use Rattle.dma_engine.proofs.TransferRules.{AreMarks}
 
 pub replicate-push : {X : Type 0} (n : ℕ) (x : X) → replicate n x ++ x ∷ [] ≡ replicate (n + 1) x
 replicate-push zero x = refl
@@ -68,14 +69,21 @@ opening-marks : (bytes n : ℕ) → [] ≡ (opening bytes n).marks
 unfolding opening
 opening-marks bytes n = refl
 
+-- the opening object is a base
+pub base-opening : (bytes n : ℕ) → IsBase (opening bytes n)
+base-opening bytes n = record {
+  flags = opening-flags bytes n;
+  marks = subst AreMarks (opening-marks bytes n) (λ k d l. absurd (omega (arith, l)));
+  each = λ ch. rw (new-at bytes n ch) (record { outcomes = refl; rests = (refl, refl); counts = (omega arith, omega arith, omega arith); rules = λ k d l. absurd (omega (arith, l)) });
+}
+
 -- the parts of a new engine
 abbrev pub new_parts : ℕ → List Bool → ℕ → Parts
-new_parts bytes made n = record { size = bytes; memory = replicate bytes 0; made = made; events = all_clear; marks = []; queues = replicate n new_queue; history = []; steps = 0 }
+new_parts bytes made n = record { size = bytes; memory = replicate bytes 0; made = made; events = all_clear; marks = []; queues = replicate n new_queue; base = opening bytes n; history = []; steps = 0 }
 
 pub new-view : (bytes : ℕ) (made : List Bool) (n : ℕ) → view_of (new_parts bytes made n) ≡ new_view bytes n
 new-view bytes made n =
-    ap (λ k. record { base = opening bytes k; history = []; steps = 0; schedule = map schedule_of (replicate n new_queue) }) (length-replicate n new_queue)
-    ∙ ap (λ s. record { base = opening bytes n; history = []; steps = 0; schedule = s }) (map-same n)
+    ap (λ s. record { base = opening bytes n; history = []; steps = 0; schedule = s }) (map-same n)
 
 pub holds-new : (bytes : ℕ) (pages : List Bool) (n : ℕ) → new_fault bytes n ≡ None → Holds (new_parts bytes pages n)
 holds-new bytes pages n made =
@@ -85,11 +93,12 @@ holds-new bytes pages n made =
     let none : (ch : ℕ) → runs (object_of v) v.schedule ch ≡ None = λ ch. ap (λ (w : View). runs (object_of w) w.schedule ch) is ∙ none-runs bytes n ch in
     record {
       sound = subst IsSound (sym is) (record {
-        opens = rw (opening-size bytes n, opening-many bytes n) refl;
+        opens = base-opening bytes n;
         makes = rw (opening-size bytes n, opening-many bytes n) made;
         legal = tt;
         fits = opening-fits bytes n;
       });
+      size = sym (opening-size bytes n);
       shown = opening-shown bytes n ∙ ap memory_of (sym is);
       events = opening-events bytes n ∙ ap (λ (w : View). (object_of w).events) (sym is);
       marks = opening-marks bytes n ∙ ap (λ (w : View). (object_of w).marks) (sym is);
@@ -97,7 +106,10 @@ holds-new bytes pages n made =
           let inside : ch < n = omega (arith, less, length-replicate n new_queue) in
           let here : channel (object_of v) ch ≡ empty_channel = ap (λ (w : View). channel (object_of w) ch) is ∙ new-at bytes n ch in
           rw (get_or-replicate n ch new_queue d inside, here) (record {
+            forgotten = refl;
+            given = refl;
             many = refl;
+            first = refl;
             stands = λ k l. absurd (omega arith);
             outcomes = refl;
             issued = refl;

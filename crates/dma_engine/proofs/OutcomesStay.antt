@@ -1,6 +1,6 @@
 -- An outcome that was there stays.
-use Rattle.std.proofs.Common.{◌≡◌, ℕ, ◌-◌, List, [], ◌∷◌, ◌++◌, Some, None, Bool, true, false, ap, ◌∙◌, inl, inr, zero, suc}
-use Rattle.std.specs.Prelude.{slice_get, if◌then◌else◌, ◌==◌}
+use Rattle.std.proofs.Common.{◌≡◌, ℕ, ◌-◌, List, [], ◌∷◌, ◌++◌, Some, None, Bool, true, false, refl, ap, ◌∙◌, inl, inr, zero, suc}
+use Rattle.std.specs.Prelude.{slice_get, if◌then◌else◌, nat_le}
 use Rattle.std.proofs.lemmas.Bool.{cases_eq}
 use Rattle.std.proofs.lemmas.List.{get_or-set_other}
 use Rattle.dma_engine.specs.declared.entry.Entry.{Entry}
@@ -20,31 +20,42 @@ longer (z ∷ xs) ys zero x h = h
 longer (z ∷ xs) ys (suc k) x h = longer xs ys k x h
 
 -- each outcome of the first channel is one of the second, at its place
-abbrev Keeps : ChannelState → ChannelState → Type 0
-Keeps c d = (k : ℕ) (x : Outcome) → slice_get c.outcomes k ≡ Some x → slice_get d.outcomes k ≡ Some x
+record Keeps (c d : ChannelState) : Type 0 where
+  forgotten : d.forgotten ≡ c.forgotten
+  outcomes : (k : ℕ) (x : Outcome) → slice_get c.outcomes k ≡ Some x → slice_get d.outcomes k ≡ Some x
+
+keeps-all : (c : ChannelState) → Keeps c c
+keeps-all c = record { forgotten = refl; outcomes = λ k x g. g }
 
 keeps-with : (o : Object) (ch : ℕ) (c : ChannelState) → Keeps (channel o ch) c → (d : ℕ) → Keeps (channel o d) (channel (with_channel o ch c) d)
 keeps-with o ch c h d = elim (cases_eq d ch) [
-  | inl e ↦ elim (with_channel-at o ch c) [ inl f ↦ rw (e, f) h | inr f ↦ rw (e, f) (λ k x g. g) ]
-  | inr e ↦ rw (get_or-set_other o.channels ch d c empty_channel e) (λ k x g. g)
+  | inl e ↦ elim (with_channel-at o ch c) [ inl f ↦ rw (e, f) h | inr f ↦ rw (e, f) (keeps-all (channel o ch)) ]
+  | inr e ↦ rw (get_or-set_other o.channels ch d c empty_channel e) (keeps-all (channel o d))
 ]
 
 keeps-after : (o : Object) (e : Entry) (d : ℕ) → Keeps (channel o d) (channel (after o e) d)
-keeps-after o (Wrote addr bytes) d = λ k x g. g
-keeps-after o (ReadBack addr bytes) d = λ k x g. g
-keeps-after o (Submitted ch t cookie) d = keeps-with o ch _ (λ k x g. g) d
-keeps-after o (Issued ch) d = keeps-with o ch _ (λ k x g. g) d
-keeps-after o (Passed ch event) d = keeps-with (with_flag o event false) ch _ (λ k x g. g) d
-keeps-after o (Signalled (Channel ch) event) d = keeps-with (with_flag o event true) ch _ (λ k x g. g) d
-keeps-after o (Signalled Host event) d = λ k x g. g
-keeps-after o (Finished ch result done) d = keeps-with (with_front_laid o ch done) ch _ (λ k x g. longer (channel o ch).outcomes _ k x g) d
-keeps-after o (Terminated ch done count) d = keeps-with (with_front_laid o ch done) ch _ (λ k x g. longer (channel o ch).outcomes _ k x g) d
-keeps-after o (Marked kind segment) d = λ k x g. g
-keeps-after o Unmarked d = λ k x g. g
+keeps-after o (Wrote addr bytes) d = keeps-all (channel o d)
+keeps-after o (ReadBack addr bytes) d = keeps-all (channel o d)
+keeps-after o (Submitted ch t cookie) d = keeps-with o ch _ (record { forgotten = refl; outcomes = λ k x g. g }) d
+keeps-after o (Issued ch) d = keeps-with o ch _ (record { forgotten = refl; outcomes = λ k x g. g }) d
+keeps-after o (Passed ch event) d = keeps-with (with_flag o event false) ch _ (record { forgotten = refl; outcomes = λ k x g. g }) d
+keeps-after o (Signalled (Channel ch) event) d = keeps-with (with_flag o event true) ch _ (record { forgotten = refl; outcomes = λ k x g. g }) d
+keeps-after o (Signalled Host event) d = keeps-all (channel o d)
+keeps-after o (Finished ch result done) d = keeps-with (with_front_laid o ch done) ch _ (record { forgotten = refl; outcomes = λ k x g. longer (channel o ch).outcomes _ k x g }) d
+keeps-after o (Terminated ch done count) d = keeps-with (with_front_laid o ch done) ch _ (record { forgotten = refl; outcomes = λ k x g. longer (channel o ch).outcomes _ k x g }) d
+keeps-after o (Marked kind segment) d = keeps-all (channel o d)
+keeps-after o Unmarked d = keeps-all (channel o d)
 
 keeps-object : (o : Object) (es : List Entry) (d : ℕ) → Keeps (channel o d) (channel (object_after o es) d)
-keeps-object o [] d = λ k x g. g
-keeps-object o (e ∷ es) d = λ k x g. keeps-object (after o e) es d k x (keeps-after o e d k x g)
+keeps-object o [] d = keeps-all (channel o d)
+keeps-object o (e ∷ es) d =
+    let first = keeps-after o e d in
+    let rest = keeps-object (after o e) es d in
+    record { forgotten = rest.forgotten ∙ first.forgotten; outcomes = λ k x g. rest.outcomes k x (first.outcomes k x g) }
+
+-- what is forgotten stays so
+pub forgotten-stays : (o : Object) (es : List Entry) (ch : ℕ) → (channel (object_after o es) ch).forgotten ≡ (channel o ch).forgotten
+forgotten-stays o es ch = (keeps-object o es ch).forgotten
 
 pub kept : (old new : View) → Extends old new → KeepsOutcomes old new
 kept old new h =
@@ -52,8 +63,20 @@ kept old new h =
     let o = object_of old in
     let is : object_of new ≡ object_after o more.0 = ap (λ b. object_after b new.history) h.0 ∙ ap (object_after old.base) more.1 ∙ object_after-append old.base old.history more.0 in
     λ ch cookie x g.
-    let by : (b : Bool) → (if b then None else slice_get (channel o ch).outcomes (cookie - 1)) ≡ Some x → (if b then None else slice_get (channel (object_after o more.0) ch).outcomes (cookie - 1)) ≡ Some x = λ b. elim b as (λ b. (if b then None else slice_get (channel o ch).outcomes (cookie - 1)) ≡ Some x → (if b then None else slice_get (channel (object_after o more.0) ch).outcomes (cookie - 1)) ≡ Some x) [
+    let c = channel o ch in
+    let d = channel (object_after o more.0) ch in
+    let keeps = keeps-object o more.0 ch in
+    let n = cookie - c.forgotten - 1 in
+    let by : (b : Bool) → (if b then None else slice_get c.outcomes n) ≡ Some x → (if b then None else slice_get d.outcomes n) ≡ Some x = λ b. elim b as (λ b. (if b then None else slice_get c.outcomes n) ≡ Some x → (if b then None else slice_get d.outcomes n) ≡ Some x) [
       | true ↦ λ e. absurd cc
-      | false ↦ λ e. keeps-object o more.0 ch (cookie - 1) x e
+      | false ↦ λ e. keeps.outcomes n x e
     ] in
-    ap (λ y. result_of y ch cookie) is ∙ by (cookie == 0) g
+    ap (λ y. result_of y ch cookie) is
+    ∙ ap (λ f. if nat_le cookie f then None else slice_get d.outcomes (cookie - f - 1)) keeps.forgotten
+    ∙ by (nat_le cookie c.forgotten) g
+
+pub extends-forgotten : (old new : View) → Extends old new → (ch : ℕ) → (channel (object_of new) ch).forgotten ≡ (channel (object_of old) ch).forgotten
+extends-forgotten old new h ch =
+    let more = h.1 in
+    let is : object_of new ≡ object_after (object_of old) more.0 = ap (λ b. object_after b new.history) h.0 ∙ ap (object_after old.base) more.1 ∙ object_after-append old.base old.history more.0 in
+    ap (λ (o : Object). (channel o ch).forgotten) is ∙ forgotten-stays (object_of old) more.0 ch

@@ -2,7 +2,7 @@
 use Rattle.std.proofs.Common.{◌≡◌, ◌≢◌, ℕ, ◌+◌, ◌<◌, List, [], ◌∷◌, ◌++◌, length, map, Option, Some, None, Bool, true, false, refl, ap, sym, ◌∙◌, subst, arith, inl, inr}
 use Rattle.std.specs.Prelude.{slice_get, slice_index_or, slice_set, nat_lt, IfSome, IsSomeAnd}
 use Rattle.std.proofs.lemmas.Bool.{cases_lt, cases_eq, lt-ltb}
-use Rattle.std.proofs.lemmas.List.{length-set, length_push, get_or-set_same, get_or-set_other, get_or_append_left, get_or_push}
+use Rattle.std.proofs.lemmas.List.{length-set, length_push, get_or-set_same, get_or-set_other, get_or_append_left, get_or_push, take-append-le}
 use Rattle.dma_mem.specs.Places.{Descriptor, lies_below}
 use Rattle.dma_mem.specs.Image.{over}
 use Rattle.dma_mem.specs.Rules.{IsTransfer}
@@ -42,7 +42,7 @@ pub record StaysAt (p : Parts) (ch : ℕ) (q r : Queue) (flags : List Bool) (his
   pub agrees : Agrees (channel o ch) (schedule_of r).taken
   pub runs_still : runs_there ch (channel o ch) (schedule_of r).taken ≡ runs_there ch (channel (object_of (view_of p)) ch) (schedule_of q).taken
   pub ranges_still : r.ranges ≡ q.ranges
-  pub tied : IsQueue ch history p.memory r (channel o ch)
+  pub tied : IsQueue ch (channel p.base ch).submitted history p.memory r (channel o ch)
 
 pub stays : (p : Parts) (ch : ℕ) (q r : Queue) (flags : List Bool) (history : List Entry) (o : Object) → Holds p → ch < length p.queues → q ≡ slice_index_or p.queues ch q → StaysAt p ch q r flags history o → ChangesTo p ch r p.memory flags history o
 stays p ch q r flags history o h less read w =
@@ -103,7 +103,7 @@ holds-besides p ch a b paused q h less read =
       agrees = at.agrees;
       runs_still = refl;
       ranges_still = refl;
-      tied = record { many = t.many; stands = t.stands; outcomes = t.outcomes; issued = t.issued; halted = t.halted; machine = t.machine };
+      tied = record { forgotten = t.forgotten; given = t.given; many = t.many; first = t.first; stands = t.stands; outcomes = t.outcomes; issued = t.issued; halted = t.halted; machine = t.machine };
     }))
 
 pub holds-paused : (p : Parts) (ch : ℕ) (q : Queue) (b : Bool) → Holds p → ch < length p.queues → q ≡ slice_index_or p.queues ch q → Holds (changed p ch (record q { paused = b }) p.memory p.events p.history p.steps)
@@ -129,7 +129,7 @@ runs-issued : (ch : ℕ) (c : ChannelState) (taken : Option ℕ) → runs_there 
 runs-issued ch c None = refl
 runs-issued ch c (Some n) = refl
 
-pub holds-issued : (p : Parts) (ch : ℕ) (q : Queue) (n : ℕ) → Holds p → ch < length p.queues → q ≡ slice_index_or p.queues ch q → n ≡ length q.indices.items → Holds (changed p ch (record q { issued = n }) p.memory p.events (p.history ++ Issued ch ∷ []) p.steps)
+pub holds-issued : (p : Parts) (ch : ℕ) (q : Queue) (n : ℕ) → Holds p → ch < length p.queues → q ≡ slice_index_or p.queues ch q → n ≡ q.given → Holds (changed p ch (record q { issued = n }) p.memory p.events (p.history ++ Issued ch ∷ []) p.steps)
 holds-issued p ch q n h less read all =
     let v : View = view_of p in
     let o = object_of v in
@@ -153,10 +153,13 @@ holds-issued p ch q n h less read all =
       runs_still = ap (λ x. runs_there ch x (schedule_of q).taken) here ∙ runs-issued ch c (schedule_of q).taken;
       ranges_still = refl;
       tied = rw here (record {
+        forgotten = t.forgotten;
+        given = t.given;
         many = t.many;
-        stands = λ k l. slice_get-push p.history e _ _ (t.stands k l);
+        first = t.first;
+        stands = λ k l. let s = t.stands k l in (s.0, slice_get-push p.history e _ _ s.1);
         outcomes = t.outcomes;
-        issued = all ∙ t.many;
+        issued = all ∙ t.given;
         halted = t.halted;
         machine = t.machine;
       });
@@ -171,7 +174,7 @@ view-entered p ch q r memory flags e less read same =
 -- ---- submit
 
 front-submitted : (c : ChannelState) (t u : Descriptor) → front c ≡ Some t → front (with_transfer c u) ≡ Some t
-front-submitted c t u h = slice_get-push c.submitted u t (finished c) h
+front-submitted c t u h = slice_get-push c.submitted u t (length c.outcomes) h
 
 issued-below : (c : ChannelState) (t : Descriptor) → issued_front c ≡ Some t → nat_lt (finished c) c.issued ≡ true
 issued-below c t h =
@@ -206,21 +209,24 @@ run-front memory m c d same h =
     ] in
     by m.program (front c) refl h
 
--- the queue with one more index
-pub queue-submitted : (ch spare : ℕ) (history : List Entry) (memory : List ℕ) (q : Queue) (c : ChannelState) (t : Descriptor) (cookie : ℕ) → IsQueue ch history memory q c → cookie ≡ used c + 1 → IsQueue ch (history ++ Submitted ch t cookie ∷ []) memory (record q { indices = record { items = q.indices.items ++ length history ∷ []; spare = spare } }) (with_transfer c t)
-queue-submitted ch spare history memory q c t cookie h number = record {
+-- the queue with one more index and one more cookie
+pub queue-submitted : (ch spare : ℕ) (kept : List Descriptor) (history : List Entry) (memory : List ℕ) (q : Queue) (c : ChannelState) (t : Descriptor) (cookie : ℕ) → IsQueue ch kept history memory q c → cookie ≡ used c + 1 → IsQueue ch kept (history ++ Submitted ch t cookie ∷ []) memory (record q { indices = record { items = q.indices.items ++ length history ∷ []; spare = spare }; given = cookie }) (with_transfer c t)
+queue-submitted ch spare kept history memory q c t cookie h number = record {
+  forgotten = h.forgotten;
+  given = omega (arith, number, length_push c.submitted t);
   many = omega (arith, length_push q.indices.items (length history), length_push c.submitted t, h.many);
-  stands = λ k less. elim (cases_lt k (used c)) [
+  first = take-append-le (length kept) c.submitted (t ∷ []) (omega (arith, h.many)) ∙ h.first;
+  stands = λ k less. elim (cases_lt k (length q.indices.items)) [
     | inl old ↦
-        let index = get_or_append_left q.indices.items (length history ∷ []) 0 k (omega (arith, h.many)) in
-        let is = get_or_append_left c.submitted (t ∷ []) no_transfer k old in
-        rw (index, is) (slice_get-push history _ _ _ (h.stands k old))
+        let index = get_or_append_left q.indices.items (length history ∷ []) 0 k old in
+        let is = get_or_append_left c.submitted (t ∷ []) no_transfer (length kept + k) (omega (arith, h.many, old)) in
+        let s = h.stands k old in
+        (s.0, rw (index, is) (slice_get-push history _ _ _ s.1))
     | inr new ↦
-        let last : k ≡ used c = omega (arith, length_push c.submitted t) in
-        let index = get_or_push q.indices.items (length history) 0 k (h.many ∙ sym last) in
-        let is = get_or_push c.submitted t no_transfer k (sym last) in
-        let number' : cookie ≡ k + 1 = omega arith in
-        rw (index, is, ← number') (slice_get-push_last history _ (length history) refl)
+        let last : k ≡ length q.indices.items = omega (arith, length_push q.indices.items (length history)) in
+        let index = get_or_push q.indices.items (length history) 0 k (sym last) in
+        let is = get_or_push c.submitted t no_transfer (length kept + k) (omega (arith, h.many, last)) in
+        (cookie, rw (index, is) (slice_get-push_last history _ (length history) refl))
   ];
   outcomes = h.outcomes;
   issued = h.issued;
@@ -228,14 +234,14 @@ queue-submitted ch spare history memory q c t cookie h number = record {
   machine = run-front memory q.channel c (with_transfer c t) (λ u is. front-submitted c u t is) h.machine;
 }
 
-pub holds-submitted : (p : Parts) (ch spare cookie : ℕ) (t : Descriptor) (q : Queue) → Holds p → ch < length p.queues → q ≡ slice_index_or p.queues ch q → Allows (object_of (view_of p)) (Submitted ch t cookie) → Holds (changed p ch (record q { indices = record { items = q.indices.items ++ length p.history ∷ []; spare = spare } }) p.memory p.events (p.history ++ Submitted ch t cookie ∷ []) p.steps)
+pub holds-submitted : (p : Parts) (ch spare cookie : ℕ) (t : Descriptor) (q : Queue) → Holds p → ch < length p.queues → q ≡ slice_index_or p.queues ch q → Allows (object_of (view_of p)) (Submitted ch t cookie) → Holds (changed p ch (record q { indices = record { items = q.indices.items ++ length p.history ∷ []; spare = spare }; given = cookie }) p.memory p.events (p.history ++ Submitted ch t cookie ∷ []) p.steps)
 holds-submitted p ch spare cookie t q h less read allowed =
     let v : View = view_of p in
     let o = object_of v in
     let e = Submitted ch t cookie in
     let c = channel o ch in
     let at = holds-at p h ch q less read in
-    let r = record q { indices = record { items = q.indices.items ++ length p.history ∷ []; spare = spare } } in
+    let r = record q { indices = record { items = q.indices.items ++ length p.history ∷ []; spare = spare }; given = cookie } in
     let history = p.history ++ e ∷ [] in
     let here : channel (after o e) ch ≡ with_transfer c t = get_or-set_same o.channels ch (with_transfer c t) empty_channel at.there in
     holds-changed p ch r p.memory p.events history p.steps (after o e) h less (stays p ch q r p.events history (after o e) h less read (record {
@@ -250,10 +256,10 @@ holds-submitted p ch spare cookie t q h less read allowed =
       agrees = rw here (agrees-submitted c t (schedule_of q).taken at.agrees);
       runs_still = ap (λ x. runs_there ch x (schedule_of q).taken) here ∙ runs-submitted ch c t (schedule_of q).taken at.agrees;
       ranges_still = refl;
-      tied = rw here (queue-submitted ch spare p.history p.memory q c t cookie at.tied allowed.3);
+      tied = rw here (queue-submitted ch spare (channel p.base ch).submitted p.history p.memory q c t cookie at.tied allowed.3);
     }))
 
-pub submitted-allowed : (p : Parts) (ch given : ℕ) (t : Descriptor) (q : Queue) → Holds p → ch < length p.queues → q ≡ slice_index_or p.queues ch q → given ≡ length q.indices.items → given < last_cookie → IsTransfer t → lies_below t (length (object_of (view_of p)).image) ≡ true → Allows (object_of (view_of p)) (Submitted ch t (given + 1))
+pub submitted-allowed : (p : Parts) (ch given : ℕ) (t : Descriptor) (q : Queue) → Holds p → ch < length p.queues → q ≡ slice_index_or p.queues ch q → given ≡ q.given → given < last_cookie → IsTransfer t → lies_below t (length (object_of (view_of p)).image) ≡ true → Allows (object_of (view_of p)) (Submitted ch t (given + 1))
 submitted-allowed p ch given t q h less read many few rules below =
     let at = holds-at p h ch q less read in
-    (at.there, rules, below, ap (λ n. n + 1) (many ∙ at.tied.many), omega arith)
+    (at.there, rules, below, ap (λ n. n + 1) (many ∙ at.tied.given), omega arith)

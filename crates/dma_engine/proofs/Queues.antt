@@ -1,13 +1,15 @@
 -- A queue and what the object knows of its channel.
-use Rattle.std.proofs.Common.{◌≡◌, ℕ, ◌+◌, ◌<◌, List, [], ◌∷◌, ◌++◌, length, Option, Some, None, Bool, true, false, cond, refl, ap, sym, ◌∙◌, arith, suc, zero}
-use Rattle.std.specs.Prelude.{IsSomeAnd, slice_get, slice_index, slice_index_or, nat_lt}
-use Rattle.std.proofs.lemmas.Option.{slice_get_within, get_or_from_slice_get}
-use Rattle.std.proofs.lemmas.List.{get_or-map, length-map}
+use Rattle.std.proofs.Common.{◌≡◌, ℕ, ◌+◌, ◌-◌, ◌<◌, List, [], ◌∷◌, ◌++◌, length, Option, Some, None, Bool, true, false, cond, refl, ap, sym, ◌∙◌, arith, suc, zero, inl, inr}
+use Rattle.std.specs.Prelude.{IsSomeAnd, slice_get, slice_index_or, nat_lt}
+use Rattle.std.proofs.lemmas.Bool.{cases_lt, le-ltb, lt-ltb}
+use Rattle.std.proofs.lemmas.Option.{slice_get_within, slice_get-get_or}
+use Rattle.std.proofs.lemmas.Bool.{ltb-true}
+use Rattle.std.proofs.lemmas.List.{get_or-map, length-map, get_or-take}
 use Rattle.dma_mem.specs.Places.{Descriptor}
 use Rattle.dma_engine.specs.declared.entry.Entry.{Entry}
-use Rattle.dma_engine.specs.declared.entry.Entry.TheVariants.{Submitted}
 use Rattle.dma_engine.specs.declared.queue.Queue.{Queue}
 use Rattle.dma_engine.specs.Object.{ChannelState, channel, front, issued_front, no_transfer, used, finished}
+use Rattle.dma_engine.specs.inner.Found.{given_by, transfer_at}
 use Rattle.dma_engine.specs.inner.Ranges.{AreOfRunning}
 use Rattle.dma_engine.specs.View.{Agrees, runs_there, runs, idle, object_of, channels, View, ChannelSchedule}
 use Rattle.dma_engine.specs.inner.Holds.{IsQueue, Holds, Parts, view_of, schedule_of}
@@ -21,6 +23,7 @@ pub record Front (c : ChannelState) (P : Descriptor → Type 0) : Type 0 where
   pub issued : issued_front c ≡ Some transfer
   pub holds : P transfer
   pub within : finished c < used c
+  pub below : finished c < c.issued
 
 pub front_where : (c : ChannelState) (P : Descriptor → Type 0) → IsSomeAnd (issued_front c) P → Front c P
 front_where c P h =
@@ -33,7 +36,8 @@ front_where c P h =
           is = f;
           issued = rw e f;
           holds = g;
-          within = slice_get_within c.submitted (finished c) t f;
+          within = omega (arith, slice_get_within c.submitted (length c.outcomes) t f);
+          below = ltb-true _ _ e;
         }
       ]
     ] in
@@ -52,7 +56,7 @@ runs_front ch c t taken h = rw h refl
 -- what an engine keeps, at the queue that was read at a channel
 pub record HoldsAt (p : Parts) (ch : ℕ) (q : Queue) : Type 0 where
   pub there : ch < channels (view_of p)
-  pub tied : IsQueue ch p.history p.memory q (channel (object_of (view_of p)) ch)
+  pub tied : IsQueue ch (channel p.base ch).submitted p.history p.memory q (channel (object_of (view_of p)) ch)
   pub agrees : Agrees (channel (object_of (view_of p)) ch) (schedule_of q).taken
   pub runs_is : runs (object_of (view_of p)) (view_of p).schedule ch ≡ runs_there ch (channel (object_of (view_of p)) ch) (schedule_of q).taken
   pub schedule_is : slice_index_or (view_of p).schedule ch idle ≡ schedule_of q
@@ -79,14 +83,35 @@ holds-at p h ch q less read =
       ranges = rw (← read) at (h.ranges ch q less);
     }
 
--- the front's entry stands in the history at the index that the queue has of it
-pub front_stands : (ch : ℕ) (history : List Entry) (memory : List ℕ) (q : Queue) (c : ChannelState) (t : Descriptor) → IsQueue ch history memory q c → front c ≡ Some t → slice_get history (slice_index q.indices.items (length q.outcomes.items)) ≡ Some (Submitted ch t (finished c + 1))
-front_stands ch history memory q c t tied is =
-    let less : finished c < used c = slice_get_within c.submitted (finished c) t is in
-    let front_is : slice_index_or c.submitted (finished c) no_transfer ≡ t = get_or_from_slice_get c.submitted (finished c) t no_transfer is in
-    let many : length q.outcomes.items ≡ finished c = ap length tied.outcomes in
-    let stands : slice_get history (slice_index q.indices.items (finished c)) ≡ Some (Submitted ch (slice_index_or c.submitted (finished c) no_transfer) (finished c + 1)) = tied.stands (finished c) less in
-    ap (λ n. slice_get history (slice_index q.indices.items n)) many ∙ stands ∙ ap (λ u. Some (Submitted ch u (finished c + 1))) front_is
+-- ---- a queue's transfers
+
+-- within a list the default doesn't matter
+pub get_or_any : {X : Type 0} (xs : List X) (k : ℕ) (d e : X) → k < length xs → slice_index_or xs k d ≡ slice_index_or xs k e
+get_or_any [] k d e h = absurd (omega arith)
+get_or_any (x ∷ xs) zero d e h = refl
+get_or_any (x ∷ xs) (suc k) d e h = get_or_any xs k d e (omega arith)
+
+-- a transfer that the base has is the one submitted
+pub first_at : (ch : ℕ) (kept : List Descriptor) (history : List Entry) (memory : List ℕ) (q : Queue) (c : ChannelState) (n : ℕ) (t : Descriptor) → IsQueue ch kept history memory q c → n < length kept → t ≡ slice_index_or kept n t → t ≡ slice_index_or c.submitted n no_transfer
+first_at ch kept history memory q c n t tied less read =
+    read ∙ ap (λ l. slice_index_or l n t) (sym tied.first) ∙ get_or-take (length kept) c.submitted n t less ∙ get_or_any c.submitted n t no_transfer (omega (arith, tied.many))
+
+-- the transfer of a cookie that isn't forgotten is found in the base, or by its entry
+pub transfer_found : (ch : ℕ) (kept : List Descriptor) (history : List Entry) (memory : List ℕ) (q : Queue) (c : ChannelState) (n : ℕ) → IsQueue ch kept history memory q c → n < length c.submitted → transfer_at kept history q.indices.items n ≡ Some (slice_index_or c.submitted n no_transfer)
+transfer_found ch kept history memory q c n tied less = elim (cases_lt n (length kept)) [
+  | inl early ↦
+      let e : nat_lt n (length kept) ≡ true = lt-ltb n (length kept) early in
+      let t : Descriptor = slice_index_or kept n no_transfer in
+      let read : t ≡ slice_index_or kept n t = get_or_any kept n no_transfer t early in
+      let is : slice_get kept n ≡ Some t = slice_get-get_or kept n no_transfer early in
+      rw e (is ∙ ap (λ u. Some u) (first_at ch kept history memory q c n t tied early read))
+  | inr late ↦
+      let e : nat_lt n (length kept) ≡ false = le-ltb n (length kept) late in
+      let k = n - length kept in
+      let s = tied.stands k (omega (arith, tied.many, less, late)) in
+      let at : length kept + k ≡ n = omega (arith, late) in
+      rw e (ap given_by s.1 ∙ ap (λ i. Some (slice_index_or c.submitted i no_transfer)) at)
+]
 
 -- ---- lists with one more item
 

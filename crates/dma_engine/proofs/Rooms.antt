@@ -1,8 +1,9 @@
 -- The room that is made before it is needed, transfers found in a history, and which steps end.
-use Rattle.std.proofs.Common.{◌≡◌, ◌≢◌, ℕ, ◌<◌, ◌≤◌, List, [], ◌∷◌, length, map, drop, Option, Some, None, Bool, true, false, refl, ap, sym, ◌∙◌, subst, arith, zero, suc, inl, inr}
-use Rattle.std.specs.Prelude.{slice_index, slice_index_or, slice_set, is_some, if◌then◌else◌}
-use Rattle.std.proofs.lemmas.Bool.{cases_eq}
-use Rattle.std.proofs.lemmas.List.{get_or-map, map-set, get_or-set_same, get_or-set_other, length-map}
+use Rattle.std.proofs.Common.{◌≡◌, ◌≢◌, ℕ, ◌+◌, ◌-◌, ◌<◌, ◌≤◌, List, [], ◌∷◌, ◌++◌, length, map, take, drop, Option, Some, None, Bool, true, false, refl, ap, sym, ◌∙◌, subst, arith, zero, suc, inl, inr}
+use Rattle.std.specs.Prelude.{slice_get, slice_index, slice_index_or, slice_set, is_some, nat_lt, unwrap_or, if◌then◌else◌}
+use Rattle.std.proofs.lemmas.Bool.{cases_eq, cases_lt, le-ltb, lt-ltb}
+use Rattle.std.proofs.lemmas.Option.{slice_get-get_or}
+use Rattle.std.proofs.lemmas.List.{get_or-drop, get_or-map, get_or-append-add, get_or_append_left, map-set, get_or-set_same, get_or-set_other, length-drop, length-map, take-append-drop}
 use Rattle.dma_insn.specs.declared.insn.Insn.{Insn}
 use Rattle.dma_insn.specs.declared.insn.Insn.TheVariants.{Ld, St, End, Sev, Wfe, Mov, Rmb, Wmb, Nop, Lp, LpEnd}
 use Rattle.dma_mem.specs.Places.{Descriptor}
@@ -16,18 +17,18 @@ use Rattle.dma_chan.specs.declared.turn.ChanTurn.TheVariants.{Moved, Waiting, Fa
 use Rattle.dma_chan.specs.declared.turn.FaultKind.{FaultKind}
 use Rattle.dma_chan.specs.declared.turn.FaultKind.TheVariants.{DataReadErr, DataWriteErr}
 use Rattle.dma_engine.specs.declared.entry.Entry.{Entry}
+use Rattle.dma_engine.specs.declared.entry.Entry.TheVariants.{Wrote, ReadBack, Submitted, Issued, Passed, Signalled, Finished, Terminated, Marked, Unmarked}
 use Rattle.dma_engine.specs.declared.outcome.TransResult.{TransResult}
 use Rattle.dma_engine.specs.declared.outcome.TransResult.TheVariants.{ReadFailed, WriteFailed}
 use Rattle.dma_engine.specs.declared.queue.Queue.{Queue}
-use Rattle.dma_engine.specs.inner.Found.{transfer_in, transfer_of}
+use Rattle.dma_engine.specs.inner.Found.{given_by, transfer_at, transfer_in, transfer_of, transfers_in}
 use Rattle.dma_engine.specs.inner.Inside.{queue_room}
 use Rattle.dma_engine.specs.Object.{Object, ChannelState, channel, no_transfer, unfinished, is_set}
 use Rattle.dma_engine.specs.Room.{no_room, room_on, KeepsRoom}
 use Rattle.dma_engine.specs.Turn.{Stepped, ends, insn_turn, front_turn, start_turn, finishes, moves_on, in_the_way}
 use Rattle.dma_engine.specs.View.{View, EngineState, RunningTransfer, object_of}
 use Rattle.dma_engine.specs.inner.Holds.{Holds, IsQueue, Parts, view_of}
-use Rattle.dma_engine.proofs.Changes.{changed, view-changed, holds-changed, schedule-kept}
-use Rattle.dma_engine.proofs.Queues.{holds-at}
+use Rattle.dma_engine.proofs.Changes.{changed, view-changed, schedule-kept}
 use Rattle.dma_engine.proofs.QueueCalls.{holds-besides}
 
 -- ---- room
@@ -88,11 +89,51 @@ map-dropped f zero xs = refl
 map-dropped f (suc k) [] = refl
 map-dropped f (suc k) (x ∷ xs) = map-dropped f k xs
 
--- the transfers of a queue, by the indices of their entries
-pub found-all : (ch : ℕ) (history : List Entry) (memory : List ℕ) (q : Queue) (c : ChannelState) (k : ℕ) → IsQueue ch history memory q c → map (transfer_in history) (drop k q.indices.items) ≡ drop k c.submitted
-found-all ch history memory q c k t =
-    map-dropped (transfer_in history) k q.indices.items
-    ∙ ap (drop k) (map-same (transfer_in history) q.indices.items c.submitted t.many (λ n less. ap transfer_of (t.stands n less)))
+-- the transfers of a queue that its entries give
+later-all : (ch : ℕ) (kept : List Descriptor) (history : List Entry) (memory : List ℕ) (q : Queue) (c : ChannelState) → IsQueue ch kept history memory q c → map (transfer_in history) q.indices.items ≡ drop (length kept) c.submitted
+later-all ch kept history memory q c t =
+    let n = length kept in
+    let many : length q.indices.items ≡ length (drop n c.submitted) = omega (arith, t.many, length-drop n c.submitted) in
+    map-same (transfer_in history) q.indices.items (drop n c.submitted) many
+    (λ k less. ap transfer_of (t.stands k (omega (arith, less, many))).1 ∙ sym (get_or-drop n c.submitted k no_transfer))
+
+-- all its transfers, with those that the base has
+pub found-all : (ch : ℕ) (kept : List Descriptor) (history : List Entry) (memory : List ℕ) (q : Queue) (c : ChannelState) → IsQueue ch kept history memory q c → transfers_in kept history q.indices.items ≡ c.submitted
+found-all ch kept history memory q c t =
+    ap (λ l. l ++ map (transfer_in history) q.indices.items) (sym t.first)
+    ∙ ap (λ l. take (length kept) c.submitted ++ l) (later-all ch kept history memory q c t)
+    ∙ take-append-drop (length kept) c.submitted
+
+-- a transfer of the base or of an entry is the one at its place among all
+pub transfer-at-all : (kept : List Descriptor) (history : List Entry) (indices : List ℕ) (n : ℕ) → n < length kept + length indices → unwrap_or (transfer_at kept history indices n) no_transfer ≡ slice_index_or (transfers_in kept history indices) n no_transfer
+transfer-at-all kept history indices n less = elim (cases_lt n (length kept)) [
+  | inl early ↦
+      let e : nat_lt n (length kept) ≡ true = lt-ltb n (length kept) early in
+      let is : slice_get kept n ≡ Some (slice_index_or kept n no_transfer) = slice_get-get_or kept n no_transfer early in
+      rw e (ap (λ o. unwrap_or o no_transfer) is ∙ sym (get_or_append_left kept (map (transfer_in history) indices) no_transfer n early))
+  | inr late ↦
+      let e : nat_lt n (length kept) ≡ false = le-ltb n (length kept) late in
+      let k = n - length kept in
+      let at : length kept + k ≡ n = omega (arith, late) in
+      let inside : k < length indices = omega (arith, less, late) in
+      let right : slice_index_or (transfers_in kept history indices) n no_transfer ≡ transfer_in history (slice_index indices k) =
+      ap (λ i. slice_index_or (transfers_in kept history indices) i no_transfer) (sym at)
+      ∙ get_or-append-add kept (map (transfer_in history) indices) k no_transfer
+      ∙ get_or-map (transfer_in history) indices k 0 no_transfer inside in
+      rw e (given-is (slice_get history (slice_index indices k)) ∙ sym right)
+] where
+  given-is : (o : Option Entry) → unwrap_or (given_by o) no_transfer ≡ transfer_of o
+  given-is None = refl
+  given-is (Some (Submitted ch t cookie)) = refl
+  given-is (Some (Wrote a b)) = refl
+  given-is (Some (ReadBack a b)) = refl
+  given-is (Some (Issued ch)) = refl
+  given-is (Some (Passed ch e)) = refl
+  given-is (Some (Signalled by e)) = refl
+  given-is (Some (Finished ch r d)) = refl
+  given-is (Some (Terminated ch d n)) = refl
+  given-is (Some (Marked k s)) = refl
+  given-is (Some Unmarked) = refl
 
 -- ---- which steps end
 

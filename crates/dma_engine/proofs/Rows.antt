@@ -14,12 +14,12 @@ use Rattle.dma_engine.specs.declared.entry.Entry.{Entry}
 use Rattle.dma_engine.specs.declared.entry.Entry.TheVariants.{Wrote, ReadBack, Submitted, Issued, Signalled, Finished, Marked}
 use Rattle.dma_engine.specs.declared.entry.Signaller.TheVariants.{Host}
 use Rattle.dma_engine.specs.declared.call.Call.{Call}
-use Rattle.dma_engine.specs.declared.call.Call.TheVariants.{Write, Read, Submit, Issue, Pause, Resume, Terminate, Step, Status, Result as ResultOf, Mark, Raise}
+use Rattle.dma_engine.specs.declared.call.Call.TheVariants.{Write, Read, Submit, Issue, Pause, Resume, Terminate, Step, Status, Result as ResultOf, Mark, Raise, Checkpoint}
 use Rattle.dma_engine.specs.declared.call.Reply.{Reply}
 use Rattle.dma_engine.specs.declared.call.Reply.TheVariants.{Done, Bytes, Cookie, Count, Turned, State, Result as Told, Refused}
 use Rattle.dma_engine.specs.declared.turn.Status.TheVariants.{Unknown, InProgress, Complete}
 use Rattle.dma_engine.specs.declared.turn.Turn.TheVariants.{Nothing, Held, Started, Moved, Waiting, Paused, Halted, Finished as TurnFinished}
-use Rattle.dma_engine.specs.declared.fault.EngineFault.TheVariants.{OutOfMemoryRange, Busy, NoChannel, BadEvent, BadRange, CookiesSpent, StepsSpent}
+use Rattle.dma_engine.specs.declared.fault.EngineFault.TheVariants.{OutOfMemoryRange, Busy, Running, NoChannel, BadEvent, BadRange, CookiesSpent, StepsSpent}
 use Rattle.dma_engine.specs.declared.fault.NewFault.TheVariants.{BadChannels, SizeOutOfRange}
 use Rattle.dma_engine.specs.declared.outcome.TransResult.TheVariants.{NoError, ReadFailed, Aborted}
 use Rattle.dma_engine.specs.Object.{Object, opening, Allows, channel, used}
@@ -233,3 +233,9 @@ no_cookie_after_it v t many below given = rw (many, below, given) refl
 
 no_count_above_32_bits : added_up 4294967294 1 ∷ added_up 4294967295 1 ∷ [] ≡ 4294967295 ∷ 4294967295 ∷ []
 no_count_above_32_bits = refl
+
+-- a checkpoint forgets how two cookies ended, and keeps the third, which has not run; it is refused while that runs
+what_a_checkpoint_forgets : replies 16 1 (Submit 0 (copy 0 4 2) ∷ Submit 0 (copy 0 8 2) ∷ Terminate 0 ∷ Submit 0 (copy 0 4 2) ∷ Checkpoint ∷ ResultOf 0 2 ∷ Status 0 2 ∷ Status 0 3 ∷ Status 0 4 ∷ Issue 0 ∷ Submit 0 (copy 0 8 2) ∷ Step 0 ∷ Checkpoint ∷ [])
+    ≡ Cookie 1 ∷ Cookie 2 ∷ Count 2 ∷ Cookie 3 ∷ Done ∷ Told None ∷ State Complete ∷ State InProgress ∷ State Unknown ∷ Count 1 ∷ Cookie 4 ∷ Turned (Started 3) ∷ Refused (Running 0 3) ∷ []
+unfolding opening put after_moves share running
+what_a_checkpoint_forgets = refl

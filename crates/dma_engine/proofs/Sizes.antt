@@ -2,7 +2,7 @@
 use Rattle.std.proofs.Common.{◌≡◌, ℕ, ◌≤◌, List, [], ◌∷◌, length, Some, None, Bool, true, false, refl, ap, sym, ◌∙◌, arith, ◌||◌, not}
 use Rattle.std.specs.Prelude.{nat_le, nat_lt, ◌==◌, if◌then◌else◌}
 use Rattle.std.proofs.lemmas.Bool.{and_parts, leb-true, ltb-false, or_parts}
-use Rattle.std.proofs.lemmas.List.{length-replicate, length-set}
+use Rattle.std.proofs.lemmas.List.{length-replicate, length-set, length-map}
 use Rattle.dma_mem.specs.Image.{bytes_at, is_size}
 use Rattle.dma_mem.specs.declared.memory.TheConstants.{MAX_SIZE}
 use Rattle.dma_mem.proofs.ImageOver.{length-after_moves}
@@ -14,7 +14,7 @@ use Rattle.dma_engine.specs.declared.fault.NewFault.TheVariants.{BadChannels, Si
 use Rattle.dma_engine.specs.Object.{Object, after, opening}
 use Rattle.dma_engine.specs.History.{object_after}
 use Rattle.dma_engine.specs.View.{View, object_of, size, new_fault}
-use Rattle.dma_engine.specs.inner.Holds.{Holds, Parts, view_of}
+use Rattle.dma_engine.specs.inner.Holds.{Holds, Parts, view_of, schedule_of}
 
 -- no entry changes the size of the memory
 pub size-after : (o : Object) (e : Entry) → length (after o e).image ≡ length o.image
@@ -29,6 +29,24 @@ size-after o (Finished ch result done) = length-after_moves _ _
 size-after o (Terminated ch done count) = length-after_moves _ _
 size-after o (Marked kind segment) = refl
 size-after o Unmarked = refl
+
+-- nor the number of channels
+pub many-after : (o : Object) (e : Entry) → length (after o e).channels ≡ length o.channels
+many-after o (Wrote addr bytes) = refl
+many-after o (ReadBack addr bytes) = refl
+many-after o (Submitted ch t cookie) = length-set _ _ _
+many-after o (Issued ch) = length-set _ _ _
+many-after o (Passed ch event) = length-set _ _ _
+many-after o (Signalled (Channel ch) event) = length-set _ _ _
+many-after o (Signalled Host event) = refl
+many-after o (Finished ch result done) = length-set _ _ _
+many-after o (Terminated ch done count) = length-set _ _ _
+many-after o (Marked kind segment) = refl
+many-after o Unmarked = refl
+
+pub many-channels : (o : Object) (h : List Entry) → length (object_after o h).channels ≡ length o.channels
+many-channels o [] = refl
+many-channels o (e ∷ es) = many-channels (after o e) es ∙ many-after o e
 
 pub size-object : (o : Object) (h : List Entry) → length (object_after o h).image ≡ length o.image
 size-object o [] = refl
@@ -60,18 +78,18 @@ pub opening-many : (bytes many : ℕ) → length (opening bytes many).channels �
 unfolding opening
 opening-many bytes many = length-replicate many _
 
-opening-flags : (bytes many : ℕ) → length (opening bytes many).events ≡ 32
+pub opening-flags : (bytes many : ℕ) → length (opening bytes many).events ≡ 32
 unfolding opening
 opening-flags bytes many = refl
 
-pub size-is : (p : Parts) → p.size ≡ size (view_of p)
-size-is p = sym (size-object (view_of p).base p.history ∙ opening-size p.size (length p.queues))
+pub size-is : (p : Parts) → Holds p → p.size ≡ size (view_of p)
+size-is p h = h.size ∙ sym (size-object p.base p.history)
 
 pub memory-size : (p : Parts) → Holds p → length p.memory ≡ size (view_of p)
 memory-size p h = ap length h.shown ∙ length-after_moves _ _
 
-pub flags-many : (p : Parts) → length (object_of (view_of p)).events ≡ 32
-flags-many p = flags-object (view_of p).base p.history ∙ opening-flags p.size (length p.queues)
+pub flags-many : (p : Parts) → Holds p → length (object_of (view_of p)).events ≡ 32
+flags-many p h = flags-object p.base p.history ∙ h.sound.opens.flags
 
 not-false : (b : Bool) → not b ≡ false → b ≡ true
 not-false true h = refl
@@ -93,7 +111,7 @@ pub few-queues : (p : Parts) → Holds p → length p.queues ≤ 8
 few-queues p h =
     let v : View = view_of p in
     let m = made (length v.base.image) (length v.base.channels) h.sound.makes in
-    omega (arith, m.0, opening-many p.size (length p.queues))
+    omega (arith, m.0, many-channels v.base p.history, h.sound.fits.many, length-map p.queues schedule_of)
 
 pub size-small : (p : Parts) → Holds p → size (view_of p) ≤ 4294967295
 size-small p h =

@@ -1,9 +1,11 @@
 -- What holds of each submitted transfer, and of one that runs.
 use Rattle.std.proofs.Common.{◌≡◌, ◌≢◌, ℕ, ◌+◌, ◌-◌, ◌<◌, List, [], ◌∷◌, ◌++◌, length, Option, Some, None, true, false, ◌&&◌, refl, ap, sym, ◌∙◌, subst, arith, inl, inr, ◌⊎◌, zero, suc}
-use Rattle.std.specs.Prelude.{slice_get, slice_index_or, replicate, is_some, nat_lt, ◌==◌, IfSome, IsSomeAnd}
+use Rattle.std.specs.Prelude.{slice_get, slice_index_or, is_some, nat_lt, ◌==◌, IfSome, IsSomeAnd}
 use Rattle.std.specs.List.{All}
-use Rattle.std.proofs.lemmas.Bool.{cases_eq, cases_lt}
-use Rattle.std.proofs.lemmas.List.{get_or-set_other, get_or_past, get_or-replicate, length-replicate}
+use Rattle.std.proofs.lemmas.Bool.{cases_eq}
+use Rattle.std.proofs.lemmas.List.{get_or-set_other}
+use Rattle.std.proofs.lemmas.List.Elements.{All-nil, All-push}
+use Rattle.std.proofs.lemmas.Option.{slice_get_within, get_or_from_slice_get}
 use Rattle.dma_mem.specs.Places.{Descriptor, lies_below}
 use Rattle.dma_mem.specs.Meeting.{IsFree}
 use Rattle.dma_mem.specs.Rules.{IsTransfer}
@@ -12,11 +14,13 @@ use Rattle.dma_chan.specs.Channel.{ChannelValue}
 use Rattle.dma_chan.specs.Compiled.{cost}
 use Rattle.dma_chan.specs.inner.At.{IsAt}
 use Rattle.dma_chan.specs.Programs.{ProgramValue}
+use Rattle.dma_mem.specs.declared.marks.MarkKind.{MarkKind}
+use Rattle.dma_mem.specs.declared.segment.Segment.{Segment}
 use Rattle.dma_engine.specs.declared.entry.Entry.{Entry}
 use Rattle.dma_engine.specs.declared.entry.Entry.TheVariants.{Wrote, ReadBack, Submitted, Issued, Passed, Signalled, Finished, Terminated, Marked, Unmarked}
 use Rattle.dma_engine.specs.declared.entry.Signaller.TheVariants.{Channel, Host}
 use Rattle.dma_engine.specs.declared.queue.Queue.{Queue}
-use Rattle.dma_engine.specs.Object.{Object, ChannelState, Allows, after, channel, empty_channel, with_channel, front, issued_front, opening, finished, with_flag, with_front_laid}
+use Rattle.dma_engine.specs.Object.{Object, ChannelState, Allows, IsMark, after, channel, empty_channel, with_channel, front, issued_front, IsBase, finished, with_flag, with_front_laid}
 use Rattle.dma_engine.specs.History.{object_after, IsLegal}
 use Rattle.dma_engine.specs.View.{View, ChannelSchedule, RunningTransfer, Agrees, AreFree, Fits, runs, object_of, size}
 use Rattle.dma_engine.specs.inner.Holds.{Holds, IsRun, Parts, view_of}
@@ -72,15 +76,33 @@ pub ruled-object : (n : ℕ) (o : Object) (es : List Entry) → length o.image �
 ruled-object n o [] m h a = h
 ruled-object n o (e ∷ es) m h a = ruled-object n (after o e) es (size-after o e ∙ m) (ruled-after n o e m h a.0) a.1
 
-none-given : (many ch k : ℕ) (t : Descriptor) → slice_get (slice_index_or (replicate many empty_channel) ch empty_channel).submitted k ≡ Some t → ⊥
-none-given many ch k t h = elim (cases_lt ch many) [
-  | inl less ↦ let e = get_or-replicate many ch empty_channel empty_channel less in let f : slice_get empty_channel.submitted k ≡ Some t = rw e at h in cc
-  | inr past ↦ let e = get_or_past (replicate many empty_channel) ch empty_channel (omega (arith, length-replicate many empty_channel)) in let f : slice_get empty_channel.submitted k ≡ Some t = rw e at h in cc
-]
+pub ruled-base : (o : Object) → IsBase o → AreRuled (length o.image) o
+ruled-base o h = λ ch k t is.
+    let ts = (channel o ch).submitted in
+    let rules = (h.each ch).rules k t (slice_get_within ts k t is) in
+    subst (IsGood (length o.image)) (get_or_from_slice_get ts k t t is) rules
 
-pub ruled-opening : (n bytes many : ℕ) → AreRuled n (opening bytes many)
-unfolding opening
-ruled-opening n bytes many = λ ch k t is. absurd (none-given many ch k t is)
+-- ---- marks
+
+abbrev pub AreMarks : List (MarkKind × Segment) → Type 0
+AreMarks = All (λ m. IsMark m.1)
+
+marked-after : (o : Object) (e : Entry) → AreMarks o.marks → Allows o e → AreMarks (after o e).marks
+marked-after o (Wrote addr bytes) h a = h
+marked-after o (ReadBack addr bytes) h a = h
+marked-after o (Submitted ch t cookie) h a = h
+marked-after o (Issued ch) h a = h
+marked-after o (Passed ch event) h a = h
+marked-after o (Signalled (Channel ch) event) h a = h
+marked-after o (Signalled Host event) h a = h
+marked-after o (Finished ch result done) h a = h
+marked-after o (Terminated ch done count) h a = h
+marked-after o (Marked kind segment) h a = All-push (λ m. IsMark m.1) o.marks (kind, segment) h a
+marked-after o Unmarked h a = All-nil (λ m. IsMark m.1)
+
+pub marked-object : (o : Object) (es : List Entry) → AreMarks o.marks → IsLegal o es → AreMarks (object_after o es).marks
+marked-object o [] h a = h
+marked-object o (e ∷ es) h a = marked-object (after o e) es (marked-after o e h a.0) a.1
 
 -- ---- a transfer that runs
 
@@ -110,7 +132,7 @@ pub good-front : (p : Parts) → Holds p → (ch : ℕ) (t : Descriptor) → fro
 good-front p h ch t is =
     let v : View = view_of p in
     let n = length v.base.image in
-    let ruled = ruled-object n v.base p.history refl (ruled-opening n p.size (length p.queues)) h.sound.legal in
+    let ruled = ruled-object n v.base p.history refl (ruled-base p.base h.sound.opens) h.sound.legal in
     let good = ruled ch _ t is in
     let same : n ≡ size v = sym (size-object v.base p.history) in
     (good.0, ap (lies_below t) (sym same) ∙ good.1)

@@ -1,12 +1,13 @@
 -- What each call answers.
-use Rattle.std.specs.Prelude.{◌≡◌, ℕ, ◌+◌, ◌-◌, if◌then◌else◌, ◌==◌, ◌||◌, Bool, true, false, nat_lt, nat_le, not, Option, Some, None, Result, Ok, Err, List, [], ◌∷◌, ◌++◌, length, take, drop, slice_get, slice_set, find}
+use Rattle.std.specs.Prelude.{◌≡◌, ◌≤◌, ◌⊎◌, ℕ, ◌+◌, ◌-◌, if◌then◌else◌, ◌==◌, ◌||◌, Bool, true, false, nat_lt, nat_le, not, is_none, Option, Some, None, Result, Ok, Err, List, [], ◌∷◌, ◌++◌, length, take, drop, slice_get, slice_set, find}
+use Rattle.std.specs.Option.{option_map}
 use Rattle.dma_mem.specs.Places.{Descriptor, touches, writes, lies_below}
 use Rattle.dma_mem.specs.declared.segment.Segment.{Segment}
 use Rattle.dma_engine.specs.declared.entry.Entry.{Entry}
 use Rattle.dma_engine.specs.declared.entry.Entry.TheVariants.{Wrote, ReadBack, Submitted, Issued, Signalled, Terminated, Marked, Unmarked}
 use Rattle.dma_engine.specs.declared.entry.Signaller.TheVariants.{Host}
 use Rattle.dma_engine.specs.declared.call.Call.{Call}
-use Rattle.dma_engine.specs.declared.call.Call.TheVariants.{Write, Read, Submit, Issue, Pause, Resume, Terminate, Step, Status, Result as ResultOf, Mark, Unmark, Raise}
+use Rattle.dma_engine.specs.declared.call.Call.TheVariants.{Write, Read, Submit, Issue, Pause, Resume, Terminate, Step, Status, Result as ResultOf, Mark, Unmark, Raise, Checkpoint}
 use Rattle.dma_engine.specs.declared.call.Reply.{Reply}
 use Rattle.dma_engine.specs.declared.call.Reply.TheVariants.{Done, Bytes, Cookie, Count, Turned, State, Result as Told, Refused}
 use Rattle.dma_engine.specs.declared.turn.Status.{Status as EngineStatus}
@@ -14,10 +15,10 @@ use Rattle.dma_engine.specs.declared.turn.Status.TheVariants.{Unknown, InProgres
 use Rattle.dma_engine.specs.declared.turn.Turn.{Turn}
 use Rattle.dma_engine.specs.declared.turn.Turn.TheVariants.{Started}
 use Rattle.dma_engine.specs.declared.fault.EngineFault.{EngineFault}
-use Rattle.dma_engine.specs.declared.fault.EngineFault.TheVariants.{OutOfMemoryRange, Busy, NoChannel, CookiesSpent, BadEvent, BadRange, NoMemory}
+use Rattle.dma_engine.specs.declared.fault.EngineFault.TheVariants.{OutOfMemoryRange, Busy, Running, NoChannel, CookiesSpent, BadEvent, BadRange, NoMemory}
 use Rattle.dma_engine.specs.declared.fault.SubmitFault.{SubmitFault}
 use Rattle.dma_engine.specs.declared.outcome.Outcome.{Outcome}
-use Rattle.dma_engine.specs.Object.{Object, channel, used, finished, unfinished, last_cookie}
+use Rattle.dma_engine.specs.Object.{Object, base_from, channel, used, finished, unfinished, last_cookie}
 use Rattle.dma_chan.specs.Traffic.{stored_after}
 use Rattle.dma_engine.specs.View.{View, RunningTransfer, object_of, schedule_at, size, channels, idle, runs, running}
 use Rattle.dma_engine.specs.Turn.{with_entry, turn}
@@ -74,7 +75,15 @@ mark_fault s = cause (s.len == 0 || nat_lt 4294967296 (s.addr + s.len)) BadRange
 abbrev pub raise_fault : ℕ → Option EngineFault
 raise_fault event = cause (nat_lt 31 event) BadEvent None
 
+-- a checkpoint is refused while a transfer runs, of which the first is named
+abbrev pub checkpoint_fault : View → Option EngineFault
+checkpoint_fault v = option_map (λ r. Running r.ch r.cookie) (first_running v (λ _. true))
+
 -- ---- what a call does where nothing refuses it
+
+-- the present object becomes the base, and the history begins anew
+abbrev pub checkpointed : View → View
+checkpointed v = record v { base = base_from (object_of v); history = [] }
 
 -- a channel whose schedule is changed
 abbrev pub with_pause : View → ℕ → Bool → View
@@ -105,9 +114,11 @@ status_in v ch cookie =
     if cookie == 0 || nat_lt (used c) cookie then Unknown
     else (if nat_le cookie (finished c) then Complete else InProgress)
 
--- how a cookie finished, if it did
+-- how a cookie finished, if it did and isn't forgotten
 abbrev pub result_of : Object → ℕ → ℕ → Option Outcome
-result_of o ch cookie = if cookie == 0 then None else slice_get (channel o ch).outcomes (cookie - 1)
+result_of o ch cookie =
+    let c = channel o ch in
+    if nat_le cookie c.forgotten then None else slice_get c.outcomes (cookie - c.forgotten - 1)
 
 -- the reply of a call that answers a result
 abbrev pub reply_of : {T : Type 0} → (T → Reply) → Result T EngineFault → Reply
@@ -125,7 +136,7 @@ unless (Some fault) v accepted = (Refused fault, v)
 unless None v accepted = accepted
 
 -- What a call answers, and the view after it, where memory is not wanting. An accepted call adds its entry at the end of the
--- history, or none.
+-- history, or none; a checkpoint drops the history.
 abbrev pub answer : View → Call → Reply × View
 answer v (Write addr bytes) = unless (write_fault v addr (length bytes)) v (Done, with_entry v (Wrote addr bytes))
 answer v (Read addr len) =
@@ -147,6 +158,7 @@ answer v (ResultOf ch cookie) = (Told (result_of (object_of v) ch cookie), v)
 answer v (Mark kind segment) = unless (mark_fault segment) v (Done, with_entry v (Marked kind segment))
 answer v Unmark = (Done, with_entry v Unmarked)
 answer v (Raise event) = unless (raise_fault event) v (Done, with_entry v (Signalled Host event))
+answer v Checkpoint = unless (checkpoint_fault v) v (Done, checkpointed v)
 
 -- ---- want of memory
 
@@ -155,10 +167,15 @@ abbrev pub is_started : Reply → Bool
 is_started (Turned (Started cookie)) = true
 is_started _ = false
 
--- A call takes memory where it adds an entry or starts a transfer. No other call does.
+-- whether a call stores a base: a checkpoint that nothing refuses
+abbrev pub stores_base : View → Call → Bool
+stores_base v Checkpoint = is_none (checkpoint_fault v)
+stores_base v _ = false
+
+-- A call takes memory where it adds an entry, starts a transfer or stores a base. No other call does.
 abbrev pub takes_memory : View → Call → Bool
 takes_memory v call =
-    is_started (answer v call).0 || nat_lt (length v.history) (length (answer v call).1.history)
+    stores_base v call || (is_started (answer v call).0 || nat_lt (length v.history) (length (answer v call).1.history))
 
 -- A call answers so, and leaves such a view. A call that takes memory may also be refused it, after every other cause, and
 -- then leaves the view as it was.
@@ -179,15 +196,31 @@ AreAnswers old (call ∷ calls) (reply ∷ replies) new =
     (next : View) × CallAnswers old call reply next × AreAnswers next calls replies new
 AreAnswers old _ _ new = ⊥
 
+-- whether a call was a checkpoint that was accepted
+abbrev pub is_checkpoint : Call → Reply → Bool
+is_checkpoint Checkpoint Done = true
+is_checkpoint _ _ = false
+
+-- whether a checkpoint among these calls was accepted
+abbrev pub has_checkpoint : List Call → List Reply → Bool
+has_checkpoint (call ∷ calls) (reply ∷ replies) = is_checkpoint call reply || has_checkpoint calls replies
+has_checkpoint _ _ = false
+
 -- The history begins with the one from before, from the same base.
 abbrev pub Extends : View → View → Type 0
 Extends old new = (new.base ≡ old.base) × ((more : List Entry) × (new.history ≡ old.history ++ more))
 
--- Outcome number k is cookie k's, and never changes.
+-- Outcome number k is that of cookie k after the forgotten ones, and never changes.
 abbrev pub KeepsOutcomes : View → View → Type 0
 KeepsOutcomes old new =
     (ch cookie : ℕ) (x : Outcome) → result_of (object_of old) ch cookie ≡ Some x
     → result_of (object_of new) ch cookie ≡ Some x
+
+-- An outcome never changes; a checkpoint may forget it.
+abbrev pub Remembers : View → View → Type 0
+Remembers old new =
+    (ch cookie : ℕ) (x : Outcome) → result_of (object_of old) ch cookie ≡ Some x
+    → (result_of (object_of new) ch cookie ≡ Some x) ⊎ (cookie ≤ (channel (object_of new) ch).forgotten)
 
 -- the replies to calls in order, where memory is not wanting
 abbrev pub answers : View → List Call → List Reply × View

@@ -1,19 +1,20 @@
 -- What each answer adds to the ticks, to the step count and to the number of finished cookies.
-use Rattle.std.specs.Prelude.{◌≡◌, ℕ, ◌+◌, ◌≤◌, ◌<◌, ◌⊎◌, if◌then◌else◌, Result, Ok, Err, List, [], ◌∷◌, ◌++◌, length}
+use Rattle.std.specs.Prelude.{◌≡◌, ℕ, ◌+◌, ◌≤◌, ◌<◌, ◌⊎◌, false, if◌then◌else◌, Result, Ok, Err, List, [], ◌∷◌, ◌++◌, length}
+use Rattle.std.specs.List.{All}
 use Rattle.dma_mem.specs.Places.{Descriptor}
 use Rattle.dma_engine.specs.declared.call.Call.{Call}
-use Rattle.dma_engine.specs.declared.call.Call.TheVariants.{Submit, Terminate, Step}
+use Rattle.dma_engine.specs.declared.call.Call.TheVariants.{Submit, Terminate, Step, Checkpoint}
 use Rattle.dma_engine.specs.declared.call.Reply.{Reply}
-use Rattle.dma_engine.specs.declared.call.Reply.TheVariants.{Cookie, Count, Turned}
+use Rattle.dma_engine.specs.declared.call.Reply.TheVariants.{Cookie, Count, Done, Turned}
 use Rattle.dma_engine.specs.declared.entry.Entry.{Entry}
 use Rattle.dma_engine.specs.declared.fault.EngineFault.{EngineFault}
 use Rattle.dma_engine.specs.declared.fault.EngineFault.TheVariants.{NoMemory}
 use Rattle.dma_engine.specs.declared.turn.Turn.{Turn}
 use Rattle.dma_engine.specs.declared.turn.Turn.TheVariants.{Moved, Finished as TurnFinished}
 use Rattle.dma_engine.specs.Object.{channel, finished, finished_all, last_cookie, unfinished, used}
-use Rattle.dma_engine.specs.Ticks.{Tick, Submitted, Finished, board_after, board_of, counts, status_of, ticks_of}
+use Rattle.dma_engine.specs.Ticks.{Tick, Submitted, Finished, board_after, board_of, counts, status_of, tick_channel, ticks_of}
 use Rattle.dma_engine.specs.Turn.{ends, turn}
-use Rattle.dma_engine.specs.Answer.{CallAnswers, StepAnswers, Extends, answer, reply_of, status_in}
+use Rattle.dma_engine.specs.Answer.{CallAnswers, AreAnswers, StepAnswers, Extends, KeepsOutcomes, answer, has_checkpoint, is_checkpoint, reply_of, status_in}
 use Rattle.dma_engine.specs.Room.{IsIdle}
 use Rattle.dma_engine.specs.View.{View, IsSound, channels, object_of}
 
@@ -43,16 +44,18 @@ pub record Still (old new : View) : Type 0 where
   pub steps : new.steps ≡ old.steps
   pub finished : finished_all (object_of new) ≡ finished_all (object_of old)
 
--- a call that gives no cookie and finishes none
+-- a call that gives no cookie, finishes none and stores no base
 abbrev pub IsQuiet : Call → Type 0
 IsQuiet (Submit ch t) = ⊥
 IsQuiet (Terminate ch) = ⊥
 IsQuiet (Step ch) = ⊥
+IsQuiet Checkpoint = ⊥
 IsQuiet _ = Unit {0}
 
--- Whatever a call answers, the history begins with the one from before, from the same base.
+-- Whatever a call answers that is no accepted checkpoint, the history begins with the one from before, from the same base.
 abbrev pub CallsExtend : Type 0
-CallsExtend = (v w : View) (call : Call) (reply : Reply) → CallAnswers v call reply w → Extends v w
+CallsExtend =
+    (v w : View) (call : Call) (reply : Reply) → is_checkpoint call reply ≡ false → CallAnswers v call reply w → Extends v w
 
 -- Whatever a quiet call answers, ticks, step count and finished cookies stay.
 abbrev pub QuietCallsKeep : Type 0
@@ -83,6 +86,21 @@ EndsAsTold =
     (v w : View) (ch : ℕ) (r : Result Turn EngineFault) → StepAnswers v ch r w
     → (r ≡ Err NoMemory) ⊎ (ends r ≡ ends (turn v ch).0)
 
+-- After an accepted checkpoint the history is empty, and its base has the counts that the channels had; step count and
+-- finished cookies stay.
+abbrev pub CheckpointsKeep : Type 0
+CheckpointsKeep =
+    (v w : View) → IsSound v → CallAnswers v Checkpoint Done w
+    → (w.history ≡ []) × (board_of w.base ≡ board_of (object_of v)) × (w.steps ≡ v.steps)
+    × (finished_all (object_of w) ≡ finished_all (object_of v))
+
+-- Over calls without an accepted checkpoint the history begins with the one from before, from the same base, and no outcome
+-- changes. What stands between two checkpoints of a longer list is such a list of its own.
+abbrev pub StretchesKeep : Type 0
+StretchesKeep =
+    (v w : View) (calls : List Call) (replies : List Reply) → has_checkpoint calls replies ≡ false
+    → AreAnswers v calls replies w → Extends v w × KeepsOutcomes v w
+
 -- The board of the history's ticks has the counts of the object that the history leaves.
 abbrev pub BoardsCount : Type 0
 BoardsCount = (v : View) → IsSound v → board_after (board_of v.base) (ticks_of v.history) ≡ board_of (object_of v)
@@ -100,6 +118,10 @@ BoardsOpen =
     → (length (board_of v.base) ≡ channels v) × (channels v ≤ 8)
     × ((ch : ℕ)
     → ((counts (board_of v.base) ch).used ≤ last_cookie) × ((counts (board_of v.base) ch).finished ≤ last_cookie))
+
+-- Each tick of a history is of a channel that is there.
+abbrev pub TicksAreThere : Type 0
+TicksAreThere = (v : View) → IsSound v → All (λ t. tick_channel t < channels v) (ticks_of v.history)
 
 -- A history has no more ticks than entries.
 abbrev pub TicksAreFew : Type 0

@@ -1,6 +1,6 @@
 -- The object that a DMA controller is for one thread, and what each entry of its history needs of it and does to it.
 use Rattle.std.specs.Prelude.{◌≡◌, ℕ, ◌+◌, ◌-◌, ◌<◌, ◌≤◌, if◌then◌else◌, Bool, true, false, nat_lt, Option, Some, None, IsSome, IsSomeAnd, MatchOption, unwrap_or, List, [], ◌∷◌, ◌++◌, length, map, take, drop, replicate, slice_get, slice_index_or, slice_set}
-use Rattle.std.specs.List.{sum_by}
+use Rattle.std.specs.List.{All, sum_by}
 use Rattle.dma_mem.specs.Places.{Descriptor, lies_below, size_of, sources, destinations}
 use Rattle.dma_mem.specs.Rules.{IsTransfer}
 use Rattle.dma_mem.specs.Image.{put, bytes_at, laid}
@@ -17,11 +17,13 @@ use Rattle.dma_engine.specs.declared.outcome.TransResult.TheVariants.{NoError, R
 
 -- ---- the object
 
--- What is known of a channel: the transfers submitted to it in the order of their cookies, how many of them are issued, the
--- outcomes of those that are finished, whether the front has passed the event that it waits for and signalled the one that
--- it signals, and whether a failure has halted the channel. (Queue, cookies and issue: dmaengine client documentation;
--- events and halting: profile.)
+-- What is known of a channel: how many of its cookies are forgotten, which are the first ones, had finished before the
+-- history begins, and are known by number alone; the transfers submitted to it after those, in the order of their cookies;
+-- how many of its cookies are issued; the outcomes of those that are finished and not forgotten; whether the front has
+-- passed the event that it waits for and signalled the one that it signals, and whether a failure has halted the channel.
+-- (Queue, cookies and issue: dmaengine client documentation; events, halting and what is forgotten: profile.)
 pub record ChannelState : Type 0 where
+  pub forgotten : ℕ
   pub submitted : List Descriptor
   pub issued : ℕ
   pub outcomes : List Outcome
@@ -38,7 +40,8 @@ pub record Object : Type 0 where
 
 -- a channel to which nothing was submitted
 abbrev pub empty_channel : ChannelState
-empty_channel = record { submitted = []; issued = 0; outcomes = []; passed = false; signalled = false; halted = false }
+empty_channel =
+    record { forgotten = 0; submitted = []; issued = 0; outcomes = []; passed = false; signalled = false; halted = false }
 
 -- The opening object: a memory of zeros, 32 clear flags (PL330 manual, DMASEV and DMAWFE), no marks, and channels to which
 -- nothing was submitted.
@@ -64,11 +67,11 @@ with_flag o event flag = record o { events = slice_set o.events event flag }
 
 -- how many cookies a channel has given
 abbrev pub used : ChannelState → ℕ
-used c = length c.submitted
+used c = c.forgotten + length c.submitted
 
 -- how many of them are finished
 abbrev pub finished : ChannelState → ℕ
-finished c = length c.outcomes
+finished c = c.forgotten + length c.outcomes
 
 -- how many of them aren't finished
 abbrev pub unfinished : ChannelState → ℕ
@@ -80,7 +83,7 @@ finished_all o = sum_by finished o.channels
 
 -- The front of a channel is its first submitted transfer without an outcome.
 abbrev pub front : ChannelState → Option Descriptor
-front c = slice_get c.submitted (finished c)
+front c = slice_get c.submitted (length c.outcomes)
 
 -- the front, where it is issued
 abbrev pub issued_front : ChannelState → Option Descriptor
@@ -120,6 +123,10 @@ CanHaveStored c done =
     (done ≤ size_of t) × (c.halted ≡ true → done ≡ 0) × (IsSome t.wait → c.passed ≡ false → done ≡ 0)
     × (c.signalled ≡ true → done ≡ size_of t))
 
+-- a range that can be marked: it isn't empty, and ends at most behind the last address
+abbrev pub IsMark : Segment → Type 0
+IsMark s = (0 < s.len) × (s.addr + s.len ≤ 4294967296)
+
 -- What an entry needs of the object that it acts on.
 abbrev pub Allows : Object → Entry → Type 0
 Allows o (Wrote addr bytes) = addr + length bytes ≤ length o.image
@@ -143,7 +150,7 @@ Allows o (Finished ch WriteFailed done) = CanFail o (channel o ch) Writing desti
 Allows o (Finished ch Aborted done) = ⊥
 Allows o (Terminated ch done count) =
     (ch < length o.channels) × (count ≡ unfinished (channel o ch)) × CanHaveStored (channel o ch) done
-Allows o (Marked kind segment) = (0 < segment.len) × (segment.addr + segment.len ≤ 4294967296)
+Allows o (Marked kind segment) = IsMark segment
 Allows o Unmarked = Unit {0}
 
 -- ---- what an entry leaves
@@ -194,7 +201,7 @@ abbrev pub with_all_aborted : ChannelState → ℕ → ChannelState
 with_all_aborted c done =
     record c {
       issued = used c;
-      outcomes = c.outcomes ++ aborted done (drop (finished c) c.submitted);
+      outcomes = c.outcomes ++ aborted done (drop (length c.outcomes) c.submitted);
       passed = false;
       signalled = false;
       halted = false;
@@ -216,3 +223,28 @@ after o (Terminated ch done count) =
     with_channel (with_front_laid o ch done) ch (with_all_aborted (channel o ch) done)
 after o (Marked kind segment) = record o { marks = o.marks ++ (kind, segment) ∷ [] }
 after o Unmarked = record o { marks = [] }
+
+-- ---- a base
+
+-- A channel in a base: its finished cookies are forgotten.
+abbrev pub forget : ChannelState → ChannelState
+forget c = record c { forgotten = finished c; submitted = drop (length c.outcomes) c.submitted; outcomes = [] }
+
+-- The base that an object becomes, from which a history begins anew.
+abbrev pub base_from : Object → Object
+base_from o = record o { channels = map forget o.channels }
+
+-- A channel that can stand in a base: no outcome is known, the front has neither passed nor signalled, all finished cookies
+-- are issued, no more are issued than given, none is above the last one, and the unfinished transfers meet the rules and lie
+-- below the memory's size.
+pub record IsBaseChannel (size : ℕ) (c : ChannelState) : Type 0 where
+  pub outcomes : c.outcomes ≡ []
+  pub rests : (c.passed ≡ false) × (c.signalled ≡ false)
+  pub counts : (finished c ≤ c.issued) × (c.issued ≤ used c) × (used c ≤ last_cookie)
+  pub rules : All (λ t. IsTransfer t × (lies_below t size ≡ true)) c.submitted
+
+-- An object that can be a base: it has 32 flags, its marks are ranges that can be marked, and each channel can stand in one.
+pub record IsBase (o : Object) : Type 0 where
+  pub flags : length o.events ≡ 32
+  pub marks : All (λ m. IsMark m.1) o.marks
+  pub each : (ch : ℕ) → IsBaseChannel (length o.image) (channel o ch)

@@ -1,5 +1,5 @@
 -- Room that is made before it is needed.
-use Rattle.std.specs.Prelude.{ℕ, ◌<◌, ◌≤◌, Result, Ok, slice_index_or}
+use Rattle.std.specs.Prelude.{◌≡◌, ℕ, ◌<◌, ◌≤◌, Result, Ok, slice_index_or}
 use Rattle.dma_engine.specs.declared.fault.EngineFault.{EngineFault}
 use Rattle.dma_engine.specs.declared.turn.Turn.{Turn}
 use Rattle.dma_engine.specs.declared.turn.Turn.TheVariants.{Started, Moved, Finished}
@@ -19,6 +19,10 @@ pub record HasRoom (e : EngineState) (ch : ℕ) : Type 0 where
   pub entry : 0 < e.room.entries
   pub cookie : 0 < (room_on e.room ch).indices
   pub outcomes : unfinished (channel (object_of e.view) ch) ≤ (room_on e.room ch).outcomes
+
+-- The lists of entries, of indices and of outcomes have no room: what they don't need was given back.
+abbrev pub HasGivenBack : EngineState → Type 0
+HasGivenBack e = (e.room.entries ≡ 0) × ((ch : ℕ) → room_on e.room ch ≡ no_room)
 
 -- An answer to a step that changed nothing: a refusal, or a turn that neither starts, moves nor finishes.
 abbrev pub IsIdle : Result Turn EngineFault → Type 0

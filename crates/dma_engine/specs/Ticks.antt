@@ -11,6 +11,11 @@ pub data Tick : Type 0 where
   Submitted : (ch : ℕ) → Tick
   Finished : (ch count : ℕ) → Tick
 
+-- the channel of a tick
+abbrev pub tick_channel : Tick → ℕ
+tick_channel (Submitted ch) = ch
+tick_channel (Finished ch count) = ch
+
 -- the ticks of a history
 abbrev pub ticks_of : List Entry → List Tick
 ticks_of [] = []

@@ -8,7 +8,7 @@ use Rattle.dma_engine.specs.declared.entry.Entry.{Entry}
 use Rattle.dma_engine.specs.declared.fault.NewFault.{NewFault}
 use Rattle.dma_engine.specs.declared.fault.NewFault.TheVariants.{BadChannels, SizeOutOfRange}
 use Rattle.dma_engine.specs.declared.turn.Running.{Running}
-use Rattle.dma_engine.specs.Object.{Object, ChannelState, channel, finished, front, FrontIs, opening}
+use Rattle.dma_engine.specs.Object.{Object, ChannelState, IsBase, channel, finished, front, FrontIs, opening}
 use Rattle.dma_engine.specs.History.{object_after, IsLegal}
 use Rattle.dma_chan.specs.Compiled.{cost}
 use Rattle.dma_chan.specs.Traffic.{stored_after}
@@ -137,10 +137,10 @@ abbrev pub new_view : ℕ → ℕ → View
 new_view bytes many =
     record { base = opening bytes many; history = []; steps = 0; schedule = replicate many idle }
 
--- A view is sound: the history is legal from the opening object of an engine that can be made, and the schedule fits the
--- object that it leaves.
+-- A view is sound: the base can be one, of the size and the channels of an engine that can be made, the history is legal
+-- from it, and the schedule fits the object that it leaves.
 pub record IsSound (v : View) : Type 0 where
-  pub opens : v.base ≡ opening (length v.base.image) (length v.base.channels)
+  pub opens : IsBase v.base
   pub makes : new_fault (length v.base.image) (length v.base.channels) ≡ None
   pub legal : IsLegal v.base v.history
   pub fits : Fits (object_of v) v.schedule

@@ -37,12 +37,14 @@ pub enum Call {
     Unmark,
     /// `raise`
     Raise { event: u8 },
+    /// `checkpoint`
+    Checkpoint,
 }
 
 /// What a call answers.
 #[derive(Drop)]
 pub enum Reply {
-    /// A write, a mark, an unmark, a raise, a pause or a resume was done.
+    /// A write, a mark, an unmark, a raise, a pause, a resume or a checkpoint was done.
     Done,
     /// What was read.
     Bytes(Bytes),

@@ -3,12 +3,14 @@
 ghost use Rattle.std.specs.Prelude.{◌≡◌, ◌<◌, ◌≤◌, IfOk, IfErr, OnOk, None, unwrap_or, replicate};
 ghost use Rattle.std.specs.Option.{option_map};
 ghost use Rattle.dma_engine.specs.Object.{channel, used, finished, finished_all, unfinished};
+ghost use Rattle.dma_engine.specs.Ticks.{board_of, counts};
 ghost use Rattle.dma_engine.specs.View.{size, channels, object_of, schedule_at, running_on, new_fault, new_view, memory_of, IsSound};
 ghost use Rattle.dma_engine.specs.Answer.{status_in, result_of, first_running, done_on};
 ghost use Rattle.dma_engine.specs.inner.Ways.{named, is_in_the_way};
 ghost use Rattle.dma_engine.specs.inner.Holds.{new_queue};
 ghost use Rattle.dma_engine.specs.inner.Due.{front_told};
 
+use crate::base::Base;
 use crate::entry::Entry;
 use crate::fault::{EngineFault, NewFault};
 use crate::outcome::Outcome;
@@ -23,6 +25,7 @@ use std::alloc::{AllocError, Global};
 use std::marker::Model;
 
 mod calls;
+mod checkpoints;
 mod host_calls;
 mod queue_calls;
 mod steps;
@@ -30,7 +33,7 @@ mod steps;
 /// The most channels that an engine has (PL330 manual, the number of channel threads is configured).
 pub const MAX_CHANNELS: u8 = 8;
 
-/// Queues of transfers on channels over one memory. Contracts see its history, its step count, its schedule and its memory's
+/// Queues of transfers on channels over one memory. Contracts see its base, its history, its step count, its schedule and its memory's
 /// bytes; which pages of the memory are made is no part of that.
 #[derive(Drop)]
 pub struct Engine {
@@ -40,6 +43,7 @@ pub struct Engine {
     events: Events,
     marks: Marks,
     queues: Vec<Queue>,
+    base: Base,
     history: Vec<Entry>,
     steps: u64,
 }
@@ -80,6 +84,7 @@ impl Engine {
             Err(MemFault::OutOfMemoryRange) => unreachable!(),
         };
         let queues = new_queues(alloc, channels)?;
+        let base = Base::opening(alloc, size, channels)?;
         Ok(Engine {
             alloc,
             size,
@@ -87,6 +92,7 @@ impl Engine {
             events: Events::new(),
             marks: Marks::new(alloc),
             queues,
+            base,
             history: Vec::new(alloc),
             steps: 0,
         })
@@ -113,8 +119,8 @@ impl Engine {
         self.steps
     }
 
-    /// What was done, in order. The history is legal, and the memory is its image, with the bytes that running transfers
-    /// have stored laid over their own destinations.
+    /// What was done since the last checkpoint, or since the engine was made, in order. The history is legal from the base,
+    /// and the memory is its image, with the bytes that running transfers have stored laid over their own destinations.
     pub fn history(&self) -> &[Entry]
         ensures entries { result.now ≡ self.now.view.history }
         ensures sound { IsSound self.now.view }
@@ -128,7 +134,7 @@ impl Engine {
         ensures { result ≡ used (channel (object_of self.now.view) ch) }
     {
         match self.queues.get(usize::from(ch)) {
-            Some(queue) => queue.indices.len() as u32,
+            Some(queue) => queue.given,
             None => 0,
         }
     }
@@ -138,9 +144,28 @@ impl Engine {
         ensures { result ≡ finished (channel (object_of self.now.view) ch) }
     {
         match self.queues.get(usize::from(ch)) {
-            Some(queue) => queue.outcomes.len() as u32,
+            Some(queue) => queue.forgotten + queue.outcomes.len() as u32,
             None => 0,
         }
+    }
+
+    /// How many cookies of a channel finished before the last checkpoint, which forgot how; 0 before the first checkpoint,
+    /// and where there is no such channel.
+    pub fn forgotten(&self, ch: u8) -> u32
+        ensures known { result ≡ (channel (object_of self.now.view) ch).forgotten }
+        ensures base { result ≡ (counts (board_of self.now.view.base) ch).finished }
+    {
+        match self.queues.get(usize::from(ch)) {
+            Some(queue) => queue.forgotten,
+            None => 0,
+        }
+    }
+
+    /// How many cookies a channel had given at the last checkpoint; 0 where there was none, or is no such channel.
+    pub fn used_at_base(&self, ch: u8) -> u32
+        ensures { result ≡ (counts (board_of self.now.view.base) ch).used }
+    {
+        self.base.used(usize::from(ch))
     }
 
     /// How many cookies of a channel are not finished; 0 where there is no such channel.
@@ -158,7 +183,9 @@ impl Engine {
     {
         let mut all = 0;
         for index in 0..self.queues.len() {
-            all += self.queues[index].outcomes.len() as u64;
+            let cookies = &self.queues[index];
+            let finished = u64::from(cookies.forgotten) + cookies.outcomes.len() as u64;
+            all += finished;
         }
         all
     }
@@ -202,15 +229,19 @@ impl Engine {
         }
     }
 
-    /// How a cookie finished, exactly where it has.
+    /// How a cookie finished, exactly where it has and isn't forgotten.
     pub fn result(&self, ch: u8, cookie: u32) -> Option<Outcome>
         ensures { result ≡ result_of (object_of self.now.view) ch cookie }
     {
-        if cookie == 0 {
-            return None;
-        }
         match self.queues.get(usize::from(ch)) {
-            Some(queue) => queue.outcomes.get(cookie as usize - 1),
+            Some(queue) => {
+                if cookie <= queue.forgotten {
+                    return None;
+                }
+                queue
+                    .outcomes
+                    .get(cookie as usize - queue.forgotten as usize - 1)
+            }
             None => None,
         }
     }
@@ -227,7 +258,7 @@ impl Engine {
         if !queue.channel.is_loaded() {
             return None;
         }
-        let cookie = queue.outcomes.len() as u32 + 1;
+        let cookie = queue.forgotten + queue.outcomes.len() as u32 + 1;
         let stored = queue.channel.stored() as u32;
         Some(Running { cookie, stored })
     }
@@ -262,7 +293,12 @@ impl Engine {
         requires { index < channels self.now.view }
         ensures { option_map (λ p. (p.0.now, p.1)) result ≡ front_told (channel (object_of self.now.view) index) }
     {
-        self.queues[index].front_in(&self.history)
+        let queue = &self.queues[index];
+        let Some(transfer) = queue.front_in(self.base.kept(index), &self.history) else {
+            return None;
+        };
+        let cookie = queue.forgotten + queue.outcomes.len() as u32 + 1;
+        Some((transfer, cookie))
     }
 
     // The channel and the cookie of the first running transfer that is in the way.
@@ -273,7 +309,8 @@ impl Engine {
             let queue = &self.queues[index];
             if let Some(ranges) = &queue.ranges {
                 if way.has(ranges) {
-                    return Some((index as u8, queue.outcomes.len() as u32 + 1));
+                    let cookie = queue.forgotten + queue.outcomes.len() as u32 + 1;
+                    return Some((index as u8, cookie));
                 }
             }
         }

@@ -22,6 +22,14 @@ pub enum EngineFault {
         /// Its cookie.
         cookie: u32,
     },
+    /// A transfer runs: the one on the lowest such channel.
+    #[error("a transfer is running")]
+    Running {
+        /// Its channel.
+        ch: u8,
+        /// Its cookie.
+        cookie: u32,
+    },
     /// The channel's number is not below the number of channels.
     #[error("there is no such channel")]
     NoChannel,

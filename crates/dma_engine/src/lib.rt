@@ -3,6 +3,7 @@
 #![tactic(auto)]
 
 pub mod advance;
+mod base;
 pub mod call;
 pub mod engine;
 pub mod entry;
@@ -25,6 +26,8 @@ pub use fault::{EngineFault, NewFault, SubmitFault};
 pub use outcome::{Outcome, TransResult};
 pub use turn::{Running, Status, Turn};
 
+#[cfg(test)]
+mod checkpoint_tests;
 #[cfg(test)]
 mod example;
 #[cfg(test)]

@@ -68,7 +68,7 @@ impl Indices {
     }
 }
 
-/// The outcomes of a channel's finished cookies, that of cookie 1 first.
+/// The outcomes of a channel's finished cookies that aren't forgotten, in the order of their cookies.
 #[derive(Drop)]
 pub struct Outcomes {
     items: Vec<Outcome>,

@@ -1,7 +1,7 @@
 //! Calls carried out in order.
 
-ghost use Rattle.std.specs.Prelude.{◌≡◌, ◌+◌, ◌-◌, ◌<◌, ◌≤◌, ◌++◌, ◌∷◌, [], length, take, drop, IfOk, IsOk, OnOk, OnErr, vec_capacity, vec_len};
-ghost use Rattle.dma_engine.specs.Answer.{CallAnswers, AreAnswers, Extends, KeepsOutcomes};
+ghost use Rattle.std.specs.Prelude.{◌≡◌, false, ◌+◌, ◌-◌, ◌<◌, ◌≤◌, ◌++◌, ◌∷◌, [], length, take, drop, IfOk, IsOk, OnOk, OnErr, vec_capacity, vec_len};
+ghost use Rattle.dma_engine.specs.Answer.{CallAnswers, AreAnswers, Extends, KeepsOutcomes, Remembers, has_checkpoint};
 ghost use Rattle.dma_engine.specs.View.{IsSound, memory_of};
 
 use crate::call::{Call, Reply};
@@ -16,8 +16,10 @@ use std::alloc::Global;
 /// Room for all replies is taken first. The error comes where it is refused; then no call was carried out.
 pub fn run(alloc: Global, engine: &mut Engine, calls: &[Call]) -> Result<Vec<Reply>, NoMemory>
     ensures answers { IfOk result (λ replies. AreAnswers engine.old.view calls.now replies.items engine.new.view) }
-    ensures begins { Extends engine.old.view engine.new.view }
-    ensures kept { KeepsOutcomes engine.old.view engine.new.view }
+    // Where no checkpoint among the calls was accepted, the history begins with the one from before, and no outcome changes.
+    ensures begins { IfOk result (λ replies. has_checkpoint calls.now replies.items ≡ false → Extends engine.old.view engine.new.view) }
+    ensures kept { IfOk result (λ replies. has_checkpoint calls.now replies.items ≡ false → KeepsOutcomes engine.old.view engine.new.view) }
+    ensures remembers { Remembers engine.old.view engine.new.view }
     ensures sound { IsSound engine.new.view }
     ensures memory { engine.new.memory ≡ memory_of engine.new.view }
     ensures refused { OnErr result (engine.new.view ≡ engine.old.view) }
@@ -39,8 +41,10 @@ pub fn run_into(
     // What was in the list stays there, before what is added.
     ensures before { take (length replies.old.items) replies.new.items ≡ replies.old.items }
     ensures answers { OnOk result (AreAnswers engine.old.view calls.now (drop (length replies.old.items) replies.new.items) engine.new.view) }
-    ensures begins { Extends engine.old.view engine.new.view }
-    ensures kept { KeepsOutcomes engine.old.view engine.new.view }
+    // Where no checkpoint among the calls was accepted, the history begins with the one from before, and no outcome changes.
+    ensures begins { OnOk result (has_checkpoint calls.now (drop (length replies.old.items) replies.new.items) ≡ false → Extends engine.old.view engine.new.view) }
+    ensures kept { OnOk result (has_checkpoint calls.now (drop (length replies.old.items) replies.new.items) ≡ false → KeepsOutcomes engine.old.view engine.new.view) }
+    ensures remembers { Remembers engine.old.view engine.new.view }
     ensures sound { IsSound engine.new.view }
     ensures memory { engine.new.memory ≡ memory_of engine.new.view }
     ensures refused { OnErr result (engine.new.view ≡ engine.old.view) }

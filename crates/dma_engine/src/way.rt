@@ -16,6 +16,8 @@ pub enum Way<'a> {
     Write(Segment),
     /// A read of the host from this range: transfers that write one of its addresses are in the way.
     Read(Segment),
+    /// A checkpoint: each running transfer is in the way.
+    Checkpoint,
     /// The start of this transfer: transfers that it isn't free of are in the way.
     Start(&'a Transfer),
 }
@@ -32,6 +34,7 @@ impl Way<'_> {
         match self {
             Way::Write(range) => destinations.meets(*range) || sources.meets(*range),
             Way::Read(range) => destinations.meets(*range),
+            Way::Checkpoint => true,
             Way::Start(transfer) => {
                 destinations.meets_any(transfer.dst())
                     || sources.meets_any(transfer.dst())

@@ -27,6 +27,13 @@ impl Events {
         Events { flags: [false; 32] }
     }
 
+    /// The same flags again.
+    pub fn copy(&self) -> Events
+        ensures { result ≡ self.now }
+    {
+        Events { flags: self.flags }
+    }
+
     /// Whether the flag of an event is set.
     pub fn is_set(&self, event: u8) -> bool
         requires { event ≤ 31 }

@@ -1,6 +1,6 @@
 //! Ranges of a memory that are marked as failing.
 
-ghost use Rattle.std.specs.Prelude.{◌≡◌, ◌∷◌, ◌++◌, [], OnOk, OnErr};
+ghost use Rattle.std.specs.Prelude.{◌≡◌, ◌∷◌, ◌++◌, [], IfOk, OnOk, OnErr};
 ghost use Rattle.std.specs.List.{list_any, range_with_len};
 ghost use Rattle.dma_mem.specs.Meeting.{hits};
 ghost use Rattle.dma_mem.specs.Marking.{is_marked};
@@ -68,13 +68,29 @@ impl Marks {
         Ok(())
     }
 
-    /// Removes all marks.
+    /// The same marks again, in memory of their own. `AllocError` comes where it was refused.
+    pub fn try_copy(&self) -> Result<Marks, AllocError>
+        ensures { IfOk result (λ copy. copy ≡ self.now) }
+    {
+        let alloc = *self.list.allocator();
+        let list = Vec::from_slice(alloc, &self.list)?;
+        let reading = Vec::from_slice(alloc, &self.reading)?;
+        let writing = Vec::from_slice(alloc, &self.writing)?;
+        Ok(Marks {
+            list,
+            reading,
+            writing,
+        })
+    }
+
+    /// Removes all marks, and gives back what they took.
     pub fn clear(&mut self)
         ensures { self.new ≡ [] }
     {
-        self.list.clear();
-        self.reading.clear();
-        self.writing.clear();
+        let alloc = *self.list.allocator();
+        self.list = Vec::new(alloc);
+        self.reading = Vec::new(alloc);
+        self.writing = Vec::new(alloc);
     }
 
     // The addresses of the marks of a kind, as ranges in order.

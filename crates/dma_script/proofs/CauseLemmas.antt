@@ -460,6 +460,7 @@ later_told keywords.Mark (a ∷ b ∷ []) = mark_told (bytes_eq a (codes "read")
 later_told keywords.Mark (a ∷ b ∷ d ∷ rest) = refl
 later_told keywords.Unmark words = bare_line statements.Unmark words
 later_told keywords.Raise words = byte_line (λ event. statements.Raise event) words
+later_told keywords.Checkpoint words = bare_line statements.Checkpoint words
 later_told keywords.Totals words = bare_line statements.Totals words
 
 -- a memory line's two numbers
@@ -497,6 +498,7 @@ first_line_told keywords.Result words = refl
 first_line_told keywords.Mark words = refl
 first_line_told keywords.Unmark words = refl
 first_line_told keywords.Raise words = refl
+first_line_told keywords.Checkpoint words = refl
 first_line_told keywords.Totals words = refl
 
 -- a line of a run script, by its command

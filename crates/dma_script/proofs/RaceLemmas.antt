@@ -52,6 +52,7 @@ later_early keywords.Result words early = after_bind IsEarly (channel_and_cookie
 later_early keywords.Mark words early = absurd cc
 later_early keywords.Unmark words early = absurd cc
 later_early keywords.Raise words early = absurd cc
+later_early keywords.Checkpoint words early = absurd cc
 later_early keywords.Totals words early = absurd cc
 
 -- The memory line has no statement.
@@ -78,6 +79,7 @@ first_early keywords.Result words = tt
 first_early keywords.Mark words = tt
 first_early keywords.Unmark words = tt
 first_early keywords.Raise words = tt
+first_early keywords.Checkpoint words = tt
 first_early keywords.Totals words = tt
 
 -- each statement that was read, if there is a script yet

@@ -62,7 +62,7 @@ return_at_the_end = refl
 channel_lines : run_script_of (after_memory (codes "submit 1 1+2 to 3+2 signal 255" ++ 10 ∷ codes "issue 1" ++ 10 ∷ codes "step 1" ++ 10 ∷ codes "step 1 1000000" ++ 10 ∷ codes "status 1 2" ++ 10 ∷ codes "result 2 1")) ≡ Ok (record { size = 64; channels = 1; statements = statements.Submit 1 (record { src = origins.List (record { addr = 1; len = 2 } ∷ []); dst = record { addr = 3; len = 2 } ∷ []; wait = None; signal = Some 255 }) ∷ statements.Issue 1 ∷ statements.Step 1 1 ∷ statements.Step 1 1000000 ∷ statements.Status 1 2 ∷ statements.Result 2 1 ∷ [] })
 channel_lines = refl
 
-other_lines : run_script_of (after_memory (codes "pause 1" ++ 10 ∷ codes "resume 2" ++ 10 ∷ codes "terminate 3" ++ 10 ∷ codes "mark read 1+2" ++ 10 ∷ codes "mark write 3+4" ++ 10 ∷ codes "unmark" ++ 10 ∷ codes "raise 255" ++ 10 ∷ codes "totals")) ≡ Ok (record { size = 64; channels = 1; statements = statements.Pause 1 ∷ statements.Resume 2 ∷ statements.Terminate 3 ∷ statements.Mark Reading (record { addr = 1; len = 2 }) ∷ statements.Mark Writing (record { addr = 3; len = 4 }) ∷ statements.Unmark ∷ statements.Raise 255 ∷ statements.Totals ∷ [] })
+other_lines : run_script_of (after_memory (codes "pause 1" ++ 10 ∷ codes "resume 2" ++ 10 ∷ codes "terminate 3" ++ 10 ∷ codes "mark read 1+2" ++ 10 ∷ codes "mark write 3+4" ++ 10 ∷ codes "unmark" ++ 10 ∷ codes "raise 255" ++ 10 ∷ codes "checkpoint" ++ 10 ∷ codes "totals")) ≡ Ok (record { size = 64; channels = 1; statements = statements.Pause 1 ∷ statements.Resume 2 ∷ statements.Terminate 3 ∷ statements.Mark Reading (record { addr = 1; len = 2 }) ∷ statements.Mark Writing (record { addr = 3; len = 4 }) ∷ statements.Unmark ∷ statements.Raise 255 ∷ statements.Checkpoint ∷ statements.Totals ∷ [] })
 other_lines = refl
 
 step_number_before_range : run_script_of (after_memory (codes "step 256 x")) ≡ Err (record { line = 2; cause = Number })

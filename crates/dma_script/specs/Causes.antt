@@ -207,6 +207,7 @@ operands_of keywords.Result words = two byte number words
 operands_of keywords.Mark words = kind_and_segment words
 operands_of keywords.Unmark words = bare words
 operands_of keywords.Raise words = one byte words
+operands_of keywords.Checkpoint words = bare words
 operands_of keywords.Totals words = bare words
 
 -- ---- what each kind of script asks

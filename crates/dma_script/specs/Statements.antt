@@ -36,7 +36,8 @@ keyword_of word =
     if bytes_eq word (codes "mark") then Some keywords.Mark else (
     if bytes_eq word (codes "unmark") then Some keywords.Unmark else (
     if bytes_eq word (codes "raise") then Some keywords.Raise else (
-    if bytes_eq word (codes "totals") then Some keywords.Totals else None))))))))))))))))
+    if bytes_eq word (codes "checkpoint") then Some keywords.Checkpoint else (
+    if bytes_eq word (codes "totals") then Some keywords.Totals else None)))))))))))))))))
 
 -- `memory SIZE CHANNELS`: a script with no line after it yet
 abbrev pub memory_line : List (List ℕ) → Result RunScript Cause
@@ -181,6 +182,9 @@ later_line keywords.Unmark words = do
 later_line keywords.Raise words = do
   event ← byte_alone words
   Ok (statements.Raise event)
+later_line keywords.Checkpoint words = do
+  none ← no_word words
+  Ok statements.Checkpoint
 later_line keywords.Totals words = do
   none ← no_word words
   Ok statements.Totals

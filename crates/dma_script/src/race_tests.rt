@@ -51,6 +51,7 @@ fn no_faults(rt: HostRuntime) -> Result<(), Fail> {
           mark read 0+1\n\
           unmark\n\
           raise 3\n\
+          checkpoint\n\
           totals",
         b"memory 64 1\njob 7 7 0\njob 0x0 07 0xFFFFFFFF\ngo\n",
         // Sixteen jobs, with another line among them.
@@ -82,7 +83,7 @@ fn no_faults(rt: HostRuntime) -> Result<(), Fail> {
 
 #[test]
 fn faults_of_the_sides(rt: HostRuntime) -> Result<(), Fail> {
-    let cases: [(&[u8], usize, Cause); 36] = [
+    let cases: [(&[u8], usize, Cause); 37] = [
         // No line at all, and no `go`, which is told after the faults of all lines.
         (b"", 0, Cause::First),
         (b"# go\n", 0, Cause::First),
@@ -114,6 +115,7 @@ fn faults_of_the_sides(rt: HostRuntime) -> Result<(), Fail> {
         (b"memory 64 1\nmark red\ngo", 2, Cause::Command),
         (b"memory 64 1\nunmark\ngo", 2, Cause::Command),
         (b"memory 64 1\nraise 300\ngo", 2, Cause::Command),
+        (b"memory 64 1\ncheckpoint\ngo", 2, Cause::Command),
         (b"memory 64 1\ntotals\ngo", 2, Cause::Command),
         // Lines that may not stand after it.
         (b"memory 64 1\ngo\ngo", 3, Cause::Command),

@@ -58,6 +58,8 @@ pub enum Keyword {
     Unmark,
     /// `raise E`
     Raise,
+    /// `checkpoint`
+    Checkpoint,
     /// `totals`
     Totals,
 }
@@ -154,6 +156,8 @@ pub enum Statement {
         /// The event.
         event: u8,
     },
+    /// Makes the present state the base from which the history begins.
+    Checkpoint,
     /// Asks for the counts of the whole run.
     Totals,
 }
@@ -244,6 +248,7 @@ pub(crate) fn keyword_in(word: &[u8]) -> Option<Keyword>
         _ if is_text(word, b"mark") => Some(Keyword::Mark),
         _ if is_text(word, b"unmark") => Some(Keyword::Unmark),
         _ if is_text(word, b"raise") => Some(Keyword::Raise),
+        _ if is_text(word, b"checkpoint") => Some(Keyword::Checkpoint),
         _ if is_text(word, b"totals") => Some(Keyword::Totals),
         _ => None,
     }
@@ -454,6 +459,10 @@ pub(crate) fn later_line(
         Keyword::Raise => Ok(Statement::Raise {
             event: byte_alone(words)?,
         }),
+        Keyword::Checkpoint => {
+            no_word(words)?;
+            Ok(Statement::Checkpoint)
+        }
         Keyword::Totals => {
             no_word(words)?;
             Ok(Statement::Totals)

@@ -183,7 +183,7 @@ fn faults_of_words(rt: HostRuntime) -> Result<(), Fail> {
 
 #[test]
 fn faults_of_channel_lines(rt: HostRuntime) -> Result<(), Fail> {
-    let cases: [(&[u8], Cause); 52] = [
+    let cases: [(&[u8], Cause); 54] = [
         (b"submit", Cause::Words),
         (b"submit 0", Cause::Words),
         (b"submit x 0+4 to 8+4 wait", Cause::Words),
@@ -235,6 +235,8 @@ fn faults_of_channel_lines(rt: HostRuntime) -> Result<(), Fail> {
         (b"raise", Cause::Words),
         (b"raise x", Cause::Number),
         (b"raise 300", Cause::Range),
+        (b"checkpoint 0", Cause::Words),
+        (b"checkpoints", Cause::Command),
         (b"totals totals", Cause::Words),
     ];
     for (line, cause) in cases {
@@ -311,7 +313,7 @@ fn statement_text(alloc: Global, line: &[u8]) -> Result<String, Fail> {
 
 #[test]
 fn each_statement(rt: HostRuntime) -> Result<(), Fail> {
-    let cases: [(&[u8], &str); 17] = [
+    let cases: [(&[u8], &str); 18] = [
         (b"read 0x1F+5", "Read(Segment { addr: 31, len: 5 })"),
         (b"issue 2", "Issue { ch: 2 }"),
         (b"pause 3", "Pause { ch: 3 }"),
@@ -334,6 +336,7 @@ fn each_statement(rt: HostRuntime) -> Result<(), Fail> {
         ),
         (b"unmark", "Unmark"),
         (b"raise 255", "Raise { event: 255 }"),
+        (b"checkpoint", "Checkpoint"),
         (b"totals", "Totals"),
         (
             b"submit 1 0+4 to 8+4 wait 3 signal 255",

@@ -3,7 +3,7 @@ use Rattle.std.proofs.Common.{◌≡◌, ℕ, ◌≤◌, ◌==◌, List, [], ◌
 use Rattle.std.specs.Prelude.{nat_lt}
 use Rattle.std.proofs.lemmas.Bool.{cases_eq, eq-eqb, ne_eqb, lt-ltb}
 use Rattle.std.proofs.lemmas.List.{get_or_past, set_past}
-use Rattle.dma_engine.specs.Ticks.{Tick, Submitted, Finished, Board, Counts, counts, no_counts, ticked, status_of}
+use Rattle.dma_engine.specs.Ticks.{Tick, Submitted, Finished, Board, Counts, board_after, counts, no_counts, ticked, status_of}
 use Rattle.dma_engine.specs.declared.turn.Status.TheVariants.{Unknown}
 use Rattle.dma_work.specs.Ticks.{board_from}
 use Rattle.dma_work.specs.inner.TickForms.{channel_of}
@@ -12,6 +12,11 @@ use Rattle.dma_work.specs.inner.TickForms.{channel_of}
 pub board_push : (base : Board) (ts : List Tick) (t : Tick) → board_from base (ts ++ t ∷ []) ≡ ticked (board_from base ts) t
 board_push b [] t = refl
 board_push b (x ∷ ts) t = board_push (ticked b x) ts t
+
+-- more ticks
+pub board-append : (b : Board) (xs ys : List Tick) → board_after b (xs ++ ys) ≡ board_after (board_after b xs) ys
+board-append b [] ys = refl
+board-append b (x ∷ xs) ys = board-append (ticked b x) xs ys
 
 -- a tick of a channel that the board has not
 pub ticked_past : (b : Board) (t : Tick) → length b ≤ channel_of t → ticked b t ≡ b

@@ -1,30 +1,16 @@
 -- How a published list begins.
 use Rattle.std.proofs.Common.{◌≡◌, ℕ, zero, suc, ◌+◌, ◌<◌, List, [], ◌∷◌, ◌++◌, take, length, refl, ap, sym, ◌∙◌, arith, add-one, append_assoc, inl, inr}
-use Rattle.std.specs.Prelude.{replicate, slice_index_or}
+use Rattle.std.specs.Prelude.{slice_index_or}
 use Rattle.std.proofs.lemmas.Bool.{cases_lt}
-use Rattle.std.proofs.lemmas.List.{get_or_past, get_or-replicate, length-replicate}
+use Rattle.std.proofs.lemmas.List.{get_or_past}
 use Rattle.dma_engine.specs.declared.entry.Entry.{Entry}
-use Rattle.dma_engine.specs.Ticks.{Counts, counts, no_counts, ticks_of}
-use Rattle.dma_engine.specs.View.{View, IsSound, channels}
+use Rattle.dma_engine.specs.Ticks.{Counts, board_of, counts, no_counts, ticks_of}
+use Rattle.dma_engine.specs.View.{View, IsSound}
 use Rattle.dma_engine.proofs.AnswerCounts.{ticks-append}
-use Rattle.dma_engine.proofs.CookieCounts.{boards_empty}
+use Rattle.dma_engine.proofs.CookieCounts.{boards_open}
 use Rattle.dma_work.specs.Laws.{AreCounts}
-use Rattle.dma_work.specs.Ticks.{base_of, eight}
-use Rattle.dma_work.specs.inner.TickForms.{no_counts_yet}
-
-none-there : (n ch : ℕ) → counts (replicate n no_counts) ch ≡ no_counts
-none-there n ch = elim (cases_lt ch n) [
-  | inl less ↦ get_or-replicate n ch no_counts no_counts less
-  | inr past ↦ get_or_past (replicate n no_counts) ch no_counts (omega (arith, length-replicate n no_counts))
-]
-
-eight-none : (n : ℕ) → eight (replicate n no_counts) ≡ no_counts_yet
-eight-none n =
-    rw (none-there n 0, none-there n 1, none-there n 2, none-there n 3, none-there n 4, none-there n 5, none-there n 6, none-there n 7) refl
-
--- no cookie is given where a history begins
-pub opens_empty : (v : View) → IsSound v → base_of v ≡ no_counts_yet
-opens_empty v h = ap eight (boards_empty v h) ∙ eight-none (channels v)
+use Rattle.dma_work.specs.Ticks.{base_of}
+use Rattle.dma_work.proofs.Desks.{counts-eight}
 
 -- the ticks of one entry more
 pub ticks_more : (es : List Entry) (i : ℕ) (d : Entry) → i < length es → ticks_of (take (i + 1) es) ≡ ticks_of (take i es) ++ ticks_of (slice_index_or es i d ∷ [])
@@ -34,5 +20,14 @@ ticks_more (e ∷ es) (suc i) d h =
     let rest = ticks_more es i d (omega arith) in
     rw add-one (ticks-append (e ∷ []) (take (suc i) es) ∙ ap (λ l. ticks_of (e ∷ []) ++ l) (rw add-one at rest) ∙ sym (append_assoc (ticks_of (e ∷ [])) (ticks_of (take i es)) (ticks_of (slice_index_or es i d ∷ []))) ∙ ap (λ l. l ++ ticks_of (slice_index_or es i d ∷ [])) (sym (ticks-append (e ∷ []) (take i es))))
 
-pub small_base : AreCounts no_counts_yet
-small_base ch = let none = none-there 8 ch in (omega (arith, ap (λ (c : Counts). c.used) none), omega (arith, ap (λ (c : Counts). c.finished) none))
+-- an engine's history begins with counts of 32 bits
+pub small_base : (v : View) → IsSound v → AreCounts (base_of v)
+small_base v h ch = elim (cases_lt ch 8) [
+  | inl less ↦
+      let at = counts-eight (board_of v.base) ch less in
+      let few = (boards_open v h).2 ch in
+      (omega (arith, ap (λ (c : Counts). c.used) at, few.0), omega (arith, ap (λ (c : Counts). c.finished) at, few.1))
+  | inr past ↦
+      let none : counts (base_of v) ch ≡ no_counts = get_or_past (base_of v) ch no_counts (omega arith) in
+      (omega (arith, ap (λ (c : Counts). c.used) none), omega (arith, ap (λ (c : Counts). c.finished) none))
+]

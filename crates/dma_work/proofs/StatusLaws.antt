@@ -1,5 +1,5 @@
 -- What a longer list of ticks keeps of statuses.
-use Rattle.std.proofs.Common.{◌≡◌, ◌≢◌, ℕ, ◌<◌, ◌≤◌, ◌==◌, List, [], ◌∷◌, ◌++◌, length, refl, ap, sym, ◌∙◌, subst, arith, inl, inr}
+use Rattle.std.proofs.Common.{◌≡◌, ◌≢◌, ℕ, ◌<◌, ◌≤◌, ◌==◌, List, [], ◌∷◌, length, ap, sym, ◌∙◌, subst, arith, inl, inr}
 use Rattle.std.specs.Prelude.{if◌then◌else◌, ◌||◌, nat_lt, nat_le, slice_set}
 use Rattle.std.proofs.lemmas.Grind.{common_steps}
 use Rattle.std.proofs.lemmas.Bool.{cases_eq, cases_lt}
@@ -9,6 +9,7 @@ use Rattle.dma_engine.specs.declared.turn.Status.{Status}
 use Rattle.dma_engine.specs.declared.turn.Status.TheVariants.{Unknown, InProgress, Complete}
 use Rattle.dma_work.specs.Laws.{AreCounts, StaysKnown, StaysComplete, ClosedIsComplete}
 use Rattle.dma_work.specs.Ticks.{StartsWith, board_from}
+use Rattle.dma_work.proofs.Boards.{board-append}
 
 -- the counts of a channel only grow
 record Grows (old new : Counts) : Type 0 where
@@ -55,10 +56,6 @@ after-grows b (t ∷ ts) h ch =
 after-counts : (b : Board) (ts : List Tick) → AreCounts b → AreCounts (board_after b ts)
 after-counts b [] h = h
 after-counts b (t ∷ ts) h = after-counts (ticked b t) ts (ticked-counts b t h)
-
-board-append : (b : Board) (xs ys : List Tick) → board_after b (xs ++ ys) ≡ board_after (board_after b xs) ys
-board-append b [] ys = refl
-board-append b (x ∷ xs) ys = board-append (ticked b x) xs ys
 
 -- in a longer list they are no less
 longer : (base : Board) (front all : List Tick) (ch : ℕ) → AreCounts base → StartsWith all front → Grows (counts (board_from base front) ch) (counts (board_from base all) ch)

@@ -16,8 +16,8 @@ pub record PartsState : Type 0 where
   pub base : Board
   pub log : Book
 
--- A desk: its engine, its book of totals, and the ticks that were published before those of the engine's history (none as
--- long as an engine keeps its whole history).
+-- A desk: its engine, its book of totals, and the ticks that were published before those of the engine's history (none
+-- before its first checkpoint).
 pub record DeskState : Type 0 where
   pub engine : EngineState
   pub book : Totals

@@ -1,10 +1,11 @@
 //! How many cookies of each channel are given, and how many finished.
 
-ghost use Rattle.std.specs.Prelude.{◌≡◌, replicate};
-ghost use Rattle.dma_engine.specs.Ticks.{counts, no_counts, status_of, ticked};
+ghost use Rattle.std.specs.Prelude.{◌≡◌};
+ghost use Rattle.dma_engine.specs.Ticks.{board_of, counts, status_of, ticked};
+ghost use Rattle.dma_work.specs.Ticks.{base_of};
 
 use crate::tick::{Change, Tick};
-use dma_engine::Status;
+use dma_engine::{Engine, Status};
 use std::marker::Model;
 
 // The counts of one channel. Contracts see them as the engine's own.
@@ -43,17 +44,34 @@ impl Model for Counts {
     ghost inverse = { λ b. record { channels = b } };
 }
 
-impl Counts {
-    /// Nothing was given.
-    pub(crate) fn new() -> Counts
-        ensures { result ≡ replicate 8 no_counts }
+impl ChannelCounts {
+    // Those with which an engine's history begins on a channel; none where there is no such channel.
+    fn at_base(engine: &Engine, ch: u8) -> ChannelCounts
+        ensures { result ≡ counts (board_of engine.now.view.base) ch }
     {
-        let none = ChannelCounts {
-            used: 0,
-            finished: 0,
-        };
+        ChannelCounts {
+            used: engine.used_at_base(ch),
+            finished: engine.forgotten(ch),
+        }
+    }
+}
+
+impl Counts {
+    /// Those with which an engine's history begins.
+    pub(crate) fn at_base(engine: &Engine) -> Counts
+        ensures { result ≡ base_of engine.now.view }
+    {
         Counts {
-            channels: [none; 8],
+            channels: [
+                ChannelCounts::at_base(engine, 0),
+                ChannelCounts::at_base(engine, 1),
+                ChannelCounts::at_base(engine, 2),
+                ChannelCounts::at_base(engine, 3),
+                ChannelCounts::at_base(engine, 4),
+                ChannelCounts::at_base(engine, 5),
+                ChannelCounts::at_base(engine, 6),
+                ChannelCounts::at_base(engine, 7),
+            ],
         }
     }
 

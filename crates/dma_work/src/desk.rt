@@ -1,6 +1,6 @@
 //! The desk: an engine, a book of totals, and the writer of what status readers see.
 
-ghost use Rattle.std.specs.Prelude.{◌≡◌, ◌+◌, ◌<◌, [], ◌∷◌, ◌++◌, IfOk, IfErr, IfSome, IsNone, is_none, OnOk, true};
+ghost use Rattle.std.specs.Prelude.{◌≡◌, ◌+◌, ◌<◌, [], ◌∷◌, ◌++◌, IfOk, IfErr, IfSome, IsNone, is_none, OnErr, OnOk, true};
 ghost use Rattle.dma_mem.specs.Rules.{IsTransfer};
 ghost use Rattle.dma_engine.specs.Answer.{CallAnswers, StepAnswers, checked, reply_of, submit_fault};
 ghost use Rattle.dma_engine.specs.Object.{channel, finished_all, used};
@@ -10,6 +10,7 @@ ghost use Rattle.dma_work.specs.Desk.{Names, SameBook, counted, published, stepp
 ghost use Rattle.dma_work.specs.Laws.{AreCounts};
 ghost use Rattle.dma_work.specs.Ticks.{AreFinished, IsGiven, base_of, board_from};
 
+use crate::log::Front;
 use crate::names::DeskName;
 use crate::parts::Parts;
 use crate::publisher::Publisher;
@@ -30,25 +31,27 @@ pub use tally::Tally;
 /// The value behind the lock: an engine, a book of what was done through the desk, and the writer of what status readers
 /// see.
 ///
-/// Its type keeps that what is published is the ticks of the engine's history, with none pending, and that the book is the
-/// rise of the engine's step count and finished cookies over those that N names.
+/// Its type keeps that what is published ends with the ticks of the engine's history, with none pending, that what stands
+/// before them adds up to the counts from which that history begins, and that the book is the rise of the engine's step
+/// count and finished cookies over those that N names.
 pub struct Desk<N: DeskName> {
     engine: Engine,
     publisher: Publisher,
+    // what was published before the history's own ticks
+    before: Front,
     book: Totals,
     of: PhantomData<N>,
 }
 
 impl<N: DeskName> Model for Desk<N> {
-    ghost use Rattle.std.specs.Prelude.{[]};
     ghost use Rattle.dma_work.specs.Desk.{DeskState};
     ghost use Rattle.dma_work.specs.inner.DeskKept.{IsKept};
 
     ghost Value = { DeskState };
 
-    ghost view = { λ d. record { engine = d.engine; book = d.book; before = [] } };
+    ghost view = { λ d. record { engine = d.engine; book = d.book; before = d.before.ticks } };
 
-    ghost invariant = { λ d. IsKept N.steps N.finished N.base N.log [] d.engine d.publisher d.book };
+    ghost invariant = { λ d. IsKept N.steps N.finished N.base N.log d.before.ticks d.engine d.publisher d.book };
 }
 
 impl<N: DeskName> Desk<N> {
@@ -57,10 +60,15 @@ impl<N: DeskName> Desk<N> {
         requires { Names N.steps N.finished N.base N.log parts }
         ensures { result ≡ record { engine = parts.engine; book = record { steps = 0; finished = 0; terminated = 0 }; before = [] } }
     {
-        let Parts { engine, publisher } = parts;
+        let Parts {
+            engine,
+            publisher,
+            before,
+        } = parts;
         Desk {
             engine,
             publisher,
+            before,
             book: Totals {
                 steps: 0,
                 finished: 0,
@@ -190,6 +198,22 @@ impl<N: DeskName> Desk<N> {
         self.engine.raise(event)
     }
 
+    /// As [`Engine::checkpoint`]. It publishes nothing and leaves the book as it was, so that what readers were told stays
+    /// true. What was published then stands before the ticks of the new history.
+    pub fn checkpoint(&mut self) -> Result<(), EngineFault>
+        ensures answer { CallAnswers self.old.engine.view Call.Checkpoint (reply_of (λ _. Reply.Done) result) self.new.engine.view }
+        ensures book { self.new.book ≡ self.old.book }
+        ensures published { published self.new ≡ published self.old }
+        ensures before { IfOk result (λ _. self.new.before ≡ published self.old) }
+        ensures same { OnErr result (self.new ≡ self.old) }
+    {
+        // opens to the proof what the engine's type keeps
+        let _history = self.engine.history();
+        self.engine.checkpoint()?;
+        self.before = self.publisher.front();
+        Ok(())
+    }
+
     // A step, unless it would end the front: then the answer is none, and nothing changes. It publishes nothing.
     fn step_on(&mut self, ch: u8) -> Option<Result<Turn, EngineFault>>
         ensures answer { IfSome result (λ answer. StepAnswers self.old.engine.view ch answer self.new.engine.view) }
@@ -223,10 +247,9 @@ impl<N: DeskName> Desk<N> {
         let Ok(turn) = self.engine.step(ch) else {
             unreachable!();
         };
-        // bound the book and the number of ticks to the proof
+        // bound the book to the proof
         let _steps = self.engine.steps();
         let _finished = self.engine.finished_all();
-        let _entries = self.engine.history().len();
         self.book.steps += 1;
         self.book.finished += 1;
         self.publisher.publish(rt, tick);
@@ -278,8 +301,8 @@ impl<N: DeskName> Desk<N> {
         let Ok(cookie) = self.engine.submit(ch, transfer) else {
             unreachable!();
         };
-        // bounds the number of ticks to the proof
-        let _entries = self.engine.history().len();
+        // opens to the proof what the engine's type keeps
+        let _history = self.engine.history();
         let told = self.publisher.publish(rt, tick);
         Ok(receipt(ch, cookie, Ticket::new(told)))
     }
@@ -304,8 +327,8 @@ impl<N: DeskName> Desk<N> {
         let Ok(count) = self.engine.terminate(ch) else {
             unreachable!();
         };
-        // bound the number of ticks and the book to the proof
-        let _entries = self.engine.history().len();
+        // open to the proof what the engine's type keeps, and bound the book
+        let _history = self.engine.history();
         let _finished = self.engine.finished_all();
         self.book.terminated += u64::from(count);
         let told = self.publisher.publish(rt, tick);
@@ -325,6 +348,7 @@ impl<N: DeskName> Desk<N> {
         let Desk {
             engine,
             publisher,
+            before: _,
             book,
             of: _,
         } = self;

@@ -8,10 +8,10 @@ ghost use Rattle.dma_work.specs.Known.{Known};
 ghost use Rattle.dma_work.specs.inner.Seen.{known_by};
 ghost use Rattle.dma_work.specs.inner.Posted.{reached};
 ghost use Rattle.dma_work.specs.Ticks.{base_of, board_from};
-ghost use Rattle.dma_work.specs.inner.TickForms.{no_counts_yet, those};
+ghost use Rattle.dma_work.specs.inner.TickForms.{those};
 
 use crate::counts::Counts;
-use crate::log::TickLog;
+use crate::log::{Front, TickLog};
 use crate::publisher::Publisher;
 use crate::reader::StatusReader;
 use crate::tick::Tick;
@@ -28,12 +28,15 @@ pub const MAX_READERS: usize = 8;
 pub struct Parts {
     pub(crate) engine: Engine,
     pub(crate) publisher: Publisher,
+    // the log as it was before the ticks of the history
+    pub(crate) before: Front,
 }
 
 impl Model for Parts {
     ghost use Rattle.std.specs.Prelude.{◌≡◌, []};
     ghost use Rattle.dma_engine.specs.Ticks.{ticks_of};
     ghost use Rattle.dma_work.specs.Desk.{PartsState};
+    ghost use Rattle.dma_work.specs.Laws.{AreCounts};
     ghost use Rattle.dma_work.specs.Ticks.{base_of};
 
     ghost Value = { PartsState };
@@ -43,7 +46,9 @@ impl Model for Parts {
     ghost invariant = { λ p.
         (p.publisher.shown.ticks ≡ ticks_of p.engine.view.history)
         × (p.publisher.shown.base ≡ base_of p.engine.view)
-        × (p.publisher.pending ≡ []) };
+        × (p.publisher.pending ≡ [])
+        × (p.before.ticks ≡ [])
+        × AreCounts p.publisher.shown.base };
 }
 
 /// Why no parts were made.
@@ -91,18 +96,26 @@ impl Parts {
             });
         }
         let mut log = TickLog::new();
-        let counts = record_all(rt, &mut log, &engine);
+        let before = log.front().again();
+        let base = Counts::at_base(&engine);
+        let counts = record_all(rt, &mut log, base, &engine);
         let told = Told::whole(log.front());
         let places = readers.max(1);
-        let Some(mut publisher) = Publisher::new(rt, alloc, Counts::new(), counts, log, places)
-        else {
+        let Some(mut publisher) = Publisher::new(rt, alloc, base, counts, log, places) else {
             return Err(ShareFault {
                 fault: ShareFaultKind::NoMemory,
                 engine,
             });
         };
         match readers_of(alloc, &mut publisher, &told, readers) {
-            Ok(readers) => Ok((Parts { engine, publisher }, readers)),
+            Ok(readers) => {
+                let parts = Parts {
+                    engine,
+                    publisher,
+                    before,
+                };
+                Ok((parts, readers))
+            }
             Err(fault) => {
                 publisher.end(rt);
                 Err(ShareFault { fault, engine })
@@ -123,13 +136,11 @@ fn tick_of(entry: &Entry) -> Option<Tick>
     }
 }
 
-// Records the tick of an entry, if it has one.
-#[tactic(auto, using(crate::proofs::Boards::board_push))]
+// Records the tick of an entry, if it has one, and adds it to the counts.
 fn record_one<R: Wait>(rt: &R, log: &mut TickLog, counts: &mut Counts, entry: &Entry)
-    requires few { length log.old.ticks < 18446744073709551615 }
-    requires counts { counts.old ≡ board_from no_counts_yet log.old.ticks }
+    requires { length log.old.ticks < 18446744073709551615 }
     ensures log { log.new ≡ record { log = log.old.log; ticks = log.old.ticks ++ ticks_of (entry.now ∷ []) } }
-    ensures counts { counts.new ≡ board_from no_counts_yet log.new.ticks }
+    ensures counts { counts.new ≡ board_from counts.old (ticks_of (entry.now ∷ [])) }
 {
     if let Some(tick) = tick_of(entry) {
         log.record(rt, tick);
@@ -137,14 +148,14 @@ fn record_one<R: Wait>(rt: &R, log: &mut TickLog, counts: &mut Counts, entry: &E
     }
 }
 
-// Records the ticks of the engine's history, and answers the counts that they add up to.
-fn record_all<R: Wait>(rt: &R, log: &mut TickLog, engine: &Engine) -> Counts
+// Records the ticks of the engine's history, and answers the counts that they add up to from these on.
+fn record_all<R: Wait>(rt: &R, log: &mut TickLog, base: Counts, engine: &Engine) -> Counts
     requires { log.old.ticks ≡ [] }
     ensures log { log.new ≡ record { log = log.old.log; ticks = ticks_of engine.now.view.history } }
-    ensures counts { result ≡ board_from (base_of engine.now.view) log.new.ticks }
-    ensures base { base_of engine.now.view ≡ no_counts_yet }
+    ensures counts { result ≡ board_from base log.new.ticks }
+    ensures small { AreCounts (base_of engine.now.view) }
 {
-    let mut counts = Counts::new();
+    let mut counts = base;
     let history = engine.history();
     for index in 0..history.len() {
         record_one(rt, log, &mut counts, &history[index]);

@@ -8,7 +8,7 @@ ghost use Rattle.dma_work.specs.Ticks.{board_from};
 
 use crate::board::Board;
 use crate::counts::Counts;
-use crate::log::TickLog;
+use crate::log::{Front, TickLog};
 use crate::rule::{BoardReader, BoardWriter, Look};
 use crate::tick::Tick;
 use crate::ticket::Told;
@@ -105,12 +105,23 @@ impl Publisher {
         Ok(reader)
     }
 
-    /// Makes ready to publish one tick more, and says whether there was memory for it.
+    /// All ticks of the log.
+    pub(crate) fn front(&self) -> Front
+        ensures { result ≡ reached (self.now.shown) }
+    {
+        self.log.front().again()
+    }
+
+    /// Makes ready to publish one tick more, and says whether there was memory for it. There is none for tick number 2^64 - 1.
     pub(crate) fn ready(&mut self, tick: Tick) -> bool
         requires { self.old.pending ≡ [] }
+        ensures few { IsTrue result → length self.new.shown.ticks < 18446744073709551615 }
         ensures ready { IsTrue result → self.new ≡ record { shown = self.old.shown; pending = with_ticks self.old.shown (tick ∷ []) ∷ [] } }
         ensures not { result ≡ false → self.new ≡ self.old }
     {
+        if self.log.front().len() == u64::MAX {
+            return false;
+        }
         let next = self.writer.published().next(self.log.front(), tick);
         self.writer.append(next).is_ok()
     }

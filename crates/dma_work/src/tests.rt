@@ -1,6 +1,6 @@
 //! Threads, gates, and each call with ample memory.
 
-ghost use Rattle.std.specs.Prelude.{◌≡◌, ◌<◌, IfSome};
+ghost use Rattle.std.specs.Prelude.{◌≡◌, ◌<◌, IfOk, IfSome};
 ghost use Rattle.std.specs.List.{All};
 ghost use Rattle.dma_work.specs.Desk.{Names};
 ghost use Rattle.dma_work.specs.Known.{Known};
@@ -54,6 +54,22 @@ fn two_copies(alloc: Global) -> Result<Engine, Fail> {
         engine.issue(ch)?;
     }
     Ok(engine)
+}
+
+// These parts and their readers, or a failure: by a function of its own, so that what the readers know is found at once.
+fn shared_out<R: Wait>(
+    rt: &R,
+    alloc: Global,
+    engine: Engine,
+    readers: usize,
+) -> Result<(Parts, Vec<StatusReader>), Fail>
+    ensures engine { IfOk result (λ r. r.0.engine ≡ engine) }
+    ensures readers { IfOk result (λ r. All (λ (s : Known). (s.log ≡ r.0.log) × (s.base ≡ r.0.base)) r.1.items) }
+{
+    match Parts::new(rt, alloc, engine, readers) {
+        Ok(made) => Ok(made),
+        Err(_) => Err(Fail::from("no parts")),
+    }
 }
 
 // The last of the readers of this list.
@@ -211,8 +227,7 @@ fn a_day_at_the_desk(rt: HostRuntime) -> Result<(), Fail> {
     let engine = Engine::new(alloc, 0x400, 2)?;
     let copies = both_copies(alloc)?;
     let job = Job::new(0, 0, 9).ok_or("no job")?;
-    let made = Parts::new(&rt, alloc, engine, 1);
-    let (parts, readers) = made.map_err(|_fault| "no parts")?;
+    let (parts, readers) = shared_out(&rt, alloc, engine, 1)?;
     let (day, last) = whole_day::<Brand, _>(&rt, alloc, parts, readers, copies, job);
     let totals = Totals {
         steps: 8,
@@ -368,8 +383,7 @@ const BOTH_DONE: Done = Done {
 #[test]
 fn a_worker_waits_for_the_other_ones_second_turn(rt: HostRuntime) -> Result<(), Fail> {
     let jobs = nine_turns_each()?;
-    let made = Parts::new(&rt, rt.alloc(), two_copies(rt.alloc())?, 0);
-    let (parts, _readers) = made.map_err(|_fault| "no parts")?;
+    let (parts, _readers) = shared_out(&rt, rt.alloc(), two_copies(rt.alloc())?, 0)?;
     let gate = SecondTurn {
         entered: Mutex::new([false; 2]),
         met: Mutex::new(false),
@@ -384,8 +398,7 @@ fn a_worker_waits_for_the_other_ones_second_turn(rt: HostRuntime) -> Result<(), 
 #[test]
 fn two_workers_meet_in_their_first_turns(rt: HostRuntime) -> Result<(), Fail> {
     let jobs = nine_turns_each()?;
-    let made = Parts::new(&rt, rt.alloc(), two_copies(rt.alloc())?, 0);
-    let (parts, _readers) = made.map_err(|_fault| "no parts")?;
+    let (parts, _readers) = shared_out(&rt, rt.alloc(), two_copies(rt.alloc())?, 0)?;
     let gate = BothThere {
         there: Mutex::new([false; 2]),
         met: Mutex::new([false; 2]),
@@ -400,8 +413,7 @@ fn two_workers_meet_in_their_first_turns(rt: HostRuntime) -> Result<(), Fail> {
 #[test]
 fn a_gate_is_called_with_each_turn(rt: HostRuntime) -> Result<(), Fail> {
     let jobs = nine_turns_each()?;
-    let made = Parts::new(&rt, rt.alloc(), two_copies(rt.alloc())?, 8);
-    let (parts, readers) = made.map_err(|_fault| "no parts")?;
+    let (parts, readers) = shared_out(&rt, rt.alloc(), two_copies(rt.alloc())?, 8)?;
     let gate = Turns {
         last: Mutex::new([0; 2]),
         wrong: Mutex::new(false),
@@ -419,8 +431,7 @@ fn a_gate_is_called_with_each_turn(rt: HostRuntime) -> Result<(), Fail> {
 fn two_workers_share_two_channels(rt: HostRuntime) -> Result<(), Fail> {
     let first = Job::new(0, 1, 20).ok_or("no job")?;
     let second = Job::new(0, 1, 20).ok_or("no job")?;
-    let made = Parts::new(&rt, rt.alloc(), two_copies(rt.alloc())?, 0);
-    let (parts, _readers) = made.map_err(|_fault| "no parts")?;
+    let (parts, _readers) = shared_out(&rt, rt.alloc(), two_copies(rt.alloc())?, 0)?;
     let done = through_gate::<Brand, _, _>(&rt, rt.alloc(), parts, [first, second], &NoGate);
     let wanted = Done {
         turns: [20, 20],
@@ -465,8 +476,7 @@ fn without_the_second<N: DeskName + Send + Sync, R: Threads + Wait + Sync>(
 #[test]
 fn settling_wants_the_tally_of_each_step(rt: HostRuntime) -> Result<(), Fail> {
     let jobs = nine_turns_each()?;
-    let made = Parts::new(&rt, rt.alloc(), two_copies(rt.alloc())?, 0);
-    let (parts, _readers) = made.map_err(|_fault| "no parts")?;
+    let (parts, _readers) = shared_out(&rt, rt.alloc(), two_copies(rt.alloc())?, 0)?;
     let found = without_the_second::<Brand, _>(&rt, rt.alloc(), parts, jobs);
     assert_eq!(rt; found, (None, Some((BOTH_DONE.totals, 1))));
     Ok(())
@@ -477,8 +487,7 @@ fn settling_wants_no_tally_of_a_worker_that_did_nothing(rt: HostRuntime) -> Resu
     let first = Job::new(0, 0, 9).ok_or("no job")?;
     // there is no channel 7
     let second = Job::new(7, 7, 3).ok_or("no job")?;
-    let made = Parts::new(&rt, rt.alloc(), two_copies(rt.alloc())?, 0);
-    let (parts, _readers) = made.map_err(|_fault| "no parts")?;
+    let (parts, _readers) = shared_out(&rt, rt.alloc(), two_copies(rt.alloc())?, 0)?;
     let found = without_the_second::<Brand, _>(&rt, rt.alloc(), parts, [first, second]);
     let totals = Totals {
         steps: 8,
@@ -504,8 +513,7 @@ fn closed_after_a_submit<N: DeskName, R: Wait>(rt: &R, parts: Parts, transfer: T
 #[test]
 fn closing_answers_the_engine(rt: HostRuntime) -> Result<(), Fail> {
     let transfer = copy_of_four(rt.alloc(), 0x200)?;
-    let made = Parts::new(&rt, rt.alloc(), Engine::new(rt.alloc(), 0x400, 2)?, 0);
-    let (parts, _readers) = made.map_err(|_fault| "no parts")?;
+    let (parts, _readers) = shared_out(&rt, rt.alloc(), Engine::new(rt.alloc(), 0x400, 2)?, 0)?;
     let engine = closed_after_a_submit::<Brand, _>(&rt, parts, transfer);
     assert_eq!(rt; engine.used(0), 1);
     assert_eq!(rt; engine.unfinished(0), 1);
@@ -618,8 +626,7 @@ fn a_reader_asks_while_workers_run(rt: HostRuntime) -> Result<(), Fail> {
     let first = copy_of_four(alloc, 0x200)?;
     let second = copy_of_four(alloc, 0x300)?;
     let jobs = nine_turns_each()?;
-    let made = Parts::new(&rt, alloc, Engine::new(alloc, 0x400, 2)?, 1);
-    let (parts, readers) = made.map_err(|_fault| "no parts")?;
+    let (parts, readers) = shared_out(&rt, alloc, Engine::new(alloc, 0x400, 2)?, 1)?;
     let seen = watch::<Brand, _>(&rt, alloc, parts, readers, first, second, jobs);
     let wanted = Watched {
         before: Some(Status::InProgress),
@@ -630,5 +637,139 @@ fn a_reader_asks_while_workers_run(rt: HostRuntime) -> Result<(), Fail> {
         after: Some(Status::Complete),
     };
     assert_eq!(rt; seen, Some(wanted));
+    Ok(())
+}
+
+// ---- a checkpoint
+
+// What a reader was told of cookie 1 before a checkpoint and after it, the cookie that was given then, and how many entries
+// and forgotten cookies there were.
+#[derive(Clone, Copy, PartialEq, Eq, Debug)]
+struct Checkpointed {
+    before: Option<Status>,
+    is_done: bool,
+    entries: usize,
+    forgotten: u32,
+    after: Option<Status>,
+    next: u32,
+    given: Option<Status>,
+}
+
+fn around_a_checkpoint<N: DeskName, R: Wait>(
+    rt: &R,
+    parts: Parts,
+    readers: Vec<StatusReader>,
+    second: Transfer,
+) -> Option<Checkpointed>
+    requires parts { Names N.steps N.finished N.base N.log parts }
+    requires readers { All (λ (r : Known). (r.log ≡ N.log) × (r.base ≡ N.base)) readers.items }
+{
+    let shared = Shared::<N>::new(parts);
+    let Some(mut reader) = one_of::<N>(readers) else {
+        drop(shared.close(rt));
+        return None;
+    };
+    let before = reader.status(0, 1);
+    let mut desk = shared.desk().lock(rt);
+    let is_done = desk.checkpoint().is_ok();
+    let entries = desk.engine().history().len();
+    let forgotten = desk.engine().forgotten(0);
+    MutexGuard::unlock(desk);
+    let after = reader.status(0, 1);
+    let next = submitted(rt, &shared, &mut reader, 0, second);
+    let given = reader.status(0, next);
+    drop(shared.close(rt));
+    Some(Checkpointed {
+        before,
+        is_done,
+        entries,
+        forgotten,
+        after,
+        next,
+        given,
+    })
+}
+
+#[test]
+fn a_status_stays_over_a_checkpoint(rt: HostRuntime) -> Result<(), Fail> {
+    let alloc = rt.alloc();
+    let mut engine = Engine::new(alloc, 0x400, 1)?;
+    let Ok(_cookie) = engine.submit(0, copy_of_four(alloc, 0x200)?) else {
+        return Err(Fail::from("submit was refused"));
+    };
+    engine.issue(0)?;
+    for _ in 0..9 {
+        engine.step(0)?;
+    }
+    let second = copy_of_four(alloc, 0x300)?;
+    let (parts, readers) = shared_out(&rt, alloc, engine, 1)?;
+    let told = around_a_checkpoint::<Brand, _>(&rt, parts, readers, second);
+    let wanted = Checkpointed {
+        before: Some(Status::Complete),
+        is_done: true,
+        entries: 0,
+        forgotten: 1,
+        after: Some(Status::Complete),
+        next: 2,
+        given: Some(Status::InProgress),
+    };
+    assert_eq!(rt; told, Some(wanted));
+    Ok(())
+}
+
+// What a reader is told of an engine that was made into parts after a checkpoint and a submit: of the cookie that the
+// checkpoint forgot, of the one given since, and of the next.
+#[derive(Clone, Copy, PartialEq, Eq, Debug)]
+struct OverABase {
+    forgotten: Option<Status>,
+    submitted: Option<Status>,
+    not_given: Option<Status>,
+}
+
+fn told_over_a_base<N: DeskName, R: Wait>(
+    rt: &R,
+    parts: Parts,
+    readers: Vec<StatusReader>,
+) -> Option<OverABase>
+    requires parts { Names N.steps N.finished N.base N.log parts }
+    requires readers { All (λ (r : Known). (r.log ≡ N.log) × (r.base ≡ N.base)) readers.items }
+{
+    let shared = Shared::<N>::new(parts);
+    let Some(mut reader) = one_of::<N>(readers) else {
+        drop(shared.close(rt));
+        return None;
+    };
+    let told = OverABase {
+        forgotten: reader.status(0, 1),
+        submitted: reader.status(0, 2),
+        not_given: reader.status(0, 3),
+    };
+    drop(shared.close(rt));
+    Some(told)
+}
+
+#[test]
+fn parts_of_an_engine_with_a_base(rt: HostRuntime) -> Result<(), Fail> {
+    let alloc = rt.alloc();
+    let mut engine = Engine::new(alloc, 0x400, 1)?;
+    let Ok(_cookie) = engine.submit(0, copy_of_four(alloc, 0x200)?) else {
+        return Err(Fail::from("submit was refused"));
+    };
+    engine.issue(0)?;
+    for _ in 0..9 {
+        engine.step(0)?;
+    }
+    engine.checkpoint()?;
+    let Ok(_cookie) = engine.submit(0, copy_of_four(alloc, 0x300)?) else {
+        return Err(Fail::from("submit was refused"));
+    };
+    let (parts, readers) = shared_out(&rt, alloc, engine, 1)?;
+    let told = told_over_a_base::<Brand, _>(&rt, parts, readers);
+    let wanted = OverABase {
+        forgotten: Some(Status::Complete),
+        submitted: Some(Status::InProgress),
+        not_given: Some(Status::Unknown),
+    };
+    assert_eq!(rt; told, Some(wanted));
     Ok(())
 }

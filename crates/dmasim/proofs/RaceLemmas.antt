@@ -22,7 +22,7 @@ use Rattle.dma_script.specs.Race.{IsEarly, race_script_of}
 use Rattle.dma_script.specs.declared.fault.Fault.{Fault}
 use Rattle.dma_script.specs.declared.race.RaceScript.{RaceScript}
 use Rattle.dma_script.specs.declared.statements.Statement.{Statement}
-use Rattle.dma_script.specs.declared.statements.Statement.TheVariants.{Write, Read, Copy, Fill, Submit, Issue, Pause, Resume, Terminate, Step, Status, Result as Outcome, Mark, Unmark, Raise, Totals}
+use Rattle.dma_script.specs.declared.statements.Statement.TheVariants.{Write, Read, Copy, Fill, Submit, Issue, Pause, Resume, Terminate, Step, Status, Result as Outcome, Mark, Unmark, Raise, Checkpoint, Totals}
 use Rattle.dma_commands.specs.Printed.{call_line, refused_line, transfer_fault_name}
 use Rattle.dma_commands.specs.Run.{Answered, call_answer, lines_answered, unless_unfit}
 use Rattle.dma_commands.specs.Transfers.{transfer_of}
@@ -87,6 +87,7 @@ early_some (Outcome ch cookie) early = (of_call (calls.Result ch cookie), (some_
 early_some (Mark kind segment) early = absurd early
 early_some Unmark early = absurd early
 early_some (Raise event) early = absurd early
+early_some Checkpoint early = absurd early
 early_some Totals early = absurd early
 
 -- ---- the lines before `go`

@@ -52,6 +52,36 @@ fn two_jobs_and_two_channels(rt: HostRuntime) -> Result<(), Fail> {
 }
 
 #[test]
+fn a_checkpoint_after_the_jobs(rt: HostRuntime) -> Result<(), Fail> {
+    let ran = race(
+        &rt,
+        rt.alloc(),
+        b"memory 0x400 1\n\
+          submit 0 0x100+4 to 0x200+4\n\
+          issue 0\n\
+          job 0 0 9\n\
+          go\n\
+          checkpoint\n\
+          result 0 1\n\
+          status 0 1\n\
+          totals",
+    );
+    assert_ran(
+        &rt,
+        &ran,
+        0,
+        b"cookie 1\n\
+          issued 1\n\
+          go steps 8 finished 1\n\
+          ok\n\
+          result none\n\
+          status Complete\n\
+          totals entries 0 steps 8 running 0\n",
+    );
+    Ok(())
+}
+
+#[test]
 fn two_jobs_over_both_channels(rt: HostRuntime) -> Result<(), Fail> {
     let ran = race(
         &rt,

@@ -1,5 +1,5 @@
--- Transfers found in a history.
-use Rattle.std.specs.Prelude.{ℕ, if◌then◌else◌, nat_lt, Option, Some, None, List, length, slice_get, slice_index}
+-- Transfers found in a base and in a history.
+use Rattle.std.specs.Prelude.{ℕ, ◌-◌, if◌then◌else◌, nat_lt, Option, Some, None, List, ◌++◌, length, map, slice_get, slice_index}
 use Rattle.dma_mem.specs.Places.{Descriptor}
 use Rattle.dma_engine.specs.declared.entry.Entry.{Entry}
 use Rattle.dma_engine.specs.declared.entry.Entry.TheVariants.{Submitted}
@@ -15,13 +15,23 @@ transfer_of _ = no_transfer
 abbrev pub transfer_in : List Entry → ℕ → Descriptor
 transfer_in history index = transfer_of (slice_get history index)
 
--- the transfer and the cookie that an entry gives to a channel
-abbrev pub given_by : Option Entry → Option (Descriptor × ℕ)
-given_by (Some (Submitted ch t cookie)) = Some (t, cookie)
+-- the transfers of all cookies that aren't forgotten: those that the base has of the channel, and those whose entries stand
+-- at these indices of the history
+abbrev pub transfers_in : List Descriptor → List Entry → List ℕ → List Descriptor
+transfers_in kept history indices = kept ++ map (transfer_in history) indices
+
+-- the transfer that an entry gives to a channel, if it gives one
+abbrev pub given_by : Option Entry → Option Descriptor
+given_by (Some (Submitted ch t cookie)) = Some t
 given_by _ = None
 
--- the issued front of a queue with its cookie, by its entry in the history
-abbrev pub front_in : Queue → List Entry → Option (Descriptor × ℕ)
-front_in q history =
+-- the transfer of a cookie that isn't forgotten, counted from 0
+abbrev pub transfer_at : List Descriptor → List Entry → List ℕ → ℕ → Option Descriptor
+transfer_at kept history indices n =
+    if nat_lt n (length kept) then slice_get kept n else given_by (slice_get history (slice_index indices (n - length kept)))
+
+-- the issued front of a queue
+abbrev pub front_in : Queue → List Descriptor → List Entry → Option Descriptor
+front_in q kept history =
     let finished = length q.outcomes.items in
-    if nat_lt finished q.issued then given_by (slice_get history (slice_index q.indices.items finished)) else None
+    if nat_lt finished (q.issued - q.forgotten) then transfer_at kept history q.indices.items finished else None

@@ -1,5 +1,5 @@
 -- What an engine keeps: its parts are what its view says.
-use Rattle.std.specs.Prelude.{◌≡◌, ℕ, ◌+◌, ◌<◌, Bool, false, Option, Some, None, List, [], length, map, slice_get, slice_index, slice_index_or, IfSome, IsSomeAnd}
+use Rattle.std.specs.Prelude.{◌≡◌, ℕ, ◌+◌, ◌<◌, Bool, false, Option, Some, None, List, [], length, map, take, slice_get, slice_index, slice_index_or, IfSome, IsSomeAnd}
 use Rattle.std.specs.Option.{option_map}
 use Rattle.dma_chan.specs.Channel.{ChannelValue, loaded, unloaded as no_program}
 use Rattle.dma_chan.specs.Compiled.{compiled}
@@ -11,7 +11,7 @@ use Rattle.dma_engine.specs.declared.entry.Entry.{Entry}
 use Rattle.dma_engine.specs.declared.entry.Entry.TheVariants.{Submitted}
 use Rattle.dma_engine.specs.declared.queue.Queue.{Queue}
 use Rattle.dma_engine.specs.declared.ranges.Ranges.{Ranges}
-use Rattle.dma_engine.specs.Object.{ChannelState, channel, front, no_transfer, opening, used}
+use Rattle.dma_engine.specs.Object.{Object, ChannelState, channel, front, no_transfer, used}
 use Rattle.dma_engine.specs.inner.Ranges.{AreOfRunning}
 use Rattle.dma_engine.specs.View.{View, ChannelSchedule, RunningTransfer, IsSound, object_of, memory_of, runs}
 
@@ -23,6 +23,7 @@ pub record Parts : Type 0 where
   pub events : List Bool
   pub marks : MarkList
   pub queues : List Queue
+  pub base : Object
   pub history : List Entry
   pub steps : ℕ
 
@@ -38,7 +39,7 @@ schedule_of q = record { paused = q.paused; taken = taken_of q.channel }
 abbrev pub view_of : Parts → View
 view_of p =
     record {
-      base = opening p.size (length p.queues);
+      base = p.base;
       history = p.history;
       steps = p.steps;
       schedule = map schedule_of p.queues;
@@ -48,6 +49,8 @@ view_of p =
 abbrev pub new_queue : Queue
 new_queue =
     record {
+      forgotten = 0;
+      given = 0;
       indices = record { items = []; spare = 0 };
       outcomes = record { items = []; spare = 0 };
       issued = 0;
@@ -65,12 +68,25 @@ queue_started q t r = record q { channel = loaded (compiled t); ranges = Some r 
 abbrev pub IsRun : List ℕ → ChannelValue → ChannelState → Type 0
 IsRun memory m c = IfSome m.program (λ _. IsSomeAnd (front c) (λ t. IsAt t m.taken memory m))
 
--- A queue is what the object knows of its channel; its indices are those of the channel's Submitted entries.
-pub record IsQueue (ch : ℕ) (history : List Entry) (memory : List ℕ) (q : Queue) (c : ChannelState) : Type 0 where
-  pub many : length q.indices.items ≡ used c
-  pub stands : (k : ℕ) → k < used c →
-      slice_get history (slice_index q.indices.items k)
-      ≡ Some (Submitted ch (slice_index_or c.submitted k no_transfer) (k + 1))
+-- a queue after a checkpoint
+abbrev pub queue_forgotten : Queue → Queue
+queue_forgotten q =
+    record q {
+      forgotten = q.forgotten + length q.outcomes.items;
+      indices = record { items = []; spare = 0 };
+      outcomes = record { items = []; spare = 0 };
+    }
+
+-- A queue is what the object knows of its channel: first come the transfers that the base has of it; the indices are those
+-- of the Submitted entries of the others.
+pub record IsQueue (ch : ℕ) (kept : List Descriptor) (history : List Entry) (memory : List ℕ) (q : Queue) (c : ChannelState) : Type 0 where
+  pub forgotten : q.forgotten ≡ c.forgotten
+  pub given : q.given ≡ used c
+  pub many : length c.submitted ≡ length kept + length q.indices.items
+  pub first : take (length kept) c.submitted ≡ kept
+  pub stands : (k : ℕ) → k < length q.indices.items →
+      (cookie : ℕ) × (slice_get history (slice_index q.indices.items k)
+      ≡ Some (Submitted ch (slice_index_or c.submitted (length kept + k) no_transfer) cookie))
   pub outcomes : q.outcomes.items ≡ c.outcomes
   pub issued : q.issued ≡ c.issued
   pub halted : q.halted ≡ c.halted
@@ -84,11 +100,12 @@ IsPrepared made x = IfSome x (λ r. OnPages made (destinations r.transfer))
 -- finds its pages, and each queue keeps the ranges of what runs on its channel.
 pub record Holds (p : Parts) : Type 0 where
   pub sound : IsSound (view_of p)
+  pub size : p.size ≡ length p.base.image
   pub shown : p.memory ≡ memory_of (view_of p)
   pub events : p.events ≡ (object_of (view_of p)).events
   pub marks : p.marks ≡ (object_of (view_of p)).marks
   pub each : (ch : ℕ) (d : Queue) → ch < length p.queues →
-      IsQueue ch p.history p.memory (slice_index_or p.queues ch d) (channel (object_of (view_of p)) ch)
+      IsQueue ch (channel p.base ch).submitted p.history p.memory (slice_index_or p.queues ch d) (channel (object_of (view_of p)) ch)
   pub prepared : (ch : ℕ) → IsPrepared p.made (runs (object_of (view_of p)) (view_of p).schedule ch)
   pub ranges : (ch : ℕ) (d : Queue) → ch < length p.queues →
       AreOfRunning (slice_index_or p.queues ch d).ranges (runs (object_of (view_of p)) (view_of p).schedule ch)

@@ -15,6 +15,7 @@ parts_of e =
       events = e.events;
       marks = e.marks;
       queues = e.queues.items;
+      base = e.base;
       history = e.history.items;
       steps = e.steps;
     }

@@ -35,6 +35,7 @@ impl Engine {
             Call::Mark { kind, segment } => done_or_refused(self.mark(*kind, *segment)),
             Call::Unmark => done_or_refused(self.unmark()),
             Call::Raise { event } => done_or_refused(self.raise(*event)),
+            Call::Checkpoint => done_or_refused(self.checkpoint()),
         }
     }
 }

@@ -14,7 +14,7 @@ use crate::fault::{EngineFault, SubmitFault};
 use dma_mem::transfer::Transfer;
 
 /// The last cookie of a channel (profile).
-const LAST_COOKIE: usize = 2_147_483_647;
+const LAST_COOKIE: u32 = 2_147_483_647;
 
 impl Engine {
     /// The cookie that `submit` would answer, or the fault that it would name before `NoMemory`. Nothing changes.
@@ -26,11 +26,11 @@ impl Engine {
         if !transfer.lies_below(self.size) {
             return Err(EngineFault::OutOfMemoryRange);
         }
-        let given = self.queues[index].indices.len();
+        let given = self.queues[index].given;
         if given >= LAST_COOKIE {
             return Err(EngineFault::CookiesSpent);
         }
-        Ok(given as u32 + 1)
+        Ok(given + 1)
     }
 
     /// Gives a transfer to a channel, and answers its cookie, 1 for the first of the channel. It starts nothing.
@@ -62,9 +62,11 @@ impl Engine {
             return Err(SubmitFault::no_memory(transfer));
         };
         let index = self.history.len();
-        let Ok(()) = self.queues[usize::from(ch)].indices.add(index) else {
+        let queue = &mut self.queues[usize::from(ch)];
+        let Ok(()) = queue.indices.add(index) else {
             return Err(SubmitFault::no_memory(transfer));
         };
+        queue.given = cookie;
         self.history.push_reserved(Entry::Submitted {
             ch,
             transfer,
@@ -111,7 +113,7 @@ impl Engine {
         self.history.push_reserved(Entry::Issued { ch });
         let queue = &mut self.queues[index];
         let before = queue.issued;
-        let after = queue.indices.len() as u32;
+        let after = queue.given;
         queue.issued = after;
         Ok(after - before)
     }
@@ -161,7 +163,7 @@ impl Engine {
         let count = self.unfinished(ch);
         self.history.reserve(1)?;
         let queue = &mut self.queues[index];
-        queue.terminate(&self.history, done)?;
+        queue.terminate(self.base.kept(index), &self.history, done)?;
         self.history
             .push_reserved(Entry::Terminated { ch, done, count });
         Ok(count)

@@ -1,6 +1,6 @@
--- Ticks as the code keeps them, and the board that a log begins with.
-use Rattle.std.specs.Prelude.{ℕ, Option, Some, None, List, [], ◌∷◌, replicate}
-use Rattle.dma_engine.specs.Ticks.{Tick, Submitted, Finished as TickFinished, Board, no_counts}
+-- Ticks as the code keeps them.
+use Rattle.std.specs.Prelude.{ℕ, Option, Some, None, List, [], ◌∷◌}
+use Rattle.dma_engine.specs.Ticks.{Tick, Submitted, Finished as TickFinished}
 use Rattle.dma_work.specs.declared.tick.Change.{Change}
 use Rattle.dma_work.specs.declared.tick.Change.TheVariants.{Given, Finished}
 
@@ -23,7 +23,3 @@ change_of (TickFinished ch count) = Finished count
 abbrev pub those : Option Tick → List Tick
 those (Some t) = t ∷ []
 those None = []
-
--- the board of an engine that has given no cookie
-abbrev pub no_counts_yet : Board
-no_counts_yet = replicate 8 no_counts

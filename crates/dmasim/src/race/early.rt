@@ -273,6 +273,7 @@ fn run_early_statement<N: DeskName, R: Wait>(
         | Statement::Mark { .. }
         | Statement::Unmark
         | Statement::Raise { .. }
+        | Statement::Checkpoint
         | Statement::Totals => unreachable!(),
     }
 }

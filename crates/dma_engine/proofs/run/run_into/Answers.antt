@@ -1,7 +1,9 @@
-use Rattle.std.proofs.Common.{◌≡◌, ◌+◌, ◌∙◌, ◌++◌, ◌∷◌, [], ap, sym, take, append_assoc, arith}
-use Rattle.std.proofs.lemmas.List.{take_more}
+use Rattle.std.proofs.Common.{◌≡◌, ◌+◌, ◌∙◌, ◌++◌, ◌∷◌, [], ap, sym, length, take, drop, append_assoc, arith}
+use Rattle.std.proofs.lemmas.List.{take_more, take_all}
+use Rattle.std.proofs.Math.Seq.{drop-append_seam}
 use Rattle.dma_engine.proofs.CallLists.{AreAnswers-push, chain-extends}
 use Rattle.dma_engine.proofs.OutcomesStay.{kept}
+use Rattle.dma_engine.proofs.Remembered.{chain-remembers}
 use Rattle.dma_engine.proofs.run.run_into.Goals as goal
 
 pub loop-call-preserved : goal.loop-call-preserved
@@ -17,12 +19,19 @@ loop-call-preserved c =
     (inv.0 ++ one.0 ∷ [], items, rw next chain, omega (arith, inv.3, c.add_reply.ensures.capacity), omega (arith, c.add_reply.ensures.len, inv.4))
 
 pub returns-clause-begins : goal.returns-clause-begins
-returns-clause-begins c =
+returns-clause-begins c = λ none.
+    let calls = c.args.calls.now in
     let inv = c.loop-call.invariant in
-    chain-extends c.args.engine.now.view c.loop-call.engine.view (take c.loop-call.call-index c.args.calls.now) inv.0 inv.2
+    let all : take c.loop-call.call-index calls ≡ calls = take_all c.loop-call.call-index calls (omega (arith, c.loop-call-test.false)) in
+    let chain = rw all at inv.2 in
+    let added : drop (length c.args.replies.now.items) c.loop-call.replies.items ≡ inv.0 =
+    ap (λ l. drop (length l) c.loop-call.replies.items) (sym c.reserve.ensures.items) ∙ ap (drop (length c.reserve.new.self.items)) inv.1 ∙ drop-append_seam c.reserve.new.self.items inv.0 in
+    chain-extends c.args.engine.now.view c.loop-call.engine.view calls inv.0 (rw added at none) chain
 
 pub returns-clause-kept : goal.returns-clause-kept
-returns-clause-kept c =
+returns-clause-kept c = λ none. kept c.args.engine.now.view c.loop-call.engine.view (returns-clause-begins c none)
+
+pub returns-clause-remembers : goal.returns-clause-remembers
+returns-clause-remembers c =
     let inv = c.loop-call.invariant in
-    kept c.args.engine.now.view c.loop-call.engine.view
-    (chain-extends c.args.engine.now.view c.loop-call.engine.view (take c.loop-call.call-index c.args.calls.now) inv.0 inv.2)
+    chain-remembers c.args.engine.now.view c.loop-call.engine.view (take c.loop-call.call-index c.args.calls.now) inv.0 inv.2

@@ -1,14 +1,15 @@
 use Rattle.std.proofs.Common.{◌≡◌, ◌+◌, [], ◌∷◌, ◌++◌, take, length, ap, sym, ◌∙◌, arith}
 use Rattle.std.proofs.lemmas.List.{length-take}
-use Rattle.dma_engine.specs.Ticks.{ticks_of}
 use Rattle.dma_engine.proofs.CookieCounts.{ticks_are_few}
+use Rattle.dma_engine.specs.Ticks.{ticks_of}
 use Rattle.dma_work.specs.inner.Log.{Reached}
 use Rattle.dma_work.specs.Ticks.{board_from}
-use Rattle.dma_work.proofs.FirstBoards.{opens_empty, ticks_more}
+use Rattle.dma_work.proofs.Boards.{board-append}
+use Rattle.dma_work.proofs.FirstBoards.{small_base, ticks_more}
 use Rattle.dma_work.proofs.parts.record_all.Goals as goal
 
-pub record_one-requires-clause-few : goal.record_one-requires-clause-few
-record_one-requires-clause-few g c =
+pub record_one-requires : goal.record_one-requires
+record_one-requires g c =
     let n = c.loop-index.index in
     let history = c.history-history.result.now in
     omega (arith, ap length c.loop-index.invariant.ticks, ticks_are_few (take n history), length-take n history, c.loop-index-test.true, c.history-history.type_inv.0)
@@ -24,12 +25,9 @@ loop-index-preserved g c =
     record {
       log = ap (λ (r : Reached). r.log) c.record_one.ensures.log ∙ c.loop-index.invariant.log;
       ticks = ap (λ (r : Reached). r.ticks) c.record_one.ensures.log ∙ ap (λ l. l ++ one) c.loop-index.invariant.ticks ∙ sym all;
-      counts = c.record_one.ensures.counts;
+      counts = c.record_one.ensures.counts ∙ ap (λ b. board_from b one) c.loop-index.invariant.counts
+          ∙ sym (ap (λ (r : Reached). board_from c.args.base r.ticks) c.record_one.ensures.log ∙ board-append c.args.base c.loop-index.log.ticks one);
     }
 
-pub returns-clause-counts : goal.returns-clause-counts
-returns-clause-counts g c =
-    c.loop-index.invariant.counts ∙ ap (λ b. board_from b c.loop-index.log.ticks) (sym (opens_empty c.args.engine.now.view c.history-history.ensures.sound))
-
-pub returns-clause-base : goal.returns-clause-base
-returns-clause-base g c = opens_empty c.args.engine.now.view c.history-history.ensures.sound
+pub returns-clause-small : goal.returns-clause-small
+returns-clause-small g c = small_base c.args.engine.now.view c.history-history.ensures.sound

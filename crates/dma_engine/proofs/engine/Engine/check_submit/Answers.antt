@@ -15,7 +15,7 @@ returns-then-not-lies_below-clause-told c =
     let v = c.args.self.now.view in
     let is : view_of p ≡ v = ap (λ (s : EngineState). s.view) c.self.view_is in
     let there : c.args.ch < channels v = c.in_ok-index.ensures.there.1 in
-    let out : lies_below c.args.transfer.now (size v) ≡ false = ap (lies_below c.args.transfer.now) (sym (size-is p ∙ ap size is)) ∙ sym c.if-not-lies_below.ensures.below in
+    let out : lies_below c.args.transfer.now (size v) ≡ false = ap (lies_below c.args.transfer.now) (sym (size-is p c.self.invariant ∙ ap size is)) ∙ sym c.if-not-lies_below.ensures.below in
     check-out v c.args.ch (used (channel (object_of v) c.args.ch) + 1) c.args.transfer.now there out
 
 pub returns-then-given-ge-LAST_COOKIE-clause-told : goal.returns-then-given-ge-LAST_COOKIE-clause-told
@@ -26,9 +26,10 @@ returns-then-given-ge-LAST_COOKIE-clause-told c =
     let is : view_of p ≡ v = ap (λ (s : EngineState). s.view) c.self.view_is in
     let less : i < length p.queues = queue-there p c.args.self.now.view c.args.ch c.in_ok-index.index c.self.invariant (ap (λ (s : EngineState). s.view) c.self.view_is) c.in_ok-index.ensures.there in
     let there : i < channels v = omega (arith, many-queues p c.self.invariant, ap channels is, less) in
-    let below : lies_below c.args.transfer.now (size v) ≡ true = ap (lies_below c.args.transfer.now) (sym (size-is p ∙ ap size is)) ∙ sym c.if-not-lies_below.ensures.below in
+    let below : lies_below c.args.transfer.now (size v) ≡ true = ap (lies_below c.args.transfer.now) (sym (size-is p c.self.invariant ∙ ap size is)) ∙ sym c.if-not-lies_below.ensures.below in
     let at = holds-at p c.self.invariant i c.index.result.now less c.index.ensures in
-    let given = c.len-given.ensures ∙ at.tied.many ∙ ap (λ (w : View). used (channel (object_of w) i)) is in
+    let q = c.index.result.now in
+    let given : q.given ≡ used (channel (object_of v) i) = at.tied.given ∙ ap (λ (w : View). used (channel (object_of w) i)) is in
     rw (← c.in_ok-index.ensures.there.0) (check-spent v i _ c.args.transfer.now there below (omega (arith, given, c.if-given-ge-LAST_COOKIE.true)))
 
 pub returns-clause-told : goal.returns-clause-told
@@ -39,7 +40,8 @@ returns-clause-told c =
     let is : view_of p ≡ v = ap (λ (s : EngineState). s.view) c.self.view_is in
     let less : i < length p.queues = queue-there p c.args.self.now.view c.args.ch c.in_ok-index.index c.self.invariant (ap (λ (s : EngineState). s.view) c.self.view_is) c.in_ok-index.ensures.there in
     let there : i < channels v = omega (arith, many-queues p c.self.invariant, ap channels is, less) in
-    let below : lies_below c.args.transfer.now (size v) ≡ true = ap (lies_below c.args.transfer.now) (sym (size-is p ∙ ap size is)) ∙ sym c.if-not-lies_below.ensures.below in
+    let below : lies_below c.args.transfer.now (size v) ≡ true = ap (lies_below c.args.transfer.now) (sym (size-is p c.self.invariant ∙ ap size is)) ∙ sym c.if-not-lies_below.ensures.below in
     let at = holds-at p c.self.invariant i c.index.result.now less c.index.ensures in
-    let given : c.len-given.result ≡ used (channel (object_of v) i) = c.len-given.ensures ∙ at.tied.many ∙ ap (λ (w : View). used (channel (object_of w) i)) is in
+    let q = c.index.result.now in
+    let given : q.given ≡ used (channel (object_of v) i) = at.tied.given ∙ ap (λ (w : View). used (channel (object_of w) i)) is in
     rw (given, ← c.in_ok-index.ensures.there.0) (check-fine v i _ c.args.transfer.now there below (omega (arith, given, c.if-given-ge-LAST_COOKIE.false)))

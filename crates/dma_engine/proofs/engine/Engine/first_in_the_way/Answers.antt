@@ -1,5 +1,6 @@
 use Rattle.std.proofs.Common.{rules, ◌≡◌, ◌<◌, ◌+◌, ap, sym, ◌∙◌, subst, arith, length, Option}
 use Rattle.dma_engine.specs.declared.ranges.Ranges.{Ranges}
+use Rattle.dma_engine.specs.inner.Holds.{view_of}
 use Rattle.dma_engine.specs.inner.Inside.{parts_of}
 use Rattle.dma_engine.specs.Object.{channel, finished}
 use Rattle.dma_engine.specs.inner.Ranges.{AreOfRunning}
@@ -18,15 +19,22 @@ overflow_cast-result c =
     let few = few-queues (parts_of c.self.inside) c.self.invariant in
     omega (arith, few, c.loop-index-test.true, c.len-index-end.ensures, c.self.inside.queues.ok.0)
 
-pub overflow_cast-result-then-has : goal.overflow_cast-result-then-has
-overflow_cast-result-then-has c =
+pub overflow_cast-cookie : goal.overflow_cast-cookie
+overflow_cast-cookie c =
     let p = parts_of c.self.inside in
     let less : c.loop-index.index < length p.queues = omega (arith, c.loop-index-test.true, c.len-index-end.ensures, c.self.inside.queues.ok.0) in
     let small = queue-small p c.self.invariant c.loop-index.index c.index-queue.result.now less c.index-queue.ensures in
     omega (arith, small, c.len.ensures)
 
-pub overflow_add-result : goal.overflow_add-result
-overflow_add-result c =
+pub overflow_add-cookie : goal.overflow_add-cookie
+overflow_add-cookie c =
+    let p = parts_of c.self.inside in
+    let less : c.loop-index.index < length p.queues = omega (arith, c.loop-index-test.true, c.len-index-end.ensures, c.self.inside.queues.ok.0) in
+    let small = queue-small p c.self.invariant c.loop-index.index c.index-queue.result.now less c.index-queue.ensures in
+    omega (arith, small, c.len.ensures)
+
+pub overflow_add-cookie-then-has : goal.overflow_add-cookie-then-has
+overflow_add-cookie-then-has c =
     let p = parts_of c.self.inside in
     let less : c.loop-index.index < length p.queues = omega (arith, c.loop-index-test.true, c.len-index-end.ensures, c.self.inside.queues.ok.0) in
     let small = queue-small p c.self.invariant c.loop-index.index c.index-queue.result.now less c.index-queue.ensures in
@@ -42,10 +50,11 @@ returns-then-has c =
     let many = many-queues p c.self.invariant ∙ ap (λ (s : EngineState). channels s.view) c.self.view_is in
     let less : i < length (object_of v).channels = omega (arith, many, inside) in
     let at = holds-at p c.self.invariant i q inside c.index-queue.ensures in
-    let number : c.len.result + 1 ≡ finished (channel (object_of v) i) + 1 = ap (λ n. n + 1) (c.len.ensures ∙ ap length at.tied.outcomes ∙ ap (λ (s : EngineState). finished (channel (object_of s.view) i)) c.self.view_is) in
+    let done : q.forgotten + c.len.result ≡ finished (channel (object_of (view_of p)) i) = omega (arith, c.len.ensures, at.tied.forgotten, ap length at.tied.outcomes) in
+    let number : q.forgotten + c.len.result + 1 ≡ finished (channel (object_of v) i) + 1 = ap (λ n. n + 1) (done ∙ ap (λ (s : EngineState). finished (channel (object_of s.view) i)) c.self.view_is) in
     let kept = subst (λ (s : EngineState). AreOfRunning q.ranges (runs (object_of s.view) s.view.schedule i)) c.self.view_is at.ranges in
     let there = subst (λ (o : Option Ranges). AreOfRunning o (runs (object_of v) v.schedule i)) c.in-Some.is kept in
-    search (rules, way-here (is_in_the_way c.args.way.now) (object_of v) v.schedule i (c.len.result + 1) c.in-Some.ranges less c.loop-index.invariant there number c.if-has.ensures)
+    search (rules, way-here (is_in_the_way c.args.way.now) (object_of v) v.schedule i (q.forgotten + c.len.result + 1) c.in-Some.ranges less c.loop-index.invariant there number c.if-has.ensures)
 
 pub loop-index-preserved : goal.loop-index-preserved
 loop-index-preserved c =

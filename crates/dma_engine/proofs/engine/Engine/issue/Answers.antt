@@ -6,17 +6,10 @@ use Rattle.dma_engine.specs.Object.{channel, used}
 use Rattle.dma_engine.specs.Turn.{with_entry}
 use Rattle.dma_engine.specs.View.{View, EngineState, channels, object_of}
 use Rattle.dma_engine.proofs.CallCases.{issue-done}
-use Rattle.dma_engine.proofs.Boards.{queue-small, counted-at}
+use Rattle.dma_engine.proofs.Boards.{counted-at}
 use Rattle.dma_engine.proofs.Queues.{many-queues, holds-at, queue-there}
 use Rattle.dma_engine.proofs.QueueCalls.{holds-issued, view-entered}
 use Rattle.dma_engine.proofs.engine.Engine.issue.Goals as goal
-
-pub overflow_cast-after : goal.overflow_cast-after
-overflow_cast-after c =
-    let p = parts_of c.self.inside in
-    let less : c.in_ok-index.index < length p.queues = queue-there p c.args.self.now.view c.args.ch c.in_ok-index.index c.self.invariant (ap (λ (s : EngineState). s.view) c.self.view_is) c.in_ok-index.ensures.there in
-    let small = queue-small p c.self.invariant c.in_ok-index.index c.index_mut-queue.result.now less c.index_mut-queue.ensures.value in
-    omega (arith, small, c.len-after.ensures)
 
 pub overflow_sub-result : goal.overflow_sub-result
 overflow_sub-result c =
@@ -25,14 +18,14 @@ overflow_sub-result c =
     let less : c.in_ok-index.index < length p.queues = queue-there p c.args.self.now.view c.args.ch c.in_ok-index.index c.self.invariant (ap (λ (s : EngineState). s.view) c.self.view_is) c.in_ok-index.ensures.there in
     let at = holds-at p c.self.invariant c.in_ok-index.index q less c.index_mut-queue.ensures.value in
     let counted = counted-at p c.self.invariant c.in_ok-index.index in
-    omega (arith, counted.issue, at.tied.issued, at.tied.many, c.len-after.ensures)
+    omega (arith, counted.issue, at.tied.issued, at.tied.given)
 
 pub invariant_of-self-2 : goal.invariant_of-self-2
 invariant_of-self-2 c =
     let p = parts_of c.self.inside in
     let less : c.in_ok-index.index < length p.queues = queue-there p c.args.self.now.view c.args.ch c.in_ok-index.index c.self.invariant (ap (λ (s : EngineState). s.view) c.self.view_is) c.in_ok-index.ensures.there in
     rw (c.push_reserved.ensures.items, c.reserve.ensures.items, ← c.in_ok-index.ensures.there.0)
-    (holds-issued p c.in_ok-index.index c.index_mut-queue.result.now c.len-after.result c.self.invariant less c.index_mut-queue.ensures.value c.len-after.ensures)
+    (holds-issued p c.in_ok-index.index c.index_mut-queue.result.now c.index_mut-queue.result.now.given c.self.invariant less c.index_mut-queue.ensures.value refl)
 
 pub returns-clause-answer : goal.returns-clause-answer
 returns-clause-answer c =
@@ -43,7 +36,7 @@ returns-clause-answer c =
     let less : i < length p.queues = queue-there p c.args.self.now.view c.args.ch c.in_ok-index.index c.self.invariant (ap (λ (s : EngineState). s.view) c.self.view_is) c.in_ok-index.ensures.there in
     let there : i < channels c.args.self.now.view = omega (arith, many-queues p c.self.invariant, ap channels is, less) in
     let at = holds-at p c.self.invariant i q less c.index_mut-queue.ensures.value in
-    let counted : c.len-after.result - q.issued ≡ used (channel (object_of (view_of p)) i) - (channel (object_of (view_of p)) i).issued = omega (arith, at.tied.issued, at.tied.many, c.len-after.ensures) in
-    let view = view-entered p i q (record q { issued = c.len-after.result }) p.memory p.events (Issued i) less c.index_mut-queue.ensures.value refl ∙ ap (λ (w : View). with_entry w (Issued i)) is in
+    let counted : q.given - q.issued ≡ used (channel (object_of (view_of p)) i) - (channel (object_of (view_of p)) i).issued = omega (arith, at.tied.issued, at.tied.given) in
+    let view = view-entered p i q (record q { issued = q.given }) p.memory p.events (Issued i) less c.index_mut-queue.ensures.value refl ∙ ap (λ (w : View). with_entry w (Issued i)) is in
     rw (c.push_reserved.ensures.items, c.reserve.ensures.items, ← c.in_ok-index.ensures.there.0)
     (issue-done c.args.self.now.view _ i _ there (counted ∙ ap (λ (w : View). used (channel (object_of w) i) - (channel (object_of w) i).issued) is) view)

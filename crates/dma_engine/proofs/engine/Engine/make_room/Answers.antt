@@ -49,8 +49,8 @@ returns-clause-made c =
     let at = holds-at p c.self.invariant i q less c.index_mut-queue.ensures.value in
     let room : slice_index_or (map queue_room (slice_set p.queues i r)) i no_room ≡ queue_room r = room-set p.queues i r less in
     let cookie : 0 < r.indices.spare = c.in_ok-make_room.ensures.cookie in
-    let outcomes : length q.indices.items - length q.outcomes.items ≤ r.outcomes.spare = c.in_ok-make_room.ensures.outcomes in
-    let old : unfinished (channel (object_of (view_of p)) i) ≤ r.outcomes.spare = omega (arith, outcomes, at.tied.many, ap length at.tied.outcomes) in
+    let outcomes : q.given - q.forgotten - length q.outcomes.items ≤ r.outcomes.spare = c.in_ok-make_room.ensures.outcomes in
+    let old : unfinished (channel (object_of (view_of p)) i) ≤ r.outcomes.spare = omega (arith, outcomes, at.tied.given, at.tied.forgotten, ap length at.tied.outcomes) in
     rw (← c.in_ok-index.ensures.there.0) (record {
       entry = omega (arith, c.in_ok-reserve.ensures.ok);
       cookie = rw room cookie;

@@ -15,23 +15,23 @@ use Rattle.dma_engine.proofs.engine.Engine.read.Goals as goal
 
 pub returns-then-addr-len-clause-answer : goal.returns-then-addr-len-clause-answer
 returns-then-addr-len-clause-answer c =
-    let end = size-is (parts_of c.self.inside) ∙ ap (λ (s : EngineState). size s.view) c.self.view_is in
+    let end = size-is (parts_of c.self.inside) c.self.invariant ∙ ap (λ (s : EngineState). size s.view) c.self.view_is in
     read-out c.args.self.now.view c.args.addr c.args.len (omega (arith, end, c.if-addr-len.true))
 
 pub returns-in-Some-clause-answer : goal.returns-in-Some-clause-answer
 returns-in-Some-clause-answer c =
-    let end = size-is (parts_of c.self.inside) ∙ ap (λ (s : EngineState). size s.view) c.self.view_is in
+    let end = size-is (parts_of c.self.inside) c.self.invariant ∙ ap (λ (s : EngineState). size s.view) c.self.view_is in
     read-busy c.args.self.now.view c.args.addr c.args.len c.in-Some.ch c.in-Some.cookie (omega (arith, end, c.if-addr-len.false)) c.in-Some.ensures
 
 pub bytes_of-requires : goal.bytes_of-requires
 bytes_of-requires c =
     let p = parts_of c.self.inside in
-    omega (arith, memory-size p c.self.invariant, size-is p, c.if-addr-len.false)
+    omega (arith, memory-size p c.self.invariant, size-is p c.self.invariant, c.if-addr-len.false)
 
 pub returns-in_err-answer-clause-answer : goal.returns-in_err-answer-clause-answer
 returns-in_err-answer-clause-answer c =
     let v = c.args.self.now.view in
-    let end = size-is (parts_of c.self.inside) ∙ ap (λ (s : EngineState). size s.view) c.self.view_is in
+    let end = size-is (parts_of c.self.inside) c.self.invariant ∙ ap (λ (s : EngineState). size s.view) c.self.view_is in
     let free = read-free v c.args.addr c.args.len (omega (arith, end, c.if-addr-len.false)) c.in_default.ensures in
     refusal (λ bytes. Bytes bytes) v v (Read c.args.addr c.args.len) NoMemory c.from_residual.result c.from_residual.ensures.1
     (read-starved v c.args.addr c.args.len free)
@@ -39,7 +39,7 @@ returns-in_err-answer-clause-answer c =
 pub returns-in_err-kept-clause-answer : goal.returns-in_err-kept-clause-answer
 returns-in_err-kept-clause-answer c =
     let v = c.args.self.now.view in
-    let end = size-is (parts_of c.self.inside) ∙ ap (λ (s : EngineState). size s.view) c.self.view_is in
+    let end = size-is (parts_of c.self.inside) c.self.invariant ∙ ap (λ (s : EngineState). size s.view) c.self.view_is in
     let free = read-free v c.args.addr c.args.len (omega (arith, end, c.if-addr-len.false)) c.in_default.ensures in
     refusal (λ bytes. Bytes bytes) v v (Read c.args.addr c.args.len) NoMemory c.from_residual-in_err-kept.result c.from_residual-in_err-kept.ensures.1
     (read-starved v c.args.addr c.args.len free)
@@ -47,7 +47,7 @@ returns-in_err-kept-clause-answer c =
 pub returns-in_err-reserve-clause-answer : goal.returns-in_err-reserve-clause-answer
 returns-in_err-reserve-clause-answer c =
     let v = c.args.self.now.view in
-    let end = size-is (parts_of c.self.inside) ∙ ap (λ (s : EngineState). size s.view) c.self.view_is in
+    let end = size-is (parts_of c.self.inside) c.self.invariant ∙ ap (λ (s : EngineState). size s.view) c.self.view_is in
     let free = read-free v c.args.addr c.args.len (omega (arith, end, c.if-addr-len.false)) c.in_default.ensures in
     refusal (λ bytes. Bytes bytes) v _ (Read c.args.addr c.args.len) NoMemory c.from_residual-in_err-reserve.result c.from_residual-in_err-reserve.ensures.1
     (rw c.reserve.ensures.items ((read-starved v c.args.addr c.args.len free).0, ap (λ (s : EngineState). s.view) c.self.view_is))
@@ -56,7 +56,7 @@ pub invariant_of-self-2 : goal.invariant_of-self-2
 invariant_of-self-2 c =
     let p = parts_of c.self.inside in
     let is : view_of p ≡ c.args.self.now.view = ap (λ (s : EngineState). s.view) c.self.view_is in
-    let end = size-is p ∙ ap size is in
+    let end = size-is p c.self.invariant ∙ ap size is in
     let free = read-free c.args.self.now.view c.args.addr c.args.len (omega (arith, end, c.if-addr-len.false)) c.in_default.ensures in
     let free' : read_fault (view_of p) c.args.addr c.args.len ≡ None = subst (λ (w : View). read_fault w c.args.addr c.args.len ≡ None) (sym is) free in
     let read = c.in_ok-answer.ensures ∙ memory-read p c.args.addr c.args.len c.self.invariant free' in
@@ -67,7 +67,7 @@ pub returns-clause-answer : goal.returns-clause-answer
 returns-clause-answer c =
     let p = parts_of c.self.inside in
     let is : view_of p ≡ c.args.self.now.view = ap (λ (s : EngineState). s.view) c.self.view_is in
-    let end = size-is p ∙ ap size is in
+    let end = size-is p c.self.invariant ∙ ap size is in
     let free = read-free c.args.self.now.view c.args.addr c.args.len (omega (arith, end, c.if-addr-len.false)) c.in_default.ensures in
     let free' : read_fault (view_of p) c.args.addr c.args.len ≡ None = subst (λ (w : View). read_fault w c.args.addr c.args.len ≡ None) (sym is) free in
     let read = c.in_ok-answer.ensures ∙ memory-read p c.args.addr c.args.len c.self.invariant free' ∙ ap (λ (w : View). take c.args.len (drop c.args.addr (object_of w).image)) is in

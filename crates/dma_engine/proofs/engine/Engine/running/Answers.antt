@@ -24,3 +24,10 @@ overflow_cast-stored c =
     let less : c.from-index.result < length p.queues = omega (arith, c.if-index-len.false, c.len.ensures, c.self.inside.queues.ok.0) in
     let small = stored-small p c.self.invariant c.from-index.result c.index-queue.result.now less c.index-queue.ensures (sym c.if-not-is_loaded.ensures) in
     omega (arith, small.0, c.stored-stored.ensures)
+
+pub overflow_add-cookie-2 : goal.overflow_add-cookie-2
+overflow_add-cookie-2 c =
+    let p = parts_of c.self.inside in
+    let less : c.from-index.result < length p.queues = omega (arith, c.if-index-len.false, c.len.ensures, c.self.inside.queues.ok.0) in
+    let small = queue-small p c.self.invariant c.from-index.result c.index-queue.result.now less c.index-queue.ensures in
+    omega (arith, small, c.len-2.ensures)

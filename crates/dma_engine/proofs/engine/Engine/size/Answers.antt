@@ -5,4 +5,4 @@ use Rattle.dma_engine.proofs.Sizes.{size-is}
 use Rattle.dma_engine.proofs.engine.Engine.size.Goals as goal
 
 pub returns : goal.returns
-returns c = size-is (parts_of c.self.inside) ∙ ap (λ (s : EngineState). size s.view) c.self.view_is
+returns c = size-is (parts_of c.self.inside) c.self.invariant ∙ ap (λ (s : EngineState). size s.view) c.self.view_is

@@ -18,7 +18,15 @@ use Rattle.dma_engine.proofs.Changes.{holds-pages}
 use Rattle.dma_engine.proofs.InTheWay.{few-issued, front_found}
 use Rattle.dma_engine.proofs.Queues.{front_known, many-queues}
 use Rattle.dma_engine.proofs.Starts.{front-below, front-told, held-answers, holds-started, now-started, start-answers, start-starved, way-clear}
+use Rattle.dma_engine.proofs.Sizes.{many-channels}
 use Rattle.dma_engine.proofs.engine.Engine.start.Goals as goal
+
+pub kept-requires : goal.kept-requires
+kept-requires c =
+    let p = parts_of c.self.inside in
+    let asked = rw (← c.self.view_is) at c.requires in
+    let less : c.from-index.result < length p.queues = omega (arith, asked.0, c.from-index.ensures, many-queues p c.self.invariant) in
+    omega (arith, less, many-queues p c.self.invariant, many-channels p.base p.history)
 
 pub returns-in-Some-first_in_the_way-clause-answer : goal.returns-in-Some-first_in_the_way-clause-answer
 returns-in-Some-first_in_the_way-clause-answer c =
@@ -33,7 +41,7 @@ start-requires-clause-issued c =
     let asked = rw (← c.self.view_is) at c.requires in
     let less : c.args.ch < length p.queues = omega (arith, asked.0, many-queues p c.self.invariant) in
     let read = rw c.from-index.ensures at c.index_mut-queue.ensures.value in
-    few-issued p c.self.invariant c.args.ch c.index_mut-queue.result.now less read
+    rw (c.kept.ensures, c.from-index.ensures) (few-issued p c.self.invariant c.args.ch c.index_mut-queue.result.now less read)
 
 pub start-requires-clause-front : goal.start-requires-clause-front
 start-requires-clause-front c =
@@ -43,7 +51,8 @@ start-requires-clause-front c =
     let less : c.args.ch < length p.queues = omega (arith, asked.0, many-queues p c.self.invariant) in
     let read = rw c.from-index.ensures at c.index_mut-queue.ensures.value in
     let told : Some (c.in-Some.transfer.now, c.in-Some.cookie) ≡ front_told (channel (object_of (view_of p)) c.args.ch) = rw (c.from-index.ensures, ← c.self.view_is) at c.in-Some.ensures in
-    ap is_some (ap (front_in q) c.deref.ensures.value ∙ front_found p c.self.invariant c.args.ch q less read ∙ sym told)
+    let front = front-told (issued_front (channel (object_of (view_of p)) c.args.ch)) c.in-Some.transfer.now c.in-Some.cookie (finished (channel (object_of (view_of p)) c.args.ch) + 1) told in
+    rw (c.kept.ensures, c.from-index.ensures, c.deref.ensures.value) (ap is_some (front_found p c.self.invariant c.args.ch q less read ∙ front.0))
 
 pub start-requires-clause-below : goal.start-requires-clause-below
 start-requires-clause-below c =
@@ -54,8 +63,8 @@ start-requires-clause-below c =
     let less : c.args.ch < length p.queues = omega (arith, asked.0, many-queues p c.self.invariant) in
     let read = rw c.from-index.ensures at c.index_mut-queue.ensures.value in
     let told : Some (t, c.in-Some.cookie) ≡ front_told (channel (object_of (view_of p)) c.args.ch) = rw (c.from-index.ensures, ← c.self.view_is) at c.in-Some.ensures in
-    let is : front_in q c.deref.result.now ≡ Some (t, c.in-Some.cookie) = ap (front_in q) c.deref.ensures.value ∙ front_found p c.self.invariant c.args.ch q less read ∙ sym told in
     let front = front-told (issued_front (channel (object_of (view_of p)) c.args.ch)) t c.in-Some.cookie (finished (channel (object_of (view_of p)) c.args.ch) + 1) told in
+    let is : front_in q c.kept.result.now c.deref.result.now ≡ Some t = rw (c.kept.ensures, c.from-index.ensures, c.deref.ensures.value) (front_found p c.self.invariant c.args.ch q less read ∙ front.0) in
     let known = front_known (channel (object_of (view_of p)) c.args.ch) t front.0 in
     rw is (front-below p c.self.invariant c.args.ch t (known.is ∙ ap (λ (u : Descriptor). Some u) known.holds))
 
@@ -96,7 +105,7 @@ invariant_of-self-2 c =
     let told : Some (t, c.in-Some.cookie) ≡ front_told (channel (object_of v) ch) = rw (c.from-index.ensures, ← c.self.view_is) at c.in-Some.ensures in
     let front = front-told (issued_front (channel (object_of v) ch)) t c.in-Some.cookie (finished (channel (object_of v) ch) + 1) told in
     let none = way-clear v t (rw (← c.self.view_is) at c.in_default-first_in_the_way.ensures) in
-    let is : front_in q c.deref.result.now ≡ Some (t, c.in-Some.cookie) = ap (front_in q) c.deref.ensures.value ∙ front_found p c.self.invariant ch q less read ∙ sym told in
+    let is : front_in q c.kept.result.now c.deref.result.now ≡ Some t = rw (c.kept.ensures, c.from-index.ensures, c.deref.ensures.value) (front_found p c.self.invariant ch q less read ∙ front.0) in
     let started = now-started q c.start.new.self t (rw is at (c.in_ok-start.ensures.started)) in
     let pages = on_pages c.start.new.memory (destinations t) (rw is at (c.in_ok-start.ensures.pages)) in
     let paged : Parts = record p { made = c.start.new.memory.made } in
@@ -116,7 +125,7 @@ returns-clause-answer c =
     let told : Some (t, c.in-Some.cookie) ≡ front_told (channel (object_of v) ch) = rw (c.from-index.ensures, ← c.self.view_is) at c.in-Some.ensures in
     let front = front-told (issued_front (channel (object_of v) ch)) t c.in-Some.cookie (finished (channel (object_of v) ch) + 1) told in
     let none = way-clear v t (rw (← c.self.view_is) at c.in_default-first_in_the_way.ensures) in
-    let is : front_in q c.deref.result.now ≡ Some (t, c.in-Some.cookie) = ap (front_in q) c.deref.ensures.value ∙ front_found p c.self.invariant ch q less read ∙ sym told in
+    let is : front_in q c.kept.result.now c.deref.result.now ≡ Some t = rw (c.kept.ensures, c.from-index.ensures, c.deref.ensures.value) (front_found p c.self.invariant ch q less read ∙ front.0) in
     let started = now-started q c.start.new.self t (rw is at (c.in_ok-start.ensures.started)) in
     rw (← c.self.view_is, started.is, c.from-index.ensures)
     (start-answers p ch c.in-Some.cookie q t started.ranges c.self.invariant less read asked front.0 none front.1)

@@ -18,18 +18,18 @@ invariant_of-self-2 c =
     let v = c.args.self.now.view in
     let t = c.args.transfer in
     let i = c.from.result in
-    let q = c.index_mut.result.now in
+    let q = c.index_mut-queue.result.now in
     let is : view_of p ≡ v = ap (λ (s : EngineState). s.view) c.self.view_is in
     let none = checked-none (submit_fault v c.args.ch t) _ c.args.cookie c.requires.told in
     let number = checked-cookie (submit_fault v c.args.ch t) _ c.args.cookie c.requires.told in
     let free = submit-open v c.args.ch t none in
     let less : i < length p.queues = omega (arith, many-queues p c.self.invariant, ap channels is, free.0, c.from.ensures) in
-    let at = holds-at p c.self.invariant i q less c.index_mut.ensures.value in
-    let many : length q.indices.items ≡ used (channel (object_of v) c.args.ch) = at.tied.many ∙ ap (λ (w : View). used (channel (object_of w) i)) is ∙ ap (λ (n : ℕ). used (channel (object_of v) n)) c.from.ensures in
+    let at = holds-at p c.self.invariant i q less c.index_mut-queue.ensures.value in
+    let many : q.given ≡ used (channel (object_of v) c.args.ch) = at.tied.given ∙ ap (λ (w : View). used (channel (object_of w) i)) is ∙ ap (λ (n : ℕ). used (channel (object_of v) n)) c.from.ensures in
     let below : lies_below t (size (view_of p)) ≡ true = ap (λ (w : View). lies_below t (size w)) is ∙ free.1 in
-    let allowed = submitted-allowed p i (length q.indices.items) t q c.self.invariant less c.index_mut.ensures.value refl (omega (arith, many, free.2)) c.requires.rules below in
-    let cookie : length q.indices.items + 1 ≡ c.args.cookie = omega (arith, many, number) in
-    let holds = holds-submitted p i c.add.new.self.spare c.args.cookie t q c.self.invariant less c.index_mut.ensures.value (subst (λ (n : ℕ). Allows (object_of (view_of p)) (Submitted i t n)) cookie allowed) in
+    let allowed = submitted-allowed p i q.given t q c.self.invariant less c.index_mut-queue.ensures.value refl (omega (arith, many, free.2)) c.requires.rules below in
+    let cookie : q.given + 1 ≡ c.args.cookie = omega (arith, many, number) in
+    let holds = holds-submitted p i c.add.new.self.spare c.args.cookie t q c.self.invariant less c.index_mut-queue.ensures.value (subst (λ (n : ℕ). Allows (object_of (view_of p)) (Submitted i t n)) cookie allowed) in
     let index : c.len-index.result ≡ length p.history = omega (arith, c.len-index.ensures, c.reserve.new.self.ok.0, ap length c.reserve.ensures.items) in
     rw (c.push_reserved.ensures.items, c.in-Ok-add.ensures.added, index, c.reserve.ensures.items, ← c.from.ensures) holds
 
@@ -39,13 +39,13 @@ returns-clause-answer c =
     let v = c.args.self.now.view in
     let t = c.args.transfer in
     let i = c.from.result in
-    let q = c.index_mut.result.now in
+    let q = c.index_mut-queue.result.now in
     let is : view_of p ≡ v = ap (λ (s : EngineState). s.view) c.self.view_is in
     let none = checked-none (submit_fault v c.args.ch t) _ c.args.cookie c.requires.told in
     let number = checked-cookie (submit_fault v c.args.ch t) _ c.args.cookie c.requires.told in
     let free = submit-open v c.args.ch t none in
     let less : i < length p.queues = omega (arith, many-queues p c.self.invariant, ap channels is, free.0, c.from.ensures) in
     let entry = Submitted c.args.ch t c.args.cookie in
-    let view = view-entered p i q (record q { indices = c.add.new.self }) p.memory p.events entry less c.index_mut.ensures.value refl ∙ ap (λ (w : View). with_entry w entry) is in
+    let view = view-entered p i q (record q { indices = c.add.new.self; given = c.args.cookie }) p.memory p.events entry less c.index_mut-queue.ensures.value refl ∙ ap (λ (w : View). with_entry w entry) is in
     rw (c.push_reserved.ensures.items, c.reserve.ensures.items)
     (submit-done v _ c.args.ch c.args.cookie t none number view)

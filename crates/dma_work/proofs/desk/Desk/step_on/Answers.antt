@@ -12,7 +12,7 @@ invariant_of-self-in-Moved g c =
     let r = c.in_ok-answer.answer in
     let told = c.in_ok-answer.ensures in
     let one : steps_in r ≡ 1 = ap steps_in (c.in-Ok.is ∙ ap (λ t. Ok t) c.in-Moved.is) in
-    kept_on _ _ _ _ v w _ _ _ c.args.ch r (goes_on v.view w.view c.args.ch r (sym told.ends) told.answer) told.answer (omega (arith, one)) refl c.self.invariant
+    kept_on _ _ _ _ _ v w _ _ _ c.args.ch r (goes_on v.view w.view c.args.ch r (sym told.ends) told.answer) told.answer (omega (arith, one)) refl c.self.invariant
 
 pub invariant_of-self-in-Ok : goal.invariant_of-self-in-Ok
 invariant_of-self-in-Ok g c =
@@ -22,7 +22,7 @@ invariant_of-self-in-Ok g c =
     let told = c.in_ok-answer.ensures in
     let stays = goes_on v.view w.view c.args.ch r (sym told.ends) told.answer in
     let other : r ≢ Ok Moved = λ e. c.in_default-turn.not-Moved (let same = sym c.in-Ok.is ∙ e in cc) in
-    kept_on _ _ _ _ v w _ _ _ c.args.ch r stays told.answer (omega (arith, not_moved r other stays)) refl c.self.invariant
+    kept_on _ _ _ _ _ v w _ _ _ c.args.ch r stays told.answer (omega (arith, not_moved r other stays)) refl c.self.invariant
 
 pub invariant_of-self-in_default : goal.invariant_of-self-in_default
 invariant_of-self-in_default g c =
@@ -31,4 +31,4 @@ invariant_of-self-in_default g c =
     let r = c.in_ok-answer.answer in
     let told = c.in_ok-answer.ensures in
     let stays = goes_on v.view w.view c.args.ch r (sym told.ends) told.answer in
-    kept_on _ _ _ _ v w _ _ _ c.args.ch r stays told.answer (omega (arith, not_moved r (c.in_default.not-Ok Moved) stays)) refl c.self.invariant
+    kept_on _ _ _ _ _ v w _ _ _ c.args.ch r stays told.answer (omega (arith, not_moved r (c.in_default.not-Ok Moved) stays)) refl c.self.invariant

@@ -1,0 +1,267 @@
+-- What an engine keeps at a checkpoint.
+use Rattle.std.proofs.Common.{◌≡◌, ℕ, ◌+◌, ◌<◌, ◌≤◌, List, [], ◌∷◌, ◌++◌, zero, suc, length, map, take, drop, Option, Some, None, true, false, refl, ap, sym, ◌∙◌, subst, arith, inl, inr}
+use Rattle.std.specs.Prelude.{slice_index_or, slice_set, find, IfSome, IsSomeAnd}
+use Rattle.std.proofs.lemmas.Bool.{true≢false, cases_lt}
+use Rattle.std.proofs.lemmas.List.{get_or-map, get_or_past, get_or-drop, length-map, length-drop}
+use Rattle.std.proofs.lemmas.List.Sums.{sum_by-cons}
+use Rattle.std.proofs.lemmas.Option.{slice_get-get_or}
+use Rattle.dma_mem.specs.Image.{over, after_moves}
+use Rattle.dma_engine.proofs.Endings.{put-nil}
+use Rattle.dma_chan.specs.Channel.{ChannelValue}
+use Rattle.dma_chan.specs.Programs.{ProgramValue}
+use Rattle.dma_chan.specs.inner.At.{IsAt}
+use Rattle.dma_engine.specs.declared.queue.Queue.{Queue}
+use Rattle.std.specs.List.{sum_by}
+use Rattle.dma_engine.specs.Object.{used, finished_all, Object, ChannelState, IsBase, base_from, forget, channel, empty_channel, finished, front}
+use Rattle.dma_engine.specs.declared.call.Reply.{Reply}
+use Rattle.dma_engine.specs.declared.call.Reply.TheVariants.{Done, Refused}
+use Rattle.dma_engine.specs.declared.fault.EngineFault.{EngineFault}
+use Rattle.dma_engine.specs.Answer.{checkpoint_fault, checkpointed, unless}
+use Rattle.dma_engine.specs.Laws.{CheckpointsKeep}
+use Rattle.dma_engine.specs.Room.{no_room}
+use Rattle.dma_engine.specs.inner.Inside.{queue_room}
+use Rattle.dma_engine.specs.inner.Ranges.{AreOfRunning}
+use Rattle.dma_engine.specs.View.{View, ChannelSchedule, RunningTransfer, Agrees, Fits, runs, runs_there, running, idle, object_of, memory_of, IsSound, with_stored}
+use Rattle.dma_engine.specs.Ticks.{board_of, counts_of}
+use Rattle.dma_engine.specs.inner.Holds.{Holds, IsPrepared, IsQueue, IsRun, Parts, view_of, schedule_of, taken_of, queue_forgotten}
+use Rattle.dma_engine.proofs.Boards.{counted-at, counted-base, counted-object}
+use Rattle.dma_engine.proofs.Queues.{front_where, runs_front, holds-at, many-queues, get_or_any}
+use Rattle.dma_engine.proofs.QueueCalls.{shown-both}
+use Rattle.dma_engine.proofs.TransferRules.{IsGood, marked-object, ruled-object, ruled-base}
+use Rattle.dma_engine.proofs.Sizes.{flags-many, size-object, many-channels}
+use Rattle.dma_engine.proofs.WhatRuns.{find-none_at, running-same}
+
+-- ---- the channels of the next base
+
+pub forgotten-at : (o : Object) (ch : ℕ) → channel (base_from o) ch ≡ forget (channel o ch)
+forgotten-at o ch = elim (cases_lt ch (length o.channels)) [
+  | inl less ↦ get_or-map forget o.channels ch empty_channel empty_channel less
+  | inr past ↦ get_or_past (map forget o.channels) ch empty_channel (omega (arith, past, length-map o.channels forget)) ∙ sym (ap forget (get_or_past o.channels ch empty_channel past))
+]
+
+-- no runner is found where any would do
+abbrev pub NothingRuns : Object → List ChannelSchedule → Type 0
+NothingRuns o s = find (λ (r : RunningTransfer). true) (running o s) ≡ None
+
+-- so no schedule has one
+pub none-taken : (o : Object) (s : List ChannelSchedule) (ch : ℕ) → Fits o s → NothingRuns o s → ch < length o.channels → (slice_index_or s ch idle).taken ≡ None
+none-taken o s ch h none less =
+    let c = channel o ch in
+    let by : (x : Option ℕ) → (slice_index_or s ch idle).taken ≡ x → x ≡ None = λ x. elim x as (λ x. (slice_index_or s ch idle).taken ≡ x → x ≡ None) [
+      | None ↦ λ e. refl
+      | Some n ↦ λ e.
+          let agrees : Agrees c (Some n) = rw e at (h.each ch less) in
+          let f = front_where c _ agrees.1 in
+          let is : runs o s ch ≡ Some (record { ch = ch; cookie = finished c + 1; transfer = f.transfer; taken = n }) = ap (runs_there ch c) e ∙ runs_front ch c f.transfer n f.is in
+          absurd (true≢false (find-none_at (λ (r : RunningTransfer). true) o s ch _ less none is))
+    ] in
+    by _ refl
+
+-- so no front has passed or signalled
+none-passed : (o : Object) (s : List ChannelSchedule) (ch : ℕ) → Fits o s → NothingRuns o s → ((channel o ch).passed ≡ false) × ((channel o ch).signalled ≡ false)
+none-passed o s ch h none = elim (cases_lt ch (length o.channels)) [
+  | inl less ↦ let agrees : Agrees (channel o ch) None = rw (none-taken o s ch h none less) at (h.each ch less) in agrees
+  | inr past ↦ rw (get_or_past o.channels ch empty_channel past) (refl, refl)
+]
+
+-- the next base is one
+pub base-next : (p : Parts) → Holds p → NothingRuns (object_of (view_of p)) (view_of p).schedule → IsBase (base_from (object_of (view_of p)))
+base-next p h none =
+    let o = object_of (view_of p) in
+    let ruled = ruled-object (length p.base.image) p.base p.history refl (ruled-base p.base h.sound.opens) h.sound.legal in
+    let same : length p.base.image ≡ length o.image = sym (size-object p.base p.history) in
+    record {
+      flags = flags-many p h;
+      marks = marked-object p.base p.history h.sound.opens.marks h.sound.legal;
+      each = λ ch.
+          let c = channel o ch in
+          let n = length c.outcomes in
+          let counted = counted-at p h ch in
+          let rests = none-passed o (view_of p).schedule ch h.sound.fits none in
+          rw (forgotten-at o ch) (record {
+            outcomes = refl;
+            rests = rests;
+            counts = (
+              omega (arith, counted.order),
+              omega (arith, counted.issue, counted.finish, length-drop n c.submitted),
+              omega (arith, counted.give, counted.finish, length-drop n c.submitted),
+            );
+            rules = λ k d less.
+                let within : n + k < length c.submitted = omega (arith, less, length-drop n c.submitted) in
+                let good : IsGood (length p.base.image) (slice_index_or c.submitted (n + k) d) = ruled ch (n + k) _ (slice_get-get_or c.submitted (n + k) d within) in
+                let here : slice_index_or (drop n c.submitted) k d ≡ slice_index_or c.submitted (n + k) d = get_or-drop n c.submitted k d in
+                subst (IsGood (length o.image)) (sym here) (subst (λ m. IsGood m (slice_index_or c.submitted (n + k) d)) same good);
+          });
+    }
+
+-- ---- the queues after it
+
+take-all : {X : Type 0} (xs : List X) → take (length xs) xs ≡ xs
+take-all [] = refl
+take-all (x ∷ xs) = ap (λ l. x ∷ l) (take-all xs)
+
+run-none : (memory : List ℕ) (m : ChannelValue) (c : ChannelState) → taken_of m ≡ None → IsRun memory m c
+run-none memory m c h =
+    let by : (o : Option ProgramValue) → m.program ≡ o → IfSome o (λ _. IsSomeAnd (front c) (λ t. IsAt t m.taken memory m)) = λ o. elim o as (λ o. m.program ≡ o → IfSome o (λ _. IsSomeAnd (front c) (λ t. IsAt t m.taken memory m))) [
+      | None ↦ λ e. tt
+      | Some x ↦ λ e. let f : Some m.taken ≡ None = rw e at h in absurd cc
+    ] in
+    by _ refl
+
+pub queue-next : (p : Parts) → Holds p → (ch : ℕ) (q : Queue) → ch < length p.queues → q ≡ slice_index_or p.queues ch q → taken_of q.channel ≡ None → let c = channel (object_of (view_of p)) ch in IsQueue ch (forget c).submitted [] p.memory (queue_forgotten q) (forget c)
+queue-next p h ch q less read none =
+    let c = channel (object_of (view_of p)) ch in
+    let t = (holds-at p h ch q less read).tied in
+    let counted = counted-at p h ch in
+    record {
+      forgotten = omega (arith, t.forgotten, ap length t.outcomes);
+      given = omega (arith, t.given, counted.finish, length-drop (length c.outcomes) c.submitted);
+      many = omega arith;
+      first = take-all (drop (length c.outcomes) c.submitted);
+      stands = λ k l. absurd (omega (arith, l));
+      outcomes = refl;
+      issued = t.issued;
+      halted = t.halted;
+      machine = run-none p.memory q.channel (forget c) none;
+    }
+
+-- ---- the parts after it
+
+abbrev pub parts_forgotten : Parts → Parts
+parts_forgotten p = record p { base = base_from (object_of (view_of p)); history = []; queues = map queue_forgotten p.queues }
+
+same-schedule : (qs : List Queue) → map schedule_of (map queue_forgotten qs) ≡ map schedule_of qs
+same-schedule [] = refl
+same-schedule (q ∷ qs) = ap (λ l. schedule_of q ∷ l) (same-schedule qs)
+
+pub view-next : (p : Parts) → view_of (parts_forgotten p) ≡ checkpointed (view_of p)
+view-next p = ap (λ s. record { base = base_from (object_of (view_of p)); history = []; steps = p.steps; schedule = s }) (same-schedule p.queues)
+
+fits-next : (o : Object) (s : List ChannelSchedule) → Fits o s → NothingRuns o s → Fits (base_from o) s
+fits-next o s h none =
+    let many : length (base_from o).channels ≡ length o.channels = length-map o.channels forget in
+    let nothing : (ch : ℕ) → ch < length o.channels → (slice_index_or s ch idle).taken ≡ None = λ ch l. none-taken o s ch h none l in
+    record {
+      many = h.many ∙ sym many;
+      each = λ ch l.
+          let l' : ch < length o.channels = omega (arith, l, many) in
+          let agrees = rw (nothing ch l') at (h.each ch l') in
+          rw (nothing ch l', forgotten-at o ch) agrees;
+      free = λ c d i j k.
+          let i' : c < length o.channels = omega (arith, i, many) in
+          rw (nothing c i') tt;
+    }
+
+-- nothing is taken on any channel
+nothing-taken : (o : Object) (s : List ChannelSchedule) (ch : ℕ) → Fits o s → NothingRuns o s → (slice_index_or s ch idle).taken ≡ None
+nothing-taken o s ch h none = elim (cases_lt ch (length o.channels)) [
+  | inl less ↦ none-taken o s ch h none less
+  | inr past ↦ ap (λ (x : ChannelSchedule). x.taken) (get_or_past s ch idle (omega (arith, past, h.many)))
+]
+
+pub holds-next : (p : Parts) → Holds p → NothingRuns (object_of (view_of p)) (view_of p).schedule → Holds (parts_forgotten p)
+holds-next p h none =
+    let v : View = view_of p in
+    let o = object_of v in
+    let s = v.schedule in
+    let is = view-next p in
+    let many : length (base_from o).channels ≡ length o.channels = length-map o.channels forget in
+    let rest : (x : Object) (ch : ℕ) → runs x s ch ≡ None = λ x ch. ap (runs_there ch (channel x ch)) (nothing-taken o s ch h.sound.fits none) in
+    let later : (ch : ℕ) → runs (object_of (view_of (parts_forgotten p))) (view_of (parts_forgotten p)).schedule ch ≡ None = λ ch.
+    ap (λ (w : View). runs (object_of w) w.schedule ch) is ∙ rest (base_from o) ch in
+    let same : running o s ≡ running (base_from o) s = sym (running-same o (base_from o) s s (sym many) (λ c l. rest (base_from o) c ∙ sym (rest o c))) in
+    record {
+      sound = subst IsSound (sym is) (record {
+        opens = base-next p h none;
+        makes = rw (size-object p.base p.history, many, many-channels p.base p.history) h.sound.makes;
+        legal = tt;
+        fits = fits-next o s h.sound.fits none;
+      });
+      size = h.size ∙ sym (size-object p.base p.history);
+      shown = h.shown ∙ shown-both o (base_from o) s s refl same ∙ ap memory_of (sym is);
+      events = h.events;
+      marks = h.marks;
+      each = λ ch d less.
+          let l : ch < length p.queues = omega (arith, less, length-map p.queues queue_forgotten) in
+          let q = slice_index_or p.queues ch d in
+          let at = get_or-map queue_forgotten p.queues ch d d l in
+          let read : q ≡ slice_index_or p.queues ch q = get_or_any p.queues ch d q l in
+          let there = (holds-at p h ch q l read).schedule_is in
+          let taken : taken_of q.channel ≡ None = ap (λ (x : ChannelSchedule). x.taken) (sym there) ∙ none-taken o s ch h.sound.fits none (omega (arith, l, many-queues p h)) in
+          rw (at, forgotten-at o ch) (queue-next p h ch q l read taken);
+      prepared = λ ch. subst (IsPrepared p.made) (sym (later ch)) tt;
+      ranges = λ ch d less.
+          let l : ch < length p.queues = omega (arith, less, length-map p.queues queue_forgotten) in
+          let at = get_or-map queue_forgotten p.queues ch d d l in
+          rw at (subst (AreOfRunning (slice_index_or p.queues ch d).ranges) (rest o ch ∙ sym (later ch)) (h.ranges ch d l));
+    }
+
+-- ---- the image, where nothing runs
+
+find-any : (l : List RunningTransfer) → find (λ (r : RunningTransfer). true) l ≡ None → l ≡ []
+find-any [] h = refl
+find-any (r ∷ rs) h = absurd cc
+
+pub image-now : (p : Parts) → Holds p → NothingRuns (object_of (view_of p)) (view_of p).schedule → p.memory ≡ (object_of (view_of p)).image
+unfolding after_moves
+image-now p h none =
+    let o = object_of (view_of p) in
+    h.shown ∙ ap (λ l. over o.image (map with_stored l)) (find-any (running o (view_of p).schedule) none) ∙ put-nil o.image
+
+-- ---- one queue after another
+
+pub at-next : (xs : List Queue) (i : ℕ) (d : Queue) → i < length xs → slice_index_or (map queue_forgotten (take i xs) ++ drop i xs) i d ≡ slice_index_or xs i d
+at-next [] i d h = absurd (omega arith)
+at-next (x ∷ xs) zero d h = refl
+at-next (x ∷ xs) (suc i) d h = at-next xs i d (omega arith)
+
+pub set-next : (xs : List Queue) (i : ℕ) (q d : Queue) → i < length xs → q ≡ queue_forgotten (slice_index_or xs i d) → slice_set (map queue_forgotten (take i xs) ++ drop i xs) i q ≡ map queue_forgotten (take (suc i) xs) ++ drop (suc i) xs
+set-next [] i q d h e = absurd (omega arith)
+set-next (x ∷ xs) zero q d h e = ap (λ y. y ∷ xs) e
+set-next (x ∷ xs) (suc i) q d h e = ap (λ l. queue_forgotten x ∷ l) (set-next xs i q d (omega arith) e)
+
+-- ---- a checkpoint gives the room back
+
+pub no-room-next : (qs : List Queue) (ch : ℕ) → slice_index_or (map queue_room (map queue_forgotten qs)) ch no_room ≡ no_room
+no-room-next [] ch = refl
+no-room-next (q ∷ qs) zero = refl
+no-room-next (q ∷ qs) (suc ch) = no-room-next qs ch
+
+-- ---- a checkpoint leaves the board
+
+pub counts-next : (c : ChannelState) → finished c ≤ used c → counts_of (forget c) ≡ counts_of c
+counts-next c h =
+    let same : used (forget c) ≡ used c = omega (arith, h, length-drop (length c.outcomes) c.submitted) in
+    let done : finished (forget c) ≡ finished c = omega arith in
+    rw (same, done) refl
+
+counts-all : (cs : List ChannelState) → ((k : ℕ) → finished (slice_index_or cs k empty_channel) ≤ used (slice_index_or cs k empty_channel)) → map counts_of (map forget cs) ≡ map counts_of cs
+counts-all [] h = refl
+counts-all (c ∷ cs) h =
+    let first : counts_of (forget c) ≡ counts_of c = counts-next c (h 0) in
+    let rest = counts-all cs (λ k. h (suc k)) in
+    rw (first, rest) refl
+
+pub board-next : (v : View) → IsSound v → board_of (base_from (object_of v)) ≡ board_of (object_of v)
+board-next v h = counts-all (object_of v).channels (λ k. (counted-object v.base v.history (counted-base v.base h.opens) h.legal k).finish)
+
+-- nor do the finished cookies change
+sum-forgotten : (cs : List ChannelState) → sum_by finished (map forget cs) ≡ sum_by finished cs
+sum-forgotten [] = refl
+sum-forgotten (c ∷ cs) =
+    let one : finished (forget c) ≡ finished c = omega arith in
+    let rest = sum-forgotten cs in
+    omega (arith, sum_by-cons finished (forget c) (map forget cs), sum_by-cons finished c cs)
+
+pub accepted : (f : Option EngineFault) (v w x : View) → (Done, w) ≡ unless f v (Done, x) → w ≡ x
+accepted None v w x h = ap (λ (y : Reply × View). y.1) h
+accepted (Some f) v w x h = let e : Done ≡ Refused f = ap (λ (y : Reply × View). y.0) h in absurd cc
+
+pub checkpoints_keep : CheckpointsKeep
+checkpoints_keep v w h done =
+    let is : w ≡ checkpointed v = accepted (checkpoint_fault v) v w (checkpointed v) done in (
+      ap (λ (x : View). x.history) is,
+      ap (λ (x : View). board_of x.base) is ∙ board-next v h,
+      ap (λ (x : View). x.steps) is,
+      ap (λ (x : View). finished_all (object_of x)) is ∙ sum-forgotten (object_of v).channels,
+    )

@@ -1,0 +1,54 @@
+use Rattle.std.proofs.Common.{◌≡◌, ◌<◌, ◌∙◌, Some, None, ap, sym, arith, length}
+use Rattle.std.specs.Prelude.{slice_index_or, unwrap_or}
+use Rattle.dma_engine.specs.inner.Found.{transfer_at}
+use Rattle.dma_engine.specs.inner.Holds.{view_of}
+use Rattle.dma_engine.specs.inner.Inside.{parts_of}
+use Rattle.dma_engine.specs.Object.{channel, no_transfer}
+use Rattle.dma_engine.specs.View.{EngineState, object_of}
+use Rattle.dma_engine.proofs.Queues.{holds-at, many-queues, transfer_found}
+use Rattle.dma_engine.proofs.Sizes.{many-channels}
+use Rattle.dma_engine.proofs.engine.Engine.transfer.Goals as goal
+
+pub kept-kept-requires : goal.kept-kept-requires
+kept-kept-requires c =
+    let p = parts_of c.self.inside in
+    let there = rw (← c.self.view_is) at c.requires.there in
+    let less : c.args.index < length p.queues = omega (arith, there, many-queues p c.self.invariant) in
+    omega (arith, less, many-queues p c.self.invariant, many-channels p.base p.history)
+
+pub transfer_at-requires : goal.transfer_at-requires
+transfer_at-requires c =
+    let p = parts_of c.self.inside in
+    let i = c.args.index in
+    let there = rw (← c.self.view_is) at c.requires.there in
+    let given = rw (← c.self.view_is) at c.requires.given in
+    let less : i < length p.queues = omega (arith, there, many-queues p c.self.invariant) in
+    let at = holds-at p c.self.invariant i c.index-queue.result.now less c.index-queue.ensures in
+    rw c.kept-kept.ensures (omega (arith, given, at.tied.many))
+
+pub unreachable-requires : goal.unreachable-requires
+unreachable-requires c =
+    let p = parts_of c.self.inside in
+    let i = c.args.index in
+    let q = c.index-queue.result.now in
+    let there = rw (← c.self.view_is) at c.requires.there in
+    let given = rw (← c.self.view_is) at c.requires.given in
+    let less : i < length p.queues = omega (arith, there, many-queues p c.self.invariant) in
+    let at = holds-at p c.self.invariant i q less c.index-queue.ensures in
+    let found = transfer_found i (channel p.base i).submitted p.history p.memory q (channel (object_of (view_of p)) i) c.args.n at.tied given in
+    let none : transfer_at (channel p.base i).submitted p.history q.indices.items c.args.n ≡ None = rw (c.kept-kept.ensures, c.deref.ensures.value) at (sym c.in_default.ensures) in
+    absurd (cc (none, found))
+
+pub returns : goal.returns
+returns c =
+    let p = parts_of c.self.inside in
+    let i = c.args.index in
+    let q = c.index-queue.result.now in
+    let there = rw (← c.self.view_is) at c.requires.there in
+    let given = rw (← c.self.view_is) at c.requires.given in
+    let less : i < length p.queues = omega (arith, there, many-queues p c.self.invariant) in
+    let at = holds-at p c.self.invariant i q less c.index-queue.ensures in
+    let t = c.in-Some.transfer.now in
+    let found = transfer_found i (channel p.base i).submitted p.history p.memory q (channel (object_of (view_of p)) i) c.args.n at.tied given in
+    let told : Some t ≡ transfer_at (channel p.base i).submitted p.history q.indices.items c.args.n = rw (c.kept-kept.ensures, c.deref.ensures.value) at c.in-Some.ensures in
+    ap (λ o. unwrap_or o t) (told ∙ found) ∙ ap (λ (s : EngineState). slice_index_or (channel (object_of s.view) i).submitted c.args.n no_transfer) c.self.view_is

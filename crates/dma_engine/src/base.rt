@@ -1,0 +1,160 @@
+//! The object from which a history begins.
+
+ghost use Rattle.std.specs.Prelude.{◌≡◌, ◌<◌, ◌≤◌, length, replicate, slice_index_or, IfOk, [], false};
+ghost use Rattle.dma_engine.specs.Object.{empty_channel, opening, used};
+
+use dma_mem::events::Events;
+use dma_mem::marks::Marks;
+use dma_mem::memory::Memory;
+use dma_mem::transfer::Transfer;
+use std::alloc::{AllocError, Global};
+use std::marker::Model;
+
+/// What a base has of a channel.
+#[derive(Drop)]
+pub struct BaseChannel {
+    // how many cookies are finished
+    forgotten: u32,
+    // how many cookies are issued
+    issued: u32,
+    // whether a failure has halted the channel
+    halted: bool,
+    // the unfinished transfers, in the order of their cookies
+    unfinished: Vec<Transfer>,
+}
+
+impl Model for BaseChannel {
+    ghost use Rattle.std.specs.Prelude.{[], false};
+    ghost use Rattle.dma_engine.specs.Object.{ChannelState};
+
+    ghost Value = { ChannelState };
+
+    ghost view = { λ c. record {
+      forgotten = c.forgotten;
+      submitted = c.unfinished.items;
+      issued = c.issued;
+      outcomes = [];
+      passed = false;
+      signalled = false;
+      halted = c.halted;
+    } };
+}
+
+impl BaseChannel {
+    /// A channel on which so many cookies are finished and so many issued, with these unfinished transfers.
+    pub fn of(forgotten: u32, issued: u32, halted: bool, unfinished: Vec<Transfer>) -> BaseChannel
+        ensures { result ≡ record {
+          forgotten = forgotten;
+          submitted = unfinished.items;
+          issued = issued;
+          outcomes = [];
+          passed = false;
+          signalled = false;
+          halted = halted;
+        } }
+    {
+        BaseChannel {
+            forgotten,
+            issued,
+            halted,
+            unfinished,
+        }
+    }
+
+    /// A channel to which nothing was submitted. It takes no memory.
+    pub fn new(alloc: Global) -> BaseChannel
+        ensures { result ≡ empty_channel }
+    {
+        BaseChannel {
+            forgotten: 0,
+            issued: 0,
+            halted: false,
+            unfinished: Vec::new(alloc),
+        }
+    }
+}
+
+/// The object from which a history begins. Its image is one of zeros where none is stored, so that an engine without a
+/// checkpoint holds one memory.
+#[derive(Drop)]
+pub struct Base {
+    size: u32,
+    image: Option<Memory>,
+    events: Events,
+    marks: Marks,
+    channels: Vec<BaseChannel>,
+}
+
+impl Model for Base {
+    ghost use Rattle.std.specs.Prelude.{replicate};
+    ghost use Rattle.dma_engine.specs.Object.{Object};
+    ghost use Rattle.dma_engine.specs.inner.Stored.{image_stored};
+
+    ghost Value = { Object };
+
+    ghost view = { λ b. record {
+      image = image_stored b.image b.size;
+      events = b.events;
+      marks = b.marks;
+      channels = b.channels.items;
+    } };
+}
+
+impl Base {
+    /// The opening object of an engine of that size and number of channels.
+    pub fn opening(alloc: Global, size: u32, channels: u8) -> Result<Base, AllocError>
+        ensures { IfOk result (λ base. base ≡ opening size channels) }
+    {
+        let channels = new_channels(alloc, channels)?;
+        Ok(Base {
+            size,
+            image: None,
+            events: Events::new(),
+            marks: Marks::new(alloc),
+            channels,
+        })
+    }
+
+    /// A base of these parts.
+    pub fn of(image: Memory, events: Events, marks: Marks, channels: Vec<BaseChannel>) -> Base
+        ensures { result ≡ record { image = image.image; events = events; marks = marks; channels = channels.items } }
+    {
+        Base {
+            size: image.size(),
+            image: Some(image),
+            events,
+            marks,
+            channels,
+        }
+    }
+
+    /// How many cookies a channel has given; 0 where there is no such channel.
+    pub fn used(&self, index: usize) -> u32
+        requires { used (slice_index_or self.now.channels index empty_channel) ≤ 4294967295 }
+        ensures { result ≡ used (slice_index_or self.now.channels index empty_channel) }
+    {
+        match self.channels.get(index) {
+            Some(channel) => channel.forgotten + channel.unfinished.len() as u32,
+            None => 0,
+        }
+    }
+
+    /// The unfinished transfers of a channel, in the order of their cookies.
+    pub fn kept(&self, index: usize) -> &[Transfer]
+        requires { index < length self.now.channels }
+        ensures { result.now ≡ (slice_index_or self.now.channels index empty_channel).submitted }
+    {
+        self.channels[index].unfinished.as_slice()
+    }
+}
+
+// Channels to which nothing was submitted.
+fn new_channels(alloc: Global, count: u8) -> Result<Vec<BaseChannel>, AllocError>
+    ensures { IfOk result (λ channels. channels.items ≡ replicate count empty_channel) }
+{
+    let mut channels = Vec::new(alloc);
+    for _n in 0..count {
+        channels.push(BaseChannel::new(alloc))?;
+    }
+    Ok(channels)
+}

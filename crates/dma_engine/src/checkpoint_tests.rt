@@ -1,0 +1,191 @@
+//! Checkpoints: what they forget, what they keep, and what stops them.
+
+use crate::call::{Call, Reply};
+use crate::engine::Engine;
+use crate::fault::EngineFault;
+use crate::outcome::TransResult;
+use crate::run::run;
+use crate::test_lines::{
+    ABORTED, COPIED, CopyOfFour, Fact, Line, READ_FAILED, finished, first_wrong,
+};
+use crate::turn::{Status, Turn};
+use dma_mem::marks::MarkKind;
+use dma_mem::segment::Segment;
+use dma_mem::transfer::Transfer;
+use std::alloc::Global;
+use std::test::Fail;
+
+// Two copies of four bytes, issued, of which the first is finished.
+fn one_of_two_finished(alloc: Global) -> Result<Engine, Fail> {
+    let mut engine = Engine::new(alloc, 0x400, 2)?;
+    engine.write(0x100, &[1, 2, 3, 4])?;
+    let lines = [
+        Line::Submitted(0, CopyOfFour(0x100, 0x200), 1),
+        Line::Submitted(0, CopyOfFour(0x200, 0x300), 2),
+        Line::Issued(0, 2),
+        Line::Stepped(0, Turn::Started(1)),
+        Line::Moved(0, 7),
+        Line::Finished(0, 1, COPIED),
+    ];
+    match first_wrong(alloc, &mut engine, &lines) {
+        None => Ok(engine),
+        Some(_) => Err(Fail::from("a line answered otherwise")),
+    }
+}
+
+#[test]
+fn outcomes_are_forgotten_and_counts_stay(rt: HostRuntime) -> Result<(), Fail> {
+    let mut engine = one_of_two_finished(rt.alloc())?;
+    assert_eq!(rt; engine.checkpoint(), Ok(()));
+    assert_eq!(rt; engine.history().len(), 0);
+    assert_eq!(rt; engine.forgotten(0), 1);
+    assert_eq!(rt; engine.used_at_base(0), 2);
+    assert_eq!(rt; engine.forgotten(1), 0);
+    assert_eq!(rt; engine.forgotten(2), 0);
+    assert_eq!(rt; engine.used_at_base(2), 0);
+    let lines = [
+        Line::Told(Fact::Result(0, 1, None)),
+        Line::Told(Fact::Status(0, 1, Status::Complete)),
+        Line::Told(Fact::Status(0, 2, Status::InProgress)),
+        Line::Told(Fact::Steps(8)),
+        Line::Read(0x200, &[1, 2, 3, 4]),
+        Line::Stepped(0, Turn::Started(2)),
+        Line::Moved(0, 7),
+        Line::Finished(0, 2, COPIED),
+        Line::Read(0x300, &[1, 2, 3, 4]),
+        Line::Told(Fact::Result(0, 2, Some(COPIED))),
+        Line::Submitted(0, CopyOfFour(0x100, 0x200), 3),
+        Line::Submitted(1, CopyOfFour(0x100, 0x380), 1),
+    ];
+    assert_eq!(rt; first_wrong(rt.alloc(), &mut engine, &lines), None);
+    assert_eq!(rt; engine.checkpoint(), Ok(()));
+    assert_eq!(rt; engine.forgotten(0), 2);
+    assert_eq!(rt; engine.used_at_base(1), 1);
+    Ok(())
+}
+
+#[test]
+fn a_running_transfer_stops_it(rt: HostRuntime) -> Result<(), Fail> {
+    let mut engine = one_of_two_finished(rt.alloc())?;
+    engine.step(0)?;
+    let entries = engine.history().len();
+    let running = EngineFault::Running { ch: 0, cookie: 2 };
+    assert_eq!(rt; engine.checkpoint(), Err(running));
+    assert_eq!(rt; engine.history().len(), entries);
+    assert_eq!(rt; engine.result(0, 1), Some(COPIED));
+    assert_eq!(rt; engine.terminate(0)?, 1);
+    assert_eq!(rt; engine.checkpoint(), Ok(()));
+    assert_eq!(rt; engine.forgotten(0), 2);
+    Ok(())
+}
+
+#[test]
+fn marks_halts_and_pauses_stay(rt: HostRuntime) -> Result<(), Fail> {
+    let mut engine = Engine::new(rt.alloc(), 0x400, 2)?;
+    let marked = Segment {
+        addr: 0x100,
+        len: 1,
+    };
+    let failed = finished(1, READ_FAILED);
+    let before = [
+        Line::Marked(MarkKind::Reading, marked),
+        Line::Submitted(0, CopyOfFour(0x100, 0x200), 1),
+        Line::Submitted(0, CopyOfFour(0x180, 0x200), 2),
+        Line::Submitted(1, CopyOfFour(0x100, 0x300), 1),
+        Line::Issued(0, 2),
+        Line::Issued(1, 1),
+        Line::Paused(1),
+        Line::Stepped(0, Turn::Started(1)),
+        // its three moves, then its load
+        Line::Advanced(0, 100, 3, Some(Ok(failed))),
+    ];
+    assert_eq!(rt; first_wrong(rt.alloc(), &mut engine, &before), None);
+    assert!(rt; engine.halted(0));
+    assert_eq!(rt; engine.checkpoint(), Ok(()));
+    let after = [
+        Line::Stepped(0, Turn::Halted),
+        Line::Stepped(1, Turn::Paused),
+        Line::Resumed(1),
+        Line::Stepped(1, Turn::Started(1)),
+        Line::Advanced(1, 100, 3, Some(Ok(failed))),
+        // a halt that the base has is ended
+        Line::Terminated(0, 1),
+        Line::Told(Fact::Halted(0, false)),
+        Line::Told(Fact::Result(0, 2, Some(ABORTED))),
+        Line::Told(Fact::Result(0, 1, None)),
+    ];
+    assert_eq!(rt; first_wrong(rt.alloc(), &mut engine, &after), None);
+    Ok(())
+}
+
+// A flag that the base has lets a front pass that the base has too.
+#[test]
+fn a_flag_and_its_waiter_stay(rt: HostRuntime) -> Result<(), Fail> {
+    let mut engine = Engine::new(rt.alloc(), 0x400, 1)?;
+    let src = [Segment {
+        addr: 0x100,
+        len: 4,
+    }];
+    let dst = [Segment {
+        addr: 0x200,
+        len: 4,
+    }];
+    let waits = Transfer::new(rt.alloc(), &src, &dst, Some(3), None)?;
+    if engine.submit(0, waits).is_err() {
+        return Err(Fail::from("submit was refused"));
+    }
+    engine.issue(0)?;
+    engine.raise(3)?;
+    assert_eq!(rt; engine.checkpoint(), Ok(()));
+    let lines = [
+        Line::Stepped(0, Turn::Started(1)),
+        Line::Moved(0, 8),
+        Line::Finished(0, 1, COPIED),
+        // it passed and finished
+        Line::Told(Fact::Entries(2)),
+    ];
+    assert_eq!(rt; first_wrong(rt.alloc(), &mut engine, &lines), None);
+    Ok(())
+}
+
+// With the growths refused in turn, each of which leaves all as it was.
+#[test]
+fn a_refused_one_changes_nothing(rt: HostRuntime) -> Result<(), Fail> {
+    let mut engine = one_of_two_finished(rt.alloc())?;
+    let entries = engine.history().len();
+    if let Err(fault) = engine.checkpoint() {
+        assert_eq!(rt; fault, EngineFault::NoMemory);
+        assert_eq!(rt; engine.history().len(), entries);
+        assert_eq!(rt; engine.forgotten(0), 0);
+        assert_eq!(rt; engine.result(0, 1), Some(COPIED));
+        assert_eq!(rt; engine.status(0, 2), Status::InProgress);
+        assert_eq!(rt; engine.checkpoint(), Ok(()));
+    }
+    assert_eq!(rt; engine.history().len(), 0);
+    assert_eq!(rt; engine.forgotten(0), 1);
+    Ok(())
+}
+
+#[test]
+fn a_call_among_others(rt: HostRuntime) -> Result<(), Fail> {
+    let mut engine = one_of_two_finished(rt.alloc())?;
+    let calls = [
+        Call::Checkpoint,
+        Call::Result { ch: 0, cookie: 1 },
+        Call::Step { ch: 0 },
+        Call::Checkpoint,
+    ];
+    let Ok(replies) = run(rt.alloc(), &mut engine, &calls) else {
+        return Err(Fail::from("no memory"));
+    };
+    assert!(rt; matches!(replies.get(0), Some(Reply::Done)));
+    assert!(rt; matches!(replies.get(1), Some(Reply::Result(None))));
+    assert!(rt; matches!(replies.get(2), Some(Reply::Turned(Turn::Started(2)))));
+    assert!(rt;
+        matches!(
+            replies.get(3),
+            Some(Reply::Refused(EngineFault::Running { ch: 0, cookie: 2 }))
+        )
+    );
+    Ok(())
+}

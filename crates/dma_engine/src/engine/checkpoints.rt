@@ -1,0 +1,123 @@
+//! A checkpoint: the present becomes the base from which the history begins.
+
+ghost use Rattle.std.specs.Prelude.{◌≡◌, ◌+◌, ◌<◌, ◌≤◌, None, IfOk, OnErr, drop, length, map, slice_index_or, true};
+ghost use Rattle.std.specs.List.{All};
+ghost use Rattle.dma_engine.specs.Object.{base_from, channel, forget, no_transfer};
+ghost use Rattle.dma_engine.specs.View.{channels, object_of, schedule_at};
+ghost use Rattle.dma_engine.specs.Answer.{CallAnswers, first_running, reply_of};
+ghost use Rattle.dma_engine.specs.Room.{HasGivenBack};
+ghost use Rattle.dma_engine.specs.inner.Holds.{queue_forgotten};
+
+use crate::base::{Base, BaseChannel};
+use crate::call::{Call, Reply};
+use crate::engine::Engine;
+use crate::fault::EngineFault;
+use crate::queue::{Queue, transfer_at};
+use crate::way::Way;
+use dma_mem::transfer::Transfer;
+use std::alloc::{AllocError, Global};
+
+impl Engine {
+    /// Makes the present state the base from which the history begins, and drops the history: it is empty then. Of the
+    /// cookies that are finished only their number stays. Memory, pauses, the step count, what is used, finished and
+    /// running, and how far each cookie is, are as before.
+    ///
+    /// It copies the pages of the memory that are made, the marks and the unfinished transfers, and gives back what the
+    /// history took.
+    ///
+    /// The error is the first that holds of `Running` where a transfer runs, the one on the lowest such channel, and
+    /// `NoMemory`; nothing changes in either case.
+    pub fn checkpoint(&mut self) -> Result<(), EngineFault>
+        ensures answer { CallAnswers self.old.view Call.Checkpoint (reply_of (λ _. Reply.Done) result) self.new.view }
+        ensures memory { self.new.memory ≡ self.old.memory }
+        ensures room { IfOk result (λ _. HasGivenBack self.new) }
+        ensures same { OnErr result (self.new ≡ self.old) }
+    {
+        if let Some((ch, cookie)) = self.first_in_the_way(&Way::Checkpoint) {
+            return Err(EngineFault::Running { ch, cookie });
+        }
+        let base = self.next_base()?;
+        self.base = base;
+        self.history = Vec::new(self.alloc);
+        forget_all(&mut self.queues, self.alloc);
+        Ok(())
+    }
+
+    // The base that a checkpoint stores.
+    fn next_base(&self) -> Result<Base, AllocError>
+        requires { first_running self.now.view (λ _. true) ≡ None }
+        ensures { IfOk result (λ base. base ≡ base_from (object_of self.now.view)) }
+    {
+        let channels = self.next_channels()?;
+        let image = self.memory.try_copy()?;
+        let marks = self.marks.try_copy()?;
+        Ok(Base::of(image, self.events.copy(), marks, channels))
+    }
+
+    // What the next base has of all channels.
+    fn next_channels(&self) -> Result<Vec<BaseChannel>, AllocError>
+        requires { first_running self.now.view (λ _. true) ≡ None }
+        ensures { IfOk result (λ list. list.items ≡ map forget (object_of self.now.view).channels) }
+    {
+        let mut list = Vec::new(self.alloc);
+        for index in 0..self.queues.len() {
+            list.push(self.next_channel(index)?)?;
+        }
+        Ok(list)
+    }
+
+    // What the next base has of a channel.
+    fn next_channel(&self, index: usize) -> Result<BaseChannel, AllocError>
+        requires there { index < channels self.now.view }
+        requires rests { (schedule_at self.now.view index).taken ≡ None }
+        ensures { IfOk result (λ base. base ≡ forget (channel (object_of self.now.view) index)) }
+    {
+        let queue = &self.queues[index];
+        let unfinished = self.unfinished_copies(index)?;
+        Ok(BaseChannel::of(
+            queue.forgotten + queue.outcomes.len() as u32,
+            queue.issued,
+            queue.halted,
+            unfinished,
+        ))
+    }
+
+    // Copies of the unfinished transfers of a channel, in the order of their cookies.
+    fn unfinished_copies(&self, index: usize) -> Result<Vec<Transfer>, AllocError>
+        requires { index < channels self.now.view }
+        ensures { let c = channel (object_of self.now.view) index in
+            IfOk result (λ list. list.items ≡ drop (length c.outcomes) c.submitted) }
+    {
+        let queue = &self.queues[index];
+        let first = queue.outcomes.len();
+        let mut list = Vec::new(self.alloc);
+        for n in first..(queue.given - queue.forgotten) as usize {
+            list.push(self.transfer(index, n).try_copy()?)?;
+        }
+        Ok(list)
+    }
+
+    // The transfer of a cookie that isn't forgotten, counted from 0.
+    fn transfer(&self, index: usize, n: usize) -> &Transfer
+        requires there { index < channels self.now.view }
+        requires given { n < length (channel (object_of self.now.view) index).submitted }
+        ensures { result.now ≡ slice_index_or (channel (object_of self.now.view) index).submitted n no_transfer }
+    {
+        let kept = self.base.kept(index);
+        let queue = &self.queues[index];
+        let Some(transfer) = transfer_at(kept, &self.history, &queue.indices, n) else {
+            unreachable!();
+        };
+        transfer
+    }
+}
+
+// Forgets what all queues have of finished cookies and of the history.
+fn forget_all(queues: &mut [Queue], alloc: Global)
+    requires { All (λ q. q.forgotten + length q.outcomes.items ≤ 4294967295) queues.old }
+    ensures { queues.new ≡ map queue_forgotten queues.old }
+{
+    for queue in queues {
+        queue.forget(alloc);
+    }
+}
