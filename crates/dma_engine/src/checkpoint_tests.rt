@@ -3,15 +3,13 @@
 use crate::call::{Call, Reply};
 use crate::engine::Engine;
 use crate::fault::EngineFault;
-use crate::outcome::TransResult;
 use crate::run::run;
 use crate::test_lines::{
-    ABORTED, COPIED, CopyOfFour, Fact, Line, READ_FAILED, finished, first_wrong,
+    ABORTED, COPIED, CopyOfFour, Events, Fact, Line, READ_FAILED, Request, finished, first_wrong,
 };
 use crate::turn::{Status, Turn};
 use dma_mem::marks::MarkKind;
 use dma_mem::segment::Segment;
-use dma_mem::transfer::Transfer;
 use std::alloc::Global;
 use std::test::Fail;
 
@@ -36,19 +34,29 @@ fn one_of_two_finished(alloc: Global) -> Result<Engine, Fail> {
 #[test]
 fn outcomes_are_forgotten_and_counts_stay(rt: HostRuntime) -> Result<(), Fail> {
     let mut engine = one_of_two_finished(rt.alloc())?;
-    assert_eq!(rt; engine.checkpoint(), Ok(()));
-    assert_eq!(rt; engine.history().len(), 0);
-    assert_eq!(rt; engine.forgotten(0), 1);
-    assert_eq!(rt; engine.used_at_base(0), 2);
-    assert_eq!(rt; engine.forgotten(1), 0);
-    assert_eq!(rt; engine.forgotten(2), 0);
-    assert_eq!(rt; engine.used_at_base(2), 0);
     let lines = [
+        Line::Checkpointed,
+        Line::Told(Fact::Entries(0)),
+        Line::Told(Fact::Forgotten(0, 1)),
+        Line::Told(Fact::UsedAtBase(0, 2)),
+        Line::Told(Fact::Forgotten(1, 0)),
+        Line::Told(Fact::Forgotten(2, 0)),
+        Line::Told(Fact::UsedAtBase(2, 0)),
         Line::Told(Fact::Result(0, 1, None)),
         Line::Told(Fact::Status(0, 1, Status::Complete)),
         Line::Told(Fact::Status(0, 2, Status::InProgress)),
         Line::Told(Fact::Steps(8)),
         Line::Read(0x200, &[1, 2, 3, 4]),
+    ];
+    assert_eq!(rt; first_wrong(rt.alloc(), &mut engine, &lines), None);
+    Ok(())
+}
+
+#[test]
+fn a_second_one_adds_up(rt: HostRuntime) -> Result<(), Fail> {
+    let mut engine = one_of_two_finished(rt.alloc())?;
+    let lines = [
+        Line::Checkpointed,
         Line::Stepped(0, Turn::Started(2)),
         Line::Moved(0, 7),
         Line::Finished(0, 2, COPIED),
@@ -56,26 +64,30 @@ fn outcomes_are_forgotten_and_counts_stay(rt: HostRuntime) -> Result<(), Fail> {
         Line::Told(Fact::Result(0, 2, Some(COPIED))),
         Line::Submitted(0, CopyOfFour(0x100, 0x200), 3),
         Line::Submitted(1, CopyOfFour(0x100, 0x380), 1),
+        Line::Checkpointed,
+        Line::Told(Fact::Forgotten(0, 2)),
+        Line::Told(Fact::UsedAtBase(0, 3)),
+        Line::Told(Fact::UsedAtBase(1, 1)),
     ];
     assert_eq!(rt; first_wrong(rt.alloc(), &mut engine, &lines), None);
-    assert_eq!(rt; engine.checkpoint(), Ok(()));
-    assert_eq!(rt; engine.forgotten(0), 2);
-    assert_eq!(rt; engine.used_at_base(1), 1);
     Ok(())
 }
 
 #[test]
 fn a_running_transfer_stops_it(rt: HostRuntime) -> Result<(), Fail> {
     let mut engine = one_of_two_finished(rt.alloc())?;
-    engine.step(0)?;
-    let entries = engine.history().len();
     let running = EngineFault::Running { ch: 0, cookie: 2 };
-    assert_eq!(rt; engine.checkpoint(), Err(running));
-    assert_eq!(rt; engine.history().len(), entries);
-    assert_eq!(rt; engine.result(0, 1), Some(COPIED));
-    assert_eq!(rt; engine.terminate(0)?, 1);
-    assert_eq!(rt; engine.checkpoint(), Ok(()));
-    assert_eq!(rt; engine.forgotten(0), 2);
+    let lines = [
+        Line::Stepped(0, Turn::Started(2)),
+        Line::Told(Fact::Entries(5)),
+        Line::Refused(Request::Checkpoint, running),
+        Line::Told(Fact::Entries(5)),
+        Line::Told(Fact::Result(0, 1, Some(COPIED))),
+        Line::Terminated(0, 1),
+        Line::Checkpointed,
+        Line::Told(Fact::Forgotten(0, 2)),
+    ];
+    assert_eq!(rt; first_wrong(rt.alloc(), &mut engine, &lines), None);
     Ok(())
 }
 
@@ -87,7 +99,7 @@ fn marks_halts_and_pauses_stay(rt: HostRuntime) -> Result<(), Fail> {
         len: 1,
     };
     let failed = finished(1, READ_FAILED);
-    let before = [
+    let lines = [
         Line::Marked(MarkKind::Reading, marked),
         Line::Submitted(0, CopyOfFour(0x100, 0x200), 1),
         Line::Submitted(0, CopyOfFour(0x180, 0x200), 2),
@@ -98,11 +110,8 @@ fn marks_halts_and_pauses_stay(rt: HostRuntime) -> Result<(), Fail> {
         Line::Stepped(0, Turn::Started(1)),
         // its three moves, then its load
         Line::Advanced(0, 100, 3, Some(Ok(failed))),
-    ];
-    assert_eq!(rt; first_wrong(rt.alloc(), &mut engine, &before), None);
-    assert!(rt; engine.halted(0));
-    assert_eq!(rt; engine.checkpoint(), Ok(()));
-    let after = [
+        Line::Told(Fact::Halted(0, true)),
+        Line::Checkpointed,
         Line::Stepped(0, Turn::Halted),
         Line::Stepped(1, Turn::Paused),
         Line::Resumed(1),
@@ -114,7 +123,7 @@ fn marks_halts_and_pauses_stay(rt: HostRuntime) -> Result<(), Fail> {
         Line::Told(Fact::Result(0, 2, Some(ABORTED))),
         Line::Told(Fact::Result(0, 1, None)),
     ];
-    assert_eq!(rt; first_wrong(rt.alloc(), &mut engine, &after), None);
+    assert_eq!(rt; first_wrong(rt.alloc(), &mut engine, &lines), None);
     Ok(())
 }
 
@@ -122,22 +131,11 @@ fn marks_halts_and_pauses_stay(rt: HostRuntime) -> Result<(), Fail> {
 #[test]
 fn a_flag_and_its_waiter_stay(rt: HostRuntime) -> Result<(), Fail> {
     let mut engine = Engine::new(rt.alloc(), 0x400, 1)?;
-    let src = [Segment {
-        addr: 0x100,
-        len: 4,
-    }];
-    let dst = [Segment {
-        addr: 0x200,
-        len: 4,
-    }];
-    let waits = Transfer::new(rt.alloc(), &src, &dst, Some(3), None)?;
-    if engine.submit(0, waits).is_err() {
-        return Err(Fail::from("submit was refused"));
-    }
-    engine.issue(0)?;
-    engine.raise(3)?;
-    assert_eq!(rt; engine.checkpoint(), Ok(()));
     let lines = [
+        Line::SubmittedWith(0, CopyOfFour(0x100, 0x200), Events::Wait(3), 1),
+        Line::Issued(0, 1),
+        Line::Raised(3),
+        Line::Checkpointed,
         Line::Stepped(0, Turn::Started(1)),
         Line::Moved(0, 8),
         Line::Finished(0, 1, COPIED),
@@ -152,18 +150,35 @@ fn a_flag_and_its_waiter_stay(rt: HostRuntime) -> Result<(), Fail> {
 #[test]
 fn a_refused_one_changes_nothing(rt: HostRuntime) -> Result<(), Fail> {
     let mut engine = one_of_two_finished(rt.alloc())?;
-    let entries = engine.history().len();
     if let Err(fault) = engine.checkpoint() {
         assert_eq!(rt; fault, EngineFault::NoMemory);
-        assert_eq!(rt; engine.history().len(), entries);
-        assert_eq!(rt; engine.forgotten(0), 0);
-        assert_eq!(rt; engine.result(0, 1), Some(COPIED));
-        assert_eq!(rt; engine.status(0, 2), Status::InProgress);
-        assert_eq!(rt; engine.checkpoint(), Ok(()));
+        let as_before = [
+            Line::Told(Fact::Entries(5)),
+            Line::Told(Fact::Forgotten(0, 0)),
+            Line::Told(Fact::Result(0, 1, Some(COPIED))),
+            Line::Told(Fact::Status(0, 2, Status::InProgress)),
+            Line::Checkpointed,
+        ];
+        assert_eq!(rt; first_wrong(rt.alloc(), &mut engine, &as_before), None);
     }
-    assert_eq!(rt; engine.history().len(), 0);
-    assert_eq!(rt; engine.forgotten(0), 1);
+    let forgotten = [
+        Line::Told(Fact::Entries(0)),
+        Line::Told(Fact::Forgotten(0, 1)),
+    ];
+    assert_eq!(rt; first_wrong(rt.alloc(), &mut engine, &forgotten), None);
     Ok(())
+}
+
+// Whether the replies are those of a checkpoint, a result that was forgotten, a start, and a checkpoint that it stops.
+fn has_checkpoints(replies: &[Reply]) -> bool {
+    let first = matches!(replies.get(0), Some(Reply::Done));
+    let result = matches!(replies.get(1), Some(Reply::Result(None)));
+    let step = matches!(replies.get(2), Some(Reply::Turned(Turn::Started(2))));
+    let last = matches!(
+        replies.get(3),
+        Some(Reply::Refused(EngineFault::Running { ch: 0, cookie: 2 }))
+    );
+    first && result && step && last && replies.len() == 4
 }
 
 #[test]
@@ -178,14 +193,6 @@ fn a_call_among_others(rt: HostRuntime) -> Result<(), Fail> {
     let Ok(replies) = run(rt.alloc(), &mut engine, &calls) else {
         return Err(Fail::from("no memory"));
     };
-    assert!(rt; matches!(replies.get(0), Some(Reply::Done)));
-    assert!(rt; matches!(replies.get(1), Some(Reply::Result(None))));
-    assert!(rt; matches!(replies.get(2), Some(Reply::Turned(Turn::Started(2)))));
-    assert!(rt;
-        matches!(
-            replies.get(3),
-            Some(Reply::Refused(EngineFault::Running { ch: 0, cookie: 2 }))
-        )
-    );
+    assert!(rt; has_checkpoints(&replies));
     Ok(())
 }

@@ -40,11 +40,32 @@ pub struct CopyOfFour(pub u32, pub u32);
 
 impl CopyOfFour {
     pub fn transfer(self, alloc: Global) -> Result<Transfer, TransferFault> {
+        self.with(alloc, Events::None)
+    }
+
+    // The copy with what it waits for, or signals.
+    fn with(self, alloc: Global, events: Events) -> Result<Transfer, TransferFault> {
         let CopyOfFour(src, dst) = self;
         let src = [Segment { addr: src, len: 4 }];
         let dst = [Segment { addr: dst, len: 4 }];
-        Transfer::new(alloc, &src, &dst, None, None)
+        let (wait, signal) = match events {
+            Events::None => (None, None),
+            Events::Wait(event) => (Some(event), None),
+            Events::Signal(event) => (None, Some(event)),
+        };
+        Transfer::new(alloc, &src, &dst, wait, signal)
     }
+}
+
+/// The event of a transfer.
+#[derive(Clone, Copy)]
+pub enum Events {
+    /// It has none.
+    None,
+    /// It waits for this one before it reads.
+    Wait(u8),
+    /// It signals this one at its end.
+    Signal(u8),
 }
 
 /// A call, with its arguments, and what it must answer.
@@ -52,6 +73,8 @@ impl CopyOfFour {
 pub enum Line {
     /// A transfer is submitted to a channel, and gets this cookie.
     Submitted(u8, CopyOfFour, u32),
+    /// A transfer with an event is submitted to a channel, and gets this cookie.
+    SubmittedWith(u8, CopyOfFour, Events, u32),
     /// So many cookies of a channel are issued.
     Issued(u8, u32),
     /// A channel is paused.
@@ -68,6 +91,8 @@ pub enum Line {
     Moved(u8, u32),
     /// A step of a channel finishes a cookie.
     Finished(u8, u32, Outcome),
+    /// A step of a channel answers this, or isn't taken where it would end a transfer.
+    SteppedUnlessEnding(u8, Option<Turn>),
     /// Steps of a channel in a row, at most so many: so many move, and the last answers this.
     Advanced(u8, u32, u32, Option<Result<Turn, EngineFault>>),
     /// Bytes are written at an address.
@@ -80,6 +105,8 @@ pub enum Line {
     Unmarked,
     /// An event is raised.
     Raised(u8),
+    /// The history is forgotten.
+    Checkpointed,
     /// A call is refused for this.
     Refused(Request, EngineFault),
     /// The engine tells this of itself.
@@ -103,6 +130,8 @@ pub enum Request {
     Mark(MarkKind, Segment),
     /// Raising an event.
     Raise(u8),
+    /// Forgetting the history.
+    Checkpoint,
 }
 
 /// What an engine tells of itself.
@@ -118,6 +147,10 @@ pub enum Fact {
     Entries(usize),
     /// A channel has given so many cookies.
     Used(u8, u32),
+    /// A channel had given so many cookies at the last checkpoint.
+    UsedAtBase(u8, u32),
+    /// So many cookies of a channel were forgotten.
+    Forgotten(u8, u32),
     /// So many cookies of a channel have finished.
     Finished(u8, u32),
     /// So many cookies of all channels have finished.
@@ -151,7 +184,12 @@ pub fn first_wrong(alloc: Global, engine: &mut Engine, lines: &[Line]) -> Option
 // Carries a call out, and tells whether it answers as it must.
 fn goes(alloc: Global, engine: &mut Engine, line: Line) -> bool {
     match line {
-        Line::Submitted(ch, copy, cookie) => submits(alloc, engine, ch, copy) == Some(cookie),
+        Line::Submitted(ch, copy, cookie) => {
+            submits(alloc, engine, ch, copy, Events::None) == Some(cookie)
+        }
+        Line::SubmittedWith(ch, copy, events, cookie) => {
+            submits(alloc, engine, ch, copy, events) == Some(cookie)
+        }
         Line::Issued(ch, count) => engine.issue(ch) == Ok(count),
         Line::Paused(ch) => engine.pause(ch) == Ok(()),
         Line::Resumed(ch) => engine.resume(ch) == Ok(()),
@@ -160,6 +198,7 @@ fn goes(alloc: Global, engine: &mut Engine, line: Line) -> bool {
         Line::Stepped(ch, turn) => engine.step(ch) == Ok(turn),
         Line::Moved(ch, steps) => moves(engine, ch, steps),
         Line::Finished(ch, cookie, outcome) => engine.step(ch) == Ok(finished(cookie, outcome)),
+        Line::SteppedUnlessEnding(ch, turn) => steps_on(engine, ch, turn),
         Line::Advanced(ch, most, moved, last) => {
             advance(engine, ch, most) == Advanced { moved, last }
         }
@@ -168,13 +207,29 @@ fn goes(alloc: Global, engine: &mut Engine, line: Line) -> bool {
         Line::Marked(kind, segment) => engine.mark(kind, segment) == Ok(()),
         Line::Unmarked => engine.unmark() == Ok(()),
         Line::Raised(event) => engine.raise(event) == Ok(()),
+        Line::Checkpointed => engine.checkpoint() == Ok(()),
         Line::Refused(request, fault) => refusal(engine, request) == Some(fault),
         Line::Told(fact) => tells(engine, fact),
     }
 }
 
-fn submits(alloc: Global, engine: &mut Engine, ch: u8, copy: CopyOfFour) -> Option<u32> {
-    engine.submit(ch, copy.transfer(alloc).ok()?).ok()
+fn submits(
+    alloc: Global,
+    engine: &mut Engine,
+    ch: u8,
+    copy: CopyOfFour,
+    events: Events,
+) -> Option<u32> {
+    engine.submit(ch, copy.with(alloc, events).ok()?).ok()
+}
+
+// Whether a step that would end no transfer answers this, or isn't taken.
+fn steps_on(engine: &mut Engine, ch: u8, turn: Option<Turn>) -> bool {
+    match (engine.step_unless_ending(ch), turn) {
+        (Some(answer), Some(turn)) => answer == Ok(turn),
+        (None, None) => true,
+        _ => false,
+    }
 }
 
 // Whether each of so many steps moves.
@@ -218,6 +273,7 @@ fn refusal(engine: &mut Engine, request: Request) -> Option<EngineFault> {
         Request::Read(addr, len) => engine.read(addr, len).err(),
         Request::Mark(kind, segment) => engine.mark(kind, segment).err(),
         Request::Raise(event) => engine.raise(event).err(),
+        Request::Checkpoint => engine.checkpoint().err(),
     }
 }
 
@@ -228,6 +284,8 @@ fn tells(engine: &Engine, fact: Fact) -> bool {
         Fact::Steps(steps) => engine.steps() == steps,
         Fact::Entries(len) => engine.history().len() == len,
         Fact::Used(ch, count) => engine.used(ch) == count,
+        Fact::UsedAtBase(ch, count) => engine.used_at_base(ch) == count,
+        Fact::Forgotten(ch, count) => engine.forgotten(ch) == count,
         Fact::Finished(ch, count) => engine.finished(ch) == count,
         Fact::FinishedAll(count) => engine.finished_all() == count,
         Fact::Unfinished(ch, count) => engine.unfinished(ch) == count,

@@ -6,7 +6,7 @@ use crate::engine::Engine;
 use crate::fault::{EngineFault, SubmitFault};
 use crate::run::{run, run_into};
 use crate::test_lines::{
-    ABORTED, COPIED, CopyOfFour, Fact, Line, READ_FAILED, Request, WRITE_FAILED, finished,
+    ABORTED, COPIED, CopyOfFour, Events, Fact, Line, READ_FAILED, Request, WRITE_FAILED, finished,
     first_wrong,
 };
 use crate::turn::{Running, Status, Turn};
@@ -158,55 +158,58 @@ fn marks_and_events(rt: HostRuntime) -> Result<(), Fail> {
     Ok(())
 }
 
+// A byte is written, and read.
+fn write_and_read(alloc: Global) -> Result<Vec<Call>, Fail> {
+    let bytes = Bytes::from_slice(alloc, &[0xAA])?;
+    let mut calls = Vec::new(alloc);
+    calls.push(Call::Write { addr: 0x10, bytes })?;
+    calls.push(Call::Read { addr: 0x10, len: 1 })?;
+    Ok(calls)
+}
+
+// Whether the second of two replies has these bytes.
+fn second_has(replies: &[Reply], wanted: &[u8]) -> bool {
+    match replies.get(1) {
+        Some(Reply::Bytes(bytes)) => replies.len() == 2 && bytes.as_slice() == wanted,
+        _ => false,
+    }
+}
+
 #[test]
 fn a_list_of_calls(rt: HostRuntime) -> Result<(), Fail> {
+    let calls = write_and_read(rt.alloc())?;
     let mut engine = Engine::new(rt.alloc(), 64, 1)?;
-    let bytes = Bytes::from_slice(rt.alloc(), &[0xAA])?;
-    let write = Call::Write { addr: 0x10, bytes };
-    let read = Call::Read { addr: 0x10, len: 1 };
-    let mut calls = Vec::new(rt.alloc());
-    calls.push(write)?;
-    calls.push(read)?;
     let Ok(replies) = run(rt.alloc(), &mut engine, &calls) else {
         return Err(Fail::from("no memory"));
     };
-    assert_eq!(rt; replies.len(), 2);
-    match &replies[1] {
-        Reply::Bytes(bytes) => assert_eq!(rt; bytes.as_slice(), [0xAA].as_slice()),
-        _ => assert!(rt; false),
-    }
+    assert!(rt; second_has(&replies, &[0xAA]));
     Ok(())
+}
+
+// One reply, a count of seven.
+fn seven(alloc: Global) -> Result<Vec<Reply>, Fail> {
+    let mut replies = Vec::new(alloc);
+    replies.push(Reply::Count(7))?;
+    Ok(replies)
+}
+
+// Whether the replies are a count of seven, and that of a step which does nothing.
+fn seven_and_nothing(replies: &[Reply]) -> bool {
+    let first = matches!(replies.get(0), Some(Reply::Count(7)));
+    let second = matches!(replies.get(1), Some(Reply::Turned(Turn::Nothing)));
+    first && second && replies.len() == 2
 }
 
 #[test]
 fn replies_at_the_end_of_a_list(rt: HostRuntime) -> Result<(), Fail> {
+    let mut replies = seven(rt.alloc())?;
     let mut engine = Engine::new(rt.alloc(), 64, 1)?;
-    let mut calls = Vec::new(rt.alloc());
-    calls.push(Call::Step { ch: 0 })?;
-    let mut replies = Vec::new(rt.alloc());
-    replies.push(Reply::Count(7))?;
+    let calls = [Call::Step { ch: 0 }];
     let Ok(()) = run_into(&mut engine, &calls, &mut replies) else {
         return Err(Fail::from("no memory"));
     };
-    assert_eq!(rt; replies.len(), 2);
-    assert!(rt; matches!(replies[0], Reply::Count(7)));
-    assert!(rt; matches!(replies[1], Reply::Turned(Turn::Nothing)));
+    assert!(rt; seven_and_nothing(&replies));
     Ok(())
-}
-
-// The copy of four bytes with an event to wait for, or to signal.
-fn with_events(
-    alloc: Global,
-    dst: u32,
-    wait: Option<u8>,
-    signal: Option<u8>,
-) -> Result<Transfer, Fail> {
-    let src = [Segment {
-        addr: 0x100,
-        len: 4,
-    }];
-    let dst = [Segment { addr: dst, len: 4 }];
-    Ok(Transfer::new(alloc, &src, &dst, wait, signal)?)
 }
 
 #[test]
@@ -388,11 +391,9 @@ fn a_mark_of_the_other_kind_stops_no_burst(rt: HostRuntime) -> Result<(), Fail> 
 #[test]
 fn one_event_lets_one_waiter_pass(rt: HostRuntime) -> Result<(), Fail> {
     let mut engine = Engine::new(rt.alloc(), 0x400, 2)?;
-    let waiter = with_events(rt.alloc(), 0x200, Some(3), None)?;
-    submitted(&mut engine, 0, waiter)?;
-    let other = with_events(rt.alloc(), 0x300, Some(3), None)?;
-    submitted(&mut engine, 1, other)?;
     let lines = [
+        Line::SubmittedWith(0, CopyOfFour(0x100, 0x200), Events::Wait(3), 1),
+        Line::SubmittedWith(1, CopyOfFour(0x100, 0x300), Events::Wait(3), 1),
         Line::Issued(0, 1),
         Line::Issued(1, 1),
         Line::Stepped(0, Turn::Started(1)),
@@ -410,11 +411,9 @@ fn one_event_lets_one_waiter_pass(rt: HostRuntime) -> Result<(), Fail> {
 #[test]
 fn a_signal_lets_a_waiter_pass(rt: HostRuntime) -> Result<(), Fail> {
     let mut engine = Engine::new(rt.alloc(), 0x400, 2)?;
-    let signaller = with_events(rt.alloc(), 0x200, None, Some(5))?;
-    submitted(&mut engine, 0, signaller)?;
-    let waiter = with_events(rt.alloc(), 0x300, Some(5), None)?;
-    submitted(&mut engine, 1, waiter)?;
     let lines = [
+        Line::SubmittedWith(0, CopyOfFour(0x100, 0x200), Events::Signal(5), 1),
+        Line::SubmittedWith(1, CopyOfFour(0x100, 0x300), Events::Wait(5), 1),
         Line::Issued(0, 1),
         Line::Issued(1, 1),
         Line::Stepped(0, Turn::Started(1)),
@@ -458,22 +457,34 @@ fn refused(engine: &mut Engine, ch: u8, transfer: Transfer) -> Result<SubmitFaul
     }
 }
 
+// Whether a copy of four bytes to 13, which ends above a memory of 16, is handed back by two submits.
+fn comes_back(engine: &mut Engine, transfer: Transfer) -> Result<bool, Fail> {
+    let above = EngineFault::OutOfMemoryRange;
+    let is_checked = engine.check_submit(0, &transfer) == Err(above);
+    let first = refused(engine, 0, transfer)?;
+    let is_above = first.fault == above;
+    let again = refused(engine, 1, first.transfer)?;
+    let has_no_channel = again.fault == EngineFault::NoChannel;
+    let is_whole = again.transfer.dst_place(3) == Some(16);
+    Ok(is_checked && is_above && has_no_channel && is_whole)
+}
+
+// The cookie that a submit of a copy would get.
+fn next_cookie(alloc: Global, engine: &Engine, copy: CopyOfFour) -> Option<u32> {
+    let transfer = copy.transfer(alloc).ok()?;
+    engine.check_submit(0, &transfer).ok()
+}
+
 #[test]
 fn a_refused_transfer_is_handed_back(rt: HostRuntime) -> Result<(), Fail> {
-    let mut engine = Engine::new(rt.alloc(), 16, 1)?;
     let transfer = copy_of_four(rt.alloc(), 0, 13)?;
-    let above = EngineFault::OutOfMemoryRange;
-    assert_eq!(rt; engine.check_submit(0, &transfer), Err(above));
-    let first = refused(&mut engine, 0, transfer)?;
-    assert_eq!(rt; first.fault, above);
-    let again = refused(&mut engine, 1, first.transfer)?;
-    assert_eq!(rt; again.fault, EngineFault::NoChannel);
-    assert_eq!(rt; again.transfer.dst_place(3), Some(16));
-    assert_eq!(rt; engine.used(0), 0);
-    let fits = copy_of_four(rt.alloc(), 0, 12)?;
-    assert_eq!(rt; engine.check_submit(0, &fits), Ok(1));
+    let mut engine = Engine::new(rt.alloc(), 16, 1)?;
+    assert!(rt; comes_back(&mut engine, transfer)?);
+    let fits = CopyOfFour(0, 12);
+    assert_eq!(rt; next_cookie(rt.alloc(), &engine, fits), Some(1));
     let lines = [
-        Line::Submitted(0, CopyOfFour(0, 12), 1),
+        Line::Told(Fact::Used(0, 0)),
+        Line::Submitted(0, fits, 1),
         Line::Told(Fact::Used(0, 1)),
         Line::Told(Fact::Finished(0, 0)),
         Line::Told(Fact::Paused(0, false)),
@@ -528,14 +539,22 @@ fn an_end_is_told_before_its_step(rt: HostRuntime) -> Result<(), Fail> {
 #[test]
 fn each_step_but_the_one_that_ends(rt: HostRuntime) -> Result<(), Fail> {
     let mut engine = Engine::new(rt.alloc(), 0x400, 1)?;
-    submitted(&mut engine, 0, copy_of_four(rt.alloc(), 0x100, 0x200)?)?;
-    assert_eq!(rt; engine.issue(0)?, 1);
-    assert_eq!(rt; engine.step_unless_ending(0), Some(Ok(Turn::Started(1))));
-    for _ in 0..7 {
-        assert_eq!(rt; engine.step_unless_ending(0), Some(Ok(Turn::Moved)));
-    }
-    assert_eq!(rt; engine.step_unless_ending(0), None);
-    assert_eq!(rt; engine.finished(0), 0);
+    let moves = Line::SteppedUnlessEnding(0, Some(Turn::Moved));
+    let lines = [
+        Line::Submitted(0, CopyOfFour(0x100, 0x200), 1),
+        Line::Issued(0, 1),
+        Line::SteppedUnlessEnding(0, Some(Turn::Started(1))),
+        moves,
+        moves,
+        moves,
+        moves,
+        moves,
+        moves,
+        moves,
+        Line::SteppedUnlessEnding(0, None),
+        Line::Told(Fact::Finished(0, 0)),
+    ];
+    assert_eq!(rt; first_wrong(rt.alloc(), &mut engine, &lines), None);
     Ok(())
 }
 
