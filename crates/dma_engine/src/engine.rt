@@ -33,8 +33,8 @@ mod steps;
 /// The most channels that an engine has (PL330 manual, the number of channel threads is configured).
 pub const MAX_CHANNELS: u8 = 8;
 
-/// Queues of transfers on channels over one memory. Contracts see its base, its history, its step count, its schedule and its memory's
-/// bytes; which pages of the memory are made is no part of that.
+/// Queues of transfers on channels over one memory. Contracts see its base, its history, its step count, its schedule and its
+/// memory's bytes; which pages of the memory are made is no part of that.
 #[derive(Drop)]
 pub struct Engine {
     alloc: Global,

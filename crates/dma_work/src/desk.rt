@@ -4,6 +4,7 @@ ghost use Rattle.std.specs.Prelude.{◌≡◌, ◌+◌, ◌<◌, [], ◌∷◌, 
 ghost use Rattle.dma_mem.specs.Rules.{IsTransfer};
 ghost use Rattle.dma_engine.specs.Answer.{CallAnswers, StepAnswers, checked, reply_of, submit_fault};
 ghost use Rattle.dma_engine.specs.Object.{channel, finished_all, used};
+ghost use Rattle.dma_engine.specs.Room.{HasGivenBack};
 ghost use Rattle.dma_engine.specs.Turn.{ends, turn};
 ghost use Rattle.dma_engine.specs.View.{IsSound, memory_of, object_of};
 ghost use Rattle.dma_work.specs.Desk.{Names, SameBook, counted, published, stepped_book};
@@ -205,6 +206,7 @@ impl<N: DeskName> Desk<N> {
         ensures book { self.new.book ≡ self.old.book }
         ensures published { published self.new ≡ published self.old }
         ensures before { IfOk result (λ _. self.new.before ≡ published self.old) }
+        ensures room { IfOk result (λ _. HasGivenBack self.new.engine) }
         ensures same { OnErr result (self.new ≡ self.old) }
     {
         // opens to the proof what the engine's type keeps

@@ -112,7 +112,8 @@ impl Publisher {
         self.log.front().again()
     }
 
-    /// Makes ready to publish one tick more, and says whether there was memory for it. There is none for tick number 2^64 - 1.
+    /// Makes ready to publish one tick more, and says whether there was memory for it. There is none where 2^64 - 1 ticks are
+    /// published.
     pub(crate) fn ready(&mut self, tick: Tick) -> bool
         requires { self.old.pending ≡ [] }
         ensures few { IsTrue result → length self.new.shown.ticks < 18446744073709551615 }
