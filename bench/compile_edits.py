@@ -1,5 +1,5 @@
 #!/usr/bin/env python3
-"""Whether the must-fail edits can still be applied and compile. Nothing is proved: 8 seconds for all edits of a crate.
+"""Whether the must-fail edits, and those of bench/edits/, can still be applied and compile. Nothing is proved: 8 seconds a crate.
 
 An edit that doesn't (its 'old:' text is gone, a name that it uses was renamed) fails the gate as BAD EDIT, but only after an
 hour. This asks the prover for a function that isn't there, of a copy of the crate: it reads and types the whole crate first, so
@@ -100,7 +100,8 @@ def main():
     tried, wrong = 0, []
     for name in names:
         crate, good = crates[name], []
-        for edit in rt.edits_of(crate)[0]:
+        beside = sorted(map(str, (TOP / "bench/edits" / name).glob("*.edit")))
+        for edit in rt.edits_of(crate)[0] + beside:
             tried += 1
             texts, why = rt.read_edit(edit, crate.folder)
             if why:
