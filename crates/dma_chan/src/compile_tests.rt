@@ -139,7 +139,7 @@ fn two_pieces(rt: HostRuntime) -> Result<(), Fail> {
     Ok(())
 }
 
-// The offset of the instruction at which a program of so many of the 47 bytes stops: the last that begins there or before.
+// The offset of the instruction at which fewer than the 47 bytes stop: the last that begins at their end or before.
 fn last_start(len: u32) -> u32 {
     let mut last = 0;
     for start in STARTS.iter() {
@@ -150,19 +150,73 @@ fn last_start(len: u32) -> u32 {
     last
 }
 
+// How so many of the 47 bytes end: all of them by DMAEND, fewer at an instruction that isn't there or isn't whole.
+fn end_of_cut(len: u32) -> RunEnd {
+    if len == 47 {
+        return RunEnd::Ended { turns: 20 };
+    }
+    RunEnd::Fault {
+        kind: FaultKind::InstrFetchErr,
+        pc: last_start(len),
+    }
+}
+
+// How many bytes they store, in bursts of 256, 32 and 12: the bytes of the stores are those at 22, 34 and 44.
+fn stored_by_cut(len: u32) -> u32 {
+    match len {
+        0..=22 => 0,
+        23..=34 => 256,
+        35..=44 => 288,
+        _ => 300,
+    }
+}
+
+// A byte of the source, by its place; none is zero.
+fn source_byte(place: u32) -> u8 {
+    (place % 251 + 1) as u8
+}
+
+// A memory with the 300 bytes of the source, and zeros.
+fn with_source(alloc: Global) -> Result<Memory, Fail> {
+    let mut memory = Memory::new(alloc, 0x4000)?;
+    for place in 0..300u32 {
+        memory.write(0x1000 + place, &[source_byte(place)])?;
+    }
+    Ok(memory)
+}
+
+// The byte at an address where so many bytes are copied.
+fn copied_byte(stored: u32, address: u32) -> u8 {
+    if address >= 0x2000 && address - 0x2000 < stored {
+        return source_byte(address - 0x2000);
+    }
+    if address >= 0x1000 && address - 0x1000 < 300 {
+        return source_byte(address - 0x1000);
+    }
+    0
+}
+
+// The first address whose byte is another than where so many bytes are copied, and nothing else was done.
+fn first_other(memory: &Memory, stored: u32) -> Option<u32> {
+    for address in 0..0x4000u32 {
+        if memory.byte(address) != Some(copied_byte(stored, address)) {
+            return Some(address);
+        }
+    }
+    None
+}
+
 #[test]
 fn a_program_cut_to_each_length(rt: HostRuntime) -> Result<(), Fail> {
     let alloc = rt.alloc();
-    for len in 0..47u32 {
-        let mut memory = Memory::new(alloc, 0x4000)?;
+    for len in 0..=47u32 {
+        let mut memory = with_source(alloc)?;
         let end = run_program(alloc, &COPY_OF_300[..len as usize], &mut memory, 1000)?;
-        let kind = FaultKind::InstrFetchErr;
+        assert_eq!(rt; end, end_of_cut(len), "{len} bytes");
         assert_eq!(rt;
-            end,
-            RunEnd::Fault {
-                kind,
-                pc: last_start(len)
-            }
+            first_other(&memory, stored_by_cut(len)),
+            None,
+            "{len} bytes"
         );
     }
     Ok(())

@@ -11,8 +11,12 @@ pub mod laws;
 pub mod next;
 #[cfg(test)]
 mod page_tests;
+#[cfg(test)]
+mod pair_tests;
 mod pieces;
 pub mod program;
+#[cfg(test)]
+mod refused_tests;
 pub mod run;
 #[cfg(test)]
 mod tests;

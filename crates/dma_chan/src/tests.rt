@@ -72,19 +72,6 @@ fn run_alone_until_an_end_or_a_wait(rt: HostRuntime) -> Result<(), Fail> {
 }
 
 #[test]
-fn every_pair_of_bytes_comes_to_an_end(rt: HostRuntime) -> Result<(), Fail> {
-    let alloc = rt.alloc();
-    let mut memory = Memory::new(alloc, 512)?;
-    for first in 0..=255u8 {
-        for second in 0..=255u8 {
-            let bytes = [first, second, 0, 0, 0, 0, 0];
-            run_program(alloc, &bytes, &mut memory, 1000)?;
-        }
-    }
-    Ok(())
-}
-
-#[test]
 fn too_long_programs_are_refused(rt: HostRuntime) -> Result<(), Fail> {
     let alloc = rt.alloc();
     let bytes = vec![in alloc; 0u8; 8193]?;

@@ -5,6 +5,8 @@ pub mod asm;
 pub mod dis;
 pub mod plan;
 pub mod printing;
+#[cfg(test)]
+mod refused_tests;
 pub mod run;
 #[cfg(test)]
 mod run_tests;

@@ -109,40 +109,38 @@ fn one_source_for_two(rt: HostRuntime) -> Result<(), Fail> {
     Ok(())
 }
 
+/// Three submits, and a terminate between two bursts of the first.
+pub static THREE_SUBMITS: &[u8] = b"memory 0x4000 1\n\
+    write 0x101E 11 22 33 44\n\
+    submit 0 0x1000+36 to 0x2000+36\n\
+    submit 0 0x1000+8 to 0x3000+8\n\
+    submit 0 0x1000+5 to 0x3100+5\n\
+    issue 0\n\
+    step 0 7\n\
+    terminate 0\n\
+    result 0 1\n\
+    result 0 2\n\
+    result 0 3\n\
+    read 0x201E+4";
+
+/// What they print.
+pub static THREE_ABORTED: &[u8] = b"ok\n\
+    cookie 1\n\
+    cookie 2\n\
+    cookie 3\n\
+    issued 3\n\
+    step 0 started 1 x1\n\
+    step 0 moved x6\n\
+    aborted 3\n\
+    result Aborted residue 4\n\
+    result Aborted residue 8\n\
+    result Aborted residue 5\n\
+    read 0x0000201E 11 22 00 00\n";
+
 #[test]
 fn terminated(rt: HostRuntime) -> Result<(), Fail> {
-    let ran = run(
-        rt.alloc(),
-        b"memory 0x4000 1\n\
-          write 0x101E 11 22 33 44\n\
-          submit 0 0x1000+36 to 0x2000+36\n\
-          submit 0 0x1000+8 to 0x3000+8\n\
-          submit 0 0x1000+5 to 0x3100+5\n\
-          issue 0\n\
-          step 0 7\n\
-          terminate 0\n\
-          result 0 1\n\
-          result 0 2\n\
-          result 0 3\n\
-          read 0x201E+4",
-    );
-    assert_ran(
-        &rt,
-        &ran,
-        0,
-        b"ok\n\
-          cookie 1\n\
-          cookie 2\n\
-          cookie 3\n\
-          issued 3\n\
-          step 0 started 1 x1\n\
-          step 0 moved x6\n\
-          aborted 3\n\
-          result Aborted residue 4\n\
-          result Aborted residue 8\n\
-          result Aborted residue 5\n\
-          read 0x0000201E 11 22 00 00\n",
-    );
+    let ran = run(rt.alloc(), THREE_SUBMITS);
+    assert_ran(&rt, &ran, 0, THREE_ABORTED);
     Ok(())
 }
 

@@ -33,6 +33,10 @@ mod example;
 #[cfg(test)]
 mod fill_tests;
 #[cfg(test)]
+mod refused_tests;
+#[cfg(test)]
+mod stop_tests;
+#[cfg(test)]
 mod test_lines;
 #[cfg(test)]
 mod tests;

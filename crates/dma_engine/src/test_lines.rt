@@ -118,6 +118,8 @@ pub enum Line {
 pub enum Request {
     /// Issuing the cookies of a channel.
     Issue(u8),
+    /// Ending the unfinished cookies of a channel.
+    Terminate(u8),
     /// Making room for a call on a channel.
     MakeRoom(u8),
     /// A step of a channel.
@@ -128,6 +130,8 @@ pub enum Request {
     Read(u32, u32),
     /// Marking addresses.
     Mark(MarkKind, Segment),
+    /// Taking all marks away.
+    Unmark,
     /// Raising an event.
     Raise(u8),
     /// Forgetting the history.
@@ -252,8 +256,8 @@ pub fn finished(cookie: u32, outcome: Outcome) -> Turn {
     }
 }
 
-// Whether the bytes at an address are these.
-fn reads(engine: &mut Engine, addr: u32, bytes: &[u8]) -> bool {
+/// Whether the bytes at an address are these.
+pub fn reads(engine: &mut Engine, addr: u32, bytes: &[u8]) -> bool {
     let Ok(len) = u32::try_from(bytes.len()) else {
         return false;
     };
@@ -263,15 +267,17 @@ fn reads(engine: &mut Engine, addr: u32, bytes: &[u8]) -> bool {
     }
 }
 
-// Why a call is refused, none where it isn't.
-fn refusal(engine: &mut Engine, request: Request) -> Option<EngineFault> {
+/// Why a call is refused, none where it isn't.
+pub fn refusal(engine: &mut Engine, request: Request) -> Option<EngineFault> {
     match request {
         Request::Issue(ch) => engine.issue(ch).err(),
+        Request::Terminate(ch) => engine.terminate(ch).err(),
         Request::MakeRoom(ch) => engine.make_room(ch).err(),
         Request::Step(ch) => engine.step(ch).err(),
         Request::Write(addr, bytes) => engine.write(addr, bytes).err(),
         Request::Read(addr, len) => engine.read(addr, len).err(),
         Request::Mark(kind, segment) => engine.mark(kind, segment).err(),
+        Request::Unmark => engine.unmark().err(),
         Request::Raise(event) => engine.raise(event).err(),
         Request::Checkpoint => engine.checkpoint().err(),
     }

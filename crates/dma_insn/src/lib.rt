@@ -9,3 +9,5 @@ pub mod control;
 pub mod disassembler;
 pub mod insn;
 mod line;
+#[cfg(test)]
+mod refused_tests;

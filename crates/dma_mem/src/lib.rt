@@ -8,6 +8,8 @@ pub mod memory;
 mod ordered;
 mod pages;
 pub mod range_set;
+#[cfg(test)]
+mod refused_tests;
 pub mod segment;
 mod table;
 pub mod transfer;

@@ -9,6 +9,7 @@ use crate::input::{InputError, LONGEST_INPUT, read_input};
 use crate::printing::push_line;
 use crate::statements::read_run_script;
 use std::alloc::{AllocError, Global};
+use std::process::Abort;
 use std::sync::Wait;
 use std::test::Fail;
 use std::thread::Threads;
@@ -29,6 +30,30 @@ impl Command for Echo {
     }
 
     ghost some_group = { λ input. lit< tt };
+}
+
+impl OpenCommand for Echo {
+    ghost use Rattle.std.specs.Prelude.{[], ◌∷◌, ◌≡◌, refl};
+    ghost use Rattle.std.proofs.Common.{lit<};
+
+    ghost may_print = { λ input p. p ≡ record { groups = (input ∷ []) ∷ []; status = 0 } };
+
+    fn answer<H: Threads + Wait + Sync>(
+        &self,
+        _rt: &H,
+        _alloc: Global,
+        input: &[u8],
+        out: &mut Vec<u8>,
+    ) -> Result<u8, AllocError> {
+        push_line(out, input)?;
+        Ok(SUCCESS)
+    }
+
+    ghost some_print = { λ input. record {
+      printed = record { groups = (input ∷ []) ∷ []; status = 0 };
+      allowed = refl;
+      first = record { count = 0; some_left = lit< tt; whole = refl };
+    } };
 }
 
 /// Prints its input as one line, and is refused memory for the next.
@@ -108,6 +133,67 @@ fn whole_calls(rt: HostRuntime) -> Result<(), Fail> {
         assert_eq!(rt; serve(&Echo, rt.alloc(), &mut reader, &mut writer), status);
         assert_eq!(rt; writer.bytes.as_slice(), text);
         assert_eq!(rt; (reader.calls, writer.calls), (reads, writes));
+    }
+    Ok(())
+}
+
+/// The status of an echo, served as an open command or as one that isn't.
+fn served<H: Threads + Wait + Sync>(
+    rt: &H,
+    alloc: Global,
+    is_open: bool,
+    reader: &mut FakeReader<'_>,
+    writer: &mut FakeWriter,
+) -> u8 {
+    if is_open {
+        serve_open(rt, &Echo, alloc, reader, writer)
+    } else {
+        serve(&Echo, alloc, reader, writer)
+    }
+}
+
+// Each read fails in turn: the first three give a byte each, and the fourth would find the end.
+#[test]
+fn each_read_fails(rt: HostRuntime) -> Result<(), Fail> {
+    for is_open in [false, true] {
+        for number in 1..=4usize {
+            let mut reader = FakeReader::new(b"abc", 1, number);
+            let mut writer = FakeWriter::new(rt.alloc(), 8192, 0, 0);
+            let status = served(&rt, rt.alloc(), is_open, &mut reader, &mut writer);
+            assert_eq!(rt; status, 1);
+            assert_eq!(rt; writer.bytes.as_slice(), b"input failed\n".as_slice());
+            assert_eq!(rt; (reader.calls, writer.calls), (number, 1));
+        }
+    }
+    Ok(())
+}
+
+/// Writes this text a byte at a time: each of the writes fails in turn, and takes no byte in turn. The read of this number
+/// fails, 0 where none does.
+fn assert_each_write_fails<H: Abort + Threads + Wait + Sync>(
+    rt: &H,
+    alloc: Global,
+    is_open: bool,
+    fails_reading: usize,
+    text: &[u8],
+) {
+    for taken in 0..text.len() {
+        for (fails, takes_none) in [(taken + 1, 0), (0, taken + 1)] {
+            let mut reader = FakeReader::new(b"abc", 8192, fails_reading);
+            let mut writer = FakeWriter::new(alloc, 1, fails, takes_none);
+            let status = served(rt, alloc, is_open, &mut reader, &mut writer);
+            assert_eq!(rt; status, 1);
+            assert_eq!(rt; writer.bytes.as_slice(), &text[..taken]);
+            assert_eq!(rt; writer.calls, taken + 1);
+        }
+    }
+}
+
+#[test]
+fn each_write_fails(rt: HostRuntime) -> Result<(), Fail> {
+    for is_open in [false, true] {
+        assert_each_write_fails(&rt, rt.alloc(), is_open, 0, b"abc\n");
+        assert_each_write_fails(&rt, rt.alloc(), is_open, 1, b"input failed\n");
     }
     Ok(())
 }

@@ -43,7 +43,7 @@ fn both_copies(alloc: Global) -> Result<Option<(Transfer, Transfer)>, Fail> {
 }
 
 // Two channels, with a copy of four bytes issued on each.
-fn two_copies(alloc: Global) -> Result<Engine, Fail> {
+pub fn two_copies(alloc: Global) -> Result<Engine, Fail> {
     let mut engine = Engine::new(alloc, 0x400, 2)?;
     engine.write(0x100, &[0x0A, 0x0B, 0x0C, 0x0D])?;
     for ch in 0..2 {
@@ -56,8 +56,8 @@ fn two_copies(alloc: Global) -> Result<Engine, Fail> {
     Ok(engine)
 }
 
-// These parts and their readers, or a failure: by a function of its own, so that what the readers know is found at once.
-fn shared_out<R: Wait>(
+/// These parts and their readers, or a failure: by a function of its own, so that what the readers know is found at once.
+pub fn shared_out<R: Wait>(
     rt: &R,
     alloc: Global,
     engine: Engine,
@@ -72,8 +72,8 @@ fn shared_out<R: Wait>(
     }
 }
 
-// The last of the readers of this list.
-fn one_of<N: DeskName>(mut readers: Vec<StatusReader>) -> Option<StatusReader>
+/// The last of the readers of this list.
+pub fn one_of<N: DeskName>(mut readers: Vec<StatusReader>) -> Option<StatusReader>
     requires { All (λ (r : Known). (r.log ≡ N.log) × (r.base ≡ N.base)) readers.items }
     ensures { IfSome result (λ r. (r.log ≡ N.log) × (r.base ≡ N.base)) }
 {
@@ -106,8 +106,8 @@ const NO_DAY: Day = Day {
     settled: None,
 };
 
-// Submits through the desk, teaches the reader the ticket, and answers the cookie.
-fn submitted<N: DeskName, R: Wait>(
+/// Submits through the desk, teaches the reader the ticket, and answers the cookie.
+pub fn submitted<N: DeskName, R: Wait>(
     rt: &R,
     shared: &Shared<N>,
     reader: &mut StatusReader,
@@ -202,7 +202,7 @@ fn whole_day<N: DeskName + Send + Sync, R: Threads + Wait + Sync>(
 }
 
 // The totals and the number of entries, where the tallies add up.
-fn settled<N: DeskName, R: Wait>(
+pub fn settled<N: DeskName, R: Wait>(
     rt: &R,
     shared: Shared<N>,
     tallies: Vec<Tally>,

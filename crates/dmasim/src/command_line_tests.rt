@@ -30,7 +30,7 @@ impl Sink for Full {
 }
 
 /// The status of a call, and what it printed.
-fn call<R: Threads + Wait + Sync>(
+pub fn call<R: Threads + Wait + Sync>(
     rt: &R,
     alloc: Global,
     word: &str,

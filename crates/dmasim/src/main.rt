@@ -4,6 +4,8 @@
 mod command_line;
 #[cfg(test)]
 mod command_line_tests;
+#[cfg(test)]
+mod cut_tests;
 mod race;
 #[cfg(test)]
 mod race_tests;
