@@ -1,7 +1,9 @@
 //! The grammar of race scripts is the one that is meant.
 use crate::fault::{Cause, Fault, ScriptError};
-use crate::race::{JobLine, RaceScript, read_race_script};
+use crate::race::read_race_script;
+use crate::statements::RunScript;
 use std::alloc::{AllocError, Global};
+use std::process::Abort;
 use std::test::Fail;
 
 /// The first fault of a race script, if it has one.
@@ -16,6 +18,18 @@ fn fault_of(alloc: Global, input: &[u8]) -> Result<Option<Fault>, AllocError> {
 /// A fault that is told.
 fn fault(line: usize, cause: Cause) -> Option<Fault> {
     Some(Fault { line, cause })
+}
+
+/// Each of these scripts has this fault.
+fn assert_faults(
+    rt: &impl Abort,
+    alloc: Global,
+    cases: &[(&[u8], usize, Cause)],
+) -> Result<(), AllocError> {
+    for (input, line, cause) in cases {
+        assert_eq!(rt; fault_of(alloc, input)?, fault(*line, *cause));
+    }
+    Ok(())
 }
 
 #[test]
@@ -81,9 +95,10 @@ fn no_faults(rt: HostRuntime) -> Result<(), Fail> {
     Ok(())
 }
 
+// No line at all, no `go`, and first lines other than memory.
 #[test]
-fn faults_of_the_sides(rt: HostRuntime) -> Result<(), Fail> {
-    let cases: [(&[u8], usize, Cause); 37] = [
+fn faults_of_the_first_line(rt: HostRuntime) -> Result<(), Fail> {
+    let cases: [(&[u8], usize, Cause); 15] = [
         // No line at all, and no `go`, which is told after the faults of all lines.
         (b"", 0, Cause::First),
         (b"# go\n", 0, Cause::First),
@@ -101,6 +116,14 @@ fn faults_of_the_sides(rt: HostRuntime) -> Result<(), Fail> {
         (b"step x", 1, Cause::Command),
         (b"goes", 1, Cause::Command),
         (b"go\x80", 1, Cause::Byte),
+    ];
+    assert_faults(&rt, rt.alloc(), &cases)?;
+    Ok(())
+}
+
+#[test]
+fn faults_of_the_sides(rt: HostRuntime) -> Result<(), Fail> {
+    let cases: [(&[u8], usize, Cause); 22] = [
         // A second memory line on either side.
         (b"memory 64 1\nmemory 64 1\ngo", 2, Cause::First),
         (b"memory 64 1\ngo\nmemory 64 1", 3, Cause::First),
@@ -128,10 +151,16 @@ fn faults_of_the_sides(rt: HostRuntime) -> Result<(), Fail> {
         (b"memory 64 9\ngo\ngo", 1, Cause::BadChannels),
         (b"memory 64 1\ngo\nread 0+1\nstep 0 0", 4, Cause::Range),
     ];
-    for (input, line, cause) in cases {
-        assert_eq!(rt; fault_of(rt.alloc(), input)?, fault(line, cause));
-    }
+    assert_faults(&rt, rt.alloc(), &cases)?;
     Ok(())
+}
+
+/// The first fault of a script with this line between its memory line and `go`, if it has one.
+fn fault_before_go(alloc: Global, line: &[u8]) -> Result<Option<Fault>, AllocError> {
+    let mut input = b"memory 64 1\n".to_vec(alloc)?;
+    input.extend_from_slice(line)?;
+    input.extend_from_slice(b"\ngo\n")?;
+    fault_of(alloc, &input)
 }
 
 #[test]
@@ -154,10 +183,7 @@ fn faults_of_jobs(rt: HostRuntime) -> Result<(), Fail> {
         (b"job 0 4294967295 0", Cause::Range),
     ];
     for (line, cause) in cases {
-        let mut input = b"memory 64 1\n".to_vec(rt.alloc())?;
-        input.extend_from_slice(line)?;
-        input.extend_from_slice(b"\ngo\n")?;
-        assert_eq!(rt; fault_of(rt.alloc(), &input)?, fault(2, cause));
+        assert_eq!(rt; fault_before_go(rt.alloc(), line)?, fault(2, cause));
     }
     Ok(())
 }
@@ -182,6 +208,16 @@ fn a_seventeenth_job(rt: HostRuntime) -> Result<(), Fail> {
     Ok(())
 }
 
+/// What a race script says, as text: the size and the channels, the lines before `go`, the jobs, and the lines after it.
+fn told(alloc: Global, input: &[u8]) -> Result<String, Fail> {
+    let script = read_race_script(alloc, input).ok().ok_or("a script")?;
+    let RunScript { size, channels, .. } = script.before;
+    let early = script.before.statements.as_slice();
+    let jobs = script.jobs.as_slice();
+    let late = script.after.as_slice();
+    Ok(format!(in alloc; "{size} {channels} {early:?} {jobs:?} {late:?}")?)
+}
+
 #[test]
 fn statements(rt: HostRuntime) -> Result<(), Fail> {
     let input = b"memory 64 2\n\
@@ -192,36 +228,12 @@ fn statements(rt: HostRuntime) -> Result<(), Fail> {
           go\n\
           totals\n\
           step 1 2";
-    let RaceScript {
-        before,
-        jobs,
-        after,
-    } = read_race_script(rt.alloc(), input).ok().ok_or("a script")?;
-    assert_eq!(rt; (before.size, before.channels), (64, 2));
-    let early = before.statements.as_slice();
-    let early = format!(in rt.alloc(); "{early:?}")?;
+    let told = told(rt.alloc(), input)?;
     assert_eq!(rt;
-        early.as_str(),
-        "[Read(Segment { addr: 1, len: 2 }), Issue { ch: 1 }]"
+        told.as_str(),
+        "64 2 [Read(Segment { addr: 1, len: 2 }), Issue { ch: 1 }] \
+            [JobLine { first: 1, last: 2, turns: 3 }, JobLine { first: 0, last: 0, turns: 4294967295 }] \
+            [Totals, Step { ch: 1, count: 2 }]"
     );
-    assert_eq!(rt;
-        jobs.as_slice(),
-        [
-            JobLine {
-                first: 1,
-                last: 2,
-                turns: 3
-            },
-            JobLine {
-                first: 0,
-                last: 0,
-                turns: 4_294_967_295
-            }
-        ]
-        .as_slice()
-    );
-    let late = after.as_slice();
-    let late = format!(in rt.alloc(); "{late:?}")?;
-    assert_eq!(rt; late.as_str(), "[Totals, Step { ch: 1, count: 2 }]");
     Ok(())
 }

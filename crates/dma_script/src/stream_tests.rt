@@ -98,8 +98,69 @@ impl OpenCommand for Starved {
     } };
 }
 
+/// How the streams of a call behave.
+#[derive(Clone, Copy)]
+struct Streams {
+    /// The most bytes of a read.
+    most_read: usize,
+    /// The number of the read that fails, from 1; 0 where none does.
+    read_fails: usize,
+    /// The most bytes of a write.
+    most_written: usize,
+    /// The number of the write that fails, from 1; 0 where none does.
+    write_fails: usize,
+    /// The number of the write that takes no byte, from 1; 0 where none does.
+    takes_none: usize,
+}
+
+/// What a call came to.
+#[derive(Drop)]
+struct Ended {
+    status: u8,
+    text: Vec<u8>,
+    reads: usize,
+    writes: usize,
+}
+
+/// What a command comes to for an input, served as an open command or as one that isn't.
+fn served<C: Command + OpenCommand, H: Abort + Threads + Wait + Sync>(
+    rt: &H,
+    alloc: Global,
+    command: &C,
+    is_open: bool,
+    input: &[u8],
+    streams: Streams,
+) -> Ended {
+    assert!(rt; streams.most_read > 0 && streams.most_written > 0);
+    let mut reader = FakeReader::new(input, streams.most_read, streams.read_fails);
+    let mut writer = FakeWriter::new(
+        alloc,
+        streams.most_written,
+        streams.write_fails,
+        streams.takes_none,
+    );
+    let status = if is_open {
+        serve_open(rt, command, alloc, &mut reader, &mut writer)
+    } else {
+        serve(command, alloc, &mut reader, &mut writer)
+    };
+    Ended {
+        status,
+        text: writer.bytes,
+        reads: reader.calls,
+        writes: writer.calls,
+    }
+}
+
+/// A call came to this.
+fn assert_ended(rt: &impl Abort, ended: &Ended, status: u8, text: &[u8], calls: (usize, usize)) {
+    assert_eq!(rt; ended.status, status);
+    assert_eq!(rt; ended.text.as_slice(), text);
+    assert_eq!(rt; (ended.reads, ended.writes), calls);
+}
+
 #[test]
-fn whole_calls(rt: HostRuntime) -> Result<(), Fail> {
+fn whole_calls(rt: HostRuntime) {
     // most bytes of a read, the read that fails, most bytes of a write, the write that fails, the one that takes none; then
     // the status, the text, and how many reads and writes there were
     let cases: [(usize, usize, usize, usize, usize, u8, &[u8], usize, usize); 12] = [
@@ -118,90 +179,82 @@ fn whole_calls(rt: HostRuntime) -> Result<(), Fail> {
     ];
     for (
         most_read,
-        fails,
+        read_fails,
         most_written,
-        fails_writing,
+        write_fails,
         takes_none,
         status,
         text,
         reads,
         writes,
     ) in cases {
-        assert!(rt; most_read > 0 && most_written > 0);
-        let mut reader = FakeReader::new(b"abc", most_read, fails);
-        let mut writer = FakeWriter::new(rt.alloc(), most_written, fails_writing, takes_none);
-        assert_eq!(rt; serve(&Echo, rt.alloc(), &mut reader, &mut writer), status);
-        assert_eq!(rt; writer.bytes.as_slice(), text);
-        assert_eq!(rt; (reader.calls, writer.calls), (reads, writes));
-    }
-    Ok(())
-}
-
-/// The status of an echo, served as an open command or as one that isn't.
-fn served<H: Threads + Wait + Sync>(
-    rt: &H,
-    alloc: Global,
-    is_open: bool,
-    reader: &mut FakeReader<'_>,
-    writer: &mut FakeWriter,
-) -> u8 {
-    if is_open {
-        serve_open(rt, &Echo, alloc, reader, writer)
-    } else {
-        serve(&Echo, alloc, reader, writer)
+        let streams = Streams {
+            most_read,
+            read_fails,
+            most_written,
+            write_fails,
+            takes_none,
+        };
+        let ended = served(&rt, rt.alloc(), &Echo, false, b"abc", streams);
+        assert_ended(&rt, &ended, status, text, (reads, writes));
     }
 }
 
 // Each read fails in turn: the first three give a byte each, and the fourth would find the end.
 #[test]
-fn each_read_fails(rt: HostRuntime) -> Result<(), Fail> {
+fn each_read_fails(rt: HostRuntime) {
     for is_open in [false, true] {
-        for number in 1..=4usize {
-            let mut reader = FakeReader::new(b"abc", 1, number);
-            let mut writer = FakeWriter::new(rt.alloc(), 8192, 0, 0);
-            let status = served(&rt, rt.alloc(), is_open, &mut reader, &mut writer);
-            assert_eq!(rt; status, 1);
-            assert_eq!(rt; writer.bytes.as_slice(), b"input failed\n".as_slice());
-            assert_eq!(rt; (reader.calls, writer.calls), (number, 1));
+        for read_fails in 1..=4usize {
+            let streams = Streams {
+                most_read: 1,
+                read_fails,
+                most_written: 8192,
+                write_fails: 0,
+                takes_none: 0,
+            };
+            let ended = served(&rt, rt.alloc(), &Echo, is_open, b"abc", streams);
+            assert_ended(&rt, &ended, 1, b"input failed\n", (read_fails, 1));
         }
     }
-    Ok(())
 }
 
 /// Writes this text a byte at a time: each of the writes fails in turn, and takes no byte in turn. The read of this number
-/// fails, 0 where none does.
+/// fails, 0 where none does; so many reads are made.
 fn assert_each_write_fails<H: Abort + Threads + Wait + Sync>(
     rt: &H,
     alloc: Global,
     is_open: bool,
-    fails_reading: usize,
+    read_fails: usize,
+    reads: usize,
     text: &[u8],
 ) {
     for taken in 0..text.len() {
-        for (fails, takes_none) in [(taken + 1, 0), (0, taken + 1)] {
-            let mut reader = FakeReader::new(b"abc", 8192, fails_reading);
-            let mut writer = FakeWriter::new(alloc, 1, fails, takes_none);
-            let status = served(rt, alloc, is_open, &mut reader, &mut writer);
-            assert_eq!(rt; status, 1);
-            assert_eq!(rt; writer.bytes.as_slice(), &text[..taken]);
-            assert_eq!(rt; writer.calls, taken + 1);
+        for (write_fails, takes_none) in [(taken + 1, 0), (0, taken + 1)] {
+            let streams = Streams {
+                most_read: 8192,
+                read_fails,
+                most_written: 1,
+                write_fails,
+                takes_none,
+            };
+            let ended = served(rt, alloc, &Echo, is_open, b"abc", streams);
+            assert_ended(rt, &ended, 1, &text[..taken], (reads, taken + 1));
         }
     }
 }
 
 #[test]
-fn each_write_fails(rt: HostRuntime) -> Result<(), Fail> {
+fn each_write_fails(rt: HostRuntime) {
     for is_open in [false, true] {
-        assert_each_write_fails(&rt, rt.alloc(), is_open, 0, b"abc\n");
-        assert_each_write_fails(&rt, rt.alloc(), is_open, 1, b"input failed\n");
+        assert_each_write_fails(&rt, rt.alloc(), is_open, 0, 2, b"abc\n");
+        assert_each_write_fails(&rt, rt.alloc(), is_open, 1, 1, b"input failed\n");
     }
-    Ok(())
 }
 
 // What was printed before memory was refused is written whole, with the status of refused memory; a write of it that fails
 // is not tried again.
 #[test]
-fn refused_memory(rt: HostRuntime) -> Result<(), Fail> {
+fn refused_memory(rt: HostRuntime) {
     // most bytes of a write, the write that fails, the one that takes none; then the status, the text, and how many writes
     // there were
     let cases: [(usize, usize, usize, u8, &[u8], usize); 5] = [
@@ -211,52 +264,52 @@ fn refused_memory(rt: HostRuntime) -> Result<(), Fail> {
         (8192, 0, 1, 1, b"", 1),
         (1, 3, 0, 1, b"ab", 3),
     ];
-    for (most, fails, takes_none, status, text, writes) in cases {
-        assert!(rt; most > 0);
-        let mut reader = FakeReader::new(b"abc", 8192, 0);
-        let mut writer = FakeWriter::new(rt.alloc(), most, fails, takes_none);
-        assert_eq!(rt;
-            serve(&Starved, rt.alloc(), &mut reader, &mut writer),
-            status
-        );
-        assert_eq!(rt; writer.bytes.as_slice(), text);
-        assert_eq!(rt; (reader.calls, writer.calls), (2, writes));
-
-        let mut reader = FakeReader::new(b"abc", 8192, 0);
-        let mut writer = FakeWriter::new(rt.alloc(), most, fails, takes_none);
-        assert_eq!(rt;
-            serve_open(&rt, &Starved, rt.alloc(), &mut reader, &mut writer),
-            status
-        );
-        assert_eq!(rt; writer.bytes.as_slice(), text);
-        assert_eq!(rt; (reader.calls, writer.calls), (2, writes));
+    for (most_written, write_fails, takes_none, status, text, writes) in cases {
+        let streams = Streams {
+            most_read: 8192,
+            read_fails: 0,
+            most_written,
+            write_fails,
+            takes_none,
+        };
+        for is_open in [false, true] {
+            let ended = served(&rt, rt.alloc(), &Starved, is_open, b"abc", streams);
+            assert_ended(&rt, &ended, status, text, (2, writes));
+        }
     }
-    Ok(())
 }
 
 // An open command's failed read is not tried again either.
 #[test]
-fn open_input_failed(rt: HostRuntime) -> Result<(), Fail> {
-    for fails in 1..3 {
-        let mut reader = FakeReader::new(b"abc", 8192, fails);
-        let mut writer = FakeWriter::new(rt.alloc(), 8192, 0, 0);
-        assert_eq!(rt;
-            serve_open(&rt, &Starved, rt.alloc(), &mut reader, &mut writer),
-            1
-        );
-        assert_eq!(rt; writer.bytes.as_slice(), b"input failed\n".as_slice());
-        assert_eq!(rt; (reader.calls, writer.calls), (fails, 1));
+fn open_input_failed(rt: HostRuntime) {
+    for read_fails in 1..3 {
+        let streams = Streams {
+            most_read: 8192,
+            read_fails,
+            most_written: 8192,
+            write_fails: 0,
+            takes_none: 0,
+        };
+        let ended = served(&rt, rt.alloc(), &Starved, true, b"abc", streams);
+        assert_ended(&rt, &ended, 1, b"input failed\n", (read_fails, 1));
     }
-    Ok(())
+}
+
+/// The length of what is read a byte at a time, and how many reads there were.
+fn read_by_bytes(alloc: Global, input: &[u8]) -> (Result<usize, InputError>, usize) {
+    let mut reader = FakeReader::new(input, 1, 0);
+    let length = match read_input(alloc, &mut reader) {
+        Ok(read) => Ok(read.len()),
+        Err(error) => Err(error),
+    };
+    (length, reader.calls)
 }
 
 #[test]
 fn longest_inputs(rt: HostRuntime) -> Result<(), Fail> {
     let longest = vec![in rt.alloc(); b'#'; 4_194_304]?;
-    let mut reader = FakeReader::new(&longest, 1, 0);
-    let read = read_input(rt.alloc(), &mut reader);
-    assert!(rt; matches!(&read, Ok(input) if input.len() == LONGEST_INPUT));
-    assert_eq!(rt; reader.calls, 4_194_305);
+    let read = read_by_bytes(rt.alloc(), &longest);
+    assert_eq!(rt; read, (Ok(LONGEST_INPUT), 4_194_305));
     let no_line = ScriptError::Fault(Fault {
         line: 0,
         cause: Cause::First,
@@ -264,14 +317,8 @@ fn longest_inputs(rt: HostRuntime) -> Result<(), Fail> {
     assert_eq!(rt; read_run_script(rt.alloc(), &longest).err(), Some(no_line));
 
     let too_long = vec![in rt.alloc(); b'#'; 4_194_305]?;
-    let mut reader = FakeReader::new(&too_long, 1, 0);
-    assert!(rt;
-        matches!(
-            read_input(rt.alloc(), &mut reader),
-            Err(InputError::TooLong)
-        )
-    );
-    assert_eq!(rt; reader.calls, 4_194_305);
+    let read = read_by_bytes(rt.alloc(), &too_long);
+    assert_eq!(rt; read, (Err(InputError::TooLong), 4_194_305));
     Ok(())
 }
 
@@ -285,12 +332,16 @@ fn too_long_inputs(rt: HostRuntime) -> Result<(), Fail> {
         (1, 0, b""),
         (0, 1, b""),
     ];
-    for (fails, takes_none, text) in cases {
-        let mut reader = FakeReader::new(&too_long, 8192, 0);
-        let mut writer = FakeWriter::new(rt.alloc(), 8192, fails, takes_none);
-        assert_eq!(rt; serve(&Echo, rt.alloc(), &mut reader, &mut writer), 1);
-        assert_eq!(rt; writer.bytes.as_slice(), text);
-        assert_eq!(rt; (reader.calls, writer.calls), (513, 1));
+    for (write_fails, takes_none, text) in cases {
+        let streams = Streams {
+            most_read: 8192,
+            read_fails: 0,
+            most_written: 8192,
+            write_fails,
+            takes_none,
+        };
+        let ended = served(&rt, rt.alloc(), &Echo, false, &too_long, streams);
+        assert_ended(&rt, &ended, 1, text, (513, 1));
     }
     Ok(())
 }

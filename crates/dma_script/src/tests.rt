@@ -3,13 +3,13 @@
 use crate::fault::{Cause, Fault, ScriptError};
 use crate::laws::{first_causes_are_told, first_faults_are_told};
 use crate::pairs::{PairsError, push_pairs_fault, read_pairs};
-use crate::plan::{Origin, PlanLine, TransferLine, read_plan};
+use crate::plan::{PlanLine, read_plan};
 use crate::printing::{
     push_address, push_bytes, push_decimal, push_fault, push_line, push_program,
 };
-use crate::statements::{CopyLine, RunScript, Statement, read_run_script};
-use dma_mem::segment::Segment;
+use crate::statements::{RunScript, read_run_script};
 use std::alloc::{AllocError, Global};
+use std::process::Abort;
 use std::test::Fail;
 
 /// The first fault of a script, if it has one.
@@ -24,6 +24,37 @@ fn fault_of(alloc: Global, input: &[u8]) -> Result<Option<Fault>, AllocError> {
 /// A fault that is told.
 fn fault(line: usize, cause: Cause) -> Option<Fault> {
     Some(Fault { line, cause })
+}
+
+/// Each of these scripts has this fault.
+fn assert_faults(
+    rt: &impl Abort,
+    alloc: Global,
+    cases: &[(&[u8], usize, Cause)],
+) -> Result<(), AllocError> {
+    for (input, line, cause) in cases {
+        assert_eq!(rt; fault_of(alloc, input)?, fault(*line, *cause));
+    }
+    Ok(())
+}
+
+/// The first fault of a memory line and this line behind it, if there is one.
+fn fault_of_line(alloc: Global, line: &[u8]) -> Result<Option<Fault>, AllocError> {
+    let mut input = b"memory 64 1\n".to_vec(alloc)?;
+    input.extend_from_slice(line)?;
+    fault_of(alloc, &input)
+}
+
+/// Each of these lines has this cause of a fault, behind a memory line.
+fn assert_causes(
+    rt: &impl Abort,
+    alloc: Global,
+    cases: &[(&[u8], Cause)],
+) -> Result<(), AllocError> {
+    for (line, cause) in cases {
+        assert_eq!(rt; fault_of_line(alloc, line)?, fault(2, *cause));
+    }
+    Ok(())
 }
 
 #[test]
@@ -69,7 +100,7 @@ fn no_faults(rt: HostRuntime) -> Result<(), Fail> {
 fn causes_in_order(rt: HostRuntime) -> Result<(), Fail> {
     first_causes_are_told();
     first_faults_are_told();
-    let cases: [(&[u8], usize, Cause); 27] = [
+    let cases: [(&[u8], usize, Cause); 20] = [
         // No line at all.
         (b"", 0, Cause::First),
         (b"\n# no line\n \t\r\n", 0, Cause::First),
@@ -87,7 +118,23 @@ fn causes_in_order(rt: HostRuntime) -> Result<(), Fail> {
         // Number and Hex are one stage, from the left.
         (b"memory 64 1\nwrite zz gg", 2, Cause::Number),
         (b"memory 64 1\nwrite 0 gg A", 2, Cause::Hex),
-        // The same of fills, whose source is a number; Range comes after both.
+        // Then the size, and then the channels.
+        (b"memory 0 x", 1, Cause::Number),
+        (b"memory 0 9", 1, Cause::SizeOutOfRange),
+        (b"memory 64 9", 1, Cause::BadChannels),
+        // The first faulty line, whatever a later one has.
+        (b"memory 64 300\n\x80", 1, Cause::BadChannels),
+        (b"memory 64 1\nread 1\n\x80", 2, Cause::Number),
+        (b"memory 64 1\n\n# skipped\r\nread 1", 4, Cause::Number),
+    ];
+    assert_faults(&rt, rt.alloc(), &cases)?;
+    Ok(())
+}
+
+// The same of fills, whose source is a number; Range comes after both.
+#[test]
+fn causes_of_fills_in_order(rt: HostRuntime) -> Result<(), Fail> {
+    let cases: [(&[u8], usize, Cause); 7] = [
         (b"fill to\x80", 1, Cause::Byte),
         (b"fill to", 1, Cause::First),
         (b"memory 64 1\nfill 1+1 too 2", 2, Cause::Words),
@@ -107,24 +154,14 @@ fn causes_in_order(rt: HostRuntime) -> Result<(), Fail> {
             2,
             Cause::Range,
         ),
-        // Then the size, and then the channels.
-        (b"memory 0 x", 1, Cause::Number),
-        (b"memory 0 9", 1, Cause::SizeOutOfRange),
-        (b"memory 64 9", 1, Cause::BadChannels),
-        // The first faulty line, whatever a later one has.
-        (b"memory 64 300\n\x80", 1, Cause::BadChannels),
-        (b"memory 64 1\nread 1\n\x80", 2, Cause::Number),
-        (b"memory 64 1\n\n# skipped\r\nread 1", 4, Cause::Number),
     ];
-    for (input, line, cause) in cases {
-        assert_eq!(rt; fault_of(rt.alloc(), input)?, fault(line, cause));
-    }
+    assert_faults(&rt, rt.alloc(), &cases)?;
     Ok(())
 }
 
 #[test]
 fn faults_of_words(rt: HostRuntime) -> Result<(), Fail> {
-    let cases: [(&[u8], Cause); 46] = [
+    let cases: [(&[u8], Cause); 13] = [
         // A carriage return without its line feed, a second one, and a control byte that makes a word.
         (b"read 0+1\r", Cause::Byte),
         (b"\r", Cause::Byte),
@@ -139,6 +176,14 @@ fn faults_of_words(rt: HostRuntime) -> Result<(), Fail> {
         (b"copy 1+1 2+2 to 0+3", Cause::Words),
         (b"copy 1+1 to", Cause::Words),
         (b"copy 1+1 TO 0+1", Cause::Words),
+    ];
+    assert_causes(&rt, rt.alloc(), &cases)?;
+    Ok(())
+}
+
+#[test]
+fn faults_of_numbers(rt: HostRuntime) -> Result<(), Fail> {
+    let cases: [(&[u8], Cause); 18] = [
         (b"read 1", Cause::Number),
         (b"read +1", Cause::Number),
         (b"read 1+", Cause::Number),
@@ -153,6 +198,18 @@ fn faults_of_words(rt: HostRuntime) -> Result<(), Fail> {
         (b"read 0+99999999999999999999999999", Cause::Number),
         (b"copy 1+1, to 0+1", Cause::Number),
         (b"copy ,1+1 to 0+1", Cause::Number),
+        (b"write 4294967296 00", Cause::Number),
+        (b"write 0 0", Cause::Hex),
+        (b"write 0 0x00", Cause::Hex),
+        (b"write 0 00 A AA", Cause::Hex),
+    ];
+    assert_causes(&rt, rt.alloc(), &cases)?;
+    Ok(())
+}
+
+#[test]
+fn faults_of_fills(rt: HostRuntime) -> Result<(), Fail> {
+    let cases: [(&[u8], Cause); 15] = [
         (b"copy 1+1 to fill", Cause::Number),
         (b"copy fill 1 to 2+1", Cause::Words),
         (b"filled 1 to 2+1", Cause::Command),
@@ -168,22 +225,14 @@ fn faults_of_words(rt: HostRuntime) -> Result<(), Fail> {
         (b"fill 1 to 2", Cause::Number),
         (b"fill 1 to 2+1,", Cause::Number),
         (b"fill to to 2+1", Cause::Number),
-        (b"write 4294967296 00", Cause::Number),
-        (b"write 0 0", Cause::Hex),
-        (b"write 0 0x00", Cause::Hex),
-        (b"write 0 00 A AA", Cause::Hex),
     ];
-    for (line, cause) in cases {
-        let mut input = b"memory 64 1\n".to_vec(rt.alloc())?;
-        input.extend_from_slice(line)?;
-        assert_eq!(rt; fault_of(rt.alloc(), &input)?, fault(2, cause));
-    }
+    assert_causes(&rt, rt.alloc(), &cases)?;
     Ok(())
 }
 
 #[test]
-fn faults_of_channel_lines(rt: HostRuntime) -> Result<(), Fail> {
-    let cases: [(&[u8], Cause); 54] = [
+fn faults_of_submits(rt: HostRuntime) -> Result<(), Fail> {
+    let cases: [(&[u8], Cause); 12] = [
         (b"submit", Cause::Words),
         (b"submit 0", Cause::Words),
         (b"submit x 0+4 to 8+4 wait", Cause::Words),
@@ -196,6 +245,14 @@ fn faults_of_channel_lines(rt: HostRuntime) -> Result<(), Fail> {
         (b"submit 256 0+4 to 8+4 wait 300", Cause::Range),
         (b"submit 0 0+4 to 8+4 wait 300", Cause::Range),
         (b"submit 0 0+4 to 8+4 signal 256", Cause::Range),
+    ];
+    assert_causes(&rt, rt.alloc(), &cases)?;
+    Ok(())
+}
+
+#[test]
+fn faults_of_submits_of_fills(rt: HostRuntime) -> Result<(), Fail> {
+    let cases: [(&[u8], Cause); 12] = [
         (b"submit fill 1 to 8+4", Cause::Number),
         (b"submit x fill", Cause::Words),
         (b"submit x fill to 8+4", Cause::Words),
@@ -208,6 +265,14 @@ fn faults_of_channel_lines(rt: HostRuntime) -> Result<(), Fail> {
         (b"submit 256 fill 1 to 8+4", Cause::Range),
         (b"submit 0 fill 1 to 8+4 wait 300", Cause::Range),
         (b"submit 0 fill 1 to 8+4 signal 256", Cause::Range),
+    ];
+    assert_causes(&rt, rt.alloc(), &cases)?;
+    Ok(())
+}
+
+#[test]
+fn faults_of_channel_lines(rt: HostRuntime) -> Result<(), Fail> {
+    let cases: [(&[u8], Cause); 13] = [
         (b"issue", Cause::Words),
         (b"issue x 0", Cause::Words),
         (b"issue x", Cause::Number),
@@ -221,6 +286,14 @@ fn faults_of_channel_lines(rt: HostRuntime) -> Result<(), Fail> {
         (b"step 256", Cause::Range),
         (b"step 0 0", Cause::Range),
         (b"step 0 1000001", Cause::Range),
+    ];
+    assert_causes(&rt, rt.alloc(), &cases)?;
+    Ok(())
+}
+
+#[test]
+fn faults_of_other_lines(rt: HostRuntime) -> Result<(), Fail> {
+    let cases: [(&[u8], Cause); 17] = [
         (b"status 0", Cause::Words),
         (b"status 256 x", Cause::Number),
         (b"status 256 4294967295", Cause::Range),
@@ -239,11 +312,7 @@ fn faults_of_channel_lines(rt: HostRuntime) -> Result<(), Fail> {
         (b"checkpoints", Cause::Command),
         (b"totals totals", Cause::Words),
     ];
-    for (line, cause) in cases {
-        let mut input = b"memory 64 1\n".to_vec(rt.alloc())?;
-        input.extend_from_slice(line)?;
-        assert_eq!(rt; fault_of(rt.alloc(), &input)?, fault(2, cause));
-    }
+    assert_causes(&rt, rt.alloc(), &cases)?;
     Ok(())
 }
 
@@ -264,39 +333,31 @@ fn faults_of_the_memory_line(rt: HostRuntime) -> Result<(), Fail> {
     Ok(())
 }
 
+/// What a script says, as text: the size, the channels and the lines.
+fn told(alloc: Global, input: &[u8]) -> Result<String, Fail> {
+    let RunScript {
+        size,
+        channels,
+        statements,
+    } = read_run_script(alloc, input).ok().ok_or("a script")?;
+    let lines = statements.as_slice();
+    Ok(format!(in alloc; "{size} {channels} {lines:?}")?)
+}
+
 #[test]
 fn statements(rt: HostRuntime) -> Result<(), Fail> {
     let input = b"memory 64 1\n\
           write 0x10 AA bbCC\n\
           copy 0x10+3 to 0x20+1,0x30+2\n\
           read 0x1F+5";
-    let RunScript {
-        size,
-        channels,
-        statements,
-    } = read_run_script(rt.alloc(), input).ok().ok_or("a script")?;
-    assert_eq!(rt; (size, channels), (64, 1));
-    let [
-        Statement::Write { addr, bytes },
-        Statement::Copy(lists),
-        Statement::Read(segment),
-    ] = statements.as_slice()
-    else {
-        return Err(Fail::from("three statements"));
-    };
-    let CopyLine { src, dst } = lists.get();
-    assert_eq!(rt; *addr, 0x10);
-    assert_eq!(rt; bytes.as_slice(), [0xAA, 0xBB, 0xCC].as_slice());
-    assert_eq!(rt; src.as_slice(), [Segment { addr: 0x10, len: 3 }].as_slice());
+    let told = told(rt.alloc(), input)?;
     assert_eq!(rt;
-        dst.as_slice(),
-        [
-            Segment { addr: 0x20, len: 1 },
-            Segment { addr: 0x30, len: 2 }
-        ]
-        .as_slice()
+        told.as_str(),
+        "64 1 [Write { addr: 16, bytes: Bytes { bytes: [170, 187, 204] } }, \
+            Copy(Apart { part: CopyLine { src: Segments { segments: [Segment { addr: 16, len: 3 }] }, \
+            dst: Segments { segments: [Segment { addr: 32, len: 1 }, Segment { addr: 48, len: 2 }] } } }), \
+            Read(Segment { addr: 31, len: 5 })]"
     );
-    assert_eq!(rt; *segment, Segment { addr: 0x1F, len: 5 });
     Ok(())
 }
 
@@ -369,10 +430,27 @@ fn printed_lines(rt: HostRuntime) -> Result<(), Fail> {
     push_line(&mut out, b"")?;
     push_address(&mut out, 0xFEDC_BA98)?;
     push_line(&mut out, b"")?;
-    push_decimal(&mut out, 0)?;
-    push_line(&mut out, b"")?;
-    push_decimal(&mut out, u64::MAX)?;
-    push_line(&mut out, b"")?;
+    assert_eq!(rt;
+        out.as_slice(),
+        b"ok\n0000001F 00 AA BB CC 09\nFEDCBA98\n".as_slice()
+    );
+    Ok(())
+}
+
+#[test]
+fn printed_numbers(rt: HostRuntime) -> Result<(), Fail> {
+    let mut out = Vec::new(rt.alloc());
+    for number in [0, u64::MAX] {
+        push_decimal(&mut out, number)?;
+        push_line(&mut out, b"")?;
+    }
+    assert_eq!(rt; out.as_slice(), b"0\n18446744073709551615\n".as_slice());
+    Ok(())
+}
+
+#[test]
+fn printed_faults(rt: HostRuntime) -> Result<(), Fail> {
+    let mut out = b"ok\n".to_vec(rt.alloc())?;
     for (line, cause) in [
         (0, Cause::First),
         (1, Cause::Byte),
@@ -387,8 +465,8 @@ fn printed_lines(rt: HostRuntime) -> Result<(), Fail> {
     ] {
         push_fault(rt.alloc(), &mut out, Fault { line, cause })?;
     }
-    let text = b"ok\n0000001F 00 AA BB CC 09\nFEDCBA98\n0\n18446744073709551615\n\
-        line 0: First\nline 1: Byte\nline 10: Command\nline 4194304: Words\nline 5: Number\n\
+    let text =
+        b"ok\nline 0: First\nline 1: Byte\nline 10: Command\nline 4194304: Words\nline 5: Number\n\
         line 6: Hex\nline 7: Range\nline 8: SizeOutOfRange\nline 9: BadChannels\nline 0: Go\n";
     assert_eq!(rt; out.as_slice(), text.as_slice());
     Ok(())
@@ -419,6 +497,11 @@ fn pairs(rt: HostRuntime) -> Result<(), Fail> {
     assert_eq!(rt; read.as_slice(), [0x22, 0xFF, 0x04, 0x0A, 0xAB].as_slice());
     let none = read_pairs(rt.alloc(), b"").ok().ok_or("no pairs")?;
     assert!(rt; none.is_empty());
+    Ok(())
+}
+
+#[test]
+fn faults_of_pairs(rt: HostRuntime) -> Result<(), Fail> {
     let cases: [(&[u8], usize); 8] = [
         (b"3", 1),
         (b"22\n04\n3", 3),
@@ -439,38 +522,27 @@ fn pairs(rt: HostRuntime) -> Result<(), Fail> {
     Ok(())
 }
 
+/// What a plan says, as text.
+fn plan_text(alloc: Global, input: &[u8]) -> Result<String, Fail> {
+    let PlanLine { line, transfer } = read_plan(alloc, input).ok().ok_or("a plan")?;
+    Ok(format!(in alloc; "{line} {transfer:?}")?)
+}
+
+/// The line of a plan, and its events.
+fn plan_events(alloc: Global, input: &[u8]) -> Result<(usize, Option<u8>, Option<u8>), Fail> {
+    let plan = read_plan(alloc, input).ok().ok_or("a plan")?;
+    Ok((plan.line, plan.transfer.wait, plan.transfer.signal))
+}
+
 #[test]
 fn plans(rt: HostRuntime) -> Result<(), Fail> {
     let input = b"# one\n\n0x1000+4 to 0x2000+4,5+6 wait 3 signal 0xFF\r\n# end";
-    let PlanLine { line, transfer } = read_plan(rt.alloc(), input).ok().ok_or("a plan")?;
-    let TransferLine {
-        src,
-        dst,
-        wait,
-        signal,
-    } = transfer;
-    assert_eq!(rt; (line, wait, signal), (3, Some(3), Some(255)));
-    let Origin::List(src) = src else {
-        return Err(Fail::from("a list"));
-    };
+    let text = plan_text(rt.alloc(), input)?;
     assert_eq!(rt;
-        src.as_slice(),
-        [Segment {
-            addr: 0x1000,
-            len: 4
-        }]
-        .as_slice()
-    );
-    assert_eq!(rt;
-        dst.as_slice(),
-        [
-            Segment {
-                addr: 0x2000,
-                len: 4
-            },
-            Segment { addr: 5, len: 6 }
-        ]
-        .as_slice()
+        text.as_str(),
+        "3 TransferLine { src: List(Segments { segments: [Segment { addr: 4096, len: 4 }] }), \
+            dst: Segments { segments: [Segment { addr: 8192, len: 4 }, Segment { addr: 5, len: 6 }] }, \
+            wait: Some(3), signal: Some(255) }"
     );
     for (input, wait, signal) in [
         (b"1+1 to 2+1".as_slice(), None, None),
@@ -478,18 +550,26 @@ fn plans(rt: HostRuntime) -> Result<(), Fail> {
         (b"1+1 to 2+1\tsignal 32".as_slice(), None, Some(32)),
         (b"fill 1 to 2+1 wait 31".as_slice(), Some(31), None),
     ] {
-        let plan = read_plan(rt.alloc(), input).ok().ok_or("a plan")?;
-        assert_eq!(rt;
-            (plan.line, plan.transfer.wait, plan.transfer.signal),
-            (1, wait, signal)
-        );
+        assert_eq!(rt; plan_events(rt.alloc(), input)?, (1, wait, signal));
     }
     Ok(())
 }
 
+/// Each of these plans has this fault.
+fn assert_plan_faults(rt: &impl Abort, alloc: Global, cases: &[(&[u8], usize, Cause)]) {
+    for (input, line, cause) in cases {
+        let fault = read_plan(alloc, input).err();
+        let wanted = Fault {
+            line: *line,
+            cause: *cause,
+        };
+        assert_eq!(rt; fault, Some(ScriptError::Fault(wanted)));
+    }
+}
+
 #[test]
-fn faults_of_plans(rt: HostRuntime) -> Result<(), Fail> {
-    let cases: [(&[u8], usize, Cause); 28] = [
+fn faults_of_plans(rt: HostRuntime) {
+    let cases: [(&[u8], usize, Cause); 17] = [
         (b"", 0, Cause::First),
         (b"# no line\n", 0, Cause::First),
         (b"1+1 to 2+1\n1+1 to 2+1", 2, Cause::Words),
@@ -507,6 +587,13 @@ fn faults_of_plans(rt: HostRuntime) -> Result<(), Fail> {
         (b"1+1 to 2+1 wait 256 signal x", 1, Cause::Number),
         (b"1+1 to 2+1 wait 256", 1, Cause::Range),
         (b"1+1 to 2+1 wait 4294967296", 1, Cause::Number),
+    ];
+    assert_plan_faults(&rt, rt.alloc(), &cases);
+}
+
+#[test]
+fn faults_of_plans_of_fills(rt: HostRuntime) {
+    let cases: [(&[u8], usize, Cause); 11] = [
         (b"fill to 2+1 signal 4294967295", 1, Cause::Words),
         (b"fill", 1, Cause::Words),
         (b"fill x to", 1, Cause::Words),
@@ -519,9 +606,5 @@ fn faults_of_plans(rt: HostRuntime) -> Result<(), Fail> {
         (b"fill 1 to 2+1 signal 256", 1, Cause::Range),
         (b"1+1 to fill", 1, Cause::Number),
     ];
-    for (input, line, cause) in cases {
-        let fault = read_plan(rt.alloc(), input).err();
-        assert_eq!(rt; fault, Some(ScriptError::Fault(Fault { line, cause })));
-    }
-    Ok(())
+    assert_plan_faults(&rt, rt.alloc(), &cases);
 }
