@@ -1,20 +1,17 @@
 //! Whole runs over an engine: what is printed for an input, by the rules of the formats.
 use crate::tests::{assert_ran, run};
-use std::alloc::Global;
-use std::test::Fail;
 
 #[test]
-fn refused_while_in_use(rt: HostRuntime) -> Result<(), Fail> {
+fn refused_while_in_use(rt: HostRuntime) {
     let ran = run(
         rt.alloc(),
         b"memory 64 1\nsubmit 0 0+4 to 8+4\ncopy 16+4 to 24+4",
     );
     assert_ran(&rt, &ran, 0, b"cookie 1\nrefused ChannelInUse\n");
-    Ok(())
 }
 
 #[test]
-fn a_copy_by_steps(rt: HostRuntime) -> Result<(), Fail> {
+fn a_copy_by_steps(rt: HostRuntime) {
     let ran = run(
         rt.alloc(),
         b"memory 0x3000 1\n\
@@ -42,11 +39,10 @@ fn a_copy_by_steps(rt: HostRuntime) -> Result<(), Fail> {
           result NoError residue 0\n\
           totals entries 5 steps 8 running 0\n",
     );
-    Ok(())
 }
 
 #[test]
-fn held_and_busy(rt: HostRuntime) -> Result<(), Fail> {
+fn held_and_busy(rt: HostRuntime) {
     let ran = run(
         rt.alloc(),
         b"memory 0x400 2\n\
@@ -80,11 +76,10 @@ fn held_and_busy(rt: HostRuntime) -> Result<(), Fail> {
           step 0 finished 1 NoError residue 0 x1\n\
           step 1 started 1 x1\n",
     );
-    Ok(())
 }
 
 #[test]
-fn one_source_for_two(rt: HostRuntime) -> Result<(), Fail> {
+fn one_source_for_two(rt: HostRuntime) {
     let ran = run(
         rt.alloc(),
         b"memory 0x400 2\n\
@@ -106,7 +101,6 @@ fn one_source_for_two(rt: HostRuntime) -> Result<(), Fail> {
           step 0 started 1 x1\n\
           step 1 started 1 x1\n",
     );
-    Ok(())
 }
 
 /// Three submits, and a terminate between two bursts of the first.
@@ -138,14 +132,13 @@ pub static THREE_ABORTED: &[u8] = b"ok\n\
     read 0x0000201E 11 22 00 00\n";
 
 #[test]
-fn terminated(rt: HostRuntime) -> Result<(), Fail> {
+fn terminated(rt: HostRuntime) {
     let ran = run(rt.alloc(), THREE_SUBMITS);
     assert_ran(&rt, &ran, 0, THREE_ABORTED);
-    Ok(())
 }
 
 #[test]
-fn paused(rt: HostRuntime) -> Result<(), Fail> {
+fn paused(rt: HostRuntime) {
     let ran = run(
         rt.alloc(),
         b"memory 0x400 1\n\
@@ -177,11 +170,10 @@ fn paused(rt: HostRuntime) -> Result<(), Fail> {
           result NoError residue 0\n\
           aborted 0\n",
     );
-    Ok(())
 }
 
 #[test]
-fn statuses_and_pauses(rt: HostRuntime) -> Result<(), Fail> {
+fn statuses_and_pauses(rt: HostRuntime) {
     let ran = run(
         rt.alloc(),
         b"memory 16 1\n\
@@ -219,11 +211,10 @@ fn statuses_and_pauses(rt: HostRuntime) -> Result<(), Fail> {
           refused BadEvent\n\
           read 0x00000010\n",
     );
-    Ok(())
 }
 
 #[test]
-fn a_load_fails(rt: HostRuntime) -> Result<(), Fail> {
+fn a_load_fails(rt: HostRuntime) {
     let ran = run(
         rt.alloc(),
         b"memory 0x4000 1\n\
@@ -254,11 +245,10 @@ fn a_load_fails(rt: HostRuntime) -> Result<(), Fail> {
           aborted 0\n\
           step 0 nothing x1\n",
     );
-    Ok(())
 }
 
 #[test]
-fn one_event_passes_one(rt: HostRuntime) -> Result<(), Fail> {
+fn one_event_passes_one(rt: HostRuntime) {
     let ran = run(
         rt.alloc(),
         b"memory 0x400 2\n\
@@ -288,11 +278,10 @@ fn one_event_passes_one(rt: HostRuntime) -> Result<(), Fail> {
           step 0 moved x1\n\
           step 1 waiting 3 x1\n",
     );
-    Ok(())
 }
 
 #[test]
-fn one_signals_the_other(rt: HostRuntime) -> Result<(), Fail> {
+fn one_signals_the_other(rt: HostRuntime) {
     let ran = run(
         rt.alloc(),
         b"memory 0x400 2\n\
@@ -322,11 +311,10 @@ fn one_signals_the_other(rt: HostRuntime) -> Result<(), Fail> {
           step 1 finished 1 NoError residue 0 x1\n\
           read 0x00000300 0A 0B 0C 0D\n",
     );
-    Ok(())
 }
 
 #[test]
-fn a_waiting_one_holds(rt: HostRuntime) -> Result<(), Fail> {
+fn a_waiting_one_holds(rt: HostRuntime) {
     let ran = run(
         rt.alloc(),
         b"memory 0x400 2\n\
@@ -356,11 +344,10 @@ fn a_waiting_one_holds(rt: HostRuntime) -> Result<(), Fail> {
           step 1 finished 1 NoError residue 0 x1\n\
           step 0 started 1 x1\n",
     );
-    Ok(())
 }
 
 #[test]
-fn marks_and_events(rt: HostRuntime) -> Result<(), Fail> {
+fn marks_and_events(rt: HostRuntime) {
     let ran = run(
         rt.alloc(),
         b"memory 16 1\n\
@@ -382,11 +369,10 @@ fn marks_and_events(rt: HostRuntime) -> Result<(), Fail> {
           refused BadRange\n\
           ok\n",
     );
-    Ok(())
 }
 
 #[test]
-fn a_store_fails(rt: HostRuntime) -> Result<(), Fail> {
+fn a_store_fails(rt: HostRuntime) {
     let ran = run(
         rt.alloc(),
         b"memory 0x400 1\n\
@@ -416,11 +402,10 @@ fn a_store_fails(rt: HostRuntime) -> Result<(), Fail> {
           read 0x00000300 01 02 03 04\n\
           totals entries 12 steps 14 running 0\n",
     );
-    Ok(())
 }
 
 #[test]
-fn copies_of_a_controller(rt: HostRuntime) -> Result<(), Fail> {
+fn copies_of_a_controller(rt: HostRuntime) {
     let ran = run(
         rt.alloc(),
         b"memory 0x400 2\n\
@@ -450,21 +435,19 @@ fn copies_of_a_controller(rt: HostRuntime) -> Result<(), Fail> {
           copy held 1 1\n\
           totals entries 4 steps 0 running 1\n",
     );
-    Ok(())
 }
 
 #[test]
-fn the_longest_copy_from_odd_addresses(rt: HostRuntime) -> Result<(), Fail> {
+fn the_longest_copy_from_odd_addresses(rt: HostRuntime) {
     let ran = run(
         rt.alloc(),
         b"memory 0x400000 1\ncopy 0x1+1048576 to 0x200001+1048576\n",
     );
     assert_ran(&rt, &ran, 0, b"copy finished 1 NoError residue 0\n");
-    Ok(())
 }
 
 #[test]
-fn channels_that_are_not_there(rt: HostRuntime) -> Result<(), Fail> {
+fn channels_that_are_not_there(rt: HostRuntime) {
     let ran = run(
         rt.alloc(),
         b"memory 16 1\n\
@@ -496,12 +479,11 @@ fn channels_that_are_not_there(rt: HostRuntime) -> Result<(), Fail> {
           result none\n\
           result none\n",
     );
-    Ok(())
 }
 
 // Many steps that change nothing are one line, and equal answers of two lines are never counted as one.
 #[test]
-fn idle_steps_are_counted_line_by_line(rt: HostRuntime) -> Result<(), Fail> {
+fn idle_steps_are_counted_line_by_line(rt: HostRuntime) {
     let ran = run(
         rt.alloc(),
         b"memory 16 1\n\
@@ -519,22 +501,11 @@ fn idle_steps_are_counted_line_by_line(rt: HostRuntime) -> Result<(), Fail> {
           step 0 nothing x3000\n\
           totals entries 0 steps 0 running 0\n",
     );
-    Ok(())
-}
-
-// What a script prints that has no fault.
-fn printed(alloc: Global, input: &[u8]) -> Result<Vec<u8>, Fail> {
-    let (status, text) = run(alloc, input);
-    if status == 0 {
-        Ok(text)
-    } else {
-        Err(Fail::from("a status"))
-    }
 }
 
 #[test]
-fn a_fill(rt: HostRuntime) -> Result<(), Fail> {
-    let text = printed(
+fn a_fill(rt: HostRuntime) {
+    let ran = run(
         rt.alloc(),
         b"memory 64 1\n\
           write 0x10 5A\n\
@@ -542,22 +513,22 @@ fn a_fill(rt: HostRuntime) -> Result<(), Fail> {
           read 0x1F+5\n\
           read 0x2F+4\n\
           fill 0x10 to 0x0E+4",
-    )?;
-    assert_eq!(rt;
-        text.as_slice(),
+    );
+    assert_ran(
+        &rt,
+        &ran,
+        0,
         b"ok\n\
           fill finished 1 NoError residue 0\n\
           read 0x0000001F 00 5A 5A 5A 00\n\
           read 0x0000002F 00 5A 5A 00\n\
-          refused SourceMeetsDestination\n"
-            .as_slice()
+          refused SourceMeetsDestination\n",
     );
-    Ok(())
 }
 
 #[test]
-fn a_fill_waits(rt: HostRuntime) -> Result<(), Fail> {
-    let text = printed(
+fn a_fill_waits(rt: HostRuntime) {
+    let ran = run(
         rt.alloc(),
         b"memory 0x400 2\n\
           write 0x100 5A\n\
@@ -572,9 +543,11 @@ fn a_fill_waits(rt: HostRuntime) -> Result<(), Fail> {
           read 0x1FF+5\n\
           read 0x300+3\n\
           totals",
-    )?;
-    assert_eq!(rt;
-        text.as_slice(),
+    );
+    assert_ran(
+        &rt,
+        &ran,
+        0,
         b"ok\n\
           cookie 1\n\
           issued 1\n\
@@ -588,15 +561,13 @@ fn a_fill_waits(rt: HostRuntime) -> Result<(), Fail> {
           step 0 finished 1 NoError residue 0 x1\n\
           read 0x000001FF 00 5A 5A 5A 00\n\
           read 0x00000300 5A 5A 00\n\
-          totals entries 9 steps 16 running 0\n"
-            .as_slice()
+          totals entries 9 steps 16 running 0\n",
     );
-    Ok(())
 }
 
 #[test]
-fn a_fill_is_terminated_halfway(rt: HostRuntime) -> Result<(), Fail> {
-    let text = printed(
+fn a_fill_is_terminated_halfway(rt: HostRuntime) {
+    let ran = run(
         rt.alloc(),
         b"memory 0x400 1\n\
           write 0x100 5A\n\
@@ -614,9 +585,11 @@ fn a_fill_is_terminated_halfway(rt: HostRuntime) -> Result<(), Fail> {
           terminate 0\n\
           result 0 3\n\
           read 0x300+2",
-    )?;
-    assert_eq!(rt;
-        text.as_slice(),
+    );
+    assert_ran(
+        &rt,
+        &ran,
+        0,
         b"ok\n\
           cookie 1\n\
           cookie 2\n\
@@ -633,15 +606,13 @@ fn a_fill_is_terminated_halfway(rt: HostRuntime) -> Result<(), Fail> {
           step 0 moved x6\n\
           aborted 1\n\
           result Aborted residue 20\n\
-          read 0x00000300 00 00\n"
-            .as_slice()
+          read 0x00000300 00 00\n",
     );
-    Ok(())
 }
 
 #[test]
-fn a_load_of_a_fill_fails(rt: HostRuntime) -> Result<(), Fail> {
-    let text = printed(
+fn a_load_of_a_fill_fails(rt: HostRuntime) {
+    let ran = run(
         rt.alloc(),
         b"memory 0x400 1\n\
           write 0x100 5A\n\
@@ -654,9 +625,11 @@ fn a_load_of_a_fill_fails(rt: HostRuntime) -> Result<(), Fail> {
           fill 0x100 to 0x300+1\n\
           read 0x300+2\n\
           totals",
-    )?;
-    assert_eq!(rt;
-        text.as_slice(),
+    );
+    assert_ran(
+        &rt,
+        &ran,
+        0,
         b"ok\n\
           ok\n\
           fill finished 1 ReadFailed residue 20\n\
@@ -666,16 +639,14 @@ fn a_load_of_a_fill_fails(rt: HostRuntime) -> Result<(), Fail> {
           ok\n\
           fill finished 2 NoError residue 0\n\
           read 0x00000300 5A 00\n\
-          totals entries 12 steps 13 running 0\n"
-            .as_slice()
+          totals entries 12 steps 13 running 0\n",
     );
-    Ok(())
 }
 
 // A mark in the destinations fails the burst that meets it. One of the other kind fails nothing, nor one beside the source.
 #[test]
-fn a_store_of_a_fill_fails(rt: HostRuntime) -> Result<(), Fail> {
-    let text = printed(
+fn a_store_of_a_fill_fails(rt: HostRuntime) {
+    let ran = run(
         rt.alloc(),
         b"memory 0x400 1\n\
           write 0x100 5A A5\n\
@@ -691,9 +662,11 @@ fn a_store_of_a_fill_fails(rt: HostRuntime) -> Result<(), Fail> {
           result 0 2\n\
           read 0x240+3\n\
           read 0x30E+4",
-    )?;
-    assert_eq!(rt;
-        text.as_slice(),
+    );
+    assert_ran(
+        &rt,
+        &ran,
+        0,
         b"ok\n\
           ok\n\
           ok\n\
@@ -709,15 +682,13 @@ fn a_store_of_a_fill_fails(rt: HostRuntime) -> Result<(), Fail> {
           step 0 halted x4\n\
           result WriteFailed residue 4\n\
           read 0x00000240 5A 5A 00\n\
-          read 0x0000030E 5A 5A 00 00\n"
-            .as_slice()
+          read 0x0000030E 5A 5A 00 00\n",
     );
-    Ok(())
 }
 
 #[test]
-fn refused_fills(rt: HostRuntime) -> Result<(), Fail> {
-    let text = printed(
+fn refused_fills(rt: HostRuntime) {
+    let ran = run(
         rt.alloc(),
         b"memory 64 1\n\
           fill 64 to 0+1\n\
@@ -733,9 +704,11 @@ fn refused_fills(rt: HostRuntime) -> Result<(), Fail> {
           fill 0 to 1+1\n\
           fill 64 to 1+1\n\
           fill 0 to 1+0",
-    )?;
-    assert_eq!(rt;
-        text.as_slice(),
+    );
+    assert_ran(
+        &rt,
+        &ran,
+        0,
         b"refused OutOfMemoryRange\n\
           refused OutOfMemoryRange\n\
           fill finished 1 NoError residue 0\n\
@@ -748,16 +721,14 @@ fn refused_fills(rt: HostRuntime) -> Result<(), Fail> {
           ok\n\
           refused ChannelInUse\n\
           refused ChannelInUse\n\
-          refused EmptySegment\n"
-            .as_slice()
+          refused EmptySegment\n",
     );
-    Ok(())
 }
 
 // A fill is in the way of a writer of its one byte, and of no other reader of it.
 #[test]
-fn held_by_the_byte_of_a_fill(rt: HostRuntime) -> Result<(), Fail> {
-    let text = printed(
+fn held_by_the_byte_of_a_fill(rt: HostRuntime) {
+    let ran = run(
         rt.alloc(),
         b"memory 0x400 4\n\
           submit 0 fill 0x100 to 0x200+4\n\
@@ -776,9 +747,11 @@ fn held_by_the_byte_of_a_fill(rt: HostRuntime) -> Result<(), Fail> {
           terminate 0\n\
           fill 0x220 to 0x260+4\n\
           totals",
-    )?;
-    assert_eq!(rt;
-        text.as_slice(),
+    );
+    assert_ran(
+        &rt,
+        &ran,
+        0,
         b"cookie 1\n\
           cookie 1\n\
           cookie 1\n\
@@ -794,15 +767,13 @@ fn held_by_the_byte_of_a_fill(rt: HostRuntime) -> Result<(), Fail> {
           refused ChannelInUse\n\
           aborted 1\n\
           fill held 2 1\n\
-          totals entries 11 steps 0 running 1\n"
-            .as_slice()
+          totals entries 11 steps 0 running 1\n",
     );
-    Ok(())
 }
 
 // What a checkpoint forgets, and that the next cookie is the next.
 #[test]
-fn a_checkpoint_between_two_copies(rt: HostRuntime) -> Result<(), Fail> {
+fn a_checkpoint_between_two_copies(rt: HostRuntime) {
     let ran = run(
         rt.alloc(),
         b"memory 64 1\n\
@@ -817,9 +788,10 @@ fn a_checkpoint_between_two_copies(rt: HostRuntime) -> Result<(), Fail> {
           result 0 2\n\
           totals",
     );
-    assert_eq!(rt; ran.0, 0);
-    assert_eq!(rt;
-        ran.1.as_slice(),
+    assert_ran(
+        &rt,
+        &ran,
+        0,
         b"ok\n\
           copy finished 1 NoError residue 0\n\
           ok\n\
@@ -829,14 +801,12 @@ fn a_checkpoint_between_two_copies(rt: HostRuntime) -> Result<(), Fail> {
           totals entries 0 steps 8 running 0\n\
           copy finished 2 NoError residue 0\n\
           result NoError residue 0\n\
-          totals entries 3 steps 16 running 0\n"
-            .as_slice()
+          totals entries 3 steps 16 running 0\n",
     );
-    Ok(())
 }
 
 #[test]
-fn a_checkpoint_while_a_transfer_runs(rt: HostRuntime) -> Result<(), Fail> {
+fn a_checkpoint_while_a_transfer_runs(rt: HostRuntime) {
     let ran = run(
         rt.alloc(),
         b"memory 0x400 1\n\
@@ -848,17 +818,16 @@ fn a_checkpoint_while_a_transfer_runs(rt: HostRuntime) -> Result<(), Fail> {
           checkpoint\n\
           totals",
     );
-    assert_eq!(rt; ran.0, 0);
-    assert_eq!(rt;
-        ran.1.as_slice(),
+    assert_ran(
+        &rt,
+        &ran,
+        0,
         b"cookie 1\n\
           issued 1\n\
           step 0 started 1 x1\n\
           refused Running 0 1\n\
           aborted 1\n\
           ok\n\
-          totals entries 0 steps 0 running 0\n"
-            .as_slice()
+          totals entries 0 steps 0 running 0\n",
     );
-    Ok(())
 }

@@ -4,7 +4,7 @@ use crate::dis::{dis_main, dis_prints};
 use crate::plan::plan_main;
 use crate::run::run_script;
 use dma_script::output::Sink;
-use std::alloc::Global;
+use std::alloc::{AllocError, Global};
 use std::io;
 use std::io::Write;
 use std::process::Abort;
@@ -135,7 +135,7 @@ fn assembled(rt: HostRuntime) -> Result<(), Fail> {
 
 #[test]
 fn disassembled(rt: HostRuntime) -> Result<(), Fail> {
-    let cases: [(&[u8], u8, &[u8]); 9] = [
+    let cases: [(&[u8], u8, &[u8]); 10] = [
         (b"", 0, b""),
         (
             b"22 FF 04 08 3C 02 00",
@@ -165,13 +165,12 @@ fn disassembled(rt: HostRuntime) -> Result<(), Fail> {
         (b"3", 1, b"line 1: Hex\n"),
         (b"00\n00\n0 0", 1, b"line 3: Hex\n"),
         (b"28", 1, b"offset 0: Unknown 28\n"),
+        (b"00 34 01", 1, b"offset 1: BadField\n"),
     ];
     for (input, status, text) in cases {
         let ran = dis(rt.alloc(), input);
         assert_ran(&rt, &ran, status, text);
     }
-    let ran = dis(rt.alloc(), b"00 34 01");
-    assert_eq!(rt; ran.1.as_slice(), b"offset 1: BadField\n".as_slice());
     dis_prints();
     Ok(())
 }
@@ -279,16 +278,21 @@ fn planned(rt: HostRuntime) -> Result<(), Fail> {
     Ok(())
 }
 
+/// A piece of text, so many times.
+fn repeated(alloc: Global, piece: &[u8], count: usize) -> Result<Vec<u8>, AllocError> {
+    let mut text = Vec::new(alloc);
+    for _ in 0..count {
+        text.extend_from_slice(piece)?;
+    }
+    Ok(text)
+}
+
 #[test]
 fn longest_program(rt: HostRuntime) -> Result<(), Fail> {
     // 8,192 bytes are a program, and the line with one more is named
-    let mut text = Vec::new(rt.alloc());
-    for _ in 0..8192 {
-        text.extend_from_slice(b"DMANOP\n")?;
-    }
+    let mut text = repeated(rt.alloc(), b"DMANOP\n", 8192)?;
     let ran = asm(rt.alloc(), &text);
-    assert_eq!(rt; ran.0, 0);
-    assert_eq!(rt; ran.1.len(), 3 * 8192);
+    assert_eq!(rt; (ran.0, ran.1.len()), (0, 3 * 8192));
     text.extend_from_slice(b"DMAEND")?;
     let ran = asm(rt.alloc(), &text);
     assert_ran(&rt, &ran, 1, b"line 8193: ProgramTooLong\n");
@@ -298,12 +302,8 @@ fn longest_program(rt: HostRuntime) -> Result<(), Fail> {
 #[test]
 fn disassembled_without_limit(rt: HostRuntime) -> Result<(), Fail> {
     // a byte more than a program that is assembled may have
-    let mut pairs = Vec::new(rt.alloc());
-    let mut text = Vec::new(rt.alloc());
-    for _ in 0..8193 {
-        pairs.extend_from_slice(b"18 ")?;
-        text.extend_from_slice(b"DMANOP\n")?;
-    }
+    let mut pairs = repeated(rt.alloc(), b"18 ", 8193)?;
+    let text = repeated(rt.alloc(), b"DMANOP\n", 8193)?;
     let ran = dis(rt.alloc(), &pairs);
     assert_ran(&rt, &ran, 0, &text);
     pairs.extend_from_slice(b"28")?;
@@ -474,22 +474,24 @@ fn whole_runs(rt: HostRuntime) -> Result<(), Fail> {
     Ok(())
 }
 
+/// A script of one copy, from so many segments of a byte.
+fn copy_of_segments(alloc: Global, count: usize, end: &[u8]) -> Result<Vec<u8>, AllocError> {
+    let mut script = Vec::from_slice(alloc, b"memory 256 1\ncopy 0+1")?;
+    for _ in 1..count {
+        script.extend_from_slice(b",0+1")?;
+    }
+    script.extend_from_slice(end)?;
+    Ok(script)
+}
+
 #[test]
 fn longest_list(rt: HostRuntime) -> Result<(), Fail> {
     // 64 segments are copied, 65 are refused
-    let mut script = Vec::from_slice(rt.alloc(), b"memory 256 1\ncopy 0+1")?;
-    for _ in 1..64 {
-        script.extend_from_slice(b",0+1")?;
-    }
-    let mut longer = Vec::from_slice(rt.alloc(), &script)?;
-    script.extend_from_slice(b" to 64+64\n")?;
-    longer.extend_from_slice(b",0+1 to 64+65\n")?;
-    let ran = run(rt.alloc(), &script);
-    assert_eq!(rt;
-        ran.1.as_slice(),
-        b"copy finished 1 NoError residue 0\n".as_slice()
-    );
+    let longest = copy_of_segments(rt.alloc(), 64, b" to 64+64\n")?;
+    let ran = run(rt.alloc(), &longest);
+    assert_ran(&rt, &ran, 0, b"copy finished 1 NoError residue 0\n");
+    let longer = copy_of_segments(rt.alloc(), 65, b" to 64+65\n")?;
     let ran = run(rt.alloc(), &longer);
-    assert_eq!(rt; ran.1.as_slice(), b"refused TooManySegments\n".as_slice());
+    assert_ran(&rt, &ran, 0, b"refused TooManySegments\n");
     Ok(())
 }
