@@ -3,14 +3,16 @@
 use crate::call::{Call, Reply};
 use crate::engine::Engine;
 use crate::fault::EngineFault;
-use crate::run::run;
 use crate::test_lines::{
     ABORTED, COPIED, CopyOfFour, Events, Fact, Line, READ_FAILED, Request, finished, first_wrong,
+    first_wrong_of_new,
 };
+use crate::tests::replies_of;
 use crate::turn::{Status, Turn};
 use dma_mem::marks::MarkKind;
 use dma_mem::segment::Segment;
 use std::alloc::Global;
+use std::process::Abort;
 use std::test::Fail;
 
 // Two copies of four bytes, issued, of which the first is finished.
@@ -31,9 +33,14 @@ fn one_of_two_finished(alloc: Global) -> Result<Engine, Fail> {
     }
 }
 
+// The first line that such an engine doesn't answer as it must, if there is one.
+fn first_wrong_of_one_finished(alloc: Global, lines: &[Line]) -> Result<Option<usize>, Fail> {
+    let mut engine = one_of_two_finished(alloc)?;
+    Ok(first_wrong(alloc, &mut engine, lines))
+}
+
 #[test]
 fn outcomes_are_forgotten_and_counts_stay(rt: HostRuntime) -> Result<(), Fail> {
-    let mut engine = one_of_two_finished(rt.alloc())?;
     let lines = [
         Line::Checkpointed,
         Line::Told(Fact::Entries(0)),
@@ -48,13 +55,12 @@ fn outcomes_are_forgotten_and_counts_stay(rt: HostRuntime) -> Result<(), Fail> {
         Line::Told(Fact::Steps(8)),
         Line::Read(0x200, &[1, 2, 3, 4]),
     ];
-    assert_eq!(rt; first_wrong(rt.alloc(), &mut engine, &lines), None);
+    assert_eq!(rt; first_wrong_of_one_finished(rt.alloc(), &lines)?, None);
     Ok(())
 }
 
 #[test]
 fn a_second_one_adds_up(rt: HostRuntime) -> Result<(), Fail> {
-    let mut engine = one_of_two_finished(rt.alloc())?;
     let lines = [
         Line::Checkpointed,
         Line::Stepped(0, Turn::Started(2)),
@@ -69,13 +75,12 @@ fn a_second_one_adds_up(rt: HostRuntime) -> Result<(), Fail> {
         Line::Told(Fact::UsedAtBase(0, 3)),
         Line::Told(Fact::UsedAtBase(1, 1)),
     ];
-    assert_eq!(rt; first_wrong(rt.alloc(), &mut engine, &lines), None);
+    assert_eq!(rt; first_wrong_of_one_finished(rt.alloc(), &lines)?, None);
     Ok(())
 }
 
 #[test]
 fn a_running_transfer_stops_it(rt: HostRuntime) -> Result<(), Fail> {
-    let mut engine = one_of_two_finished(rt.alloc())?;
     let running = EngineFault::Running { ch: 0, cookie: 2 };
     let lines = [
         Line::Stepped(0, Turn::Started(2)),
@@ -87,13 +92,12 @@ fn a_running_transfer_stops_it(rt: HostRuntime) -> Result<(), Fail> {
         Line::Checkpointed,
         Line::Told(Fact::Forgotten(0, 2)),
     ];
-    assert_eq!(rt; first_wrong(rt.alloc(), &mut engine, &lines), None);
+    assert_eq!(rt; first_wrong_of_one_finished(rt.alloc(), &lines)?, None);
     Ok(())
 }
 
 #[test]
 fn marks_halts_and_pauses_stay(rt: HostRuntime) -> Result<(), Fail> {
-    let mut engine = Engine::new(rt.alloc(), 0x400, 2)?;
     let marked = Segment {
         addr: 0x100,
         len: 1,
@@ -123,14 +127,13 @@ fn marks_halts_and_pauses_stay(rt: HostRuntime) -> Result<(), Fail> {
         Line::Told(Fact::Result(0, 2, Some(ABORTED))),
         Line::Told(Fact::Result(0, 1, None)),
     ];
-    assert_eq!(rt; first_wrong(rt.alloc(), &mut engine, &lines), None);
+    assert_eq!(rt; first_wrong_of_new(rt.alloc(), 0x400, 2, &lines)?, None);
     Ok(())
 }
 
 // A flag that the base has lets a front pass that the base has too.
 #[test]
 fn a_flag_and_its_waiter_stay(rt: HostRuntime) -> Result<(), Fail> {
-    let mut engine = Engine::new(rt.alloc(), 0x400, 1)?;
     let lines = [
         Line::SubmittedWith(0, CopyOfFour(0x100, 0x200), Events::Wait(3), 1),
         Line::Issued(0, 1),
@@ -142,14 +145,12 @@ fn a_flag_and_its_waiter_stay(rt: HostRuntime) -> Result<(), Fail> {
         // it passed and finished
         Line::Told(Fact::Entries(2)),
     ];
-    assert_eq!(rt; first_wrong(rt.alloc(), &mut engine, &lines), None);
+    assert_eq!(rt; first_wrong_of_new(rt.alloc(), 0x400, 1, &lines)?, None);
     Ok(())
 }
 
-// With the growths refused in turn, each of which leaves all as it was.
-#[test]
-fn a_refused_one_changes_nothing(rt: HostRuntime) -> Result<(), Fail> {
-    let mut engine = one_of_two_finished(rt.alloc())?;
+// A checkpoint, made once more where its growths are refused, which leaves all as it was.
+fn checkpointed_at_last(rt: &impl Abort, alloc: Global, engine: &mut Engine) {
     if let Err(fault) = engine.checkpoint() {
         assert_eq!(rt; fault, EngineFault::NoMemory);
         let as_before = [
@@ -159,8 +160,15 @@ fn a_refused_one_changes_nothing(rt: HostRuntime) -> Result<(), Fail> {
             Line::Told(Fact::Status(0, 2, Status::InProgress)),
             Line::Checkpointed,
         ];
-        assert_eq!(rt; first_wrong(rt.alloc(), &mut engine, &as_before), None);
+        assert_eq!(rt; first_wrong(alloc, engine, &as_before), None);
     }
+}
+
+// With the growths refused in turn.
+#[test]
+fn a_refused_one_changes_nothing(rt: HostRuntime) -> Result<(), Fail> {
+    let mut engine = one_of_two_finished(rt.alloc())?;
+    checkpointed_at_last(&rt, rt.alloc(), &mut engine);
     let forgotten = [
         Line::Told(Fact::Entries(0)),
         Line::Told(Fact::Forgotten(0, 1)),
@@ -181,18 +189,20 @@ fn has_checkpoints(replies: &[Reply]) -> bool {
     first && result && step && last && replies.len() == 4
 }
 
-#[test]
-fn a_call_among_others(rt: HostRuntime) -> Result<(), Fail> {
-    let mut engine = one_of_two_finished(rt.alloc())?;
+fn replies_around(alloc: Global, engine: &mut Engine) -> Result<Vec<Reply>, Fail> {
     let calls = [
         Call::Checkpoint,
         Call::Result { ch: 0, cookie: 1 },
         Call::Step { ch: 0 },
         Call::Checkpoint,
     ];
-    let Ok(replies) = run(rt.alloc(), &mut engine, &calls) else {
-        return Err(Fail::from("no memory"));
-    };
+    replies_of(alloc, engine, &calls)
+}
+
+#[test]
+fn a_call_among_others(rt: HostRuntime) -> Result<(), Fail> {
+    let mut engine = one_of_two_finished(rt.alloc())?;
+    let replies = replies_around(rt.alloc(), &mut engine)?;
     assert!(rt; has_checkpoints(&replies));
     Ok(())
 }

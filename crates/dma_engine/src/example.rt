@@ -3,14 +3,20 @@
 use crate::{Engine, Status};
 use dma_mem::segment::Segment;
 use dma_mem::transfer::Transfer;
+use std::alloc::Global;
+use std::process::Abort;
 use std::test::Fail;
 
 #[test]
 fn four_bytes_are_copied(rt: HostRuntime) -> Result<(), Fail> {
     let mut engine = Engine::new(rt.alloc(), 0x3000, 1)?;
+    copies_four_bytes(&rt, rt.alloc(), &mut engine)
+}
+
+fn copies_four_bytes(rt: &impl Abort, alloc: Global, engine: &mut Engine) -> Result<(), Fail> {
     engine.write(0x1000, &[1, 2, 3, 4])?;
     let four = |addr: u32| Segment { addr, len: 4 };
-    let copy = Transfer::new(rt.alloc(), &[four(0x1000)], &[four(0x2000)], None, None)?;
+    let copy = Transfer::new(alloc, &[four(0x1000)], &[four(0x2000)], None, None)?;
     let Ok(cookie) = engine.submit(0, copy) else {
         return Err(Fail::from("submit was refused"));
     };

@@ -48,9 +48,18 @@ fn twenty_to_fill(alloc: Global, wait: Option<u8>) -> Result<Engine, Fail> {
     Ok(engine)
 }
 
+// The first line that such an engine doesn't answer as it must, if there is one.
+fn first_wrong_of_fill(
+    alloc: Global,
+    wait: Option<u8>,
+    lines: &[Line],
+) -> Result<Option<usize>, Fail> {
+    let mut engine = twenty_to_fill(alloc, wait)?;
+    Ok(first_wrong(alloc, &mut engine, lines))
+}
+
 #[test]
 fn a_fill_waits_for_its_event(rt: HostRuntime) -> Result<(), Fail> {
-    let mut engine = twenty_to_fill(rt.alloc(), Some(3))?;
     let lines = [
         Line::Stepped(0, Turn::Started(1)),
         Line::Stepped(0, Turn::Waiting(3)),
@@ -63,13 +72,12 @@ fn a_fill_waits_for_its_event(rt: HostRuntime) -> Result<(), Fail> {
         Line::Read(0x32, &[0x5A, 0x5A, 0, 0]),
         Line::Told(Fact::Steps(16)),
     ];
-    assert_eq!(rt; first_wrong(rt.alloc(), &mut engine, &lines), None);
+    assert_eq!(rt; first_wrong_of_fill(rt.alloc(), Some(3), &lines)?, None);
     Ok(())
 }
 
 #[test]
 fn a_terminate_keeps_what_was_filled(rt: HostRuntime) -> Result<(), Fail> {
-    let mut engine = twenty_to_fill(rt.alloc(), None)?;
     let lines = [
         Line::Stepped(0, Turn::Started(1)),
         Line::Moved(0, 12),
@@ -77,13 +85,12 @@ fn a_terminate_keeps_what_was_filled(rt: HostRuntime) -> Result<(), Fail> {
         Line::Told(Fact::Result(0, 1, Some(ABORTED))),
         Line::Read(0x2E, &[0x5A, 0x5A, 0, 0]),
     ];
-    assert_eq!(rt; first_wrong(rt.alloc(), &mut engine, &lines), None);
+    assert_eq!(rt; first_wrong_of_fill(rt.alloc(), None, &lines)?, None);
     Ok(())
 }
 
 #[test]
 fn a_terminate_before_the_first_store_fills_nothing(rt: HostRuntime) -> Result<(), Fail> {
-    let mut engine = twenty_to_fill(rt.alloc(), None)?;
     let aborted = at_the_start(TransResult::Aborted);
     let lines = [
         Line::Stepped(0, Turn::Started(1)),
@@ -92,13 +99,12 @@ fn a_terminate_before_the_first_store_fills_nothing(rt: HostRuntime) -> Result<(
         Line::Told(Fact::Result(0, 1, Some(aborted))),
         Line::Read(0x20, &[0, 0]),
     ];
-    assert_eq!(rt; first_wrong(rt.alloc(), &mut engine, &lines), None);
+    assert_eq!(rt; first_wrong_of_fill(rt.alloc(), None, &lines)?, None);
     Ok(())
 }
 
 #[test]
 fn a_mark_on_its_byte_fails_its_first_load(rt: HostRuntime) -> Result<(), Fail> {
-    let mut engine = twenty_to_fill(rt.alloc(), None)?;
     let failed = at_the_start(TransResult::ReadFailed);
     let lines = [
         Line::Marked(MarkKind::Reading, one_byte(0x10)),
@@ -108,13 +114,12 @@ fn a_mark_on_its_byte_fails_its_first_load(rt: HostRuntime) -> Result<(), Fail> 
         Line::Told(Fact::Halted(0, true)),
         Line::Read(0x20, &[0, 0]),
     ];
-    assert_eq!(rt; first_wrong(rt.alloc(), &mut engine, &lines), None);
+    assert_eq!(rt; first_wrong_of_fill(rt.alloc(), None, &lines)?, None);
     Ok(())
 }
 
 #[test]
 fn a_mark_on_its_byte_fails_a_later_load(rt: HostRuntime) -> Result<(), Fail> {
-    let mut engine = twenty_to_fill(rt.alloc(), None)?;
     let lines = [
         Line::Stepped(0, Turn::Started(1)),
         Line::Moved(0, 10),
@@ -122,13 +127,12 @@ fn a_mark_on_its_byte_fails_a_later_load(rt: HostRuntime) -> Result<(), Fail> {
         Line::Finished(0, 1, READ_FAILED),
         Line::Read(0x2E, &[0x5A, 0x5A, 0, 0]),
     ];
-    assert_eq!(rt; first_wrong(rt.alloc(), &mut engine, &lines), None);
+    assert_eq!(rt; first_wrong_of_fill(rt.alloc(), None, &lines)?, None);
     Ok(())
 }
 
 #[test]
 fn a_mark_in_its_destinations_fails_a_store(rt: HostRuntime) -> Result<(), Fail> {
-    let mut engine = twenty_to_fill(rt.alloc(), None)?;
     let lines = [
         Line::Marked(MarkKind::Writing, one_byte(0x33)),
         Line::Stepped(0, Turn::Started(1)),
@@ -137,13 +141,12 @@ fn a_mark_in_its_destinations_fails_a_store(rt: HostRuntime) -> Result<(), Fail>
         Line::Told(Fact::Halted(0, true)),
         Line::Read(0x2E, &[0x5A, 0x5A, 0, 0, 0, 0]),
     ];
-    assert_eq!(rt; first_wrong(rt.alloc(), &mut engine, &lines), None);
+    assert_eq!(rt; first_wrong_of_fill(rt.alloc(), None, &lines)?, None);
     Ok(())
 }
 
 #[test]
 fn marks_beside_its_places_stop_no_fill(rt: HostRuntime) -> Result<(), Fail> {
-    let mut engine = twenty_to_fill(rt.alloc(), None)?;
     let beside = Segment {
         addr: 0x11,
         len: 47,
@@ -158,13 +161,12 @@ fn marks_beside_its_places_stop_no_fill(rt: HostRuntime) -> Result<(), Fail> {
         Line::Finished(0, 1, COPIED),
         Line::Read(0x32, &[0x5A, 0x5A, 0]),
     ];
-    assert_eq!(rt; first_wrong(rt.alloc(), &mut engine, &lines), None);
+    assert_eq!(rt; first_wrong_of_fill(rt.alloc(), None, &lines)?, None);
     Ok(())
 }
 
 #[test]
 fn a_fill_holds_writers_of_its_byte(rt: HostRuntime) -> Result<(), Fail> {
-    let mut engine = twenty_to_fill(rt.alloc(), None)?;
     let busy = EngineFault::Busy { ch: 0, cookie: 1 };
     let held = Turn::Held { ch: 0, cookie: 1 };
     let lines = [
@@ -182,13 +184,12 @@ fn a_fill_holds_writers_of_its_byte(rt: HostRuntime) -> Result<(), Fail> {
         Line::Finished(0, 1, COPIED),
         Line::Stepped(1, Turn::Started(1)),
     ];
-    assert_eq!(rt; first_wrong(rt.alloc(), &mut engine, &lines), None);
+    assert_eq!(rt; first_wrong_of_fill(rt.alloc(), None, &lines)?, None);
     Ok(())
 }
 
 #[test]
 fn a_fill_shares_its_byte_with_readers(rt: HostRuntime) -> Result<(), Fail> {
-    let mut engine = twenty_to_fill(rt.alloc(), None)?;
     let lines = [
         Line::Submitted(1, CopyOfFour(0x10, 0x14), 1),
         Line::Issued(1, 1),
@@ -200,22 +201,29 @@ fn a_fill_shares_its_byte_with_readers(rt: HostRuntime) -> Result<(), Fail> {
         Line::Finished(1, 1, COPIED),
         Line::Read(0x14, &[0x5A, 0]),
     ];
-    assert_eq!(rt; first_wrong(rt.alloc(), &mut engine, &lines), None);
+    assert_eq!(rt; first_wrong_of_fill(rt.alloc(), None, &lines)?, None);
     Ok(())
 }
 
-#[test]
-fn a_byte_goes_to_every_place_of_a_list(rt: HostRuntime) -> Result<(), Fail> {
-    let mut engine = Engine::new(rt.alloc(), 64, 1)?;
-    engine.write(0x10, &[0x5A])?;
+// A fill of two places, which signals.
+fn fill_of_two(alloc: Global) -> Result<Transfer, Fail> {
     let dst = [
         Segment { addr: 0x20, len: 3 },
         Segment { addr: 0x30, len: 2 },
     ];
-    submitted(
-        &mut engine,
-        Transfer::fill(rt.alloc(), 0x10, &dst, None, Some(7))?,
-    )?;
+    Ok(Transfer::fill(alloc, 0x10, &dst, None, Some(7))?)
+}
+
+fn two_places(alloc: Global) -> Result<Engine, Fail> {
+    let mut engine = Engine::new(alloc, 64, 1)?;
+    engine.write(0x10, &[0x5A])?;
+    submitted(&mut engine, fill_of_two(alloc)?)?;
+    Ok(engine)
+}
+
+#[test]
+fn a_byte_goes_to_every_place_of_a_list(rt: HostRuntime) -> Result<(), Fail> {
+    let mut engine = two_places(rt.alloc())?;
     let lines = [
         Line::Issued(0, 1),
         Line::Stepped(0, Turn::Started(1)),

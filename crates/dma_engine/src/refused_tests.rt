@@ -6,10 +6,10 @@
 
 use crate::engine::Engine;
 use crate::entry::{Entry, Signaller};
-use crate::fault::{EngineFault, NewFault};
+use crate::fault::{EngineFault, NewFault, SubmitFault};
 use crate::outcome::{Outcome, TransResult};
 use crate::test_lines::{
-    COPIED, CopyOfFour, Line, READ_FAILED, Request, finished, first_wrong, refusal,
+    COPIED, CopyOfFour, Events, Line, READ_FAILED, Request, finished, first_wrong, refusal,
 };
 use crate::turn::{Running, Status, Turn};
 use dma_mem::marks::MarkKind;
@@ -122,29 +122,37 @@ fn are_same_entries(these: &[Entry], those: &[Entry]) -> bool {
     these.len() == those.len()
 }
 
-// Whether two engines tell the same, but for the bytes of their memories.
-fn tell_the_same(one: &Engine, other: &Engine) -> bool {
-    one.steps() == other.steps()
-        && one.finished_all() == other.finished_all()
-        && told(one, 0) == told(other, 0)
-        && told(one, 1) == told(other, 1)
-        && are_same_entries(one.history(), other.history())
+// The engine that is asked, and the one beside it.
+#[derive(Drop)]
+struct Pair {
+    asked: Engine,
+    other: Engine,
+}
+
+// Whether both tell the same, but for the bytes of their memories.
+fn tell_the_same(pair: &Pair) -> bool {
+    let Pair { asked, other } = pair;
+    asked.steps() == other.steps()
+        && asked.finished_all() == other.finished_all()
+        && told(asked, 0) == told(other, 0)
+        && told(asked, 1) == told(other, 1)
+        && are_same_entries(asked.history(), other.history())
 }
 
 // Whether their memories have the same bytes, by a read of each, which both histories then have.
-fn have_same_bytes(one: &mut Engine, other: &mut Engine) -> Result<bool, Fail> {
-    let size = one.size();
-    let these = one.read(0, size)?;
-    let those = other.read(0, size)?;
+fn have_same_bytes(pair: &mut Pair) -> Result<bool, Fail> {
+    let size = pair.asked.size();
+    let these = pair.asked.read(0, size)?;
+    let those = pair.other.read(0, size)?;
     Ok(these.as_slice() == those.as_slice())
 }
 
 // Ends what is unfinished on channel 0 of both, which must then tell the same and have the same bytes.
-fn end_alike(rt: &impl Abort, one: &mut Engine, other: &mut Engine) -> Result<(), Fail> {
-    let count = one.terminate(0)?;
-    assert_eq!(rt; other.terminate(0)?, count);
-    assert!(rt; have_same_bytes(one, other)?);
-    assert!(rt; tell_the_same(one, other));
+fn end_alike(rt: &impl Abort, pair: &mut Pair) -> Result<(), Fail> {
+    let count = pair.asked.terminate(0)?;
+    assert_eq!(rt; pair.other.terminate(0)?, count);
+    assert!(rt; have_same_bytes(pair)?);
+    assert!(rt; tell_the_same(pair));
     Ok(())
 }
 
@@ -171,24 +179,56 @@ fn go_through(alloc: Global, engine: &mut Engine, lines: &[Line]) -> Result<(), 
 fn asked_again(
     rt: &(impl Abort + Print),
     alloc: Global,
-    asked: &mut Engine,
-    other: &mut Engine,
+    pair: &mut Pair,
     row: Row,
     looks: bool,
 ) -> Result<(), Fail> {
     println!(rt; "row {}", row.name)?;
-    if let Some(fault) = refusal(asked, row.request) {
+    if let Some(fault) = refusal(&mut pair.asked, row.request) {
         println!(rt; "refused {}", row.name)?;
         assert_eq!(rt; fault, EngineFault::NoMemory);
-        assert!(rt; tell_the_same(asked, other));
+        assert!(rt; tell_the_same(pair));
         if looks {
-            assert!(rt; have_same_bytes(asked, other)?);
+            assert!(rt; have_same_bytes(pair)?);
         }
-        assert_eq!(rt; first_wrong(alloc, asked, &[row.line]), None);
+        assert_eq!(rt; first_wrong(alloc, &mut pair.asked, &[row.line]), None);
     }
-    go_through(alloc, other, &[row.line])?;
-    assert!(rt; tell_the_same(asked, other));
-    Ok(())
+    go_through(alloc, &mut pair.other, &[row.line])?;
+    assert!(rt; tell_the_same(pair));
+    end_alike(rt, pair)
+}
+
+// Where an engine stands before a row.
+#[derive(Clone, Copy)]
+enum Before {
+    WithoutRoom,
+    Start,
+    Step(Ahead),
+}
+
+fn engine_before(alloc: Global, before: Before) -> Result<Engine, Fail> {
+    match before {
+        Before::WithoutRoom => without_room(alloc),
+        Before::Start => about_to_start(alloc),
+        Before::Step(ahead) => before_it(alloc, ahead),
+    }
+}
+
+fn pair_before(alloc: Global, before: Before) -> Result<Pair, Fail> {
+    let asked = engine_before(alloc, before)?;
+    let other = engine_before(alloc, before)?;
+    Ok(Pair { asked, other })
+}
+
+fn asked_after(
+    rt: &(impl Abort + Print),
+    alloc: Global,
+    before: Before,
+    row: Row,
+    looks: bool,
+) -> Result<(), Fail> {
+    let mut pair = pair_before(alloc, before)?;
+    asked_again(rt, alloc, &mut pair, row, looks)
 }
 
 // ---- calls that find no room in the lists
@@ -216,16 +256,6 @@ fn without_room(alloc: Global) -> Result<Engine, Fail> {
     ];
     go_through(alloc, &mut engine, &lines)?;
     Ok(engine)
-}
-
-fn asked_without_room(rt: &(impl Abort + Print), alloc: Global, row: Row) -> Result<(), Fail> {
-    for looks in [false, true] {
-        let mut asked = without_room(alloc)?;
-        let mut other = without_room(alloc)?;
-        asked_again(rt, alloc, &mut asked, &mut other, row, looks)?;
-        end_alike(rt, &mut asked, &mut other)?;
-    }
-    Ok(())
 }
 
 #[test]
@@ -268,7 +298,9 @@ fn calls_of_the_host(rt: HostRuntime) -> Result<(), Fail> {
         },
     ];
     for row in rows {
-        asked_without_room(&rt, rt.alloc(), row)?;
+        for looks in [false, true] {
+            asked_after(&rt, rt.alloc(), Before::WithoutRoom, row, looks)?;
+        }
     }
     Ok(())
 }
@@ -293,85 +325,73 @@ fn calls_on_a_queue(rt: HostRuntime) -> Result<(), Fail> {
         },
     ];
     for row in rows {
-        asked_without_room(&rt, rt.alloc(), row)?;
+        for looks in [false, true] {
+            asked_after(&rt, rt.alloc(), Before::WithoutRoom, row, looks)?;
+        }
     }
     Ok(())
 }
 
-// A copy that waits for event 3 and raises event 7.
-fn copy_with_events(alloc: Global) -> Result<Transfer, Fail> {
-    let src = Segment {
+// A copy that waits and signals.
+fn with_events(alloc: Global) -> Result<Transfer, Fail> {
+    let src = [Segment {
         addr: 0x100,
         len: 4,
-    };
-    let dst = Segment {
+    }];
+    let dst = [Segment {
         addr: 0x200,
         len: 4,
-    };
-    Ok(Transfer::new(alloc, &[src], &[dst], Some(3), Some(7))?)
+    }];
+    Ok(Transfer::new(alloc, &src, &dst, Some(3), Some(7))?)
 }
 
-// The cookie of that copy. Where memory is refused, the transfer is handed back and submitted once more.
+// Whether a refusal for want of memory hands back what was submitted.
+fn hands_back(alloc: Global, refused: &SubmitFault) -> Result<bool, Fail> {
+    let same = with_events(alloc)?;
+    let is_same = made_of(&refused.transfer) == made_of(&same);
+    Ok(is_same && refused.fault == EngineFault::NoMemory)
+}
+
+// The cookie of a copy. Where memory is refused, it is handed back and submitted once more.
 fn submitted_again(
     rt: &(impl Abort + Print),
-    asked: &mut Engine,
-    other: &Engine,
-    transfer: Transfer,
-    same: &Transfer,
-) -> Result<Option<u32>, Fail> {
-    match asked.submit(1, transfer) {
-        Ok(cookie) => Ok(Some(cookie)),
-        Err(refused) => {
-            println!(rt; "refused submit")?;
-            assert_eq!(rt; refused.fault, EngineFault::NoMemory);
-            assert!(rt; made_of(&refused.transfer) == made_of(same));
-            assert!(rt; tell_the_same(asked, other));
-            Ok(asked.submit(1, refused.transfer).ok())
-        }
-    }
-}
-
-// Submits the copy to the engine that is asked, and tells its cookie.
-fn asked_for_a_cookie(
-    rt: &(impl Abort + Print),
     alloc: Global,
-    asked: &mut Engine,
-    other: &Engine,
+    pair: &mut Pair,
 ) -> Result<Option<u32>, Fail> {
-    let same = copy_with_events(alloc)?;
-    let transfer = copy_with_events(alloc)?;
-    submitted_again(rt, asked, other, transfer, &same)
+    let refused = match pair.asked.submit(1, with_events(alloc)?) {
+        Ok(cookie) => return Ok(Some(cookie)),
+        Err(refused) => refused,
+    };
+    println!(rt; "refused submit")?;
+    assert!(rt; hands_back(alloc, &refused)?);
+    assert!(rt; tell_the_same(pair));
+    Ok(pair.asked.submit(1, refused.transfer).ok())
 }
 
-// Submits the copy to both, which must then tell the same.
 fn submitted_to_both(
     rt: &(impl Abort + Print),
     alloc: Global,
-    asked: &mut Engine,
-    other: &mut Engine,
+    pair: &mut Pair,
 ) -> Result<(), Fail> {
-    assert_eq!(rt; asked_for_a_cookie(rt, alloc, asked, other)?, Some(1));
-    if other.submit(1, copy_with_events(alloc)?).is_err() {
+    println!(rt; "row submit")?;
+    assert_eq!(rt; submitted_again(rt, alloc, pair)?, Some(1));
+    if pair.other.submit(1, with_events(alloc)?).is_err() {
         return Err(Fail::from("the other engine has no memory"));
     }
-    assert!(rt; tell_the_same(asked, other));
-    end_alike(rt, asked, other)
+    assert!(rt; tell_the_same(pair));
+    end_alike(rt, pair)
 }
 
 #[test]
 fn a_transfer_is_handed_back(rt: HostRuntime) -> Result<(), Fail> {
-    println!(rt; "row submit")?;
-    let mut asked = without_room(rt.alloc())?;
-    let mut other = without_room(rt.alloc())?;
-    submitted_to_both(&rt, rt.alloc(), &mut asked, &mut other)
+    let mut pair = pair_before(rt.alloc(), Before::WithoutRoom)?;
+    submitted_to_both(&rt, rt.alloc(), &mut pair)
 }
 
 // ---- steps that take memory
 
-// An engine that has given all room back, and whose channel 0 has a transfer to start over pages that aren't made.
-fn about_to_start(alloc: Global) -> Result<Engine, Fail> {
-    let mut engine = Engine::new(alloc, 0x3000, 2)?;
-    engine.write(0x100, &[1, 2, 3, 4, 5, 6])?;
+// A copy of two segments to two, over pages that no write made.
+fn over_new_pages(alloc: Global) -> Result<Transfer, Fail> {
     let src = [
         Segment {
             addr: 0x100,
@@ -392,17 +412,25 @@ fn about_to_start(alloc: Global) -> Result<Engine, Fail> {
             len: 2,
         },
     ];
-    if engine
-        .submit(0, Transfer::new(alloc, &src, &dst, None, None)?)
-        .is_err()
-    {
+    Ok(Transfer::new(alloc, &src, &dst, None, None)?)
+}
+
+// Gives it to channel 0, and all room back.
+fn issued_without_room(alloc: Global, engine: &mut Engine) -> Result<(), Fail> {
+    if engine.submit(0, over_new_pages(alloc)?).is_err() {
         return Err(Fail::from("submit has no memory"));
     }
-    go_through(
-        alloc,
-        &mut engine,
-        &[Line::Issued(0, 1), Line::Checkpointed],
-    )?;
+    let lines = [
+        Line::Written(0x100, &[1, 2, 3, 4, 5, 6]),
+        Line::Issued(0, 1),
+        Line::Checkpointed,
+    ];
+    go_through(alloc, engine, &lines)
+}
+
+fn about_to_start(alloc: Global) -> Result<Engine, Fail> {
+    let mut engine = Engine::new(alloc, 0x3000, 2)?;
+    issued_without_room(alloc, &mut engine)?;
     Ok(engine)
 }
 
@@ -414,22 +442,18 @@ fn a_start(rt: HostRuntime) -> Result<(), Fail> {
         line: Line::Stepped(0, Turn::Started(1)),
     };
     for looks in [false, true] {
-        let mut asked = about_to_start(rt.alloc())?;
-        let mut other = about_to_start(rt.alloc())?;
-        asked_again(&rt, rt.alloc(), &mut asked, &mut other, row, looks)?;
-        end_alike(&rt, &mut asked, &mut other)?;
+        asked_after(&rt, rt.alloc(), Before::Start, row, looks)?;
     }
     Ok(())
 }
 
-// A step of a running copy of four bytes that adds an entry: the copy's events, whether its load fails, how many steps move
-// before this one, and what this one answers.
+// A step of a running copy of four bytes that adds an entry: the copy's event, the kind of the marks in its source, how many
+// steps move before this one, and what this one answers.
 #[derive(Clone, Copy)]
 struct Ahead {
     name: &'static str,
-    wait: Option<u8>,
-    signal: Option<u8>,
-    fails: bool,
+    events: Events,
+    marks: MarkKind,
     moved: u32,
     answer: Turn,
 }
@@ -437,22 +461,13 @@ struct Ahead {
 // An engine that has given all room back, with that step ahead. The flag of event 3 is set.
 fn before_it(alloc: Global, ahead: Ahead) -> Result<Engine, Fail> {
     let mut engine = Engine::new(alloc, 0x3000, 2)?;
-    let src = Segment {
+    let source = Segment {
         addr: 0x100,
         len: 4,
     };
-    let dst = Segment {
-        addr: 0x200,
-        len: 4,
-    };
-    let copy = Transfer::new(alloc, &[src], &[dst], ahead.wait, ahead.signal)?;
-    if engine.submit(0, copy).is_err() {
-        return Err(Fail::from("submit has no memory"));
-    }
-    if ahead.fails {
-        engine.mark(MarkKind::Reading, src)?;
-    }
     let lines = [
+        Line::SubmittedWith(0, CopyOfFour(0x100, 0x200), ahead.events, 1),
+        Line::Marked(ahead.marks, source),
         Line::Written(0x100, &[1, 2, 3, 4]),
         Line::Issued(0, 1),
         Line::Raised(3),
@@ -464,26 +479,12 @@ fn before_it(alloc: Global, ahead: Ahead) -> Result<Engine, Fail> {
     Ok(engine)
 }
 
-fn step_asked_again(rt: &(impl Abort + Print), alloc: Global, ahead: Ahead) -> Result<(), Fail> {
-    let row = Row {
-        name: ahead.name,
-        request: Request::Step(0),
-        line: Line::Stepped(0, ahead.answer),
-    };
-    let mut asked = before_it(alloc, ahead)?;
-    let mut other = before_it(alloc, ahead)?;
-    // its destination can't be read while it runs
-    asked_again(rt, alloc, &mut asked, &mut other, row, false)?;
-    end_alike(rt, &mut asked, &mut other)
-}
-
 #[test]
 fn steps_that_add_an_entry(rt: HostRuntime) -> Result<(), Fail> {
     let plain = Ahead {
         name: "step that finishes",
-        wait: None,
-        signal: None,
-        fails: false,
+        events: Events::None,
+        marks: MarkKind::Writing,
         moved: 7,
         answer: finished(1, COPIED),
     };
@@ -491,27 +492,33 @@ fn steps_that_add_an_entry(rt: HostRuntime) -> Result<(), Fail> {
         plain,
         Ahead {
             name: "step that signals",
-            signal: Some(7),
+            events: Events::Signal(7),
             answer: Turn::Moved,
             ..plain
         },
         Ahead {
             name: "step that passes",
-            wait: Some(3),
+            events: Events::Wait(3),
             moved: 0,
             answer: Turn::Moved,
             ..plain
         },
         Ahead {
             name: "step that fails",
-            fails: true,
+            marks: MarkKind::Reading,
             moved: 3,
             answer: finished(1, READ_FAILED),
             ..plain
         },
     ];
     for ahead in steps {
-        step_asked_again(&rt, rt.alloc(), ahead)?;
+        let row = Row {
+            name: ahead.name,
+            request: Request::Step(0),
+            line: Line::Stepped(0, ahead.answer),
+        };
+        // its destination can't be read while it runs
+        asked_after(&rt, rt.alloc(), Before::Step(ahead), row, false)?;
     }
     Ok(())
 }

@@ -48,28 +48,48 @@ fn segment(addr: u32, len: u32) -> Segment {
     Segment { addr, len }
 }
 
+fn copy_of_300(alloc: Global) -> Result<Transfer, Fail> {
+    let src = [segment(SOURCE, LENGTH)];
+    let dst = [segment(DESTINATION, LENGTH)];
+    Ok(Transfer::new(alloc, &src, &dst, None, None)?)
+}
+
+// Writes the source, and submits the copy.
+fn submitted(alloc: Global, engine: &mut Engine) -> Result<(), Fail> {
+    let memory = memory_after(alloc, 0)?;
+    engine.write(0, &memory)?;
+    match engine.submit(0, copy_of_300(alloc)?) {
+        Ok(_) => Ok(()),
+        Err(_) => Err(Fail::from("submit was refused")),
+    }
+}
+
 // An engine whose one channel has the copy issued. Its program has 20 instructions: both addresses, the first control word
 // and the loop's begin; a burst, 5 to 8, and the loop's end; the second control word, and a burst, 11 to 14; the third, and
 // a burst, 16 to 19; the end. A burst's load is the first of its four, and its store the third.
 fn three_bursts(alloc: Global) -> Result<Engine, Fail> {
     let mut engine = Engine::new(alloc, SIZE, 1)?;
-    let memory = memory_after(alloc, 0)?;
-    engine.write(0, &memory)?;
-    let src = [segment(SOURCE, LENGTH)];
-    let dst = [segment(DESTINATION, LENGTH)];
-    let copy = Transfer::new(alloc, &src, &dst, None, None)?;
-    if engine.submit(0, copy).is_err() {
-        return Err(Fail::from("submit was refused"));
-    }
+    submitted(alloc, &mut engine)?;
     engine.issue(0)?;
     Ok(engine)
 }
 
-// Whether a terminate after so many instructions aborts it with this residue, and leaves so many bytes copied, and whether a
-// further step does nothing.
-fn stops(alloc: Global, moved: u32, done: u32, residue: u32) -> Result<bool, Fail> {
-    let mut engine = three_bursts(alloc)?;
+// Whether the memory is that where so many bytes are copied.
+fn has_copied(alloc: Global, engine: &mut Engine, done: u32) -> Result<bool, Fail> {
     let memory = memory_after(alloc, done)?;
+    Ok(reads(engine, 0, &memory))
+}
+
+// Whether the copy goes by these lines, and then has copied so many bytes.
+fn copies(alloc: Global, lines: &[Line], done: u32) -> Result<bool, Fail> {
+    let mut engine = three_bursts(alloc)?;
+    let goes = first_wrong(alloc, &mut engine, lines).is_none();
+    Ok(goes && has_copied(alloc, &mut engine, done)?)
+}
+
+// Whether a terminate after so many instructions aborts the copy with this residue, and leaves so many bytes copied, and
+// whether a further step does nothing.
+fn stops(alloc: Global, moved: u32, done: u32, residue: u32) -> Result<bool, Fail> {
     let aborted = Outcome {
         result: TransResult::Aborted,
         residue,
@@ -79,11 +99,10 @@ fn stops(alloc: Global, moved: u32, done: u32, residue: u32) -> Result<bool, Fai
         Line::Moved(0, moved),
         Line::Terminated(0, 1),
         Line::Told(Fact::Result(0, 1, Some(aborted))),
+        Line::Stepped(0, Turn::Nothing),
     ];
-    let stopped = first_wrong(alloc, &mut engine, &lines).is_none();
-    let kept = reads(&mut engine, 0, &memory);
-    let nothing = engine.step(0) == Ok(Turn::Nothing);
-    Ok(stopped && kept && nothing && reads(&mut engine, 0, &memory))
+    let stopped = copies(alloc, &lines[..4], done)?;
+    Ok(stopped && copies(alloc, &lines, done)?)
 }
 
 #[test]
@@ -105,20 +124,17 @@ fn a_stop_after_each_instruction(rt: HostRuntime) -> Result<(), Fail> {
 
 #[test]
 fn the_twentieth_step_ends_it(rt: HostRuntime) -> Result<(), Fail> {
-    let mut engine = three_bursts(rt.alloc())?;
     let lines = [
         Line::Stepped(0, Turn::Started(1)),
         Line::Moved(0, 19),
         Line::Finished(0, 1, COPIED),
         Line::Stepped(0, Turn::Nothing),
     ];
-    assert_eq!(rt; first_wrong(rt.alloc(), &mut engine, &lines), None);
-    let memory = memory_after(rt.alloc(), LENGTH)?;
-    assert!(rt; reads(&mut engine, 0, &memory));
+    assert!(rt; copies(rt.alloc(), &lines, LENGTH)?);
     Ok(())
 }
 
-// Whether it ends so beside a mark of one byte, after so many instructions, and leaves so many bytes copied.
+// Whether the copy ends so beside a mark of one byte, after so many instructions, with so many bytes copied.
 fn ends_beside(
     alloc: Global,
     kind: MarkKind,
@@ -127,8 +143,6 @@ fn ends_beside(
     outcome: Outcome,
     done: u32,
 ) -> Result<bool, Fail> {
-    let mut engine = three_bursts(alloc)?;
-    let memory = memory_after(alloc, done)?;
     let lines = [
         Line::Marked(kind, segment(addr, 1)),
         Line::Stepped(0, Turn::Started(1)),
@@ -136,8 +150,7 @@ fn ends_beside(
         Line::Finished(0, 1, outcome),
         Line::Told(Fact::Halted(0, outcome != COPIED)),
     ];
-    let ended = first_wrong(alloc, &mut engine, &lines).is_none();
-    Ok(ended && reads(&mut engine, 0, &memory))
+    copies(alloc, &lines, done)
 }
 
 #[test]

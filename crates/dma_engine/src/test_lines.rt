@@ -2,7 +2,7 @@
 
 use crate::advance::{Advanced, advance};
 use crate::engine::Engine;
-use crate::fault::EngineFault;
+use crate::fault::{EngineFault, NewFault};
 use crate::outcome::{Outcome, TransResult};
 use crate::turn::{Running, Status, Turn};
 use dma_mem::marks::MarkKind;
@@ -183,6 +183,17 @@ pub fn first_wrong(alloc: Global, engine: &mut Engine, lines: &[Line]) -> Option
         }
     }
     None
+}
+
+/// The same of a new engine of so many bytes and channels.
+pub fn first_wrong_of_new(
+    alloc: Global,
+    size: u32,
+    channels: u8,
+    lines: &[Line],
+) -> Result<Option<usize>, NewFault> {
+    let mut engine = Engine::new(alloc, size, channels)?;
+    Ok(first_wrong(alloc, &mut engine, lines))
 }
 
 // Carries a call out, and tells whether it answers as it must.

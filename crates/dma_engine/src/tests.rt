@@ -7,7 +7,7 @@ use crate::fault::{EngineFault, SubmitFault};
 use crate::run::{run, run_into};
 use crate::test_lines::{
     ABORTED, COPIED, CopyOfFour, Events, Fact, Line, READ_FAILED, Request, WRITE_FAILED, finished,
-    first_wrong,
+    first_wrong, first_wrong_of_new, reads,
 };
 use crate::turn::{Running, Status, Turn};
 use dma_mem::lists::Bytes;
@@ -15,6 +15,7 @@ use dma_mem::marks::MarkKind;
 use dma_mem::segment::Segment;
 use dma_mem::transfer::Transfer;
 use std::alloc::Global;
+use std::process::Abort;
 use std::test::Fail;
 
 fn copy_of_four(alloc: Global, src: u32, dst: u32) -> Result<Transfer, Fail> {
@@ -30,7 +31,6 @@ fn submitted(engine: &mut Engine, ch: u8, transfer: Transfer) -> Result<u32, Fai
 
 #[test]
 fn a_copy_from_submit_to_result(rt: HostRuntime) -> Result<(), Fail> {
-    let mut engine = Engine::new(rt.alloc(), 0x3000, 1)?;
     let running = Running {
         cookie: 1,
         stored: 4,
@@ -50,13 +50,12 @@ fn a_copy_from_submit_to_result(rt: HostRuntime) -> Result<(), Fail> {
         Line::Told(Fact::Entries(5)),
         Line::Told(Fact::Steps(8)),
     ];
-    assert_eq!(rt; first_wrong(rt.alloc(), &mut engine, &lines), None);
+    assert_eq!(rt; first_wrong_of_new(rt.alloc(), 0x3000, 1, &lines)?, None);
     Ok(())
 }
 
 #[test]
 fn steps_in_a_row(rt: HostRuntime) -> Result<(), Fail> {
-    let mut engine = Engine::new(rt.alloc(), 0x3000, 1)?;
     let lines = [
         Line::Submitted(0, CopyOfFour(0x1000, 0x2000), 1),
         Line::Issued(0, 1),
@@ -66,18 +65,12 @@ fn steps_in_a_row(rt: HostRuntime) -> Result<(), Fail> {
         Line::Advanced(1, 1, 0, Some(Err(EngineFault::NoChannel))),
         Line::Told(Fact::Steps(8)),
     ];
-    assert_eq!(rt; first_wrong(rt.alloc(), &mut engine, &lines), None);
+    assert_eq!(rt; first_wrong_of_new(rt.alloc(), 0x3000, 1, &lines)?, None);
     Ok(())
-}
-
-// The size stands here as a parameter, so that no proof computes with a memory of this many bytes.
-fn engine_of(alloc: Global, size: u32) -> Result<Engine, Fail> {
-    Ok(Engine::new(alloc, size, 1)?)
 }
 
 #[test]
 fn a_copy_from_the_last_addresses(rt: HostRuntime) -> Result<(), Fail> {
-    let mut engine = engine_of(rt.alloc(), 4_294_963_200)?;
     let above = Request::Write(0xFFFF_EFFD, &[1, 2, 3, 4]);
     let lines = [
         Line::Written(0xFFFF_EFFC, &[1, 2, 3, 4]),
@@ -92,7 +85,10 @@ fn a_copy_from_the_last_addresses(rt: HostRuntime) -> Result<(), Fail> {
         Line::Read(0x1FFF, &[0, 0]),
         Line::Read(0xFFFF_F000, &[]),
     ];
-    assert_eq!(rt; first_wrong(rt.alloc(), &mut engine, &lines), None);
+    assert_eq!(rt;
+        first_wrong_of_new(rt.alloc(), 4_294_963_200, 1, &lines)?,
+        None
+    );
     Ok(())
 }
 
@@ -108,25 +104,29 @@ fn started_at_last(engine: &mut Engine) -> Result<bool, Fail> {
     }
 }
 
-#[test]
-fn what_memory_refuses_is_had_when_asked_again(rt: HostRuntime) -> Result<(), Fail> {
-    let mut engine = Engine::new(rt.alloc(), 0x3000, 1)?;
+// A copy over two pages, whose write and start may be refused memory.
+fn copied_at_last(rt: &impl Abort, alloc: Global, engine: &mut Engine) -> Result<(), Fail> {
     if engine.write(0x0FFE, &[1, 2, 3, 4]).is_err() {
         assert_eq!(rt; engine.history().len(), 0);
-        assert_eq!(rt; engine.read(0x0FFE, 4)?.as_slice(), [0, 0, 0, 0].as_slice());
+        assert!(rt; reads(engine, 0x0FFE, &[0, 0, 0, 0]));
         return Ok(());
     }
-    submitted(&mut engine, 0, copy_of_four(rt.alloc(), 0x0FFE, 0x1FFE)?)?;
+    submitted(engine, 0, copy_of_four(alloc, 0x0FFE, 0x1FFE)?)?;
     assert_eq!(rt; engine.issue(0)?, 1);
-    assert!(rt; started_at_last(&mut engine)?);
-    assert_eq!(rt; advance(&mut engine, 0, 100).moved, 7);
-    assert_eq!(rt; engine.read(0x1FFE, 4)?.as_slice(), [1, 2, 3, 4].as_slice());
+    assert!(rt; started_at_last(engine)?);
+    assert_eq!(rt; advance(engine, 0, 100).moved, 7);
+    assert!(rt; reads(engine, 0x1FFE, &[1, 2, 3, 4]));
     Ok(())
 }
 
 #[test]
+fn what_memory_refuses_is_had_when_asked_again(rt: HostRuntime) -> Result<(), Fail> {
+    let mut engine = Engine::new(rt.alloc(), 0x3000, 1)?;
+    copied_at_last(&rt, rt.alloc(), &mut engine)
+}
+
+#[test]
 fn pause_resume_and_terminate(rt: HostRuntime) -> Result<(), Fail> {
-    let mut engine = Engine::new(rt.alloc(), 0x400, 1)?;
     let lines = [
         Line::Submitted(0, CopyOfFour(0x100, 0x200), 1),
         Line::Paused(0),
@@ -136,13 +136,12 @@ fn pause_resume_and_terminate(rt: HostRuntime) -> Result<(), Fail> {
         Line::Terminated(0, 1),
         Line::Told(Fact::Unfinished(0, 0)),
     ];
-    assert_eq!(rt; first_wrong(rt.alloc(), &mut engine, &lines), None);
+    assert_eq!(rt; first_wrong_of_new(rt.alloc(), 0x400, 1, &lines)?, None);
     Ok(())
 }
 
 #[test]
 fn marks_and_events(rt: HostRuntime) -> Result<(), Fail> {
-    let mut engine = Engine::new(rt.alloc(), 16, 1)?;
     let last = Segment {
         addr: 0xFFFF_FFFF,
         len: 1,
@@ -154,7 +153,7 @@ fn marks_and_events(rt: HostRuntime) -> Result<(), Fail> {
         Line::Unmarked,
         Line::Told(Fact::Entries(3)),
     ];
-    assert_eq!(rt; first_wrong(rt.alloc(), &mut engine, &lines), None);
+    assert_eq!(rt; first_wrong_of_new(rt.alloc(), 16, 1, &lines)?, None);
     Ok(())
 }
 
@@ -175,13 +174,19 @@ fn second_has(replies: &[Reply], wanted: &[u8]) -> bool {
     }
 }
 
+/// What an engine replies to a list of calls.
+pub fn replies_of(alloc: Global, engine: &mut Engine, calls: &[Call]) -> Result<Vec<Reply>, Fail> {
+    match run(alloc, engine, calls) {
+        Ok(replies) => Ok(replies),
+        Err(_) => Err(Fail::from("no memory")),
+    }
+}
+
 #[test]
 fn a_list_of_calls(rt: HostRuntime) -> Result<(), Fail> {
     let calls = write_and_read(rt.alloc())?;
     let mut engine = Engine::new(rt.alloc(), 64, 1)?;
-    let Ok(replies) = run(rt.alloc(), &mut engine, &calls) else {
-        return Err(Fail::from("no memory"));
-    };
+    let replies = replies_of(rt.alloc(), &mut engine, &calls)?;
     assert!(rt; second_has(&replies, &[0xAA]));
     Ok(())
 }
@@ -214,7 +219,6 @@ fn replies_at_the_end_of_a_list(rt: HostRuntime) -> Result<(), Fail> {
 
 #[test]
 fn a_front_is_held_by_what_runs(rt: HostRuntime) -> Result<(), Fail> {
-    let mut engine = Engine::new(rt.alloc(), 0x400, 2)?;
     let busy = EngineFault::Busy { ch: 0, cookie: 1 };
     let lines = [
         Line::Submitted(0, CopyOfFour(0x100, 0x200), 1),
@@ -231,7 +235,7 @@ fn a_front_is_held_by_what_runs(rt: HostRuntime) -> Result<(), Fail> {
         Line::Finished(0, 1, COPIED),
         Line::Stepped(1, Turn::Started(1)),
     ];
-    assert_eq!(rt; first_wrong(rt.alloc(), &mut engine, &lines), None);
+    assert_eq!(rt; first_wrong_of_new(rt.alloc(), 0x400, 2, &lines)?, None);
     Ok(())
 }
 
@@ -245,17 +249,30 @@ fn eight_bytes(alloc: Global, ch: u8) -> Result<Transfer, Fail> {
     Ok(Transfer::new(alloc, &src, &dst, None, None)?)
 }
 
+fn started(alloc: Global, engine: &mut Engine, ch: u8) -> Result<(), Fail> {
+    submitted(engine, ch, eight_bytes(alloc, ch)?)?;
+    let lines = [Line::Issued(ch, 1), Line::Stepped(ch, Turn::Started(1))];
+    match first_wrong(alloc, engine, &lines) {
+        None => Ok(()),
+        Some(_) => Err(Fail::from("a channel did not start")),
+    }
+}
+
 // An engine of eight channels, seven of which run a transfer.
 fn seven_run(alloc: Global) -> Result<Engine, Fail> {
     let mut engine = Engine::new(alloc, 0x2000, 8)?;
     for ch in 0..7 {
-        submitted(&mut engine, ch, eight_bytes(alloc, ch)?)?;
-        let lines = [Line::Issued(ch, 1), Line::Stepped(ch, Turn::Started(1))];
-        if first_wrong(alloc, &mut engine, &lines).is_some() {
-            return Err(Fail::from("a channel did not start"));
-        }
+        started(alloc, &mut engine, ch)?;
     }
     Ok(engine)
+}
+
+// Whether what runs on a channel ends.
+fn finishes(engine: &mut Engine, ch: u8) -> bool {
+    matches!(
+        advance(engine, ch, 1000).last,
+        Some(Ok(Turn::Finished { .. }))
+    )
 }
 
 #[test]
@@ -277,22 +294,13 @@ fn seven_running_transfers_hold_another(rt: HostRuntime) -> Result<(), Fail> {
         Line::Stepped(7, Turn::Held { ch: 5, cookie: 1 }),
     ];
     assert_eq!(rt; first_wrong(rt.alloc(), &mut engine, &held), None);
-    assert!(rt;
-        matches!(
-            advance(&mut engine, 5, 1000).last,
-            Some(Ok(Turn::Finished { .. }))
-        )
-    );
+    assert!(rt; finishes(&mut engine, 5));
     let starts = [Line::Stepped(7, Turn::Started(1))];
     assert_eq!(rt; first_wrong(rt.alloc(), &mut engine, &starts), None);
     Ok(())
 }
 
-// An engine whose one channel runs a copy of 36 bytes, the first 32 in one burst and the last 4 in the next, from 0x1000 to
-// 0x2000. Bytes 30 to 33 are 11, 22, 33, 44 in hexadecimal.
-fn two_bursts(alloc: Global) -> Result<Engine, Fail> {
-    let mut engine = Engine::new(alloc, 0x4000, 1)?;
-    engine.write(0x101E, &[0x11, 0x22, 0x33, 0x44])?;
+fn copy_of_36(alloc: Global) -> Result<Transfer, Fail> {
     let src = [Segment {
         addr: 0x1000,
         len: 36,
@@ -301,17 +309,26 @@ fn two_bursts(alloc: Global) -> Result<Engine, Fail> {
         addr: 0x2000,
         len: 36,
     }];
-    submitted(
-        &mut engine,
-        0,
-        Transfer::new(alloc, &src, &dst, None, None)?,
-    )?;
+    Ok(Transfer::new(alloc, &src, &dst, None, None)?)
+}
+
+// An engine whose one channel runs a copy of 36 bytes, the first 32 in one burst and the last 4 in the next, from 0x1000 to
+// 0x2000. Bytes 30 to 33 are 11, 22, 33, 44 in hexadecimal.
+fn two_bursts(alloc: Global) -> Result<Engine, Fail> {
+    let mut engine = Engine::new(alloc, 0x4000, 1)?;
+    engine.write(0x101E, &[0x11, 0x22, 0x33, 0x44])?;
+    submitted(&mut engine, 0, copy_of_36(alloc)?)?;
     Ok(engine)
+}
+
+// The first line that such an engine doesn't answer as it must, if there is one.
+fn first_wrong_of_two_bursts(alloc: Global, lines: &[Line]) -> Result<Option<usize>, Fail> {
+    let mut engine = two_bursts(alloc)?;
+    Ok(first_wrong(alloc, &mut engine, lines))
 }
 
 #[test]
 fn a_terminate_keeps_what_was_stored(rt: HostRuntime) -> Result<(), Fail> {
-    let mut engine = two_bursts(rt.alloc())?;
     let lines = [
         Line::Submitted(0, CopyOfFour(0x1000, 0x3000), 2),
         Line::Issued(0, 2),
@@ -322,13 +339,12 @@ fn a_terminate_keeps_what_was_stored(rt: HostRuntime) -> Result<(), Fail> {
         Line::Told(Fact::Result(0, 2, Some(ABORTED))),
         Line::Read(0x201E, &[0x11, 0x22, 0, 0]),
     ];
-    assert_eq!(rt; first_wrong(rt.alloc(), &mut engine, &lines), None);
+    assert_eq!(rt; first_wrong_of_two_bursts(rt.alloc(), &lines)?, None);
     Ok(())
 }
 
 #[test]
 fn a_load_fails_in_a_mark(rt: HostRuntime) -> Result<(), Fail> {
-    let mut engine = two_bursts(rt.alloc())?;
     let marked = Segment {
         addr: 0x1020,
         len: 1,
@@ -345,13 +361,12 @@ fn a_load_fails_in_a_mark(rt: HostRuntime) -> Result<(), Fail> {
         Line::Terminated(0, 0),
         Line::Stepped(0, Turn::Nothing),
     ];
-    assert_eq!(rt; first_wrong(rt.alloc(), &mut engine, &lines), None);
+    assert_eq!(rt; first_wrong_of_two_bursts(rt.alloc(), &lines)?, None);
     Ok(())
 }
 
 #[test]
 fn a_store_fails_in_a_mark(rt: HostRuntime) -> Result<(), Fail> {
-    let mut engine = two_bursts(rt.alloc())?;
     let marked = Segment {
         addr: 0x2020,
         len: 1,
@@ -365,13 +380,12 @@ fn a_store_fails_in_a_mark(rt: HostRuntime) -> Result<(), Fail> {
         Line::Stepped(0, Turn::Halted),
         Line::Read(0x201E, &[0x11, 0x22, 0, 0]),
     ];
-    assert_eq!(rt; first_wrong(rt.alloc(), &mut engine, &lines), None);
+    assert_eq!(rt; first_wrong_of_two_bursts(rt.alloc(), &lines)?, None);
     Ok(())
 }
 
 #[test]
 fn a_mark_of_the_other_kind_stops_no_burst(rt: HostRuntime) -> Result<(), Fail> {
-    let mut engine = two_bursts(rt.alloc())?;
     let marked = Segment {
         addr: 0x1020,
         len: 1,
@@ -384,13 +398,12 @@ fn a_mark_of_the_other_kind_stops_no_burst(rt: HostRuntime) -> Result<(), Fail> 
         Line::Finished(0, 1, COPIED),
         Line::Read(0x201E, &[0x11, 0x22, 0x33, 0x44]),
     ];
-    assert_eq!(rt; first_wrong(rt.alloc(), &mut engine, &lines), None);
+    assert_eq!(rt; first_wrong_of_two_bursts(rt.alloc(), &lines)?, None);
     Ok(())
 }
 
 #[test]
 fn one_event_lets_one_waiter_pass(rt: HostRuntime) -> Result<(), Fail> {
-    let mut engine = Engine::new(rt.alloc(), 0x400, 2)?;
     let lines = [
         Line::SubmittedWith(0, CopyOfFour(0x100, 0x200), Events::Wait(3), 1),
         Line::SubmittedWith(1, CopyOfFour(0x100, 0x300), Events::Wait(3), 1),
@@ -404,13 +417,12 @@ fn one_event_lets_one_waiter_pass(rt: HostRuntime) -> Result<(), Fail> {
         Line::Stepped(0, Turn::Moved),
         Line::Stepped(1, Turn::Waiting(3)),
     ];
-    assert_eq!(rt; first_wrong(rt.alloc(), &mut engine, &lines), None);
+    assert_eq!(rt; first_wrong_of_new(rt.alloc(), 0x400, 2, &lines)?, None);
     Ok(())
 }
 
 #[test]
 fn a_signal_lets_a_waiter_pass(rt: HostRuntime) -> Result<(), Fail> {
-    let mut engine = Engine::new(rt.alloc(), 0x400, 2)?;
     let lines = [
         Line::SubmittedWith(0, CopyOfFour(0x100, 0x200), Events::Signal(5), 1),
         Line::SubmittedWith(1, CopyOfFour(0x100, 0x300), Events::Wait(5), 1),
@@ -424,13 +436,12 @@ fn a_signal_lets_a_waiter_pass(rt: HostRuntime) -> Result<(), Fail> {
         Line::Stepped(1, Turn::Moved),
         Line::Finished(0, 1, COPIED),
     ];
-    assert_eq!(rt; first_wrong(rt.alloc(), &mut engine, &lines), None);
+    assert_eq!(rt; first_wrong_of_new(rt.alloc(), 0x400, 2, &lines)?, None);
     Ok(())
 }
 
 #[test]
 fn a_refusal_names_its_cause(rt: HostRuntime) -> Result<(), Fail> {
-    let mut engine = Engine::new(rt.alloc(), 16, 1)?;
     let empty = Request::Mark(MarkKind::Writing, Segment { addr: 0, len: 0 });
     let lines = [
         Line::Told(Fact::Size(16)),
@@ -445,7 +456,7 @@ fn a_refusal_names_its_cause(rt: HostRuntime) -> Result<(), Fail> {
         Line::Refused(empty, EngineFault::BadRange),
         Line::Told(Fact::Entries(1)),
     ];
-    assert_eq!(rt; first_wrong(rt.alloc(), &mut engine, &lines), None);
+    assert_eq!(rt; first_wrong_of_new(rt.alloc(), 16, 1, &lines)?, None);
     Ok(())
 }
 
@@ -458,7 +469,8 @@ fn refused(engine: &mut Engine, ch: u8, transfer: Transfer) -> Result<SubmitFaul
 }
 
 // Whether a copy of four bytes to 13, which ends above a memory of 16, is handed back by two submits.
-fn comes_back(engine: &mut Engine, transfer: Transfer) -> Result<bool, Fail> {
+fn comes_back(alloc: Global, engine: &mut Engine) -> Result<bool, Fail> {
+    let transfer = copy_of_four(alloc, 0, 13)?;
     let above = EngineFault::OutOfMemoryRange;
     let is_checked = engine.check_submit(0, &transfer) == Err(above);
     let first = refused(engine, 0, transfer)?;
@@ -477,9 +489,8 @@ fn next_cookie(alloc: Global, engine: &Engine, copy: CopyOfFour) -> Option<u32> 
 
 #[test]
 fn a_refused_transfer_is_handed_back(rt: HostRuntime) -> Result<(), Fail> {
-    let transfer = copy_of_four(rt.alloc(), 0, 13)?;
     let mut engine = Engine::new(rt.alloc(), 16, 1)?;
-    assert!(rt; comes_back(&mut engine, transfer)?);
+    assert!(rt; comes_back(rt.alloc(), &mut engine)?);
     let fits = CopyOfFour(0, 12);
     assert_eq!(rt; next_cookie(rt.alloc(), &engine, fits), Some(1));
     let lines = [
@@ -495,7 +506,6 @@ fn a_refused_transfer_is_handed_back(rt: HostRuntime) -> Result<(), Fail> {
 
 #[test]
 fn calls_after_room_was_made(rt: HostRuntime) -> Result<(), Fail> {
-    let mut engine = Engine::new(rt.alloc(), 0x400, 1)?;
     let lines = [
         Line::Refused(Request::MakeRoom(1), EngineFault::NoChannel),
         Line::MadeRoom(0),
@@ -506,7 +516,7 @@ fn calls_after_room_was_made(rt: HostRuntime) -> Result<(), Fail> {
         Line::Terminated(0, 1),
         Line::Told(Fact::Entries(3)),
     ];
-    assert_eq!(rt; first_wrong(rt.alloc(), &mut engine, &lines), None);
+    assert_eq!(rt; first_wrong_of_new(rt.alloc(), 0x400, 1, &lines)?, None);
     Ok(())
 }
 
@@ -538,7 +548,6 @@ fn an_end_is_told_before_its_step(rt: HostRuntime) -> Result<(), Fail> {
 
 #[test]
 fn each_step_but_the_one_that_ends(rt: HostRuntime) -> Result<(), Fail> {
-    let mut engine = Engine::new(rt.alloc(), 0x400, 1)?;
     let moves = Line::SteppedUnlessEnding(0, Some(Turn::Moved));
     let lines = [
         Line::Submitted(0, CopyOfFour(0x100, 0x200), 1),
@@ -554,13 +563,12 @@ fn each_step_but_the_one_that_ends(rt: HostRuntime) -> Result<(), Fail> {
         Line::SteppedUnlessEnding(0, None),
         Line::Told(Fact::Finished(0, 0)),
     ];
-    assert_eq!(rt; first_wrong(rt.alloc(), &mut engine, &lines), None);
+    assert_eq!(rt; first_wrong_of_new(rt.alloc(), 0x400, 1, &lines)?, None);
     Ok(())
 }
 
 #[test]
 fn a_failing_burst_is_told_as_an_end(rt: HostRuntime) -> Result<(), Fail> {
-    let mut engine = Engine::new(rt.alloc(), 0x400, 1)?;
     let last = Segment {
         addr: 0x103,
         len: 1,
@@ -575,13 +583,12 @@ fn a_failing_burst_is_told_as_an_end(rt: HostRuntime) -> Result<(), Fail> {
         Line::Told(Fact::Ending(0, true)),
         Line::Finished(0, 1, READ_FAILED),
     ];
-    assert_eq!(rt; first_wrong(rt.alloc(), &mut engine, &lines), None);
+    assert_eq!(rt; first_wrong_of_new(rt.alloc(), 0x400, 1, &lines)?, None);
     Ok(())
 }
 
 #[test]
 fn finished_cookies_of_all_channels(rt: HostRuntime) -> Result<(), Fail> {
-    let mut engine = Engine::new(rt.alloc(), 0x400, 2)?;
     let lines = [
         Line::Submitted(0, CopyOfFour(0x100, 0x200), 1),
         Line::Submitted(1, CopyOfFour(0x100, 0x200), 1),
@@ -592,7 +599,7 @@ fn finished_cookies_of_all_channels(rt: HostRuntime) -> Result<(), Fail> {
         Line::Terminated(0, 1),
         Line::Told(Fact::FinishedAll(3)),
     ];
-    assert_eq!(rt; first_wrong(rt.alloc(), &mut engine, &lines), None);
+    assert_eq!(rt; first_wrong_of_new(rt.alloc(), 0x400, 2, &lines)?, None);
     Ok(())
 }
 
@@ -632,15 +639,19 @@ fn none_refused(replies: &[Reply]) -> bool {
     true
 }
 
+// Both lists.
+fn every_call(alloc: Global) -> Result<Vec<Call>, Fail> {
+    let mut calls = Vec::new(alloc);
+    host_calls(alloc, &mut calls)?;
+    channel_calls(alloc, &mut calls)?;
+    Ok(calls)
+}
+
 #[test]
 fn every_call_is_carried_out(rt: HostRuntime) -> Result<(), Fail> {
+    let calls = every_call(rt.alloc())?;
     let mut engine = Engine::new(rt.alloc(), 64, 1)?;
-    let mut calls = Vec::new(rt.alloc());
-    host_calls(rt.alloc(), &mut calls)?;
-    channel_calls(rt.alloc(), &mut calls)?;
-    let Ok(replies) = run(rt.alloc(), &mut engine, &calls) else {
-        return Err(Fail::from("no memory"));
-    };
+    let replies = replies_of(rt.alloc(), &mut engine, &calls)?;
     assert_eq!(rt; replies.len(), 13);
     assert!(rt; none_refused(&replies));
     assert_eq!(rt; engine.history().len(), 8);
