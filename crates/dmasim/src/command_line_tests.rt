@@ -1,12 +1,12 @@
 //! Whole calls of the program: its word, an input, the exit status, and what is printed.
 use crate::command_line::serve_word;
-use crate::test_sink::{Kept, assert_ran};
+use crate::test_sink::Kept;
 use dma_script::output::Sink;
-use std::alloc::{AllocError, Global};
+use std::alloc::Global;
 use std::io;
 use std::io::Write;
+use std::process::Abort;
 use std::sync::Wait;
-use std::test::Fail;
 use std::thread::Threads;
 
 /// Takes no byte.
@@ -35,15 +35,29 @@ pub fn call<R: Threads + Wait + Sync>(
     alloc: Global,
     word: &str,
     input: &[u8],
-) -> Result<(u8, Vec<u8>), AllocError> {
+) -> (u8, Vec<u8>) {
     let mut reader = input;
     let mut writer = Kept::new(alloc);
     let status = serve_word(rt, alloc, word, &mut reader, &mut writer);
-    Ok((status, writer.bytes))
+    (status, writer.bytes)
+}
+
+/// A call ends with this status, and prints this.
+fn assert_call<R: Abort + Threads + Wait + Sync>(
+    rt: &R,
+    alloc: Global,
+    word: &str,
+    input: &[u8],
+    status: u8,
+    text: &[u8],
+) {
+    let ended = call(rt, alloc, word, input);
+    assert_eq!(rt; ended.0, status, "{word}");
+    assert_eq!(rt; ended.1.as_slice(), text, "{word}");
 }
 
 #[test]
-fn each_word_has_its_command(rt: HostRuntime) -> Result<(), Fail> {
+fn each_word_has_its_command(rt: HostRuntime) {
     // one input for all, of which each command prints something else
     let input = b"memory 16 1\ngo\n";
     let cases: [(&str, u8, &[u8]); 5] = [
@@ -54,11 +68,8 @@ fn each_word_has_its_command(rt: HostRuntime) -> Result<(), Fail> {
         ("race", 0, b"go steps 0 finished 0\n"),
     ];
     for (word, status, text) in cases {
-        let ended = call(&rt, rt.alloc(), word, input)?;
-        assert_eq!(rt; ended.0, status, "{word}");
-        assert_eq!(rt; ended.1.as_slice(), text, "{word}");
+        assert_call(&rt, rt.alloc(), word, input, status, text);
     }
-    Ok(())
 }
 
 /// For each word an input that its command carries out, and what it prints.
@@ -86,17 +97,14 @@ fn carried_out() -> [(&'static str, &'static [u8], &'static [u8]); 5] {
 }
 
 #[test]
-fn each_command_succeeds(rt: HostRuntime) -> Result<(), Fail> {
+fn each_command_succeeds(rt: HostRuntime) {
     for (word, input, text) in carried_out() {
-        let ended = call(&rt, rt.alloc(), word, input)?;
-        assert_eq!(rt; ended.0, 0, "{word}");
-        assert_eq!(rt; ended.1.as_slice(), text, "{word}");
+        assert_call(&rt, rt.alloc(), word, input, 0, text);
     }
-    Ok(())
 }
 
 #[test]
-fn another_word_prints_the_usage(rt: HostRuntime) -> Result<(), Fail> {
+fn another_word_prints_the_usage(rt: HostRuntime) {
     for word in [
         "",
         "help",
@@ -109,14 +117,19 @@ fn another_word_prints_the_usage(rt: HostRuntime) -> Result<(), Fail> {
         "--",
         "run ",
     ] {
-        let ended = call(&rt, rt.alloc(), word, b"memory 16 1\n")?;
-        assert_ran(&rt, &ended, 2, b"usage: dmasim asm|dis|plan|run|race\n");
+        assert_call(
+            &rt,
+            rt.alloc(),
+            word,
+            b"memory 16 1\n",
+            2,
+            b"usage: dmasim asm|dis|plan|run|race\n",
+        );
     }
-    Ok(())
 }
 
 #[test]
-fn a_writer_that_takes_nothing_is_a_fault(rt: HostRuntime) -> Result<(), Fail> {
+fn a_writer_that_takes_nothing_is_a_fault(rt: HostRuntime) {
     for (word, input, _) in carried_out() {
         let mut reader = input;
         let status = serve_word(&rt, rt.alloc(), word, &mut reader, &mut Full);
@@ -125,5 +138,4 @@ fn a_writer_that_takes_nothing_is_a_fault(rt: HostRuntime) -> Result<(), Fail> {
     let mut reader: &[u8] = b"";
     let status = serve_word(&rt, rt.alloc(), "help", &mut reader, &mut Full);
     assert_eq!(rt; status, 1);
-    Ok(())
 }

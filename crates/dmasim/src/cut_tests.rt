@@ -71,7 +71,7 @@ impl Script {
     ) -> Result<(), AllocError> {
         for byte in bytes {
             self.input.push(*byte)?;
-            let ran = call(rt, alloc, self.word, &self.input)?;
+            let ran = call(rt, alloc, self.word, &self.input);
             assert_ran(rt, &ran, ended.0, &ended.1);
         }
         Ok(())
@@ -279,7 +279,7 @@ fn cut<R: Abort + Threads + Wait + Sync>(
 #[test]
 fn runs_cut_at_each_byte(rt: HostRuntime) -> Result<(), Fail> {
     let alloc = rt.alloc();
-    let empty = call(&rt, alloc, "run", b"")?;
+    let empty = call(&rt, alloc, "run", b"");
     assert_ran(&rt, &empty, 1, b"line 0: First\n");
     let held: [&[Piece]; 5] = [&MEMORY, &SUBMITS, &ISSUES, &STEPS, &HELD];
     cut(&rt, alloc, Script::new(alloc, "run", false), held)?;
@@ -292,7 +292,7 @@ fn runs_cut_at_each_byte(rt: HostRuntime) -> Result<(), Fail> {
 #[test]
 fn races_cut_at_each_byte(rt: HostRuntime) -> Result<(), Fail> {
     let alloc = rt.alloc();
-    let empty = call(&rt, alloc, "race", b"")?;
+    let empty = call(&rt, alloc, "race", b"");
     assert_ran(&rt, &empty, 1, b"line 0: First\n");
     let held: [&[Piece]; 5] = [&MEMORY, &SUBMITS, &ISSUES, &JOB, &HELD];
     cut(&rt, alloc, Script::new(alloc, "race", true), held)?;

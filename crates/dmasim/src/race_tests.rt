@@ -15,7 +15,7 @@ fn race<R: Threads + Wait + Sync>(rt: &R, alloc: Global, input: &[u8]) -> (u8, V
 }
 
 #[test]
-fn two_jobs_and_two_channels(rt: HostRuntime) -> Result<(), Fail> {
+fn two_jobs_and_two_channels(rt: HostRuntime) {
     let ran = race(
         &rt,
         rt.alloc(),
@@ -48,11 +48,10 @@ fn two_jobs_and_two_channels(rt: HostRuntime) -> Result<(), Fail> {
           read 0x00000300 0A 0B 0C 0D\n\
           totals entries 9 steps 16 running 0\n",
     );
-    Ok(())
 }
 
 #[test]
-fn a_checkpoint_after_the_jobs(rt: HostRuntime) -> Result<(), Fail> {
+fn a_checkpoint_after_the_jobs(rt: HostRuntime) {
     let ran = race(
         &rt,
         rt.alloc(),
@@ -78,11 +77,10 @@ fn a_checkpoint_after_the_jobs(rt: HostRuntime) -> Result<(), Fail> {
           status Complete\n\
           totals entries 0 steps 8 running 0\n",
     );
-    Ok(())
 }
 
 #[test]
-fn two_jobs_over_both_channels(rt: HostRuntime) -> Result<(), Fail> {
+fn two_jobs_over_both_channels(rt: HostRuntime) {
     let ran = race(
         &rt,
         rt.alloc(),
@@ -115,11 +113,10 @@ fn two_jobs_over_both_channels(rt: HostRuntime) -> Result<(), Fail> {
           read 0x00000300 0A 0B 0C 0D\n\
           totals entries 9 steps 16 running 0\n",
     );
-    Ok(())
 }
 
 #[test]
-fn faults_alone(rt: HostRuntime) -> Result<(), Fail> {
+fn faults_alone(rt: HostRuntime) {
     let cases: [(&[u8], &[u8]); 17] = [
         (b"", b"line 0: First\n"),
         (b"memory 16 1\nread 0+1", b"line 0: Go\n"),
@@ -143,27 +140,31 @@ fn faults_alone(rt: HostRuntime) -> Result<(), Fail> {
         let ran = race(&rt, rt.alloc(), input);
         assert_ran(&rt, &ran, 1, text);
     }
-    Ok(())
+}
+
+/// A script of so many jobs.
+fn script_of_jobs(alloc: Global, count: usize) -> Result<Vec<u8>, AllocError> {
+    let mut script = b"memory 16 1\n".to_vec(alloc)?;
+    for _ in 0..count {
+        script.extend_from_slice(b"job 0 0 1\n")?;
+    }
+    script.extend_from_slice(b"go\n")?;
+    Ok(script)
 }
 
 #[test]
 fn a_seventeenth_job(rt: HostRuntime) -> Result<(), Fail> {
-    let mut input = b"memory 16 1\n".to_vec(rt.alloc())?;
-    for _ in 0..16 {
-        input.extend_from_slice(b"job 0 0 1\n")?;
-    }
-    let mut more = input.as_slice().to_vec(rt.alloc())?;
-    more.extend_from_slice(b"job 0 0 1\ngo\n")?;
-    input.extend_from_slice(b"go\n")?;
-    let ran = race(&rt, rt.alloc(), &input);
+    let sixteen = script_of_jobs(rt.alloc(), 16)?;
+    let ran = race(&rt, rt.alloc(), &sixteen);
     assert_ran(&rt, &ran, 0, b"go steps 0 finished 0\n");
-    let ran = race(&rt, rt.alloc(), &more);
+    let seventeen = script_of_jobs(rt.alloc(), 17)?;
+    let ran = race(&rt, rt.alloc(), &seventeen);
     assert_ran(&rt, &ran, 1, b"line 18: Range\n");
     Ok(())
 }
 
 #[test]
-fn refused_before_and_after_go(rt: HostRuntime) -> Result<(), Fail> {
+fn refused_before_and_after_go(rt: HostRuntime) {
     let ran = race(
         &rt,
         rt.alloc(),
@@ -207,11 +208,10 @@ fn refused_before_and_after_go(rt: HostRuntime) -> Result<(), Fail> {
           step 1 refused NoChannel x1\n\
           refused OutOfMemoryRange\n",
     );
-    Ok(())
 }
 
 #[test]
-fn statuses_and_a_terminate_before_go(rt: HostRuntime) -> Result<(), Fail> {
+fn statuses_and_a_terminate_before_go(rt: HostRuntime) {
     // A cookie that was ended before `go` is not among its finishes.
     let ran = race(
         &rt,
@@ -264,11 +264,10 @@ fn statuses_and_a_terminate_before_go(rt: HostRuntime) -> Result<(), Fail> {
           read 0x00000300 0A 0B 0C 0D\n\
           totals entries 9 steps 8 running 0\n",
     );
-    Ok(())
 }
 
 #[test]
-fn go_without_jobs(rt: HostRuntime) -> Result<(), Fail> {
+fn go_without_jobs(rt: HostRuntime) {
     let ran = race(
         &rt,
         rt.alloc(),
@@ -298,7 +297,6 @@ fn go_without_jobs(rt: HostRuntime) -> Result<(), Fail> {
           copy finished 2 NoError residue 0\n\
           totals entries 8 steps 16 running 0\n",
     );
-    Ok(())
 }
 
 /// Appends a write, a submit and an issue for each channel, whose copies are free of each other.
@@ -314,28 +312,39 @@ fn push_copies(alloc: Global, script: &mut Vec<u8>) -> Result<(), AllocError> {
     Ok(())
 }
 
+/// Appends a line for each channel, which has these words, the channel and 400 turns or steps.
+fn push_turns(alloc: Global, script: &mut Vec<u8>, words: &str) -> Result<(), AllocError> {
+    for ch in 0..8u32 {
+        let line = format!(in alloc; "{words} {ch} 400\n")?;
+        script.extend_from_slice(line.as_bytes())?;
+    }
+    Ok(())
+}
+
+/// A race of the copies, each channel stepped by two jobs.
+fn copies_by_jobs(alloc: Global) -> Result<Vec<u8>, AllocError> {
+    let mut script = b"memory 0x800 8\n".to_vec(alloc)?;
+    push_copies(alloc, &mut script)?;
+    push_turns(alloc, &mut script, "job 0")?;
+    push_turns(alloc, &mut script, "job 0")?;
+    script.extend_from_slice(b"go\nread 0+0x800\n")?;
+    Ok(script)
+}
+
+/// A run of the copies, one channel after the other.
+fn copies_by_steps(alloc: Global) -> Result<Vec<u8>, AllocError> {
+    let mut script = b"memory 0x800 8\n".to_vec(alloc)?;
+    push_copies(alloc, &mut script)?;
+    push_turns(alloc, &mut script, "step")?;
+    script.extend_from_slice(b"read 0+0x800\n")?;
+    Ok(script)
+}
+
 #[test]
 fn sixteen_jobs_copy_as_one_thread_does(rt: HostRuntime) -> Result<(), Fail> {
     let alloc = rt.alloc();
-    let mut raced = b"memory 0x800 8\n".to_vec(alloc)?;
-    let mut plain = b"memory 0x800 8\n".to_vec(alloc)?;
-    push_copies(alloc, &mut raced)?;
-    push_copies(alloc, &mut plain)?;
-    for _ in 0..2 {
-        for ch in 0..8u32 {
-            let job = format!(in alloc; "job 0 {ch} 400\n")?;
-            raced.extend_from_slice(job.as_bytes())?;
-        }
-    }
-    for ch in 0..8u32 {
-        let steps = format!(in alloc; "step {ch} 400\n")?;
-        plain.extend_from_slice(steps.as_bytes())?;
-    }
-    raced.extend_from_slice(b"go\n")?;
-    raced.extend_from_slice(b"read 0+0x800\n")?;
-    plain.extend_from_slice(b"read 0+0x800\n")?;
-    let raced = race(&rt, alloc, &raced);
-    let plain = run(alloc, &plain);
+    let raced = race(&rt, alloc, &copies_by_jobs(alloc)?);
+    let plain = run(alloc, &copies_by_steps(alloc)?);
     assert_eq!(rt; (raced.0, plain.0), (0, 0));
     let raced = last_line(&raced.1).ok_or("a line of the race")?;
     let plain = last_line(&plain.1).ok_or("a line of the run")?;
@@ -350,7 +359,7 @@ fn last_line(text: &[u8]) -> Option<&[u8]> {
 }
 
 #[test]
-fn fills_on_both_sides_of_go(rt: HostRuntime) -> Result<(), Fail> {
+fn fills_on_both_sides_of_go(rt: HostRuntime) {
     let ran = race(
         &rt,
         rt.alloc(),
@@ -389,12 +398,11 @@ fn fills_on_both_sides_of_go(rt: HostRuntime) -> Result<(), Fail> {
           read 0x00000210 5A 5A 00\n\
           totals entries 13 steps 24 running 0\n",
     );
-    Ok(())
 }
 
 // Nothing before `go` raises its event: it waits through all turns, in the way of writers of its byte.
 #[test]
-fn a_fill_waits_through_go(rt: HostRuntime) -> Result<(), Fail> {
+fn a_fill_waits_through_go(rt: HostRuntime) {
     let ran = race(
         &rt,
         rt.alloc(),
@@ -438,12 +446,11 @@ fn a_fill_waits_through_go(rt: HostRuntime) -> Result<(), Fail> {
           read 0x00000240 5A 00\n\
           totals entries 13 steps 25 running 0\n",
     );
-    Ok(())
 }
 
 // One worker steps both channels: the fill that waits goes on once the other has signalled.
 #[test]
-fn a_fill_waits_for_another(rt: HostRuntime) -> Result<(), Fail> {
+fn a_fill_waits_for_another(rt: HostRuntime) {
     let ran = race(
         &rt,
         rt.alloc(),
@@ -477,5 +484,4 @@ fn a_fill_waits_for_another(rt: HostRuntime) -> Result<(), Fail> {
           read 0x00000300 5A 5A 00\n\
           totals entries 11 steps 18 running 0\n",
     );
-    Ok(())
 }
