@@ -1,0 +1,169 @@
+-- What C is told, from what the engine answered.
+use Rattle.std.proofs.Common.{◌≡◌, ℕ, ◌+◌, ◌<◌, List, take, drop, Option, Some, None, Result, Ok, Err, true, refl, sym, ap, ◌∙◌, subst, arith}
+use Rattle.std.specs.Prelude.{ℤ, pos, negsuc, IsSome, IsSomeAnd, IfOk, IfErr, unwrap_or, nat_lt}
+use Rattle.std.proofs.lemmas.Bool.{lt-ltb, true≢false}
+use Rattle.dma_mem.specs.Places.{Descriptor, filling, writes}
+use Rattle.dma_mem.specs.Refusals.{refusal_of, refusal_of_fill}
+use Rattle.dma_mem.specs.declared.marks.MarkKind.{MarkKind}
+use Rattle.dma_mem.specs.declared.segment.Segment.{Segment}
+use Rattle.dma_mem.specs.declared.transfer.TransferFault.{TransferFault}
+use Rattle.dma_mem.specs.declared.transfer.TransferFault.TheVariants as transfers
+use Rattle.dma_engine.specs.declared.call.Call.{Call}
+use Rattle.dma_engine.specs.declared.call.Call.TheVariants.{Read, Submit, Status as StatusOf, Result as ResultOf, Mark}
+use Rattle.dma_engine.specs.declared.call.Reply.{Reply}
+use Rattle.dma_engine.specs.declared.call.Reply.TheVariants.{Bytes, State, Result as Resulted, Refused}
+use Rattle.dma_engine.specs.declared.entry.Entry.TheVariants.{ReadBack}
+use Rattle.dma_engine.specs.declared.fault.EngineFault.{EngineFault}
+use Rattle.dma_engine.specs.declared.fault.EngineFault.TheVariants.{OutOfMemoryRange}
+use Rattle.dma_engine.specs.declared.fault.NewFault.{NewFault}
+use Rattle.dma_engine.specs.declared.fault.NewFault.TheVariants as engines
+use Rattle.dma_engine.specs.declared.outcome.Outcome.{Outcome}
+use Rattle.dma_engine.specs.declared.turn.Running.{Running}
+use Rattle.dma_engine.specs.declared.turn.Status.{Status}
+use Rattle.dma_engine.specs.Object.{channel, unfinished}
+use Rattle.dma_engine.specs.View.{View, EngineState, object_of, running_on, size, new_fault, new_view}
+use Rattle.dma_engine.specs.Turn.{with_entry}
+use Rattle.dma_engine.specs.Answer.{CallAnswers, answer, busy, cause, first_running, result_of, status_in, unless}
+use Rattle.dma_ffi.specs.declared.reports.DmaOutcome.{DmaOutcome}
+use Rattle.dma_ffi.specs.declared.reports.DmaReport.{DmaReport}
+use Rattle.dma_ffi.specs.declared.reports.DmaRun.{DmaRun}
+use Rattle.dma_ffi.specs.declared.steps.Taken.{Taken}
+use Rattle.dma_ffi.specs.Codes.{bad_kind, fault_code, mark_kind, new_code, reply_code, status_code, transfer_code}
+use Rattle.dma_ffi.specs.Told.{Answer, Answers, AnswersMark, AnswersSteps, AnswersSubmit, Asked, IsWritten, Tells, Told, ToldNew, Written, a_number, a_report, a_run, an_outcome, ask_call, ask_copy, ask_fill, ask_forgotten, ask_mark, ask_running, ask_step_count, ask_steps, ask_unfinished, closed, code_of, no_kind, nothing, number_in, numbered, outcome_in, replied, report_in, run_in, runs, some_bytes, stepped, steps_answer, unfit}
+
+-- ---- from an engine to its controller
+
+pub told_closed : {old new : Option EngineState} {code : ℤ} (asked : Asked) (written : Written) → None ≡ old → new ≡ None → code ≡ negsuc 0 → IsWritten closed written → Told old asked code written new
+unfolding Told
+told_closed {new = new} {code = code} asked written none stays is held = subst (λ (o : Option EngineState). Told o asked code written new) none (stays, is, held)
+
+pub told_open : {old new : Option EngineState} {code told : ℤ} (asked : Asked) (written : Written) (x e e' : EngineState) → new ≡ Some e' → Some x ≡ old → e ≡ x → Tells e.view asked told written e'.view → code ≡ told → Told old asked code written new
+unfolding Told
+told_open {new = new} {code = code} asked written x e e' becomes was same tells is =
+    subst (λ (o : Option EngineState). Told o asked code written new) (ap Some same ∙ was)
+    (subst (λ (o : Option EngineState). IsSomeAnd o (λ y. Tells e.view asked code written y.view)) (sym becomes)
+    (subst (λ (z : ℤ). Tells e.view asked z written e'.view) (sym is) tells))
+
+-- ---- calls of the engine
+
+pub tells_call : {code : ℤ} (v : View) (w : View) (call : Call) (reply : Reply) → CallAnswers v call reply w → code ≡ reply_code reply → Tells v (ask_call call) code nothing w
+unfolding Tells
+tells_call v w call reply answers is = (replied reply, answers, is, tt)
+
+pub tells_number : {code : ℤ} {after : ℕ} (v : View) (w : View) (before : ℕ) (call : Call) (reply : Reply) → CallAnswers v call reply w → code ≡ reply_code reply → after ≡ number_in (replied reply) before → Tells v (ask_call call) code (a_number before after) w
+unfolding Tells
+tells_number v w before call reply answers is number = (replied reply, answers, is, number)
+
+pub tells_status : {code : ℤ} (v : View) (ch cookie : ℕ) (s : Status) → s ≡ status_in v ch cookie → code ≡ status_code s → Tells v (ask_call (StatusOf ch cookie)) code nothing v
+unfolding Tells
+tells_status v ch cookie s told is = (replied (State s), ap (λ (x : Status). (State x, v)) told, is, tt)
+
+pub tells_outcome : {code : ℤ} {after : DmaOutcome} (v : View) (before : DmaOutcome) (ch cookie : ℕ) (o : Option Outcome) → o ≡ result_of (object_of v) ch cookie → code ≡ reply_code (Resulted o) → after ≡ outcome_in (replied (Resulted o)) before → Tells v (ask_call (ResultOf ch cookie)) code (an_outcome before after) v
+unfolding Tells
+tells_outcome v before ch cookie o told is written = (replied (Resulted o), ap (λ (x : Option Outcome). (Resulted x, v)) told, is, written)
+
+-- ---- reads
+
+pub tells_bytes : {code : ℤ} {after : List ℕ} (v : View) (w : View) (before : List ℕ) (addr len : ℕ) (bytes : List ℕ) → CallAnswers v (Read addr len) (Bytes bytes) w → code ≡ pos 0 → after ≡ bytes → Tells v (ask_call (Read addr len)) code (some_bytes before after) w
+unfolding Tells
+tells_bytes v w before addr len bytes answers is written = (replied (Bytes bytes), answers, is, written)
+
+pub tells_no_bytes : {code : ℤ} (v : View) (w : View) (out : List ℕ) (addr len : ℕ) (fault : EngineFault) → CallAnswers v (Read addr len) (Refused fault) w → code ≡ fault_code fault → Tells v (ask_call (Read addr len)) code (some_bytes out out) w
+unfolding Tells
+tells_no_bytes v w out addr len fault answers is = (replied (Refused fault), answers, is, refl)
+
+-- as many bytes as there is room for may be more than an address can count, or the memory has
+pub tells_past : {code : ℤ} (v : View) (out : List ℕ) (addr len : ℕ) → size v < len → code ≡ fault_code OutOfMemoryRange → Tells v (ask_call (Read addr len)) code (some_bytes out out) v
+tells_past v out addr len above is =
+    let image = (object_of v).image in
+    let range : Segment = record { addr = addr; len = len } in
+    let past : nat_lt (size v) (addr + len) ≡ true = lt-ltb (size v) (addr + len) (omega (arith, above)) in
+    let told : answer v (Read addr len) ≡ (Refused OutOfMemoryRange, v) =
+    ap (λ b. unless (cause b OutOfMemoryRange (busy (first_running v (λ t. writes t range)))) v (Bytes (take len (drop addr image)), with_entry v (ReadBack addr (take len (drop addr image))))) past in
+    tells_no_bytes v v out addr len OutOfMemoryRange (sym told) is
+
+-- ---- marks
+
+pub tells_mark : {code : ℤ} (v : View) (w : View) (number : ℕ) (kind : MarkKind) (range : Segment) (reply : Reply) → Some kind ≡ mark_kind number → CallAnswers v (Mark kind range) reply w → code ≡ reply_code reply → Tells v (ask_mark number range) code nothing w
+unfolding Tells
+tells_mark v w number kind range reply named answers is =
+    (replied reply, subst (λ (o : Option MarkKind). AnswersMark v o range (replied reply) w) named answers, is, tt)
+
+pub tells_no_kind : {code : ℤ} (v : View) (number : ℕ) (range : Segment) → None ≡ mark_kind number → code ≡ bad_kind → Tells v (ask_mark number range) code nothing v
+unfolding Tells
+tells_no_kind v number range named is =
+    (no_kind, subst (λ (o : Option MarkKind). AnswersMark v o range no_kind v) named refl, is, tt)
+
+-- ---- readings
+
+pub tells_run : {code : ℤ} {after : DmaRun} (v : View) (before : DmaRun) (ch : ℕ) (r : Option Running) → r ≡ running_on v ch → code ≡ code_of (runs r) → after ≡ run_in (runs r) before → Tells v (ask_running ch) code (a_run before after) v
+unfolding Tells
+tells_run v before ch r told is written = (runs r, (ap runs told, refl), is, written)
+
+pub tells_unfinished : {code : ℤ} {after : ℕ} (v : View) (before : ℕ) (ch : ℕ) → after ≡ unfinished (channel (object_of v) ch) → code ≡ pos 0 → Tells v (ask_unfinished ch) code (a_number before after) v
+unfolding Tells
+tells_unfinished {after = after} v before ch told is = (numbered after, (ap numbered told, refl), is, refl)
+
+pub tells_forgotten : {code : ℤ} {after : ℕ} (v : View) (before : ℕ) (ch : ℕ) → after ≡ (channel (object_of v) ch).forgotten → code ≡ pos 0 → Tells v (ask_forgotten ch) code (a_number before after) v
+unfolding Tells
+tells_forgotten {after = after} v before ch told is = (numbered after, (ap numbered told, refl), is, refl)
+
+pub tells_step_count : {code : ℤ} {after : ℕ} (v : View) (before : ℕ) → after ≡ v.steps → code ≡ pos 0 → Tells v ask_step_count code (a_number before after) v
+unfolding Tells
+tells_step_count {after = after} v before told is = (numbered after, (ap numbered told, refl), is, refl)
+
+-- ---- steps
+
+pub tells_steps : {code : ℤ} {after : DmaReport} (v : View) (w : View) (before : DmaReport) (ch most : ℕ) (r : Result Taken EngineFault) → AnswersSteps v ch most (steps_answer r) w → code ≡ code_of (steps_answer r) → after ≡ report_in (steps_answer r) before → Tells v (ask_steps ch most) code (a_report before after) w
+unfolding Tells
+tells_steps v w before ch most r answers is written = (steps_answer r, answers, is, written)
+
+-- ---- submits
+
+-- the reply of the engine to a transfer that was made
+by_reply : (v w : View) (ch : ℕ) (refusal : Option TransferFault) (t : Descriptor) (a : Answer) → refusal ≡ None → Answers v (ask_call (Submit ch t)) a w → AnswersSubmit v ch refusal t a w
+by_reply v w ch refusal t (replied reply) none h = (none, h)
+by_reply v w ch refusal t closed none h = absurd h
+by_reply v w ch refusal t (unfit fault) none h = absurd h
+by_reply v w ch refusal t no_kind none h = absurd h
+by_reply v w ch refusal t (stepped taken last) none h = absurd h
+by_reply v w ch refusal t (runs r) none h = absurd h
+by_reply v w ch refusal t (numbered n) none h = absurd h
+
+-- what is told of a transfer that was made, and what of one that wasn't
+submits : (v w : View) (code : ℤ) (before after ch : ℕ) (refusal : Option TransferFault) (t : Descriptor) (made : Result Descriptor TransferFault) → IfOk made (λ x. x ≡ t) → IfOk made (λ x. refusal ≡ None) → IfErr made (λ fault. fault ≡ unwrap_or refusal transfers.NoMemory) → IfOk made (λ x. Tells v (ask_call (Submit ch x)) code (a_number before after) w) → IfErr made (λ fault. code ≡ transfer_code fault) → IfErr made (λ _. after ≡ before) → IfErr made (λ _. w ≡ v) → (a : Answer) × AnswersSubmit v ch refusal t a w × (code ≡ code_of a) × (after ≡ number_in a before)
+unfolding Tells
+submits v w code before after ch refusal t (Ok x) is none err told coded kept same =
+    let here : Tells v (ask_call (Submit ch t)) code (a_number before after) w = subst (λ (d : Descriptor). Tells v (ask_call (Submit ch d)) code (a_number before after) w) is told in
+    (here.0, by_reply v w ch refusal t here.0 none here.1, here.2, here.3)
+submits v w code before after ch refusal t (Err fault) is none err told coded kept same = (unfit fault, (err, same), coded, kept)
+
+pub tells_copy : (v w : View) (code : ℤ) (before after ch : ℕ) (t : Descriptor) (made : Result Descriptor TransferFault) → IfOk made (λ x. x ≡ t) → IfOk made (λ x. refusal_of x ≡ None) → IfErr made (λ fault. fault ≡ unwrap_or (refusal_of t) transfers.NoMemory) → IfOk made (λ x. Tells v (ask_call (Submit ch x)) code (a_number before after) w) → IfErr made (λ fault. code ≡ transfer_code fault) → IfErr made (λ _. after ≡ before) → IfErr made (λ _. w ≡ v) → Tells v (ask_copy ch t) code (a_number before after) w
+unfolding Tells
+tells_copy v w code before after ch t (Ok x) is none err told coded kept same =
+    submits v w code before after ch (refusal_of t) t (Ok x) is (ap refusal_of (sym is) ∙ none) err told coded kept same
+tells_copy v w code before after ch t (Err fault) is none err told coded kept same =
+    submits v w code before after ch (refusal_of t) t (Err fault) is none err told coded kept same
+
+pub tells_fill : (v w : View) (code : ℤ) (before after ch src : ℕ) (dst : List Segment) (wait signal : Option ℕ) (made : Result Descriptor TransferFault) → IfOk made (λ x. x ≡ filling src dst wait signal) → IfOk made (λ x. refusal_of_fill src dst wait signal ≡ None) → IfErr made (λ fault. fault ≡ unwrap_or (refusal_of_fill src dst wait signal) transfers.NoMemory) → IfOk made (λ x. Tells v (ask_call (Submit ch x)) code (a_number before after) w) → IfErr made (λ fault. code ≡ transfer_code fault) → IfErr made (λ _. after ≡ before) → IfErr made (λ _. w ≡ v) → Tells v (ask_fill ch src dst wait signal) code (a_number before after) w
+unfolding Tells
+tells_fill v w code before after ch src dst wait signal made is none err told coded kept same =
+    submits v w code before after ch (refusal_of_fill src dst wait signal) (filling src dst wait signal) made is none err told coded kept same
+
+-- ---- an engine made
+
+pub new_already : (old : Option EngineState) {code : ℤ} (size channels : ℕ) → IsSome old → code ≡ negsuc 1 → ToldNew old size channels code old
+unfolding ToldNew
+new_already (Some e) size channels there is = (is, refl)
+new_already None size channels there is = absurd (true≢false (sym there))
+
+pub new_refused : (old : Option EngineState) {code : ℤ} (size channels : ℕ) (fault : NewFault) → old ≡ None → fault ≡ unwrap_or (new_fault size channels) engines.NoMemory → code ≡ new_code fault → ToldNew old size channels code old
+unfolding ToldNew
+new_refused old {code = code} size channels fault none e is =
+    subst (λ (o : Option EngineState). ToldNew o size channels code o) (sym none) (is ∙ ap new_code e)
+
+pub new_made : {old new : Option EngineState} {code : ℤ} (size channels : ℕ) (e : EngineState) → old ≡ None → new ≡ Some e → new_fault size channels ≡ None → e.view ≡ new_view size channels → code ≡ pos 0 → ToldNew old size channels code new
+unfolding ToldNew
+new_made {old = old} {new = new} {code = code} size channels e none becomes fine shown is =
+    subst (λ (o : Option EngineState). ToldNew o size channels code new) (sym none)
+    (subst (λ (n : Option EngineState). ToldNew None size channels code n) (sym becomes) (is, fine, shown))

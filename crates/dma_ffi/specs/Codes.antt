@@ -1,0 +1,152 @@
+-- The numbers by which C is told something. ℤ's negsuc n is - (n + 1).
+use Rattle.std.specs.Prelude.{ℕ, ℤ, pos, negsuc, min, ◌==◌, if◌then◌else◌, Option, None, Some}
+use Rattle.dma_mem.specs.declared.marks.MarkKind.{MarkKind}
+use Rattle.dma_mem.specs.declared.marks.MarkKind.TheVariants.{Reading, Writing}
+use Rattle.dma_mem.specs.declared.transfer.TransferFault.{TransferFault}
+use Rattle.dma_mem.specs.declared.transfer.TransferFault.TheVariants as transfers
+use Rattle.dma_insn.specs.declared.assembler.Cause.{Cause}
+use Rattle.dma_insn.specs.declared.assembler.Cause.TheVariants.{Mnemonic, Operand, Range}
+use Rattle.dma_insn.specs.declared.codec.DecodeFault.{DecodeFault}
+use Rattle.dma_insn.specs.declared.codec.DecodeFault.TheVariants.{Cut, Unknown as UnknownByte, BadField}
+use Rattle.dma_chan.specs.declared.turn.FaultKind.{FaultKind}
+use Rattle.dma_chan.specs.declared.turn.FaultKind.TheVariants.{UndefInstr, OperandInvalid, MfifoErr, StDataUnavailable, InstrFetchErr, DataWriteErr, DataReadErr}
+use Rattle.dma_engine.specs.declared.call.Reply.{Reply}
+use Rattle.dma_engine.specs.declared.call.Reply.TheVariants.{State, Result as Resulted, Refused}
+use Rattle.dma_engine.specs.declared.fault.EngineFault.{EngineFault}
+use Rattle.dma_engine.specs.declared.fault.EngineFault.TheVariants.{OutOfMemoryRange, Busy, Running, NoChannel, CookiesSpent, StepsSpent, BadEvent, BadRange, NoMemory}
+use Rattle.dma_engine.specs.declared.fault.NewFault.{NewFault}
+use Rattle.dma_engine.specs.declared.fault.NewFault.TheVariants as engines
+use Rattle.dma_engine.specs.declared.outcome.TransResult.{TransResult}
+use Rattle.dma_engine.specs.declared.outcome.TransResult.TheVariants.{NoError, ReadFailed, WriteFailed, Aborted}
+use Rattle.dma_engine.specs.declared.turn.Status.{Status}
+use Rattle.dma_engine.specs.declared.turn.Status.TheVariants.{Unknown, InProgress, Complete}
+
+-- ---- codes: 0 where a call was carried out, and a negative one for each refusal
+
+-- the call was carried out
+abbrev pub ok_code : ℤ
+ok_code = pos 0
+
+-- there is no engine
+abbrev pub not_open : ℤ
+not_open = negsuc 0
+
+-- there is an engine already
+abbrev pub already_open : ℤ
+already_open = negsuc 1
+
+-- memory was wanting
+abbrev pub no_memory : ℤ
+no_memory = negsuc 2
+
+-- an event is above 31
+abbrev pub bad_event : ℤ
+bad_event = negsuc 3
+
+-- no kind of mark has this number
+abbrev pub bad_kind : ℤ
+bad_kind = negsuc 4
+
+-- it isn't known how the cookie finished
+abbrev pub no_result : ℤ
+no_result = negsuc 5
+
+-- nothing runs
+abbrev pub not_running : ℤ
+not_running = negsuc 6
+
+-- what is to be written is longer than its room
+abbrev pub buffer_too_small : ℤ
+buffer_too_small = negsuc 7
+
+-- a memory can't have this size
+abbrev pub size_out_of_range : ℤ
+size_out_of_range = negsuc 20
+
+-- a program is longer than 8,192 bytes
+abbrev pub program_too_long : ℤ
+program_too_long = negsuc 39
+
+-- the code of a refused call
+abbrev pub fault_code : EngineFault → ℤ
+fault_code OutOfMemoryRange = negsuc 9
+fault_code (Busy ch cookie) = negsuc 10
+fault_code NoChannel = negsuc 11
+fault_code CookiesSpent = negsuc 12
+fault_code StepsSpent = negsuc 13
+fault_code BadEvent = bad_event
+fault_code BadRange = negsuc 14
+fault_code (Running ch cookie) = negsuc 15
+fault_code NoMemory = no_memory
+
+-- why no engine was made
+abbrev pub new_code : NewFault → ℤ
+new_code engines.BadChannels = negsuc 19
+new_code engines.SizeOutOfRange = size_out_of_range
+new_code engines.NoMemory = no_memory
+
+-- why no transfer was made
+abbrev pub transfer_code : TransferFault → ℤ
+transfer_code transfers.EmptyList = negsuc 29
+transfer_code transfers.TooManySegments = negsuc 30
+transfer_code transfers.EmptySegment = negsuc 31
+transfer_code transfers.SegmentWraps = negsuc 32
+transfer_code transfers.TotalsDiffer = negsuc 33
+transfer_code transfers.TooLong = negsuc 34
+transfer_code transfers.DestinationsMeet = negsuc 35
+transfer_code transfers.SourceMeetsDestination = negsuc 36
+transfer_code transfers.BadEvent = bad_event
+transfer_code transfers.NoMemory = no_memory
+
+-- why a line is no instruction
+abbrev pub cause_code : Cause → ℤ
+cause_code Mnemonic = negsuc 49
+cause_code Operand = negsuc 50
+cause_code Range = negsuc 51
+
+-- why bytes are no instruction
+abbrev pub decode_code : DecodeFault → ℤ
+decode_code Cut = negsuc 59
+decode_code (UnknownByte byte) = negsuc 60
+decode_code BadField = negsuc 61
+
+-- how far a cookie is
+abbrev pub status_code : Status → ℤ
+status_code Unknown = pos 0
+status_code InProgress = pos 1
+status_code Complete = pos 2
+
+-- The code of a reply: a status is told by it, and that it isn't known how a cookie finished.
+abbrev pub reply_code : Reply → ℤ
+reply_code (Refused fault) = fault_code fault
+reply_code (State status) = status_code status
+reply_code (Resulted None) = no_result
+reply_code _ = ok_code
+
+-- ---- other numbers
+
+-- the kind of mark that has this number
+abbrev pub mark_kind : ℕ → Option MarkKind
+mark_kind kind = if kind == 0 then Some Reading else (if kind == 1 then Some Writing else None)
+
+-- how a cookie finished (the numbers of the kernel's enum dmaengine_tx_result)
+abbrev pub result_number : TransResult → ℕ
+result_number NoError = 0
+result_number ReadFailed = 1
+result_number WriteFailed = 2
+result_number Aborted = 3
+
+-- the fault of an instruction
+abbrev pub kind_number : FaultKind → ℕ
+kind_number UndefInstr = 1
+kind_number OperandInvalid = 2
+kind_number MfifoErr = 3
+kind_number StDataUnavailable = 4
+kind_number InstrFetchErr = 5
+kind_number DataWriteErr = 6
+kind_number DataReadErr = 7
+
+-- The event of a number, none of a negative one. All above 31 are bad, so 255 stands for those above it.
+abbrev pub event_told : ℤ → Option ℕ
+event_told (negsuc n) = None
+event_told (pos n) = Some (min n 255)

@@ -1,0 +1,60 @@
+-- What C is told in structs: how a cookie finished, what runs, what steps did, and how a program ended.
+use Rattle.std.specs.Prelude.{ℕ, Option, None, Some, List, map}
+use Rattle.dma_mem.specs.declared.segment.Segment.{Segment}
+use Rattle.dma_chan.specs.declared.run.RunEnd.{RunEnd}
+use Rattle.dma_chan.specs.declared.run.RunEnd.TheVariants as ends
+use Rattle.dma_engine.specs.declared.outcome.Outcome.{Outcome}
+use Rattle.dma_engine.specs.declared.turn.Running.{Running}
+use Rattle.dma_engine.specs.declared.turn.Turn.{Turn}
+use Rattle.dma_engine.specs.declared.turn.Turn.TheVariants.{Nothing, Held, Started, Moved, Waiting, Paused, Halted, Finished}
+use Rattle.dma_ffi.specs.declared.reports.DmaSegment.{DmaSegment}
+use Rattle.dma_ffi.specs.declared.reports.DmaOutcome.{DmaOutcome}
+use Rattle.dma_ffi.specs.declared.reports.DmaRun.{DmaRun}
+use Rattle.dma_ffi.specs.declared.reports.DmaReport.{DmaReport}
+use Rattle.dma_ffi.specs.declared.reports.DmaRunEnd.{DmaRunEnd}
+use Rattle.dma_ffi.specs.Codes.{result_number, kind_number}
+
+-- a range of addresses, as the engine has it
+abbrev pub segment_of : DmaSegment → Segment
+segment_of s = record { addr = s.addr; len = s.len }
+
+-- a list of them
+abbrev pub segments_of : List DmaSegment → List Segment
+segments_of list = map segment_of list
+
+-- how a cookie finished
+abbrev pub outcome_told : Outcome → DmaOutcome
+outcome_told o = record { result = result_number o.result; residue = o.residue }
+
+-- what runs on a channel
+abbrev pub run_told : Running → DmaRun
+run_told r = record { cookie = r.cookie; stored = r.stored }
+
+-- the report of so many steps, the last of which did what has this number; what it has no part in is 0
+abbrev pub did : ℕ → ℕ → DmaReport
+did taken turn =
+    record { taken = taken; turn = turn; channel = 0; cookie = 0; event = 0; result = 0; residue = 0 }
+
+-- the report of so many steps and of what the last one did, where one was taken
+abbrev pub report_of : ℕ → Option Turn → DmaReport
+report_of taken None = did taken 0
+report_of taken (Some (Started cookie)) = record (did taken 1) { cookie = cookie }
+report_of taken (Some Moved) = did taken 2
+report_of taken (Some Nothing) = did taken 3
+report_of taken (Some (Held ch cookie)) = record (did taken 4) { channel = ch; cookie = cookie }
+report_of taken (Some (Waiting event)) = record (did taken 5) { event = event }
+report_of taken (Some Paused) = did taken 6
+report_of taken (Some Halted) = did taken 7
+report_of taken (Some (Finished cookie how residue)) =
+    record (did taken 8) { cookie = cookie; result = result_number how; residue = residue }
+
+-- how a program ended, by a number; what that has no part in is 0
+abbrev pub ended : ℕ → DmaRunEnd
+ended how = record { end = how; turns = 0; event = 0; fault = 0; pc = 0 }
+
+-- how a program ended
+abbrev pub end_of : RunEnd → DmaRunEnd
+end_of (ends.Ended turns) = record (ended 1) { turns = turns }
+end_of ends.OutOfTurns = ended 2
+end_of (ends.Waiting event) = record (ended 3) { event = event }
+end_of (ends.Fault kind pc) = record (ended 4) { fault = kind_number kind; pc = pc }

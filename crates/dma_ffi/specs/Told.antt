@@ -1,0 +1,218 @@
+-- What C is told of a call: one definition for all calls on a controller.
+use Rattle.std.specs.Prelude.{◌≡◌, ℕ, ◌<◌, ◌≤◌, ◌⊎◌, zero, suc, Bool, true, false, ℤ, Option, None, Some, IsSomeAnd, MatchOption, Result, Ok, Err, List, unwrap_or}
+use Rattle.dma_mem.specs.Places.{Descriptor, filling}
+use Rattle.dma_mem.specs.Refusals.{refusal_of, refusal_of_fill}
+use Rattle.dma_mem.specs.declared.marks.MarkKind.{MarkKind}
+use Rattle.dma_mem.specs.declared.segment.Segment.{Segment}
+use Rattle.dma_mem.specs.declared.transfer.TransferFault.{TransferFault}
+use Rattle.dma_mem.specs.declared.transfer.TransferFault.TheVariants as transfers
+use Rattle.dma_engine.specs.declared.call.Call.{Call}
+use Rattle.dma_engine.specs.declared.call.Call.TheVariants.{Submit, Mark}
+use Rattle.dma_engine.specs.declared.call.Reply.{Reply}
+use Rattle.dma_engine.specs.declared.call.Reply.TheVariants.{Bytes, Cookie, Count, Result as Resulted, Refused}
+use Rattle.dma_engine.specs.declared.fault.EngineFault.{EngineFault}
+use Rattle.dma_engine.specs.declared.fault.NewFault.TheVariants as engines
+use Rattle.dma_engine.specs.declared.turn.Running.{Running}
+use Rattle.dma_engine.specs.declared.turn.Turn.{Turn}
+use Rattle.dma_engine.specs.declared.turn.Turn.TheVariants.{Started, Moved}
+use Rattle.dma_engine.specs.Object.{channel, unfinished}
+use Rattle.dma_engine.specs.View.{View, EngineState, object_of, running_on, new_fault, new_view}
+use Rattle.dma_engine.specs.Answer.{CallAnswers, StepAnswers}
+use Rattle.dma_ffi.specs.declared.steps.Taken.{Taken}
+use Rattle.dma_ffi.specs.declared.reports.DmaOutcome.{DmaOutcome}
+use Rattle.dma_ffi.specs.declared.reports.DmaRun.{DmaRun}
+use Rattle.dma_ffi.specs.declared.reports.DmaReport.{DmaReport}
+use Rattle.dma_ffi.specs.Codes.{ok_code, not_open, already_open, bad_kind, not_running, new_code, transfer_code, reply_code, mark_kind}
+use Rattle.dma_ffi.specs.Reports.{outcome_told, run_told, report_of}
+
+-- ---- what is asked, and what is answered
+
+-- What C asks of a controller.
+pub data Asked : Type 0 where
+  -- a call of the engine
+  ask_call : Call → Asked
+  -- a mark of the kind that has this number
+  ask_mark : ℕ → Segment → Asked
+  -- a transfer to be given to a channel
+  ask_copy : ℕ → Descriptor → Asked
+  -- a fill, from an address, to be given to a channel
+  ask_fill : ℕ → ℕ → List Segment → Option ℕ → Option ℕ → Asked
+  -- steps of a channel, at most so many
+  ask_steps : ℕ → ℕ → Asked
+  -- what runs on a channel
+  ask_running : ℕ → Asked
+  -- how many cookies of a channel aren't finished
+  ask_unfinished : ℕ → Asked
+  -- how many cookies of a channel a checkpoint forgot
+  ask_forgotten : ℕ → Asked
+  -- the step count
+  ask_step_count : Asked
+
+-- What is answered.
+pub data Answer : Type 0 where
+  -- there is no engine
+  closed : Answer
+  -- the engine's reply to a call
+  replied : Reply → Answer
+  -- there is no such transfer, or memory was wanting for it
+  unfit : TransferFault → Answer
+  -- there is no such kind of mark
+  no_kind : Answer
+  -- so many steps were taken, and the last one did this
+  stepped : ℕ → Option Turn → Answer
+  -- what runs, if something does
+  runs : Option Running → Answer
+  -- a number
+  numbered : ℕ → Answer
+
+-- a copy of these lists, with these events
+abbrev pub copying : List Segment → List Segment → Option ℕ → Option ℕ → Descriptor
+copying src dst wait signal = record { fill = false; src = src; dst = dst; wait = wait; signal = signal }
+
+-- ---- steps in a row
+
+-- Whether a further step is taken: there was none before, or the last one started a transfer or moved.
+abbrev pub goes_on : Option Turn → Bool
+goes_on None = true
+goes_on (Some (Started cookie)) = true
+goes_on (Some Moved) = true
+goes_on (Some _) = false
+
+-- So many steps of a channel, one after another, each of which goes on from the one before. The last one did this, and they leave
+-- such a view.
+abbrev pub InARow : View → ℕ → ℕ → Option Turn → View → Type 0
+InARow v ch zero last w = (last ≡ None) × (w ≡ v)
+InARow v ch (suc n) last w =
+    (u : View) × (before : Option Turn) × (turn : Turn) × InARow v ch n before u × (goes_on before ≡ true)
+    × StepAnswers u ch (Ok turn) w × (last ≡ Some turn)
+
+-- The next step of a channel is refused, and changes nothing.
+abbrev pub RefusesStep : View → ℕ → Type 0
+RefusesStep v ch = (fault : EngineFault) × StepAnswers v ch (Err fault) v
+
+-- Steps of a channel, at most so many, of which so many were taken: up to the most, or to one after which none is taken, or, if
+-- there were any, to where the next one is refused.
+pub record TakesSteps (v : View) (ch most taken : ℕ) (last : Option Turn) (w : View) : Type 0 where
+  pub row : InARow v ch taken last w
+  pub few : taken ≤ most
+  pub stops : (taken ≡ most) ⊎ ((goes_on last ≡ false) ⊎ ((0 < taken) × RefusesStep w ch))
+
+-- ---- how an engine answers
+
+-- A mark: of no kind, or the engine's reply.
+abbrev pub AnswersMark : View → Option MarkKind → Segment → Answer → View → Type 0
+AnswersMark v None range no_kind w = w ≡ v
+AnswersMark v (Some kind) range (replied reply) w = CallAnswers v (Mark kind range) reply w
+AnswersMark v _ _ _ w = ⊥
+
+-- A transfer: the first of its refusals, or want of memory where it has none; else the engine's reply.
+abbrev pub AnswersSubmit : View → ℕ → Option TransferFault → Descriptor → Answer → View → Type 0
+AnswersSubmit v ch refusal t (unfit fault) w = (fault ≡ unwrap_or refusal transfers.NoMemory) × (w ≡ v)
+AnswersSubmit v ch refusal t (replied reply) w = (refusal ≡ None) × CallAnswers v (Submit ch t) reply w
+AnswersSubmit v ch refusal t _ w = ⊥
+
+-- Steps: a refusal of the first, or those that were taken.
+abbrev pub AnswersSteps : View → ℕ → ℕ → Answer → View → Type 0
+AnswersSteps v ch most (replied (Refused fault)) w = (0 < most) × StepAnswers v ch (Err fault) w
+AnswersSteps v ch most (stepped taken last) w = TakesSteps v ch most taken last w
+AnswersSteps v ch most _ w = ⊥
+
+-- A reading, which leaves the view as it is.
+abbrev pub Reads : View → Answer → Answer → View → Type 0
+Reads v value answer w = (answer ≡ value) × (w ≡ v)
+
+-- An engine with this view answers so, and has such a view then.
+abbrev pub Answers : View → Asked → Answer → View → Type 0
+Answers v (ask_call call) (replied reply) w = CallAnswers v call reply w
+Answers v (ask_call call) _ w = ⊥
+Answers v (ask_mark kind range) answer w = AnswersMark v (mark_kind kind) range answer w
+Answers v (ask_copy ch t) answer w = AnswersSubmit v ch (refusal_of t) t answer w
+Answers v (ask_fill ch src dst wait signal) answer w =
+    AnswersSubmit v ch (refusal_of_fill src dst wait signal) (filling src dst wait signal) answer w
+Answers v (ask_steps ch most) answer w = AnswersSteps v ch most answer w
+Answers v (ask_running ch) answer w = Reads v (runs (running_on v ch)) answer w
+Answers v (ask_unfinished ch) answer w = Reads v (numbered (unfinished (channel (object_of v) ch))) answer w
+Answers v (ask_forgotten ch) answer w = Reads v (numbered (channel (object_of v) ch).forgotten) answer w
+Answers v ask_step_count answer w = Reads v (numbered v.steps) answer w
+
+-- the answer to steps: those that were taken, or the refusal of the first
+abbrev pub steps_answer : Result Taken EngineFault → Answer
+steps_answer (Ok taken) = stepped taken.count taken.last
+steps_answer (Err fault) = replied (Refused fault)
+
+-- ---- what C is told
+
+-- the code of an answer
+abbrev pub code_of : Answer → ℤ
+code_of closed = not_open
+code_of (replied reply) = reply_code reply
+code_of (unfit fault) = transfer_code fault
+code_of no_kind = bad_kind
+code_of (runs None) = not_running
+code_of _ = ok_code
+
+-- What a call writes: what was there before, and what is there afterwards.
+pub data Written : Type 0 where
+  nothing : Written
+  a_number : ℕ → ℕ → Written
+  some_bytes : List ℕ → List ℕ → Written
+  an_outcome : DmaOutcome → DmaOutcome → Written
+  a_run : DmaRun → DmaRun → Written
+  a_report : DmaReport → DmaReport → Written
+
+-- The answer's number, or what was there where it has none.
+abbrev pub number_in : Answer → ℕ → ℕ
+number_in (replied (Cookie cookie)) before = cookie
+number_in (replied (Count count)) before = count
+number_in (numbered number) before = number
+number_in _ before = before
+
+-- The answer's bytes, or what was there.
+abbrev pub bytes_in : Answer → List ℕ → List ℕ
+bytes_in (replied (Bytes bytes)) before = bytes
+bytes_in _ before = before
+
+-- The answer's outcome, or what was there.
+abbrev pub outcome_in : Answer → DmaOutcome → DmaOutcome
+outcome_in (replied (Resulted (Some outcome))) before = outcome_told outcome
+outcome_in _ before = before
+
+-- What runs, or what was there.
+abbrev pub run_in : Answer → DmaRun → DmaRun
+run_in (runs (Some running)) before = run_told running
+run_in _ before = before
+
+-- The report of the steps, or what was there.
+abbrev pub report_in : Answer → DmaReport → DmaReport
+report_in (stepped taken last) before = report_of taken last
+report_in _ before = before
+
+-- What is written is the answer's, and where the answer has none of it, what was there stays.
+abbrev pub IsWritten : Answer → Written → Type 0
+IsWritten answer nothing = Unit {0}
+IsWritten answer (a_number before after) = after ≡ number_in answer before
+IsWritten answer (some_bytes before after) = after ≡ bytes_in answer before
+IsWritten answer (an_outcome before after) = after ≡ outcome_in answer before
+IsWritten answer (a_run before after) = after ≡ run_in answer before
+IsWritten answer (a_report before after) = after ≡ report_in answer before
+
+-- An engine with this view answers what is asked, and has such a view then; and the code and what is written are that
+-- answer's.
+unfoldable pub Tells : View → Asked → ℤ → Written → View → Type 0
+Tells v asked code written w = (answer : Answer) × Answers v asked answer w × (code ≡ code_of answer) × IsWritten answer written
+
+-- What C is told of a call on a controller, which held the first engine before and holds the second afterwards. Without an
+-- engine it is told so, whatever is asked, and there is none afterwards; with one, it is told what that engine answers.
+unfoldable pub Told : Option EngineState → Asked → ℤ → Written → Option EngineState → Type 0
+Told None asked code written new = (new ≡ None) × (code ≡ code_of closed) × IsWritten closed written
+Told (Some e) asked code written new = IsSomeAnd new (λ e'. Tells e.view asked code written e'.view)
+
+-- ---- an engine made
+
+-- What C is told of an engine to be made of that size and number of channels: there is one already, or the first cause for which
+-- none is made, or there is a new one.
+unfoldable pub ToldNew : Option EngineState → ℕ → ℕ → ℤ → Option EngineState → Type 0
+ToldNew (Some e) size channels code new = (code ≡ already_open) × (new ≡ Some e)
+ToldNew None size channels code new =
+    MatchOption new (code ≡ new_code (unwrap_or (new_fault size channels) engines.NoMemory))
+    (λ e. (code ≡ ok_code) × (new_fault size channels ≡ None) × (e.view ≡ new_view size channels))

@@ -1,0 +1,188 @@
+//! What the calls do to an engine that is there: each is the engine's own call, and tells C its answer.
+
+ghost use Rattle.std.specs.Prelude.{◌≡◌, IfErr, IfOk, length};
+ghost use Rattle.dma_ffi.specs.Codes.{transfer_code};
+ghost use Rattle.dma_ffi.specs.Reports.{segment_of};
+ghost use Rattle.dma_ffi.specs.Told.{Tells, a_number, a_report, a_run, an_outcome, ask_call, ask_forgotten, ask_mark, ask_running, ask_step_count, ask_steps, ask_unfinished, nothing, some_bytes};
+
+use crate::codes::{
+    BAD_KIND, OK, code_of_fault, code_of_status, code_of_transfer, counted, done, kind_of,
+    submitted,
+};
+use crate::reports::{
+    DmaOutcome, DmaReport, DmaRun, DmaSegment, told_outcome, told_run, told_steps,
+};
+use crate::steps::take_steps;
+use dma_engine::{Call, Engine, EngineFault};
+use dma_mem::transfer::{Transfer, TransferFault};
+
+/// Writes bytes from an address on.
+#[tactic(auto, using(crate::proofs::Tells::tells_call))]
+pub fn write(engine: &mut Engine, addr: u32, bytes: &[u8]) -> i32
+    ensures { Tells engine.old.view (ask_call (Call.Write addr bytes.now)) result nothing engine.new.view }
+{
+    done(engine.write(addr, bytes))
+}
+
+/// Reads as many bytes as there is room for.
+pub fn read(engine: &mut Engine, addr: u32, out: &mut [u8]) -> i32
+    ensures { Tells engine.old.view (ask_call (Call.Read addr (length out.old))) result (some_bytes out.old out.new)
+        engine.new.view }
+{
+    if out.len() > engine.size() as usize {
+        return code_of_fault(EngineFault::OutOfMemoryRange);
+    }
+    match engine.read(addr, out.len() as u32) {
+        Ok(bytes) => {
+            out.copy_from_slice(bytes.as_slice());
+            OK
+        }
+        Err(fault) => code_of_fault(fault),
+    }
+}
+
+/// Gives a transfer to a channel, where one was made.
+#[tactic(auto, using(crate::proofs::Tells::tells_number))]
+pub fn submit(
+    engine: &mut Engine,
+    ch: u8,
+    made: Result<Transfer, TransferFault>,
+    cookie: &mut u32,
+) -> i32
+    ensures ok { IfOk made (λ t. Tells engine.old.view (ask_call (Call.Submit ch t)) result (a_number cookie.old cookie.new) engine.new.view) }
+    ensures code { IfErr made (λ fault. result ≡ transfer_code fault) }
+    ensures number { IfErr made (λ _. cookie.new ≡ cookie.old) }
+    ensures same { IfErr made (λ _. engine.new.view ≡ engine.old.view) }
+{
+    match made {
+        Ok(transfer) => submitted(engine.submit(ch, transfer), cookie),
+        Err(fault) => code_of_transfer(fault),
+    }
+}
+
+/// Issues all submitted cookies of a channel.
+#[tactic(auto, using(crate::proofs::Tells::tells_number))]
+pub fn issue(engine: &mut Engine, ch: u8, count: &mut u32) -> i32
+    ensures { Tells engine.old.view (ask_call (Call.Issue ch)) result (a_number count.old count.new) engine.new.view }
+{
+    counted(engine.issue(ch), count)
+}
+
+/// Pauses a channel.
+#[tactic(auto, using(crate::proofs::Tells::tells_call))]
+pub fn pause(engine: &mut Engine, ch: u8) -> i32
+    ensures { Tells engine.old.view (ask_call (Call.Pause ch)) result nothing engine.new.view }
+{
+    done(engine.pause(ch))
+}
+
+/// Ends the pause of a channel.
+#[tactic(auto, using(crate::proofs::Tells::tells_call))]
+pub fn resume(engine: &mut Engine, ch: u8) -> i32
+    ensures { Tells engine.old.view (ask_call (Call.Resume ch)) result nothing engine.new.view }
+{
+    done(engine.resume(ch))
+}
+
+/// Aborts all unfinished cookies of a channel.
+#[tactic(auto, using(crate::proofs::Tells::tells_number))]
+pub fn terminate(engine: &mut Engine, ch: u8, count: &mut u32) -> i32
+    ensures { Tells engine.old.view (ask_call (Call.Terminate ch)) result (a_number count.old count.new) engine.new.view }
+{
+    counted(engine.terminate(ch), count)
+}
+
+/// Takes at most so many steps of a channel.
+#[tactic(auto, using(crate::proofs::Tells::tells_steps))]
+pub fn step(engine: &mut Engine, ch: u8, most: u32, report: &mut DmaReport) -> i32
+    ensures { Tells engine.old.view (ask_steps ch most) result (a_report report.old report.new) engine.new.view }
+{
+    told_steps(take_steps(engine, ch, most), report)
+}
+
+/// How far a cookie is.
+#[tactic(auto, using(crate::proofs::Tells::tells_status))]
+pub fn status(engine: &Engine, ch: u8, cookie: u32) -> i32
+    ensures { Tells engine.now.view (ask_call (Call.Status ch cookie)) result nothing engine.now.view }
+{
+    code_of_status(engine.status(ch, cookie))
+}
+
+/// How a cookie finished.
+#[tactic(auto, using(crate::proofs::Tells::tells_outcome))]
+pub fn outcome(engine: &Engine, ch: u8, cookie: u32, outcome: &mut DmaOutcome) -> i32
+    ensures { Tells engine.now.view (ask_call (Call.Result ch cookie)) result (an_outcome outcome.old outcome.new)
+        engine.now.view }
+{
+    told_outcome(engine.result(ch, cookie), outcome)
+}
+
+/// What runs on a channel.
+#[tactic(auto, using(crate::proofs::Tells::tells_run))]
+pub fn running(engine: &Engine, ch: u8, run: &mut DmaRun) -> i32
+    ensures { Tells engine.now.view (ask_running ch) result (a_run run.old run.new) engine.now.view }
+{
+    told_run(engine.running(ch), run)
+}
+
+/// How many cookies of a channel aren't finished.
+#[tactic(auto, using(crate::proofs::Tells::tells_unfinished))]
+pub fn unfinished(engine: &Engine, ch: u8, count: &mut u32) -> i32
+    ensures { Tells engine.now.view (ask_unfinished ch) result (a_number count.old count.new) engine.now.view }
+{
+    *count = engine.unfinished(ch);
+    OK
+}
+
+/// How many cookies of a channel the last checkpoint forgot.
+#[tactic(auto, using(crate::proofs::Tells::tells_forgotten))]
+pub fn forgotten(engine: &Engine, ch: u8, count: &mut u32) -> i32
+    ensures { Tells engine.now.view (ask_forgotten ch) result (a_number count.old count.new) engine.now.view }
+{
+    *count = engine.forgotten(ch);
+    OK
+}
+
+/// The step count.
+#[tactic(auto, using(crate::proofs::Tells::tells_step_count))]
+pub fn steps(engine: &Engine, steps: &mut u64) -> i32
+    ensures { Tells engine.now.view ask_step_count result (a_number steps.old steps.new) engine.now.view }
+{
+    *steps = engine.steps();
+    OK
+}
+
+/// Marks a range.
+#[tactic(auto, using(crate::proofs::Tells::tells_mark, crate::proofs::Tells::tells_no_kind))]
+pub fn mark(engine: &mut Engine, kind: u32, range: DmaSegment) -> i32
+    ensures { Tells engine.old.view (ask_mark kind (segment_of range)) result nothing engine.new.view }
+{
+    match kind_of(kind) {
+        Some(kind) => done(engine.mark(kind, range.segment())),
+        None => BAD_KIND,
+    }
+}
+
+/// Removes all marks.
+#[tactic(auto, using(crate::proofs::Tells::tells_call))]
+pub fn unmark(engine: &mut Engine) -> i32
+    ensures { Tells engine.old.view (ask_call Call.Unmark) result nothing engine.new.view }
+{
+    done(engine.unmark())
+}
+
+/// Sets the flag of an event.
+#[tactic(auto, using(crate::proofs::Tells::tells_call))]
+pub fn raise(engine: &mut Engine, event: u8) -> i32
+    ensures { Tells engine.old.view (ask_call (Call.Raise event)) result nothing engine.new.view }
+{
+    done(engine.raise(event))
+}
+
+/// Makes the present the base of the history.
+#[tactic(auto, using(crate::proofs::Tells::tells_call))]
+pub fn checkpoint(engine: &mut Engine) -> i32
+    ensures { Tells engine.old.view (ask_call Call.Checkpoint) result nothing engine.new.view }
+{
+    done(engine.checkpoint())
+}

@@ -1,0 +1,415 @@
+//! The engine for programs in C and other languages: a controller that the caller keeps, and one function for each call.
+//!
+//! C declares `#include "dma.h"`. Each call on a controller tells C what the engine answers: `Told` says so of all of them.
+//! Duties of the caller, which no proof can see: a controller is zeros before it is opened, is not copied while it is open,
+//! and its members are neither read nor written; one call at a time has it; pointers are valid for as long as a call takes, and
+//! what they point to doesn't overlap.
+#![tactic(auto)]
+
+ghost use Rattle.std.specs.Prelude.{◌≡◌, length, None};
+ghost use Rattle.dma_mem.specs.Places.{filling};
+ghost use Rattle.dma_ffi.specs.Codes.{event_told};
+ghost use Rattle.dma_ffi.specs.Reports.{segment_of, segments_of};
+ghost use Rattle.dma_ffi.specs.Told.{Told, ToldNew, a_number, a_report, a_run, an_outcome, ask_call, ask_copy, ask_fill, ask_forgotten, ask_mark, ask_running, ask_step_count, ask_steps, ask_unfinished, copying, nothing, some_bytes};
+
+mod calls;
+mod codes;
+mod controller;
+mod engine_pointer;
+mod lists;
+pub mod programs;
+mod reports;
+mod steps;
+#[cfg(test)]
+mod tests;
+
+use codes::{ALREADY_OPEN, NO_MEMORY, NOT_OPEN, OK, code_of_new};
+use controller::Controller;
+use dma_engine::{Call, Engine};
+use lists::{copy_of, fill_of};
+use reports::{DmaOutcome, DmaReport, DmaRun, DmaSegment};
+use std::alloc::Global;
+
+/// Makes an engine over a memory of zeros.
+#[tactic(auto, using(crate::proofs::Tells::new_already, crate::proofs::Tells::new_refused, crate::proofs::Tells::new_made))]
+#[unsafe(no_mangle)]
+pub extern "C" fn dma_open(
+    alloc: Global,
+    controller: &mut Controller,
+    size: u32,
+    channels: u8,
+) -> i32
+    ensures { ToldNew controller.old.engine.value size channels result controller.new.engine.value }
+{
+    if controller.is_open() {
+        return ALREADY_OPEN;
+    }
+    let engine = match Engine::new(alloc, size, channels) {
+        Ok(engine) => engine,
+        Err(fault) => return code_of_new(fault),
+    };
+    let Ok(engine) = Box::new(alloc, engine) else {
+        return NO_MEMORY;
+    };
+    controller.put(engine);
+    OK
+}
+
+/// Frees the engine, if there is one.
+#[unsafe(no_mangle)]
+pub extern "C" fn dma_close(alloc: Global, controller: &mut Controller)
+    ensures { controller.new.engine.value ≡ None }
+{
+    drop(controller.take(alloc));
+}
+
+/// Writes bytes from an address on.
+#[tactic(auto, using(crate::proofs::Tells::told_closed, crate::proofs::Tells::told_open))]
+#[unsafe(no_mangle)]
+pub extern "C" fn dma_write(
+    alloc: Global,
+    controller: &mut Controller,
+    addr: u32,
+    bytes: &[u8],
+) -> i32
+    ensures { Told controller.old.engine.value (ask_call (Call.Write addr bytes.now)) result nothing
+        controller.new.engine.value }
+{
+    let Some(mut engine) = controller.take(alloc) else {
+        return NOT_OPEN;
+    };
+    let code = calls::write(&mut engine, addr, bytes);
+    controller.put(engine);
+    code
+}
+
+/// Reads as many bytes as there is room for.
+#[tactic(auto, using(crate::proofs::Tells::told_closed, crate::proofs::Tells::told_open))]
+#[unsafe(no_mangle)]
+pub extern "C" fn dma_read(
+    alloc: Global,
+    controller: &mut Controller,
+    addr: u32,
+    out: &mut [u8],
+) -> i32
+    ensures { Told controller.old.engine.value (ask_call (Call.Read addr (length out.old))) result (some_bytes out.old out.new)
+        controller.new.engine.value }
+{
+    let Some(mut engine) = controller.take(alloc) else {
+        return NOT_OPEN;
+    };
+    let code = calls::read(&mut engine, addr, out);
+    controller.put(engine);
+    code
+}
+
+/// Gives a copy to a channel. A negative event is none.
+#[tactic(auto, using(crate::proofs::Tells::told_closed, crate::proofs::Tells::told_open))]
+#[unsafe(no_mangle)]
+pub extern "C" fn dma_submit(
+    alloc: Global,
+    controller: &mut Controller,
+    ch: u8,
+    src: &[DmaSegment],
+    dst: &[DmaSegment],
+    wait: i32,
+    signal: i32,
+    cookie: &mut u32,
+) -> i32
+    ensures { Told controller.old.engine.value (ask_copy ch (copying (segments_of src.now) (segments_of dst.now) (event_told wait) (event_told signal)))
+        result (a_number cookie.old cookie.new) controller.new.engine.value }
+{
+    let Some(mut engine) = controller.take(alloc) else {
+        return NOT_OPEN;
+    };
+    let made = copy_of(alloc, src, dst, wait, signal);
+    let code = calls::submit(&mut engine, ch, made, cookie);
+    controller.put(engine);
+    code
+}
+
+/// Gives a fill to a channel: the byte at `src` goes to every address of `dst`. A negative event is none.
+#[tactic(auto, using(crate::proofs::Tells::told_closed, crate::proofs::Tells::told_open))]
+#[unsafe(no_mangle)]
+pub extern "C" fn dma_submit_fill(
+    alloc: Global,
+    controller: &mut Controller,
+    ch: u8,
+    src: u32,
+    dst: &[DmaSegment],
+    wait: i32,
+    signal: i32,
+    cookie: &mut u32,
+) -> i32
+    ensures { Told controller.old.engine.value (ask_fill ch src (segments_of dst.now) (event_told wait) (event_told signal))
+        result (a_number cookie.old cookie.new) controller.new.engine.value }
+{
+    let Some(mut engine) = controller.take(alloc) else {
+        return NOT_OPEN;
+    };
+    let made = fill_of(alloc, src, dst, wait, signal);
+    let code = calls::submit(&mut engine, ch, made, cookie);
+    controller.put(engine);
+    code
+}
+
+/// Issues all submitted cookies of a channel, and writes how many became so.
+#[tactic(auto, using(crate::proofs::Tells::told_closed, crate::proofs::Tells::told_open))]
+#[unsafe(no_mangle)]
+pub extern "C" fn dma_issue(
+    alloc: Global,
+    controller: &mut Controller,
+    ch: u8,
+    count: &mut u32,
+) -> i32
+    ensures { Told controller.old.engine.value (ask_call (Call.Issue ch)) result (a_number count.old count.new)
+        controller.new.engine.value }
+{
+    let Some(mut engine) = controller.take(alloc) else {
+        return NOT_OPEN;
+    };
+    let code = calls::issue(&mut engine, ch, count);
+    controller.put(engine);
+    code
+}
+
+/// Pauses a channel.
+#[tactic(auto, using(crate::proofs::Tells::told_closed, crate::proofs::Tells::told_open))]
+#[unsafe(no_mangle)]
+pub extern "C" fn dma_pause(alloc: Global, controller: &mut Controller, ch: u8) -> i32
+    ensures { Told controller.old.engine.value (ask_call (Call.Pause ch)) result nothing controller.new.engine.value }
+{
+    let Some(mut engine) = controller.take(alloc) else {
+        return NOT_OPEN;
+    };
+    let code = calls::pause(&mut engine, ch);
+    controller.put(engine);
+    code
+}
+
+/// Ends the pause of a channel.
+#[tactic(auto, using(crate::proofs::Tells::told_closed, crate::proofs::Tells::told_open))]
+#[unsafe(no_mangle)]
+pub extern "C" fn dma_resume(alloc: Global, controller: &mut Controller, ch: u8) -> i32
+    ensures { Told controller.old.engine.value (ask_call (Call.Resume ch)) result nothing controller.new.engine.value }
+{
+    let Some(mut engine) = controller.take(alloc) else {
+        return NOT_OPEN;
+    };
+    let code = calls::resume(&mut engine, ch);
+    controller.put(engine);
+    code
+}
+
+/// Aborts all unfinished cookies of a channel, and writes how many these were.
+#[tactic(auto, using(crate::proofs::Tells::told_closed, crate::proofs::Tells::told_open))]
+#[unsafe(no_mangle)]
+pub extern "C" fn dma_terminate(
+    alloc: Global,
+    controller: &mut Controller,
+    ch: u8,
+    count: &mut u32,
+) -> i32
+    ensures { Told controller.old.engine.value (ask_call (Call.Terminate ch)) result (a_number count.old count.new)
+        controller.new.engine.value }
+{
+    let Some(mut engine) = controller.take(alloc) else {
+        return NOT_OPEN;
+    };
+    let code = calls::terminate(&mut engine, ch, count);
+    controller.put(engine);
+    code
+}
+
+/// Takes at most `most` steps of a channel, until one neither starts nor moves.
+#[tactic(auto, using(crate::proofs::Tells::told_closed, crate::proofs::Tells::told_open))]
+#[unsafe(no_mangle)]
+pub extern "C" fn dma_step(
+    alloc: Global,
+    controller: &mut Controller,
+    ch: u8,
+    most: u32,
+    report: &mut DmaReport,
+) -> i32
+    ensures { Told controller.old.engine.value (ask_steps ch most) result (a_report report.old report.new)
+        controller.new.engine.value }
+{
+    let Some(mut engine) = controller.take(alloc) else {
+        return NOT_OPEN;
+    };
+    let code = calls::step(&mut engine, ch, most, report);
+    controller.put(engine);
+    code
+}
+
+/// How far a cookie is: the code tells it.
+#[tactic(auto, using(crate::proofs::Tells::told_closed, crate::proofs::Tells::told_open))]
+#[unsafe(no_mangle)]
+pub extern "C" fn dma_status(alloc: Global, controller: &mut Controller, ch: u8, cookie: u32) -> i32
+    ensures { Told controller.old.engine.value (ask_call (Call.Status ch cookie)) result nothing
+        controller.new.engine.value }
+{
+    let Some(engine) = controller.take(alloc) else {
+        return NOT_OPEN;
+    };
+    let code = calls::status(&engine, ch, cookie);
+    controller.put(engine);
+    code
+}
+
+/// How a cookie finished.
+#[tactic(auto, using(crate::proofs::Tells::told_closed, crate::proofs::Tells::told_open))]
+#[unsafe(no_mangle)]
+pub extern "C" fn dma_result(
+    alloc: Global,
+    controller: &mut Controller,
+    ch: u8,
+    cookie: u32,
+    outcome: &mut DmaOutcome,
+) -> i32
+    ensures { Told controller.old.engine.value (ask_call (Call.Result ch cookie)) result (an_outcome outcome.old outcome.new)
+        controller.new.engine.value }
+{
+    let Some(engine) = controller.take(alloc) else {
+        return NOT_OPEN;
+    };
+    let code = calls::outcome(&engine, ch, cookie, outcome);
+    controller.put(engine);
+    code
+}
+
+/// What runs on a channel.
+#[tactic(auto, using(crate::proofs::Tells::told_closed, crate::proofs::Tells::told_open))]
+#[unsafe(no_mangle)]
+pub extern "C" fn dma_running(
+    alloc: Global,
+    controller: &mut Controller,
+    ch: u8,
+    run: &mut DmaRun,
+) -> i32
+    ensures { Told controller.old.engine.value (ask_running ch) result (a_run run.old run.new) controller.new.engine.value }
+{
+    let Some(engine) = controller.take(alloc) else {
+        return NOT_OPEN;
+    };
+    let code = calls::running(&engine, ch, run);
+    controller.put(engine);
+    code
+}
+
+/// How many cookies of a channel aren't finished.
+#[tactic(auto, using(crate::proofs::Tells::told_closed, crate::proofs::Tells::told_open))]
+#[unsafe(no_mangle)]
+pub extern "C" fn dma_unfinished(
+    alloc: Global,
+    controller: &mut Controller,
+    ch: u8,
+    count: &mut u32,
+) -> i32
+    ensures { Told controller.old.engine.value (ask_unfinished ch) result (a_number count.old count.new)
+        controller.new.engine.value }
+{
+    let Some(engine) = controller.take(alloc) else {
+        return NOT_OPEN;
+    };
+    let code = calls::unfinished(&engine, ch, count);
+    controller.put(engine);
+    code
+}
+
+/// Marks a range: kind 0 for reading, 1 for writing.
+#[tactic(auto, using(crate::proofs::Tells::told_closed, crate::proofs::Tells::told_open))]
+#[unsafe(no_mangle)]
+pub extern "C" fn dma_mark(
+    alloc: Global,
+    controller: &mut Controller,
+    kind: u32,
+    range: DmaSegment,
+) -> i32
+    ensures { Told controller.old.engine.value (ask_mark kind (segment_of range)) result nothing
+        controller.new.engine.value }
+{
+    let Some(mut engine) = controller.take(alloc) else {
+        return NOT_OPEN;
+    };
+    let code = calls::mark(&mut engine, kind, range);
+    controller.put(engine);
+    code
+}
+
+/// Removes all marks.
+#[tactic(auto, using(crate::proofs::Tells::told_closed, crate::proofs::Tells::told_open))]
+#[unsafe(no_mangle)]
+pub extern "C" fn dma_unmark(alloc: Global, controller: &mut Controller) -> i32
+    ensures { Told controller.old.engine.value (ask_call Call.Unmark) result nothing controller.new.engine.value }
+{
+    let Some(mut engine) = controller.take(alloc) else {
+        return NOT_OPEN;
+    };
+    let code = calls::unmark(&mut engine);
+    controller.put(engine);
+    code
+}
+
+/// Sets the flag of an event.
+#[tactic(auto, using(crate::proofs::Tells::told_closed, crate::proofs::Tells::told_open))]
+#[unsafe(no_mangle)]
+pub extern "C" fn dma_raise(alloc: Global, controller: &mut Controller, event: u8) -> i32
+    ensures { Told controller.old.engine.value (ask_call (Call.Raise event)) result nothing controller.new.engine.value }
+{
+    let Some(mut engine) = controller.take(alloc) else {
+        return NOT_OPEN;
+    };
+    let code = calls::raise(&mut engine, event);
+    controller.put(engine);
+    code
+}
+
+/// Makes the present the base of the history, and forgets what was before.
+#[tactic(auto, using(crate::proofs::Tells::told_closed, crate::proofs::Tells::told_open))]
+#[unsafe(no_mangle)]
+pub extern "C" fn dma_checkpoint(alloc: Global, controller: &mut Controller) -> i32
+    ensures { Told controller.old.engine.value (ask_call Call.Checkpoint) result nothing controller.new.engine.value }
+{
+    let Some(mut engine) = controller.take(alloc) else {
+        return NOT_OPEN;
+    };
+    let code = calls::checkpoint(&mut engine);
+    controller.put(engine);
+    code
+}
+
+/// How many cookies of a channel the last checkpoint forgot.
+#[tactic(auto, using(crate::proofs::Tells::told_closed, crate::proofs::Tells::told_open))]
+#[unsafe(no_mangle)]
+pub extern "C" fn dma_forgotten(
+    alloc: Global,
+    controller: &mut Controller,
+    ch: u8,
+    count: &mut u32,
+) -> i32
+    ensures { Told controller.old.engine.value (ask_forgotten ch) result (a_number count.old count.new)
+        controller.new.engine.value }
+{
+    let Some(engine) = controller.take(alloc) else {
+        return NOT_OPEN;
+    };
+    let code = calls::forgotten(&engine, ch, count);
+    controller.put(engine);
+    code
+}
+
+/// The step count.
+#[tactic(auto, using(crate::proofs::Tells::told_closed, crate::proofs::Tells::told_open))]
+#[unsafe(no_mangle)]
+pub extern "C" fn dma_steps(alloc: Global, controller: &mut Controller, steps: &mut u64) -> i32
+    ensures { Told controller.old.engine.value ask_step_count result (a_number steps.old steps.new)
+        controller.new.engine.value }
+{
+    let Some(engine) = controller.take(alloc) else {
+        return NOT_OPEN;
+    };
+    let code = calls::steps(&engine, steps);
+    controller.put(engine);
+    code
+}

@@ -1,0 +1,34 @@
+/* All that a controller can be asked without changing it, and bytes of its memory. */
+#ifndef READINGS_H
+#define READINGS_H
+
+#include "dma.h"
+
+enum { READ_CHANNELS = DMA_MAX_CHANNELS + 1, READ_COOKIES = 6, LOW_BYTES = 0x4000, HIGH_BYTES = 0x40, PIECE = 0x40 };
+
+/* Zeros where a call was refused, and where nothing is. */
+typedef struct readings {
+    int32_t steps_code;
+    uint64_t steps;
+    struct {
+        int32_t codes[3];
+        uint32_t unfinished;
+        uint32_t forgotten;
+        dma_run run;
+        int32_t states[READ_COOKIES];
+        int32_t result_codes[READ_COOKIES];
+        dma_outcome outcomes[READ_COOKIES];
+    } channels[READ_CHANNELS];
+    int32_t piece_codes[(LOW_BYTES + HIGH_BYTES) / PIECE];
+    uint8_t low[LOW_BYTES];   /* the first bytes of the memory */
+    uint8_t high[HIGH_BYTES]; /* the last ones */
+} readings;
+
+/* The readings of a controller whose memory has so many bytes. Of the bytes those are left out that a running transfer
+ * writes. It adds reads to the history, which no reading tells. */
+void take_readings(dma_controller *controller, uint32_t size, readings *out);
+
+/* Whether they are the same; the first that differ are printed. */
+int are_same(const readings *a, const readings *b);
+
+#endif

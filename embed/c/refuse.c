@@ -1,0 +1,190 @@
+/* Each group of rows.txt with its first, second and each further allocation refused, alone and together with all that follow
+ * it, until a run meets none. Where a call is told that memory was wanting, all readings are those of a controller that was
+ * refused nothing and stands before that call, and the same call then answers what the row has. Nothing is leaked.
+ * Link it with -Wl,--wrap=malloc,--wrap=realloc,--wrap=free */
+#include "lines.h"
+#include "readings.h"
+#include "rows.h"
+
+#include <stdio.h>
+#include <stdlib.h>
+#include <string.h>
+
+/* ---- the allocator ---- */
+
+enum mode { ALONE, WITH_ALL_AFTER };
+
+/* What it does with a request: gives; gives, and counts down to the one to be refused; refuses. */
+static enum { GIVES, COUNTS, REFUSES } allocator;
+static enum mode mode;
+static long left;       /* how many requests to give before the one to be refused */
+static int is_refused;  /* whether one was, in this run */
+static int is_untold;   /* whether one was, and no call has told it yet */
+static long live_blocks;
+
+static int refuses(void)
+{
+    int refuses_this = allocator == REFUSES || (allocator == COUNTS && left-- == 0);
+    if (refuses_this) {
+        is_refused = is_untold = 1;
+        allocator = mode == WITH_ALL_AFTER ? REFUSES : GIVES;
+    }
+    return refuses_this;
+}
+
+void *__real_malloc(size_t size);
+void *__real_realloc(void *block, size_t size);
+void __real_free(void *block);
+void *__wrap_malloc(size_t size);
+void *__wrap_realloc(void *block, size_t size);
+void __wrap_free(void *block);
+
+void *__wrap_malloc(size_t size)
+{
+    void *made = refuses() ? NULL : __real_malloc(size);
+    live_blocks += made != NULL;
+    return made;
+}
+
+void *__wrap_realloc(void *block, size_t size)
+{
+    void *made = refuses() ? NULL : __real_realloc(block, size);
+    live_blocks += made != NULL && block == NULL;
+    return made;
+}
+
+void __wrap_free(void *block)
+{
+    live_blocks -= block != NULL;
+    __real_free(block);
+}
+
+/* ---- a group, with one request refused ---- */
+
+static const group *playing;
+static player refused_player, other;
+static int is_owed; /* steps were cut short: their next call has to be refused */
+static long passed, failed, refusals;
+
+static int is_right(int holds, const char *what)
+{
+    if (!holds)
+        printf("WRONG: %s: %s\n", playing->title, what);
+    return holds;
+}
+
+/* Plays the group up to so many calls with nothing refused, then so many steps, and compares. */
+static int is_as_before(const player *p, long calls, const dma_report *steps)
+{
+    static char answer[ANSWER_ROOM];
+    static readings here, there;
+    dma_report report;
+    int n, is_same = 1;
+    make_player(&other);
+    other.stop_at = calls;
+    for (n = 0; n < playing->count && !other.is_stopped; n++)
+        carry_out(&other, playing->rows[n].line, answer);
+    if (steps)
+        is_same = dma_step(&other.controller, p->asked.channel, steps->taken, &report) == DMA_OK &&
+                  memcmp(&report, steps, sizeof report) == 0;
+    take_readings(&refused_player.controller, p->size, &here);
+    take_readings(&other.controller, p->size, &there);
+    is_same = is_same && are_same(&here, &there) && memcmp(p->ram, other.ram, RAM_BYTES) == 0;
+    dma_close(&other.controller);
+    return is_same;
+}
+
+/* A call was refused memory; or, where there is a report, a step of it, and the steps before that stand. */
+static void on_refused(player *p, const dma_report *cut_short)
+{
+    static dma_report steps_before;
+    allocator = GIVES;
+    refusals++;
+    if (!is_right(is_untold, "memory was wanting, though none was refused")) {
+        p->wrongs++;
+        p->refused = NULL; /* else it may be told for ever */
+    }
+    is_untold = 0;
+    if (cut_short)
+        steps_before = *cut_short;
+    if (cut_short && mode == WITH_ALL_AFTER) {
+        /* the next call owes the refusal. What is read before it would make the history's room for it */
+        is_owed = 1;
+        allocator = REFUSES;
+        return;
+    }
+    /* a call that owed its refusal stands behind these steps */
+    if (!is_right(is_as_before(p, p->calls - (is_owed ? 2 : 1), cut_short || is_owed ? &steps_before : NULL),
+                  "a refused call changed something"))
+        p->wrongs++;
+    is_owed = 0;
+}
+
+/* Whether each row answers what it should, though the request of this number is refused. */
+static int plays_well(long number)
+{
+    static char answer[ANSWER_ROOM];
+    int n, is_well = 1;
+    make_player(&refused_player);
+    refused_player.refused = on_refused;
+    is_refused = is_untold = is_owed = 0;
+    left = number;
+    for (n = 0; n < playing->count; n++) {
+        const row *next = &playing->rows[n];
+        allocator = is_refused ? GIVES : COUNTS;
+        carry_out(&refused_player, next->line, answer);
+        allocator = GIVES;
+        if (!is_right(strcmp(answer, next->answer) == 0 && !is_owed, next->line)) {
+            printf("with request %ld refused it answered %s\n", number, answer);
+            is_well = 0;
+        }
+    }
+    dma_close(&refused_player.controller);
+    is_well = is_right(live_blocks == 0, "a block was leaked") && is_well;
+    return is_well && refused_player.wrongs == 0;
+}
+
+static int refuse_each(void)
+{
+    long number = 0;
+    int is_well = 1;
+    do
+        is_well = plays_well(number++) && is_well;
+    while (is_refused && is_well);
+    return is_well;
+}
+
+/* ---- all of them ---- */
+
+/* The calls of dma.h that name NO_MEMORY. */
+static const char *const growing[] = {"open", "write", "read", "submit", "submit_fill", "issue", "terminate", "step", "mark",
+                                      "unmark", "raise", "checkpoint", "run_program", "assemble", "disassemble"};
+
+static void count(int holds)
+{
+    if (holds)
+        passed++;
+    else
+        failed++;
+}
+
+int main(int words_count, char **words)
+{
+    size_t n;
+    const group *groups = read_groups(words_count > 1 ? words[1] : "rows.txt");
+    for (playing = groups; playing->title != NULL; playing++) {
+        mode = ALONE;
+        count(refuse_each());
+        mode = WITH_ALL_AFTER;
+        count(refuse_each());
+    }
+    for (n = 0; n < sizeof growing / sizeof growing[0]; n++) {
+        int has = has_answered(growing[n], "NO_MEMORY");
+        count(has);
+        if (!has)
+            printf("WRONG: %s was never refused memory\n", growing[n]);
+    }
+    printf("%ld calls were refused memory\n", refusals);
+    printf("%ld passed, %ld failed\n", passed, failed);
+    return failed != 0;
+}

@@ -1,0 +1,203 @@
+/* Each row of rows.txt, and that a refused call changes no reading; that every call has then answered every code that the
+ * header names at it; and what no row says: programs cut at each byte, and lengths above 32 bits. */
+#define _DEFAULT_SOURCE
+#include "lines.h"
+#include "readings.h"
+#include "rows.h"
+
+#include <stdio.h>
+#include <string.h>
+#include <sys/mman.h>
+
+static long passed, failed;
+
+static int is_right(int holds)
+{
+    if (holds)
+        passed++;
+    else
+        failed++;
+    return holds;
+}
+
+/* ---- the rows ---- */
+
+static player walker;
+
+/* A row whose call is refused leaves all readings as they were. */
+static void walk_row(const group *of, const row *next)
+{
+    static char answer[ANSWER_ROOM];
+    static readings before, after;
+    long wrongs = walker.wrongs;
+    int is_refused, stays;
+    take_readings(&walker.controller, walker.size, &before);
+    carry_out(&walker, next->line, answer);
+    take_readings(&walker.controller, walker.size, &after);
+    is_refused = strncmp(next->answer, "OK", 2) != 0 && strncmp(next->line, "single", 6) != 0;
+    stays = !is_refused || are_same(&before, &after);
+    if (!is_right(strcmp(answer, next->answer) == 0 && stays && walker.wrongs == wrongs))
+        printf("WRONG: %s: %s: answered %s, and not %s%s\n", of->title, next->line, answer, next->answer,
+               stays ? "" : ", and changed a reading");
+}
+
+static void walk(const group *of)
+{
+    int n;
+    make_player(&walker);
+    for (n = 0; n < of->count; n++)
+        walk_row(of, &of->rows[n]);
+    dma_close(&walker.controller);
+}
+
+/* ---- all codes of all calls ---- */
+
+/* By the comments of dma.h, but for NO_MEMORY, which refuse.c shows, and for two that no program lives to see: COOKIES_SPENT
+ * comes after 2^31 submits, STEPS_SPENT after 2^64 steps. */
+static const struct {
+    const char *call;
+    const char *codes;
+} answers[] = {
+    {"open", "OK ALREADY_OPEN BAD_CHANNELS SIZE_OUT_OF_RANGE"},
+    {"close", "OK"},
+    {"write", "OK NOT_OPEN OUT_OF_MEMORY_RANGE BUSY"},
+    {"read", "OK NOT_OPEN OUT_OF_MEMORY_RANGE BUSY"},
+    {"submit", "OK NOT_OPEN EMPTY_LIST TOO_MANY_SEGMENTS EMPTY_SEGMENT SEGMENT_WRAPS TOTALS_DIFFER TOO_LONG "
+               "DESTINATIONS_MEET SOURCE_MEETS_DESTINATION BAD_EVENT NO_CHANNEL OUT_OF_MEMORY_RANGE"},
+    {"submit_fill", "OK NOT_OPEN EMPTY_LIST TOO_MANY_SEGMENTS EMPTY_SEGMENT SEGMENT_WRAPS TOO_LONG DESTINATIONS_MEET "
+                    "SOURCE_MEETS_DESTINATION BAD_EVENT NO_CHANNEL OUT_OF_MEMORY_RANGE"},
+    {"issue", "OK NOT_OPEN NO_CHANNEL"},
+    {"pause", "OK NOT_OPEN NO_CHANNEL"},
+    {"resume", "OK NOT_OPEN NO_CHANNEL"},
+    {"terminate", "OK NOT_OPEN NO_CHANNEL"},
+    {"step", "OK NOT_OPEN NO_CHANNEL"},
+    {"status", "OK NOT_OPEN"},
+    {"result", "OK NOT_OPEN NO_RESULT"},
+    {"running", "OK NOT_OPEN NOT_RUNNING"},
+    {"unfinished", "OK NOT_OPEN"},
+    {"forgotten", "OK NOT_OPEN"},
+    {"steps", "OK NOT_OPEN"},
+    {"mark", "OK NOT_OPEN BAD_KIND BAD_RANGE"},
+    {"unmark", "OK NOT_OPEN"},
+    {"raise", "OK NOT_OPEN BAD_EVENT"},
+    {"checkpoint", "OK NOT_OPEN RUNNING"},
+    {"version", "OK BUFFER_TOO_SMALL"},
+    {"run_program", "OK SIZE_OUT_OF_RANGE PROGRAM_TOO_LONG"},
+    {"assemble", "OK BAD_MNEMONIC BAD_OPERAND NUMBER_OUT_OF_RANGE PROGRAM_TOO_LONG BUFFER_TOO_SMALL"},
+    {"disassemble", "OK CUT_INSTRUCTION UNKNOWN_INSTRUCTION BAD_FIELD BUFFER_TOO_SMALL"},
+};
+
+/* Whether a code is one of the words. */
+static int has_word(const char *words, const char *code)
+{
+    size_t len = strlen(code);
+    const char *at = words;
+    while ((at = strstr(at, code)) != NULL) {
+        if ((at == words || at[-1] == ' ') && (at[len] == ' ' || at[len] == '\0'))
+            return 1;
+        at += len;
+    }
+    return 0;
+}
+
+static void compare_codes(const char *call, const char *codes)
+{
+    const named *code;
+    for (code = all_codes; code->name != NULL; code++) {
+        int may = has_word(codes, code->name);
+        int has = has_answered(call, code->name);
+        if ((may || has) && !is_right(may == has))
+            printf("WRONG: %s %s %s\n", call, has ? "answered" : "never answered", code->name);
+    }
+}
+
+static void compare_all_codes(void)
+{
+    size_t n;
+    for (n = 0; n < sizeof answers / sizeof answers[0]; n++)
+        compare_codes(answers[n].call, answers[n].codes);
+}
+
+/* ---- a program cut at each byte ---- */
+
+/* The program of 300 bytes from 0x1000 to 0x2000. */
+static const uint8_t copy_of_300[47] = {
+    0xBC, 0x00, 0x00, 0x10, 0x00, 0x00, 0xBC, 0x02, 0x00, 0x20, 0x00, 0x00, 0xBC, 0x01, 0xF9, 0x40,
+    0x3E, 0x00, 0x22, 0x00, 0x04, 0x12, 0x08, 0x13, 0x3C, 0x04, 0xBC, 0x01, 0x19, 0x40, 0x06, 0x00,
+    0x04, 0x12, 0x08, 0x13, 0xBC, 0x01, 0xB1, 0x40, 0x2C, 0x00, 0x04, 0x12, 0x08, 0x13, 0x00
+};
+
+/* Where its instructions begin. */
+static const uint32_t offsets[] = {0, 6, 12, 18, 20, 21, 22, 23, 24, 26, 32, 33, 34, 35, 36, 42, 43, 44, 45, 46};
+
+static uint32_t last_offset(size_t cut)
+{
+    size_t n = sizeof offsets / sizeof offsets[0];
+    while (offsets[--n] > cut)
+        ;
+    return offsets[n];
+}
+
+/* Cut, it ends where the next instruction isn't whole. */
+static void run_cut_programs(void)
+{
+    static uint8_t memory[0x4000];
+    dma_run_end end;
+    size_t cut;
+    for (cut = 0; cut < sizeof copy_of_300; cut++) {
+        int32_t code = dma_run_program(copy_of_300, cut, memory, sizeof memory, 1000, &end);
+        if (!is_right(code == DMA_OK && end.end == DMA_END_FAULT && end.fault == DMA_INSTR_FETCH_ERR &&
+                      end.pc == last_offset(cut)))
+            printf("WRONG: a program cut at %lu bytes: %s, offset %lu\n", (unsigned long)cut, code_name(code),
+                   (unsigned long)end.pc);
+    }
+}
+
+static void run_whole_program(void)
+{
+    static uint8_t memory[0x4000], wanted[0x4000];
+    dma_run_end end;
+    int n;
+    for (n = 0; n < 300; n++)
+        memory[0x1000 + n] = wanted[0x1000 + n] = wanted[0x2000 + n] = (uint8_t)(n % 251);
+    if (!is_right(dma_run_program(copy_of_300, sizeof copy_of_300, memory, sizeof memory, 1000, &end) == DMA_OK &&
+                  end.end == DMA_END_ENDED && end.turns == 20 && memcmp(memory, wanted, sizeof memory) == 0))
+        printf("WRONG: the program of 300 bytes\n");
+}
+
+/* ---- lengths above 32 bits, whose low halves would be taken ---- */
+
+static void ask_with_long_lengths(void)
+{
+    const size_t len = ((size_t)1 << 32) + 8;
+    const uint8_t end_of_program = 0;
+    dma_controller controller = DMA_CONTROLLER_INIT;
+    dma_run_end end;
+    uint8_t *bytes = mmap(NULL, len, PROT_READ | PROT_WRITE, MAP_PRIVATE | MAP_ANONYMOUS | MAP_NORESERVE, -1, 0);
+    if (bytes == MAP_FAILED || dma_open(&controller, 64, 1) != DMA_OK) {
+        printf("lengths above 32 bits are left out: there is no room for them\n");
+        return;
+    }
+    bytes[0] = 7;
+    if (!is_right(dma_read(&controller, 0, bytes, len) == DMA_OUT_OF_MEMORY_RANGE && bytes[0] == 7))
+        printf("WRONG: a read of more than 4 GiB\n");
+    if (!is_right(dma_write(&controller, 0, bytes, len) == DMA_OUT_OF_MEMORY_RANGE))
+        printf("WRONG: a write of more than 4 GiB\n");
+    if (!is_right(dma_run_program(&end_of_program, 1, bytes, len, 10, &end) == DMA_SIZE_OUT_OF_RANGE))
+        printf("WRONG: a program over more than 4 GiB\n");
+    dma_close(&controller);
+    munmap(bytes, len);
+}
+
+int main(int count, char **words)
+{
+    const group *next = read_groups(count > 1 ? words[1] : "rows.txt");
+    for (; next->title != NULL; next++)
+        walk(next);
+    compare_all_codes();
+    run_cut_programs();
+    run_whole_program();
+    ask_with_long_lengths();
+    printf("%ld passed, %ld failed\n", passed, failed);
+    return failed != 0;
+}

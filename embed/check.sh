@@ -1,0 +1,170 @@
+#!/bin/sh
+# Builds and runs the tests of the library for C and Rust, and adds up what they tell. `make check` calls it with the
+# compilers (CC, CXX, CARGO) and the archives (LIB, HEAP). A part whose compiler is missing is left out, and told to be.
+set -u
+cd "$(dirname "$0")" || exit 2
+out=out/check
+rm -rf "$out"
+mkdir -p "$out"
+passed=0
+failed=0
+
+# has COMMAND: whether its first word can be run
+has() {
+    command -v "${1%% *}" >/dev/null 2>&1
+}
+
+# add NAME PASSED FAILED: adds checks up; where one failed it shows what the run told
+add() {
+    passed=$((passed + $2))
+    failed=$((failed + $3))
+    echo "$1: $2 passed, $3 failed"
+    [ "$3" -eq 0 ] || tail -n 60 "$out/log" | sed 's/^/    /'
+}
+
+# try NAME COMMAND..: one check, which passes where the command does
+try() {
+    name=$1
+    shift
+    if "$@" >"$out/log" 2>&1; then
+        add "$name" 1 0
+    else
+        add "$name" 0 1
+    fi
+}
+
+# make_it NAME COMMAND..: builds what later checks run; no check, but a failure where it fails
+make_it() {
+    name=$1
+    shift
+    "$@" >"$out/log" 2>&1 && return 0
+    add "$name: built" 0 1
+    return 1
+}
+
+# count NAME SCRIPT COMMAND..: a run that counts its checks itself, as the awk script tells; none, or a status that doesn't
+# fit, is a failure more
+count() {
+    name=$1
+    script=$2
+    shift 2
+    "$@" >"$out/log" 2>&1
+    status=$?
+    set -- $(awk "$script" "$out/log")
+    if [ "$1" -eq 0 ] || { [ "$status" -ne 0 ] && [ "$2" -eq 0 ]; }; then
+        echo "ended with status $status" >>"$out/log"
+        set -- "$1" $(($2 + 1))
+    fi
+    add "$name" "$1" "$2"
+}
+
+last_line='/^[0-9]+ passed, [0-9]+ failed$/ {p = $1; f = $3} END {print p + 0, f + 0}'
+cargo_lines='/^test result: / {p += $4; f += $6} END {print p + 0, f + 0}'
+
+# ---- C ----
+
+# header COMPILER FLAG..: whether the header alone is taken without a warning
+header() {
+    printf '#include "dma.h"\n' | "$@" -pedantic-errors -Wall -Wextra -Werror -fsyntax-only -Ic -
+}
+
+# names: whether the library exports the names that the header declares
+names() {
+    nm -g --defined-only "$LIB" | awk '$2 == "T" && $3 ~ /^dma_/ {print $3}' | sort >"$out/exported"
+    sed -n 's/^[a-z0-9_]* \(dma_[a-z_]*\)(.*/\1/p' c/dma.h | sort >"$out/declared"
+    diff "$out/exported" "$out/declared"
+}
+
+# example COMMAND..: whether it prints what the example is to print
+example() {
+    "$@" >"$out/printed" && diff "$out/printed" c/example.txt
+}
+
+# readme: whether the lines of C that the README has copy what they say
+readme() {
+    {
+        printf '#include "dma.h"\n#include <string.h>\nint main(void)\n{\n    uint8_t out[5];\n'
+        awk '/^## / {here = $0 == "## Link it into an emulator"} here && /^    / && !/make -C/' ../README.md
+        printf '    return dma_read(&dma, 0x1F, out, 5) != DMA_OK || memcmp(out, "\\0abc", 5) != 0;\n}\n'
+    } >"$out/readme.c"
+    $CC -std=c99 -Wall -Wextra -Werror -Ic -o "$out/readme" "$out/readme.c" "$LIB" "$HEAP" && "$out/readme"
+}
+
+# in_c SET COMPILER FLAG..: builds the programs with these flags, and runs them
+in_c() {
+    set=$1
+    shift
+    to=$out/$set
+    mkdir "$to"
+    rows="c/lines.c c/rows.c c/readings.c"
+    make_it "$set abi.c" "$@" -o "$to/abi" c/abi.c "$LIB" "$HEAP" && try "$set abi.c" "$to/abi"
+    make_it "$set example.c" "$@" -o "$to/example" c/example.c "$LIB" "$HEAP" && try "$set example.c" example "$to/example"
+    make_it "$set walk.c" "$@" -o "$to/walk" c/walk.c $rows "$LIB" "$HEAP" &&
+        count "$set walk.c" "$last_line" "$to/walk" rows.txt
+    wrap=-Wl,--wrap=malloc,--wrap=realloc,--wrap=free
+    make_it "$set refuse.c" "$@" $wrap -o "$to/refuse" c/refuse.c $rows "$LIB" "$HEAP" &&
+        count "$set refuse.c" "$last_line" "$to/refuse" rows.txt
+}
+
+# with_sanitizers: the same under them, where the compiler has them and what it makes can run here
+with_sanitizers() {
+    sanitizers="-fsanitize=address,undefined -fno-sanitize-recover=all -fno-omit-frame-pointer"
+    printf 'int main(void)\n{\n    return 0;\n}\n' >"$out/probe.c"
+    if $CC $sanitizers -o "$out/probe" "$out/probe.c" >/dev/null 2>&1 && "$out/probe" >/dev/null 2>&1; then
+        in_c sanitized $CC $c_flags $sanitizers
+    else
+        echo "$CC has no address and undefined-behaviour sanitizers: the tests under them are left out"
+    fi
+}
+
+in_cxx() {
+    for standard in c++98 c++17; do
+        try "dma.h in $standard" header $CXX -x c++ -std=$standard
+    done
+    make_it "example.c in C++" $CXX -x c++ -O2 -Wall -Wextra -Ic -o "$out/example_cxx" c/example.c -x none "$LIB" "$HEAP" &&
+        try "example.c in C++" example "$out/example_cxx"
+}
+
+c_flags="-std=c99 -O2 -g -Wall -Wextra -Ic"
+if has "$CC"; then
+    for standard in c89 c99 c11; do
+        try "dma.h in $standard" header $CC -x c -std=$standard
+    done
+    c89="-std=c89 -pedantic-errors -Wall -Wextra -Ic"
+    make_it "example.c in C89" $CC $c89 -o "$out/example_89" c/example.c "$LIB" "$HEAP" &&
+        try "example.c in C89" example "$out/example_89"
+    if has nm; then
+        try "names of the library" names
+    else
+        echo "there is no nm: the names that the library exports are not compared"
+    fi
+    try "README.md" readme
+    in_c plain $CC $c_flags
+    with_sanitizers
+    if has "$CXX"; then
+        in_cxx
+    else
+        echo "there is no C++ compiler $CXX: the header isn't tried in C++"
+    fi
+else
+    echo "there is no C compiler $CC: the tests in C are left out"
+fi
+
+# ---- Rust ----
+
+cargo_in() {
+    (cd rust && DMA_FFI_LIB="$LIB" DMA_FFI_HEAP="$HEAP" $CARGO "$@")
+}
+
+if ! has "$CARGO"; then
+    echo "there is no $CARGO: the tests in Rust are left out"
+elif ! has cc; then
+    echo "there is no cc, by which Rust links: the tests in Rust are left out"
+else
+    count "Rust tests" "$cargo_lines" cargo_in test --offline --quiet --no-fail-fast
+    try "Rust example emulator" example cargo_in run --offline --quiet --example emulator
+    try "Rust example threads" cargo_in run --offline --quiet --example threads
+fi
+
+echo "$passed passed, $failed failed"
+[ "$failed" -eq 0 ]

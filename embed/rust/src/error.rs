@@ -1,0 +1,217 @@
+//! Why a call was refused.
+
+use std::error;
+use std::fmt;
+
+/// Why a call was refused: the first cause that applies of those that the call names. A refused call changes nothing.
+#[derive(Clone, Copy, Debug, PartialEq, Eq, Hash)]
+#[non_exhaustive]
+pub enum Error {
+    /// The allocator had no memory.
+    NoMemory,
+    /// An event is above 31.
+    BadEvent,
+    /// A range or a segment ends above the memory's size.
+    OutOfMemoryRange,
+    /// A running transfer is in the way.
+    Busy,
+    /// The channel's number isn't below the number of channels.
+    NoChannel,
+    /// The channel has given its last cookie, 2147483647.
+    CookiesSpent,
+    /// An instruction is due, and the step count is at its end.
+    StepsSpent,
+    /// A range to be marked is empty, or ends above the last address.
+    BadRange,
+    /// A checkpoint was asked for while a transfer runs.
+    Running,
+    /// The number of channels isn't 1 to 8.
+    BadChannels,
+    /// The size of a memory isn't 1 to 4294963200 bytes.
+    SizeOutOfRange,
+    /// A list has no segment.
+    EmptyList,
+    /// A list has more than 64 segments.
+    TooManySegments,
+    /// A segment has length 0.
+    EmptySegment,
+    /// A segment ends above the last address.
+    SegmentWraps,
+    /// The lists have different numbers of bytes.
+    TotalsDiffer,
+    /// A list has more than 1048576 bytes.
+    TooLong,
+    /// Two destination segments share an address.
+    DestinationsMeet,
+    /// A source and a destination segment share an address.
+    SourceMeetsDestination,
+    /// A program has more than 8192 bytes.
+    ProgramTooLong,
+    /// A line of assembly text has a fault.
+    Assembly {
+        /// Its number, from 1.
+        line: usize,
+        /// Its fault.
+        fault: AssemblyFault,
+    },
+    /// At some byte of a program no instruction begins.
+    Disassembly {
+        /// The byte's offset.
+        offset: usize,
+        /// Why none begins there.
+        fault: DisassemblyFault,
+    },
+}
+
+/// What is wrong with a line of assembly text.
+#[derive(Clone, Copy, Debug, PartialEq, Eq, Hash)]
+pub enum AssemblyFault {
+    /// No instruction has this name.
+    BadMnemonic,
+    /// An operand is missing, of a wrong form, or one too many.
+    BadOperand,
+    /// A number is outside its range.
+    NumberOutOfRange,
+    /// With this line the program would pass 8192 bytes.
+    ProgramTooLong,
+}
+
+/// Why no instruction begins at a byte.
+#[derive(Clone, Copy, Debug, PartialEq, Eq, Hash)]
+pub enum DisassemblyFault {
+    /// The bytes end within an instruction.
+    CutInstruction,
+    /// No instruction begins with this byte.
+    UnknownInstruction,
+    /// A field is outside its range.
+    BadField,
+}
+
+const PROGRAM_TOO_LONG: i32 = -40;
+
+// The numbers of dma.h.
+const CODES: [(i32, Error); 20] = [
+    (-3, Error::NoMemory),
+    (-4, Error::BadEvent),
+    (-10, Error::OutOfMemoryRange),
+    (-11, Error::Busy),
+    (-12, Error::NoChannel),
+    (-13, Error::CookiesSpent),
+    (-14, Error::StepsSpent),
+    (-15, Error::BadRange),
+    (-16, Error::Running),
+    (-20, Error::BadChannels),
+    (-21, Error::SizeOutOfRange),
+    (-30, Error::EmptyList),
+    (-31, Error::TooManySegments),
+    (-32, Error::EmptySegment),
+    (-33, Error::SegmentWraps),
+    (-34, Error::TotalsDiffer),
+    (-35, Error::TooLong),
+    (-36, Error::DestinationsMeet),
+    (-37, Error::SourceMeetsDestination),
+    (PROGRAM_TOO_LONG, Error::ProgramTooLong),
+];
+
+const ASSEMBLY_CODES: [(i32, AssemblyFault); 4] = [
+    (-50, AssemblyFault::BadMnemonic),
+    (-51, AssemblyFault::BadOperand),
+    (-52, AssemblyFault::NumberOutOfRange),
+    (PROGRAM_TOO_LONG, AssemblyFault::ProgramTooLong),
+];
+
+const DISASSEMBLY_CODES: [(i32, DisassemblyFault); 3] = [
+    (-60, DisassemblyFault::CutInstruction),
+    (-61, DisassemblyFault::UnknownInstruction),
+    (-62, DisassemblyFault::BadField),
+];
+
+fn found<T: Copy>(codes: &[(i32, T)], code: i32) -> Option<T> {
+    codes.iter().find(|(number, _)| *number == code).map(|(_, value)| *value)
+}
+
+fn number_of<T: PartialEq>(codes: &[(i32, T)], value: &T) -> i32 {
+    codes.iter().find(|(_, known)| known == value).map_or(0, |(number, _)| *number)
+}
+
+impl Error {
+    /// The error of a code that names no place.
+    pub(crate) fn of(code: i32) -> Error {
+        found(&CODES, code).unwrap_or_else(|| unreachable!("the library answered the code {code}"))
+    }
+
+    /// The error of a code of `dma_assemble`.
+    pub(crate) fn of_line(code: i32, line: usize) -> Error {
+        found(&ASSEMBLY_CODES, code).map_or_else(|| Error::of(code), |fault| Error::Assembly { line, fault })
+    }
+
+    /// The error of a code of `dma_disassemble`.
+    pub(crate) fn of_offset(code: i32, offset: usize) -> Error {
+        found(&DISASSEMBLY_CODES, code).map_or_else(|| Error::of(code), |fault| Error::Disassembly { offset, fault })
+    }
+
+    /// Its number in `dma.h`.
+    ///
+    /// ```
+    /// assert_eq!(dma::Error::NoChannel.code(), -12);
+    /// ```
+    pub fn code(self) -> i32 {
+        match self {
+            Error::Assembly { fault, .. } => number_of(&ASSEMBLY_CODES, &fault),
+            Error::Disassembly { fault, .. } => number_of(&DISASSEMBLY_CODES, &fault),
+            plain => number_of(&CODES, &plain),
+        }
+    }
+}
+
+impl fmt::Display for AssemblyFault {
+    fn fmt(&self, f: &mut fmt::Formatter<'_>) -> fmt::Result {
+        f.write_str(match self {
+            AssemblyFault::BadMnemonic => "no instruction has this name",
+            AssemblyFault::BadOperand => "an operand is missing, of a wrong form, or one too many",
+            AssemblyFault::NumberOutOfRange => "a number is outside its range",
+            AssemblyFault::ProgramTooLong => "the program is longer than 8192 bytes",
+        })
+    }
+}
+
+impl fmt::Display for DisassemblyFault {
+    fn fmt(&self, f: &mut fmt::Formatter<'_>) -> fmt::Result {
+        f.write_str(match self {
+            DisassemblyFault::CutInstruction => "the bytes end within an instruction",
+            DisassemblyFault::UnknownInstruction => "no instruction begins with this byte",
+            DisassemblyFault::BadField => "a field is outside its range",
+        })
+    }
+}
+
+impl fmt::Display for Error {
+    fn fmt(&self, f: &mut fmt::Formatter<'_>) -> fmt::Result {
+        f.write_str(match self {
+            Error::NoMemory => "out of memory",
+            Error::BadEvent => "an event is above 31",
+            Error::OutOfMemoryRange => "a range ends above the memory's size",
+            Error::Busy => "a running transfer is in the way",
+            Error::NoChannel => "there is no such channel",
+            Error::CookiesSpent => "the channel has given its last cookie",
+            Error::StepsSpent => "the step count is at its end",
+            Error::BadRange => "the range is empty or ends above the last address",
+            Error::Running => "a transfer is running",
+            Error::BadChannels => "the number of channels is not 1 to 8",
+            Error::SizeOutOfRange => "the size is not 1 to 4294963200 bytes",
+            Error::EmptyList => "a list has no segment",
+            Error::TooManySegments => "a list has more than 64 segments",
+            Error::EmptySegment => "a segment has length 0",
+            Error::SegmentWraps => "a segment ends above the last address",
+            Error::TotalsDiffer => "the lists have different numbers of bytes",
+            Error::TooLong => "a list has more than 1048576 bytes",
+            Error::DestinationsMeet => "two destination segments share an address",
+            Error::SourceMeetsDestination => "a source and a destination segment share an address",
+            Error::ProgramTooLong => "the program has more than 8192 bytes",
+            Error::Assembly { line, fault } => return write!(f, "line {line}: {fault}"),
+            Error::Disassembly { offset, fault } => return write!(f, "offset {offset}: {fault}"),
+        })
+    }
+}
+
+impl error::Error for Error {}

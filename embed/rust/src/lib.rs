@@ -1,0 +1,534 @@
+//! A verified software DMA controller (ARM DMA-330, memory to memory), for board emulators and for tests of DMA drivers.
+//!
+//! A client gives scatter-gather copies and fills to channels by the calls of Linux's dmaengine (submit, issue, status,
+//! pause, resume, terminate), and the channels run real PL330 programs, a step at a time and in any interleaving.
+//!
+//! ```
+//! use dma::{Controller, Events, Segment, Status};
+//!
+//! let mut controller = Controller::open(64, 1)?;
+//! controller.write(0x10, &[0xAA, 0xBB, 0xCC])?;
+//! let cookie = controller.submit(0, &[Segment::new(0x10, 3)], &[Segment::new(0x20, 3)], Events::default())?;
+//! controller.issue(0)?;
+//! while controller.status(0, cookie) == Status::InProgress {
+//!     controller.step(0, 4)?;
+//! }
+//! let mut out = [0; 5];
+//! controller.read(0x1F, &mut out)?;
+//! assert_eq!(out, [0x00, 0xAA, 0xBB, 0xCC, 0x00]);
+//! # Ok::<(), dma::Error>(())
+//! ```
+//!
+//! The library behind it is proved; what is not are the declarations in `sys`, which a test compares with the library's, and
+//! this crate's own lines. `docs/EMBEDDING.md` of the repository has more on memory, threads and marks.
+
+#![deny(missing_docs, unsafe_code)]
+
+mod error;
+#[allow(missing_docs, unsafe_code)]
+mod sys;
+
+pub use error::{AssemblyFault, DisassemblyFault, Error};
+
+use std::fmt;
+
+/// The addresses from `addr` up to, and not including, `addr + len`.
+#[repr(C)]
+#[derive(Clone, Copy, Debug, PartialEq, Eq, Hash)]
+pub struct Segment {
+    /// The first address.
+    pub addr: u32,
+    /// How many addresses there are.
+    pub len: u32,
+}
+
+impl Segment {
+    /// So many addresses from this one on.
+    pub const fn new(addr: u32, len: u32) -> Segment {
+        Segment { addr, len }
+    }
+}
+
+/// What a transfer waits for before it begins, and what it signals when all its bytes are stored: an event, 0 to 31, or
+/// none.
+#[derive(Clone, Copy, Debug, Default, PartialEq, Eq, Hash)]
+pub struct Events {
+    /// Its flag is waited for, and cleared.
+    pub wait: Option<u8>,
+    /// Its flag is set.
+    pub signal: Option<u8>,
+}
+
+/// How a transfer finished.
+#[derive(Clone, Copy, Debug, PartialEq, Eq, Hash)]
+pub enum TransferResult {
+    /// All its bytes are stored.
+    NoError,
+    /// A burst met a mark of reading.
+    ReadFailed,
+    /// A burst met a mark of writing.
+    WriteFailed,
+    /// It was terminated.
+    Aborted,
+}
+
+/// A result, and how many bytes of the transfer were not stored.
+#[derive(Clone, Copy, Debug, PartialEq, Eq, Hash)]
+pub struct Outcome {
+    /// How it finished.
+    pub result: TransferResult,
+    /// How many of its bytes were not stored.
+    pub residue: u32,
+}
+
+/// What one step of a channel did.
+#[derive(Clone, Copy, Debug, PartialEq, Eq, Hash)]
+pub enum Turn {
+    /// The channel's next transfer, of this cookie, runs from now on.
+    Started {
+        /// Its cookie.
+        cookie: u32,
+    },
+    /// One instruction was executed.
+    Moved,
+    /// No transfer is issued and unfinished.
+    Nothing,
+    /// The next transfer can't start: a running one is in its way.
+    Held {
+        /// The channel of the one in the way.
+        channel: u8,
+        /// Its cookie.
+        cookie: u32,
+    },
+    /// The transfer waits for an event whose flag is clear.
+    Waiting {
+        /// The event.
+        event: u8,
+    },
+    /// The channel is paused, until it is resumed or terminated.
+    Paused,
+    /// A failed transfer has halted the channel, until it is terminated.
+    Halted,
+    /// The transfer finished.
+    Finished {
+        /// Its cookie.
+        cookie: u32,
+        /// How.
+        outcome: Outcome,
+    },
+}
+
+/// What some steps of a channel did.
+#[derive(Clone, Copy, Debug, PartialEq, Eq, Hash)]
+pub struct Steps {
+    /// How many were taken, the last one too.
+    pub taken: u32,
+    /// What the last one did; none where no step was asked for.
+    pub last: Option<Turn>,
+}
+
+/// How far a cookie is; one that failed or was aborted is complete.
+#[derive(Clone, Copy, Debug, PartialEq, Eq, Hash)]
+pub enum Status {
+    /// It was never given.
+    Unknown,
+    /// It was given, and hasn't finished.
+    InProgress,
+    /// It has finished.
+    Complete,
+}
+
+/// What runs on a channel.
+#[derive(Clone, Copy, Debug, PartialEq, Eq, Hash)]
+pub struct Running {
+    /// Its cookie.
+    pub cookie: u32,
+    /// How many of its bytes are stored so far.
+    pub stored: u32,
+}
+
+/// Which bursts a mark stops.
+#[derive(Clone, Copy, Debug, PartialEq, Eq, Hash)]
+pub enum MarkKind {
+    /// Those that read the range.
+    Reading,
+    /// Those that write it.
+    Writing,
+}
+
+/// The manual's faults of a channel.
+#[derive(Clone, Copy, Debug, PartialEq, Eq, Hash)]
+#[allow(missing_docs)]
+pub enum Fault {
+    UndefInstr,
+    OperandInvalid,
+    MfifoErr,
+    StDataUnavailable,
+    InstrFetchErr,
+    DataWriteErr,
+    DataReadErr,
+}
+
+/// How a program that was run alone ended.
+#[derive(Clone, Copy, Debug, PartialEq, Eq, Hash)]
+pub enum RunEnd {
+    /// By DMAEND.
+    Ended {
+        /// How many instructions were executed, DMAEND too.
+        turns: u32,
+    },
+    /// As many instructions as the limit were executed, and none was DMAEND.
+    OutOfTurns,
+    /// At a wait for an event, as all flags are clear.
+    Waiting {
+        /// The event.
+        event: u8,
+    },
+    /// At a fault.
+    Fault {
+        /// Which.
+        fault: Fault,
+        /// The offset of the instruction.
+        pc: u32,
+    },
+}
+
+// What a number of the library stands for. It has no other.
+fn named<T: Copy>(names: &[T], number: u32) -> T {
+    *names.get(number as usize).unwrap_or_else(|| unreachable!("the library told the number {number}"))
+}
+
+// A channel or an event, which the library tells with 32 bits.
+fn small(number: u32) -> u8 {
+    u8::try_from(number).unwrap_or_else(|_| unreachable!("the library told the number {number}"))
+}
+
+fn event(event: Option<u8>) -> i32 {
+    event.map_or(-1, i32::from)
+}
+
+fn outcome_of(result: u32, residue: u32) -> Outcome {
+    use TransferResult::{Aborted, NoError, ReadFailed, WriteFailed};
+    Outcome { result: named(&[NoError, ReadFailed, WriteFailed, Aborted], result), residue }
+}
+
+fn turn_of(report: &sys::RawReport) -> Option<Turn> {
+    let cookie = report.cookie;
+    let turns = [
+        None,
+        Some(Turn::Started { cookie }),
+        Some(Turn::Moved),
+        Some(Turn::Nothing),
+        Some(Turn::Held { channel: small(report.channel), cookie }),
+        Some(Turn::Waiting { event: small(report.event) }),
+        Some(Turn::Paused),
+        Some(Turn::Halted),
+        Some(Turn::Finished { cookie, outcome: outcome_of(report.result, report.residue) }),
+    ];
+    named(&turns, report.turn)
+}
+
+/// A controller over a memory of its own. It is closed when it is dropped.
+///
+/// It is neither `Send` nor `Sync`: the library's handle has a raw pointer, and that it may go to another thread is not
+/// proved of it. So a controller has a thread, to which others send their requests (`examples/threads.rs`).
+///
+/// ```compile_fail
+/// fn goes_to_another_thread<T: Send>() {}
+/// goes_to_another_thread::<dma::Controller>();
+/// ```
+///
+/// ```compile_fail
+/// fn is_shared<T: Sync>() {}
+/// is_shared::<dma::Controller>();
+/// ```
+pub struct Controller {
+    handle: sys::Handle,
+}
+
+impl Controller {
+    /// A controller over a memory of so many zeros, with so many channels, 1 to 8.
+    ///
+    /// The error is the first that holds of `BadChannels`, `SizeOutOfRange` and `NoMemory`.
+    ///
+    /// ```
+    /// use dma::{Controller, Error};
+    /// assert!(Controller::open(0x1000, 8).is_ok());
+    /// assert_eq!(Controller::open(0, 9).err(), Some(Error::BadChannels));
+    /// ```
+    pub fn open(size: u32, channels: u8) -> Result<Controller, Error> {
+        Ok(Controller { handle: sys::Handle::open(size, channels)? })
+    }
+
+    /// Writes bytes into the memory from an address on.
+    ///
+    /// The error is the first that holds of `OutOfMemoryRange`, `Busy` where a running transfer reads or writes one of the
+    /// addresses, and `NoMemory`.
+    pub fn write(&mut self, addr: u32, bytes: &[u8]) -> Result<(), Error> {
+        self.handle.write(addr, bytes)
+    }
+
+    /// Reads as many bytes as there is room from an address on.
+    ///
+    /// The error is the first that holds of `OutOfMemoryRange`, `Busy` where a running transfer writes one of the addresses,
+    /// and `NoMemory`; then no byte of `out` is changed.
+    pub fn read(&mut self, addr: u32, out: &mut [u8]) -> Result<(), Error> {
+        self.handle.read(addr, out)
+    }
+
+    /// Gives a channel a copy of the source list's bytes to the places of the destination list, and answers its cookie, 1
+    /// for the first of the channel. It starts nothing.
+    ///
+    /// The error is the first that holds of `EmptyList`, `TooManySegments`, `EmptySegment`, `SegmentWraps`, `TotalsDiffer`,
+    /// `TooLong`, `DestinationsMeet`, `SourceMeetsDestination`, `BadEvent`, each tested over both lists, `NoChannel`,
+    /// `OutOfMemoryRange` and `CookiesSpent`; or it is `NoMemory`.
+    ///
+    /// ```
+    /// use dma::{Controller, Error, Events, Segment};
+    /// let mut controller = Controller::open(0x1000, 1)?;
+    /// let from = [Segment::new(0x100, 2), Segment::new(0x180, 2)];
+    /// assert_eq!(controller.submit(0, &from, &[Segment::new(0x200, 4)], Events::default()), Ok(1));
+    /// let over_it = [Segment::new(0x181, 4)];
+    /// assert_eq!(controller.submit(0, &from, &over_it, Events::default()), Err(Error::SourceMeetsDestination));
+    /// # Ok::<(), Error>(())
+    /// ```
+    pub fn submit(&mut self, channel: u8, src: &[Segment], dst: &[Segment], events: Events) -> Result<u32, Error> {
+        self.handle.submit(channel, src, dst, event(events.wait), event(events.signal))
+    }
+
+    /// Gives a channel a fill: the byte at address `src` is copied to every place of the destination list. Else it is as
+    /// [`Controller::submit`], without `TotalsDiffer`.
+    pub fn submit_fill(&mut self, channel: u8, src: u32, dst: &[Segment], events: Events) -> Result<u32, Error> {
+        self.handle.submit_fill(channel, src, dst, event(events.wait), event(events.signal))
+    }
+
+    /// Issues all that was submitted to a channel, so that it may start, and answers how many became so.
+    ///
+    /// The error is `NoChannel` or `NoMemory`.
+    pub fn issue(&mut self, channel: u8) -> Result<u32, Error> {
+        self.handle.issue(channel)
+    }
+
+    /// Holds the steps of a channel; one that is paused stays so.
+    ///
+    /// The error is `NoChannel`.
+    pub fn pause(&mut self, channel: u8) -> Result<(), Error> {
+        self.handle.pause(channel)
+    }
+
+    /// Lets the steps of a paused channel go on.
+    ///
+    /// The error is `NoChannel`.
+    pub fn resume(&mut self, channel: u8) -> Result<(), Error> {
+        self.handle.resume(channel)
+    }
+
+    /// Aborts all that is unfinished on a channel, and answers how many were. What is stored stays stored; a pause and a
+    /// halt of the channel end.
+    ///
+    /// The error is `NoChannel` or `NoMemory`.
+    pub fn terminate(&mut self, channel: u8) -> Result<u32, Error> {
+        self.handle.terminate(channel)
+    }
+
+    /// Steps a channel until `most` steps were taken, or one neither starts nor moves.
+    ///
+    /// The error is that of the first step: `NoChannel`, `StepsSpent` or `NoMemory`. Where a later step is refused, those
+    /// before it stand and are told, and the next call answers the error.
+    ///
+    /// ```
+    /// use dma::{Controller, Events, Outcome, Segment, Steps, TransferResult, Turn};
+    /// let mut controller = Controller::open(0x3000, 1)?;
+    /// let cookie = controller.submit(0, &[Segment::new(0x1000, 4)], &[Segment::new(0x2000, 4)], Events::default())?;
+    /// assert_eq!(controller.step(0, 9)?, Steps { taken: 1, last: Some(Turn::Nothing) });
+    /// controller.issue(0)?;
+    /// // a start, and some of the eight instructions of its program
+    /// assert_eq!(controller.step(0, 3)?, Steps { taken: 3, last: Some(Turn::Moved) });
+    /// let outcome = Outcome { result: TransferResult::NoError, residue: 0 };
+    /// assert_eq!(controller.step(0, 100)?, Steps { taken: 6, last: Some(Turn::Finished { cookie, outcome }) });
+    /// # Ok::<(), dma::Error>(())
+    /// ```
+    pub fn step(&mut self, channel: u8, most: u32) -> Result<Steps, Error> {
+        let report = self.handle.step(channel, most)?;
+        Ok(Steps { taken: report.taken, last: turn_of(&report) })
+    }
+
+    /// How far a cookie is.
+    pub fn status(&self, channel: u8, cookie: u32) -> Status {
+        let state = u32::try_from(self.handle.status(channel, cookie)).unwrap_or(u32::MAX);
+        named(&[Status::Unknown, Status::InProgress, Status::Complete], state)
+    }
+
+    /// How a cookie finished; none where it hasn't, or where a checkpoint has forgotten it.
+    pub fn result(&self, channel: u8, cookie: u32) -> Option<Outcome> {
+        let outcome = self.handle.result(channel, cookie)?;
+        Some(outcome_of(outcome.result, outcome.residue))
+    }
+
+    /// What runs on a channel.
+    pub fn running(&self, channel: u8) -> Option<Running> {
+        let running = self.handle.running(channel)?;
+        Some(Running { cookie: running.cookie, stored: running.stored })
+    }
+
+    /// How many cookies of a channel are not finished; 0 where there is no such channel.
+    pub fn unfinished(&self, channel: u8) -> u32 {
+        self.handle.unfinished(channel)
+    }
+
+    /// How many results of a channel checkpoints have forgotten; 0 where there is no such channel.
+    pub fn forgotten(&self, channel: u8) -> u32 {
+        self.handle.forgotten(channel)
+    }
+
+    /// How many steps have moved or finished, on all channels since the controller was opened.
+    pub fn steps(&self) -> u64 {
+        self.handle.steps()
+    }
+
+    /// Marks a range, below the memory's size or not, in which bursts of that kind fail from then on.
+    ///
+    /// The error is `BadRange` or `NoMemory`.
+    ///
+    /// ```
+    /// use dma::{Controller, Events, MarkKind, Segment, TransferResult, Turn};
+    /// let mut controller = Controller::open(0x400, 1)?;
+    /// controller.mark(MarkKind::Writing, Segment::new(0x202, 1))?;
+    /// controller.submit(0, &[Segment::new(0x100, 4)], &[Segment::new(0x200, 4)], Events::default())?;
+    /// controller.issue(0)?;
+    /// let Some(Turn::Finished { outcome, .. }) = controller.step(0, 100)?.last else { panic!() };
+    /// assert_eq!((outcome.result, outcome.residue), (TransferResult::WriteFailed, 4));
+    /// assert_eq!(controller.step(0, 1)?.last, Some(Turn::Halted));
+    /// # Ok::<(), dma::Error>(())
+    /// ```
+    pub fn mark(&mut self, kind: MarkKind, range: Segment) -> Result<(), Error> {
+        let kind = match kind {
+            MarkKind::Reading => 0,
+            MarkKind::Writing => 1,
+        };
+        self.handle.mark(kind, range)
+    }
+
+    /// Removes all marks.
+    ///
+    /// The error is `NoMemory`.
+    pub fn unmark(&mut self) -> Result<(), Error> {
+        self.handle.unmark()
+    }
+
+    /// Sets the flag of an event, which lets one transfer pass that waits for it.
+    ///
+    /// The error is `BadEvent` or `NoMemory`.
+    pub fn raise(&mut self, event: u8) -> Result<(), Error> {
+        self.handle.raise(event)
+    }
+
+    /// Drops the history of the calls, with the results of what has finished, and gives its memory back.
+    ///
+    /// The error is `Running` where a transfer runs, or `NoMemory`.
+    pub fn checkpoint(&mut self) -> Result<(), Error> {
+        self.handle.checkpoint()
+    }
+}
+
+impl fmt::Debug for Controller {
+    fn fmt(&self, f: &mut fmt::Formatter<'_>) -> fmt::Result {
+        f.debug_struct("Controller").field("steps", &self.steps()).finish_non_exhaustive()
+    }
+}
+
+/// The version of the library.
+///
+/// ```
+/// assert_eq!(dma::version(), "dilkwafam 1.0");
+/// ```
+pub fn version() -> String {
+    let mut out = vec![0; 64];
+    loop {
+        if let Some(len) = sys::version(&mut out) {
+            return text_of(&out[..len]);
+        }
+        out.resize(2 * out.len(), 0);
+    }
+}
+
+/// Runs a program's bytes alone over a memory, with no marks and all flags clear, for at most `limit` instructions.
+///
+/// The error is the first that holds of `SizeOutOfRange`, of the memory's length, `ProgramTooLong` and `NoMemory`; then the
+/// memory is as it was.
+///
+/// ```
+/// use dma::{assemble, run_program, Fault, RunEnd};
+/// let program = assemble("DMASEV 3\nDMAWFE 3\nDMAEND\n")?;
+/// assert_eq!(run_program(&program, &mut [0; 16], 100), Ok(RunEnd::Ended { turns: 3 }));
+/// let fault = Fault::StDataUnavailable;
+/// assert_eq!(run_program(&assemble("DMAST")?, &mut [0; 16], 100), Ok(RunEnd::Fault { fault, pc: 0 }));
+/// # Ok::<(), dma::Error>(())
+/// ```
+pub fn run_program(program: &[u8], memory: &mut [u8], limit: u32) -> Result<RunEnd, Error> {
+    let end = sys::run_program(program, memory, limit)?;
+    Ok(match end.end {
+        1 => RunEnd::Ended { turns: end.turns },
+        2 => RunEnd::OutOfTurns,
+        3 => RunEnd::Waiting { event: small(end.event) },
+        4 => RunEnd::Fault { fault: fault_of(end.fault), pc: end.pc },
+        number => unreachable!("the library told the number {number}"),
+    })
+}
+
+// Of 1 to 7.
+fn fault_of(number: u32) -> Fault {
+    let faults = [
+        Fault::UndefInstr,
+        Fault::OperandInvalid,
+        Fault::MfifoErr,
+        Fault::StDataUnavailable,
+        Fault::InstrFetchErr,
+        Fault::DataWriteErr,
+        Fault::DataReadErr,
+    ];
+    named(&faults, number.wrapping_sub(1))
+}
+
+const MAX_PROGRAM: usize = 8192;
+
+// A byte of a program has at most so many bytes of text.
+const MAX_TEXT: usize = 9;
+
+/// The bytes of the program that a text says.
+///
+/// The error is `Assembly` of the first line with a fault, or `NoMemory`.
+///
+/// ```
+/// use dma::{assemble, AssemblyFault, Error};
+/// let text = "DMALP 1 256\nDMALD\nDMAST\nDMALPEND 1 2\nDMAEND\n";
+/// assert_eq!(assemble(text), Ok(vec![0x22, 0xFF, 0x04, 0x08, 0x3C, 0x02, 0x00]));
+/// assert_eq!(assemble("DMALD\nDMALP 2 1"), Err(Error::Assembly { line: 2, fault: AssemblyFault::NumberOutOfRange }));
+/// ```
+pub fn assemble(text: &str) -> Result<Vec<u8>, Error> {
+    let mut out = vec![0; MAX_PROGRAM];
+    let len = sys::assemble(text.as_bytes(), &mut out)?;
+    out.truncate(len);
+    Ok(out)
+}
+
+/// The text of a program, a line for each instruction.
+///
+/// The error is `Disassembly` of the first byte at which no instruction begins, or `NoMemory`.
+///
+/// ```
+/// use dma::{disassemble, DisassemblyFault, Error};
+/// assert_eq!(disassemble(&[0x36, 0x1A, 0x00]).as_deref(), Ok("DMAWFE 3 invalid\nDMAEND\n"));
+/// let fault = DisassemblyFault::UnknownInstruction;
+/// assert_eq!(disassemble(&[0x04, 0x28]), Err(Error::Disassembly { offset: 1, fault }));
+/// ```
+pub fn disassemble(program: &[u8]) -> Result<String, Error> {
+    let mut out = vec![0; MAX_TEXT * program.len()];
+    let len = sys::disassemble(program, &mut out)?;
+    Ok(text_of(&out[..len]))
+}
+
+// The library writes ASCII.
+fn text_of(bytes: &[u8]) -> String {
+    bytes.iter().copied().map(char::from).collect()
+}

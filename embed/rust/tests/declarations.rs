@@ -1,0 +1,229 @@
+//! The three declarations of the library, in Rattle (its own), in C (dma.h) and in Rust (sys.rs), say the same: the same
+//! calls, and of each the same parameters and result, as they are passed; and the same codes, where no row of rows.txt meets
+//! them. No compiler compares these.
+
+use dma::Error;
+use std::collections::BTreeMap;
+use std::fs;
+use std::path::{Path, PathBuf};
+
+/// What is passed: a number by its name in Rust, a struct by its fields in braces, a pointer with `*` before what is there.
+type Passed = String;
+
+/// The structs of a language, by name, with the types of their fields.
+type Structs = BTreeMap<String, Vec<String>>;
+
+/// The calls, by name: what they take, and behind it what they answer.
+type Calls = BTreeMap<String, Vec<Passed>>;
+
+fn repository() -> PathBuf {
+    Path::new(env!("CARGO_MANIFEST_DIR")).join("../..")
+}
+
+fn text_of(path: &Path) -> String {
+    fs::read_to_string(path).unwrap_or_else(|error| panic!("{}: {error}", path.display()))
+}
+
+// What stands between two words, and what stands behind.
+fn between<'a>(text: &'a str, from: &str, to: &str) -> Option<(&'a str, &'a str)> {
+    text.split_once(from)?.1.split_once(to)
+}
+
+// Each text that stands between the two words.
+fn each_between<'a>(mut text: &'a str, from: &str, to: &str) -> Vec<&'a str> {
+    let mut found = Vec::new();
+    while let Some((inside, rest)) = between(text, from, to) {
+        found.push(inside);
+        text = rest;
+    }
+    found
+}
+
+// The parts that commas separate.
+fn parts(list: &str) -> impl Iterator<Item = &str> {
+    list.split(',').map(str::trim).filter(|part| !part.is_empty())
+}
+
+fn without_comments(text: &str) -> String {
+    let plain = |line: &str| line.split("//").next().unwrap_or_default().to_string();
+    let mut left = text.lines().map(plain).collect::<Vec<_>>().join("\n");
+    while let Some((before, rest)) = left.split_once("/*") {
+        let after = rest.split_once("*/").map_or("", |(_, after)| after);
+        left = format!("{before} {after}");
+    }
+    left
+}
+
+/// A type that is no pointer. Bytes, characters and truth values are all passed as a byte.
+fn value(word: &str, structs: &Structs) -> Passed {
+    match word {
+        "bool" | "u8" | "uint8_t" | "char" => "u8".into(),
+        "uint32_t" => "u32".into(),
+        "uint64_t" => "u64".into(),
+        "int32_t" => "i32".into(),
+        "size_t" => "usize".into(),
+        "u32" | "u64" | "i32" | "usize" => word.into(),
+        _ => {
+            let fields = structs.get(word).unwrap_or_else(|| panic!("no type: {word}"));
+            let fields: Vec<Passed> = fields.iter().map(|field| value_or_pointer(field, structs)).collect();
+            // a struct of one field is passed as that
+            if fields.len() == 1 {
+                fields[0].clone()
+            } else {
+                format!("{{{}}}", fields.join(" "))
+            }
+        }
+    }
+}
+
+// A field. What it points to is the library's own.
+fn value_or_pointer(word: &str, structs: &Structs) -> Passed {
+    if word.contains('*') {
+        "*".into()
+    } else {
+        value(word, structs)
+    }
+}
+
+// What a parameter or a result of Rattle or Rust is passed as: a slice is two.
+fn passed(kind: &str, structs: &Structs) -> Vec<Passed> {
+    let (mark, inner) = match kind {
+        "Global" => return Vec::new(),
+        _ if kind.starts_with("&mut ") => ("*mut ", &kind[5..]),
+        _ if kind.starts_with("*mut ") => ("*mut ", &kind[5..]),
+        _ if kind.starts_with("*const ") => ("*const ", &kind[7..]),
+        _ if kind.starts_with('&') => ("*const ", &kind[1..]),
+        _ => return vec![value(kind, structs)],
+    };
+    match inner.strip_prefix('[').and_then(|inner| inner.strip_suffix(']')) {
+        Some(item) => vec![format!("{mark}{}", value(item, structs)), "usize".into()],
+        None => vec![format!("{mark}{}", value(inner, structs))],
+    }
+}
+
+// ---- Rattle and Rust ----
+
+// The structs that C sees. Ghost fields are not there when it runs.
+fn structs_of_rust(text: &str, structs: &mut Structs) {
+    for after in text.split("#[repr(C)]").skip(1) {
+        let Some((name, rest)) = between(after, "struct ", "{") else { continue };
+        let fields = rest.split_once("\n}").map_or("", |(fields, _)| fields);
+        let field = |part: &str| part.rsplit_once(": ").map(|(_, kind)| kind.trim().to_string());
+        let lines = fields.lines().map(|line| line.trim().trim_start_matches("pub ").trim_end_matches(','));
+        let plain = lines.filter(|line| !line.starts_with("ghost") && !line.starts_with('#'));
+        structs.insert(name.trim().to_string(), plain.filter_map(field).collect());
+    }
+}
+
+// The calls whose declarations begin with this word.
+fn calls_of_rust(text: &str, begins: &str, structs: &Structs, calls: &mut Calls) {
+    for after in text.split(begins).skip(1) {
+        let (name, rest) = after.split_once('(').expect("parameters");
+        let (parameters, rest) = rest.split_once(')').expect("the end of the parameters");
+        let kind = |part: &str| part.split_once(": ").map(|(_, kind)| kind.trim().to_string());
+        let mut call: Vec<Passed> = parts(parameters).filter_map(kind).flat_map(|kind| passed(&kind, structs)).collect();
+        let result = rest.trim_start().strip_prefix("->").and_then(|rest| rest.split_whitespace().next());
+        call.push(result.map_or("nothing".into(), |word| value(word.trim_end_matches(';'), structs)));
+        calls.insert(name.trim().to_string(), call);
+    }
+}
+
+fn files_below(folder: &Path, found: &mut Vec<PathBuf>) {
+    for entry in fs::read_dir(folder).expect("the folder can be read") {
+        let path = entry.expect("an entry").path();
+        if path.is_dir() {
+            files_below(&path, found);
+        } else {
+            found.push(path);
+        }
+    }
+}
+
+fn calls_of_library() -> Calls {
+    let mut files = Vec::new();
+    files_below(&repository().join("crates/dma_ffi/src"), &mut files);
+    let texts: Vec<String> = files.iter().map(|file| without_comments(&text_of(file))).collect();
+    let (mut structs, mut calls) = (Structs::new(), Calls::new());
+    texts.iter().for_each(|text| structs_of_rust(text, &mut structs));
+    texts.iter().for_each(|text| calls_of_rust(text, "pub extern \"C\" fn ", &structs, &mut calls));
+    calls
+}
+
+fn calls_of_crate() -> Calls {
+    let folder = repository().join("embed/rust/src");
+    let [sys, lib] = ["sys.rs", "lib.rs"].map(|file| without_comments(&text_of(&folder.join(file))));
+    let (mut structs, mut calls) = (Structs::new(), Calls::new());
+    structs_of_rust(&sys, &mut structs);
+    structs_of_rust(&lib, &mut structs);
+    let (block, _) = between(&sys, "extern \"C\" {", "\n}").expect("the declarations");
+    calls_of_rust(block, "    fn ", &structs, &mut calls);
+    calls
+}
+
+// ---- C ----
+
+// A declaration's type, without the name at its end: its words but for const, and a pointer's mark before them.
+fn kind_of_c(declaration: &str) -> String {
+    let is_pointer = declaration.contains('*');
+    let spaced = declaration.replace('*', " ");
+    let mut words: Vec<&str> = spaced.split_whitespace().filter(|word| *word != "const").collect();
+    words.pop();
+    let mark = if declaration.starts_with("const ") { "*const " } else { "*mut " };
+    format!("{}{}", if is_pointer { mark } else { "" }, words.join(" "))
+}
+
+fn calls_of_header() -> Calls {
+    let text = without_comments(&text_of(&repository().join("embed/c/dma.h")));
+    let mut structs = Structs::new();
+    for after in text.split("typedef struct ").skip(1) {
+        let (name, rest) = after.split_once('{').expect("fields");
+        let (fields, _) = rest.split_once('}').expect("the end of the fields");
+        let kinds = fields.split(';').map(str::trim).filter(|field| !field.is_empty()).map(kind_of_c);
+        structs.insert(name.trim().to_string(), kinds.collect());
+    }
+    let mut calls = Calls::new();
+    for declaration in each_between(&text, "\n\n", " DMA_NO_NULLS;") {
+        let declaration = declaration.rsplit("\n\n").next().unwrap_or_default().trim();
+        let (head, parameters) = declaration.split_once('(').expect("parameters");
+        let (result, name) = head.rsplit_once(' ').expect("a result and a name");
+        let parameters = parameters.trim_end_matches(')');
+        let mut call: Vec<Passed> = parts(parameters).flat_map(|part| passed(&kind_of_c(part), &structs)).collect();
+        call.push(if result == "void" { "nothing".into() } else { value(result, &structs) });
+        calls.insert(name.to_string(), call);
+    }
+    calls
+}
+
+fn compare(wanted: &Calls, found: &Calls, whose: &str) {
+    for (name, call) in wanted {
+        assert_eq!(Some(call), found.get(name), "{name} in {whose}");
+    }
+    let more: Vec<&String> = found.keys().filter(|name| !wanted.contains_key(*name)).collect();
+    assert!(more.is_empty(), "{whose} has also {more:?}");
+}
+
+#[test]
+fn the_header_declares_what_the_library_exports() {
+    let library = calls_of_library();
+    assert!(library.len() >= 25);
+    compare(&library, &calls_of_header(), "dma.h");
+}
+
+#[test]
+fn the_crate_declares_what_the_library_exports() {
+    compare(&calls_of_library(), &calls_of_crate(), "sys.rs");
+}
+
+// A channel has given its last cookie after 2^31 submits, the step count is at its end after 2^64 steps.
+#[test]
+fn codes_that_no_row_meets_are_the_librarys() {
+    let library = text_of(&repository().join("crates/dma_ffi/src/codes.rt"));
+    let header = text_of(&repository().join("embed/c/dma.h"));
+    let spent = [Error::CookiesSpent, Error::StepsSpent];
+    for (error, name) in spent.into_iter().zip(["DMA_COOKIES_SPENT", "DMA_STEPS_SPENT"]) {
+        let (code, _) = between(&library, &format!("EngineFault::{error:?} => "), ",").expect("the library has it");
+        let (number, _) = between(&header, &format!("{name} = "), ",").expect("the header has it");
+        assert_eq!(number, code, "{name}");
+        assert_eq!(error.code().to_string(), code, "{error:?}");
+    }
+}

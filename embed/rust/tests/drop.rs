@@ -1,0 +1,32 @@
+//! A controller that is dropped is closed: what it held goes back to the heap.
+
+use dma::{Controller, Error};
+use std::fs;
+
+const MIB: usize = 1 << 20;
+
+/// The pages of this process that are in memory, in KiB, as Linux counts them.
+fn resident() -> usize {
+    let status = fs::read_to_string("/proc/self/status").expect("Linux tells of a process");
+    let line = status.lines().find(|line| line.starts_with("VmRSS:")).expect("its pages");
+    line.split_whitespace().nth(1).and_then(|count| count.parse().ok()).expect("a number of KiB")
+}
+
+// Each keeps a mebibyte in its memory, and once more in its history.
+fn open_write_and_drop(times: usize) -> Result<(), Error> {
+    let bytes = vec![7; MIB];
+    for _ in 0..times {
+        Controller::open(MIB as u32, 1)?.write(0, &bytes)?;
+    }
+    Ok(())
+}
+
+#[test]
+fn a_dropped_controller_gives_its_memory_back() -> Result<(), Error> {
+    open_write_and_drop(4)?;
+    let before = resident();
+    open_write_and_drop(200)?;
+    let grown = resident().saturating_sub(before);
+    assert!(grown < 40 * MIB / 1024, "200 controllers were dropped, and {grown} KiB are held");
+    Ok(())
+}
