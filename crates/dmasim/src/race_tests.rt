@@ -340,15 +340,26 @@ fn copies_by_steps(alloc: Global) -> Result<Vec<u8>, AllocError> {
     Ok(script)
 }
 
+/// What the race of the copies came to.
+fn raced<R: Threads + Wait + Sync>(rt: &R, alloc: Global) -> Result<(u8, Vec<u8>), AllocError> {
+    let script = copies_by_jobs(alloc)?;
+    Ok(race(rt, alloc, &script))
+}
+
+/// What the run of the copies came to.
+fn stepped(alloc: Global) -> Result<(u8, Vec<u8>), AllocError> {
+    let script = copies_by_steps(alloc)?;
+    Ok(run(alloc, &script))
+}
+
 #[test]
 fn sixteen_jobs_copy_as_one_thread_does(rt: HostRuntime) -> Result<(), Fail> {
-    let alloc = rt.alloc();
-    let raced = race(&rt, alloc, &copies_by_jobs(alloc)?);
-    let plain = run(alloc, &copies_by_steps(alloc)?);
-    assert_eq!(rt; (raced.0, plain.0), (0, 0));
-    let raced = last_line(&raced.1).ok_or("a line of the race")?;
-    let plain = last_line(&plain.1).ok_or("a line of the run")?;
-    assert_eq!(rt; raced, plain);
+    let raced = raced(&rt, rt.alloc())?;
+    let stepped = stepped(rt.alloc())?;
+    assert_eq!(rt; (raced.0, stepped.0), (0, 0));
+    let memory = last_line(&stepped.1);
+    assert!(rt; memory.is_some());
+    assert_eq!(rt; last_line(&raced.1), memory);
     Ok(())
 }
 
