@@ -135,18 +135,35 @@ mod tests {
     use std::test::Fail;
 
     #[test]
-    fn grow_at_the_end(rt: HostRuntime) -> Result<(), Fail> {
+    fn bytes_are_of_a_slice_or_a_vec(rt: HostRuntime) -> Result<(), Fail> {
         let bytes = Bytes::from_slice(rt.alloc(), &[1, 2])?;
-        assert_eq!(rt; bytes.as_slice(), [1, 2].as_slice());
-        let mut segments = Segments::new(rt.alloc());
-        assert!(rt; segments.is_empty());
-        segments.push(Segment { addr: 4, len: 5 })?;
-        assert_eq!(rt; segments.len(), 1);
-        let copy = Segments::from_slice(rt.alloc(), segments.as_slice())?;
-        assert_eq!(rt; copy.as_slice(), [Segment { addr: 4, len: 5 }].as_slice());
-        assert_eq!(rt; bytes.len(), 2);
+        assert!(rt; bytes.as_slice() == [1, 2].as_slice());
+        assert!(rt; bytes.len() == 2);
         let none = Bytes::from_vec(Vec::new(rt.alloc()));
         assert!(rt; none.is_empty());
+        Ok(())
+    }
+
+    // A list that grew by one segment.
+    fn grown(alloc: Global, segment: Segment) -> Result<Segments, AllocError> {
+        let mut segments = Segments::new(alloc);
+        segments.push(segment)?;
+        Ok(segments)
+    }
+
+    // The same segments again.
+    fn again(alloc: Global, segments: &Segments) -> Result<Segments, AllocError> {
+        Segments::from_slice(alloc, segments.as_slice())
+    }
+
+    #[test]
+    fn segments_grow_at_the_end(rt: HostRuntime) -> Result<(), Fail> {
+        let one = Segment { addr: 4, len: 5 };
+        assert!(rt; Segments::new(rt.alloc()).is_empty());
+        let segments = grown(rt.alloc(), one)?;
+        assert!(rt; segments.len() == 1);
+        let copy = again(rt.alloc(), &segments)?;
+        assert!(rt; copy.as_slice() == [one].as_slice());
         Ok(())
     }
 }

@@ -117,70 +117,50 @@ mod tests {
     use super::*;
     use std::test::Fail;
 
+    // Whether a segment is hit, by the reading marks and by the writing ones.
+    fn hit(marks: &Marks, addr: u32, len: u32) -> [bool; 2] {
+        let segment = Segment { addr, len };
+        [
+            marks.hits(MarkKind::Reading, segment),
+            marks.hits(MarkKind::Writing, segment),
+        ]
+    }
+
     #[test]
     fn hit_by_kind_and_address(rt: HostRuntime) -> Result<(), Fail> {
         let mut marks = Marks::new(rt.alloc());
         marks.add(MarkKind::Reading, Segment { addr: 0x20, len: 1 })?;
-        assert!(rt;
-            marks.hits(
-                MarkKind::Reading,
-                Segment {
-                    addr: 0x10,
-                    len: 32
-                }
-            )
-        );
-        assert!(rt;
-            !marks.hits(
-                MarkKind::Reading,
-                Segment {
-                    addr: 0x10,
-                    len: 16
-                }
-            )
-        );
-        assert!(rt;
-            !marks.hits(
-                MarkKind::Writing,
-                Segment {
-                    addr: 0x10,
-                    len: 32
-                }
-            )
-        );
+        assert!(rt; hit(&marks, 0x10, 32) == [true, false]);
+        assert!(rt; hit(&marks, 0x10, 16) == [false, false]);
         marks.clear();
-        assert!(rt;
-            !marks.hits(
-                MarkKind::Reading,
-                Segment {
-                    addr: 0x10,
-                    len: 32
-                }
-            )
-        );
+        assert!(rt; hit(&marks, 0x10, 32) == [false, false]);
         Ok(())
     }
 
-    #[test]
-    fn found_among_marks_that_overlap(rt: HostRuntime) -> Result<(), Fail> {
-        let mut marks = Marks::new(rt.alloc());
-        for (addr, len) in [
+    // Marks for writing, some of which overlap, and one has no address.
+    fn overlapping(alloc: Global) -> Result<Marks, AllocError> {
+        let mut marks = Marks::new(alloc);
+        for (addr, len) in &[
             (0x108, 0x20),
             (0x100, 0x10),
             (0x10A, 2),
             (0x50, 0),
             (u32::MAX, 2),
+            (0xF0, 0x100),
         ] {
-            marks.add(MarkKind::Writing, Segment { addr, len })?;
+            let segment = Segment {
+                addr: *addr,
+                len: *len,
+            };
+            marks.add(MarkKind::Writing, segment)?;
         }
-        marks.add(
-            MarkKind::Writing,
-            Segment {
-                addr: 0xF0,
-                len: 0x100,
-            },
-        )?;
-        for (addr, len, hit) in [
+        Ok(marks)
+    }
+
+    #[test]
+    fn found_among_marks_that_overlap(rt: HostRuntime) -> Result<(), Fail> {
+        let marks = overlapping(rt.alloc())?;
+        for row in &[
             (0xEF, 1, false),
             (0xEF, 2, true),
             (0x1EF, 1, true),
@@ -188,9 +168,8 @@ mod tests {
             (0x50, 1, false),
             (u32::MAX, 1, true),
         ] {
-            let segment = Segment { addr, len };
-            assert_eq!(rt; marks.hits(MarkKind::Writing, segment), hit);
-            assert!(rt; !marks.hits(MarkKind::Reading, segment));
+            let (addr, len, writing) = *row;
+            assert!(rt; hit(&marks, addr, len) == [false, writing], "{row:?}");
         }
         Ok(())
     }

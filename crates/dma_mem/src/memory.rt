@@ -214,37 +214,72 @@ impl Memory {
 #[cfg(test)]
 mod tests {
     use super::*;
+    use std::process::Abort;
     use std::test::Fail;
 
     fn segment(addr: u32, len: u32) -> Segment {
         Segment { addr, len }
     }
 
+    // Three bytes at 0x20 of 64.
+    fn three_of_64(alloc: Global) -> Result<Memory, MemFault> {
+        let mut memory = Memory::new(alloc, 64)?;
+        memory.write(0x20, &[0xAA, 0xBB, 0xCC])?;
+        Ok(memory)
+    }
+
+    // Five bytes from an address on.
+    fn five_at(memory: &Memory, addr: u32) -> Result<[u8; 5], MemFault> {
+        let mut buf = [0xFF; 5];
+        memory.read_into(addr, &mut buf)?;
+        Ok(buf)
+    }
+
     #[test]
     fn reads_what_was_written(rt: HostRuntime) -> Result<(), Fail> {
-        let mut memory = Memory::new(rt.alloc(), 64)?;
-        memory.write(0x20, &[0xAA, 0xBB, 0xCC])?;
-        let mut buf = [0xFF; 5];
-        memory.read_into(0x1F, &mut buf)?;
-        assert_eq!(rt; buf, [0, 0xAA, 0xBB, 0xCC, 0]);
-        assert_eq!(rt; memory.size(), 64);
-        assert_eq!(rt; memory.byte(0x22), Some(0xCC));
-        assert_eq!(rt; memory.byte(64), None);
+        let memory = three_of_64(rt.alloc())?;
+        let read = five_at(&memory, 0x1F);
+        assert!(rt; read == Ok([0, 0xAA, 0xBB, 0xCC, 0]));
+        assert!(rt; memory.size() == 64);
+        let bytes = (memory.byte(0x22), memory.byte(64));
+        assert!(rt; bytes == (Some(0xCC), None));
         Ok(())
+    }
+
+    // Writes three bytes at 0x20 of 64, in two parts.
+    fn write_in_parts(rt: &impl Abort, memory: &mut Memory) -> Result<(), MemFault> {
+        memory.prepare(Segment { addr: 0x20, len: 3 })?;
+        assert!(rt; memory.size() == 64);
+        memory.write_parts(0x20, &[0xAA, 0xBB], &[0xCC]);
+        Ok(())
+    }
+
+    // Those 64 bytes lend the three with a zero on each side.
+    fn assert_lends(rt: &impl Abort, memory: &Memory) {
+        assert!(rt; memory.size() == 64);
+        let around = [0, 0xAA, 0xBB, 0xCC, 0];
+        assert!(rt; memory.part(0x1F, 5) == Some(around.as_slice()));
+        let mut block = [9; 5];
+        assert!(rt; memory.bytes(0x1F, &mut block) == around.as_slice());
     }
 
     #[test]
     fn lends_and_takes_bytes_in_place(rt: HostRuntime) -> Result<(), Fail> {
         let mut memory = Memory::new(rt.alloc(), 64)?;
-        memory.prepare(Segment { addr: 0x20, len: 3 })?;
-        assert!(rt; memory.size() == 64);
-        memory.write_parts(0x20, &[0xAA, 0xBB], &[0xCC]);
-        assert!(rt; memory.size() == 64);
-        let around = [0, 0xAA, 0xBB, 0xCC, 0];
-        assert_eq!(rt; memory.part(0x1F, 5), Some(around.as_slice()));
-        let mut block = [9; 5];
-        assert_eq!(rt; memory.bytes(0x1F, &mut block), around.as_slice());
+        write_in_parts(&rt, &mut memory)?;
+        assert_lends(&rt, &memory);
         Ok(())
+    }
+
+    // Of four pages the second and the third are made, as far as is looked at.
+    fn has_middle_pages(memory: &Memory) -> bool {
+        memory.made(segment(0x1000, 8192)) && !memory.made(segment(0x0FFF, 2))
+    }
+
+    // Whether a memory's copy has them.
+    fn is_copied(memory: &Memory) -> Result<bool, AllocError> {
+        let copy = memory.try_copy()?;
+        Ok(copy.made(segment(0x1000, 8192)))
     }
 
     #[test]
@@ -252,82 +287,95 @@ mod tests {
         let mut memory = Memory::new(rt.alloc(), 0x4000)?;
         assert!(rt; !memory.made(segment(0x1000, 1)));
         memory.prepare(segment(0x1FFF, 2))?;
-        assert!(rt; memory.made(segment(0x1000, 8192)));
-        assert!(rt; !memory.made(segment(0x0FFF, 2)));
-        let copy = memory.try_copy()?;
-        assert!(rt; copy.made(segment(0x1000, 8192)));
+        assert!(rt; has_middle_pages(&memory));
+        assert!(rt; is_copied(&memory)?);
         Ok(())
+    }
+
+    // A memory of four pages, of which the first and the third are made by a list.
+    fn first_and_third(alloc: Global) -> Result<Memory, MemFault> {
+        let mut memory = Memory::new(alloc, 0x4000)?;
+        memory.prepare_all(&[segment(0x0FFF, 1), segment(0x2000, 1)])?;
+        Ok(memory)
     }
 
     #[test]
     fn makes_the_pages_of_a_list(rt: HostRuntime) -> Result<(), Fail> {
-        let mut memory = Memory::new(rt.alloc(), 0x4000)?;
-        memory.prepare_all(&[segment(0x0FFF, 1), segment(0x2000, 1)])?;
+        let mut memory = first_and_third(rt.alloc())?;
         assert!(rt; memory.made(segment(0, 0x1000)));
         assert!(rt; memory.made(segment(0x2000, 0x1000)));
         assert!(rt; !memory.made(segment(0x1000, 1)));
-        assert_eq!(rt;
-            memory.prepare_all(&[segment(0x4000, 0), segment(0x4001, 0)]),
-            Err(MemFault::OutOfMemoryRange)
-        );
-        assert_eq!(rt;
-            memory.prepare(segment(0x4000, 1)),
-            Err(MemFault::OutOfMemoryRange)
-        );
+        let above = Err(MemFault::OutOfMemoryRange);
+        assert!(rt; memory.prepare(segment(0x4000, 1)) == above);
+        let segments = [segment(0x4000, 0), segment(0x4001, 0)];
+        assert!(rt; memory.prepare_all(&segments) == above);
         Ok(())
+    }
+
+    // Writes the last four bytes of the largest memory, and then above them, which is refused.
+    fn write_last(memory: &mut Memory) -> Result<bool, MemFault> {
+        memory.write(0xFFFF_EFFC, &[1, 2, 3, 4])?;
+        let above = memory.write(0xFFFF_EFFD, &[1, 2, 3, 4]);
+        Ok(above == Err(MemFault::OutOfMemoryRange))
+    }
+
+    // The last six bytes of the largest memory.
+    fn last_six(memory: &Memory) -> Result<[u8; 6], MemFault> {
+        let mut buf = [9; 6];
+        memory.read_into(0xFFFF_EFFA, &mut buf)?;
+        Ok(buf)
     }
 
     #[test]
     fn writes_up_to_the_last_address(rt: HostRuntime) -> Result<(), Fail> {
         let mut memory = Memory::new(rt.alloc(), MAX_SIZE)?;
-        memory.write(0xFFFF_EFFC, &[1, 2, 3, 4])?;
-        assert_eq!(rt;
-            memory.write(0xFFFF_EFFD, &[1, 2, 3, 4]),
-            Err(MemFault::OutOfMemoryRange)
-        );
-        let mut buf = [9; 6];
-        memory.read_into(0xFFFF_EFFA, &mut buf)?;
-        assert_eq!(rt; buf, [0, 0, 1, 2, 3, 4]);
+        assert!(rt; write_last(&mut memory)?);
+        assert!(rt; last_six(&memory) == Ok([0, 0, 1, 2, 3, 4]));
         Ok(())
+    }
+
+    // What calls answer whose ranges end above 16 bytes, and one whose range is empty at their end.
+    fn answers_above(memory: &mut Memory, buf: &mut [u8]) -> [Result<(), MemFault>; 4] {
+        [
+            memory.write(15, &[0xAA, 0xBB]),
+            memory.read_into(15, buf),
+            memory.read_into(17, &mut []),
+            memory.write(16, &[]),
+        ]
+    }
+
+    // Whether they are refused, and leave the memory and the buffer as they were.
+    fn refuses_above(memory: &mut Memory) -> bool {
+        let above = Err(MemFault::OutOfMemoryRange);
+        let mut buf = [7; 2];
+        answers_above(memory, &mut buf) == [above, above, above, Ok(())]
+            && buf == [7; 2]
+            && memory.byte(15) == Some(0)
     }
 
     #[test]
     fn refuses_a_range_that_ends_above_the_size(rt: HostRuntime) -> Result<(), Fail> {
         let mut memory = Memory::new(rt.alloc(), 16)?;
-        assert_eq!(rt;
-            memory.write(15, &[0xAA, 0xBB]),
-            Err(MemFault::OutOfMemoryRange)
-        );
-        assert_eq!(rt; memory.byte(15), Some(0));
-        let mut buf = [7; 2];
-        assert_eq!(rt;
-            memory.read_into(15, &mut buf),
-            Err(MemFault::OutOfMemoryRange)
-        );
-        assert_eq!(rt; buf, [7, 7]);
-        assert_eq!(rt; memory.write(16, &[]), Ok(()));
-        assert_eq!(rt;
-            memory.read_into(17, &mut []),
-            Err(MemFault::OutOfMemoryRange)
-        );
+        assert!(rt; refuses_above(&mut memory));
         Ok(())
     }
 
+    // The size of a memory that is made of so many bytes.
+    fn size_made(alloc: Global, size: u32) -> Result<u32, MemFault> {
+        let memory = Memory::new(alloc, size)?;
+        Ok(memory.size())
+    }
+
     #[test]
-    fn has_1_to_4_294_963_200_bytes(rt: HostRuntime) -> Result<(), Fail> {
-        assert_eq!(rt;
-            Memory::new(rt.alloc(), 0).err(),
-            Some(MemFault::SizeOutOfRange)
-        );
-        assert_eq!(rt; Memory::new(rt.alloc(), 1)?.size(), 1);
-        assert_eq!(rt;
-            Memory::new(rt.alloc(), 4_294_963_200)?.size(),
-            4_294_963_200
-        );
-        assert_eq!(rt;
-            Memory::new(rt.alloc(), 4_294_963_201).err(),
-            Some(MemFault::SizeOutOfRange)
-        );
-        Ok(())
+    fn has_1_to_4_294_963_200_bytes(rt: HostRuntime) {
+        let rows = [
+            (0, Err(MemFault::SizeOutOfRange)),
+            (1, Ok(1)),
+            (4_294_963_200, Ok(4_294_963_200)),
+            (4_294_963_201, Err(MemFault::SizeOutOfRange)),
+        ];
+        for (size, made) in &rows {
+            assert!(rt; size_made(rt.alloc(), *size) == *made, "{size} bytes");
+        }
     }
 }

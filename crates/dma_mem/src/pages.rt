@@ -158,6 +158,7 @@ impl Pages {
 #[cfg(test)]
 mod tests {
     use super::*;
+    use std::process::Abort;
     use std::test::Fail;
 
     fn segment(addr: u32, len: u32) -> Segment {
@@ -185,29 +186,38 @@ mod tests {
         Ok(())
     }
 
-    #[test]
-    fn take_bytes_across_two_pages(rt: HostRuntime) -> Result<(), Fail> {
-        let mut pages = Pages::new(rt.alloc(), 0x4000)?;
+    // Writes three bytes across the first two pages of four, and none on the last.
+    fn write_three(rt: &impl Abort, pages: &mut Pages) -> Result<(), AllocError> {
         assert!(rt; pages.size() == 0x4000);
         pages.write(0x0FFE, &[1, 2, 3])?;
         assert!(rt; pages.size() == 0x4000);
-        pages.write(0x3000, &[])?;
-        let mut block = [9; 5];
+        pages.write(0x3000, &[])
+    }
+
+    // Those pages have the three bytes, and zeros beside them.
+    fn assert_has_three(rt: &impl Abort, pages: &Pages) {
         assert!(rt; pages.size() == 0x4000);
+        let mut block = [9; 5];
         pages.read_into(0x0FFD, &mut block);
-        assert_eq!(rt; block, [0, 1, 2, 3, 0]);
-        assert!(rt; pages.made(segment(0, 0x2000)));
-        assert!(rt; !pages.made(segment(0x3000, 1)));
+        assert!(rt; block == [0, 1, 2, 3, 0]);
         assert!(rt; pages.part(0x0FFE, 3).is_none());
-        assert_eq!(rt; pages.part(0x2000, 3), Some([0; 3].as_slice()));
+        assert!(rt; pages.part(0x2000, 3) == Some([0; 3].as_slice()));
         let second = [2, 3];
-        assert_eq!(rt; pages.part(0x0FFF, 1), Some(&second[..1]));
-        Ok(())
+        assert!(rt; pages.part(0x0FFF, 1) == Some(&second[..1]));
     }
 
     #[test]
-    fn take_parts_in_place(rt: HostRuntime) -> Result<(), Fail> {
-        let mut pages = largest(rt.alloc())?;
+    fn take_bytes_across_two_pages(rt: HostRuntime) -> Result<(), Fail> {
+        let mut pages = Pages::new(rt.alloc(), 0x4000)?;
+        write_three(&rt, &mut pages)?;
+        assert_has_three(&rt, &pages);
+        assert!(rt; pages.made(segment(0, 0x2000)));
+        assert!(rt; !pages.made(segment(0x3000, 1)));
+        Ok(())
+    }
+
+    // Writes four bytes to the last addresses of the largest pages, in two parts.
+    fn write_last(rt: &impl Abort, pages: &mut Pages) -> Result<(), AllocError> {
         assert!(rt; pages.size() == 4_294_963_200);
         pages.prepare(Segment {
             addr: 0xFFFF_EFFC,
@@ -215,12 +225,24 @@ mod tests {
         })?;
         assert!(rt; pages.size() == 4_294_963_200);
         pages.write_parts(0xFFFF_EFFC, &[1, 2, 3], &[4]);
+        Ok(())
+    }
+
+    // The largest pages have those four bytes, and no page below theirs.
+    fn assert_has_last(rt: &impl Abort, pages: &Pages) {
         assert!(rt; pages.size() == 4_294_963_200);
-        let copy = pages.try_copy()?;
         let last = [1, 2, 3, 4];
-        assert_eq!(rt; copy.part(0xFFFF_EFFC, 4), Some(last.as_slice()));
-        assert!(rt; copy.made(segment(0xFFFF_E000, 4096)));
-        assert!(rt; !copy.made(segment(0xFFFF_E000, 4097)));
+        assert!(rt; pages.part(0xFFFF_EFFC, 4) == Some(last.as_slice()));
+        assert!(rt; pages.made(segment(0xFFFF_E000, 4096)));
+        assert!(rt; !pages.made(segment(0xFFFF_E000, 4097)));
+    }
+
+    #[test]
+    fn take_parts_in_place(rt: HostRuntime) -> Result<(), Fail> {
+        let mut pages = largest(rt.alloc())?;
+        write_last(&rt, &mut pages)?;
+        let copy = pages.try_copy()?;
+        assert_has_last(&rt, &copy);
         Ok(())
     }
 }

@@ -127,28 +127,43 @@ impl RangeSet {
 #[cfg(test)]
 mod tests {
     use super::*;
+    use std::process::Abort;
     use std::test::Fail;
 
-    fn seg(addr: u32, len: u32) -> Segment
-        ensures addr { result.addr ≡ addr }
-        ensures len { result.len ≡ len }
-    {
+    fn seg(addr: u32, len: u32) -> Segment {
         Segment { addr, len }
+    }
+
+    // Four segments that overlap and touch.
+    const GIVEN: [Segment; 4] = [
+        Segment { addr: 0x10, len: 4 },
+        Segment { addr: 0x12, len: 4 },
+        Segment { addr: 0x20, len: 2 },
+        Segment { addr: 0x16, len: 2 },
+    ];
+
+    // Their set meets just what it has an address of.
+    fn assert_meets(rt: &impl Abort, set: &RangeSet) {
+        for row in &[
+            (0x17, 1, true),
+            (0x1F, 2, true),
+            (0x18, 8, false),
+            (0x1F, 1, false),
+            (0x12, 0, false),
+        ] {
+            let (addr, len, meets) = *row;
+            assert!(rt; set.meets(seg(addr, len)) == meets, "{row:?}");
+        }
+        assert!(rt; set.meets_any(&[seg(0x18, 8), seg(0x21, 1)]));
+        assert!(rt; !set.meets_any(&[seg(0x18, 8), seg(0x22, 1)]));
+        assert!(rt; !set.meets_any(&[]));
     }
 
     #[test]
     fn keeps_ranges_in_order(rt: HostRuntime) -> Result<(), Fail> {
-        let given = [seg(0x10, 4), seg(0x12, 4), seg(0x20, 2), seg(0x16, 2)];
-        let set = RangeSet::new(rt.alloc(), &given)?;
-        assert_eq!(rt; set.ranges(), [seg(0x10, 8), seg(0x20, 2)].as_slice());
-        assert!(rt; set.meets(seg(0x17, 1)));
-        assert!(rt; set.meets(seg(0x1F, 2)));
-        assert!(rt; !set.meets(seg(0x18, 8)));
-        assert!(rt; !set.meets(seg(0x1F, 1)));
-        assert!(rt; !set.meets(seg(0x12, 0)));
-        assert!(rt; set.meets_any(&[seg(0x18, 8), seg(0x21, 1)]));
-        assert!(rt; !set.meets_any(&[seg(0x18, 8), seg(0x22, 1)]));
-        assert!(rt; !set.meets_any(&[]));
+        let set = RangeSet::new(rt.alloc(), &GIVEN)?;
+        assert!(rt; set.ranges() == [seg(0x10, 8), seg(0x20, 2)].as_slice());
+        assert_meets(&rt, &set);
         Ok(())
     }
 
@@ -160,12 +175,23 @@ mod tests {
         Ok(())
     }
 
+    // Two segments that touch, and leave no address but the last.
+    const HALVES: [Segment; 2] = [
+        Segment {
+            addr: 0x8000_0000,
+            len: 0x7FFF_FFFF,
+        },
+        Segment {
+            addr: 0,
+            len: 0x8000_0000,
+        },
+    ];
+
     #[test]
     fn reaches_the_last_addresses(rt: HostRuntime) -> Result<(), Fail> {
         let last = u32::MAX - 1;
-        let halves = [seg(0x8000_0000, 0x7FFF_FFFF), seg(0, 0x8000_0000)];
-        let all = RangeSet::new(rt.alloc(), &halves)?;
-        assert_eq!(rt; all.ranges(), [seg(0, u32::MAX)].as_slice());
+        let all = RangeSet::new(rt.alloc(), &HALVES)?;
+        assert!(rt; all.ranges() == [seg(0, u32::MAX)].as_slice());
         assert!(rt; all.meets(seg(last, 5)));
         assert!(rt; !all.meets(seg(u32::MAX, 5)));
         Ok(())

@@ -6,7 +6,7 @@ use crate::memory::{MemFault, Memory};
 use crate::range_set::RangeSet;
 use crate::segment::Segment;
 use crate::transfer::{Transfer, TransferFault};
-use std::alloc::Global;
+use std::alloc::{AllocError, Global};
 use std::process::Abort;
 use std::test::Fail;
 
@@ -14,82 +14,79 @@ fn segment(addr: u32, len: u32) -> Segment {
     Segment { addr, len }
 }
 
-// The size stands here as a parameter, so that no proof computes with a memory of this many bytes.
-fn memory_of(alloc: Global, size: u32) -> Result<Memory, Fail> {
-    Ok(Memory::new(alloc, size)?)
+// A memory that has only these bytes. The size stands here as a parameter, so that no proof computes with a memory of that
+// many bytes.
+fn memory_with(alloc: Global, size: u32, addr: u32, bytes: &[u8]) -> Result<Memory, MemFault> {
+    let mut memory = Memory::new(alloc, size)?;
+    memory.write(addr, bytes)?;
+    Ok(memory)
 }
 
-// What a memory of 8 MiB tells of both sides of its middle, where the second list of pages begins: the bytes, and whether
-// the pages beside the middle ones are made.
-#[derive(Clone, Copy, Debug, PartialEq)]
-struct Middle {
+fn bytes_at(memory: &Memory, addr: u32) -> Result<[u8; 4], Fail> {
+    let mut bytes = [9; 4];
+    memory.read_into(addr, &mut bytes)?;
+    Ok(bytes)
+}
+
+// A memory of 8 MiB has these bytes below its middle, where the second list of pages begins, and across it. The pages beside
+// the middle ones aren't made.
+fn assert_has(
+    rt: &impl Abort,
+    memory: &Memory,
     below: [u8; 4],
     middle: [u8; 4],
-    beside: [bool; 2],
+) -> Result<(), Fail> {
+    assert!(rt; bytes_at(memory, 0x3F_DFFD)? == below);
+    assert!(rt; bytes_at(memory, 0x3F_FFFE)? == middle);
+    assert!(rt; !memory.made(segment(0x3F_CFFF, 1)));
+    assert!(rt; !memory.made(segment(0x40_1000, 1)));
+    Ok(())
 }
 
-fn told(memory: &Memory) -> Result<Middle, Fail> {
-    let mut below = [9; 4];
-    memory.read_into(0x3F_DFFD, &mut below)?;
-    let mut middle = [9; 4];
-    memory.read_into(0x3F_FFFE, &mut middle)?;
-    let beside = [
-        memory.made(segment(0x3F_CFFF, 1)),
-        memory.made(segment(0x40_1000, 1)),
-    ];
-    Ok(Middle {
-        below,
-        middle,
-        beside,
-    })
+// The page that is made, and three that aren't.
+const PAGES: Segment = Segment {
+    addr: 0x3F_DFFF,
+    len: 0x2002,
+};
+
+// Makes the pages, twice where the first call is refused.
+fn prepare_again(rt: &(impl Abort + Print), memory: &mut Memory) -> Result<(), Fail> {
+    if let Err(fault) = memory.prepare(PAGES) {
+        println!(rt; "refused Memory::prepare")?;
+        assert!(rt; fault == MemFault::NoMemory);
+        assert!(rt; !memory.made(PAGES));
+        assert_has(rt, memory, [0, 1, 2, 0], [0; 4])?;
+        assert!(rt; memory.prepare(PAGES) == Ok(()));
+    }
+    Ok(())
 }
 
 #[test]
 fn pages_are_made_when_asked_again(rt: HostRuntime) -> Result<(), Fail> {
     println!(rt; "row Memory::prepare")?;
-    let mut memory = memory_of(rt.alloc(), 0x80_0000)?;
-    memory.write(0x3F_DFFE, &[1, 2])?;
-    let as_before = Middle {
-        below: [0, 1, 2, 0],
-        middle: [0; 4],
-        beside: [false; 2],
-    };
-    // the page that is made, and three that aren't
-    let range = segment(0x3F_DFFF, 0x2002);
-    if let Err(fault) = memory.prepare(range) {
-        println!(rt; "refused Memory::prepare")?;
-        assert_eq!(rt; fault, MemFault::NoMemory);
-        assert!(rt; !memory.made(range));
-        assert_eq!(rt; told(&memory)?, as_before);
-        assert_eq!(rt; memory.prepare(range), Ok(()));
+    let mut memory = memory_with(rt.alloc(), 0x80_0000, 0x3F_DFFE, &[1, 2])?;
+    prepare_again(&rt, &mut memory)?;
+    assert!(rt; memory.made(PAGES));
+    assert_has(&rt, &memory, [0, 1, 2, 0], [0; 4])
+}
+
+// Writes across the middle, twice where the first call is refused.
+fn write_again(rt: &(impl Abort + Print), memory: &mut Memory) -> Result<(), Fail> {
+    if let Err(fault) = memory.write(0x3F_FFFE, &[1, 2, 3, 4]) {
+        println!(rt; "refused Memory::write")?;
+        assert!(rt; fault == MemFault::NoMemory);
+        assert_has(rt, memory, [0; 4], [7, 0, 0, 0])?;
+        assert!(rt; memory.write(0x3F_FFFE, &[1, 2, 3, 4]) == Ok(()));
     }
-    assert!(rt; memory.made(range));
-    assert_eq!(rt; told(&memory)?, as_before);
     Ok(())
 }
 
 #[test]
 fn bytes_are_written_when_asked_again(rt: HostRuntime) -> Result<(), Fail> {
     println!(rt; "row Memory::write")?;
-    let mut memory = memory_of(rt.alloc(), 0x80_0000)?;
-    memory.write(0x3F_FFFE, &[7])?;
-    let as_before = Middle {
-        below: [0; 4],
-        middle: [7, 0, 0, 0],
-        beside: [false; 2],
-    };
-    if let Err(fault) = memory.write(0x3F_FFFE, &[1, 2, 3, 4]) {
-        println!(rt; "refused Memory::write")?;
-        assert_eq!(rt; fault, MemFault::NoMemory);
-        assert_eq!(rt; told(&memory)?, as_before);
-        assert_eq!(rt; memory.write(0x3F_FFFE, &[1, 2, 3, 4]), Ok(()));
-    }
-    let written = Middle {
-        middle: [1, 2, 3, 4],
-        ..as_before
-    };
-    assert_eq!(rt; told(&memory)?, written);
-    Ok(())
+    let mut memory = memory_with(rt.alloc(), 0x80_0000, 0x3F_FFFE, &[7])?;
+    write_again(&rt, &mut memory)?;
+    assert_has(&rt, &memory, [0; 4], [1, 2, 3, 4])
 }
 
 const SOURCES: [Segment; 2] = [
@@ -102,41 +99,53 @@ const DESTINATIONS: [Segment; 2] = [
     Segment { addr: 0x50, len: 2 },
 ];
 
+fn copy(alloc: Global) -> Result<Transfer, TransferFault> {
+    Transfer::new(alloc, &SOURCES, &DESTINATIONS, Some(3), Some(5))
+}
+
+fn fill(alloc: Global) -> Result<Transfer, TransferFault> {
+    Transfer::fill(alloc, 0x10, &DESTINATIONS, Some(3), Some(5))
+}
+
+// Tells that a call was refused, which is for want of memory.
+fn assert_refused(rt: &(impl Abort + Print), call: &str, fault: TransferFault) -> Result<(), Fail> {
+    println!(rt; "refused {call}")?;
+    assert!(rt; fault == TransferFault::NoMemory);
+    Ok(())
+}
+
 // A transfer has both destinations and both events.
 fn assert_has_all(rt: &impl Abort, transfer: &Transfer, sources: &[Segment]) {
-    assert_eq!(rt; transfer.src(), sources);
-    assert_eq!(rt; transfer.dst(), DESTINATIONS.as_slice());
-    assert_eq!(rt; transfer.len(), 8);
-    assert_eq!(rt; (transfer.wait(), transfer.signal()), (Some(3), Some(5)));
+    assert!(rt; transfer.src() == sources);
+    assert!(rt; transfer.dst() == DESTINATIONS.as_slice());
+    assert!(rt; (transfer.len(), transfer.wait(), transfer.signal()) == (8, Some(3), Some(5)));
 }
 
 #[test]
 fn copies_are_made_when_asked_again(rt: HostRuntime) -> Result<(), Fail> {
     println!(rt; "row Transfer::new")?;
-    let copy = match Transfer::new(rt.alloc(), &SOURCES, &DESTINATIONS, Some(3), Some(5)) {
-        Ok(copy) => copy,
+    let made = match copy(rt.alloc()) {
+        Ok(made) => made,
         Err(fault) => {
-            println!(rt; "refused Transfer::new")?;
-            assert_eq!(rt; fault, TransferFault::NoMemory);
-            Transfer::new(rt.alloc(), &SOURCES, &DESTINATIONS, Some(3), Some(5))?
+            assert_refused(&rt, "Transfer::new", fault)?;
+            copy(rt.alloc())?
         }
     };
-    assert_has_all(&rt, &copy, &SOURCES);
+    assert_has_all(&rt, &made, &SOURCES);
     Ok(())
 }
 
 #[test]
 fn fills_are_made_when_asked_again(rt: HostRuntime) -> Result<(), Fail> {
     println!(rt; "row Transfer::fill")?;
-    let fill = match Transfer::fill(rt.alloc(), 0x10, &DESTINATIONS, Some(3), Some(5)) {
-        Ok(fill) => fill,
+    let made = match fill(rt.alloc()) {
+        Ok(made) => made,
         Err(fault) => {
-            println!(rt; "refused Transfer::fill")?;
-            assert_eq!(rt; fault, TransferFault::NoMemory);
-            Transfer::fill(rt.alloc(), 0x10, &DESTINATIONS, Some(3), Some(5))?
+            assert_refused(&rt, "Transfer::fill", fault)?;
+            fill(rt.alloc())?
         }
     };
-    assert_has_all(&rt, &fill, &[segment(0x10, 1)]);
+    assert_has_all(&rt, &made, &[segment(0x10, 1)]);
     Ok(())
 }
 
@@ -144,30 +153,44 @@ fn fills_are_made_when_asked_again(rt: HostRuntime) -> Result<(), Fail> {
 #[test]
 fn rules_are_told_before_refused_memory(rt: HostRuntime) {
     let wrong = Transfer::new(rt.alloc(), &SOURCES, &DESTINATIONS, None, Some(32));
-    assert_eq!(rt; wrong.err(), Some(TransferFault::BadEvent));
+    assert!(rt; wrong.err() == Some(TransferFault::BadEvent));
     let meeting = Transfer::fill(rt.alloc(), 0x45, &DESTINATIONS, None, None);
-    assert_eq!(rt; meeting.err(), Some(TransferFault::SourceMeetsDestination));
+    assert!(rt; meeting.err() == Some(TransferFault::SourceMeetsDestination));
 }
 
-#[test]
-fn sets_are_made_when_asked_again(rt: HostRuntime) -> Result<(), Fail> {
-    println!(rt; "row RangeSet::new")?;
+fn set_of_two(alloc: Global) -> Result<RangeSet, AllocError> {
     let given = [
         Segment { addr: 0x20, len: 2 },
         Segment { addr: 0x10, len: 4 },
         Segment { addr: 0x12, len: 4 },
     ];
-    let set = match RangeSet::new(rt.alloc(), &given) {
+    RangeSet::new(alloc, &given)
+}
+
+#[test]
+fn sets_are_made_when_asked_again(rt: HostRuntime) -> Result<(), Fail> {
+    println!(rt; "row RangeSet::new")?;
+    let set = match set_of_two(rt.alloc()) {
         Ok(set) => set,
         Err(_) => {
             println!(rt; "refused RangeSet::new")?;
-            RangeSet::new(rt.alloc(), &given)?
+            set_of_two(rt.alloc())?
         }
     };
-    assert_eq!(rt;
-        set.ranges(),
-        [segment(0x10, 6), segment(0x20, 2)].as_slice()
-    );
+    let ranges = [segment(0x10, 6), segment(0x20, 2)];
+    assert!(rt; set.ranges() == ranges.as_slice());
+    Ok(())
+}
+
+const MARKED: Segment = Segment { addr: 0x20, len: 1 };
+
+// Marks a segment, twice where the first call is refused.
+fn add_again(rt: &(impl Abort + Print), marks: &mut Marks) -> Result<(), Fail> {
+    if marks.add(MarkKind::Reading, MARKED).is_err() {
+        println!(rt; "refused Marks::add")?;
+        assert!(rt; !marks.hits(MarkKind::Reading, MARKED));
+        marks.add(MarkKind::Reading, MARKED)?;
+    }
     Ok(())
 }
 
@@ -175,13 +198,8 @@ fn sets_are_made_when_asked_again(rt: HostRuntime) -> Result<(), Fail> {
 fn marks_are_added_when_asked_again(rt: HostRuntime) -> Result<(), Fail> {
     println!(rt; "row Marks::add")?;
     let mut marks = Marks::new(rt.alloc());
-    let marked = segment(0x20, 1);
-    if marks.add(MarkKind::Reading, marked).is_err() {
-        println!(rt; "refused Marks::add")?;
-        assert!(rt; !marks.hits(MarkKind::Reading, marked));
-        marks.add(MarkKind::Reading, marked)?;
-    }
-    assert!(rt; marks.hits(MarkKind::Reading, marked));
-    assert!(rt; !marks.hits(MarkKind::Writing, marked));
+    add_again(&rt, &mut marks)?;
+    assert!(rt; marks.hits(MarkKind::Reading, MARKED));
+    assert!(rt; !marks.hits(MarkKind::Writing, MARKED));
     Ok(())
 }

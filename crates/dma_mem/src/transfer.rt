@@ -532,6 +532,7 @@ impl Transfer {
 #[cfg(test)]
 mod tests {
     use super::*;
+    use std::process::Abort;
     use std::test::Fail;
 
     fn seg((addr, len): (u32, u32)) -> Segment {
@@ -546,91 +547,134 @@ mod tests {
         Ok(list)
     }
 
+    // One segment, or two.
+    fn listed(
+        alloc: Global,
+        first: (u32, u32),
+        second: Option<(u32, u32)>,
+    ) -> Result<Segments, AllocError> {
+        let mut list = Segments::from_slice(alloc, &[seg(first)])?;
+        if let Some(second) = second {
+            list.push(seg(second))?;
+        }
+        Ok(list)
+    }
+
+    // Where a copy goes from, where to, its second destination, and why it is refused.
+    type CopyRow = (
+        (u32, u32),
+        (u32, u32),
+        Option<(u32, u32)>,
+        Option<TransferFault>,
+    );
+
     // From the seventh row on, two causes that follow each other in the order hold.
+    static COPIES: [CopyRow; 11] = [
+        ((0x100, 4), (0x108, 4), None, None),
+        (
+            (0x100, 8),
+            (0x104, 8),
+            None,
+            Some(TransferFault::SourceMeetsDestination),
+        ),
+        (
+            (0x100, 4),
+            (0x108, 5),
+            None,
+            Some(TransferFault::TotalsDiffer),
+        ),
+        (
+            (0x100, 4),
+            (0x200, 2),
+            Some((0x201, 2)),
+            Some(TransferFault::DestinationsMeet),
+        ),
+        (
+            (0x100, 0),
+            (0x200, 0),
+            None,
+            Some(TransferFault::EmptySegment),
+        ),
+        (
+            (0xFFFF_FFFF, 2),
+            (0, 2),
+            None,
+            Some(TransferFault::SegmentWraps),
+        ),
+        (
+            (0xFFFF_FFFF, 2),
+            (0, 2),
+            Some((8, 0)),
+            Some(TransferFault::EmptySegment),
+        ),
+        (
+            (0, 1),
+            (0xFFFF_FFFF, 2),
+            None,
+            Some(TransferFault::SegmentWraps),
+        ),
+        (
+            (0, 1_048_577),
+            (0x20_0000, 1_048_578),
+            None,
+            Some(TransferFault::TotalsDiffer),
+        ),
+        (
+            (0, 1_048_577),
+            (8, 1_048_576),
+            Some((8, 1)),
+            Some(TransferFault::TooLong),
+        ),
+        (
+            (0x200, 4),
+            (0x200, 2),
+            Some((0x201, 2)),
+            Some(TransferFault::DestinationsMeet),
+        ),
+    ];
+
+    // Whether a copy is answered so.
+    fn is_copy_answered(
+        alloc: Global,
+        (src, dst, more, fault): CopyRow,
+    ) -> Result<bool, AllocError> {
+        let list = listed(alloc, dst, more)?;
+        let copy = Transfer::new(alloc, &[seg(src)], list.as_slice(), None, None);
+        Ok(copy.err() == fault)
+    }
+
     #[test]
     fn answers_the_first_cause(rt: HostRuntime) -> Result<(), Fail> {
-        let cases = [
-            ((0x100, 4), (0x108, 4), None, None),
-            (
-                (0x100, 8),
-                (0x104, 8),
-                None,
-                Some(TransferFault::SourceMeetsDestination),
-            ),
-            (
-                (0x100, 4),
-                (0x108, 5),
-                None,
-                Some(TransferFault::TotalsDiffer),
-            ),
-            (
-                (0x100, 4),
-                (0x200, 2),
-                Some((0x201, 2)),
-                Some(TransferFault::DestinationsMeet),
-            ),
-            (
-                (0x100, 0),
-                (0x200, 0),
-                None,
-                Some(TransferFault::EmptySegment),
-            ),
-            (
-                (0xFFFF_FFFF, 2),
-                (0, 2),
-                None,
-                Some(TransferFault::SegmentWraps),
-            ),
-            (
-                (0xFFFF_FFFF, 2),
-                (0, 2),
-                Some((8, 0)),
-                Some(TransferFault::EmptySegment),
-            ),
-            (
-                (0, 1),
-                (0xFFFF_FFFF, 2),
-                None,
-                Some(TransferFault::SegmentWraps),
-            ),
-            (
-                (0, 1_048_577),
-                (0x20_0000, 1_048_578),
-                None,
-                Some(TransferFault::TotalsDiffer),
-            ),
-            (
-                (0, 1_048_577),
-                (8, 1_048_576),
-                Some((8, 1)),
-                Some(TransferFault::TooLong),
-            ),
-            (
-                (0x200, 4),
-                (0x200, 2),
-                Some((0x201, 2)),
-                Some(TransferFault::DestinationsMeet),
-            ),
-        ];
-        for (src, dst, more, fault) in cases {
-            let mut list = Segments::from_slice(rt.alloc(), &[seg(dst)])?;
-            if let Some(second) = more {
-                list.push(seg(second))?;
-            }
-            let answer = Transfer::new(rt.alloc(), &[seg(src)], list.as_slice(), None, None);
-            assert_eq!(rt; answer.err(), fault, "at {src:?} to {dst:?}");
+        for row in &COPIES {
+            assert!(rt; is_copy_answered(rt.alloc(), *row)?, "{row:?}");
         }
         Ok(())
     }
 
+    // Why copies are refused whose sources are too many, and go nowhere, and whose destinations are.
+    fn faults_of_many(alloc: Global) -> Result<[Option<TransferFault>; 2], AllocError> {
+        let many = repeated(alloc, seg((0, 0)), 65)?;
+        let none = Transfer::new(alloc, many.as_slice(), &[], None, None);
+        let more = Transfer::new(alloc, &[seg((0, 1))], many.as_slice(), None, None);
+        Ok([none.err(), more.err()])
+    }
+
     #[test]
     fn tests_a_lists_length_first(rt: HostRuntime) -> Result<(), Fail> {
-        let many = repeated(rt.alloc(), seg((0, 0)), 65)?;
-        let none = Transfer::new(rt.alloc(), many.as_slice(), &[], None, None);
-        assert_eq!(rt; none.err(), Some(TransferFault::EmptyList));
-        let more = Transfer::new(rt.alloc(), &[seg((0, 1))], many.as_slice(), None, None);
-        assert_eq!(rt; more.err(), Some(TransferFault::TooManySegments));
+        let [none, more] = faults_of_many(rt.alloc())?;
+        assert!(rt; none == Some(TransferFault::EmptyList));
+        assert!(rt; more == Some(TransferFault::TooManySegments));
         Ok(())
+    }
+
+    // Why a copy of four bytes is refused.
+    fn fault_of_events(
+        alloc: Global,
+        wait: Option<u8>,
+        signal: Option<u8>,
+        to: u32,
+    ) -> Option<TransferFault> {
+        Transfer::new(alloc, &[seg((0, 4))], &[seg((to, 4))], wait, signal).err()
     }
 
     #[test]
@@ -640,247 +684,359 @@ mod tests {
             (Some(31), Some(255), 4, TransferFault::BadEvent),
             (Some(32), Some(32), 3, TransferFault::SourceMeetsDestination),
         ];
-        for (wait, signal, to, fault) in cases {
-            let answer = Transfer::new(rt.alloc(), &[seg((0, 4))], &[seg((to, 4))], wait, signal);
-            assert_eq!(rt; answer.err(), Some(fault), "at {wait:?} {signal:?}");
+        for (wait, signal, to, fault) in &cases {
+            let answer = fault_of_events(rt.alloc(), *wait, *signal, *to);
+            assert!(rt; answer == Some(*fault), "at {wait:?} {signal:?}");
         }
+    }
+
+    // A copy of the most segments and bytes, with the last events.
+    fn with_every_limit(alloc: Global) -> Result<Transfer, Fail> {
+        let src = repeated(alloc, seg((5, 16_384)), 64)?;
+        let dst = [seg((0xFFF0_0000, 1_048_576))];
+        Ok(Transfer::new(alloc, src.as_slice(), &dst, Some(31), Some(31))?)
+    }
+
+    // The length of a transfer, and its events.
+    fn told(t: &Transfer) -> (u32, Option<u8>, Option<u8>) {
+        (t.len(), t.wait(), t.signal())
     }
 
     #[test]
     fn accepts_every_limit(rt: HostRuntime) -> Result<(), Fail> {
-        let src = repeated(rt.alloc(), seg((5, 16_384)), 64)?;
-        let dst = [seg((0xFFF0_0000, 1_048_576))];
-        let t = Transfer::new(rt.alloc(), src.as_slice(), &dst, Some(31), Some(31))?;
-        assert_eq!(rt; t.len(), 1_048_576);
-        assert_eq!(rt; t.src().len(), 64);
-        assert_eq!(rt; t.wait(), Some(31));
-        assert_eq!(rt; t.signal(), Some(31));
+        let t = with_every_limit(rt.alloc())?;
+        assert!(rt; told(&t) == (1_048_576, Some(31), Some(31)));
+        assert!(rt; t.src().len() == 64);
         Ok(())
+    }
+
+    // A copy of eight bytes from two segments, which signals event 3, made of lists.
+    fn of_lists(alloc: Global) -> Result<Transfer, Fail> {
+        let src = Segments::from_slice(alloc, &[seg((0x10, 3)), seg((0x21, 5))])?;
+        let dst = Segments::from_slice(alloc, &[seg((0x40, 8))])?;
+        Ok(Transfer::from_lists(src, dst, None, Some(3))?)
+    }
+
+    // Why a copy from no segment to 65 is refused, made of lists.
+    fn fault_of_no_source(alloc: Global) -> Result<Option<TransferFault>, AllocError> {
+        let many = repeated(alloc, seg((0, 1)), 65)?;
+        Ok(Transfer::from_lists(Segments::new(alloc), many, None, None).err())
     }
 
     #[test]
     fn takes_lists_for_itself(rt: HostRuntime) -> Result<(), Fail> {
-        let src = Segments::from_slice(rt.alloc(), &[seg((0x10, 3)), seg((0x21, 5))])?;
-        let dst = Segments::from_slice(rt.alloc(), &[seg((0x40, 8))])?;
-        let t = Transfer::from_lists(src, dst, None, Some(3))?;
-        assert_eq!(rt; t.src(), [seg((0x10, 3)), seg((0x21, 5))].as_slice());
-        assert_eq!(rt; (t.len(), t.signal()), (8, Some(3)));
-        let none = Segments::new(rt.alloc());
-        let refused = Transfer::from_lists(
-            none,
-            repeated(rt.alloc(), seg((0, 1)), 65)?,
-            None,
-            None,
-        );
-        assert_eq!(rt; refused.err(), Some(TransferFault::EmptyList));
+        let fault = fault_of_no_source(rt.alloc())?;
+        assert!(rt; fault == Some(TransferFault::EmptyList));
+        let t = of_lists(rt.alloc())?;
+        assert!(rt; t.src() == [seg((0x10, 3)), seg((0x21, 5))].as_slice());
+        assert!(rt; told(&t) == (8, None, Some(3)));
         Ok(())
+    }
+
+    // A position, and its places in the sources and in the destinations.
+    type Places = (u32, Option<u32>, Option<u32>);
+
+    // Each position has these places.
+    fn assert_places(rt: &impl Abort, t: &Transfer, rows: &[Places]) {
+        for row in rows {
+            let (position, from, to) = *row;
+            assert!(rt; t.src_place(position) == from, "{row:?}");
+            assert!(rt; t.dst_place(position) == to, "{row:?}");
+        }
+    }
+
+    // The same copy of eight bytes, without an event.
+    fn across_segments(alloc: Global) -> Result<Transfer, TransferFault> {
+        let src = [seg((0x10, 3)), seg((0x21, 5))];
+        Transfer::new(alloc, &src, &[seg((0x40, 8))], None, None)
     }
 
     #[test]
     fn tells_places_across_segments(rt: HostRuntime) -> Result<(), Fail> {
-        let src = [seg((0x10, 3)), seg((0x21, 5))];
-        let t = Transfer::new(rt.alloc(), &src, &[seg((0x40, 8))], None, None)?;
-        let places = [
+        let t = across_segments(rt.alloc())?;
+        let rows = [
             (2, Some(0x12), Some(0x42)),
             (3, Some(0x21), Some(0x43)),
             (7, Some(0x25), Some(0x47)),
             (8, None, None),
         ];
-        for (position, from, to) in places {
-            assert_eq!(rt; t.src_place(position), from);
-            assert_eq!(rt; t.dst_place(position), to);
-        }
-        assert_eq!(rt; t.dst(), [seg((0x40, 8))].as_slice());
+        assert_places(&rt, &t, &rows);
+        assert!(rt; t.dst() == [seg((0x40, 8))].as_slice());
         assert!(rt; t.lies_below(0x48) && !t.lies_below(0x47));
         Ok(())
     }
 
+    // A fill of five bytes from 0x10, which signals event 2.
+    fn fill_of_five(alloc: Global) -> Result<Transfer, TransferFault> {
+        let dst = [seg((0x20, 3)), seg((0x30, 2))];
+        Transfer::fill(alloc, 0x10, &dst, None, Some(2))
+    }
+
+    // Whether a transfer touches the byte at an address, and writes it.
+    fn touched(t: &Transfer, addr: u32) -> (bool, bool) {
+        let byte = seg((addr, 1));
+        (t.touches(byte), t.writes(byte))
+    }
+
     #[test]
     fn fills_from_one_place(rt: HostRuntime) -> Result<(), Fail> {
-        let dst = [seg((0x20, 3)), seg((0x30, 2))];
-        let t = Transfer::fill(rt.alloc(), 0x10, &dst, None, Some(2))?;
+        let t = fill_of_five(rt.alloc())?;
         assert!(rt; t.is_fill());
-        assert_eq!(rt; t.len(), 5);
-        assert_eq!(rt; t.src(), [seg((0x10, 1))].as_slice());
-        let places = [
+        assert!(rt; told(&t) == (5, None, Some(2)));
+        assert!(rt; t.src() == [seg((0x10, 1))].as_slice());
+        let rows = [
             (0, Some(0x10), Some(0x20)),
             (4, Some(0x10), Some(0x31)),
             (5, None, None),
         ];
-        for (position, from, to) in places {
-            assert_eq!(rt; t.src_place(position), from);
-            assert_eq!(rt; t.dst_place(position), to);
-        }
-        assert!(rt; t.touches(seg((0x10, 1))) && !t.writes(seg((0x10, 1))));
+        assert_places(&rt, &t, &rows);
+        assert!(rt; touched(&t, 0x10) == (true, false));
         assert!(rt; !t.touches(seg((0x11, 5))));
         assert!(rt; t.lies_below(0x32) && !t.lies_below(0x31));
-        let copy = t.try_copy()?;
-        assert!(rt; copy.is_fill() && copy.signal() == Some(2));
-        let plain = Transfer::new(rt.alloc(), &[seg((0x10, 1))], &[seg((0x20, 1))], None, None)?;
-        assert!(rt; !plain.is_fill());
         Ok(())
+    }
+
+    // What that fill was copied to.
+    fn copied_fill(alloc: Global) -> Result<Transfer, Fail> {
+        let t = fill_of_five(alloc)?;
+        Ok(t.try_copy()?)
+    }
+
+    // Whether a copy of one byte is a fill.
+    fn is_copy_a_fill(alloc: Global) -> Result<bool, TransferFault> {
+        let plain = Transfer::new(alloc, &[seg((0x10, 1))], &[seg((0x20, 1))], None, None)?;
+        Ok(plain.is_fill())
+    }
+
+    #[test]
+    fn copies_of_fills_are_fills(rt: HostRuntime) -> Result<(), Fail> {
+        assert!(rt; !is_copy_a_fill(rt.alloc())?);
+        let copy = copied_fill(rt.alloc())?;
+        assert!(rt; copy.is_fill() && copy.signal() == Some(2));
+        Ok(())
+    }
+
+    // A fill of five bytes from 0x31FF, which waits for event 7, made of a list.
+    fn fill_of_list(alloc: Global) -> Result<Transfer, Fail> {
+        let dst = Segments::from_slice(alloc, &[seg((0x20, 3)), seg((0x30, 2))])?;
+        Ok(Transfer::fill_list(0x31FF, dst, Some(7), None)?)
+    }
+
+    // Why a fill of no segment is refused, made of a list.
+    fn fault_of_no_destination(alloc: Global) -> Option<TransferFault> {
+        Transfer::fill_list(0, Segments::new(alloc), Some(32), None).err()
     }
 
     #[test]
     fn fills_take_lists_for_themselves(rt: HostRuntime) -> Result<(), Fail> {
-        let dst = Segments::from_slice(rt.alloc(), &[seg((0x20, 3)), seg((0x30, 2))])?;
-        let t = Transfer::fill_list(0x31FF, dst, Some(7), None)?;
+        let fault = fault_of_no_destination(rt.alloc());
+        assert!(rt; fault == Some(TransferFault::EmptyList));
+        let t = fill_of_list(rt.alloc())?;
         assert!(rt; t.is_fill() && !t.lies_below(0x31FF));
-        assert_eq!(rt; (t.len(), t.wait()), (5, Some(7)));
-        assert_eq!(rt; t.src(), [seg((0x31FF, 1))].as_slice());
-        let none = Transfer::fill_list(0, Segments::new(rt.alloc()), Some(32), None);
-        assert_eq!(rt; none.err(), Some(TransferFault::EmptyList));
+        assert!(rt; told(&t) == (5, Some(7), None));
+        assert!(rt; t.src() == [seg((0x31FF, 1))].as_slice());
+        Ok(())
+    }
+
+    // Where another goes from, where to, and whether it and the first are free of each other.
+    type OtherRow = ((u32, u32), (u32, u32), bool);
+
+    // Whether each of two tells so of the other.
+    fn are_free(first: &Transfer, other: &Transfer, free: bool) -> bool {
+        first.is_free_of(other) == free && other.is_free_of(first) == free
+    }
+
+    // The other is a copy.
+    fn is_copy_told(
+        alloc: Global,
+        first: &Transfer,
+        (src, dst, free): OtherRow,
+    ) -> Result<bool, TransferFault> {
+        let other = Transfer::new(alloc, &[seg(src)], &[seg(dst)], None, None)?;
+        Ok(are_free(first, &other, free))
+    }
+
+    // The other is a fill.
+    fn is_fill_told(
+        alloc: Global,
+        first: &Transfer,
+        (src, dst, free): OtherRow,
+    ) -> Result<bool, TransferFault> {
+        let other = Transfer::fill(alloc, src.0, &[seg(dst)], None, None)?;
+        Ok(are_free(first, &other, free))
+    }
+
+    // A fill of four bytes.
+    fn fill_of_four(alloc: Global) -> Result<Transfer, TransferFault> {
+        Transfer::fill(alloc, 0x10, &[seg((0x20, 4))], None, None)
+    }
+
+    static BESIDE_A_FILL: [OtherRow; 4] = [
+        ((0x10, 1), (0x30, 1), true),
+        ((0x30, 1), (0x10, 1), false),
+        ((0x22, 1), (0x30, 1), false),
+        ((0x11, 1), (0x24, 1), true),
+    ];
+
+    // A fill and others, copies and fills.
+    fn assert_fill_told(rt: &impl Abort, alloc: Global, fill: &Transfer) -> Result<(), Fail> {
+        for row in &BESIDE_A_FILL {
+            assert!(rt; is_copy_told(alloc, fill, *row)?, "copy {row:?}");
+            assert!(rt; is_fill_told(alloc, fill, *row)?, "fill {row:?}");
+        }
         Ok(())
     }
 
     #[test]
     fn fills_are_free_of_readers_of_their_byte(rt: HostRuntime) -> Result<(), Fail> {
-        let first = Transfer::fill(rt.alloc(), 0x10, &[seg((0x20, 4))], None, None)?;
-        let cases = [
-            ((0x10, 1), (0x30, 1), true),
-            ((0x30, 1), (0x10, 1), false),
-            ((0x22, 1), (0x30, 1), false),
-            ((0x11, 1), (0x24, 1), true),
-        ];
-        for (src, dst, free) in cases {
-            let copy = Transfer::new(rt.alloc(), &[seg(src)], &[seg(dst)], None, None)?;
-            let fill = Transfer::fill(rt.alloc(), src.0, &[seg(dst)], None, None)?;
-            for other in [copy, fill] {
-                assert_eq!(rt; first.is_free_of(&other), free, "at {src:?} to {dst:?}");
-                assert_eq!(rt; other.is_free_of(&first), free, "at {src:?} to {dst:?}");
-            }
+        let fill = fill_of_four(rt.alloc())?;
+        assert_fill_told(&rt, rt.alloc(), &fill)
+    }
+
+    // Where a fill goes to, its second destination, its event to wait for, and why it is refused.
+    type FillRow = (
+        (u32, u32),
+        Option<(u32, u32)>,
+        Option<u8>,
+        Option<TransferFault>,
+    );
+
+    // From the seventh row on, two causes that follow each other in the order hold.
+    static FILLS: [FillRow; 11] = [
+        ((0x0E, 2), None, None, None),
+        (
+            (0x0E, 4),
+            None,
+            None,
+            Some(TransferFault::SourceMeetsDestination),
+        ),
+        (
+            (0x11, 4),
+            Some((0x14, 2)),
+            None,
+            Some(TransferFault::DestinationsMeet),
+        ),
+        ((0x11, 0), None, None, Some(TransferFault::EmptySegment)),
+        (
+            (0xFFFF_FFFF, 2),
+            None,
+            None,
+            Some(TransferFault::SegmentWraps),
+        ),
+        ((0x11, 2), None, Some(32), Some(TransferFault::BadEvent)),
+        (
+            (0xFFFF_FFFF, 2),
+            Some((8, 0)),
+            None,
+            Some(TransferFault::EmptySegment),
+        ),
+        (
+            (0xFFFF_FFFF, 2),
+            Some((0, 1_048_577)),
+            None,
+            Some(TransferFault::SegmentWraps),
+        ),
+        (
+            (0x100, 1_048_576),
+            Some((0x100, 1)),
+            None,
+            Some(TransferFault::TooLong),
+        ),
+        (
+            (0x0E, 4),
+            Some((0x0E, 1)),
+            None,
+            Some(TransferFault::DestinationsMeet),
+        ),
+        (
+            (0x0E, 4),
+            None,
+            Some(32),
+            Some(TransferFault::SourceMeetsDestination),
+        ),
+    ];
+
+    // Whether a fill is answered so.
+    fn is_fill_answered(
+        alloc: Global,
+        (dst, more, wait, fault): FillRow,
+    ) -> Result<bool, AllocError> {
+        let list = listed(alloc, dst, more)?;
+        let fill = Transfer::fill(alloc, 0x10, list.as_slice(), wait, None);
+        Ok(fill.err() == fault)
+    }
+
+    // Why a fill of too many segments is refused.
+    fn fault_of_fill_of_many(alloc: Global) -> Result<Option<TransferFault>, AllocError> {
+        let many = repeated(alloc, seg((0, 0)), 65)?;
+        Ok(Transfer::fill(alloc, 0x10, many.as_slice(), None, None).err())
+    }
+
+    #[test]
+    fn refuses_fills_by_their_destinations(rt: HostRuntime) -> Result<(), Fail> {
+        for row in &FILLS {
+            assert!(rt; is_fill_answered(rt.alloc(), *row)?, "{row:?}");
         }
+        let fault = fault_of_fill_of_many(rt.alloc())?;
+        assert!(rt; fault == Some(TransferFault::TooManySegments));
         Ok(())
     }
 
-    // From the seventh row on, two causes that follow each other in the order hold.
-    #[test]
-    fn refuses_fills_by_their_destinations(rt: HostRuntime) -> Result<(), Fail> {
-        let cases = [
-            ((0x0E, 2), None, None, None),
-            (
-                (0x0E, 4),
-                None,
-                None,
-                Some(TransferFault::SourceMeetsDestination),
-            ),
-            (
-                (0x11, 4),
-                Some((0x14, 2)),
-                None,
-                Some(TransferFault::DestinationsMeet),
-            ),
-            ((0x11, 0), None, None, Some(TransferFault::EmptySegment)),
-            (
-                (0xFFFF_FFFF, 2),
-                None,
-                None,
-                Some(TransferFault::SegmentWraps),
-            ),
-            ((0x11, 2), None, Some(32), Some(TransferFault::BadEvent)),
-            (
-                (0xFFFF_FFFF, 2),
-                Some((8, 0)),
-                None,
-                Some(TransferFault::EmptySegment),
-            ),
-            (
-                (0xFFFF_FFFF, 2),
-                Some((0, 1_048_577)),
-                None,
-                Some(TransferFault::SegmentWraps),
-            ),
-            (
-                (0x100, 1_048_576),
-                Some((0x100, 1)),
-                None,
-                Some(TransferFault::TooLong),
-            ),
-            (
-                (0x0E, 4),
-                Some((0x0E, 1)),
-                None,
-                Some(TransferFault::DestinationsMeet),
-            ),
-            (
-                (0x0E, 4),
-                None,
-                Some(32),
-                Some(TransferFault::SourceMeetsDestination),
-            ),
-        ];
-        for (dst, more, wait, fault) in cases {
-            let mut list = Segments::from_slice(rt.alloc(), &[seg(dst)])?;
-            if let Some(second) = more {
-                list.push(seg(second))?;
-            }
-            let answer = Transfer::fill(rt.alloc(), 0x10, list.as_slice(), wait, None);
-            assert_eq!(rt; answer.err(), fault, "to {dst:?}");
+    fn copy_of_four(alloc: Global, wait: Option<u8>) -> Result<Transfer, TransferFault> {
+        let src = [seg((0x100, 4))];
+        Transfer::new(alloc, &src, &[seg((0x200, 4))], wait, None)
+    }
+
+    static BESIDE_A_COPY: [OtherRow; 4] = [
+        ((0x203, 4), (0x300, 4), false),
+        ((0x300, 4), (0x203, 4), false),
+        ((0x300, 4), (0x103, 4), false),
+        ((0x100, 4), (0x204, 4), true),
+    ];
+
+    // A copy and others.
+    fn assert_copy_told(rt: &impl Abort, alloc: Global, copy: &Transfer) -> Result<(), Fail> {
+        for row in &BESIDE_A_COPY {
+            assert!(rt; is_copy_told(alloc, copy, *row)?, "{row:?}");
         }
-        let many = repeated(rt.alloc(), seg((0, 0)), 65)?;
-        let answer = Transfer::fill(rt.alloc(), 0x10, many.as_slice(), None, None);
-        assert_eq!(rt; answer.err(), Some(TransferFault::TooManySegments));
         Ok(())
     }
 
     #[test]
     fn is_free_of_others_both_ways(rt: HostRuntime) -> Result<(), Fail> {
-        let first = Transfer::new(
-            rt.alloc(),
-            &[seg((0x100, 4))],
-            &[seg((0x200, 4))],
-            None,
-            None,
-        )?;
-        let cases = [
-            ((0x203, 4), (0x300, 4), false),
-            ((0x300, 4), (0x203, 4), false),
-            ((0x300, 4), (0x103, 4), false),
-            ((0x100, 4), (0x204, 4), true),
-        ];
-        for (src, dst, free) in cases {
-            let other = Transfer::new(rt.alloc(), &[seg(src)], &[seg(dst)], None, None)?;
-            assert_eq!(rt; first.is_free_of(&other), free, "at {src:?} to {dst:?}");
-            assert_eq!(rt; other.is_free_of(&first), free, "at {src:?} to {dst:?}");
-        }
-        Ok(())
+        let copy = copy_of_four(rt.alloc(), None)?;
+        assert_copy_told(&rt, rt.alloc(), &copy)
+    }
+
+    // What a copy that waits for event 3 was copied to.
+    fn copied(alloc: Global) -> Result<Transfer, Fail> {
+        let first = copy_of_four(alloc, Some(3))?;
+        Ok(first.try_copy()?)
     }
 
     #[test]
     fn copies_touch_the_same(rt: HostRuntime) -> Result<(), Fail> {
-        let first = Transfer::new(
-            rt.alloc(),
-            &[seg((0x100, 4))],
-            &[seg((0x200, 4))],
-            Some(3),
-            None,
-        )?;
-        let t = first.try_copy()?;
-        let cases = [
-            (0x103, true, false),
-            (0x203, true, true),
-            (0x204, false, false),
-        ];
-        for (addr, touched, written) in cases {
-            assert_eq!(rt; t.touches(seg((addr, 1))), touched, "at {addr}");
-            assert_eq!(rt; t.writes(seg((addr, 1))), written, "at {addr}");
-        }
-        assert_eq!(rt; t.wait(), Some(3));
+        let t = copied(rt.alloc())?;
+        assert!(rt; touched(&t, 0x103) == (true, false));
+        assert!(rt; touched(&t, 0x203) == (true, true));
+        assert!(rt; touched(&t, 0x204) == (false, false));
+        assert!(rt; t.wait() == Some(3));
         Ok(())
     }
 
-    #[test]
-    fn finds_overlaps_in_any_order(rt: HostRuntime) -> Result<(), Fail> {
+    // Why a copy is refused whose third destination is this one.
+    fn fault_of_third(alloc: Global, third: (u32, u32)) -> Option<TransferFault> {
         let src = [seg((0x100, 8)), seg((0x40, 4))];
-        for (third, fault) in [
-            ((0x34, 4), None),
-            ((0x2F, 4), Some(TransferFault::DestinationsMeet)),
-            ((0x43, 4), Some(TransferFault::SourceMeetsDestination)),
-        ] {
-            let dst = [seg((0x30, 4)), seg((0x10, 4)), seg(third)];
-            let made = Transfer::new(rt.alloc(), &src, &dst, None, None);
-            assert_eq!(rt; made.err(), fault);
-        }
-        Ok(())
+        let dst = [seg((0x30, 4)), seg((0x10, 4)), seg(third)];
+        Transfer::new(alloc, &src, &dst, None, None).err()
+    }
+
+    #[test]
+    fn finds_overlaps_in_any_order(rt: HostRuntime) {
+        assert!(rt; fault_of_third(rt.alloc(), (0x34, 4)).is_none());
+        let meeting = fault_of_third(rt.alloc(), (0x2F, 4));
+        assert!(rt; meeting == Some(TransferFault::DestinationsMeet));
+        let meeting = fault_of_third(rt.alloc(), (0x43, 4));
+        assert!(rt; meeting == Some(TransferFault::SourceMeetsDestination));
     }
 }
