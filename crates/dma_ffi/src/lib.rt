@@ -7,7 +7,6 @@
 #![tactic(auto)]
 
 ghost use Rattle.std.specs.Prelude.{◌≡◌, length, None};
-ghost use Rattle.dma_mem.specs.Places.{filling};
 ghost use Rattle.dma_ffi.specs.Codes.{event_told};
 ghost use Rattle.dma_ffi.specs.Reports.{segment_of, segments_of};
 ghost use Rattle.dma_ffi.specs.Told.{Told, ToldNew, a_number, a_report, a_run, an_outcome, ask_call, ask_copy, ask_fill, ask_forgotten, ask_mark, ask_running, ask_step_count, ask_steps, ask_unfinished, copying, nothing, some_bytes};

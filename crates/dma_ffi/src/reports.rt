@@ -2,7 +2,7 @@
 
 ghost use Rattle.std.specs.Prelude.{◌≡◌};
 ghost use Rattle.dma_ffi.specs.Codes.{reply_code};
-ghost use Rattle.dma_ffi.specs.Reports.{did, end_of, ended, outcome_told, report_of, run_told, segment_of};
+ghost use Rattle.dma_ffi.specs.Reports.{did, end_of, ended, report_of, segment_of};
 ghost use Rattle.dma_ffi.specs.Told.{code_of, outcome_in, replied, report_in, run_in, runs, steps_answer};
 
 use crate::codes::{NO_RESULT, NOT_RUNNING, OK, code_of_fault, number_of_kind, number_of_result};

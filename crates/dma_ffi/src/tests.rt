@@ -1,5 +1,7 @@
 //! The calls as C makes them, each with ample memory. Expected values are those of the description of the formats.
 
+ghost use Rattle.std.specs.Prelude.{◌≤◌};
+
 use crate::codes::{
     ALREADY_OPEN, BAD_EVENT, BAD_KIND, BUFFER_TOO_SMALL, NO_RESULT, NOT_OPEN, NOT_RUNNING, OK,
     SIZE_OUT_OF_RANGE,
@@ -32,14 +34,21 @@ fn four(addr: u32) -> DmaSegment {
     DmaSegment { addr, len: 4 }
 }
 
-// Submits a copy of four bytes, and issues it: the codes, the cookie and the count.
-fn issued(alloc: Global, controller: &mut Controller, ch: u8, wait: i32, signal: i32) -> [i32; 2] {
-    let mut cookie = 0;
-    let mut count = 0;
+// Submits a copy of four bytes from 0x100 to 0x200, and issues it: the codes.
+fn issued(alloc: Global, controller: &mut Controller, wait: i32, signal: i32) -> [i32; 2] {
+    let mut number = 0;
     let src = [four(0x100)];
     let dst = [four(0x200)];
-    let submit = dma_submit(alloc, controller, ch, &src, &dst, wait, signal, &mut cookie);
-    [submit, dma_issue(alloc, controller, ch, &mut count)]
+    let submit = dma_submit(alloc, controller, 0, &src, &dst, wait, signal, &mut number);
+    [submit, dma_issue(alloc, controller, 0, &mut number)]
+}
+
+// Opens a controller, writes four bytes, and issues a copy of them that waits for an event: the codes.
+fn begun(alloc: Global, controller: &mut Controller, wait: i32) -> [i32; 4] {
+    let open = dma_open(alloc, controller, 0x400, 1);
+    let write = dma_write(alloc, controller, 0x100, &[1, 2, 3, 4]);
+    let [submit, issue] = issued(alloc, controller, wait, NO_EVENT);
+    [open, write, submit, issue]
 }
 
 // Takes at most so many steps of channel 0: how many were taken, what the last one did, and how a transfer finished.
@@ -51,95 +60,168 @@ fn stepped(alloc: Global, controller: &mut Controller, most: u32) -> [u32; 3] {
     [report.taken, report.turn, report.result]
 }
 
+// What runs on channel 0, and the code.
+fn running(alloc: Global, controller: &mut Controller) -> (i32, u32, u32) {
+    let mut run = DmaRun {
+        cookie: 77,
+        stored: 77,
+    };
+    let code = dma_running(alloc, controller, 0, &mut run);
+    (code, run.cookie, run.stored)
+}
+
+// How the first cookie of channel 0 finished, and the code.
+fn outcome(alloc: Global, controller: &mut Controller) -> (i32, u32, u32) {
+    let mut outcome = DmaOutcome {
+        result: 77,
+        residue: 77,
+    };
+    let code = dma_result(alloc, controller, 0, 1, &mut outcome);
+    (code, outcome.result, outcome.residue)
+}
+
+// The six bytes from an address on, and the code.
+fn six(alloc: Global, controller: &mut Controller, addr: u32) -> (i32, [u8; 6]) {
+    let mut out = [9; 6];
+    let code = dma_read(alloc, controller, addr, &mut out);
+    (code, out)
+}
+
+// How many cookies of channel 0 aren't finished, and how many a checkpoint forgot, with the codes.
+fn counts(alloc: Global, controller: &mut Controller) -> (i32, u32, i32, u32) {
+    let mut unfinished = 77;
+    let mut forgotten = 77;
+    let one = dma_unfinished(alloc, controller, 0, &mut unfinished);
+    let other = dma_forgotten(alloc, controller, 0, &mut forgotten);
+    (one, unfinished, other, forgotten)
+}
+
+// The step count, and the code.
+fn step_count(alloc: Global, controller: &mut Controller) -> (i32, u64) {
+    let mut steps = 77;
+    let code = dma_steps(alloc, controller, &mut steps);
+    (code, steps)
+}
+
 #[test]
 fn a_copy_from_open_to_close(rt: HostRuntime) {
     let alloc = rt.alloc();
     let mut c = Controller::closed();
-    assert_eq!(rt; dma_open(alloc, &mut c, 0x400, 1), OK);
-    assert_eq!(rt; dma_open(alloc, &mut c, 0x400, 1), ALREADY_OPEN);
-    assert_eq!(rt; dma_write(alloc, &mut c, 0x100, &[1, 2, 3, 4]), OK);
-    assert_eq!(rt; issued(alloc, &mut c, 0, NO_EVENT, NO_EVENT), [OK, OK]);
+    assert_eq!(rt; begun(alloc, &mut c, NO_EVENT), [OK; 4]);
     // its start, and two of the eight instructions of its program
     assert_eq!(rt; stepped(alloc, &mut c, 3), [3, 2, 0]);
-    let mut run = DmaRun {
-        cookie: 0,
-        stored: 77,
-    };
-    assert_eq!(rt; dma_running(alloc, &mut c, 0, &mut run), OK);
-    assert_eq!(rt; (run.cookie, run.stored), (1, 0));
+    assert_eq!(rt; running(alloc, &mut c), (OK, 1, 0));
     assert_eq!(rt; stepped(alloc, &mut c, 100), [6, 8, 0]);
     assert_eq!(rt; dma_status(alloc, &mut c, 0, 1), 2);
-    let mut out = [0; 4];
-    assert_eq!(rt; dma_read(alloc, &mut c, 0x200, &mut out), OK);
-    assert_eq!(rt; out, [1, 2, 3, 4]);
-    let mut steps = 0;
-    assert_eq!(rt; dma_steps(alloc, &mut c, &mut steps), OK);
-    assert_eq!(rt; steps, 8);
+    assert_eq!(rt; six(alloc, &mut c, 0x1FF), (OK, [0, 1, 2, 3, 4, 0]));
+    assert_eq!(rt; step_count(alloc, &mut c), (OK, 8));
     dma_close(alloc, &mut c);
     assert_eq!(rt; dma_pause(alloc, &mut c, 0), NOT_OPEN);
 }
 
 #[test]
-fn what_a_channel_tells(rt: HostRuntime) {
+fn a_channel_is_paused_and_waits(rt: HostRuntime) {
     let alloc = rt.alloc();
     let mut c = Controller::closed();
-    assert_eq!(rt; dma_open(alloc, &mut c, 0x400, 1), OK);
-    assert_eq!(rt; issued(alloc, &mut c, 0, 5, NO_EVENT), [OK, OK]);
+    assert_eq!(rt; begun(alloc, &mut c, 5), [OK; 4]);
     assert_eq!(rt; dma_pause(alloc, &mut c, 0), OK);
     assert_eq!(rt; stepped(alloc, &mut c, 9), [1, 6, 0]);
     assert_eq!(rt; dma_resume(alloc, &mut c, 0), OK);
     assert_eq!(rt; stepped(alloc, &mut c, 9), [2, 5, 0]);
     assert_eq!(rt; dma_raise(alloc, &mut c, 5), OK);
+    let [_, turn, result] = stepped(alloc, &mut c, 100);
+    assert_eq!(rt; [turn, result], [8, 0]);
+    dma_close(alloc, &mut c);
+}
+
+#[test]
+fn a_failed_copy_halts_its_channel(rt: HostRuntime) {
+    let alloc = rt.alloc();
+    let mut c = Controller::closed();
+    let mut count = 77;
+    assert_eq!(rt; begun(alloc, &mut c, NO_EVENT), [OK; 4]);
     assert_eq!(rt; dma_mark(alloc, &mut c, 0, four(0x103)), OK);
     // a load meets the mark, and the channel is halted
-    let failed = stepped(alloc, &mut c, 9);
-    assert_eq!(rt; [failed[1], failed[2]], [8, 1]);
+    let [_, turn, result] = stepped(alloc, &mut c, 100);
+    assert_eq!(rt; [turn, result], [8, 1]);
     assert_eq!(rt; stepped(alloc, &mut c, 9), [1, 7, 0]);
     assert_eq!(rt; dma_unmark(alloc, &mut c), OK);
-    let mut count = 77;
-    assert_eq!(rt; dma_terminate(alloc, &mut c, 0, &mut count), OK);
-    assert_eq!(rt; count, 0);
+    assert_eq!(rt;
+        (dma_terminate(alloc, &mut c, 0, &mut count), count),
+        (OK, 0)
+    );
     assert_eq!(rt; stepped(alloc, &mut c, 9), [1, 3, 0]);
     assert_eq!(rt; stepped(alloc, &mut c, 0), [0, 0, 0]);
     dma_close(alloc, &mut c);
+}
+
+// Opens a controller of 64 bytes, writes one of them, and issues a fill with it: the codes, and the cookie.
+fn fill_begun(alloc: Global, controller: &mut Controller) -> ([i32; 4], u32) {
+    let mut cookie = 77;
+    let mut count = 77;
+    let open = dma_open(alloc, controller, 64, 1);
+    let write = dma_write(alloc, controller, 0x10, &[0x5A]);
+    let fill = dma_submit_fill(
+        alloc,
+        controller,
+        0,
+        0x10,
+        &[four(0x20)],
+        NO_EVENT,
+        NO_EVENT,
+        &mut cookie,
+    );
+    let issue = dma_issue(alloc, controller, 0, &mut count);
+    ([open, write, fill, issue], cookie)
 }
 
 #[test]
 fn a_fill_and_a_checkpoint(rt: HostRuntime) {
     let alloc = rt.alloc();
     let mut c = Controller::closed();
-    let mut number = 77;
-    let mut outcome = DmaOutcome {
-        result: 77,
-        residue: 77,
-    };
-    assert_eq!(rt; dma_open(alloc, &mut c, 64, 1), OK);
-    assert_eq!(rt; dma_write(alloc, &mut c, 0x10, &[0x5A]), OK);
-    let filled = dma_submit_fill(
-        alloc,
-        &mut c,
-        0,
-        0x10,
-        &[four(0x20)],
-        NO_EVENT,
-        NO_EVENT,
-        &mut number,
-    );
-    assert_eq!(rt; (filled, number), (OK, 1));
-    assert_eq!(rt; dma_unfinished(alloc, &mut c, 0, &mut number), OK);
-    assert_eq!(rt; number, 1);
-    assert_eq!(rt; dma_issue(alloc, &mut c, 0, &mut number), OK);
+    assert_eq!(rt; fill_begun(alloc, &mut c), ([OK; 4], 1));
+    assert_eq!(rt; counts(alloc, &mut c), (OK, 1, OK, 0));
     assert_eq!(rt; stepped(alloc, &mut c, 100)[1], 8);
-    assert_eq!(rt; dma_result(alloc, &mut c, 0, 1, &mut outcome), OK);
-    assert_eq!(rt; (outcome.result, outcome.residue), (0, 0));
+    assert_eq!(rt; outcome(alloc, &mut c), (OK, 0, 0));
     assert_eq!(rt; dma_checkpoint(alloc, &mut c), OK);
-    assert_eq!(rt; dma_result(alloc, &mut c, 0, 1, &mut outcome), NO_RESULT);
-    assert_eq!(rt; dma_forgotten(alloc, &mut c, 0, &mut number), OK);
-    assert_eq!(rt; number, 1);
-    let mut out = [0; 6];
-    assert_eq!(rt; dma_read(alloc, &mut c, 0x1F, &mut out), OK);
-    assert_eq!(rt; out, [0, 0x5A, 0x5A, 0x5A, 0x5A, 0]);
+    assert_eq!(rt; outcome(alloc, &mut c), (NO_RESULT, 77, 77));
+    assert_eq!(rt; counts(alloc, &mut c), (OK, 0, OK, 1));
+    assert_eq!(rt;
+        six(alloc, &mut c, 0x1F),
+        (OK, [0, 0x5A, 0x5A, 0x5A, 0x5A, 0])
+    );
     dma_close(alloc, &mut c);
+}
+
+// The codes of openings of one controller: of no byte, with nine channels, right, and again.
+fn openings(alloc: Global, controller: &mut Controller) -> [i32; 4] {
+    [
+        dma_open(alloc, controller, 0, 1),
+        dma_open(alloc, controller, 64, 9),
+        dma_open(alloc, controller, 64, 1),
+        dma_open(alloc, controller, 64, 1),
+    ]
+}
+
+#[test]
+fn a_controller_is_opened_once(rt: HostRuntime) {
+    let alloc = rt.alloc();
+    let mut c = Controller::closed();
+    assert_eq!(rt; six(alloc, &mut c, 0), (NOT_OPEN, [9; 6]));
+    assert_eq!(rt; running(alloc, &mut c), (NOT_OPEN, 77, 77));
+    assert_eq!(rt;
+        openings(alloc, &mut c),
+        [SIZE_OUT_OF_RANGE, -20, OK, ALREADY_OPEN]
+    );
+    dma_close(alloc, &mut c);
+}
+
+// The codes of marks: of a kind that there isn't, and of an empty range.
+fn marks(alloc: Global, controller: &mut Controller) -> [i32; 2] {
+    [
+        dma_mark(alloc, controller, 2, four(0)),
+        dma_mark(alloc, controller, 1, DmaSegment { addr: 0, len: 0 }),
+    ]
 }
 
 #[test]
@@ -147,29 +229,20 @@ fn refusals_write_nothing(rt: HostRuntime) {
     let alloc = rt.alloc();
     let mut c = Controller::closed();
     let mut number = 77;
-    let mut out = [9; 2];
-    assert_eq!(rt; dma_issue(alloc, &mut c, 0, &mut number), NOT_OPEN);
-    assert_eq!(rt; dma_read(alloc, &mut c, 0, &mut out), NOT_OPEN);
-    assert_eq!(rt; dma_open(alloc, &mut c, 0, 1), SIZE_OUT_OF_RANGE);
-    assert_eq!(rt; dma_open(alloc, &mut c, 64, 9), -20);
-    assert_eq!(rt; dma_open(alloc, &mut c, 64, 1), OK);
-    assert_eq!(rt; dma_read(alloc, &mut c, 63, &mut out), -10);
-    assert_eq!(rt; dma_issue(alloc, &mut c, 1, &mut number), -12);
-    assert_eq!(rt; dma_mark(alloc, &mut c, 2, four(0)), BAD_KIND);
-    assert_eq!(rt;
-        dma_mark(alloc, &mut c, 1, DmaSegment { addr: 0, len: 0 }),
-        -15
-    );
-    assert_eq!(rt; dma_raise(alloc, &mut c, 32), BAD_EVENT);
-    let mut run = DmaRun {
-        cookie: 77,
-        stored: 77,
-    };
-    assert_eq!(rt; dma_running(alloc, &mut c, 0, &mut run), NOT_RUNNING);
     let mut report = NO_REPORT;
-    assert_eq!(rt; dma_step(alloc, &mut c, 1, 9, &mut report), -12);
-    assert_eq!(rt; (report.taken, run.cookie, number), (77, 77, 77));
-    assert_eq!(rt; out, [9, 9]);
+    assert_eq!(rt; dma_open(alloc, &mut c, 64, 1), OK);
+    assert_eq!(rt; six(alloc, &mut c, 59), (-10, [9; 6]));
+    assert_eq!(rt;
+        (dma_issue(alloc, &mut c, 1, &mut number), number),
+        (-12, 77)
+    );
+    assert_eq!(rt; marks(alloc, &mut c), [BAD_KIND, -15]);
+    assert_eq!(rt; dma_raise(alloc, &mut c, 32), BAD_EVENT);
+    assert_eq!(rt; running(alloc, &mut c), (NOT_RUNNING, 77, 77));
+    assert_eq!(rt;
+        (dma_step(alloc, &mut c, 1, 9, &mut report), report.taken),
+        (-12, 77)
+    );
     dma_close(alloc, &mut c);
 }
 
@@ -207,43 +280,59 @@ fn lists_are_refused_by_the_first_rule(rt: HostRuntime) {
     dma_close(alloc, &mut c);
 }
 
-#[test]
-fn texts_and_programs(rt: HostRuntime) {
-    let alloc = rt.alloc();
+// Writes the version where there is so much room: the code, the length, and the buffer.
+fn version(room: usize) -> (i32, usize, [u8; 16])
+    requires { room ≤ 16 }
+{
     let mut out = [9; 16];
     let mut len = 77;
+    let code = dma_version(&mut out[..room], &mut len);
+    (code, len, out)
+}
+
+#[test]
+fn the_version_ends_with_a_zero(rt: HostRuntime) {
+    assert_eq!(rt; version(16), (OK, 13, *b"dilkwafam 1.0\0\x09\x09"));
+    assert_eq!(rt; version(13), (BUFFER_TOO_SMALL, 77, [9; 16]));
+}
+
+// Assembles a text where there are so many bytes of room: the code, the length, the place, and the buffer.
+fn assembled(alloc: Global, text: &[u8], room: usize) -> (i32, usize, usize, [u8; 3])
+    requires { room ≤ 3 }
+{
+    let mut out = [9; 3];
+    let mut len = 77;
     let mut place = 77;
-    assert_eq!(rt; dma_version(&mut out, &mut len), OK);
-    assert_eq!(rt; out, *b"dilkwafam 1.0\0\x09\x09");
-    assert_eq!(rt; len, 13);
-    assert_eq!(rt; dma_version(&mut out[..13], &mut len), BUFFER_TOO_SMALL);
+    let code = dma_assemble(alloc, text, &mut out[..room], &mut len, &mut place);
+    (code, len, place, out)
+}
+
+#[test]
+fn a_text_is_assembled(rt: HostRuntime) {
+    let alloc = rt.alloc();
+    let text = b"DMANOP\nDMAEND\n";
+    assert_eq!(rt; assembled(alloc, text, 3), (OK, 2, 77, [0x18, 0, 9]));
     assert_eq!(rt;
-        dma_assemble(alloc, b"DMANOP\nDMAEND\n", &mut out, &mut len, &mut place),
-        OK
+        assembled(alloc, text, 1),
+        (BUFFER_TOO_SMALL, 77, 77, [9; 3])
     );
-    assert_eq!(rt; &out[..3], [0x18, 0, b'l'].as_slice());
-    assert_eq!(rt; (len, place), (2, 77));
-    let mut short = [9; 1];
-    assert_eq!(rt;
-        dma_assemble(alloc, b"DMANOP\nDMAEND\n", &mut short, &mut len, &mut place),
-        BUFFER_TOO_SMALL
-    );
-    assert_eq!(rt;
-        dma_assemble(alloc, b"\nDMAX\n", &mut short, &mut len, &mut place),
-        -50
-    );
-    assert_eq!(rt; (short[0], len, place), (9, 2, 2));
-    assert_eq!(rt;
-        dma_disassemble(alloc, &[0x18], &mut out, &mut len, &mut place),
-        OK
-    );
-    assert_eq!(rt; &out[..8], b"DMANOP\na".as_slice());
-    assert_eq!(rt; (len, place), (7, 2));
-    assert_eq!(rt;
-        dma_disassemble(alloc, &[0, 0xBC], &mut out, &mut len, &mut place),
-        -60
-    );
-    assert_eq!(rt; (len, place), (7, 1));
+    assert_eq!(rt; assembled(alloc, b"\nDMAX\n", 1), (-50, 77, 2, [9; 3]));
+}
+
+// Disassembles a program: the code, the length, the place, and the buffer.
+fn disassembled(alloc: Global, program: &[u8]) -> (i32, usize, usize, [u8; 8]) {
+    let mut out = [9; 8];
+    let mut len = 77;
+    let mut place = 77;
+    let code = dma_disassemble(alloc, program, &mut out, &mut len, &mut place);
+    (code, len, place, out)
+}
+
+#[test]
+fn a_program_is_disassembled(rt: HostRuntime) {
+    let alloc = rt.alloc();
+    assert_eq!(rt; disassembled(alloc, &[0x18]), (OK, 7, 77, *b"DMANOP\n\x09"));
+    assert_eq!(rt; disassembled(alloc, &[0, 0xBC]), (-60, 77, 1, [9; 8]));
 }
 
 // It loads four bytes from 0 and stores them to 4.
