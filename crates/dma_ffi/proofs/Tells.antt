@@ -33,10 +33,12 @@ use Rattle.dma_ffi.specs.Told.{Answer, Answers, AnswersMark, AnswersSteps, Answe
 
 -- ---- from an engine to its controller
 
+-- no engine was there
 pub told_closed : {old new : Option EngineState} {code : ℤ} (asked : Asked) (written : Written) → None ≡ old → new ≡ None → code ≡ negsuc 0 → IsWritten closed written → Told old asked code written new
 unfolding Told
 told_closed {new = new} {code = code} asked written none stays is held = subst (λ (o : Option EngineState). Told o asked code written new) none (stays, is, held)
 
+-- the engine that was taken out, as its call had it, and the one that was put back, with the code as the machine has it
 pub told_open : {old new : Option EngineState} {code told : ℤ} (asked : Asked) (written : Written) (x e e' : EngineState) → new ≡ Some e' → Some x ≡ old → e ≡ x → Tells e.view asked told written e'.view → code ≡ told → Told old asked code written new
 unfolding Told
 told_open {new = new} {code = code} asked written x e e' becomes was same tells is =
