@@ -1,5 +1,5 @@
 -- What C is told of calls without a controller: a program run alone, a text assembled, bytes disassembled.
-use Rattle.std.specs.Prelude.{◌≡◌, ℕ, ◌<◌, Bool, true, false, if◌then◌else◌, nat_le, ℤ, None, Some, Result, Ok, Err, List, [], ◌∷◌, ◌++◌, length, drop, codes, unwrap_or}
+use Rattle.std.specs.Prelude.{◌≡◌, ℕ, ◌<◌, ◌≤◌, Bool, true, false, if◌then◌else◌, nat_le, ℤ, None, Some, Result, Ok, Err, List, [], ◌∷◌, ◌++◌, length, drop, codes, unwrap_or}
 use Rattle.dma_mem.specs.Image.{is_size}
 use Rattle.dma_insn.specs.AssemblyText.{Assembles, IsFirstFault}
 use Rattle.dma_insn.specs.Disassembly.{Disassembles, IsDisFault}
@@ -104,7 +104,8 @@ ToldProgram program code buffer out len written before place =
 -- How a program that is run alone over a memory ends, and the memory that it leaves; or why it isn't run, and the memory is as it
 -- was.
 abbrev pub AnswersRun : List ℕ → List ℕ → ℕ → Result RunEnd AloneFault → List ℕ → Type 0
-AnswersRun program image limit (Ok how) left = RunsAlone program image limit how left
+AnswersRun program image limit (Ok how) left =
+    (is_size (length image) ≡ true) × (length program ≤ 8192) × RunsAlone program image limit how left
 AnswersRun program image limit (Err SizeOutOfRange) left = (is_size (length image) ≡ false) × (left ≡ image)
 AnswersRun program image limit (Err ProgramTooLong) left =
     (is_size (length image) ≡ true) × (8192 < length program) × (left ≡ image)
