@@ -261,8 +261,8 @@ int32_t dma_version(char *out, size_t room, size_t *len) DMA_NO_NULLS;
 int32_t dma_run_program(const uint8_t *program, size_t len, uint8_t *memory, size_t size, uint32_t limit,
                         dma_run_end *end) DMA_NO_NULLS;
 
-/* Writes the bytes of the program that a text says, and their number; of the first line with a fault `*place` is the number
- * from 1: BAD_MNEMONIC, BAD_OPERAND, NUMBER_OUT_OF_RANGE, PROGRAM_TOO_LONG; NO_MEMORY, BUFFER_TOO_SMALL. */
+/* Writes the bytes of the program that a text says, and their number; the first line with a fault is told, by its code and its
+ * number from 1 in `*place`: BAD_MNEMONIC, BAD_OPERAND, NUMBER_OUT_OF_RANGE, PROGRAM_TOO_LONG; NO_MEMORY, BUFFER_TOO_SMALL. */
 int32_t dma_assemble(const char *text, size_t text_len, uint8_t *out, size_t room, size_t *len, size_t *place) DMA_NO_NULLS;
 
 /* Writes the text of a program, each line ended by a line feed and no zero byte behind it, and its length; of the first

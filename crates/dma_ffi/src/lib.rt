@@ -2,8 +2,8 @@
 //!
 //! C declares `#include "dma.h"`. Each call on a controller tells C what the engine answers: `Told` says so of all of them.
 //! Duties of the caller, which no proof can see: a controller is zeros before it is opened, is not copied while it is open,
-//! and its members are neither read nor written; one call at a time has it; pointers are valid for as long as a call takes, and
-//! what they point to doesn't overlap.
+//! and its members are neither read nor written; one call at a time has it, on the thread that opened it; pointers are valid
+//! for as long as a call takes, and what they point to doesn't overlap.
 #![tactic(auto)]
 
 ghost use Rattle.std.specs.Prelude.{◌≡◌, length, None};

@@ -23,8 +23,8 @@ fn goes_on(turn: Turn) -> bool
 
 /// Takes at most so many steps of a channel: up to one that neither starts nor moves, or to where one is refused.
 ///
-/// The error is the refusal of the first step. A refusal of a later one isn't told: the steps before it are, and it comes
-/// again with the next step, since it changed nothing.
+/// The error is the refusal of the first step. A refusal of a later one isn't told: the steps before it are. It changed
+/// nothing, so the next call takes that step again.
 pub fn take_steps(engine: &mut Engine, ch: u8, most: u32) -> Result<Taken, EngineFault>
     ensures { AnswersSteps engine.old.view ch most (steps_answer result) engine.new.view }
 {

@@ -19,8 +19,8 @@ unreachable-requires c =
 
 pub returns : goal.returns
 returns c = (
-    c.in_ok-memory.ensures.1,
-    c.in-Ok.ensures.fits,
-    read-back c.args.program.now c.in_ok-memory.memory.image c.args.bytes.now c.run_program.new.memory.image c.read_into.new.buf c.args.limit c.in-Ok.end
-        c.in_ok-memory.ensures.0 c.in-Ok.ensures.ok c.in-Ok-read_into.ensures.ok,
-  )
+  c.in_ok-memory.ensures.1,
+  c.in-Ok.ensures.fits,
+  read-back c.args.program.now c.in_ok-memory.memory.image c.args.bytes.now c.run_program.new.memory.image c.read_into.new.buf c.args.limit c.in-Ok.end
+      c.in_ok-memory.ensures.0 c.in-Ok.ensures.ok c.in-Ok-read_into.ensures.ok,
+)
