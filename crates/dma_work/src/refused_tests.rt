@@ -10,9 +10,12 @@ use crate::parts::{Parts, ShareFaultKind};
 use crate::reader::StatusReader;
 use crate::shared::Shared;
 use crate::tests::{settled, shared_out, two_copies};
+use crate::ticket::Receipt;
 use crate::totals::Totals;
 use crate::workers::{NoGate, run_workers};
-use dma_engine::{Engine, EngineFault, MarkKind, Outcome, Running, Status, TransResult};
+use dma_engine::{
+    Engine, EngineFault, MarkKind, Outcome, Running, Status, SubmitFault, TransResult,
+};
 use dma_mem::segment::Segment;
 use dma_mem::transfer::Transfer;
 use std::alloc::Global;
@@ -36,7 +39,15 @@ struct DeskFacts {
     seen: [Option<Status>; 3],
 }
 
-fn told<N: DeskName>(desk: &Desk<N>, reader: &mut StatusReader) -> DeskFacts {
+// What a reader sees of a cookie of channel 0; none also where there is no reader.
+fn seen(reader: &mut Option<StatusReader>, cookie: u32) -> Option<Status> {
+    match reader {
+        Some(reader) => reader.status(0, cookie),
+        None => None,
+    }
+}
+
+fn told<N: DeskName>(desk: &Desk<N>, reader: &mut Option<StatusReader>) -> DeskFacts {
     let engine = desk.engine();
     DeskFacts {
         entries: engine.history().len(),
@@ -45,11 +56,7 @@ fn told<N: DeskName>(desk: &Desk<N>, reader: &mut StatusReader) -> DeskFacts {
         running: engine.running(0),
         results: [engine.result(0, 1), engine.result(0, 2)],
         book: desk.book(),
-        seen: [
-            reader.status(0, 1),
-            reader.status(0, 2),
-            reader.status(0, 3),
-        ],
+        seen: [seen(reader, 1), seen(reader, 2), seen(reader, 3)],
     }
 }
 
@@ -130,7 +137,7 @@ fn refusal<N: DeskName, R: Wait + Abort>(
 fn asked_again<N: DeskName, R: Wait + Abort + Print>(
     rt: &R,
     desk: &mut Desk<N>,
-    reader: &mut StatusReader,
+    reader: &mut Option<StatusReader>,
     row: Row,
 ) -> Result<(), Fail> {
     println!(rt; "row Desk {}", row.name)?;
@@ -156,20 +163,26 @@ fn has_bytes(engine: &mut Engine, behind: [u8; 4], copied: [u8; 4]) -> Result<bo
 fn over_a_desk<N: DeskName, R: Wait + Abort + Print>(
     rt: &R,
     parts: Parts,
-    mut readers: Vec<StatusReader>,
+    mut reader: Option<StatusReader>,
     row: Row,
-) -> Result<(), Fail>
+) -> Result<Engine, Fail>
     requires { Names N.steps N.finished N.base N.log parts }
 {
     let mut desk = Desk::<N>::new(parts);
-    let answer = match readers.pop() {
-        Some(mut reader) => asked_again(rt, &mut desk, &mut reader, row),
-        None => Err(Fail::from("no reader")),
-    };
-    let mut engine = desk.close(rt);
+    let answer = asked_again(rt, &mut desk, &mut reader, row);
+    let engine = desk.close(rt);
     answer?;
-    assert!(rt; has_bytes(&mut engine, row.behind, row.copied)?);
-    Ok(())
+    Ok(engine)
+}
+
+// Parts of an engine, and their one reader.
+fn with_a_reader<R: Wait>(
+    rt: &R,
+    alloc: Global,
+    engine: Engine,
+) -> Result<(Parts, Option<StatusReader>), Fail> {
+    let (parts, mut readers) = shared_out(rt, alloc, engine, 1)?;
+    Ok((parts, readers.pop()))
 }
 
 fn over_an_engine<R: Wait + Abort + Print>(
@@ -178,8 +191,10 @@ fn over_an_engine<R: Wait + Abort + Print>(
     engine: Engine,
     row: Row,
 ) -> Result<(), Fail> {
-    let (parts, readers) = shared_out(rt, alloc, engine, 1)?;
-    over_a_desk::<Brand, _>(rt, parts, readers, row)
+    let (parts, reader) = with_a_reader(rt, alloc, engine)?;
+    let mut engine = over_a_desk::<Brand, _>(rt, parts, reader, row)?;
+    assert!(rt; has_bytes(&mut engine, row.behind, row.copied)?);
+    Ok(())
 }
 
 // ---- calls that find no room in the lists
@@ -206,17 +221,28 @@ fn submitted(engine: &mut Engine, transfer: Transfer) -> Result<(), Fail> {
     }
 }
 
+// Steps that are answered.
+fn stepped(engine: &mut Engine, steps: u32) -> Result<(), Fail> {
+    for _ in 0..steps {
+        engine.step(0)?;
+    }
+    Ok(())
+}
+
+fn one_copied_one_given(alloc: Global, engine: &mut Engine) -> Result<(), Fail> {
+    engine.write(0x100, &[1, 2, 3, 4])?;
+    submitted(engine, copy_of_four(alloc, 0x200, None, None)?)?;
+    engine.issue(0)?;
+    stepped(engine, 9)?;
+    submitted(engine, copy_of_four(alloc, 0x300, None, None)?)?;
+    engine.checkpoint()?;
+    Ok(())
+}
+
 // An engine whose lists have no room, since a checkpoint gave it back. Of channel 0 cookie 1 is finished and cookie 2 given.
 fn without_room(alloc: Global) -> Result<Engine, Fail> {
     let mut engine = Engine::new(alloc, 0x3000, 1)?;
-    engine.write(0x100, &[1, 2, 3, 4])?;
-    submitted(&mut engine, copy_of_four(alloc, 0x200, None, None)?)?;
-    engine.issue(0)?;
-    for _ in 0..9 {
-        engine.step(0)?;
-    }
-    submitted(&mut engine, copy_of_four(alloc, 0x300, None, None)?)?;
-    engine.checkpoint()?;
+    one_copied_one_given(alloc, &mut engine)?;
     Ok(engine)
 }
 
@@ -314,73 +340,92 @@ fn calls_on_a_queue(rt: HostRuntime) -> Result<(), Fail> {
     Ok(())
 }
 
-// Submits cookie 3. Where memory is refused, the transfer is handed back and submitted once more.
-fn submitted_again<N: DeskName, R: Wait + Abort + Print>(
-    rt: &R,
-    desk: &mut Desk<N>,
-    reader: &mut StatusReader,
-    transfer: Transfer,
-) -> Result<(), Fail> {
-    println!(rt; "row Desk submit")?;
-    let before = told(desk, reader);
-    let transfer = match desk.submit(rt, 0, transfer) {
-        Ok(receipt) => {
-            assert_eq!(rt; receipt.cookie, 3);
-            return Ok(());
-        }
-        Err(refused) => {
-            assert_eq!(rt; refused.fault, EngineFault::NoMemory);
-            refused.transfer
-        }
-    };
-    println!(rt; "refused Desk submit")?;
-    assert_eq!(rt; told(desk, reader), before);
-    assert_eq!(rt;
-        (transfer.src_place(3), transfer.dst_place(3)),
-        (Some(0x103), Some(0x403))
-    );
-    assert_eq!(rt; (transfer.wait(), transfer.signal()), (Some(3), Some(7)));
-    match desk.submit(rt, 0, transfer) {
-        Ok(receipt) => assert_eq!(rt; receipt.cookie, 3),
-        Err(_) => assert!(rt; false),
-    }
-    Ok(())
+// A copy that waits and signals.
+fn with_events(alloc: Global) -> Result<Transfer, Fail> {
+    copy_of_four(alloc, 0x400, Some(3), Some(7))
 }
 
+// Whether a refusal for want of memory hands such a copy back.
+fn hands_back(refused: &SubmitFault) -> bool {
+    let transfer = &refused.transfer;
+    refused.fault == EngineFault::NoMemory
+        && transfer.src_place(3) == Some(0x103)
+        && transfer.src_place(4) == None
+        && transfer.dst_place(3) == Some(0x403)
+        && transfer.wait() == Some(3)
+        && transfer.signal() == Some(7)
+}
+
+// The cookie of a receipt, or what was refused.
+fn cookie_or_fault<N: DeskName>(
+    answer: Result<Receipt<N>, SubmitFault>,
+) -> Result<u32, SubmitFault> {
+    match answer {
+        Ok(receipt) => Ok(receipt.cookie),
+        Err(refused) => Err(refused),
+    }
+}
+
+// Submits a copy. Where memory is refused, it is handed back and submitted once more.
+fn submitted_again<N: DeskName, R: Wait + Abort + Print>(
+    rt: &R,
+    alloc: Global,
+    desk: &mut Desk<N>,
+    reader: &mut Option<StatusReader>,
+) -> Result<Option<u32>, Fail> {
+    println!(rt; "row Desk submit")?;
+    let before = told(desk, reader);
+    let answer = desk.submit(rt, 0, with_events(alloc)?);
+    let refused = match cookie_or_fault(answer) {
+        Ok(cookie) => return Ok(Some(cookie)),
+        Err(refused) => refused,
+    };
+    println!(rt; "refused Desk submit")?;
+    assert!(rt; hands_back(&refused));
+    assert_eq!(rt; told(desk, reader), before);
+    let answer = desk.submit(rt, 0, refused.transfer);
+    Ok(cookie_or_fault(answer).ok())
+}
+
+// The cookie of a copy that is submitted to a desk of its own, and what the desk tells then.
 fn submitted_over_a_desk<N: DeskName, R: Wait + Abort + Print>(
     rt: &R,
+    alloc: Global,
     parts: Parts,
-    mut readers: Vec<StatusReader>,
-    transfer: Transfer,
-) -> Result<(), Fail>
+    mut reader: Option<StatusReader>,
+) -> (Result<Option<u32>, Fail>, DeskFacts)
     requires { Names N.steps N.finished N.base N.log parts }
 {
     let mut desk = Desk::<N>::new(parts);
-    let answer = match readers.pop() {
-        Some(mut reader) => {
-            let answer = submitted_again(rt, &mut desk, &mut reader, transfer);
-            let after = DeskFacts {
-                seen: [COMPLETE, IN_PROGRESS, IN_PROGRESS],
-                ..ONE_ENTRY
-            };
-            assert_eq!(rt; told(&desk, &mut reader), after);
-            answer
-        }
-        None => Err(Fail::from("no reader")),
-    };
+    let cookie = submitted_again(rt, alloc, &mut desk, &mut reader);
+    let after = told(&desk, &mut reader);
     drop(desk.close(rt));
-    answer
+    (cookie, after)
 }
 
 #[test]
 fn a_transfer_is_handed_back(rt: HostRuntime) -> Result<(), Fail> {
-    let alloc = rt.alloc();
-    let transfer = copy_of_four(alloc, 0x400, Some(3), Some(7))?;
-    let (parts, readers) = shared_out(&rt, alloc, without_room(alloc)?, 1)?;
-    submitted_over_a_desk::<Brand, _>(&rt, parts, readers, transfer)
+    let (parts, reader) = with_a_reader(&rt, rt.alloc(), without_room(rt.alloc())?)?;
+    let (cookie, after) = submitted_over_a_desk::<Brand, _>(&rt, rt.alloc(), parts, reader);
+    assert_eq!(rt; cookie?, Some(3));
+    let wanted = DeskFacts {
+        seen: [COMPLETE, IN_PROGRESS, IN_PROGRESS],
+        ..ONE_ENTRY
+    };
+    assert_eq!(rt; after, wanted);
+    Ok(())
 }
 
 // ---- steps that take memory
+
+fn stepped_without_room(engine: &mut Engine, transfer: Transfer, steps: u32) -> Result<(), Fail> {
+    submitted(engine, transfer)?;
+    engine.write(0x100, &[1, 2, 3, 4])?;
+    engine.raise(3)?;
+    engine.issue(0)?;
+    engine.checkpoint()?;
+    stepped(engine, steps)
+}
 
 // An engine that has given all room back, whose channel 0 has taken so many steps of a copy with these events. The flag of
 // event 3 is set.
@@ -390,15 +435,9 @@ fn before_a_step(
     signal: Option<u8>,
     steps: u32,
 ) -> Result<Engine, Fail> {
+    let transfer = copy_of_four(alloc, 0x200, wait, signal)?;
     let mut engine = Engine::new(alloc, 0x3000, 1)?;
-    engine.write(0x100, &[1, 2, 3, 4])?;
-    engine.raise(3)?;
-    submitted(&mut engine, copy_of_four(alloc, 0x200, wait, signal)?)?;
-    engine.issue(0)?;
-    engine.checkpoint()?;
-    for _ in 0..steps {
-        engine.step(0)?;
-    }
+    stepped_without_room(&mut engine, transfer, steps)?;
     Ok(engine)
 }
 
@@ -500,52 +539,51 @@ fn a_finish(rt: HostRuntime) -> Result<(), Fail> {
 
 // ---- parts and workers
 
-// How many entries the engine of these parts has, and what each of two readers sees of cookie 2.
-fn seen_in<N: DeskName, R: Wait>(
-    rt: &R,
-    parts: Parts,
-    mut readers: Vec<StatusReader>,
-) -> (usize, [Option<Status>; 2])
+// How many entries the engine of these parts has.
+fn entries_of<N: DeskName, R: Wait>(rt: &R, parts: Parts) -> usize
     requires { Names N.steps N.finished N.base N.log parts }
 {
-    let desk = Desk::<N>::new(parts);
-    let mut seen = [None; 2];
-    for status in seen.iter_mut() {
-        if let Some(mut reader) = readers.pop() {
-            *status = reader.status(0, 2);
-        }
-    }
-    let engine = desk.close(rt);
-    (engine.history().len(), seen)
+    let engine = Desk::<N>::new(parts).close(rt);
+    engine.history().len()
 }
 
-// Parts with two readers. Where memory is refused, the engine is handed back and shared once more.
-fn made_again<R: Wait + Abort + Print>(
+// What each of two readers sees of cookie 2.
+fn both_see(mut readers: Vec<StatusReader>) -> [Option<Status>; 2] {
+    let mut first = readers.pop();
+    let mut second = readers.pop();
+    [seen(&mut first, 2), seen(&mut second, 2)]
+}
+
+// Parts with two readers. Where memory is refused, the engine is handed back, and asked for once more.
+fn parts_again<R: Wait + Abort + Print>(
     rt: &R,
     alloc: Global,
     engine: Engine,
 ) -> Result<(Parts, Vec<StatusReader>), Fail> {
-    match Parts::new(rt, alloc, engine, 2) {
-        Ok(made) => Ok(made),
-        Err(refused) => {
-            println!(rt; "refused Parts::new")?;
-            assert_eq!(rt; refused.fault, ShareFaultKind::NoMemory);
-            assert_eq!(rt; refused.engine.history().len(), 1);
-            assert_eq!(rt; refused.engine.status(0, 2), Status::InProgress);
-            shared_out(rt, alloc, refused.engine, 2)
-        }
-    }
+    let refused = match Parts::new(rt, alloc, engine, 2) {
+        Ok(made) => return Ok(made),
+        Err(refused) => refused,
+    };
+    println!(rt; "refused Parts::new")?;
+    assert_eq!(rt; refused.fault, ShareFaultKind::NoMemory);
+    assert_eq!(rt; refused.engine.history().len(), 1);
+    assert_eq!(rt; refused.engine.status(0, 2), Status::InProgress);
+    shared_out(rt, alloc, refused.engine, 2)
+}
+
+fn one_issued(alloc: Global) -> Result<Engine, Fail> {
+    let mut engine = without_room(alloc)?;
+    engine.issue(0)?;
+    Ok(engine)
 }
 
 #[test]
 fn parts_are_made_when_asked_again(rt: HostRuntime) -> Result<(), Fail> {
     println!(rt; "row Parts::new")?;
-    let mut engine = without_room(rt.alloc())?;
-    assert_eq!(rt; engine.issue(0)?, 1);
-    let (parts, readers) = made_again(&rt, rt.alloc(), engine)?;
+    let (parts, readers) = parts_again(&rt, rt.alloc(), one_issued(rt.alloc())?)?;
     assert_eq!(rt; readers.len(), 2);
-    let seen = seen_in::<Brand, _>(&rt, parts, readers);
-    assert_eq!(rt; seen, (1, [IN_PROGRESS, IN_PROGRESS]));
+    assert_eq!(rt; both_see(readers), [IN_PROGRESS, IN_PROGRESS]);
+    assert_eq!(rt; entries_of::<Brand, _>(&rt, parts), 1);
     Ok(())
 }
 

@@ -18,15 +18,23 @@ use std::marker::Brand;
 use std::sync::{MutexGuard, Wait};
 use std::test::Fail;
 
-// A copy of 300 bytes, in bursts of 256, 32 and 12.
+// The source has 300 bytes. They are copied in bursts of 256, 32 and 12.
+const LENGTH: u32 = 300;
+
+const SOURCE: u32 = 0x1000;
+
+const DESTINATION: u32 = 0x2000;
+
+const SIZE: u32 = 0x4000;
+
 fn copy_of_300(alloc: Global) -> Result<Transfer, Fail> {
     let src = [Segment {
-        addr: 0x1000,
-        len: 300,
+        addr: SOURCE,
+        len: LENGTH,
     }];
     let dst = [Segment {
-        addr: 0x2000,
-        len: 300,
+        addr: DESTINATION,
+        len: LENGTH,
     }];
     Ok(Transfer::new(alloc, &src, &dst, None, None)?)
 }
@@ -43,26 +51,40 @@ fn source_byte(place: u32) -> u8 {
     (place % 251) as u8
 }
 
-// The first bytes of the source, so many, and then zeros.
-fn copied(alloc: Global, done: u32) -> Result<Vec<u8>, AllocError> {
+// The byte at an address where so many bytes are copied.
+fn copied_byte(done: u32, address: u32) -> u8 {
+    if address >= DESTINATION && address - DESTINATION < done {
+        return source_byte(address - DESTINATION);
+    }
+    if address >= SOURCE && address - SOURCE < LENGTH {
+        return source_byte(address - SOURCE);
+    }
+    0
+}
+
+// The whole memory where so many bytes are copied, and nothing else was done.
+fn memory_after(alloc: Global, done: u32) -> Result<Vec<u8>, AllocError> {
     let mut bytes = Vec::new(alloc);
-    for place in 0..300u32 {
-        let byte = if place < done { source_byte(place) } else { 0 };
-        bytes.push(byte)?;
+    for address in 0..SIZE {
+        bytes.push(copied_byte(done, address))?;
     }
     Ok(bytes)
 }
 
+fn written(alloc: Global, engine: &mut Engine) -> Result<(), Fail> {
+    let memory = memory_after(alloc, 0)?;
+    Ok(engine.write(0, &memory)?)
+}
+
 // An engine of one channel that has the source.
 fn with_source(alloc: Global) -> Result<Engine, Fail> {
-    let mut engine = Engine::new(alloc, 0x4000, 1)?;
-    let source = copied(alloc, 300)?;
-    engine.write(0x1000, &source)?;
+    let mut engine = Engine::new(alloc, SIZE, 1)?;
+    written(alloc, &mut engine)?;
     Ok(engine)
 }
 
 // What was answered around a stop.
-#[derive(Clone, Copy, PartialEq, Eq, Debug)]
+#[derive(Clone, Copy, PartialEq, Eq)]
 struct Stop {
     started: Option<Turn>,
     // whether each step after it moved
@@ -162,19 +184,29 @@ fn stopped<R: Wait>(rt: &R, alloc: Global, steps: u32) -> Result<(Option<Stop>, 
     Ok(stop_at_desk::<Brand, _>(rt, parts, readers, copies, steps))
 }
 
-// Whether so many bytes are copied, as the outcome of the first cookie says.
-fn keeps(alloc: Global, engine: &mut Engine, done: u32, residue: u32) -> Result<bool, Fail> {
-    let outcome = Outcome {
+// Whether the memory is that where so many bytes are copied.
+fn has_copied(alloc: Global, engine: &mut Engine, done: u32) -> Result<bool, Fail> {
+    let memory = memory_after(alloc, done)?;
+    let read = engine.read(0, SIZE)?;
+    Ok(read.as_slice() == memory.as_slice())
+}
+
+// Whether a stop after so many instructions is told so, and leaves the first cookie with this residue and so many bytes
+// copied.
+fn stops<R: Wait>(
+    rt: &R,
+    alloc: Global,
+    steps: u32,
+    done: u32,
+    residue: u32,
+) -> Result<bool, Fail> {
+    let aborted = Outcome {
         result: TransResult::Aborted,
         residue,
     };
-    let all = copied(alloc, 300)?;
-    let first = copied(alloc, done)?;
-    let source = engine.read(0x1000, 300)?;
-    let destination = engine.read(0x2000, 300)?;
-    let is_copied = source.as_slice() == all.as_slice()
-        && destination.as_slice() == first.as_slice();
-    Ok(is_copied && engine.result(0, 1) == Some(outcome))
+    let (stop, mut engine) = stopped(rt, alloc, steps)?;
+    let is_told = stop == Some(WANTED) && engine.result(0, 1) == Some(aborted);
+    Ok(is_told && has_copied(alloc, &mut engine, done)?)
 }
 
 const WANTED: Stop = Stop {
@@ -197,10 +229,8 @@ fn a_stop_after_each_instruction(rt: HostRuntime) -> Result<(), Fail> {
     ];
     for (first, last, done, residue) in rows {
         for steps in first..=last {
-            let (stop, mut engine) = stopped(&rt, rt.alloc(), steps)?;
-            assert_eq!(rt; stop, Some(WANTED), "after {steps}");
             assert!(rt;
-                keeps(rt.alloc(), &mut engine, done, residue)?,
+                stops(&rt, rt.alloc(), steps, done, residue)?,
                 "after {steps}"
             );
         }

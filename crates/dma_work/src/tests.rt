@@ -42,17 +42,27 @@ fn both_copies(alloc: Global) -> Result<Option<(Transfer, Transfer)>, Fail> {
     Ok(Some((first, second)))
 }
 
-// Two channels, with a copy of four bytes issued on each.
+// Submits one to an engine.
+fn given(alloc: Global, engine: &mut Engine, ch: u8, to: u32) -> Result<(), Fail> {
+    match engine.submit(ch, copy_of_four(alloc, to)?) {
+        Ok(_) => Ok(()),
+        Err(_) => Err(Fail::from("submit was refused")),
+    }
+}
+
+fn both_issued(alloc: Global, engine: &mut Engine) -> Result<(), Fail> {
+    engine.write(0x100, &[0x0A, 0x0B, 0x0C, 0x0D])?;
+    given(alloc, engine, 0, 0x200)?;
+    given(alloc, engine, 1, 0x300)?;
+    engine.issue(0)?;
+    engine.issue(1)?;
+    Ok(())
+}
+
+/// Two channels, with a copy of four bytes issued on each.
 pub fn two_copies(alloc: Global) -> Result<Engine, Fail> {
     let mut engine = Engine::new(alloc, 0x400, 2)?;
-    engine.write(0x100, &[0x0A, 0x0B, 0x0C, 0x0D])?;
-    for ch in 0..2 {
-        let to = if ch == 0 { 0x200 } else { 0x300 };
-        let Ok(_cookie) = engine.submit(ch, copy_of_four(alloc, to)?) else {
-            return Err(Fail::from("submit was refused"));
-        };
-        engine.issue(ch)?;
-    }
+    both_issued(alloc, &mut engine)?;
     Ok(engine)
 }
 
@@ -224,10 +234,9 @@ pub fn settled<N: DeskName, R: Wait>(
 #[test]
 fn a_day_at_the_desk(rt: HostRuntime) -> Result<(), Fail> {
     let alloc = rt.alloc();
-    let engine = Engine::new(alloc, 0x400, 2)?;
-    let copies = both_copies(alloc)?;
     let job = Job::new(0, 0, 9).ok_or("no job")?;
-    let (parts, readers) = shared_out(&rt, alloc, engine, 1)?;
+    let copies = both_copies(alloc)?;
+    let (parts, readers) = shared_out(&rt, alloc, Engine::new(alloc, 0x400, 2)?, 1)?;
     let (day, last) = whole_day::<Brand, _>(&rt, alloc, parts, readers, copies, job);
     let totals = Totals {
         steps: 8,
@@ -623,9 +632,9 @@ fn watch<N: DeskName + Send + Sync, R: Threads + Wait + Sync>(
 #[test]
 fn a_reader_asks_while_workers_run(rt: HostRuntime) -> Result<(), Fail> {
     let alloc = rt.alloc();
+    let jobs = nine_turns_each()?;
     let first = copy_of_four(alloc, 0x200)?;
     let second = copy_of_four(alloc, 0x300)?;
-    let jobs = nine_turns_each()?;
     let (parts, readers) = shared_out(&rt, alloc, Engine::new(alloc, 0x400, 2)?, 1)?;
     let seen = watch::<Brand, _>(&rt, alloc, parts, readers, first, second, jobs);
     let wanted = Watched {
@@ -641,6 +650,30 @@ fn a_reader_asks_while_workers_run(rt: HostRuntime) -> Result<(), Fail> {
 }
 
 // ---- a checkpoint
+
+// Carries a copy of four bytes out on channel 0.
+fn copied(alloc: Global, engine: &mut Engine) -> Result<(), Fail> {
+    given(alloc, engine, 0, 0x200)?;
+    engine.issue(0)?;
+    for _ in 0..9 {
+        engine.step(0)?;
+    }
+    Ok(())
+}
+
+fn one_finished(alloc: Global) -> Result<Engine, Fail> {
+    let mut engine = Engine::new(alloc, 0x400, 1)?;
+    copied(alloc, &mut engine)?;
+    Ok(engine)
+}
+
+// The same after a checkpoint, with a second copy submitted.
+fn with_a_base(alloc: Global) -> Result<Engine, Fail> {
+    let mut engine = one_finished(alloc)?;
+    engine.checkpoint()?;
+    given(alloc, &mut engine, 0, 0x300)?;
+    Ok(engine)
+}
 
 // What a reader was told of cookie 1 before a checkpoint and after it, the cookie that was given then, and how many entries
 // and forgotten cookies there were.
@@ -693,16 +726,8 @@ fn around_a_checkpoint<N: DeskName, R: Wait>(
 #[test]
 fn a_status_stays_over_a_checkpoint(rt: HostRuntime) -> Result<(), Fail> {
     let alloc = rt.alloc();
-    let mut engine = Engine::new(alloc, 0x400, 1)?;
-    let Ok(_cookie) = engine.submit(0, copy_of_four(alloc, 0x200)?) else {
-        return Err(Fail::from("submit was refused"));
-    };
-    engine.issue(0)?;
-    for _ in 0..9 {
-        engine.step(0)?;
-    }
     let second = copy_of_four(alloc, 0x300)?;
-    let (parts, readers) = shared_out(&rt, alloc, engine, 1)?;
+    let (parts, readers) = shared_out(&rt, alloc, one_finished(alloc)?, 1)?;
     let told = around_a_checkpoint::<Brand, _>(&rt, parts, readers, second);
     let wanted = Checkpointed {
         before: Some(Status::Complete),
@@ -750,20 +775,7 @@ fn told_over_a_base<N: DeskName, R: Wait>(
 
 #[test]
 fn parts_of_an_engine_with_a_base(rt: HostRuntime) -> Result<(), Fail> {
-    let alloc = rt.alloc();
-    let mut engine = Engine::new(alloc, 0x400, 1)?;
-    let Ok(_cookie) = engine.submit(0, copy_of_four(alloc, 0x200)?) else {
-        return Err(Fail::from("submit was refused"));
-    };
-    engine.issue(0)?;
-    for _ in 0..9 {
-        engine.step(0)?;
-    }
-    engine.checkpoint()?;
-    let Ok(_cookie) = engine.submit(0, copy_of_four(alloc, 0x300)?) else {
-        return Err(Fail::from("submit was refused"));
-    };
-    let (parts, readers) = shared_out(&rt, alloc, engine, 1)?;
+    let (parts, readers) = shared_out(&rt, rt.alloc(), with_a_base(rt.alloc())?, 1)?;
     let told = told_over_a_base::<Brand, _>(&rt, parts, readers);
     let wanted = OverABase {
         forgotten: Some(Status::Complete),
