@@ -4,26 +4,44 @@ use crate::compile::compile;
 use crate::program::Program;
 use crate::run::{RunEnd, run_program};
 use crate::turn::FaultKind;
-use dma_mem::memory::Memory;
+use dma_mem::memory::{MemFault, Memory};
 use dma_mem::segment::Segment;
-use dma_mem::transfer::Transfer;
+use dma_mem::transfer::{Transfer, TransferFault};
 use std::alloc::Global;
+use std::process::Abort;
 use std::test::Fail;
 
 fn segment(addr: u32, len: u32) -> Segment {
     Segment { addr, len }
 }
 
+// The copy of one segment to another of its length.
+fn copy(alloc: Global, src: u32, dst: u32, len: u32) -> Result<Transfer, TransferFault> {
+    let src = [segment(src, len)];
+    Transfer::new(alloc, &src, &[segment(dst, len)], None, None)
+}
+
 // The program that copies one segment to another of its length.
 fn copy_program(alloc: Global, src: u32, dst: u32, len: u32) -> Result<Program, Fail> {
-    let transfer = Transfer::new(
-        alloc,
-        &[segment(src, len)],
-        &[segment(dst, len)],
-        None,
-        None,
-    )?;
+    let transfer = copy(alloc, src, dst, len)?;
     Ok(compile(alloc, &transfer)?)
+}
+
+// The addresses and the length of a copy or a fill, the bytes of its program, and its cost.
+type Row = (u32, u32, u32, &'static [u8], u32);
+
+// The program of a transfer has these bytes, and this cost.
+fn assert_compiles(
+    rt: &impl Abort,
+    alloc: Global,
+    transfer: &Transfer,
+    bytes: &[u8],
+    cost: u32,
+) -> Result<(), Fail> {
+    let program = compile(alloc, transfer)?;
+    assert!(rt; program.bytes() == bytes, "of cost {cost}");
+    assert!(rt; program.cost() == Some(cost), "not {cost}");
+    Ok(())
 }
 
 // The 47 bytes of the copy of 300 bytes from 0x1000 to 0x2000.
@@ -38,112 +56,112 @@ const STARTS: [u32; 20] = [
     0, 6, 12, 18, 20, 21, 22, 23, 24, 26, 32, 33, 34, 35, 36, 42, 43, 44, 45, 46,
 ];
 
+static COPIES: [Row; 5] = [
+    // four bytes
+    (
+        0x1000,
+        0x2000,
+        4,
+        &[
+            0xbc, 0x00, 0x00, 0x10, 0x00, 0x00, 0xbc, 0x02, 0x00, 0x20, 0x00, 0x00, 0xbc, 0x01,
+            0x05, 0x40, 0x01, 0x00, 0x04, 0x12, 0x08, 0x13, 0x00,
+        ],
+        8,
+    ),
+    // one byte
+    (
+        0x1001,
+        0x2002,
+        1,
+        &[
+            0xbc, 0x00, 0x01, 0x10, 0x00, 0x00, 0xbc, 0x02, 0x02, 0x20, 0x00, 0x00, 0xbc, 0x01,
+            0x01, 0x40, 0x00, 0x00, 0x04, 0x12, 0x08, 0x13, 0x00,
+        ],
+        8,
+    ),
+    // bytes at odd addresses
+    (
+        0x1001,
+        0x4002,
+        4113,
+        &[
+            0xbc, 0x00, 0x01, 0x10, 0x00, 0x00, 0xbc, 0x02, 0x02, 0x40, 0x00, 0x00, 0xbc, 0x01,
+            0xf1, 0x40, 0x3c, 0x00, 0x20, 0x00, 0x22, 0xff, 0x04, 0x12, 0x08, 0x13, 0x3c, 0x04,
+            0x38, 0x08, 0x22, 0x00, 0x04, 0x12, 0x08, 0x13, 0x3c, 0x04, 0xbc, 0x01, 0x01, 0x40,
+            0x00, 0x00, 0x04, 0x12, 0x08, 0x13, 0x00,
+        ],
+        1298,
+    ),
+    (0x1000, 0x2000, 300, &COPY_OF_300, 20),
+    // the most bytes
+    (
+        0x1,
+        0x200001,
+        1_048_576,
+        &[
+            0xbc, 0x00, 0x01, 0x00, 0x00, 0x00, 0xbc, 0x02, 0x01, 0x00, 0x20, 0x00, 0xbc, 0x01,
+            0xf1, 0x40, 0x3c, 0x00, 0x20, 0xff, 0x22, 0xff, 0x04, 0x12, 0x08, 0x13, 0x3c, 0x04,
+            0x38, 0x08, 0x00,
+        ],
+        328_197,
+    ),
+];
+
+// The copy of a row has its program.
+fn assert_copy(
+    rt: &impl Abort,
+    alloc: Global,
+    (src, dst, len, bytes, cost): Row,
+) -> Result<(), Fail> {
+    let transfer = copy(alloc, src, dst, len)?;
+    assert_compiles(rt, alloc, &transfer, bytes, cost)
+}
+
 #[test]
-fn four_bytes(rt: HostRuntime) -> Result<(), Fail> {
-    let program = copy_program(rt.alloc(), 0x1000, 0x2000, 4)?;
-    let bytes = [
-        0xbc, 0x00, 0x00, 0x10, 0x00, 0x00, 0xbc, 0x02, 0x00, 0x20, 0x00, 0x00, 0xbc, 0x01, 0x05,
-        0x40, 0x01, 0x00, 0x04, 0x12, 0x08, 0x13, 0x00,
-    ];
-    assert_eq!(rt; program.bytes(), bytes.as_slice());
-    assert_eq!(rt; program.cost(), Some(8));
+fn copies_of_one_segment(rt: HostRuntime) -> Result<(), Fail> {
+    for row in &COPIES {
+        assert_copy(&rt, rt.alloc(), *row)?;
+    }
     Ok(())
+}
+
+fn copy_with_events(alloc: Global) -> Result<Transfer, TransferFault> {
+    let src = [segment(0x1000, 4)];
+    Transfer::new(alloc, &src, &[segment(0x2000, 4)], Some(3), Some(5))
 }
 
 #[test]
 fn a_wait_and_a_signal(rt: HostRuntime) -> Result<(), Fail> {
-    let alloc = rt.alloc();
-    let transfer = Transfer::new(
-        alloc,
-        &[segment(0x1000, 4)],
-        &[segment(0x2000, 4)],
-        Some(3),
-        Some(5),
-    )?;
-    let program = compile(alloc, &transfer)?;
+    let transfer = copy_with_events(rt.alloc())?;
     let bytes = [
         0x36, 0x18, 0xbc, 0x00, 0x00, 0x10, 0x00, 0x00, 0xbc, 0x02, 0x00, 0x20, 0x00, 0x00, 0xbc,
         0x01, 0x05, 0x40, 0x01, 0x00, 0x04, 0x12, 0x08, 0x13, 0x34, 0x28, 0x00,
     ];
-    assert_eq!(rt; program.bytes(), bytes.as_slice());
-    assert_eq!(rt; program.cost(), Some(10));
-    Ok(())
+    assert_compiles(&rt, rt.alloc(), &transfer, &bytes, 10)
 }
 
-#[test]
-fn one_byte(rt: HostRuntime) -> Result<(), Fail> {
-    let program = copy_program(rt.alloc(), 0x1001, 0x2002, 1)?;
-    let bytes = [
-        0xbc, 0x00, 0x01, 0x10, 0x00, 0x00, 0xbc, 0x02, 0x02, 0x20, 0x00, 0x00, 0xbc, 0x01, 0x01,
-        0x40, 0x00, 0x00, 0x04, 0x12, 0x08, 0x13, 0x00,
-    ];
-    assert_eq!(rt; program.bytes(), bytes.as_slice());
-    assert_eq!(rt; program.cost(), Some(8));
-    Ok(())
-}
-
-#[test]
-fn bytes_at_odd_addresses(rt: HostRuntime) -> Result<(), Fail> {
-    let program = copy_program(rt.alloc(), 0x1001, 0x4002, 4113)?;
-    let bytes = [
-        0xbc, 0x00, 0x01, 0x10, 0x00, 0x00, 0xbc, 0x02, 0x02, 0x40, 0x00, 0x00, 0xbc, 0x01, 0xf1,
-        0x40, 0x3c, 0x00, 0x20, 0x00, 0x22, 0xff, 0x04, 0x12, 0x08, 0x13, 0x3c, 0x04, 0x38, 0x08,
-        0x22, 0x00, 0x04, 0x12, 0x08, 0x13, 0x3c, 0x04, 0xbc, 0x01, 0x01, 0x40, 0x00, 0x00, 0x04,
-        0x12, 0x08, 0x13, 0x00,
-    ];
-    assert_eq!(rt; program.bytes(), bytes.as_slice());
-    assert_eq!(rt; program.cost(), Some(1298));
-    Ok(())
-}
-
-#[test]
-fn three_hundred_bytes(rt: HostRuntime) -> Result<(), Fail> {
-    let program = copy_program(rt.alloc(), 0x1000, 0x2000, 300)?;
-    assert_eq!(rt; program.bytes(), COPY_OF_300.as_slice());
-    assert_eq!(rt; program.cost(), Some(20));
-    Ok(())
-}
-
-#[test]
-fn the_most_bytes(rt: HostRuntime) -> Result<(), Fail> {
-    let program = copy_program(rt.alloc(), 0x1, 0x200001, 1_048_576)?;
-    let bytes = [
-        0xbc, 0x00, 0x01, 0x00, 0x00, 0x00, 0xbc, 0x02, 0x01, 0x00, 0x20, 0x00, 0xbc, 0x01, 0xf1,
-        0x40, 0x3c, 0x00, 0x20, 0xff, 0x22, 0xff, 0x04, 0x12, 0x08, 0x13, 0x3c, 0x04, 0x38, 0x08,
-        0x00,
-    ];
-    assert_eq!(rt; program.bytes(), bytes.as_slice());
-    assert_eq!(rt; program.cost(), Some(328_197));
-    Ok(())
+fn copy_of_two(alloc: Global) -> Result<Transfer, TransferFault> {
+    let src = [segment(0x10, 3), segment(0x21, 5)];
+    Transfer::new(alloc, &src, &[segment(0x40, 8)], None, None)
 }
 
 #[test]
 fn two_pieces(rt: HostRuntime) -> Result<(), Fail> {
-    let alloc = rt.alloc();
-    let transfer = Transfer::new(
-        alloc,
-        &[segment(0x10, 3), segment(0x21, 5)],
-        &[segment(0x40, 8)],
-        None,
-        None,
-    )?;
-    let program = compile(alloc, &transfer)?;
+    let transfer = copy_of_two(rt.alloc())?;
     let bytes = [
         0xbc, 0x00, 0x10, 0x00, 0x00, 0x00, 0xbc, 0x02, 0x40, 0x00, 0x00, 0x00, 0xbc, 0x01, 0x03,
         0xc0, 0x00, 0x00, 0x04, 0x12, 0x08, 0x13, 0xbc, 0x01, 0x01, 0x40, 0x00, 0x00, 0x04, 0x12,
         0x08, 0x13, 0xbc, 0x00, 0x21, 0x00, 0x00, 0x00, 0xbc, 0x02, 0x43, 0x00, 0x00, 0x00, 0xbc,
         0x01, 0x41, 0x40, 0x10, 0x00, 0x04, 0x12, 0x08, 0x13, 0x00,
     ];
-    assert_eq!(rt; program.bytes(), bytes.as_slice());
-    assert_eq!(rt; program.cost(), Some(20));
-    Ok(())
+    assert_compiles(&rt, rt.alloc(), &transfer, &bytes, 20)
 }
 
 // The offset of the instruction at which fewer than the 47 bytes stop: the last that begins at their end or before.
-fn last_start(len: u32) -> u32 {
+fn last_start(len: usize) -> u32 {
     let mut last = 0;
-    for start in STARTS.iter() {
-        if *start <= len {
+    for start in &STARTS {
+        if *start as usize <= len {
             last = *start;
         }
     }
@@ -151,7 +169,7 @@ fn last_start(len: u32) -> u32 {
 }
 
 // How so many of the 47 bytes end: all of them by DMAEND, fewer at an instruction that isn't there or isn't whole.
-fn end_of_cut(len: u32) -> RunEnd {
+fn end_of_cut(len: usize) -> RunEnd {
     if len == 47 {
         return RunEnd::Ended { turns: 20 };
     }
@@ -162,7 +180,7 @@ fn end_of_cut(len: u32) -> RunEnd {
 }
 
 // How many bytes they store, in bursts of 256, 32 and 12: the bytes of the stores are those at 22, 34 and 44.
-fn stored_by_cut(len: u32) -> u32 {
+fn stored_by_cut(len: usize) -> u32 {
     match len {
         0..=22 => 0,
         23..=34 => 256,
@@ -187,13 +205,11 @@ fn with_source(alloc: Global) -> Result<Memory, Fail> {
 
 // The byte at an address where so many bytes are copied.
 fn copied_byte(stored: u32, address: u32) -> u8 {
-    if address >= 0x2000 && address - 0x2000 < stored {
-        return source_byte(address - 0x2000);
+    match address {
+        0x1000..=0x112b => source_byte(address - 0x1000),
+        0x2000.. if address - 0x2000 < stored => source_byte(address - 0x2000),
+        _ => 0,
     }
-    if address >= 0x1000 && address - 0x1000 < 300 {
-        return source_byte(address - 0x1000);
-    }
-    0
 }
 
 // The first address whose byte is another than where so many bytes are copied, and nothing else was done.
@@ -206,125 +222,187 @@ fn first_other(memory: &Memory, stored: u32) -> Option<u32> {
     None
 }
 
+// How the first of the 47 bytes end, run over the source, and the first address that has another byte than they leave.
+fn run_cut(alloc: Global, cut: &[u8]) -> Result<(RunEnd, Option<u32>), Fail> {
+    let mut memory = with_source(alloc)?;
+    let end = run_program(alloc, cut, &mut memory, 1000)?;
+    Ok((end, first_other(&memory, stored_by_cut(cut.len()))))
+}
+
 #[test]
 fn a_program_cut_to_each_length(rt: HostRuntime) -> Result<(), Fail> {
-    let alloc = rt.alloc();
-    for len in 0..=47u32 {
-        let mut memory = with_source(alloc)?;
-        let end = run_program(alloc, &COPY_OF_300[..len as usize], &mut memory, 1000)?;
-        assert_eq!(rt; end, end_of_cut(len), "{len} bytes");
-        assert_eq!(rt;
-            first_other(&memory, stored_by_cut(len)),
-            None,
-            "{len} bytes"
-        );
+    for len in 0..=47usize {
+        let told = run_cut(rt.alloc(), &COPY_OF_300[..len])?;
+        assert!(rt; told == (end_of_cut(len), None), "{len} bytes");
     }
     Ok(())
 }
 
-#[test]
-fn three_hundred_bytes_copied(rt: HostRuntime) -> Result<(), Fail> {
-    let alloc = rt.alloc();
-    let mut memory = Memory::new(alloc, 0x4000)?;
-    memory.write(0x1000, &[0x11, 0x22, 0x33])?;
-    memory.write(0x1129, &[0x44, 0x55, 0x66])?;
+// Runs the copy of 300 bytes to its end.
+fn assert_copies_300(rt: &impl Abort, alloc: Global, memory: &mut Memory) -> Result<(), Fail> {
     let program = copy_program(alloc, 0x1000, 0x2000, 300)?;
-    let end = run_program(alloc, program.bytes(), &mut memory, 20)?;
-    assert_eq!(rt; end, RunEnd::Ended { turns: 20 });
-    let mut front = [0; 4];
-    memory.read_into(0x2000, &mut front)?;
-    assert_eq!(rt; front, [0x11, 0x22, 0x33, 0x00]);
-    let mut back = [0; 5];
-    memory.read_into(0x2128, &mut back)?;
-    assert_eq!(rt; back, [0x00, 0x44, 0x55, 0x66, 0x00]);
+    let end = run_program(alloc, program.bytes(), memory, 20)?;
+    assert!(rt; end == (RunEnd::Ended { turns: 20 }));
     Ok(())
 }
 
+// A memory with three bytes at the front of the source and three at its back and behind.
+fn with_both_ends(alloc: Global) -> Result<Memory, MemFault> {
+    let mut memory = Memory::new(alloc, 0x4000)?;
+    memory.write(0x1000, &[0x11, 0x22, 0x33])?;
+    memory.write(0x1129, &[0x44, 0x55, 0x66])?;
+    Ok(memory)
+}
+
+// Four bytes from an address on.
+fn four_at(memory: &Memory, addr: u32) -> Result<[u8; 4], MemFault> {
+    let mut bytes = [7; 4];
+    memory.read_into(addr, &mut bytes)?;
+    Ok(bytes)
+}
+
 #[test]
-fn a_fill_reads_its_byte_again(rt: HostRuntime) -> Result<(), Fail> {
-    let alloc = rt.alloc();
-    let transfer = Transfer::fill(alloc, 0x10, &[segment(0x20, 20)], None, None)?;
-    let program = compile(alloc, &transfer)?;
-    let bytes = [
-        0xbc, 0x00, 0x10, 0x00, 0x00, 0x00, 0xbc, 0x02, 0x20, 0x00, 0x00, 0x00, 0xbc, 0x01, 0xf0,
-        0x40, 0x3c, 0x00, 0x22, 0x00, 0x04, 0x12, 0x08, 0x13, 0x3c, 0x04, 0xbc, 0x01, 0x30, 0x40,
-        0x0c, 0x00, 0x04, 0x12, 0x08, 0x13, 0x00,
-    ];
-    assert_eq!(rt; program.bytes(), bytes.as_slice());
-    assert_eq!(rt; program.cost(), Some(15));
-    let mut memory = Memory::new(alloc, 64)?;
-    memory.write(0x10, &[0x5A])?;
-    let end = run_program(alloc, program.bytes(), &mut memory, 15)?;
-    assert_eq!(rt; end, RunEnd::Ended { turns: 15 });
-    let mut seen = [0; 22];
-    memory.read_into(0x1F, &mut seen)?;
-    let mut wanted = [0x5A; 22];
-    wanted[0] = 0;
-    wanted[21] = 0;
-    assert_eq!(rt; seen, wanted);
+fn three_hundred_bytes_copied(rt: HostRuntime) -> Result<(), Fail> {
+    let mut memory = with_both_ends(rt.alloc())?;
+    assert_copies_300(&rt, rt.alloc(), &mut memory)?;
+    let front = four_at(&memory, 0x2000);
+    assert!(rt; front == Ok([0x11, 0x22, 0x33, 0x00]));
+    let back = four_at(&memory, 0x2128);
+    assert!(rt; back == Ok([0x00, 0x44, 0x55, 0x66]));
+    assert!(rt; memory.byte(0x212c) == Some(0x00));
     Ok(())
+}
+
+// The fill of one segment with the byte at an address.
+fn fill(alloc: Global, src: u32, dst: u32, len: u32) -> Result<Transfer, TransferFault> {
+    Transfer::fill(alloc, src, &[segment(dst, len)], None, None)
 }
 
 // The program that fills one segment with the byte at an address.
 fn fill_program(alloc: Global, src: u32, dst: u32, len: u32) -> Result<Program, Fail> {
-    let transfer = Transfer::fill(alloc, src, &[segment(dst, len)], None, None)?;
+    let transfer = fill(alloc, src, dst, len)?;
     Ok(compile(alloc, &transfer)?)
 }
 
-// Addresses that wide beats would fit are filled by beats of one byte.
+static FILLS: [Row; 2] = [
+    // its byte is read again by each beat of one byte
+    (
+        0x10,
+        0x20,
+        20,
+        &[
+            0xbc, 0x00, 0x10, 0x00, 0x00, 0x00, 0xbc, 0x02, 0x20, 0x00, 0x00, 0x00, 0xbc, 0x01,
+            0xf0, 0x40, 0x3c, 0x00, 0x22, 0x00, 0x04, 0x12, 0x08, 0x13, 0x3c, 0x04, 0xbc, 0x01,
+            0x30, 0x40, 0x0c, 0x00, 0x04, 0x12, 0x08, 0x13, 0x00,
+        ],
+        15,
+    ),
+    // so are addresses that wide beats would fit
+    (
+        0x1000,
+        0x2000,
+        300,
+        &[
+            0xbc, 0x00, 0x00, 0x10, 0x00, 0x00, 0xbc, 0x02, 0x00, 0x20, 0x00, 0x00, 0xbc, 0x01,
+            0xf0, 0x40, 0x3c, 0x00, 0x22, 0x11, 0x04, 0x12, 0x08, 0x13, 0x3c, 0x04, 0xbc, 0x01,
+            0xb0, 0x40, 0x2c, 0x00, 0x04, 0x12, 0x08, 0x13, 0x00,
+        ],
+        100,
+    ),
+];
+
+// The fill of a row has its program.
+fn assert_fill(
+    rt: &impl Abort,
+    alloc: Global,
+    (src, dst, len, bytes, cost): Row,
+) -> Result<(), Fail> {
+    let transfer = fill(alloc, src, dst, len)?;
+    assert_compiles(rt, alloc, &transfer, bytes, cost)
+}
+
 #[test]
-fn three_hundred_bytes_filled(rt: HostRuntime) -> Result<(), Fail> {
-    let program = fill_program(rt.alloc(), 0x1000, 0x2000, 300)?;
-    let bytes = [
-        0xbc, 0x00, 0x00, 0x10, 0x00, 0x00, 0xbc, 0x02, 0x00, 0x20, 0x00, 0x00, 0xbc, 0x01, 0xf0,
-        0x40, 0x3c, 0x00, 0x22, 0x11, 0x04, 0x12, 0x08, 0x13, 0x3c, 0x04, 0xbc, 0x01, 0xb0, 0x40,
-        0x2c, 0x00, 0x04, 0x12, 0x08, 0x13, 0x00,
-    ];
-    assert_eq!(rt; program.bytes(), bytes.as_slice());
-    assert_eq!(rt; program.cost(), Some(100));
+fn fills_of_one_segment(rt: HostRuntime) -> Result<(), Fail> {
+    for row in &FILLS {
+        assert_fill(&rt, rt.alloc(), *row)?;
+    }
     Ok(())
 }
 
 #[test]
 fn the_most_bytes_filled(rt: HostRuntime) -> Result<(), Fail> {
     let program = fill_program(rt.alloc(), 0x1, 0x200000, 1_048_576)?;
-    assert_eq!(rt; program.cost(), Some(328_197));
+    assert!(rt; program.cost() == Some(328_197));
     Ok(())
+}
+
+fn fill_of_two(alloc: Global) -> Result<Transfer, TransferFault> {
+    let dst = [segment(0x20, 3), segment(0x23, 1)];
+    Transfer::fill(alloc, 0x10, &dst, Some(3), Some(4))
 }
 
 #[test]
 fn a_piece_for_each_segment_that_is_filled(rt: HostRuntime) -> Result<(), Fail> {
-    let alloc = rt.alloc();
-    let dst = [segment(0x20, 3), segment(0x23, 1)];
-    let transfer = Transfer::fill(alloc, 0x10, &dst, Some(3), Some(4))?;
-    let program = compile(alloc, &transfer)?;
+    let transfer = fill_of_two(rt.alloc())?;
     let bytes = [
         0x36, 0x18, 0xbc, 0x00, 0x10, 0x00, 0x00, 0x00, 0xbc, 0x02, 0x20, 0x00, 0x00, 0x00, 0xbc,
         0x01, 0x20, 0x40, 0x08, 0x00, 0x04, 0x12, 0x08, 0x13, 0xbc, 0x00, 0x10, 0x00, 0x00, 0x00,
         0xbc, 0x02, 0x23, 0x00, 0x00, 0x00, 0xbc, 0x01, 0x00, 0x40, 0x00, 0x00, 0x04, 0x12, 0x08,
         0x13, 0x34, 0x20, 0x00,
     ];
-    assert_eq!(rt; program.bytes(), bytes.as_slice());
-    assert_eq!(rt; program.cost(), Some(17));
+    assert_compiles(&rt, rt.alloc(), &transfer, &bytes, 17)
+}
+
+// A memory of so many bytes that has only these.
+fn with_bytes(alloc: Global, size: u32, addr: u32, bytes: &[u8]) -> Result<Memory, MemFault> {
+    let mut memory = Memory::new(alloc, size)?;
+    memory.write(addr, bytes)?;
+    Ok(memory)
+}
+
+// How the program of a fill of one segment ends.
+fn run_fill(
+    alloc: Global,
+    memory: &mut Memory,
+    src: u32,
+    dst: Segment,
+    limit: u32,
+) -> Result<RunEnd, Fail> {
+    let program = fill_program(alloc, src, dst.addr, dst.len)?;
+    Ok(run_program(alloc, program.bytes(), memory, limit)?)
+}
+
+// Its byte goes to each of twenty, and to none beside them.
+#[test]
+fn a_fill_reads_its_byte_again(rt: HostRuntime) -> Result<(), Fail> {
+    let mut memory = with_bytes(rt.alloc(), 64, 0x10, &[0x5A])?;
+    let end = run_fill(rt.alloc(), &mut memory, 0x10, segment(0x20, 20), 15)?;
+    assert!(rt; end == (RunEnd::Ended { turns: 15 }));
+    let mut seen = [0; 22];
+    memory.read_into(0x1F, &mut seen)?;
+    let mut wanted = [0x5A; 22];
+    wanted[0] = 0;
+    wanted[21] = 0;
+    assert!(rt; seen == wanted);
     Ok(())
+}
+
+// Six bytes from an address on.
+fn six_at(memory: &Memory, addr: u32) -> Result<[u8; 6], MemFault> {
+    let mut bytes = [7; 6];
+    memory.read_into(addr, &mut bytes)?;
+    Ok(bytes)
 }
 
 // A byte on a page that isn't made is zero; a run may lie on two pages.
 #[test]
 fn a_fill_over_two_pages(rt: HostRuntime) -> Result<(), Fail> {
-    let alloc = rt.alloc();
-    let mut memory = Memory::new(alloc, 0x3000)?;
-    memory.write(0x0FFD, &[1, 2, 3, 4, 5, 6])?;
-    let zeros = fill_program(alloc, 0x2FFF, 0x0FFE, 4)?;
-    let end = run_program(alloc, zeros.bytes(), &mut memory, 8)?;
-    assert_eq!(rt; end, RunEnd::Ended { turns: 8 });
-    let mut seen = [7; 6];
-    memory.read_into(0x0FFD, &mut seen)?;
-    assert_eq!(rt; seen, [1, 0, 0, 0, 0, 6]);
-    let ones = fill_program(alloc, 0x0FFD, 0x1FFF, 2)?;
-    let end = run_program(alloc, ones.bytes(), &mut memory, 8)?;
-    assert_eq!(rt; end, RunEnd::Ended { turns: 8 });
-    memory.read_into(0x1FFD, &mut seen)?;
-    assert_eq!(rt; seen, [0, 0, 1, 1, 0, 0]);
+    let mut memory = with_bytes(rt.alloc(), 0x3000, 0x0FFD, &[1, 2, 3, 4, 5, 6])?;
+    let zeros = run_fill(rt.alloc(), &mut memory, 0x2FFF, segment(0x0FFE, 4), 8)?;
+    assert!(rt; zeros == (RunEnd::Ended { turns: 8 }));
+    assert!(rt; six_at(&memory, 0x0FFD) == Ok([1, 0, 0, 0, 0, 6]));
+    let ones = run_fill(rt.alloc(), &mut memory, 0x0FFD, segment(0x1FFF, 2), 8)?;
+    assert!(rt; ones == (RunEnd::Ended { turns: 8 }));
+    assert!(rt; six_at(&memory, 0x1FFD) == Ok([0, 0, 1, 1, 0, 0]));
     Ok(())
 }
