@@ -99,6 +99,7 @@ in_c() {
     rows="c/lines.c c/rows.c c/readings.c"
     make_it "$set abi.c" "$@" -o "$to/abi" c/abi.c "$LIB" "$HEAP" && try "$set abi.c" "$to/abi"
     make_it "$set example.c" "$@" -o "$to/example" c/example.c "$LIB" "$HEAP" && try "$set example.c" example "$to/example"
+    make_it "$set threads.c" "$@" -pthread -o "$to/threads" c/threads.c "$LIB" "$HEAP" && try "$set threads.c" "$to/threads"
     make_it "$set walk.c" "$@" -o "$to/walk" c/walk.c $rows "$LIB" "$HEAP" &&
         count "$set walk.c" "$last_line" "$to/walk" rows.txt
     wrap=-Wl,--wrap=malloc,--wrap=realloc,--wrap=free

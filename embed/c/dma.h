@@ -3,7 +3,7 @@
  * Link libdma_ffi.a and, behind it, the kit's c/liblibc_c.a. docs/EMBEDDING.md says what a caller owes; in short:
  * - A dma_controller is DMA_CONTROLLER_INIT (zeros) before dma_open. Its members are never touched, and it is never copied
  *   while it is open.
- * - Its calls come from the thread that opened it, one after another.
+ * - Its calls come one after another. Threads that share one take turns by a lock.
  * - No pointer is null, not even one to no elements, and no two of a call overlap, but for lists that are only read.
  *
  * A call answers DMA_OK, or a negative code: the first that applies of those that its comment names, in their order. A call

@@ -1,5 +1,5 @@
 -- What C is told, from what the engine answered.
-use Rattle.std.proofs.Common.{◌≡◌, ℕ, ◌+◌, ◌<◌, List, take, drop, Option, Some, None, Result, Ok, Err, true, refl, sym, ap, ◌∙◌, subst, arith}
+use Rattle.std.proofs.Common.{◌≡◌, ℕ, ◌+◌, ◌<◌, List, take, drop, Option, Some, None, Result, Ok, Err, Bool, true, false, refl, sym, ap, ◌∙◌, subst, arith}
 use Rattle.std.specs.Prelude.{ℤ, pos, negsuc, IsSome, IsSomeAnd, IfOk, IfErr, unwrap_or, nat_lt}
 use Rattle.std.proofs.lemmas.Bool.{lt-ltb, true≢false}
 use Rattle.dma_mem.specs.Places.{Descriptor, filling, writes}
@@ -11,10 +11,10 @@ use Rattle.dma_mem.specs.declared.transfer.TransferFault.TheVariants as transfer
 use Rattle.dma_engine.specs.declared.call.Call.{Call}
 use Rattle.dma_engine.specs.declared.call.Call.TheVariants.{Read, Submit, Status as StatusOf, Result as ResultOf, Mark}
 use Rattle.dma_engine.specs.declared.call.Reply.{Reply}
-use Rattle.dma_engine.specs.declared.call.Reply.TheVariants.{Bytes, State, Result as Resulted, Refused}
+use Rattle.dma_engine.specs.declared.call.Reply.TheVariants.{Done, Bytes, State, Result as Resulted, Refused}
 use Rattle.dma_engine.specs.declared.entry.Entry.TheVariants.{ReadBack}
 use Rattle.dma_engine.specs.declared.fault.EngineFault.{EngineFault}
-use Rattle.dma_engine.specs.declared.fault.EngineFault.TheVariants.{OutOfMemoryRange}
+use Rattle.dma_engine.specs.declared.fault.EngineFault.TheVariants.{OutOfMemoryRange, Busy, Running as RunningFront, NoChannel, CookiesSpent, StepsSpent, BadEvent, BadRange, NoMemory}
 use Rattle.dma_engine.specs.declared.fault.NewFault.{NewFault}
 use Rattle.dma_engine.specs.declared.fault.NewFault.TheVariants as engines
 use Rattle.dma_engine.specs.declared.outcome.Outcome.{Outcome}
@@ -23,13 +23,14 @@ use Rattle.dma_engine.specs.declared.turn.Status.{Status}
 use Rattle.dma_engine.specs.Object.{channel, unfinished}
 use Rattle.dma_engine.specs.View.{View, EngineState, object_of, running_on, size, new_fault, new_view}
 use Rattle.dma_engine.specs.Turn.{with_entry}
-use Rattle.dma_engine.specs.Answer.{CallAnswers, answer, busy, cause, first_running, result_of, status_in, unless}
+use Rattle.dma_engine.specs.Answer.{CallAnswers, answer, busy, cause, first_running, reply_of, result_of, status_in, unless}
+use Rattle.dma_engine.specs.Room.{HasGivenBack}
 use Rattle.dma_ffi.specs.declared.reports.DmaOutcome.{DmaOutcome}
 use Rattle.dma_ffi.specs.declared.reports.DmaReport.{DmaReport}
 use Rattle.dma_ffi.specs.declared.reports.DmaRun.{DmaRun}
 use Rattle.dma_ffi.specs.declared.steps.Taken.{Taken}
 use Rattle.dma_ffi.specs.Codes.{bad_kind, fault_code, mark_kind, new_code, reply_code, status_code, transfer_code}
-use Rattle.dma_ffi.specs.Told.{Answer, Answers, AnswersMark, AnswersSteps, AnswersSubmit, Asked, IsWritten, Tells, Told, ToldNew, Written, a_number, a_report, a_run, an_outcome, ask_call, ask_copy, ask_fill, ask_forgotten, ask_mark, ask_running, ask_step_count, ask_steps, ask_unfinished, closed, code_of, no_kind, nothing, number_in, numbered, outcome_in, replied, report_in, run_in, runs, some_bytes, stepped, steps_answer, unfit}
+use Rattle.dma_ffi.specs.Told.{Answer, Answers, AnswersMark, AnswersSteps, AnswersSubmit, Asked, GivesBack, IsWritten, Tells, Told, ToldNew, Written, a_number, a_report, a_run, an_outcome, ask_call, ask_copy, ask_fill, ask_forgotten, ask_mark, ask_running, ask_step_count, ask_steps, ask_unfinished, closed, code_of, no_kind, nothing, number_in, numbered, outcome_in, replied, report_in, run_in, runs, some_bytes, stepped, steps_answer, unfit}
 
 -- ---- from an engine to its controller
 
@@ -151,6 +152,37 @@ pub tells_fill : (v w : View) (code : ℤ) (before after ch src : ℕ) (dst : Li
 unfolding Tells
 tells_fill v w code before after ch src dst wait signal made is none err told coded kept same =
     submits v w code before after ch (refusal_of_fill src dst wait signal) (filling src dst wait signal) made is none err told coded kept same
+
+-- ---- a checkpoint
+
+abbrev is_refusal : ℤ → Bool
+is_refusal (pos n) = false
+is_refusal (negsuc n) = true
+
+refused : (fault : EngineFault) → is_refusal (fault_code fault) ≡ true
+refused OutOfMemoryRange = refl
+refused (Busy ch cookie) = refl
+refused NoChannel = refl
+refused CookiesSpent = refl
+refused StepsSpent = refl
+refused BadEvent = refl
+refused BadRange = refl
+refused (RunningFront ch cookie) = refl
+refused NoMemory = refl
+
+-- a code that says that it was made is told of one that was
+pub gives_back : {code : ℤ} (answer : Result (Unit {0}) EngineFault) (e : EngineState) → IfOk answer (λ _. HasGivenBack e) → code ≡ reply_code (reply_of (λ _. Done) answer) → code ≡ pos 0 → HasGivenBack e
+gives_back (Ok x) e given is ok = given
+gives_back (Err fault) e given is ok = absurd (true≢false (sym (refused fault) ∙ ap is_refusal (sym is ∙ ok)))
+
+-- no engine was there
+pub not_given_back : {code : ℤ} (new : Option EngineState) → code ≡ negsuc 0 → GivesBack code new
+not_given_back new is ok = absurd (true≢false (ap is_refusal (sym is ∙ ok)))
+
+-- the engine that was put back, with the code as the machine has it
+pub given_back : {code told : ℤ} {new : Option EngineState} (e : EngineState) → new ≡ Some e → (told ≡ pos 0 → HasGivenBack e) → code ≡ told → GivesBack code new
+given_back e becomes given is ok =
+    subst (λ (o : Option EngineState). IsSomeAnd o HasGivenBack) (sym becomes) (given (sym is ∙ ok))
 
 -- ---- an engine made
 

@@ -18,6 +18,7 @@ use Rattle.dma_engine.specs.declared.turn.Turn.TheVariants.{Started, Moved}
 use Rattle.dma_engine.specs.Object.{channel, unfinished}
 use Rattle.dma_engine.specs.View.{View, EngineState, object_of, running_on, new_fault, new_view}
 use Rattle.dma_engine.specs.Answer.{CallAnswers, StepAnswers}
+use Rattle.dma_engine.specs.Room.{HasGivenBack}
 use Rattle.dma_ffi.specs.declared.steps.Taken.{Taken}
 use Rattle.dma_ffi.specs.declared.reports.DmaOutcome.{DmaOutcome}
 use Rattle.dma_ffi.specs.declared.reports.DmaRun.{DmaRun}
@@ -206,6 +207,10 @@ Tells v asked code written w = (answer : Answer) × Answers v asked answer w × 
 unfoldable pub Told : Option EngineState → Asked → ℤ → Written → Option EngineState → Type 0
 Told None asked code written new = (new ≡ None) × (code ≡ code_of closed) × IsWritten closed written
 Told (Some e) asked code written new = IsSomeAnd new (λ e'. Tells e.view asked code written e'.view)
+
+-- Where a checkpoint was made, the lists of the engine that is there then have given their room back.
+abbrev pub GivesBack : ℤ → Option EngineState → Type 0
+GivesBack code new = code ≡ ok_code → IsSomeAnd new HasGivenBack
 
 -- ---- an engine made
 

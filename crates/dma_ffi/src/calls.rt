@@ -1,7 +1,8 @@
 //! What the calls do to an engine that is there: each is the engine's own call, and tells C its answer.
 
 ghost use Rattle.std.specs.Prelude.{◌≡◌, IfErr, IfOk, length};
-ghost use Rattle.dma_ffi.specs.Codes.{transfer_code};
+ghost use Rattle.dma_engine.specs.Room.{HasGivenBack};
+ghost use Rattle.dma_ffi.specs.Codes.{ok_code, transfer_code};
 ghost use Rattle.dma_ffi.specs.Reports.{segment_of};
 ghost use Rattle.dma_ffi.specs.Told.{Tells, a_number, a_report, a_run, an_outcome, ask_call, ask_forgotten, ask_mark, ask_running, ask_step_count, ask_steps, ask_unfinished, nothing, some_bytes};
 
@@ -180,9 +181,10 @@ pub fn raise(engine: &mut Engine, event: u8) -> i32
 }
 
 /// Makes the present the base of the history.
-#[tactic(auto, using(crate::proofs::Tells::tells_call))]
+#[tactic(auto, using(crate::proofs::Tells::tells_call, crate::proofs::Tells::gives_back))]
 pub fn checkpoint(engine: &mut Engine) -> i32
-    ensures { Tells engine.old.view (ask_call Call.Checkpoint) result nothing engine.new.view }
+    ensures answer { Tells engine.old.view (ask_call Call.Checkpoint) result nothing engine.new.view }
+    ensures room { (result ≡ ok_code) → HasGivenBack engine.new }
 {
     done(engine.checkpoint())
 }

@@ -8,9 +8,9 @@ use box_pointer::BoxPointer;
 use dma_engine::Engine;
 use std::alloc::Global;
 
-/// An engine, or none. C sets it to zeros before the first call, which is none, and reads and writes nothing of it.
+/// An engine, or none. C sets it to zeros before the first call, which is none, and reads and writes nothing of it. None is let
+/// go or overwritten but one without an engine, so that no engine is lost.
 #[repr(C)]
-#[derive(Drop)]
 pub struct Controller {
     pub engine: EnginePointer,
     is_open: bool,
@@ -53,6 +53,7 @@ impl Controller {
         if is_open {
             Some(engine.into_pointer(alloc).into_box())
         } else {
+            engine.end();
             None
         }
     }
@@ -62,6 +63,28 @@ impl Controller {
         requires { self.old.engine.value ≡ None }
         ensures { self.new.engine.value ≡ Some engine.value }
     {
-        *self = Controller::holding(engine);
+        std::mem::replace(self, Controller::holding(engine)).end();
     }
+
+    /// Ends one without an engine.
+    pub fn end(self)
+        requires { self.engine.value ≡ None }
+    {
+        let Controller { engine, is_open: _ } = self;
+        engine.end();
+    }
+}
+
+// Takes what may go from one thread to another.
+fn sent<T: Send>(value: T) -> T
+    ensures { result ≡ value }
+{
+    value
+}
+
+/// A controller may go from one thread to another.
+pub fn goes_to_another_thread(controller: Controller) -> Controller
+    ensures { result ≡ controller }
+{
+    sent(controller)
 }

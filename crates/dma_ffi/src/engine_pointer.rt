@@ -9,10 +9,9 @@ use dma_engine::Engine;
 use std::alloc::Global;
 use std::marker::Model;
 
-/// An engine as the pointer that owns it, or nothing. C can't be handed a box, so the pointer is one to bytes. A value of
-/// this type that is let go forgets its engine: only `Controller` holds any.
+/// An engine as the pointer that owns it, or nothing. C can't be handed a box, so the pointer is one to bytes. None is let
+/// go: one to an engine gives it back, and one to nothing is ended.
 #[repr(C)]
-#[derive(Drop)]
 pub struct EnginePointer {
     at: *mut u8,
     pub ghost value: { Option EngineState },
@@ -21,6 +20,9 @@ pub struct EnginePointer {
 impl Model for EnginePointer {
     ghost also_owns = { λ p. owned p.at p.value };
 }
+
+// What it owns says the same to every thread.
+unsafe impl Send for EnginePointer {}
 
 impl EnginePointer {
     /// Nothing.
@@ -38,6 +40,13 @@ impl EnginePointer {
     {
         let BoxPointer { at, alloc: _ } = engine;
         EnginePointer { at: at as *mut u8 }
+    }
+
+    /// Ends one to nothing.
+    pub fn end(self)
+        requires { self.value ≡ None }
+    {
+        let EnginePointer { at: _ } = self;
     }
 
     /// The engine that is there.

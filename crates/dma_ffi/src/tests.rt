@@ -1,6 +1,6 @@
 //! The calls as C makes them, each with ample memory. Expected values are those of the description of the formats.
 
-ghost use Rattle.std.specs.Prelude.{◌≤◌};
+ghost use Rattle.std.specs.Prelude.{◌≡◌, ◌≤◌, None};
 
 use crate::codes::{
     ALREADY_OPEN, BAD_EVENT, BAD_KIND, BUFFER_TOO_SMALL, NO_RESULT, NOT_OPEN, NOT_RUNNING, OK,
@@ -103,6 +103,16 @@ fn step_count(alloc: Global, controller: &mut Controller) -> (i32, u64) {
     (code, steps)
 }
 
+// Closes a controller, and again, and asks something of it between: the code.
+fn closed(alloc: Global, controller: &mut Controller) -> i32
+    ensures { controller.new.engine.value ≡ None }
+{
+    dma_close(alloc, controller);
+    let code = dma_pause(alloc, controller, 0);
+    dma_close(alloc, controller);
+    code
+}
+
 #[test]
 fn a_copy_from_open_to_close(rt: HostRuntime) {
     let alloc = rt.alloc();
@@ -115,8 +125,8 @@ fn a_copy_from_open_to_close(rt: HostRuntime) {
     assert_eq!(rt; dma_status(alloc, &mut c, 0, 1), 2);
     assert_eq!(rt; six(alloc, &mut c, 0x1FF), (OK, [0, 1, 2, 3, 4, 0]));
     assert_eq!(rt; step_count(alloc, &mut c), (OK, 8));
-    dma_close(alloc, &mut c);
-    assert_eq!(rt; dma_pause(alloc, &mut c, 0), NOT_OPEN);
+    assert_eq!(rt; closed(alloc, &mut c), NOT_OPEN);
+    c.end();
 }
 
 #[test]
@@ -132,6 +142,7 @@ fn a_channel_is_paused_and_waits(rt: HostRuntime) {
     let [_, turn, result] = stepped(alloc, &mut c, 100);
     assert_eq!(rt; [turn, result], [8, 0]);
     dma_close(alloc, &mut c);
+    c.end();
 }
 
 #[test]
@@ -153,6 +164,7 @@ fn a_failed_copy_halts_its_channel(rt: HostRuntime) {
     assert_eq!(rt; stepped(alloc, &mut c, 9), [1, 3, 0]);
     assert_eq!(rt; stepped(alloc, &mut c, 0), [0, 0, 0]);
     dma_close(alloc, &mut c);
+    c.end();
 }
 
 // Opens a controller of 64 bytes, writes one of them, and issues a fill with it: the codes, and the cookie.
@@ -191,6 +203,7 @@ fn a_fill_and_a_checkpoint(rt: HostRuntime) {
         (OK, [0, 0x5A, 0x5A, 0x5A, 0x5A, 0])
     );
     dma_close(alloc, &mut c);
+    c.end();
 }
 
 // The codes of openings of one controller: of no byte, with nine channels, right, and again.
@@ -214,6 +227,7 @@ fn a_controller_is_opened_once(rt: HostRuntime) {
         [SIZE_OUT_OF_RANGE, -20, OK, ALREADY_OPEN]
     );
     dma_close(alloc, &mut c);
+    c.end();
 }
 
 // The codes of marks: of a kind that there isn't, and of an empty range.
@@ -244,6 +258,7 @@ fn refusals_write_nothing(rt: HostRuntime) {
         (-12, 77)
     );
     dma_close(alloc, &mut c);
+    c.end();
 }
 
 // The code of a copy from these lists with this event.
@@ -278,6 +293,7 @@ fn lists_are_refused_by_the_first_rule(rt: HostRuntime) {
         -10
     );
     dma_close(alloc, &mut c);
+    c.end();
 }
 
 // Writes the version where there is so much room: the code, the length, and the buffer.

@@ -230,12 +230,22 @@ fn turn_of(report: &sys::RawReport) -> Option<Turn> {
 
 /// A controller over a memory of its own. It is closed when it is dropped.
 ///
-/// It is neither `Send` nor `Sync`: the library's handle has a raw pointer, and that it may go to another thread is not
-/// proved of it. So a controller has a thread, to which others send their requests (`examples/threads.rs`).
+/// It is `Send`: the check of the library proves that of the handle that a controller keeps. So threads may take turns with
+/// one behind a `Mutex`, or it has a thread to which others send their requests (`examples/threads.rs`). It is not `Sync`:
+/// what only tells takes `&self`, and one call at a time has a controller.
 ///
-/// ```compile_fail
-/// fn goes_to_another_thread<T: Send>() {}
-/// goes_to_another_thread::<dma::Controller>();
+/// ```
+/// use dma::{Controller, Error};
+/// use std::{sync::Mutex, thread};
+///
+/// let shared = Mutex::new(Controller::open(0x1000, 2)?);
+/// thread::scope(|scope| {
+///     for channel in 0..2 {
+///         let shared = &shared;
+///         scope.spawn(move || shared.lock().unwrap().pause(channel));
+///     }
+/// });
+/// # Ok::<(), Error>(())
 /// ```
 ///
 /// ```compile_fail

@@ -4,8 +4,9 @@
 //!
 //! - A controller is zeroed before it is opened, its members are never touched, and an open one is never copied: [`Handle`]
 //!   makes one of zeros, lends nobody its members, and is neither `Copy` nor `Clone`. A move leaves one owner.
-//! - One call at a time, all from the thread that opened it: what changes something takes `&mut self`. What only tells takes
-//!   `&self` of a type that is neither `Send` nor `Sync` (a raw pointer, in a cell), and no call of the library calls back.
+//! - One call at a time: what changes something takes `&mut self`. What only tells takes `&self` of a type that isn't `Sync`
+//!   (it is a cell), and no call of the library calls back. A handle may go to another thread, since the check of the library
+//!   proves `Send` of the type that it keeps, and Rust orders what one thread does with a value before what the next one does.
 //! - Pointers are not null and good for their counts: each comes from a reference, or from a slice beside its length.
 //! - Pointers of a call don't overlap, but where both are only read: that is Rust's rule of `&mut`.
 
@@ -136,6 +137,8 @@ fn told_unless<T>(none: i32, code: i32, value: T) -> Option<T> {
 pub struct Handle {
     raw: UnsafeCell<RawController>,
 }
+
+unsafe impl Send for Handle {}
 
 impl Handle {
     pub fn open(size: u32, channels: u8) -> Result<Handle, Error> {

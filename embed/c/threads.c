@@ -1,0 +1,131 @@
+/* Threads that share a controller behind a lock, as the processors of an emulator do: each submits copies to a channel of
+ * its own, and steps it until they are complete, a few steps each time that it has the lock. The thread that opens the
+ * controller is not the one that closes it. */
+#define _POSIX_C_SOURCE 200112L
+#include "dma.h"
+
+#include <pthread.h>
+#include <stdio.h>
+#include <stdlib.h>
+#include <string.h>
+
+enum { THREADS = 4, REGION = 0x1000, COPY = 0x400, COPIES = 3, MOST = 16 };
+
+typedef struct board {
+    pthread_mutex_t lock;
+    dma_controller dma; /* by whoever has the lock */
+} board;
+
+typedef struct processor {
+    board *board;
+    uint8_t channel;
+} processor;
+
+static void expect(int holds, const char *what)
+{
+    if (!holds) {
+        fprintf(stderr, "%s\n", what);
+        exit(1);
+    }
+}
+
+static void take(board *b)
+{
+    expect(pthread_mutex_lock(&b->lock) == 0, "the lock isn't had");
+}
+
+static void give(board *b)
+{
+    expect(pthread_mutex_unlock(&b->lock) == 0, "the lock isn't given back");
+}
+
+/* One copy upward within the region of the processor, for which it takes the lock again and again. */
+static void copy_upward(const processor *p, uint32_t n)
+{
+    const uint32_t from = p->channel * (uint32_t)REGION + n * COPY;
+    const dma_segment src = {from, COPY}, dst = {from + COPY, COPY};
+    dma_report report;
+    dma_outcome outcome;
+    uint32_t cookie, issued;
+    int32_t state;
+    take(p->board);
+    expect(dma_submit(&p->board->dma, p->channel, &src, 1, &dst, 1, DMA_NO_EVENT, DMA_NO_EVENT, &cookie) == DMA_OK, "not submitted");
+    expect(dma_issue(&p->board->dma, p->channel, &issued) == DMA_OK && issued == 1, "not issued");
+    give(p->board);
+    do {
+        take(p->board);
+        expect(dma_step(&p->board->dma, p->channel, MOST, &report) == DMA_OK && report.taken > 0, "not stepped");
+        state = dma_status(&p->board->dma, p->channel, cookie);
+        give(p->board);
+    } while (state == DMA_IN_PROGRESS);
+    take(p->board);
+    expect(dma_result(&p->board->dma, p->channel, cookie, &outcome) == DMA_OK, "no result");
+    give(p->board);
+    expect(outcome.result == DMA_NO_ERROR && outcome.residue == 0, "not copied");
+}
+
+static void *run(void *argument)
+{
+    const processor *p = argument;
+    uint32_t n;
+    for (n = 0; n < COPIES; n++)
+        copy_upward(p, n);
+    return NULL;
+}
+
+/* What the region of a channel begins with, and is full of at the end. */
+static void pattern(uint8_t channel, uint8_t bytes[COPY])
+{
+    uint32_t n;
+    for (n = 0; n < COPY; n++)
+        bytes[n] = (uint8_t)((n % 251) ^ channel);
+}
+
+static void begin(board *b)
+{
+    uint8_t bytes[COPY], channel;
+    expect(pthread_mutex_init(&b->lock, NULL) == 0, "no lock");
+    memset(&b->dma, 0, sizeof b->dma);
+    expect(dma_open(&b->dma, THREADS * REGION, THREADS) == DMA_OK, "no controller");
+    for (channel = 0; channel < THREADS; channel++) {
+        pattern(channel, bytes);
+        expect(dma_write(&b->dma, channel * (uint32_t)REGION, bytes, COPY) == DMA_OK, "not written");
+    }
+}
+
+/* By a thread of its own, which has the controller after all others. */
+static void *end(void *argument)
+{
+    board *b = argument;
+    uint8_t bytes[COPY], found[COPY], channel;
+    uint32_t n;
+    for (channel = 0; channel < THREADS; channel++) {
+        pattern(channel, bytes);
+        for (n = 0; n <= COPIES; n++) {
+            expect(dma_read(&b->dma, channel * (uint32_t)REGION + n * COPY, found, COPY) == DMA_OK, "not read");
+            expect(memcmp(found, bytes, COPY) == 0, "other bytes");
+        }
+    }
+    dma_close(&b->dma);
+    return NULL;
+}
+
+int main(void)
+{
+    board b;
+    processor processors[THREADS];
+    pthread_t threads[THREADS], last;
+    uint8_t channel;
+    begin(&b);
+    for (channel = 0; channel < THREADS; channel++) {
+        processors[channel].board = &b;
+        processors[channel].channel = channel;
+        expect(pthread_create(&threads[channel], NULL, run, &processors[channel]) == 0, "no thread");
+    }
+    for (channel = 0; channel < THREADS; channel++)
+        expect(pthread_join(threads[channel], NULL) == 0, "a thread isn't joined");
+    expect(pthread_create(&last, NULL, end, &b) == 0 && pthread_join(last, NULL) == 0, "no last thread");
+    expect(pthread_mutex_destroy(&b.lock) == 0, "the lock stays");
+    printf("%d copies of %d threads behind one lock\n", THREADS * COPIES, THREADS);
+    return 0;
+}
