@@ -20,7 +20,7 @@ const any_call all_calls[] = {
 
 int main(void)
 {
-    char version[sizeof DMA_VERSION];
+    char version[DMA_MAX_VERSION];
     size_t count = sizeof all_calls / sizeof all_calls[0];
     size_t length = 0;
     if (dma_version(version, sizeof version, &length) != DMA_OK || strcmp(version, DMA_VERSION) != 0) {

@@ -1,8 +1,8 @@
 /* A verified software DMA controller (ARM DMA-330, memory to memory) for programs in C, from C89 on, and in C++.
  *
  * Link libdma_ffi.a and, behind it, the kit's c/liblibc_c.a. docs/EMBEDDING.md says what a caller owes; in short:
- * - A dma_controller is DMA_CONTROLLER_INIT (zeros) before dma_open. Its members are never touched, and it is never copied
- *   while it is open.
+ * - A dma_controller is DMA_CONTROLLER_INIT (zeros) before dma_open. Its members are never touched. While it is open it is
+ *   never copied; it may be moved, and the first is then zeros before it is used again.
  * - Its calls come one after another. Threads that share one take turns by a lock.
  * - No pointer is null, not even one to no elements, and no two of a call overlap, but for lists that are only read.
  *
@@ -19,10 +19,11 @@
 extern "C" {
 #endif
 
-/* What dma_version writes. */
+/* What dma_version writes, and room for what it writes in any version. */
 #define DMA_VERSION "dilkwafam 1.0"
+#define DMA_MAX_VERSION 32
 
-/* A controller that isn't open: dma_controller controller = DMA_CONTROLLER_INIT; */
+/* A controller that isn't open: dma_controller controller = DMA_CONTROLLER_INIT; (or one cleared by memset) */
 #define DMA_CONTROLLER_INIT {0, 0}
 
 /* No event to wait for, or to signal; so is each other negative number. */
@@ -75,7 +76,7 @@ typedef struct dma_report {
     uint32_t channel; /* of DMA_HELD: the channel of the transfer in the way */
     uint32_t cookie;  /* of DMA_STARTED and DMA_FINISHED; of DMA_HELD that of the transfer in the way */
     uint32_t event;   /* of DMA_WAITING */
-    uint32_t result;  /* of DMA_FINISHED: enum dma_result_code */
+    uint32_t result;  /* of DMA_FINISHED: enum dma_result_code, but for DMA_ABORTED, of which dma_terminate tells */
     uint32_t residue; /* of DMA_FINISHED: how many of its bytes were not stored */
 } dma_report;
 
@@ -88,13 +89,14 @@ typedef struct dma_run_end {
     uint32_t pc;    /* of DMA_END_FAULT: the offset of the instruction */
 } dma_run_end;
 
-/* What the last of some steps did. A channel that is both is told as halted before paused, and as paused before all else. */
+/* What the last of some steps did. A channel that is halted and paused is told as halted, and one that is paused and has
+ * nothing to do as paused. */
 enum dma_turn {
     DMA_NO_STEP = 0,  /* none was asked for */
     DMA_STARTED = 1,  /* the channel's next transfer runs from now on */
     DMA_MOVED = 2,    /* one instruction was executed */
     DMA_NOTHING = 3,  /* no transfer is issued and unfinished */
-    DMA_HELD = 4,     /* the next transfer can't start: a running one is in its way */
+    DMA_HELD = 4,     /* the next transfer can't start: a running one is in its way, of several that on the lowest channel */
     DMA_WAITING = 5,  /* for an event whose flag is clear */
     DMA_PAUSED = 6,   /* until dma_resume or dma_terminate */
     DMA_HALTED = 7,   /* by a transfer that failed, until dma_terminate */
@@ -109,7 +111,7 @@ enum dma_result_code {
     DMA_ABORTED = 3       /* by dma_terminate */
 };
 
-/* How far a cookie is; one that failed or was aborted is complete. */
+/* How far a cookie is; one that isn't issued yet is in progress, and one that failed or was aborted is complete. */
 enum dma_state { DMA_UNKNOWN = 0, DMA_IN_PROGRESS = 1, DMA_COMPLETE = 2 };
 
 enum dma_mark_kind { DMA_MARK_READING = 0, DMA_MARK_WRITING = 1 };
@@ -186,8 +188,8 @@ int32_t dma_read(dma_controller *controller, uint32_t addr, uint8_t *out, size_t
 
 /* Gives a channel a copy of the source list's bytes to the places of the destination list, perhaps with an event to wait
  * for before it and one to signal once all is stored, and writes its cookie, 1 for the first of the channel, without
- * starting it; each list's rule is tested over both lists before the next: EMPTY_LIST, TOO_MANY_SEGMENTS, EMPTY_SEGMENT, SEGMENT_WRAPS,
- * TOTALS_DIFFER, TOO_LONG, DESTINATIONS_MEET, SOURCE_MEETS_DESTINATION, BAD_EVENT, NO_MEMORY, NO_CHANNEL,
+ * starting it; each list's rule is tested over both lists before the next: EMPTY_LIST, TOO_MANY_SEGMENTS, EMPTY_SEGMENT,
+ * SEGMENT_WRAPS, TOTALS_DIFFER, TOO_LONG, DESTINATIONS_MEET, SOURCE_MEETS_DESTINATION, BAD_EVENT, NO_MEMORY, NO_CHANNEL,
  * OUT_OF_MEMORY_RANGE, COOKIES_SPENT, NO_MEMORY. */
 int32_t dma_submit(dma_controller *controller, uint8_t channel, const dma_segment *src, size_t src_count,
                    const dma_segment *dst, size_t dst_count, int32_t wait, int32_t signal, uint32_t *cookie) DMA_NO_NULLS;
@@ -206,18 +208,20 @@ int32_t dma_pause(dma_controller *controller, uint8_t channel) DMA_NO_NULLS;
 /* Lets the steps of a paused channel go on: NO_CHANNEL. */
 int32_t dma_resume(dma_controller *controller, uint8_t channel) DMA_NO_NULLS;
 
-/* Aborts all that is unfinished on a channel, whose stored bytes stay stored, ends its pause and its halt, and writes how
- * many were aborted, a transfer that failed not among them: NO_CHANNEL, NO_MEMORY. */
+/* Aborts all that is unfinished on a channel, issued or not, whose stored bytes stay stored, ends its pause and its halt, and
+ * writes how many were aborted, a transfer that failed not among them: NO_CHANNEL, NO_MEMORY. */
 int32_t dma_terminate(dma_controller *controller, uint8_t channel, uint32_t *count) DMA_NO_NULLS;
 
 /* Steps a channel until `most` steps were taken or one neither starts nor moves, and answers the refusal of the first step,
  * NO_CHANNEL, STEPS_SPENT or NO_MEMORY; where a later one is refused, those before it stand and are told with DMA_OK, and
- * the next call takes that step again, or answers its refusal if the cause still holds. With `most` 0 nothing is refused. */
+ * the next call takes that step again, or answers its refusal if the cause still holds. With `most` 0 nothing is refused
+ * but a controller that isn't open. */
 int32_t dma_step(dma_controller *controller, uint8_t channel, uint32_t most, dma_report *report) DMA_NO_NULLS;
 
 /* ---- what is known of them ---- */
 
-/* Answers how far a cookie is, an enum dma_state: DMA_UNKNOWN for one that was never given, or where no such channel is. */
+/* Answers how far a cookie is, an enum dma_state, or NOT_OPEN: DMA_UNKNOWN for one that was never given, or where no such
+ * channel is. */
 int32_t dma_status(dma_controller *controller, uint8_t channel, uint32_t cookie) DMA_NO_NULLS;
 
 /* Tells how a cookie finished: NO_RESULT. */
@@ -229,7 +233,8 @@ int32_t dma_running(dma_controller *controller, uint8_t channel, dma_run *runnin
 /* Counts the cookies of a channel that are not finished, 0 where there is no such channel. */
 int32_t dma_unfinished(dma_controller *controller, uint8_t channel, uint32_t *count) DMA_NO_NULLS;
 
-/* Counts the cookies of a channel whose results a checkpoint has forgotten, 0 where there is no such channel. */
+/* Counts the cookies of a channel, from cookie 1 on, whose results checkpoints have forgotten, 0 where there is no such
+ * channel. */
 int32_t dma_forgotten(dma_controller *controller, uint8_t channel, uint32_t *count) DMA_NO_NULLS;
 
 /* Counts the steps that moved or finished, on all channels since the controller was opened: not those that started a
@@ -251,7 +256,10 @@ int32_t dma_raise(dma_controller *controller, uint8_t event) DMA_NO_NULLS;
 /* Drops the history of the calls, with the results of what has finished, and gives its memory back: RUNNING, NO_MEMORY. */
 int32_t dma_checkpoint(dma_controller *controller) DMA_NO_NULLS;
 
-/* ---- without a controller ---- */
+/* ---- without a controller ----
+ *
+ * Programs have the instructions that docs/EMBEDDING.md lists, those of copies from memory to memory, and a text is one of
+ * them a line, in capital letters: DMAMOV SAR 0x00001000 (eight digits), DMALP 0 16, DMASEV 3. */
 
 /* Writes DMA_VERSION with a zero byte behind it, and its length without that: BUFFER_TOO_SMALL. */
 int32_t dma_version(char *out, size_t room, size_t *len) DMA_NO_NULLS;
@@ -261,8 +269,9 @@ int32_t dma_version(char *out, size_t room, size_t *len) DMA_NO_NULLS;
 int32_t dma_run_program(const uint8_t *program, size_t len, uint8_t *memory, size_t size, uint32_t limit,
                         dma_run_end *end) DMA_NO_NULLS;
 
-/* Writes the bytes of the program that a text says, and their number; the first line with a fault is told, by its code and its
- * number from 1 in `*place`: BAD_MNEMONIC, BAD_OPERAND, NUMBER_OUT_OF_RANGE, PROGRAM_TOO_LONG; NO_MEMORY, BUFFER_TOO_SMALL. */
+/* Writes the bytes of the program that a text says, and their number; the first line with a fault, which may be that it goes
+ * past 8192 bytes, is told by its code and its number from 1 in `*place`: BAD_MNEMONIC, BAD_OPERAND, NUMBER_OUT_OF_RANGE,
+ * PROGRAM_TOO_LONG; NO_MEMORY, BUFFER_TOO_SMALL. */
 int32_t dma_assemble(const char *text, size_t text_len, uint8_t *out, size_t room, size_t *len, size_t *place) DMA_NO_NULLS;
 
 /* Writes the text of a program, each line ended by a line feed and no zero byte behind it, and its length; of the first

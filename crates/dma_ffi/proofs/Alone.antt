@@ -3,9 +3,8 @@ use Rattle.std.proofs.Common.{◌≡◌, ℕ, ◌+◌, zero, suc, List, [], ◌+
 use Rattle.std.specs.Prelude.{if◌then◌else◌, nat_lt, replicate, slice_index_or}
 use Rattle.std.proofs.lemmas.Bool.{le-ltb}
 use Rattle.std.proofs.lemmas.List.{drop_all, length-replicate, take_all}
-use Rattle.dma_mem.specs.Image.{bytes_at, is_size, put}
+use Rattle.dma_mem.specs.Image.{bytes_at, put}
 use Rattle.dma_mem.specs.Marking.{MarkList}
-use Rattle.dma_mem.specs.Pages.{Paged}
 use Rattle.dma_mem.specs.declared.memory.MemFault.{MemFault}
 use Rattle.dma_mem.specs.declared.memory.MemFault.TheVariants as memories
 use Rattle.dma_mem.specs.declared.marks.MarkKind.TheVariants.{Reading, Writing}
@@ -18,17 +17,12 @@ use Rattle.dma_insn.specs.ControlWord.{is_control}
 use Rattle.dma_chan.specs.declared.exec.Registers.{Registers}
 use Rattle.dma_chan.specs.declared.run.RunEnd.{RunEnd}
 use Rattle.dma_chan.specs.declared.run.RunEnd.TheVariants as ends
-use Rattle.dma_chan.specs.declared.run.RunFault.{RunFault}
-use Rattle.dma_chan.specs.declared.run.RunFault.TheVariants as runs
 use Rattle.dma_chan.specs.declared.turn.ChanTurn.{ChanTurn}
 use Rattle.dma_chan.specs.declared.turn.FaultKind.{FaultKind}
 use Rattle.dma_chan.specs.Bursts.{reaches, burst_len, touched, left_by}
 use Rattle.dma_chan.specs.Exec.{State, act, buffer_size, counter_of, destination_of, exec, exec_fetched, load, source_of, store}
-use Rattle.dma_chan.specs.Fails.{RunFails}
 use Rattle.dma_chan.specs.Next.{next_of}
 use Rattle.dma_chan.specs.Run.{RunsAlone, RunsTo, StopsAfter, opening, state_after}
-use Rattle.dma_ffi.specs.Programs.{AnswersRun}
-use Rattle.dma_ffi.specs.inner.Alone.{run_fault}
 
 -- ---- a memory of the caller's bytes
 
@@ -99,13 +93,6 @@ end-keeps program s limit (ends.Fault kind pc) after h = stop-keeps program s li
 pub alone-keeps : (program image : List ℕ) (limit : ℕ) (how : RunEnd) (left : List ℕ) → RunsAlone program image limit how left → length left ≡ length image
 alone-keeps program image limit how left h =
     ap length (sym h.2) ∙ end-keeps program (opening image) limit how h.0 h.1
-
--- ---- why a program isn't run
-
-pub alone-refused : (program bytes : List ℕ) (old new : Paged) (limit : ℕ) (fault : RunFault) → is_size (length bytes) ≡ true → RunFails program old limit fault new → AnswersRun program bytes limit (Err (run_fault fault)) bytes
-alone-refused program bytes old new limit runs.ProgramTooLong sized h = (sized, h.0, refl)
-alone-refused program bytes old new limit (runs.PageRefused turns) sized h = (sized, refl)
-alone-refused program bytes old new limit runs.NoMemory sized h = (sized, refl)
 
 -- ---- the memory read back
 

@@ -1,6 +1,6 @@
 -- What C is told, from what the engine answered.
 use Rattle.std.proofs.Common.{◌≡◌, ℕ, ◌+◌, ◌<◌, List, take, drop, Option, Some, None, Result, Ok, Err, Bool, true, false, refl, sym, ap, ◌∙◌, subst, arith}
-use Rattle.std.specs.Prelude.{ℤ, pos, negsuc, IsSome, IsSomeAnd, IfOk, IfErr, unwrap_or, nat_lt}
+use Rattle.std.specs.Prelude.{◌≢◌, ℤ, pos, negsuc, OnErr, IsSome, IsSomeAnd, IfOk, IfErr, unwrap_or, nat_lt}
 use Rattle.std.proofs.lemmas.Bool.{lt-ltb, true≢false}
 use Rattle.dma_mem.specs.Places.{Descriptor, filling, writes}
 use Rattle.dma_mem.specs.Refusals.{refusal_of, refusal_of_fill}
@@ -30,7 +30,7 @@ use Rattle.dma_ffi.specs.declared.reports.DmaReport.{DmaReport}
 use Rattle.dma_ffi.specs.declared.reports.DmaRun.{DmaRun}
 use Rattle.dma_ffi.specs.declared.steps.Taken.{Taken}
 use Rattle.dma_ffi.specs.Codes.{bad_kind, fault_code, mark_kind, new_code, reply_code, status_code, transfer_code}
-use Rattle.dma_ffi.specs.Told.{Answer, Answers, AnswersMark, AnswersSteps, AnswersSubmit, Asked, GivesBack, IsWritten, Tells, Told, ToldNew, Written, a_number, a_report, a_run, an_outcome, ask_call, ask_copy, ask_fill, ask_forgotten, ask_mark, ask_running, ask_step_count, ask_steps, ask_unfinished, closed, code_of, no_kind, nothing, number_in, numbered, outcome_in, replied, report_in, run_in, runs, some_bytes, stepped, steps_answer, unfit}
+use Rattle.dma_ffi.specs.Told.{Answer, Answers, AnswersMark, AnswersSteps, AnswersSubmit, Asked, IsWritten, Leaves, Tells, Told, ToldNew, Written, a_number, a_report, a_run, an_outcome, ask_call, ask_copy, ask_fill, ask_forgotten, ask_mark, ask_running, ask_step_count, ask_steps, ask_unfinished, closed, code_of, no_kind, nothing, number_in, numbered, outcome_in, replied, report_in, run_in, runs, some_bytes, stepped, steps_answer, unfit}
 
 -- ---- from an engine to its controller
 
@@ -40,12 +40,12 @@ unfolding Told
 told_closed {new = new} {code = code} asked written none stays is held = subst (λ (o : Option EngineState). Told o asked code written new) none (stays, is, held)
 
 -- the engine that was taken out, as its call had it, and the one that was put back, with the code as the machine has it
-pub told_open : {old new : Option EngineState} {code told : ℤ} (asked : Asked) (written : Written) (x e e' : EngineState) → new ≡ Some e' → Some x ≡ old → e ≡ x → Tells e.view asked told written e'.view → code ≡ told → Told old asked code written new
+pub told_open : {old new : Option EngineState} {code told : ℤ} (asked : Asked) (written : Written) (x e e' : EngineState) → new ≡ Some e' → Some x ≡ old → e ≡ x → Tells e.view asked told written e'.view → Leaves asked told e e' → code ≡ told → Told old asked code written new
 unfolding Told
-told_open {new = new} {code = code} asked written x e e' becomes was same tells is =
+told_open {new = new} {code = code} asked written x e e' becomes was same tells leaves is =
     subst (λ (o : Option EngineState). Told o asked code written new) (ap Some same ∙ was)
-    (subst (λ (o : Option EngineState). IsSomeAnd o (λ y. Tells e.view asked code written y.view)) (sym becomes)
-    (subst (λ (z : ℤ). Tells e.view asked z written e'.view) (sym is) tells))
+    (subst (λ (o : Option EngineState). IsSomeAnd o (λ y. Tells e.view asked code written y.view × Leaves asked code e y)) (sym becomes)
+    (subst (λ (z : ℤ). Tells e.view asked z written e'.view × Leaves asked z e e') (sym is) (tells, leaves)))
 
 -- ---- calls of the engine
 
@@ -175,14 +175,10 @@ pub gives_back : {code : ℤ} (answer : Result (Unit {0}) EngineFault) (e : Engi
 gives_back (Ok x) e given is ok = given
 gives_back (Err fault) e given is ok = absurd (true≢false (sym (refused fault) ∙ ap is_refusal (sym is ∙ ok)))
 
--- no engine was there
-pub not_given_back : {code : ℤ} (new : Option EngineState) → code ≡ negsuc 0 → GivesBack code new
-not_given_back new is ok = absurd (true≢false (ap is_refusal (sym is ∙ ok)))
-
--- the engine that was put back, with the code as the machine has it
-pub given_back : {code told : ℤ} {new : Option EngineState} (e : EngineState) → new ≡ Some e → (told ≡ pos 0 → HasGivenBack e) → code ≡ told → GivesBack code new
-given_back e becomes given is ok =
-    subst (λ (o : Option EngineState). IsSomeAnd o HasGivenBack) (sym becomes) (given (sym is ∙ ok))
+-- one that says that it wasn't is told of one that was refused
+pub stays : {code : ℤ} (answer : Result (Unit {0}) EngineFault) (old new : EngineState) → OnErr answer (new ≡ old) → code ≡ reply_code (reply_of (λ _. Done) answer) → code ≢ pos 0 → new ≡ old
+stays (Ok x) old new same is other = absurd (other is)
+stays (Err fault) old new same is other = same
 
 -- ---- an engine made
 

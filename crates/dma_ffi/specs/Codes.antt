@@ -11,7 +11,7 @@ use Rattle.dma_insn.specs.declared.codec.DecodeFault.TheVariants.{Cut, Unknown a
 use Rattle.dma_chan.specs.declared.turn.FaultKind.{FaultKind}
 use Rattle.dma_chan.specs.declared.turn.FaultKind.TheVariants.{UndefInstr, OperandInvalid, MfifoErr, StDataUnavailable, InstrFetchErr, DataWriteErr, DataReadErr}
 use Rattle.dma_engine.specs.declared.call.Reply.{Reply}
-use Rattle.dma_engine.specs.declared.call.Reply.TheVariants.{State, Result as Resulted, Refused}
+use Rattle.dma_engine.specs.declared.call.Reply.TheVariants.{Done, Bytes, Cookie, Count, Turned, State, Result as Resulted, Refused}
 use Rattle.dma_engine.specs.declared.fault.EngineFault.{EngineFault}
 use Rattle.dma_engine.specs.declared.fault.EngineFault.TheVariants.{OutOfMemoryRange, Busy, Running, NoChannel, CookiesSpent, StepsSpent, BadEvent, BadRange, NoMemory}
 use Rattle.dma_engine.specs.declared.fault.NewFault.{NewFault}
@@ -121,7 +121,12 @@ abbrev pub reply_code : Reply → ℤ
 reply_code (Refused fault) = fault_code fault
 reply_code (State status) = status_code status
 reply_code (Resulted None) = no_result
-reply_code _ = ok_code
+reply_code (Resulted (Some outcome)) = ok_code
+reply_code Done = ok_code
+reply_code (Bytes bytes) = ok_code
+reply_code (Cookie cookie) = ok_code
+reply_code (Count count) = ok_code
+reply_code (Turned turn) = ok_code
 
 -- ---- other numbers
 

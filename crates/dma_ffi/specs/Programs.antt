@@ -109,7 +109,8 @@ AnswersRun program image limit (Ok how) left =
 AnswersRun program image limit (Err SizeOutOfRange) left = (is_size (length image) ≡ false) × (left ≡ image)
 AnswersRun program image limit (Err ProgramTooLong) left =
     (is_size (length image) ≡ true) × (8192 < length program) × (left ≡ image)
-AnswersRun program image limit (Err NoMemory) left = (is_size (length image) ≡ true) × (left ≡ image)
+AnswersRun program image limit (Err NoMemory) left =
+    (is_size (length image) ≡ true) × (length program ≤ 8192) × (left ≡ image)
 
 -- the code of how it ended
 abbrev pub alone_code : Result RunEnd AloneFault → ℤ

@@ -1,5 +1,5 @@
 -- What C is told of a call: one definition for all calls on a controller.
-use Rattle.std.specs.Prelude.{◌≡◌, ℕ, ◌<◌, ◌≤◌, ◌⊎◌, zero, suc, Bool, true, false, ℤ, Option, None, Some, IsSomeAnd, MatchOption, Result, Ok, Err, List, unwrap_or}
+use Rattle.std.specs.Prelude.{◌≡◌, ◌≢◌, ℕ, ◌<◌, ◌≤◌, ◌⊎◌, zero, suc, Bool, true, false, ℤ, Option, None, Some, IsSomeAnd, MatchOption, Result, Ok, Err, List, unwrap_or}
 use Rattle.dma_mem.specs.Places.{Descriptor, filling}
 use Rattle.dma_mem.specs.Refusals.{refusal_of, refusal_of_fill}
 use Rattle.dma_mem.specs.declared.marks.MarkKind.{MarkKind}
@@ -7,7 +7,7 @@ use Rattle.dma_mem.specs.declared.segment.Segment.{Segment}
 use Rattle.dma_mem.specs.declared.transfer.TransferFault.{TransferFault}
 use Rattle.dma_mem.specs.declared.transfer.TransferFault.TheVariants as transfers
 use Rattle.dma_engine.specs.declared.call.Call.{Call}
-use Rattle.dma_engine.specs.declared.call.Call.TheVariants.{Submit, Mark}
+use Rattle.dma_engine.specs.declared.call.Call.TheVariants.{Submit, Status as StatusOf, Result as ResultOf, Mark, Checkpoint}
 use Rattle.dma_engine.specs.declared.call.Reply.{Reply}
 use Rattle.dma_engine.specs.declared.call.Reply.TheVariants.{Bytes, Cookie, Count, Result as Resulted, Refused}
 use Rattle.dma_engine.specs.declared.fault.EngineFault.{EngineFault}
@@ -44,7 +44,7 @@ pub data Asked : Type 0 where
   ask_running : ℕ → Asked
   -- how many cookies of a channel aren't finished
   ask_unfinished : ℕ → Asked
-  -- how many cookies of a channel a checkpoint forgot
+  -- how many cookies of a channel have results that checkpoints have forgotten
   ask_forgotten : ℕ → Asked
   -- the step count
   ask_step_count : Asked
@@ -150,7 +150,9 @@ code_of (replied reply) = reply_code reply
 code_of (unfit fault) = transfer_code fault
 code_of no_kind = bad_kind
 code_of (runs None) = not_running
-code_of _ = ok_code
+code_of (runs (Some running)) = ok_code
+code_of (stepped taken last) = ok_code
+code_of (numbered number) = ok_code
 
 -- What a call writes: what was there before, and what is there afterwards.
 pub data Written : Type 0 where
@@ -202,15 +204,24 @@ IsWritten answer (a_report before after) = after ≡ report_in answer before
 unfoldable pub Tells : View → Asked → ℤ → Written → View → Type 0
 Tells v asked code written w = (answer : Answer) × Answers v asked answer w × (code ≡ code_of answer) × IsWritten answer written
 
+-- What a call leaves of an engine besides its view. One that only tells leaves all as it was. A checkpoint that is made has
+-- the lists give their room back, and one that is refused leaves all as it was.
+abbrev pub Leaves : Asked → ℤ → EngineState → EngineState → Type 0
+Leaves (ask_call (StatusOf ch cookie)) code e e' = e' ≡ e
+Leaves (ask_call (ResultOf ch cookie)) code e e' = e' ≡ e
+Leaves (ask_running ch) code e e' = e' ≡ e
+Leaves (ask_unfinished ch) code e e' = e' ≡ e
+Leaves (ask_forgotten ch) code e e' = e' ≡ e
+Leaves ask_step_count code e e' = e' ≡ e
+Leaves (ask_call Checkpoint) code e e' = (code ≡ ok_code → HasGivenBack e') × (code ≢ ok_code → e' ≡ e)
+Leaves _ code e e' = Unit {0}
+
 -- What C is told of a call on a controller, which held the first engine before and holds the second afterwards. Without an
 -- engine it is told so, whatever is asked, and there is none afterwards; with one, it is told what that engine answers.
 unfoldable pub Told : Option EngineState → Asked → ℤ → Written → Option EngineState → Type 0
 Told None asked code written new = (new ≡ None) × (code ≡ code_of closed) × IsWritten closed written
-Told (Some e) asked code written new = IsSomeAnd new (λ e'. Tells e.view asked code written e'.view)
-
--- Where a checkpoint was made, the lists of the engine that is there then have given their room back.
-abbrev pub GivesBack : ℤ → Option EngineState → Type 0
-GivesBack code new = code ≡ ok_code → IsSomeAnd new HasGivenBack
+Told (Some e) asked code written new =
+    IsSomeAnd new (λ e'. Tells e.view asked code written e'.view × Leaves asked code e e')
 
 -- ---- an engine made
 

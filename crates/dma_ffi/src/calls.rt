@@ -1,6 +1,6 @@
 //! What the calls do to an engine that is there: each is the engine's own call, and tells C its answer.
 
-ghost use Rattle.std.specs.Prelude.{◌≡◌, IfErr, IfOk, length};
+ghost use Rattle.std.specs.Prelude.{◌≡◌, ◌≢◌, IfErr, IfOk, length};
 ghost use Rattle.dma_engine.specs.Room.{HasGivenBack};
 ghost use Rattle.dma_ffi.specs.Codes.{ok_code, transfer_code};
 ghost use Rattle.dma_ffi.specs.Reports.{segment_of};
@@ -135,7 +135,7 @@ pub fn unfinished(engine: &Engine, ch: u8, count: &mut u32) -> i32
     OK
 }
 
-/// How many cookies of a channel the last checkpoint forgot.
+/// How many cookies of a channel have results that checkpoints have forgotten.
 #[tactic(auto, using(crate::proofs::Tells::tells_forgotten))]
 pub fn forgotten(engine: &Engine, ch: u8, count: &mut u32) -> i32
     ensures { Tells engine.now.view (ask_forgotten ch) result (a_number count.old count.new) engine.now.view }
@@ -181,10 +181,11 @@ pub fn raise(engine: &mut Engine, event: u8) -> i32
 }
 
 /// Makes the present the base of the history.
-#[tactic(auto, using(crate::proofs::Tells::tells_call, crate::proofs::Tells::gives_back))]
+#[tactic(auto, using(crate::proofs::Tells::tells_call, crate::proofs::Tells::gives_back, crate::proofs::Tells::stays))]
 pub fn checkpoint(engine: &mut Engine) -> i32
     ensures answer { Tells engine.old.view (ask_call Call.Checkpoint) result nothing engine.new.view }
     ensures room { (result ≡ ok_code) → HasGivenBack engine.new }
+    ensures same { (result ≢ ok_code) → (engine.new ≡ engine.old) }
 {
     done(engine.checkpoint())
 }

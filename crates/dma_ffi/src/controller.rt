@@ -8,8 +8,8 @@ use box_pointer::BoxPointer;
 use dma_engine::Engine;
 use std::alloc::Global;
 
-/// An engine, or none. C sets it to zeros before the first call, which is none, and reads and writes nothing of it. None is let
-/// go or overwritten but one without an engine, so that no engine is lost.
+/// An engine, or none. C sets it to zeros before the first call, which is none, and reads and writes nothing of it. It has no
+/// `Drop`, so that none can be let go or written over: it ends by [`Controller::end`], which asks that there is no engine.
 #[repr(C)]
 pub struct Controller {
     pub engine: EnginePointer,

@@ -9,8 +9,8 @@ use dma_engine::Engine;
 use std::alloc::Global;
 use std::marker::Model;
 
-/// An engine as the pointer that owns it, or nothing. C can't be handed a box, so the pointer is one to bytes. None is let
-/// go: one to an engine gives it back, and one to nothing is ended.
+/// An engine as the pointer that owns it, or nothing. C can't be handed a box, so the pointer is one to bytes. It has no
+/// `Drop`: one to an engine gives it back, and one to nothing is ended.
 #[repr(C)]
 pub struct EnginePointer {
     at: *mut u8,

@@ -1,15 +1,18 @@
 //! The engine for programs in C and other languages: a controller that the caller keeps, and one function for each call.
 //!
 //! C declares `#include "dma.h"`. Each call on a controller tells C what the engine answers: `Told` says so of all of them.
-//! Duties of the caller, which no proof can see: a controller is zeros before it is opened, is not copied while it is open,
-//! and its members are neither read nor written; one call at a time has it, in an order that threads keep by a lock, or by
-//! a start or a join; pointers are valid for as long as a call takes, and what they point to doesn't overlap.
+//! Duties of the caller, which no proof can see (docs/EMBEDDING.md has them all): a controller is zeros before its first call,
+//! is not copied while it is open, and its members are neither read nor written; one call at a time has it, in an order that
+//! threads keep by a lock, by a start or a join, or by a sequentially consistent atomic; pointers are not null, aligned as
+//! their types, and good for as many elements as is said; what they point to doesn't overlap, and nobody else writes it, or
+//! reads what the call writes, while the call runs; allocation is by one allocator; no call comes from a signal handler, or
+//! from the forked child of a process with threads.
 #![tactic(auto)]
 
 ghost use Rattle.std.specs.Prelude.{◌≡◌, length, None};
 ghost use Rattle.dma_ffi.specs.Codes.{event_told};
 ghost use Rattle.dma_ffi.specs.Reports.{segment_of, segments_of};
-ghost use Rattle.dma_ffi.specs.Told.{GivesBack, Told, ToldNew, a_number, a_report, a_run, an_outcome, ask_call, ask_copy, ask_fill, ask_forgotten, ask_mark, ask_running, ask_step_count, ask_steps, ask_unfinished, copying, nothing, some_bytes};
+ghost use Rattle.dma_ffi.specs.Told.{Told, ToldNew, a_number, a_report, a_run, an_outcome, ask_call, ask_copy, ask_fill, ask_forgotten, ask_mark, ask_running, ask_step_count, ask_steps, ask_unfinished, copying, nothing, some_bytes};
 
 mod calls;
 mod codes;
@@ -365,11 +368,10 @@ pub extern "C" fn dma_raise(alloc: Global, controller: &mut Controller, event: u
 }
 
 /// Makes the present the base of the history, forgets what was before, and gives the room back that it took.
-#[tactic(auto, using(crate::proofs::Tells::told_closed, crate::proofs::Tells::told_open, crate::proofs::Tells::not_given_back, crate::proofs::Tells::given_back))]
+#[tactic(auto, using(crate::proofs::Tells::told_closed, crate::proofs::Tells::told_open))]
 #[unsafe(no_mangle)]
 pub extern "C" fn dma_checkpoint(alloc: Global, controller: &mut Controller) -> i32
-    ensures answer { Told controller.old.engine.value (ask_call Call.Checkpoint) result nothing controller.new.engine.value }
-    ensures room { GivesBack result controller.new.engine.value }
+    ensures { Told controller.old.engine.value (ask_call Call.Checkpoint) result nothing controller.new.engine.value }
 {
     let Some(mut engine) = controller.take(alloc) else {
         return NOT_OPEN;
@@ -379,7 +381,7 @@ pub extern "C" fn dma_checkpoint(alloc: Global, controller: &mut Controller) -> 
     code
 }
 
-/// How many cookies of a channel the last checkpoint forgot.
+/// How many cookies of a channel have results that checkpoints have forgotten.
 #[tactic(auto, using(crate::proofs::Tells::told_closed, crate::proofs::Tells::told_open))]
 #[unsafe(no_mangle)]
 pub extern "C" fn dma_forgotten(

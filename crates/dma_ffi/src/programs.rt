@@ -1,20 +1,22 @@
 //! The calls that need no controller: the version, programs run alone, assembled and disassembled.
 
-ghost use Rattle.std.specs.Prelude.{◌≡◌, length};
+ghost use Rattle.std.specs.Prelude.{◌≡◌, ◌<◌, ◌≤◌, IfOk, IsTrue, OnOk, length};
+ghost use Rattle.dma_mem.specs.Image.{is_size};
 ghost use Rattle.dma_ffi.specs.Programs.{AnswersProgram, AnswersRun, AnswersText, ToldProgram, ToldRun, ToldText, alone_code, asm_refusal, code_made, dis_refusal, end_in, fits, laid_into, len_made, out_made, place_made, room_code, version_text, where_fits};
-ghost use Rattle.dma_ffi.specs.inner.Alone.{IsMade, memory_fault, run_fault};
+ghost use Rattle.dma_ffi.specs.inner.Alone.{run_fault};
 
 use crate::codes::{
     BUFFER_TOO_SMALL, NO_MEMORY, OK, PROGRAM_TOO_LONG, SIZE_OUT_OF_RANGE, code_of_cause,
     code_of_decode,
 };
 use crate::reports::{DmaRunEnd, end_of};
+use dma_chan::program::MAX_BYTES;
 use dma_chan::run::{RunEnd, RunFault, run_program};
 use dma_insn::assembler::{AsmFault, assemble};
 use dma_insn::disassembler::{DisFault, disassemble};
 use dma_mem::lists::Bytes;
-use dma_mem::memory::{MAX_SIZE, MemFault, Memory};
-use std::alloc::Global;
+use dma_mem::memory::{MAX_SIZE, Memory};
+use std::alloc::{AllocError, Global};
 
 /// The version's text, and the zero that ends it.
 const VERSION: &[u8] = b"dilkwafam 1.0\0";
@@ -197,30 +199,18 @@ pub extern "C" fn dma_disassemble(
 
 // ---- programs run alone
 
-// Why there is no memory.
-fn memory_fault(fault: MemFault) -> AloneFault
-    ensures { result ≡ memory_fault fault }
-{
-    match fault {
-        MemFault::NoMemory => AloneFault::NoMemory,
-        MemFault::SizeOutOfRange => AloneFault::SizeOutOfRange,
-        MemFault::OutOfMemoryRange => AloneFault::SizeOutOfRange,
-    }
-}
-
 // A memory of these bytes.
-fn memory_of(alloc: Global, bytes: &[u8]) -> Result<Memory, AloneFault>
-    ensures { IsMade bytes.now result }
+fn memory_of(alloc: Global, bytes: &[u8]) -> Result<Memory, AllocError>
+    requires some { 0 < length bytes.now }
+    requires fit { length bytes.now ≤ 4294963200 }
+    ensures image { IfOk result (λ memory. memory.image ≡ bytes.now) }
+    ensures size { OnOk result (IsTrue (is_size (length bytes.now))) }
 {
-    if bytes.len() > MAX_SIZE as usize {
-        return Err(AloneFault::SizeOutOfRange);
-    }
-    let mut memory = match Memory::new(alloc, bytes.len() as u32) {
-        Ok(memory) => memory,
-        Err(fault) => return Err(memory_fault(fault)),
+    let Ok(mut memory) = Memory::new(alloc, bytes.len() as u32) else {
+        return Err(AllocError);
     };
     let Ok(()) = memory.write(0, bytes) else {
-        return Err(AloneFault::NoMemory);
+        return Err(AllocError);
     };
     Ok(memory)
 }
@@ -245,7 +235,15 @@ fn run_alone(
 ) -> Result<RunEnd, AloneFault>
     ensures { AnswersRun program.now bytes.old limit result bytes.new }
 {
-    let mut memory = memory_of(alloc, bytes)?;
+    if bytes.is_empty() || bytes.len() > MAX_SIZE as usize {
+        return Err(AloneFault::SizeOutOfRange);
+    }
+    if program.len() > MAX_BYTES {
+        return Err(AloneFault::ProgramTooLong);
+    }
+    let Ok(mut memory) = memory_of(alloc, bytes) else {
+        return Err(AloneFault::NoMemory);
+    };
     let end = match run_program(alloc, program, &mut memory, limit) {
         Ok(end) => end,
         Err(fault) => return Err(run_fault(fault)),

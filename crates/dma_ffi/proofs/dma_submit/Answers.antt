@@ -25,5 +25,5 @@ returns c =
     c.copy_of-made.ensures.ok c.copy_of-made.ensures.accepted c.copy_of-made.ensures.err
     c.submit-code.ensures.ok c.submit-code.ensures.code c.submit-code.ensures.number c.submit-code.ensures.same in
     told_open (ask_copy c.args.ch (copy c.args.wait c.args.signal)) (a_number before after) c.in-Some.engine.value e e' c.put.ensures c.in-Some.ensures.taken c.deref_mut.ensures.value
-    (subst (λ (t : Descriptor). Tells e.view (ask_copy c.args.ch t) code (a_number before after) e'.view) same tells)
+    (subst (λ (t : Descriptor). Tells e.view (ask_copy c.args.ch t) code (a_number before after) e'.view) same tells) tt
     (to_z-of_z w32 code (record { sfits = c.submit-code.type_inv }))

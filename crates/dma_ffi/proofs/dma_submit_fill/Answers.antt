@@ -24,5 +24,5 @@ returns c =
     c.fill_of-made.ensures.ok c.fill_of-made.ensures.accepted c.fill_of-made.ensures.err
     c.submit-code.ensures.ok c.submit-code.ensures.code c.submit-code.ensures.number c.submit-code.ensures.same in
     told_open (fill c.args.wait c.args.signal) (a_number before after) c.in-Some.engine.value e e' c.put.ensures c.in-Some.ensures.taken c.deref_mut.ensures.value
-    (subst (λ (asked : Asked). Tells e.view asked code (a_number before after) e'.view) same tells)
+    (subst (λ (asked : Asked). Tells e.view asked code (a_number before after) e'.view) same tells) tt
     (to_z-of_z w32 code (record { sfits = c.submit-code.type_inv }))
