@@ -1,10 +1,11 @@
 /* A verified software DMA controller (ARM DMA-330, memory to memory) for programs in C, from C89 on, and in C++.
  *
  * Link libdma_ffi.a and, behind it, the kit's c/liblibc_c.a. docs/EMBEDDING.md says what a caller owes; in short:
- * - A dma_controller is DMA_CONTROLLER_INIT (zeros) before dma_open. Its members are never touched. While it is open it is
- *   never copied; it may be moved, and the first is then zeros before it is used again.
+ * - A dma_controller is DMA_CONTROLLER_INIT (zeros) before its first call. Its members are never touched. While it is open it
+ *   is never copied; it may be moved, and the first is then zeros before it is used again.
  * - Its calls come one after another. Threads that share one take turns by a lock.
- * - No pointer is null, not even one to no elements, and no two of a call overlap, but for lists that are only read.
+ * - No pointer is null, not even one to no elements, and no two of a call overlap, but for lists that are only read. While a
+ *   call runs nobody else writes what its pointers point to, or reads what it writes.
  *
  * A call answers DMA_OK, or a negative code: the first that applies of those that its comment names, in their order. A call
  * that is refused changes nothing and writes no output; but DMA_NOT_OPEN comes before all others, DMA_NO_MEMORY may be told
@@ -265,7 +266,7 @@ int32_t dma_checkpoint(dma_controller *controller) DMA_NO_NULLS;
 int32_t dma_version(char *out, size_t room, size_t *len) DMA_NO_NULLS;
 
 /* Runs a program's bytes alone over the caller's memory, with no marks and all flags clear, for at most `limit`
- * instructions, and tells how it ended: SIZE_OUT_OF_RANGE, NO_MEMORY, PROGRAM_TOO_LONG, NO_MEMORY. */
+ * instructions, and tells how it ended: SIZE_OUT_OF_RANGE, PROGRAM_TOO_LONG, NO_MEMORY. */
 int32_t dma_run_program(const uint8_t *program, size_t len, uint8_t *memory, size_t size, uint32_t limit,
                         dma_run_end *end) DMA_NO_NULLS;
 

@@ -91,7 +91,7 @@ fn pattern(channel: u8) -> Vec<u8> {
     (0..0x400u32).map(|n| (n % 251) as u8 ^ channel).collect()
 }
 
-// The controller is made by the thread that keeps it: it can't be handed over.
+// The thread that keeps the controller makes it.
 fn serve_all(requests: &Receiver<Request>) -> Result<(), Error> {
     let mut controller = Controller::open(SIZE, CHANNELS)?;
     for channel in 0..CHANNELS {

@@ -344,7 +344,7 @@ impl Controller {
     /// Steps a channel until `most` steps were taken, or one neither starts nor moves.
     ///
     /// The error is that of the first step: `NoChannel`, `StepsSpent` or `NoMemory`. Where a later step is refused, those
-    /// before it stand and are told, and the next call answers the error.
+    /// before it stand and are told, and the next call takes that step again, or answers its error if the cause still holds.
     ///
     /// ```
     /// use dma::{Controller, Events, Outcome, Segment, Steps, TransferResult, Turn};
@@ -464,8 +464,8 @@ pub fn version() -> String {
 
 /// Runs a program's bytes alone over a memory, with no marks and all flags clear, for at most `limit` instructions.
 ///
-/// The error is the first that holds of `SizeOutOfRange`, of the memory's length, `ProgramTooLong` and `NoMemory`; then the
-/// memory is as it was.
+/// The error is the first that holds of `SizeOutOfRange`, of the memory's length, and `ProgramTooLong`; or it is `NoMemory`.
+/// Then the memory is as it was.
 ///
 /// ```
 /// use dma::{assemble, run_program, Fault, RunEnd};

@@ -2,13 +2,19 @@
 //!
 //! What the library asks of its caller (docs/EMBEDDING.md), and why each call below keeps it:
 //!
-//! - A controller is zeroed before it is opened, its members are never touched, and an open one is never copied: [`Handle`]
-//!   makes one of zeros, lends nobody its members, and is neither `Copy` nor `Clone`. A move leaves one owner.
-//! - One call at a time: what changes something takes `&mut self`. What only tells takes `&self` of a type that isn't `Sync`
-//!   (it is a cell), and no call of the library calls back. A handle may go to another thread, since the check of the library
-//!   proves `Send` of the type that it keeps, and Rust orders what one thread does with a value before what the next one does.
-//! - Pointers are not null and good for their counts: each comes from a reference, or from a slice beside its length.
-//! - Pointers of a call don't overlap, but where both are only read: that is Rust's rule of `&mut`.
+//! - A controller is zeroed before it is opened, its members are never touched, and an open one is never copied:
+//!   [`Handle`] makes one of zeros, lends nobody its members, and is neither `Copy` nor `Clone`. A move leaves one
+//!   owner.
+//! - One call at a time: what changes something takes `&mut self`. What only tells takes `&self` of a type that isn't
+//!   `Sync` (it is a cell), and no call of the library calls back. A handle may go to another thread, since the check
+//!   of the library proves `Send` of the type that it keeps, and Rust orders what one thread does with a value before
+//!   what the next one does.
+//! - Pointers are not null, aligned and good for their counts: each comes from a reference, or from a slice beside its
+//!   length.
+//! - Pointers of a call don't overlap, but where both are only read, and nobody else is at what they point to: that is
+//!   Rust's rule of `&mut` and `&`.
+//! - What is left to the program: one allocator behind `malloc`, no call from a signal handler or from the forked child
+//!   of a process with threads, and 32 KiB of stack.
 
 use crate::{Error, Segment};
 use std::cell::UnsafeCell;
