@@ -3,4 +3,5 @@ pub mod Codes
 pub mod Reports
 pub mod Told
 pub mod Programs
+pub mod Laws
 pub mod inner

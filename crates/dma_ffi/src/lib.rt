@@ -18,6 +18,7 @@ mod calls;
 mod codes;
 mod controller;
 mod engine_pointer;
+pub mod laws;
 mod lists;
 pub mod programs;
 mod reports;

@@ -1,0 +1,37 @@
+-- What calls from C are to the engine.
+use Rattle.std.specs.Prelude.{ℤ, Option, None, Some, IsSomeAnd, List, [], ◌∷◌, replicate}
+use Rattle.dma_mem.specs.declared.marks.MarkKind.{MarkKind}
+use Rattle.dma_mem.specs.declared.segment.Segment.{Segment}
+use Rattle.dma_mem.specs.Places.{filling}
+use Rattle.dma_engine.specs.declared.call.Call.{Call}
+use Rattle.dma_engine.specs.declared.call.Call.TheVariants.{Submit, Step, Mark}
+use Rattle.dma_engine.specs.declared.call.Reply.{Reply}
+use Rattle.dma_engine.specs.View.{EngineState}
+use Rattle.dma_engine.specs.Answer.{AreAnswers}
+use Rattle.dma_ffi.specs.Codes.{mark_kind}
+use Rattle.dma_ffi.specs.Told.{Answer, Asked, Told, Written, Answers, ask_call, ask_mark, ask_copy, ask_fill, ask_steps, replied, stepped}
+
+-- a mark of this kind, if there is one
+abbrev pub marking : Option MarkKind → Segment → List Call
+marking None range = []
+marking (Some kind) range = Mark kind range ∷ []
+
+-- The calls of the engine that were made of what C asked, by what was answered: the call, or the steps that were taken, or none
+-- where there is nothing to be asked of the engine, or it is only read.
+abbrev pub calls_made : Asked → Answer → List Call
+calls_made (ask_call call) answer = call ∷ []
+calls_made (ask_mark kind range) answer = marking (mark_kind kind) range
+calls_made (ask_copy ch t) (replied reply) = Submit ch t ∷ []
+calls_made (ask_fill ch src dst wait signal) (replied reply) = Submit ch (filling src dst wait signal) ∷ []
+calls_made (ask_steps ch most) (replied reply) = Step ch ∷ []
+calls_made (ask_steps ch most) (stepped taken last) = replicate taken (Step ch)
+calls_made _ _ = []
+
+-- What C is told of a call on an engine, the engine answers to a list of its own calls, made in order. So what holds of all lists
+-- of the engine's calls holds of all that C does: the headline too.
+abbrev pub CallsAreTheEngines : Type 0
+CallsAreTheEngines =
+    (e : EngineState) (asked : Asked) (code : ℤ) (written : Written) (new : Option EngineState)
+    → Told (Some e) asked code written new
+    → IsSomeAnd new (λ e'. (answer : Answer) × (replies : List Reply) × Answers e.view asked answer e'.view
+    × AreAnswers e.view (calls_made asked answer) replies e'.view)
