@@ -1,5 +1,5 @@
 -- What calls from C are to the engine.
-use Rattle.std.specs.Prelude.{ℤ, Option, None, Some, IsSomeAnd, List, [], ◌∷◌, replicate}
+use Rattle.std.specs.Prelude.{◌≡◌, ℤ, Option, None, Some, IsSomeAnd, List, [], ◌∷◌, replicate}
 use Rattle.dma_mem.specs.declared.marks.MarkKind.{MarkKind}
 use Rattle.dma_mem.specs.declared.segment.Segment.{Segment}
 use Rattle.dma_mem.specs.Places.{filling}
@@ -9,7 +9,7 @@ use Rattle.dma_engine.specs.declared.call.Reply.{Reply}
 use Rattle.dma_engine.specs.View.{EngineState}
 use Rattle.dma_engine.specs.Answer.{AreAnswers}
 use Rattle.dma_ffi.specs.Codes.{mark_kind}
-use Rattle.dma_ffi.specs.Told.{Answer, Asked, Told, Written, Answers, ask_call, ask_mark, ask_copy, ask_fill, ask_steps, replied, stepped}
+use Rattle.dma_ffi.specs.Told.{Answer, Asked, IsWritten, Told, Written, code_of, ask_call, ask_mark, ask_copy, ask_fill, ask_steps, replied, stepped}
 
 -- a mark of this kind, if there is one
 abbrev pub marking : Option MarkKind → Segment → List Call
@@ -27,11 +27,16 @@ calls_made (ask_steps ch most) (replied reply) = Step ch ∷ []
 calls_made (ask_steps ch most) (stepped taken last) = replicate taken (Step ch)
 calls_made _ _ = []
 
--- What C is told of a call on an engine, the engine answers to a list of its own calls, made in order. So what holds of all lists
--- of the engine's calls holds of all that C does: the headline too.
+-- A call of the engine has the reply that is the answer.
+abbrev pub AreReplies : Answer → List Reply → Type 0
+AreReplies (replied reply) replies = replies ≡ reply ∷ []
+AreReplies _ replies = Unit {0}
+
+-- What C is told of a call on an engine is the answer that the engine gives by a list of its own calls, made in order. So what
+-- holds of all lists of the engine's calls holds of all that C does: the headline too.
 abbrev pub CallsAreTheEngines : Type 0
 CallsAreTheEngines =
     (e : EngineState) (asked : Asked) (code : ℤ) (written : Written) (new : Option EngineState)
     → Told (Some e) asked code written new
-    → IsSomeAnd new (λ e'. (answer : Answer) × (replies : List Reply) × Answers e.view asked answer e'.view
-    × AreAnswers e.view (calls_made asked answer) replies e'.view)
+    → IsSomeAnd new (λ e'. (answer : Answer) × (code ≡ code_of answer) × IsWritten answer written
+    × ((replies : List Reply) × AreReplies answer replies × AreAnswers e.view (calls_made asked answer) replies e'.view))
