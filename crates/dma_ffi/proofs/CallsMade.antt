@@ -43,13 +43,15 @@ replicate-end : {A : Type 0} (n : ℕ) (x : A) → replicate n x ++ x ∷ [] ≡
 replicate-end zero x = refl
 replicate-end (suc n) x = ap (λ l. x ∷ l) (replicate-end n x)
 
-steps_made : (v w : View) (ch n : ℕ) (last : Option Turn) → InARow v ch n last w → (replies : List Reply) × AreAnswers v (replicate n (Step ch)) replies w
-steps_made v w ch zero last row = ([], row.1)
+steps_made : (v w : View) (ch n : ℕ) (last : Option Turn) → InARow v ch n last w → Made v (replicate n (Step ch)) (stepped n last) w
+steps_made v w ch zero last row = ([], subst (λ (l : Option Turn). AreReplies (stepped zero l) []) (sym row.0) refl, row.1)
 steps_made v w ch (suc n) last (u, before, turn, row, goes, answers, is) =
-    let made = steps_made v u ch n before row in (
-      made.0 ++ Turned turn ∷ [],
-      subst (λ (calls : List Call). AreAnswers v calls (made.0 ++ Turned turn ∷ []) w) (replicate-end n (Step ch))
-          (one_more v u w (replicate n (Step ch)) made.0 (Step ch) (Turned turn) made.1 answers),
+    let made = steps_made v u ch n before row in
+    let replies : List Reply = made.0 ++ Turned turn ∷ [] in (
+      replies,
+      subst (λ (l : Option Turn). AreReplies (stepped (suc n) l) replies) (sym is) (made.0, refl),
+      subst (λ (calls : List Call). AreAnswers v calls replies w) (replicate-end n (Step ch))
+          (one_more v u w (replicate n (Step ch)) made.0 (Step ch) (Turned turn) made.2 answers),
     )
 
 mark_made : (v w : View) (kind : Option MarkKind) (range : Segment) (answer : Answer) → AnswersMark v kind range answer w → Made v (marking kind range) answer w
@@ -88,8 +90,7 @@ fill_made v w ch src dst wait signal (numbered n) h = h
 
 stepping_made : (v w : View) (ch most : ℕ) (answer : Answer) → AnswersSteps v ch most answer w → Made v (calls_made (ask_steps ch most) answer) answer w
 stepping_made v w ch most (replied (Refused fault)) h = one_made v w (Step ch) (Refused fault) h.1
-stepping_made v w ch most (stepped taken last) h =
-    let made = steps_made v w ch taken last h.row in (made.0, tt, made.1)
+stepping_made v w ch most (stepped taken last) h = steps_made v w ch taken last h.row
 stepping_made v w ch most (replied Done) h = absurd h
 stepping_made v w ch most (replied (Bytes bytes)) h = absurd h
 stepping_made v w ch most (replied (Cookie cookie)) h = absurd h
@@ -129,5 +130,5 @@ pub calls_are_the_engines : CallsAreTheEngines
 unfolding Told Tells
 calls_are_the_engines e asked code written (Some e') told =
     let answer = told.0.0 in
-    (answer, told.0.2, told.0.3, made e.view e'.view asked answer told.0.1)
+    (answer, told.0.1, told.0.2, told.0.3, made e.view e'.view asked answer told.0.1)
 calls_are_the_engines e asked code written None told = absurd told

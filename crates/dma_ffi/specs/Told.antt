@@ -44,7 +44,7 @@ pub data Asked : Type 0 where
   ask_running : ℕ → Asked
   -- how many cookies of a channel aren't finished
   ask_unfinished : ℕ → Asked
-  -- how many cookies of a channel have results that checkpoints have forgotten
+  -- of how many cookies of a channel checkpoints have forgotten the results
   ask_forgotten : ℕ → Asked
   -- the step count
   ask_step_count : Asked
@@ -204,8 +204,8 @@ IsWritten answer (a_report before after) = after ≡ report_in answer before
 unfoldable pub Tells : View → Asked → ℤ → Written → View → Type 0
 Tells v asked code written w = (answer : Answer) × Answers v asked answer w × (code ≡ code_of answer) × IsWritten answer written
 
--- What a call leaves of an engine besides its view. One that only tells leaves all as it was. A checkpoint that is made has
--- the lists give their room back, and one that is refused leaves all as it was.
+-- What a call leaves of an engine besides its view. One that only tells leaves view, bytes and room as they were, and so does
+-- a checkpoint that is refused. After one that is made the lists have no room to spare.
 abbrev pub Leaves : Asked → ℤ → EngineState → EngineState → Type 0
 Leaves (ask_call (StatusOf ch cookie)) code e e' = e' ≡ e
 Leaves (ask_call (ResultOf ch cookie)) code e e' = e' ≡ e

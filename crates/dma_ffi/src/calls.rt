@@ -135,7 +135,7 @@ pub fn unfinished(engine: &Engine, ch: u8, count: &mut u32) -> i32
     OK
 }
 
-/// How many cookies of a channel have results that checkpoints have forgotten.
+/// Of how many cookies of a channel checkpoints have forgotten the results.
 #[tactic(auto, using(crate::proofs::Tells::tells_forgotten))]
 pub fn forgotten(engine: &Engine, ch: u8, count: &mut u32) -> i32
     ensures { Tells engine.now.view (ask_forgotten ch) result (a_number count.old count.new) engine.now.view }

@@ -8,8 +8,9 @@ use box_pointer::BoxPointer;
 use dma_engine::Engine;
 use std::alloc::Global;
 
-/// An engine, or none. C sets it to zeros before the first call, which is none, and reads and writes nothing of it. It has no
-/// `Drop`, so that none can be let go or written over: it ends by [`Controller::end`], which asks that there is no engine.
+/// An engine, or none. C sets it to zeros, which are none, before the first call, and reads and writes nothing of it. It has no
+/// `Drop`, so the compiler refuses to let one go or to write over it: one ends by [`Controller::end`], which asks that there is
+/// no engine.
 #[repr(C)]
 pub struct Controller {
     pub engine: EnginePointer,

@@ -10,7 +10,7 @@ use std::alloc::Global;
 use std::marker::Model;
 
 /// An engine as the pointer that owns it, or nothing. C can't be handed a box, so the pointer is one to bytes. It has no
-/// `Drop`: one to an engine gives it back, and one to nothing is ended.
+/// `Drop`: one to an engine ends by [`EnginePointer::into_pointer`], one to nothing by [`EnginePointer::end`].
 #[repr(C)]
 pub struct EnginePointer {
     at: *mut u8,

@@ -4,9 +4,9 @@
 //! Duties of the caller, which no proof can see (docs/EMBEDDING.md has them all): a controller is zeros before its first call,
 //! is not copied while it is open, and its members are neither read nor written; one call at a time has it, in an order that
 //! threads keep by a lock, by a start or a join, or by a sequentially consistent atomic; pointers are not null, aligned as
-//! their types, and good for as many elements as is said; what they point to doesn't overlap, and nobody else writes it, or
-//! reads what the call writes, while the call runs; allocation is by one allocator; no call comes from a signal handler, or
-//! from the forked child of a process with threads.
+//! their types, and good for as many elements as is said; what they point to doesn't overlap, but for lists that are only
+//! read, and nobody else writes it, or reads what the call writes, while the call runs; allocation is by one allocator, which
+//! aligns as C demands; no call comes from a signal handler, or from the forked child of a process with threads.
 #![tactic(auto)]
 
 ghost use Rattle.std.specs.Prelude.{◌≡◌, length, None};
@@ -368,7 +368,7 @@ pub extern "C" fn dma_raise(alloc: Global, controller: &mut Controller, event: u
     code
 }
 
-/// Makes the present the base of the history, forgets what was before, and gives the room back that it took.
+/// Makes the present the base of the history, forgets what was before, and gives back the room that the history took.
 #[tactic(auto, using(crate::proofs::Tells::told_closed, crate::proofs::Tells::told_open))]
 #[unsafe(no_mangle)]
 pub extern "C" fn dma_checkpoint(alloc: Global, controller: &mut Controller) -> i32
@@ -382,7 +382,7 @@ pub extern "C" fn dma_checkpoint(alloc: Global, controller: &mut Controller) -> 
     code
 }
 
-/// How many cookies of a channel have results that checkpoints have forgotten.
+/// Of how many cookies of a channel checkpoints have forgotten the results.
 #[tactic(auto, using(crate::proofs::Tells::told_closed, crate::proofs::Tells::told_open))]
 #[unsafe(no_mangle)]
 pub extern "C" fn dma_forgotten(
