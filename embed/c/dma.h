@@ -90,8 +90,8 @@ typedef struct dma_run_end {
     uint32_t pc;    /* of DMA_END_FAULT: the offset of the instruction */
 } dma_run_end;
 
-/* What the last of some steps did. A channel that is halted and paused is told as halted, and one that is paused and has
- * nothing to do as paused. */
+/* What the last of some steps did. A halted channel is told as halted, paused or not; else a paused one as paused, whatever it
+ * has to do. */
 enum dma_turn {
     DMA_NO_STEP = 0,  /* none was asked for */
     DMA_STARTED = 1,  /* the channel's next transfer runs from now on */

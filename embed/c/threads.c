@@ -1,6 +1,6 @@
-/* Threads that share a controller behind a lock, as the processors of an emulator do: each submits copies to a channel of
- * its own, and steps it until they are complete, a few steps each time that it has the lock. The thread that opens the
- * controller is not the one that closes it. */
+/* Threads that share a controller behind a lock, as the processors of an emulator do: all begin at once, and each submits
+ * copies to a channel of its own, and steps it until they are complete, two steps each time that it has the lock. The thread
+ * that opens the controller is not the one that closes it. */
 #define _POSIX_C_SOURCE 200112L
 #include "dma.h"
 
@@ -9,9 +9,10 @@
 #include <stdlib.h>
 #include <string.h>
 
-enum { THREADS = 4, REGION = 0x1000, COPY = 0x400, COPIES = 3, MOST = 16 };
+enum { THREADS = 4, REGION = 0x1000, COPY = 0x400, COPIES = 3, MOST = 2, ROUNDS = 1000 };
 
 typedef struct board {
+    pthread_barrier_t start;
     pthread_mutex_t lock;
     dma_controller dma; /* by whoever has the lock */
 } board;
@@ -46,7 +47,7 @@ static void copy_upward(const processor *p, uint32_t n)
     const dma_segment src = {from, COPY}, dst = {from + COPY, COPY};
     dma_report report;
     dma_outcome outcome;
-    uint32_t cookie, issued;
+    uint32_t cookie, issued, rounds = 0;
     int32_t state;
     take(p->board);
     expect(dma_submit(&p->board->dma, p->channel, &src, 1, &dst, 1, DMA_NO_EVENT, DMA_NO_EVENT, &cookie) == DMA_OK, "not submitted");
@@ -54,7 +55,9 @@ static void copy_upward(const processor *p, uint32_t n)
     give(p->board);
     do {
         take(p->board);
-        expect(dma_step(&p->board->dma, p->channel, MOST, &report) == DMA_OK && report.taken > 0, "not stepped");
+        expect(dma_step(&p->board->dma, p->channel, MOST, &report) == DMA_OK, "not stepped");
+        expect(report.turn == DMA_STARTED || report.turn == DMA_MOVED || report.turn == DMA_FINISHED, "it doesn't go on");
+        expect(rounds++ < ROUNDS, "it doesn't end");
         state = dma_status(&p->board->dma, p->channel, cookie);
         give(p->board);
     } while (state == DMA_IN_PROGRESS);
@@ -68,6 +71,7 @@ static void *run(void *argument)
 {
     const processor *p = argument;
     uint32_t n;
+    pthread_barrier_wait(&p->board->start);
     for (n = 0; n < COPIES; n++)
         copy_upward(p, n);
     return NULL;
@@ -84,6 +88,7 @@ static void pattern(uint8_t channel, uint8_t bytes[COPY])
 static void begin(board *b)
 {
     uint8_t bytes[COPY], channel;
+    expect(pthread_barrier_init(&b->start, NULL, THREADS) == 0, "no barrier");
     expect(pthread_mutex_init(&b->lock, NULL) == 0, "no lock");
     memset(&b->dma, 0, sizeof b->dma);
     expect(dma_open(&b->dma, THREADS * REGION, THREADS) == DMA_OK, "no controller");
@@ -125,7 +130,7 @@ int main(void)
     for (channel = 0; channel < THREADS; channel++)
         expect(pthread_join(threads[channel], NULL) == 0, "a thread isn't joined");
     expect(pthread_create(&last, NULL, end, &b) == 0 && pthread_join(last, NULL) == 0, "no last thread");
-    expect(pthread_mutex_destroy(&b.lock) == 0, "the lock stays");
+    expect(pthread_mutex_destroy(&b.lock) == 0 && pthread_barrier_destroy(&b.start) == 0, "a lock stays");
     printf("%d copies of %d threads behind one lock\n", THREADS * COPIES, THREADS);
     return 0;
 }

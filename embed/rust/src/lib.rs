@@ -230,7 +230,7 @@ fn turn_of(report: &sys::RawReport) -> Option<Turn> {
 
 /// A controller over a memory of its own. It is closed when it is dropped.
 ///
-/// It is `Send`: the check of the library proves that of the handle that a controller keeps. So threads may take turns with
+/// It is `Send`: the check of the library proves that of the library's type that it keeps. So threads may take turns with
 /// one behind a `Mutex`, or it has a thread to which others send their requests (`examples/threads.rs`). It is not `Sync`:
 /// what only tells takes `&self`, and one call at a time has a controller.
 ///

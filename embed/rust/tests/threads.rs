@@ -1,13 +1,14 @@
 //! A controller goes from thread to thread: behind a lock, and by a move.
 
 use dma::{Controller, Error, Events, Outcome, Segment, Status, TransferResult};
-use std::sync::Mutex;
+use std::sync::{Barrier, Mutex, MutexGuard};
 use std::thread;
 
 const CHANNELS: u8 = 4;
 const REGION: u32 = 0x1000;
 const COPY: u32 = 0x400;
-const STEPS_OF_A_TURN: u32 = 16;
+const STEPS_OF_A_TURN: u32 = 2;
+const ROUNDS: u32 = 1000;
 
 // What each region begins with, and has everywhere at the end.
 fn pattern(channel: u8) -> Vec<u8> {
@@ -22,22 +23,31 @@ fn opened() -> Result<Controller, Error> {
     Ok(controller)
 }
 
+fn locked(shared: &Mutex<Controller>) -> MutexGuard<'_, Controller> {
+    shared.lock().expect("no thread panicked")
+}
+
+// Steps a channel until its copy is complete, two steps each time that it has the lock: whether it came to an end.
+fn step_through(shared: &Mutex<Controller>, channel: u8, cookie: u32) -> Result<bool, Error> {
+    for _ in 0..ROUNDS {
+        locked(shared).step(channel, STEPS_OF_A_TURN)?;
+        if locked(shared).status(channel, cookie) == Status::Complete {
+            return Ok(true);
+        }
+    }
+    Ok(false)
+}
+
 // Three copies upward in the channel's region, for which the lock is taken again and again.
 fn copy_upward(shared: &Mutex<Controller>, channel: u8) -> Result<Vec<Option<Outcome>>, Error> {
     let mut outcomes = Vec::new();
     for n in 0..3 {
         let src = Segment::new(u32::from(channel) * REGION + n * COPY, COPY);
         let dst = Segment::new(src.addr + COPY, COPY);
-        let cookie = {
-            let mut controller = shared.lock().expect("no thread panicked");
-            let cookie = controller.submit(channel, &[src], &[dst], Events::default())?;
-            controller.issue(channel)?;
-            cookie
-        };
-        while shared.lock().expect("no thread panicked").status(channel, cookie) == Status::InProgress {
-            shared.lock().expect("no thread panicked").step(channel, STEPS_OF_A_TURN)?;
-        }
-        outcomes.push(shared.lock().expect("no thread panicked").result(channel, cookie));
+        let cookie = locked(shared).submit(channel, &[src], &[dst], Events::default())?;
+        locked(shared).issue(channel)?;
+        assert!(step_through(shared, channel, cookie)?, "the copy doesn't end");
+        outcomes.push(locked(shared).result(channel, cookie));
     }
     Ok(outcomes)
 }
@@ -57,11 +67,15 @@ fn all_is_copied(controller: &mut Controller) -> Result<bool, Error> {
 #[test]
 fn threads_share_a_controller_behind_a_lock() {
     let shared = Mutex::new(opened().expect("memory is there"));
+    let all_begin = Barrier::new(usize::from(CHANNELS));
     let copied = Some(Outcome { result: TransferResult::NoError, residue: 0 });
     thread::scope(|scope| {
         let start = |channel| {
-            let shared = &shared;
-            scope.spawn(move || copy_upward(shared, channel))
+            let (shared, all_begin) = (&shared, &all_begin);
+            scope.spawn(move || {
+                all_begin.wait();
+                copy_upward(shared, channel)
+            })
         };
         let threads: Vec<_> = (0..CHANNELS).map(start).collect();
         for thread in threads {
