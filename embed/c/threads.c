@@ -50,7 +50,8 @@ static void copy_upward(const processor *p, uint32_t n)
     uint32_t cookie, issued, rounds = 0;
     int32_t state;
     take(p->board);
-    expect(dma_submit(&p->board->dma, p->channel, &src, 1, &dst, 1, DMA_NO_EVENT, DMA_NO_EVENT, &cookie) == DMA_OK, "not submitted");
+    expect(dma_submit(&p->board->dma, p->channel, &src, 1, &dst, 1, DMA_NO_EVENT, DMA_NO_EVENT, &cookie) == DMA_OK,
+           "not submitted");
     expect(dma_issue(&p->board->dma, p->channel, &issued) == DMA_OK && issued == 1, "not issued");
     give(p->board);
     do {
