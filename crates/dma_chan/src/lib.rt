@@ -4,13 +4,9 @@
 mod bursts;
 pub mod channel;
 pub mod compile;
-#[cfg(test)]
-mod compile_tests;
 mod exec;
 pub mod laws;
 pub mod next;
-#[cfg(test)]
-mod page_tests;
 #[cfg(test)]
 mod pair_tests;
 mod pieces;
@@ -18,6 +14,8 @@ pub mod program;
 #[cfg(test)]
 mod refused_tests;
 pub mod run;
+#[cfg(test)]
+mod run_tests;
 #[cfg(test)]
 mod tests;
 pub mod turn;

@@ -9,7 +9,5 @@ pub mod printing;
 mod refused_tests;
 pub mod run;
 #[cfg(test)]
-mod run_tests;
-#[cfg(test)]
 mod tests;
 pub mod transfers;

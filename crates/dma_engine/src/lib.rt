@@ -27,15 +27,9 @@ pub use outcome::{Outcome, TransResult};
 pub use turn::{Running, Status, Turn};
 
 #[cfg(test)]
-mod checkpoint_tests;
-#[cfg(test)]
 mod example;
 #[cfg(test)]
-mod fill_tests;
-#[cfg(test)]
 mod refused_tests;
-#[cfg(test)]
-mod stop_tests;
 #[cfg(test)]
 mod test_lines;
 #[cfg(test)]

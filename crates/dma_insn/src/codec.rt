@@ -224,20 +224,12 @@ pub fn no_spelling_begins_another()
 #[cfg(test)]
 mod tests {
     use super::*;
+    use crate::assembler::reading_tells;
+    use crate::disassembler::{disassembly_assembles, disassembly_tells};
     use std::test::Fail;
 
     #[test]
-    fn the_value_of_a_register_is_low_byte_first(rt: HostRuntime) {
-        let mut out = [0xee; 6];
-        assert_eq!(rt; encode(Insn::Mov(Reg::Sar, 0x1000), &mut out), 6);
-        assert_eq!(rt; out, [0xbc, 0x00, 0x00, 0x10, 0x00, 0x00]);
-        assert_eq!(rt; decode(&out), Ok((Insn::Mov(Reg::Sar, 0x1000), 6)));
-        assert_eq!(rt; encode(Insn::Mov(Reg::Dar, 0x0403_0201), &mut out), 6);
-        assert_eq!(rt; out, [0xbc, 0x02, 0x01, 0x02, 0x03, 0x04]);
-    }
-
-    #[test]
-    fn an_event_stands_in_bits_7_to_3(rt: HostRuntime) -> Result<(), Fail> {
+    fn an_instruction_is_written_and_read(rt: HostRuntime) -> Result<(), Fail> {
         let event = Event::new(3).ok_or("3 is an event")?;
         let insn = Insn::Wfe {
             event,
@@ -245,40 +237,27 @@ mod tests {
         };
         let written = insn;
         let mut out = [0xee; 6];
-        assert_eq!(rt; encode(written, &mut out), 2);
+        let count = encode(written, &mut out);
+        assert!(rt; count == 2);
         assert_eq!(rt; out, [0x36, 0x1a, 0xee, 0xee, 0xee, 0xee]);
         assert_eq!(rt; decode(&out), Ok((insn, 2)));
-        assert_eq!(rt; Event::new(32), None);
-        assert_eq!(rt; Event::of_number(31).number(), 31);
+        assert_eq!(rt; decode(&[]), Err(DecodeFault::Cut));
         Ok(())
     }
 
     #[test]
-    fn a_loop_of_256_times_is_ff(rt: HostRuntime) -> Result<(), Fail> {
+    fn numbers_of_events_and_loops(rt: HostRuntime) -> Result<(), Fail> {
         let times = Times::new(256).ok_or("256 is a count")?;
         let insn = Insn::Lp {
             counter: Counter::Lc0,
             times,
         };
         assert_eq!(rt; decode(&[0x20, 0xff]), Ok((insn, 2)));
-        assert_eq!(rt; times.number(), 256);
-        assert_eq!(rt; Times::new(0), None);
-        assert_eq!(rt; Times::new(257), None);
+        assert!(rt; times.number() == 256);
+        assert!(rt; Times::new(0).is_none() && Times::new(257).is_none());
+        assert!(rt; Event::of_number(31).number() == 31);
+        assert!(rt; Event::new(32).is_none());
         Ok(())
-    }
-
-    #[test]
-    fn refusals_come_in_their_order(rt: HostRuntime) {
-        assert_eq!(rt; decode(&[]), Err(DecodeFault::Cut));
-        assert_eq!(rt; decode(&[0xbc, 0x00, 0x00]), Err(DecodeFault::Cut));
-        assert_eq!(rt; decode(&[0xbc, 0x07]), Err(DecodeFault::Cut));
-        assert_eq!(rt; decode(&[0x28]), Err(DecodeFault::Unknown(0x28)));
-        assert_eq!(rt; decode(&[0x28, 0x04]), Err(DecodeFault::Unknown(0x28)));
-        assert_eq!(rt; decode(&[0x34, 0x01]), Err(DecodeFault::BadField));
-        assert_eq!(rt;
-            decode(&[0xbc, 0x03, 0, 0, 0, 0]),
-            Err(DecodeFault::BadField)
-        );
     }
 
     // What `decode` answers for two bytes and four zero bytes behind them.
@@ -306,7 +285,10 @@ mod tests {
     }
 
     #[test]
-    fn the_law_is_there() {
+    fn the_laws_are_there() {
         no_spelling_begins_another();
+        reading_tells();
+        disassembly_assembles();
+        disassembly_tells();
     }
 }

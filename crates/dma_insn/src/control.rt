@@ -476,65 +476,37 @@ mod tests {
         Ok(())
     }
 
-    #[test]
-    fn protection_and_cache_are_kept(rt: HostRuntime) -> Result<(), Fail> {
-        let control = Control::from_bits(0x0ffd_bff7)
-            .ok()
-            .ok_or("a control word")?;
-        let bits = control.bits();
-        let (src, dst) = (control.src, control.dst);
-        assert_eq!(rt; (src.increments, dst.increments), (true, false));
-        assert_eq!(rt; (src.protection.code(), dst.cache.code()), (7, 7));
-        assert_eq!(rt; bits, 0x0ffd_bff7);
-        Ok(())
-    }
-
+    // The ends differ, and all bits of protection and cache are set.
     #[test]
     fn an_accepted_word_has_its_ends(rt: HostRuntime) -> Result<(), Fail> {
         let word = ControlWord::from_bits(0x0ffd_bff7)
             .ok()
             .ok_or("a control word")?;
         let (src, dst) = (word.source(), word.destination());
-        assert_eq!(rt; word.bits(), 0x0ffd_bff7);
-        assert_eq!(rt; (src.burst_bytes(), dst.burst_bytes()), (128, 128));
+        assert_eq!(rt; Control::from_bits(word.bits()), Ok(Control { src, dst }));
+        assert_eq!(rt; Control { src, dst }.bits(), 0x0ffd_bff7);
         assert_eq!(rt; (src.increments, dst.increments), (true, false));
-        assert_eq!(rt; ControlWord::zero().source().burst_bytes(), 1);
-        assert_eq!(rt;
-            ControlWord::from_bits(0x0000_000b),
-            Err(ControlFault::ReservedSize)
-        );
+        assert_eq!(rt; (src.protection.code(), dst.protection.code()), (7, 7));
+        assert_eq!(rt; (src.cache.code(), dst.cache.code()), (7, 7));
+        assert_eq!(rt; (src.beat_bytes(), dst.beat_bytes()), (8, 8));
+        assert_eq!(rt; (src.burst_bytes(), dst.burst_bytes()), (128, 128));
+        assert!(rt; ControlWord::zero().source().burst_bytes() == 1);
         Ok(())
     }
 
     #[test]
     fn refusals_come_in_their_order(rt: HostRuntime) {
-        assert_eq!(rt;
-            Control::from_bits(0x0000_000b),
-            Err(ControlFault::ReservedSize)
-        );
-        assert_eq!(rt;
-            Control::from_bits(0xf003_8000),
-            Err(ControlFault::ReservedSize)
-        );
-        assert_eq!(rt; Control::from_bits(0xc000_0000), Err(ControlFault::Swap));
-        assert_eq!(rt; Control::from_bits(0x8000_0000), Err(ControlFault::Bit31));
-    }
-
-    #[test]
-    fn bytes_of_beats_and_bursts(rt: HostRuntime) -> Result<(), Fail> {
-        let src = both_ends(BeatSize::Eight, 12).ok_or("in range")?.src;
-        assert_eq!(rt; src.beat_bytes(), 8);
-        assert_eq!(rt; src.burst_bytes(), 96);
-        assert_eq!(rt; BeatSize::from_code(4), Some(BeatSize::Sixteen));
-        assert_eq!(rt; BeatSize::from_code(5), None);
-        assert_eq!(rt; BeatSize::Two.code(), 1);
-        assert_eq!(rt; BeatSize::Sixteen.bytes(), 16);
-        assert_eq!(rt; Beats::new(17), None);
-        assert_eq!(rt; Protection::new(8), None);
-        assert_eq!(rt; Cache::new(8), None);
-        assert_eq!(rt; Beats::of_number(16).number(), 16);
-        assert_eq!(rt; Protection::of_code(5).code(), 5);
-        assert_eq!(rt; Cache::of_code(6).code(), 6);
-        Ok(())
+        let rows = [
+            (0x0000_000b, ControlFault::ReservedSize),
+            (0xf003_8000, ControlFault::ReservedSize),
+            (0xc000_0000, ControlFault::Swap),
+            (0x8000_0000, ControlFault::Bit31),
+        ];
+        for (bits, fault) in rows {
+            assert_eq!(rt; Control::from_bits(bits), Err(fault));
+            assert_eq!(rt; ControlWord::from_bits(bits), Err(fault));
+        }
+        assert!(rt; Beats::new(17).is_none() && Protection::new(8).is_none());
+        assert!(rt; Cache::new(8).is_none() && BeatSize::from_code(5).is_none());
     }
 }

@@ -1,4 +1,4 @@
-//! Texts and bytes whose memory is refused, and which are then read once more. `bench/refuse_calls.sh` refuses each request of
+//! Texts and bytes whose memory is refused, and which are then read once more. `tests/refuse_calls` refuses each request of
 //! these tests in turn, and wants each row to meet a refusal; with ample memory none does.
 
 use crate::assembler::{AsmFault, Cause, assemble};

@@ -60,18 +60,3 @@ impl Events {
         self.flags[usize::from(event)] = false;
     }
 }
-
-#[cfg(test)]
-mod tests {
-    use super::*;
-
-    #[test]
-    fn set_and_clear_one_flag(rt: HostRuntime) {
-        let mut events = Events::new();
-        events.set(31);
-        assert!(rt; events.is_set(31));
-        assert!(rt; !events.is_set(30));
-        events.clear(31);
-        assert!(rt; !events.is_set(31));
-    }
-}

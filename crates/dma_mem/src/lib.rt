@@ -12,4 +12,6 @@ pub mod range_set;
 mod refused_tests;
 pub mod segment;
 mod table;
+#[cfg(test)]
+mod tests;
 pub mod transfer;

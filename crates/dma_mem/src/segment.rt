@@ -24,21 +24,3 @@ pub fn meets(a: Segment, b: Segment) -> bool
     let end_of_b = u64::from(b.addr) + u64::from(b.len);
     u64::from(a.addr) < end_of_b && u64::from(b.addr) < end_of_a
 }
-
-#[cfg(test)]
-mod tests {
-    use super::*;
-
-    #[test]
-    fn share_an_address(rt: HostRuntime) {
-        let first = Segment { addr: 4, len: 4 };
-        assert!(rt; meets(first, Segment { addr: 7, len: 1 }));
-        assert!(rt; !meets(first, Segment { addr: 8, len: 1 }));
-        assert!(rt; !meets(first, Segment { addr: 5, len: 0 }));
-        let last = Segment {
-            addr: u32::MAX,
-            len: 2,
-        };
-        assert!(rt; !meets(last, Segment { addr: 0, len: 1 }));
-    }
-}

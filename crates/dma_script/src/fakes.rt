@@ -1,19 +1,17 @@
-//! A reader and a writer for tests, which tell their bytes, and fail or move few bytes at the calls that they are told.
+//! A reader and a writer for tests, which count their calls, and fail or move few bytes at the calls that they are given.
 ghost use Rattle.std.specs.Prelude.{◌≡◌, ◌≤◌, ◌<◌, ◌+◌, IsTrue, OnOk, OnErr, IfOk, length};
 ghost use Rattle.std.specs.Io.{ReadsAtMost, WritesAtMost};
 ghost use Rattle.std.specs.Io.KnownBytes.{ReadConsumes, WriteAppends};
 
 use crate::input::Source;
 use crate::output::Sink;
-use std::alloc::Global;
 use std::io;
 use std::io::{ErrorKind, Read, Write};
 
-/// Gives these bytes, at most so many at a read.
+/// Gives these bytes, at most `most` of them at a read.
 #[derive(Drop)]
 pub struct FakeReader<'a> {
     pub rest: &'a [u8],
-    /// The most bytes of a read.
     pub most: usize,
     /// The number of the read that fails, from 1; 0 where none does.
     pub fails_at: usize,
@@ -21,21 +19,6 @@ pub struct FakeReader<'a> {
     pub calls: usize,
     pub failed: bool,
     ghost moves: { 0 < most },
-}
-
-impl<'a> FakeReader<'a> {
-    /// No read was made yet.
-    pub fn new(bytes: &'a [u8], most: usize, fails_at: usize) -> FakeReader<'a>
-        requires { 0 < most }
-    {
-        FakeReader {
-            rest: bytes,
-            most,
-            fails_at,
-            calls: 0,
-            failed: false,
-        }
-    }
 }
 
 impl Read for FakeReader<'_> {
@@ -74,36 +57,19 @@ impl Source for FakeReader<'_> {
     }
 }
 
-/// Takes at most so many bytes at a write.
+/// Takes at most `most` bytes at a write.
 #[derive(Drop)]
 pub struct FakeWriter {
     pub bytes: Vec<u8>,
-    /// The most bytes of a write.
     pub most: usize,
     /// The number of the write that fails, from 1; 0 where none does.
     pub fails_at: usize,
-    /// The number of the write that takes no byte, from 1; 0 where none does.
-    pub takes_none_at: usize,
+    /// That write fails by taking no byte.
+    pub takes_none: bool,
     /// How many writes there were.
     pub calls: usize,
     pub failed: bool,
     ghost moves: { 0 < most },
-}
-
-impl FakeWriter {
-    /// No write was made yet.
-    pub fn new(alloc: Global, most: usize, fails_at: usize, takes_none_at: usize) -> FakeWriter
-        requires { 0 < most }
-    {
-        FakeWriter {
-            bytes: Vec::new(alloc),
-            most,
-            fails_at,
-            takes_none_at,
-            calls: 0,
-            failed: false,
-        }
-    }
 }
 
 impl Write for FakeWriter {
@@ -122,11 +88,10 @@ impl Write for FakeWriter {
         self.calls = self.calls.saturating_add(1);
         if self.calls == self.fails_at {
             self.failed = true;
+            if self.takes_none {
+                return Ok(0);
+            }
             return Err(io::Error::from(ErrorKind::Interrupted));
-        }
-        if self.calls == self.takes_none_at {
-            self.failed = true;
-            return Ok(0);
         }
         let count = self.most.min(buf.len());
         if self.bytes.extend_from_slice(&buf[..count]).is_err() {

@@ -28,37 +28,26 @@ impl Interpreter for Letters {
     }
 }
 
+// Each call is refused memory in turn, the first row has none that is.
 #[test]
 fn refused_at_each_line(rt: HostRuntime) -> Result<(), Fail> {
-    let cases: [(usize, &[u8]); 3] = [
-        (1, b"before\n"),
-        (2, b"before\na\na.\n"),
-        (3, b"before\na\na.\nb\nb.\n"),
+    let cases: [(usize, usize, &[u8]); 4] = [
+        (0, 3, b"before\na\na.\nb\nb.\nc\nc.\n"),
+        (1, 1, b"before\n"),
+        (2, 2, b"before\na\na.\n"),
+        (3, 3, b"before\na\na.\nb\nb.\n"),
     ];
-    for (refused_at, text) in cases {
+    for (refused_at, calls, text) in cases {
         let mut letters = Letters {
             refused_at,
             calls: 0,
         };
         let mut out = b"before\n".to_vec(rt.alloc())?;
         let lines = b"abc".to_vec(rt.alloc())?;
-        assert!(rt; interpret_lines(&mut letters, lines, &mut out).is_err());
+        let ended = interpret_lines(&mut letters, lines, &mut out);
+        assert!(rt; ended.is_ok() == (refused_at == 0));
         assert_eq!(rt; out.as_slice(), text);
-        assert_eq!(rt; letters.calls, refused_at);
+        assert_eq!(rt; letters.calls, calls);
     }
-    Ok(())
-}
-
-#[test]
-fn refused_at_no_line(rt: HostRuntime) -> Result<(), Fail> {
-    let mut letters = Letters {
-        refused_at: 0,
-        calls: 0,
-    };
-    let mut out = b"before\n".to_vec(rt.alloc())?;
-    let lines = b"abc".to_vec(rt.alloc())?;
-    interpret_lines(&mut letters, lines, &mut out)?;
-    assert_eq!(rt; out.as_slice(), b"before\na\na.\nb\nb.\nc\nc.\n".as_slice());
-    assert_eq!(rt; letters.calls, 3);
     Ok(())
 }

@@ -19,8 +19,6 @@ pub mod pairs;
 pub mod plan;
 pub mod printing;
 pub mod race;
-#[cfg(test)]
-mod race_tests;
 pub mod statements;
 #[cfg(test)]
 mod stream_tests;

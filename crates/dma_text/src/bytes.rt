@@ -18,22 +18,3 @@ pub fn is_text(word: &[u8], text: &[u8]) -> bool
 {
     word == text
 }
-
-#[cfg(test)]
-mod tests {
-    use super::*;
-
-    #[test]
-    fn first_of_several(rt: HostRuntime) {
-        assert_eq!(rt; position_of(b'b', b"abcb"), Some(1));
-        assert_eq!(rt; position_of(b'd', b"abcb"), None);
-        assert_eq!(rt; position_of(b'a', b""), None);
-    }
-
-    #[test]
-    fn whole_words_only(rt: HostRuntime) {
-        assert!(rt; is_text(b"read", b"read"));
-        assert!(rt; !is_text(b"reads", b"read"));
-        assert!(rt; !is_text(b"rea", b"read"));
-    }
-}

@@ -1,218 +1,208 @@
-//! Threads, gates, and each call with ample memory.
+//! Threads and a gate, readers, and each call with ample memory.
 
-ghost use Rattle.std.specs.Prelude.{◌≡◌, ◌<◌, IfOk, IfSome};
-ghost use Rattle.std.specs.List.{All};
+ghost use Rattle.std.specs.Prelude.{◌≡◌, ◌<◌, IfOk};
 ghost use Rattle.dma_work.specs.Desk.{Names};
-ghost use Rattle.dma_work.specs.Known.{Known};
 
-use crate::desk::Tally;
+use crate::desk::{Desk, Tally};
 use crate::job::Job;
 use crate::names::DeskName;
 use crate::parts::{Parts, ShareFaultKind};
 use crate::reader::StatusReader;
 use crate::shared::{MissingTally, Shared, settle};
+use crate::ticket::Receipt;
 use crate::totals::Totals;
-use crate::workers::{Gate, NoGate, run_workers};
-use dma_engine::{Engine, Status};
+use crate::workers::{Gate, NoGate, run_workers, work};
+use dma_engine::{Engine, EngineFault, Outcome, Status, TransResult, Turn};
 use dma_mem::segment::Segment;
 use dma_mem::transfer::Transfer;
-use std::alloc::Global;
+use std::alloc::{AllocError, Global};
 use std::marker::Brand;
+use std::process::Abort;
 use std::sync::{Mutex, MutexGuard, Wait};
 use std::test::Fail;
 use std::thread;
 use std::thread::Threads;
 
-// ---- what the tests begin with
+// ---- engines
 
-/// A transfer of four bytes.
-fn copy_of_four(alloc: Global, to: u32) -> Result<Transfer, Fail> {
-    let src = [Segment {
-        addr: 0x100,
-        len: 4,
-    }];
-    let dst = [Segment { addr: to, len: 4 }];
-    Ok(Transfer::new(alloc, &src, &dst, None, None)?)
+/// A copy of so many bytes from 0x1000.
+pub fn copy(
+    alloc: Global,
+    len: u32,
+    to: u32,
+    wait: Option<u8>,
+    signal: Option<u8>,
+) -> Result<Transfer, Fail> {
+    let src = [Segment { addr: 0x1000, len }];
+    let dst = [Segment { addr: to, len }];
+    Ok(Transfer::new(alloc, &src, &dst, wait, signal)?)
 }
 
-// Two of them, in an Option: what holds of a transfer by its type would only lengthen the proofs about readers.
-fn both_copies(alloc: Global) -> Result<Option<(Transfer, Transfer)>, Fail> {
-    let first = copy_of_four(alloc, 0x200)?;
-    let second = copy_of_four(alloc, 0x300)?;
-    Ok(Some((first, second)))
+/// Submits a transfer to an engine, and issues it.
+pub fn issued(engine: &mut Engine, ch: u8, transfer: Transfer) -> Result<(), Fail> {
+    let Ok(_) = engine.submit(ch, transfer) else {
+        return Err(Fail::from("submit was refused"));
+    };
+    engine.issue(ch)?;
+    Ok(())
 }
 
-// Submits one to an engine.
-fn given(alloc: Global, engine: &mut Engine, ch: u8, to: u32) -> Result<(), Fail> {
-    match engine.submit(ch, copy_of_four(alloc, to)?) {
-        Ok(_) => Ok(()),
-        Err(_) => Err(Fail::from("submit was refused")),
+/// Takes steps of channel 0.
+pub fn step_often(engine: &mut Engine, steps: u32) -> Result<(), Fail> {
+    for _ in 0..steps {
+        engine.step(0)?;
     }
+    Ok(())
 }
 
 fn both_issued(alloc: Global, engine: &mut Engine) -> Result<(), Fail> {
-    engine.write(0x100, &[0x0A, 0x0B, 0x0C, 0x0D])?;
-    given(alloc, engine, 0, 0x200)?;
-    given(alloc, engine, 1, 0x300)?;
-    engine.issue(0)?;
-    engine.issue(1)?;
-    Ok(())
+    issued(engine, 0, copy(alloc, 4, 0x2000, None, None)?)?;
+    issued(engine, 1, copy(alloc, 4, 0x3000, None, None)?)
 }
 
 /// Two channels, with a copy of four bytes issued on each.
 pub fn two_copies(alloc: Global) -> Result<Engine, Fail> {
-    let mut engine = Engine::new(alloc, 0x400, 2)?;
+    let mut engine = Engine::new(alloc, 0x4000, 2)?;
     both_issued(alloc, &mut engine)?;
     Ok(engine)
 }
 
-/// These parts and their readers, or a failure: by a function of its own, so that what the readers know is found at once.
-pub fn shared_out<R: Wait>(
+fn one_of_two_copied(alloc: Global, engine: &mut Engine) -> Result<(), Fail> {
+    engine.write(0x1000, &[1, 2, 3, 4])?;
+    issued(engine, 0, copy(alloc, 4, 0x2000, None, None)?)?;
+    step_often(engine, 9)?;
+    issued(engine, 0, copy(alloc, 4, 0x3000, None, None)?)?;
+    engine.checkpoint()?;
+    Ok(())
+}
+
+/// An engine whose lists have no room, since a checkpoint gave it back. Of channel 0 cookie 1 is finished and cookie 2 issued.
+pub fn without_room(alloc: Global) -> Result<Engine, Fail> {
+    let mut engine = Engine::new(alloc, 0x4000, 1)?;
+    one_of_two_copied(alloc, &mut engine)?;
+    Ok(engine)
+}
+
+// ---- desks
+
+/// The parts of an engine and one of eight readers, after nine, which are too many. Where they are refused memory, the engine
+/// comes back, and they are asked for once more.
+pub fn with_a_reader<R: Wait + Abort + Print>(
     rt: &R,
     alloc: Global,
     engine: Engine,
-    readers: usize,
-) -> Result<(Parts, Vec<StatusReader>), Fail>
-    ensures engine { IfOk result (λ r. r.0.engine ≡ engine) }
-    ensures readers { IfOk result (λ r. All (λ (s : Known). (s.log ≡ r.0.log) × (s.base ≡ r.0.base)) r.1.items) }
+) -> Result<(Parts, StatusReader), Fail>
+    ensures { IfOk result (λ p. (p.0.engine ≡ engine) × (p.0.log ≡ p.1.log) × (p.0.base ≡ p.1.base)) }
 {
-    match Parts::new(rt, alloc, engine, readers) {
+    let engine = match Parts::new(rt, alloc, engine, 9) {
+        Ok(_) => unreachable!(),
+        Err(refused) => {
+            assert!(rt; refused.fault == ShareFaultKind::BadReaders);
+            refused.engine
+        }
+    };
+    let made = match Parts::new(rt, alloc, engine, 8) {
         Ok(made) => Ok(made),
+        Err(refused) => {
+            println!(rt; "refused Parts::new")?;
+            assert!(rt; refused.fault == ShareFaultKind::NoMemory);
+            Parts::new(rt, alloc, refused.engine, 8)
+        }
+    };
+    match made {
+        Ok((parts, mut readers)) => {
+            let Some(reader) = readers.pop() else {
+                unreachable!();
+            };
+            Ok((parts, reader))
+        }
         Err(_) => Err(Fail::from("no parts")),
     }
 }
 
-/// The last of the readers of this list.
-pub fn one_of<N: DeskName>(mut readers: Vec<StatusReader>) -> Option<StatusReader>
-    requires { All (λ (r : Known). (r.log ≡ N.log) × (r.base ≡ N.base)) readers.items }
-    ensures { IfSome result (λ r. (r.log ≡ N.log) × (r.base ≡ N.base)) }
-{
-    readers.pop()
+/// What is done at a desk of its own.
+pub trait Scene {
+    /// Does it.
+    fn at<N: DeskName, R: Wait + Abort + Print>(
+        &self,
+        rt: &R,
+        alloc: Global,
+        desk: &mut Desk<N>,
+        reader: &mut StatusReader,
+    ) -> Result<(), Fail>
+        requires { (N.log ≡ reader.old.log) × (N.base ≡ reader.old.base) };
 }
 
-// ---- a day at the desk
-
-// What a reader was told on a day, and what settling found.
-#[derive(Clone, Copy, PartialEq, Eq, Debug)]
-struct Day {
-    given: Option<Status>,
-    not_given: Option<Status>,
-    after_the_job: Option<Status>,
-    count: u32,
-    through: u32,
-    after_terminate: Option<Status>,
-    missing: Option<Totals>,
-    settled: Option<Totals>,
-}
-
-const NO_DAY: Day = Day {
-    given: None,
-    not_given: None,
-    after_the_job: None,
-    count: 0,
-    through: 0,
-    after_terminate: None,
-    missing: None,
-    settled: None,
-};
-
-/// Submits through the desk, teaches the reader the ticket, and answers the cookie.
-pub fn submitted<N: DeskName, R: Wait>(
-    rt: &R,
-    shared: &Shared<N>,
-    reader: &mut StatusReader,
-    ch: u8,
-    transfer: Transfer,
-) -> u32
-    requires { (reader.old.log ≡ N.log) × (reader.old.base ≡ N.base) }
-    ensures { (reader.new.log ≡ N.log) × (reader.new.base ≡ N.base) }
-{
-    let mut desk = shared.desk().lock(rt);
-    let answer = desk.submit(rt, ch, transfer);
-    let _ = desk.issue(ch);
-    MutexGuard::unlock(desk);
-    match answer {
-        Ok(receipt) => {
-            reader.learn(receipt.ticket);
-            receipt.cookie
-        }
-        Err(_) => 0,
-    }
-}
-
-// The first half: a submit, a job that finishes it, a second submit, a terminate.
-fn morning<N: DeskName + Send + Sync, R: Threads + Wait + Sync>(
-    rt: &R,
-    alloc: Global,
-    shared: &Shared<N>,
-    reader: &mut StatusReader,
-    copies: Option<(Transfer, Transfer)>,
-    job: Job,
-) -> (Day, Option<Vec<Tally>>)
-    requires { (reader.old.log ≡ N.log) × (reader.old.base ≡ N.base) }
-    ensures { (reader.new.log ≡ N.log) × (reader.new.base ≡ N.base) }
-{
-    let mut day = NO_DAY;
-    let Some((first, second)) = copies else {
-        return (day, None);
-    };
-    let one = submitted(rt, shared, reader, 0, first);
-    day.given = reader.status(0, one);
-    day.not_given = reader.status(0, one + u32::from(one < u32::MAX));
-    let tallies = run_workers(rt, alloc, shared, &[job], &NoGate).ok();
-    let _two = submitted(rt, shared, reader, 0, second);
-    day.after_the_job = reader.status(0, one);
-    let mut desk = shared.desk().lock(rt);
-    let answer = desk.terminate(rt, 0);
-    MutexGuard::unlock(desk);
-    if let Ok(closed) = answer {
-        reader.learn(closed.ticket);
-        day.count = closed.count;
-        day.through = closed.through;
-    }
-    day.after_terminate = reader.status(0, 2);
-    (day, tallies)
-}
-
-// All of it: settling without the tally, and then with it.
-fn whole_day<N: DeskName + Send + Sync, R: Threads + Wait + Sync>(
+fn at_a_desk<N: DeskName, R: Wait + Abort + Print, S: Scene>(
     rt: &R,
     alloc: Global,
     parts: Parts,
-    readers: Vec<StatusReader>,
-    copies: Option<(Transfer, Transfer)>,
-    job: Job,
-) -> (Day, Option<Status>)
-    requires parts { Names N.steps N.finished N.base N.log parts }
-    requires readers { All (λ (r : Known). (r.log ≡ N.log) × (r.base ≡ N.base)) readers.items }
+    mut reader: StatusReader,
+    scene: &S,
+) -> Result<Engine, Fail>
+    requires names { Names N.steps N.finished N.base N.log parts }
+    requires follows { (N.log ≡ reader.log) × (N.base ≡ reader.base) }
 {
     let shared = Shared::<N>::new(parts);
-    let Some(mut reader) = one_of::<N>(readers) else {
-        drop(shared.close(rt));
-        return (NO_DAY, None);
-    };
-    let (mut day, tallies) = morning(rt, alloc, &shared, &mut reader, copies, job);
-    let tallies = tallies.unwrap_or(Vec::new(alloc));
-    match settle(rt, shared, Vec::new(alloc)) {
-        Ok((engine, totals)) => {
-            day.settled = Some(totals);
-            drop(engine);
-        }
-        Err(missing) => {
-            let MissingTally {
-                shared,
-                tallies: _,
-                book,
-            } = missing;
-            day.missing = Some(book);
-            day.settled = settled(rt, shared, tallies).map(|told| told.0);
-        }
-    }
-    (day, reader.status(0, 1))
+    let mut desk = shared.desk().lock(rt);
+    let answer = scene.at(rt, alloc, &mut desk, &mut reader);
+    MutexGuard::unlock(desk);
+    let engine = shared.close(rt);
+    answer?;
+    Ok(engine)
 }
 
-// The totals and the number of entries, where the tallies add up.
-pub fn settled<N: DeskName, R: Wait>(
+/// Plays a scene at a desk over an engine, which it answers.
+pub fn play<R: Wait + Abort + Print, S: Scene>(
+    rt: &R,
+    alloc: Global,
+    engine: Engine,
+    scene: &S,
+) -> Result<Engine, Fail> {
+    let (parts, reader) = with_a_reader(rt, alloc, engine)?;
+    at_a_desk::<Brand, _, _>(rt, alloc, parts, reader, scene)
+}
+
+pub const UNKNOWN: Option<Status> = Some(Status::Unknown);
+
+pub const IN_PROGRESS: Option<Status> = Some(Status::InProgress);
+
+pub const COMPLETE: Option<Status> = Some(Status::Complete);
+
+/// What a reader sees of cookies 1 to 3 of channel 0.
+pub fn seen(reader: &mut StatusReader) -> [Option<Status>; 3]
+    ensures { (reader.new.log ≡ reader.old.log) × (reader.new.base ≡ reader.old.base) }
+{
+    [
+        reader.status(0, 1),
+        reader.status(0, 2),
+        reader.status(0, 3),
+    ]
+}
+
+/// Submits a copy to channel 0 and issues it. By a function of its own, since what holds of a transfer by its type would
+/// only lengthen the proofs about readers.
+pub fn submitted<N: DeskName, R: Wait>(
+    rt: &R,
+    alloc: Global,
+    desk: &mut Desk<N>,
+    len: u32,
+) -> Result<Receipt<N>, Fail> {
+    let Ok(receipt) = desk.submit(rt, 0, copy(alloc, len, 0x2000, None, None)?) else {
+        return Err(Fail::from("submit was refused"));
+    };
+    desk.issue(0)?;
+    Ok(receipt)
+}
+
+/// Steps channel 0.
+pub fn stepped<N: DeskName, R: Wait>(rt: &R, desk: &mut Desk<N>) -> Result<Turn, EngineFault> {
+    let mut tally = desk.tally(0);
+    desk.step(rt, 0, &mut tally)
+}
+
+/// The totals and the number of entries, where the tallies add up.
+fn settled<N: DeskName, R: Wait>(
     rt: &R,
     shared: Shared<N>,
     tallies: Vec<Tally>,
@@ -231,557 +221,291 @@ pub fn settled<N: DeskName, R: Wait>(
     }
 }
 
+// ---- a checkpoint
+
+// Of channel 0 a reader sees a cookie that was forgotten, one that was given before the base, and one given since. They stay
+// over a checkpoint.
+#[derive(Clone, Copy)]
+struct Checkpoint;
+
+impl Scene for Checkpoint {
+    fn at<N: DeskName, R: Wait + Abort + Print>(
+        &self,
+        rt: &R,
+        alloc: Global,
+        desk: &mut Desk<N>,
+        reader: &mut StatusReader,
+    ) -> Result<(), Fail> {
+        assert!(rt; seen(reader) == [COMPLETE, IN_PROGRESS, IN_PROGRESS]);
+        desk.checkpoint()?;
+        assert!(rt; (desk.engine().history().len(), desk.engine().forgotten(0)) == (0, 1));
+        assert!(rt; seen(reader) == [COMPLETE, IN_PROGRESS, IN_PROGRESS]);
+        let receipt = submitted(rt, alloc, desk, 4)?;
+        assert!(rt; receipt.cookie == 4);
+        reader.learn(receipt.ticket);
+        assert!(rt; reader.status(0, 4) == IN_PROGRESS);
+        Ok(())
+    }
+}
+
 #[test]
-fn a_day_at_the_desk(rt: HostRuntime) -> Result<(), Fail> {
-    let alloc = rt.alloc();
-    let job = Job::new(0, 0, 9).ok_or("no job")?;
-    let copies = both_copies(alloc)?;
-    let (parts, readers) = shared_out(&rt, alloc, Engine::new(alloc, 0x400, 2)?, 1)?;
-    let (day, last) = whole_day::<Brand, _>(&rt, alloc, parts, readers, copies, job);
+fn statuses_stay_over_a_checkpoint(rt: HostRuntime) -> Result<(), Fail> {
+    let mut engine = without_room(rt.alloc())?;
+    issued(&mut engine, 0, copy(rt.alloc(), 4, 0x2000, None, None)?)?;
+    let engine = play(&rt, rt.alloc(), engine, &Checkpoint)?;
+    // a submit and an issue since the checkpoint
+    assert!(rt; (engine.used(0), engine.history().len()) == (4, 2));
+    Ok(())
+}
+
+// ---- a day at the desk
+
+fn list_of(alloc: Global, tally: Tally) -> Result<Vec<Tally>, AllocError> {
+    let mut list = Vec::new(alloc);
+    list.push(tally)?;
+    Ok(list)
+}
+
+// The second copy is paused, started and terminated.
+fn afternoon<N: DeskName, R: Wait + Abort>(
+    rt: &R,
+    alloc: Global,
+    desk: &mut Desk<N>,
+    reader: &mut StatusReader,
+) -> Result<(), Fail>
+    requires { (N.log ≡ reader.old.log) × (N.base ≡ reader.old.base) }
+{
+    let copied = Outcome {
+        result: TransResult::NoError,
+        residue: 0,
+    };
+    let second = copy(alloc, 4, 0x2000, None, None)?;
+    assert!(rt; desk.check_submit(0, &second) == Ok(2));
+    reader.learn(submitted(rt, alloc, desk, 4)?.ticket);
+    desk.pause(0)?;
+    assert!(rt; stepped(rt, desk)? == Turn::Paused);
+    desk.resume(0)?;
+    assert!(rt; stepped(rt, desk)? == Turn::Started(2));
+    assert!(rt; desk.status(0, 2) == Status::InProgress);
+    assert!(rt; desk.result(0, 1) == Some(copied));
+    let closed = desk.terminate(rt, 0)?;
+    assert!(rt; (closed.ch, closed.count, closed.through) == (0, 1, 2));
+    reader.learn(closed.ticket);
+    assert!(rt; seen(reader) == [COMPLETE, COMPLETE, UNKNOWN]);
+    Ok(())
+}
+
+// The first copy is finished by a worker, of which the reader isn't told; another worker finds no channel. Answers the tally
+// of each.
+fn until_evening<N: DeskName, R: Wait + Abort>(
+    rt: &R,
+    alloc: Global,
+    shared: &Shared<N>,
+    reader: &mut StatusReader,
+    jobs: [Job; 2],
+) -> Result<[Vec<Tally>; 2], Fail>
+    requires { (N.log ≡ reader.old.log) × (N.base ≡ reader.old.base) }
+{
+    let mut desk = shared.desk().lock(rt);
+    let answer = submitted(rt, alloc, &mut desk, 4);
+    MutexGuard::unlock(desk);
+    let receipt = answer?;
+    assert!(rt; (receipt.ch, receipt.cookie) == (0, 1));
+    reader.learn(receipt.ticket);
+    assert!(rt; seen(reader) == [IN_PROGRESS, UNKNOWN, UNKNOWN]);
+    let [first, second] = jobs;
+    let busy = work(rt, shared, 5, first, &NoGate);
+    let idle = work(rt, shared, 6, second, &NoGate);
+    assert!(rt; (busy.worker(), busy.turns(), busy.steps(), busy.finishes()) == (5, 9, 8, 1));
+    assert!(rt; (idle.worker(), idle.turns(), idle.steps(), idle.finishes()) == (6, 3, 0, 0));
+    assert!(rt; seen(reader) == [COMPLETE, UNKNOWN, UNKNOWN]);
+    let mut desk = shared.desk().lock(rt);
+    let answer = afternoon(rt, alloc, &mut desk, reader);
+    MutexGuard::unlock(desk);
+    answer?;
+    Ok([list_of(alloc, busy)?, list_of(alloc, idle)?])
+}
+
+// In the evening the desk is settled without the tally of the worker that stepped, and then without that of the other.
+fn whole_day<N: DeskName, R: Wait + Abort>(
+    rt: &R,
+    alloc: Global,
+    parts: Parts,
+    mut reader: StatusReader,
+    jobs: [Job; 2],
+) -> Result<Option<Status>, Fail>
+    requires names { Names N.steps N.finished N.base N.log parts }
+    requires follows { (N.log ≡ reader.log) × (N.base ≡ reader.base) }
+{
     let totals = Totals {
         steps: 8,
         finished: 1,
         terminated: 1,
     };
-    let wanted = Day {
-        given: Some(Status::InProgress),
-        not_given: Some(Status::Unknown),
-        after_the_job: Some(Status::Complete),
-        count: 1,
-        through: 2,
-        after_terminate: Some(Status::Complete),
-        missing: Some(totals),
-        settled: Some(totals),
+    let shared = Shared::<N>::new(parts);
+    let [busy, idle] = match until_evening(rt, alloc, &shared, &mut reader, jobs) {
+        Ok(tallies) => tallies,
+        Err(fail) => {
+            drop(shared.close(rt));
+            return Err(fail);
+        }
     };
-    assert_eq!(rt; day, wanted);
-    assert!(rt; last.is_none() || last == Some(Status::Complete));
+    let Err(missing) = settle(rt, shared, idle) else {
+        return Err(Fail::from("a tally is missing"));
+    };
+    let MissingTally {
+        shared,
+        tallies,
+        book,
+    } = missing;
+    assert!(rt; (book, tallies.len()) == (totals, 1));
+    // two submits, two issues, a finish and a terminate
+    assert!(rt; settled(rt, shared, busy) == Some((totals, 6)));
+    Ok(reader.status(0, 1))
+}
+
+#[test]
+fn a_day_at_the_desk(rt: HostRuntime) -> Result<(), Fail> {
+    let first = Job::new(0, 0, 9).ok_or("no job")?;
+    // there is no channel 7
+    let second = Job::new(7, 7, 3).ok_or("no job")?;
+    let engine = Engine::new(rt.alloc(), 0x4000, 2)?;
+    let (parts, reader) = with_a_reader(&rt, rt.alloc(), engine)?;
+    let last = whole_day::<Brand, _>(&rt, rt.alloc(), parts, reader, [first, second])?;
+    assert!(rt; last.is_none() || last == COMPLETE);
     Ok(())
 }
 
-// ---- gates
+// ---- a gate, and a reader while workers run
 
 // How often a gate looks at most.
 const MOST_LOOKS: u64 = 20_000_000;
 
-// Whether a flag is set at one of so many looks, each under the flags' own lock.
-fn is_met<R: Wait>(rt: &R, flags: &Mutex<[bool; 2]>, other: usize) -> bool
-    requires { other < 2 }
-{
-    for _ in 0..MOST_LOOKS {
-        if flags.lock(rt)[other] {
-            return true;
-        }
-    }
-    false
-}
-
-// Holds worker 0 in its first turn until worker 1 has entered its second.
+// Holds each of two workers before each of its turns until the other is there too.
 #[derive(Drop)]
-struct SecondTurn {
-    entered: Mutex<[bool; 2]>,
-    met: Mutex<bool>,
+struct InStep {
+    // the number of the turn that each has come to
+    turns: Mutex<[u64; 2]>,
+    is_wrong: Mutex<bool>,
 }
 
-impl Gate for SecondTurn {
-    fn turn<R: Wait>(&self, rt: &R, worker: u32, n: u64) {
-        if worker == 1 && n == 2 {
-            self.entered.lock(rt)[1] = true;
+impl InStep {
+    // Whether the other worker comes to this turn too.
+    fn meets<R: Wait>(&self, rt: &R, other: usize, n: u64) -> bool
+        requires { other < 2 }
+    {
+        for _ in 0..MOST_LOOKS {
+            if self.turns.lock(rt)[other] >= n {
+                return true;
+            }
         }
-        if worker == 0 && n == 1 {
-            let met = is_met(rt, &self.entered, 1);
-            *self.met.lock(rt) = met;
-        }
+        false
     }
 }
 
-// Holds each of two workers in its first turn until the other is there too.
-#[derive(Drop)]
-struct BothThere {
-    there: Mutex<[bool; 2]>,
-    met: Mutex<[bool; 2]>,
-}
-
-impl Gate for BothThere {
+impl Gate for InStep {
     fn turn<R: Wait>(&self, rt: &R, worker: u32, n: u64) {
-        if worker > 1 || n != 1 {
+        if worker > 1 || n == 0 {
+            *self.is_wrong.lock(rt) = true;
             return;
         }
         let me = worker as usize;
-        self.there.lock(rt)[me] = true;
-        let met = is_met(rt, &self.there, 1 - me);
-        self.met.lock(rt)[me] = met;
-    }
-}
-
-// Notes the numbers of the turns.
-#[derive(Drop)]
-struct Turns {
-    last: Mutex<[u64; 2]>,
-    wrong: Mutex<bool>,
-}
-
-impl Gate for Turns {
-    fn turn<R: Wait>(&self, rt: &R, worker: u32, n: u64) {
-        if worker > 1 || n == 0 {
-            *self.wrong.lock(rt) = true;
-            return;
-        }
-        let mut last = self.last.lock(rt);
-        let follows = last[worker as usize] == n - 1;
-        last[worker as usize] = n;
-        drop(last);
-        if !follows {
-            *self.wrong.lock(rt) = true;
+        let mut turns = self.turns.lock(rt);
+        let follows = turns[me] == n - 1;
+        turns[me] = n;
+        drop(turns);
+        if !self.meets(rt, 1 - me, n) || !follows {
+            *self.is_wrong.lock(rt) = true;
         }
     }
 }
 
-// What two workers did.
-#[derive(Clone, Copy, PartialEq, Eq, Debug)]
-struct Done {
-    turns: [u64; 2],
-    totals: Totals,
-    entries: usize,
+// Asks often how far cookie 1 of channel 0 is. Whether it is known each time, and complete for good.
+fn ask_often(mut reader: StatusReader) -> (StatusReader, bool) {
+    let mut is_right = true;
+    let mut is_complete = false;
+    for _ in 0..10_000 {
+        match reader.status(0, 1) {
+            Some(Status::Complete) => is_complete = true,
+            Some(Status::InProgress) => is_right = is_right && !is_complete,
+            _ => is_right = false,
+        }
+    }
+    (reader, is_right)
 }
 
-// Runs two jobs through a gate, and settles.
-fn through_gate<N: DeskName + Send + Sync, R: Threads + Wait + Sync, G: Gate>(
+// Runs jobs over two copies once more, since memory was refused. No job had begun then.
+fn run_again<N: DeskName + Send + Sync, R: Threads + Wait + Sync + Abort + Print, G: Gate>(
+    rt: &R,
+    alloc: Global,
+    shared: &Shared<N>,
+    jobs: [Job; 2],
+    gate: &G,
+) -> Result<Vec<Tally>, Fail> {
+    println!(rt; "refused run_workers")?;
+    let desk = shared.desk().lock(rt);
+    let steps = desk.engine().steps();
+    let entries = desk.engine().history().len();
+    MutexGuard::unlock(desk);
+    assert!(rt; (steps, entries) == (0, 4));
+    Ok(run_workers(rt, alloc, shared, &jobs, gate)?)
+}
+
+/// The totals and the number of entries after two jobs, which pass a gate while another thread asks.
+pub fn raced<N: DeskName + Send + Sync, R: Threads + Wait + Sync + Abort + Print, G: Gate>(
     rt: &R,
     alloc: Global,
     parts: Parts,
+    reader: StatusReader,
     jobs: [Job; 2],
     gate: &G,
-) -> Option<Done>
+) -> Result<Option<(Totals, usize)>, Fail>
     requires { Names N.steps N.finished N.base N.log parts }
 {
     let shared = Shared::<N>::new(parts);
-    let Ok(tallies) = run_workers(rt, alloc, &shared, &jobs, gate) else {
-        drop(shared.close(rt));
-        return None;
+    let ((mut reader, is_right), tallies) = thread::join(
+        rt,
+        move || ask_often(reader),
+        || run_workers(rt, alloc, &shared, &jobs, gate),
+    );
+    let tallies = match tallies {
+        Ok(tallies) => Ok(tallies),
+        Err(_) => run_again(rt, alloc, &shared, jobs, gate),
     };
-    let turns = match tallies.as_slice() {
-        [first, second] => [first.turns(), second.turns()],
-        _ => [0, 0],
-    };
-    let (totals, entries) = settled(rt, shared, tallies)?;
-    Some(Done {
-        turns,
-        totals,
-        entries,
-    })
+    match tallies {
+        Ok(tallies) => {
+            assert!(rt; is_right && reader.status(0, 1) == COMPLETE);
+            Ok(settled(rt, shared, tallies))
+        }
+        Err(fail) => {
+            drop(shared.close(rt));
+            Err(fail)
+        }
+    }
 }
 
-/// A job on each of two channels.
-fn nine_turns_each() -> Result<[Job; 2], Fail> {
-    let first = Job::new(0, 0, 9).ok_or("no job")?;
-    let second = Job::new(1, 1, 9).ok_or("no job")?;
-    Ok([first, second])
-}
-
-const BOTH_DONE: Done = Done {
-    turns: [9, 9],
-    totals: Totals {
-        steps: 16,
-        finished: 2,
-        terminated: 0,
-    },
-    // a write, two submits, two issues and two finishes
-    entries: 7,
+/// The totals of two copies of four bytes.
+pub const BOTH_COPIED: Totals = Totals {
+    steps: 16,
+    finished: 2,
+    terminated: 0,
 };
 
 #[test]
-fn a_worker_waits_for_the_other_ones_second_turn(rt: HostRuntime) -> Result<(), Fail> {
-    let jobs = nine_turns_each()?;
-    let (parts, _readers) = shared_out(&rt, rt.alloc(), two_copies(rt.alloc())?, 0)?;
-    let gate = SecondTurn {
-        entered: Mutex::new([false; 2]),
-        met: Mutex::new(false),
-    };
-    let done = through_gate::<Brand, _, _>(&rt, rt.alloc(), parts, jobs, &gate);
-    assert_eq!(rt; done, Some(BOTH_DONE));
-    let SecondTurn { entered: _, met } = gate;
-    assert!(rt; met.into_inner());
-    Ok(())
-}
-
-#[test]
-fn two_workers_meet_in_their_first_turns(rt: HostRuntime) -> Result<(), Fail> {
-    let jobs = nine_turns_each()?;
-    let (parts, _readers) = shared_out(&rt, rt.alloc(), two_copies(rt.alloc())?, 0)?;
-    let gate = BothThere {
-        there: Mutex::new([false; 2]),
-        met: Mutex::new([false; 2]),
-    };
-    let done = through_gate::<Brand, _, _>(&rt, rt.alloc(), parts, jobs, &gate);
-    assert_eq!(rt; done, Some(BOTH_DONE));
-    let BothThere { there: _, met } = gate;
-    assert_eq!(rt; met.into_inner(), [true, true]);
-    Ok(())
-}
-
-#[test]
-fn a_gate_is_called_with_each_turn(rt: HostRuntime) -> Result<(), Fail> {
-    let jobs = nine_turns_each()?;
-    let (parts, readers) = shared_out(&rt, rt.alloc(), two_copies(rt.alloc())?, 8)?;
-    let gate = Turns {
-        last: Mutex::new([0; 2]),
-        wrong: Mutex::new(false),
-    };
-    let done = through_gate::<Brand, _, _>(&rt, rt.alloc(), parts, jobs, &gate);
-    assert_eq!(rt; done, Some(BOTH_DONE));
-    assert_eq!(rt; readers.len(), 8);
-    let Turns { last, wrong } = gate;
-    assert_eq!(rt; last.into_inner(), [9, 9]);
-    assert!(rt; !wrong.into_inner());
-    Ok(())
-}
-
-#[test]
-fn two_workers_share_two_channels(rt: HostRuntime) -> Result<(), Fail> {
-    let first = Job::new(0, 1, 20).ok_or("no job")?;
-    let second = Job::new(0, 1, 20).ok_or("no job")?;
-    let (parts, _readers) = shared_out(&rt, rt.alloc(), two_copies(rt.alloc())?, 0)?;
-    let done = through_gate::<Brand, _, _>(&rt, rt.alloc(), parts, [first, second], &NoGate);
-    let wanted = Done {
-        turns: [20, 20],
-        ..BOTH_DONE
-    };
-    assert_eq!(rt; done, Some(wanted));
-    Ok(())
-}
-
-// ---- settling and closing
-
-// Runs two jobs and settles without the tally of the second: the totals where that is Ok, else the book that was found and
-// how many tallies came back.
-fn without_the_second<N: DeskName + Send + Sync, R: Threads + Wait + Sync>(
-    rt: &R,
-    alloc: Global,
-    parts: Parts,
-    jobs: [Job; 2],
-) -> (Option<Totals>, Option<(Totals, usize)>)
-    requires { Names N.steps N.finished N.base N.log parts }
-{
-    let shared = Shared::<N>::new(parts);
-    let Ok(mut tallies) = run_workers(rt, alloc, &shared, &jobs, &NoGate) else {
-        drop(shared.close(rt));
-        return (None, None);
-    };
-    let _second = tallies.pop();
-    match settle(rt, shared, tallies) {
-        Ok((_engine, totals)) => (Some(totals), None),
-        Err(missing) => {
-            let MissingTally {
-                shared,
-                tallies,
-                book,
-            } = missing;
-            drop(shared.close(rt));
-            (None, Some((book, tallies.len())))
-        }
-    }
-}
-
-#[test]
-fn settling_wants_the_tally_of_each_step(rt: HostRuntime) -> Result<(), Fail> {
-    let jobs = nine_turns_each()?;
-    let (parts, _readers) = shared_out(&rt, rt.alloc(), two_copies(rt.alloc())?, 0)?;
-    let found = without_the_second::<Brand, _>(&rt, rt.alloc(), parts, jobs);
-    assert_eq!(rt; found, (None, Some((BOTH_DONE.totals, 1))));
-    Ok(())
-}
-
-#[test]
-fn settling_wants_no_tally_of_a_worker_that_did_nothing(rt: HostRuntime) -> Result<(), Fail> {
+fn two_workers_in_step(rt: HostRuntime) -> Result<(), Fail> {
     let first = Job::new(0, 0, 9).ok_or("no job")?;
-    // there is no channel 7
-    let second = Job::new(7, 7, 3).ok_or("no job")?;
-    let (parts, _readers) = shared_out(&rt, rt.alloc(), two_copies(rt.alloc())?, 0)?;
-    let found = without_the_second::<Brand, _>(&rt, rt.alloc(), parts, [first, second]);
-    let totals = Totals {
-        steps: 8,
-        finished: 1,
-        terminated: 0,
+    let second = Job::new(1, 1, 9).ok_or("no job")?;
+    let (parts, reader) = with_a_reader(&rt, rt.alloc(), two_copies(rt.alloc())?)?;
+    let gate = InStep {
+        turns: Mutex::new([0; 2]),
+        is_wrong: Mutex::new(false),
     };
-    assert_eq!(rt; found, (Some(totals), None));
-    Ok(())
-}
-
-// Submits on channel 0 of a new desk, and closes it.
-fn closed_after_a_submit<N: DeskName, R: Wait>(rt: &R, parts: Parts, transfer: Transfer) -> Engine
-    requires { Names N.steps N.finished N.base N.log parts }
-{
-    let shared = Shared::<N>::new(parts);
-    let mut desk = shared.desk().lock(rt);
-    let answer = desk.submit(rt, 0, transfer);
-    MutexGuard::unlock(desk);
-    drop(answer);
-    shared.close(rt)
-}
-
-#[test]
-fn closing_answers_the_engine(rt: HostRuntime) -> Result<(), Fail> {
-    let transfer = copy_of_four(rt.alloc(), 0x200)?;
-    let (parts, _readers) = shared_out(&rt, rt.alloc(), Engine::new(rt.alloc(), 0x400, 2)?, 0)?;
-    let engine = closed_after_a_submit::<Brand, _>(&rt, parts, transfer);
-    assert_eq!(rt; engine.used(0), 1);
-    assert_eq!(rt; engine.unfinished(0), 1);
-    assert_eq!(rt; engine.history().len(), 1);
-    Ok(())
-}
-
-// Ends a desk over these parts.
-fn ended<N: DeskName, R: Wait>(rt: &R, parts: Parts)
-    requires { Names N.steps N.finished N.base N.log parts }
-{
-    drop(Shared::<N>::new(parts).close(rt));
-}
-
-#[test]
-fn nine_readers_are_too_many(rt: HostRuntime) -> Result<(), Fail> {
-    let engine = Engine::new(rt.alloc(), 0x400, 2)?;
-    match Parts::new(&rt, rt.alloc(), engine, 9) {
-        Ok((parts, _readers)) => {
-            ended::<Brand, _>(&rt, parts);
-            Err(Fail::from("nine readers were made"))
-        }
-        Err(refused) => {
-            assert_eq!(rt; refused.fault, ShareFaultKind::BadReaders);
-            assert_eq!(rt; refused.engine.channels(), 2);
-            Ok(())
-        }
-    }
-}
-
-// ---- a reader while workers run
-
-// What a reader was told while workers ran.
-#[derive(Clone, Copy, PartialEq, Eq, Debug)]
-struct Asked {
-    // never none and never unknown
-    known: bool,
-    // once complete, always complete
-    lasting: bool,
-}
-
-// Asks so often how far cookie 1 of channel 0 is.
-fn ask_often(mut reader: StatusReader, times: u32) -> (StatusReader, Asked) {
-    let mut asked = Asked {
-        known: true,
-        lasting: true,
-    };
-    let mut complete = false;
-    for _ in 0..times {
-        match reader.status(0, 1) {
-            Some(Status::Complete) => complete = true,
-            Some(Status::InProgress) => asked.lasting = asked.lasting && !complete,
-            _ => asked.known = false,
-        }
-    }
-    (reader, asked)
-}
-
-// What a reader was told before two jobs, while they ran, and after them.
-#[derive(Clone, Copy, PartialEq, Eq, Debug)]
-struct Watched {
-    before: Option<Status>,
-    while_they_ran: Asked,
-    after: Option<Status>,
-}
-
-// Submits on two channels, and asks from another thread while two jobs run.
-fn watch<N: DeskName + Send + Sync, R: Threads + Wait + Sync>(
-    rt: &R,
-    alloc: Global,
-    parts: Parts,
-    readers: Vec<StatusReader>,
-    first: Transfer,
-    second: Transfer,
-    jobs: [Job; 2],
-) -> Option<Watched>
-    requires parts { Names N.steps N.finished N.base N.log parts }
-    requires readers { All (λ (r : Known). (r.log ≡ N.log) × (r.base ≡ N.base)) readers.items }
-{
-    let shared = Shared::<N>::new(parts);
-    let Some(mut reader) = one_of::<N>(readers) else {
-        drop(shared.close(rt));
-        return None;
-    };
-    let _cookie = submitted(rt, &shared, &mut reader, 0, first);
-    let before = reader.status(0, 1);
-    let mut desk = shared.desk().lock(rt);
-    let answer = desk.submit(rt, 1, second);
-    let _ = desk.issue(1);
-    MutexGuard::unlock(desk);
-    drop(answer);
-    let ((mut reader, while_they_ran), tallies) = thread::join(
-        rt,
-        move || ask_often(reader, 10_000),
-        || run_workers(rt, alloc, &shared, &jobs, &NoGate),
-    );
-    let after = reader.status(0, 1);
-    let tallies = tallies.unwrap_or(Vec::new(alloc));
-    let _totals = settled(rt, shared, tallies)?;
-    Some(Watched {
-        before,
-        while_they_ran,
-        after,
-    })
-}
-
-#[test]
-fn a_reader_asks_while_workers_run(rt: HostRuntime) -> Result<(), Fail> {
-    let alloc = rt.alloc();
-    let jobs = nine_turns_each()?;
-    let first = copy_of_four(alloc, 0x200)?;
-    let second = copy_of_four(alloc, 0x300)?;
-    let (parts, readers) = shared_out(&rt, alloc, Engine::new(alloc, 0x400, 2)?, 1)?;
-    let seen = watch::<Brand, _>(&rt, alloc, parts, readers, first, second, jobs);
-    let wanted = Watched {
-        before: Some(Status::InProgress),
-        while_they_ran: Asked {
-            known: true,
-            lasting: true,
-        },
-        after: Some(Status::Complete),
-    };
-    assert_eq!(rt; seen, Some(wanted));
-    Ok(())
-}
-
-// ---- a checkpoint
-
-// Carries a copy of four bytes out on channel 0.
-fn copied(alloc: Global, engine: &mut Engine) -> Result<(), Fail> {
-    given(alloc, engine, 0, 0x200)?;
-    engine.issue(0)?;
-    for _ in 0..9 {
-        engine.step(0)?;
-    }
-    Ok(())
-}
-
-fn one_finished(alloc: Global) -> Result<Engine, Fail> {
-    let mut engine = Engine::new(alloc, 0x400, 1)?;
-    copied(alloc, &mut engine)?;
-    Ok(engine)
-}
-
-// The same after a checkpoint, with a second copy submitted.
-fn with_a_base(alloc: Global) -> Result<Engine, Fail> {
-    let mut engine = one_finished(alloc)?;
-    engine.checkpoint()?;
-    given(alloc, &mut engine, 0, 0x300)?;
-    Ok(engine)
-}
-
-// What a reader was told of cookie 1 before a checkpoint and after it, the cookie that was given then, and how many entries
-// and forgotten cookies there were.
-#[derive(Clone, Copy, PartialEq, Eq, Debug)]
-struct Checkpointed {
-    before: Option<Status>,
-    is_done: bool,
-    entries: usize,
-    forgotten: u32,
-    after: Option<Status>,
-    next: u32,
-    given: Option<Status>,
-}
-
-fn around_a_checkpoint<N: DeskName, R: Wait>(
-    rt: &R,
-    parts: Parts,
-    readers: Vec<StatusReader>,
-    second: Transfer,
-) -> Option<Checkpointed>
-    requires parts { Names N.steps N.finished N.base N.log parts }
-    requires readers { All (λ (r : Known). (r.log ≡ N.log) × (r.base ≡ N.base)) readers.items }
-{
-    let shared = Shared::<N>::new(parts);
-    let Some(mut reader) = one_of::<N>(readers) else {
-        drop(shared.close(rt));
-        return None;
-    };
-    let before = reader.status(0, 1);
-    let mut desk = shared.desk().lock(rt);
-    let is_done = desk.checkpoint().is_ok();
-    let entries = desk.engine().history().len();
-    let forgotten = desk.engine().forgotten(0);
-    MutexGuard::unlock(desk);
-    let after = reader.status(0, 1);
-    let next = submitted(rt, &shared, &mut reader, 0, second);
-    let given = reader.status(0, next);
-    drop(shared.close(rt));
-    Some(Checkpointed {
-        before,
-        is_done,
-        entries,
-        forgotten,
-        after,
-        next,
-        given,
-    })
-}
-
-#[test]
-fn a_status_stays_over_a_checkpoint(rt: HostRuntime) -> Result<(), Fail> {
-    let alloc = rt.alloc();
-    let second = copy_of_four(alloc, 0x300)?;
-    let (parts, readers) = shared_out(&rt, alloc, one_finished(alloc)?, 1)?;
-    let told = around_a_checkpoint::<Brand, _>(&rt, parts, readers, second);
-    let wanted = Checkpointed {
-        before: Some(Status::Complete),
-        is_done: true,
-        entries: 0,
-        forgotten: 1,
-        after: Some(Status::Complete),
-        next: 2,
-        given: Some(Status::InProgress),
-    };
-    assert_eq!(rt; told, Some(wanted));
-    Ok(())
-}
-
-// What a reader is told of an engine that was made into parts after a checkpoint and a submit: of the cookie that the
-// checkpoint forgot, of the one given since, and of the next.
-#[derive(Clone, Copy, PartialEq, Eq, Debug)]
-struct OverABase {
-    forgotten: Option<Status>,
-    submitted: Option<Status>,
-    not_given: Option<Status>,
-}
-
-fn told_over_a_base<N: DeskName, R: Wait>(
-    rt: &R,
-    parts: Parts,
-    readers: Vec<StatusReader>,
-) -> Option<OverABase>
-    requires parts { Names N.steps N.finished N.base N.log parts }
-    requires readers { All (λ (r : Known). (r.log ≡ N.log) × (r.base ≡ N.base)) readers.items }
-{
-    let shared = Shared::<N>::new(parts);
-    let Some(mut reader) = one_of::<N>(readers) else {
-        drop(shared.close(rt));
-        return None;
-    };
-    let told = OverABase {
-        forgotten: reader.status(0, 1),
-        submitted: reader.status(0, 2),
-        not_given: reader.status(0, 3),
-    };
-    drop(shared.close(rt));
-    Some(told)
-}
-
-#[test]
-fn parts_of_an_engine_with_a_base(rt: HostRuntime) -> Result<(), Fail> {
-    let (parts, readers) = shared_out(&rt, rt.alloc(), with_a_base(rt.alloc())?, 1)?;
-    let told = told_over_a_base::<Brand, _>(&rt, parts, readers);
-    let wanted = OverABase {
-        forgotten: Some(Status::Complete),
-        submitted: Some(Status::InProgress),
-        not_given: Some(Status::Unknown),
-    };
-    assert_eq!(rt; told, Some(wanted));
+    let jobs = [first, second];
+    let done = raced::<Brand, _, _>(&rt, rt.alloc(), parts, reader, jobs, &gate)?;
+    // two submits, two issues and two finishes
+    assert!(rt; done == Some((BOTH_COPIED, 6)));
+    let InStep { turns, is_wrong } = gate;
+    assert!(rt; turns.into_inner() == [9, 9]);
+    assert!(rt; !is_wrong.into_inner());
     Ok(())
 }

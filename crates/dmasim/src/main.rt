@@ -2,15 +2,9 @@
 #![tactic(auto)]
 
 mod command_line;
-#[cfg(test)]
-mod command_line_tests;
-#[cfg(test)]
-mod cut_tests;
 mod race;
 #[cfg(test)]
-mod race_tests;
-#[cfg(test)]
-mod test_sink;
+mod tests;
 
 use clap::error::ErrorKind;
 use clap::{Command, Error};
