@@ -19,22 +19,12 @@ fn four(addr: u32) -> DmaSegment {
 // Opens a controller, writes four bytes, and issues a copy of them that waits for event 5, and a fill with the first of them
 // that signals event 3: the codes, both cookies, and how many were issued. A negative event is none.
 fn begun(alloc: Global, c: &mut Controller) -> ([i32; 5], [u32; 3]) {
-    let mut first = 77;
-    let mut second = 77;
-    let mut count = 77;
+    let (mut first, mut second, mut count) = (77, 77, 77);
+    let (src, dst) = ([four(0x100)], [four(0x200)]);
     let codes = [
         dma_open(alloc, c, 0x400, 1),
         dma_write(alloc, c, 0x100, &[1, 2, 3, 4]),
-        dma_submit(
-            alloc,
-            c,
-            0,
-            &[four(0x100)],
-            &[four(0x200)],
-            5,
-            -1,
-            &mut first,
-        ),
+        dma_submit(alloc, c, 0, &src, &dst, 5, -1, &mut first),
         dma_submit_fill(alloc, c, 0, 0x100, &[four(0x300)], -1, 3, &mut second),
         dma_issue(alloc, c, 0, &mut count),
     ];
@@ -52,7 +42,7 @@ fn called(alloc: Global, c: &mut Controller) -> [i32; 5] {
     ]
 }
 
-// Takes at most so many steps of channel 0: the code, how many were taken, and what the last one did.
+// Takes at most `most` steps of channel 0: the code, how many were taken, and what the last one did.
 fn stepped(alloc: Global, c: &mut Controller, most: u32) -> (i32, u32, u32) {
     let mut report = DmaReport {
         taken: 77,
@@ -97,10 +87,7 @@ fn six(alloc: Global, c: &mut Controller, addr: u32) -> (i32, [u8; 6]) {
 // Aborts what is unfinished on channel 0, makes a checkpoint, and counts: the codes; how many were aborted, are unfinished and
 // are forgotten; and the step count.
 fn ended(alloc: Global, c: &mut Controller) -> ([i32; 5], [u32; 3], u64) {
-    let mut aborted = 77;
-    let mut unfinished = 77;
-    let mut forgotten = 77;
-    let mut steps = 77;
+    let (mut aborted, mut unfinished, mut forgotten, mut steps) = (77, 77, 77, 77);
     let codes = [
         dma_terminate(alloc, c, 0, &mut aborted),
         dma_checkpoint(alloc, c),
@@ -134,7 +121,7 @@ fn a_controller_from_open_to_close(rt: HostRuntime) {
 #[test]
 fn texts_and_programs(rt: HostRuntime) {
     let alloc = rt.alloc();
-    let (mut bytes, mut text, mut memory) = ([9; 2], [9; 15], [1, 2, 0, 0]);
+    let (mut bytes, mut text) = ([9; 2], [9; 15]);
     let (mut len, mut place) = (77, 77);
     assert!(rt; dma_version(&mut text, &mut len) == OK);
     assert!(rt; (len, text) == (13, *b"dilkwafam 1.0\0\x09"));
@@ -142,4 +129,21 @@ fn texts_and_programs(rt: HostRuntime) {
     assert!(rt; (len, place, bytes) == (1, 77, [0x18, 9]));
     assert!(rt; dma_disassemble(alloc, b"\x18\0", &mut text, &mut len, &mut place) == OK);
     assert!(rt; (len, place, text) == (14, 77, *b"DMANOP\nDMAEND\n\x09"));
+}
+
+// It loads two bytes from 0 and stores them to 2.
+const TWO_BYTES: &[u8] = b"\xbc\x02\x02\0\0\0\xbc\x01\x11\x40\x04\0\x04\x08\0";
+
+#[test]
+fn a_program_runs_alone(rt: HostRuntime) {
+    let mut memory = [1, 2, 0, 0];
+    let mut end = DmaRunEnd {
+        end: 77,
+        turns: 77,
+        event: 77,
+        fault: 77,
+        pc: 77,
+    };
+    assert!(rt; dma_run_program(rt.alloc(), TWO_BYTES, &mut memory, 9, &mut end) == OK);
+    assert!(rt; (end.end, end.turns, memory) == (1, 5, [1, 2, 1, 2]));
 }

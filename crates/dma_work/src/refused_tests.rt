@@ -143,13 +143,13 @@ fn over_an_engine<R: Wait + Abort + Print>(
     alloc: Global,
     engine: Engine,
     row: Row,
-    bytes: [u8; 2],
+    [behind, first]: [u8; 2],
 ) -> Result<(), Fail> {
     println!(rt; "row Parts::new")?;
     let mut engine = play(rt, alloc, engine, &row)?;
     engine.terminate(0)?;
-    assert!(rt; engine.read(0x1004, 1)?.as_slice() == &bytes[..1]);
-    assert!(rt; engine.read(0x2000, 1)?.as_slice() == &bytes[1..]);
+    assert!(rt; engine.read(0x1004, 1)?.as_slice() == [behind].as_slice());
+    assert!(rt; engine.read(0x2000, 1)?.as_slice() == [first].as_slice());
     Ok(())
 }
 
@@ -190,8 +190,8 @@ fn issued_without_room(engine: &mut Engine, transfer: Transfer, steps: u32) -> R
     step_often(engine, steps)
 }
 
-// An engine that has given all room back, whose channel 0 has taken so many steps of a copy with these events. The flag of
-// event 3 is set.
+// An engine that has given all room back, and then takes steps of a copy with these events on channel 0. The flag of event 3
+// is set.
 fn before_a_step(
     alloc: Global,
     wait: Option<u8>,

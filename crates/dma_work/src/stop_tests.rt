@@ -18,7 +18,7 @@ fn moved<N: DeskName, R: Wait + Abort>(rt: &R, desk: &mut Desk<N>, steps: u32) -
     Ok(())
 }
 
-// A copy of 300 bytes is stopped after so many instructions, and another is submitted. The reader learns of that alone.
+// A copy of 300 bytes is stopped after these steps, and another is submitted. The reader learns of that alone.
 #[derive(Clone, Copy)]
 struct Stop {
     steps: u32,

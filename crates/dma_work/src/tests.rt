@@ -6,7 +6,7 @@ ghost use Rattle.dma_work.specs.Desk.{Names};
 use crate::desk::{Desk, Tally};
 use crate::job::Job;
 use crate::names::DeskName;
-use crate::parts::{Parts, ShareFaultKind};
+use crate::parts::{Parts, ShareFault, ShareFaultKind};
 use crate::reader::StatusReader;
 use crate::shared::{MissingTally, Shared, settle};
 use crate::ticket::Receipt;
@@ -25,7 +25,7 @@ use std::thread::Threads;
 
 // ---- engines
 
-/// A copy of so many bytes from 0x1000.
+/// A copy of `len` bytes from 0x1000.
 pub fn copy(
     alloc: Global,
     len: u32,
@@ -85,14 +85,28 @@ pub fn without_room(alloc: Global) -> Result<Engine, Fail> {
 
 // ---- desks
 
-/// The parts of an engine and one of eight readers, after nine, which are too many. Where they are refused memory, the engine
-/// comes back, and they are asked for once more.
+// The parts of an engine and one of eight readers, or the engine.
+fn parts_of<R: Wait>(
+    rt: &R,
+    alloc: Global,
+    engine: Engine,
+) -> Result<(Parts, StatusReader), ShareFault>
+    ensures { IfOk result (λ p. (p.0.log ≡ p.1.log) × (p.0.base ≡ p.1.base)) }
+{
+    let (parts, mut readers) = Parts::new(rt, alloc, engine, 8)?;
+    let Some(reader) = readers.pop() else {
+        unreachable!();
+    };
+    Ok((parts, reader))
+}
+
+/// The same, after nine readers, which are too many. Where memory is refused, they are asked for once more.
 pub fn with_a_reader<R: Wait + Abort + Print>(
     rt: &R,
     alloc: Global,
     engine: Engine,
 ) -> Result<(Parts, StatusReader), Fail>
-    ensures { IfOk result (λ p. (p.0.engine ≡ engine) × (p.0.log ≡ p.1.log) × (p.0.base ≡ p.1.base)) }
+    ensures { IfOk result (λ p. (p.0.log ≡ p.1.log) × (p.0.base ≡ p.1.base)) }
 {
     let engine = match Parts::new(rt, alloc, engine, 9) {
         Ok(_) => unreachable!(),
@@ -101,21 +115,14 @@ pub fn with_a_reader<R: Wait + Abort + Print>(
             refused.engine
         }
     };
-    let made = match Parts::new(rt, alloc, engine, 8) {
-        Ok(made) => Ok(made),
-        Err(refused) => {
-            println!(rt; "refused Parts::new")?;
-            assert!(rt; refused.fault == ShareFaultKind::NoMemory);
-            Parts::new(rt, alloc, refused.engine, 8)
-        }
+    let refused = match parts_of(rt, alloc, engine) {
+        Ok(made) => return Ok(made),
+        Err(refused) => refused,
     };
-    match made {
-        Ok((parts, mut readers)) => {
-            let Some(reader) = readers.pop() else {
-                unreachable!();
-            };
-            Ok((parts, reader))
-        }
+    println!(rt; "refused Parts::new")?;
+    assert!(rt; refused.fault == ShareFaultKind::NoMemory);
+    match parts_of(rt, alloc, refused.engine) {
+        Ok(made) => Ok(made),
         Err(_) => Err(Fail::from("no parts")),
     }
 }
@@ -295,15 +302,15 @@ fn afternoon<N: DeskName, R: Wait + Abort>(
     Ok(())
 }
 
-// The first copy is finished by a worker, of which the reader isn't told; another worker finds no channel. Answers the tally
-// of each.
+// A worker finishes the first copy, and the reader sees it though it learns of nothing; another worker finds no channel.
+// Answers the tally of each.
 fn until_evening<N: DeskName, R: Wait + Abort>(
     rt: &R,
     alloc: Global,
     shared: &Shared<N>,
     reader: &mut StatusReader,
     jobs: [Job; 2],
-) -> Result<[Vec<Tally>; 2], Fail>
+) -> Result<(Vec<Tally>, Vec<Tally>), Fail>
     requires { (N.log ≡ reader.old.log) × (N.base ≡ reader.old.base) }
 {
     let mut desk = shared.desk().lock(rt);
@@ -323,7 +330,7 @@ fn until_evening<N: DeskName, R: Wait + Abort>(
     let answer = afternoon(rt, alloc, &mut desk, reader);
     MutexGuard::unlock(desk);
     answer?;
-    Ok([list_of(alloc, busy)?, list_of(alloc, idle)?])
+    Ok((list_of(alloc, busy)?, list_of(alloc, idle)?))
 }
 
 // In the evening the desk is settled without the tally of the worker that stepped, and then without that of the other.
@@ -343,7 +350,7 @@ fn whole_day<N: DeskName, R: Wait + Abort>(
         terminated: 1,
     };
     let shared = Shared::<N>::new(parts);
-    let [busy, idle] = match until_evening(rt, alloc, &shared, &mut reader, jobs) {
+    let (busy, idle) = match until_evening(rt, alloc, &shared, &mut reader, jobs) {
         Ok(tallies) => tallies,
         Err(fail) => {
             drop(shared.close(rt));
