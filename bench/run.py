@@ -54,6 +54,40 @@ def long_writes(count):
     return script(MIB, 1, ["write %d %s" % (0x100 * i, line) for i in range(count)])
 
 
+def segments(start, stride, count=64):
+    return ",".join("%d+64" % (start + stride * i) for i in range(count))
+
+
+def seven_running():
+    lines = []
+    for ch in range(7):
+        place = 0x20000 * ch
+        lines += ["submit %d %s to %s" % (ch, segments(place, 0x100), segments(place + 0x10000, 0x100))]
+        lines += ["issue %d" % ch, "step %d" % ch]
+    return lines
+
+
+def starts(count):
+    transfer = "submit 7 %s to %s" % (segments(0xE0000, 0x100), segments(0xF0000, 0x100))
+    return script(MIB, 8, seven_running() + [transfer, "issue 7", "step 7", "terminate 7"] * count)
+
+
+def held(count):
+    # of the front only the last source meets a destination, that of the last running transfer
+    sources = segments(0xF0000, 0x100, 63) + ",%d+64" % (6 * 0x20000 + 0x10000 + 63 * 0x100)
+    front = "submit 7 %s to %s" % (sources, segments(0xE0000, 0x100))
+    return script(MIB, 8, seven_running() + [front, "issue 7", "step 7 %d" % count])
+
+
+def marks(count):
+    lines = ["mark %s %d+1" % (("read", "write")[i % 2], 0x10000 + 8 * i) for i in range(count)]
+    return script(MIB, 1, lines + ["copy 0+0x8000 to 0x8000+0x8000"] * 100)
+
+
+def checkpoints(count):
+    return script(64, 1, ["submit 0 0+4 to 8+4", "issue 0", "step 0 9", "checkpoint"] * count)
+
+
 def reads(count):
     return script(MIB, 1, ["read %d+16" % i for i in range(count)])
 
@@ -78,6 +112,10 @@ PRINTED = {
     "step lines": (b" NoError residue 0", 20),
     "turns": (b" NoError residue 0", 8),
     "submits": (b" NoError residue 0", 20_000),
+    "starts": (b"started", 1_007),
+    "held": (b" held 6 x1000", 1),
+    "marks": (b" NoError residue 0", 100),
+    "checkpoints": (b" NoError residue 0", 20_000),
     "writes": (b"ok\n", 110_000),
     "long writes": (b"ok\n", 340),
     "reads": (b"read 0x", 150_000),
@@ -91,6 +129,10 @@ CASES = {
     "step lines": ("run", step_lines(20), (MIB, 20)),
     "turns": ("run", turns(200_000), None),
     "submits": ("run", submits(20_000), None),
+    "starts": ("run", starts(1_000), None),
+    "held": ("run", held(1_000), None),
+    "marks": ("run", marks(10_000), None),
+    "checkpoints": ("run", checkpoints(20_000), None),
     "writes": ("run", writes(110_000), None),
     "long writes": ("run", long_writes(340), None),
     "reads": ("run", reads(150_000), None),

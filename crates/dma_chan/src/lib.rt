@@ -7,15 +7,7 @@ pub mod compile;
 mod exec;
 pub mod laws;
 pub mod next;
-#[cfg(test)]
-mod pair_tests;
 mod pieces;
 pub mod program;
-#[cfg(test)]
-mod refused_tests;
 pub mod run;
-#[cfg(test)]
-mod run_tests;
-#[cfg(test)]
-mod tests;
 pub mod turn;

@@ -5,9 +5,5 @@ pub mod asm;
 pub mod dis;
 pub mod plan;
 pub mod printing;
-#[cfg(test)]
-mod refused_tests;
 pub mod run;
-#[cfg(test)]
-mod tests;
 pub mod transfers;

@@ -25,12 +25,3 @@ pub use entry::{Entry, Signaller};
 pub use fault::{EngineFault, NewFault, SubmitFault};
 pub use outcome::{Outcome, TransResult};
 pub use turn::{Running, Status, Turn};
-
-#[cfg(test)]
-mod example;
-#[cfg(test)]
-mod refused_tests;
-#[cfg(test)]
-mod test_lines;
-#[cfg(test)]
-mod tests;

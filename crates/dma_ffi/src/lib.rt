@@ -23,8 +23,6 @@ mod lists;
 pub mod programs;
 mod reports;
 mod steps;
-#[cfg(test)]
-mod tests;
 
 use codes::{ALREADY_OPEN, NO_MEMORY, NOT_OPEN, OK, code_of_new};
 use controller::Controller;

@@ -9,5 +9,3 @@ pub mod control;
 pub mod disassembler;
 pub mod insn;
 mod line;
-#[cfg(test)]
-mod refused_tests;

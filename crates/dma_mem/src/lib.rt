@@ -8,10 +8,6 @@ pub mod memory;
 mod ordered;
 mod pages;
 pub mod range_set;
-#[cfg(test)]
-mod refused_tests;
 pub mod segment;
 mod table;
-#[cfg(test)]
-mod tests;
 pub mod transfer;

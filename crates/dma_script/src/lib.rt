@@ -5,13 +5,9 @@
 pub mod apart;
 mod arguments;
 pub mod command;
-#[cfg(test)]
-mod fakes;
 pub mod fault;
 pub mod input;
 pub mod interpreter;
-#[cfg(test)]
-mod interpreter_tests;
 pub mod laws;
 pub mod lines;
 pub mod output;
@@ -20,8 +16,4 @@ pub mod plan;
 pub mod printing;
 pub mod race;
 pub mod statements;
-#[cfg(test)]
-mod stream_tests;
-#[cfg(test)]
-mod tests;
 pub mod words;

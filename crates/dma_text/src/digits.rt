@@ -23,20 +23,3 @@ pub fn glyph(digit: u8) -> u8
 {
     GLYPHS[usize::from(digit)]
 }
-
-#[cfg(test)]
-mod tests {
-    use super::*;
-    use std::test::Fail;
-
-    #[test]
-    fn numbers_and_digits(rt: HostRuntime) -> Result<(), Fail> {
-        let mut line = Vec::new(rt.alloc());
-        push_decimal(&mut line, 0)?;
-        line.push(glyph(9))?;
-        line.push(glyph(10))?;
-        push_decimal(&mut line, u64::MAX)?;
-        assert_eq!(rt; line.as_slice(), b"09A18446744073709551615".as_slice());
-        Ok(())
-    }
-}

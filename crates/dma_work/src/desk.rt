@@ -95,8 +95,8 @@ impl<N: DeskName> Desk<N> {
         &self.engine
     }
 
-    /// The book.
-    pub(crate) fn book(&self) -> Totals
+    /// The book: what all workers did so far.
+    pub fn book(&self) -> Totals
         ensures { result ≡ self.now.book }
     {
         self.book

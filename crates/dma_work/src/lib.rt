@@ -12,14 +12,8 @@ mod names;
 mod parts;
 mod publisher;
 mod reader;
-#[cfg(test)]
-mod refused_tests;
 mod rule;
 mod shared;
-#[cfg(test)]
-mod stop_tests;
-#[cfg(test)]
-mod tests;
 mod tick;
 mod ticket;
 mod totals;

@@ -3,8 +3,6 @@
 
 mod command_line;
 mod race;
-#[cfg(test)]
-mod tests;
 
 use clap::error::ErrorKind;
 use clap::{Command, Error};

@@ -1,0 +1,271 @@
+//! What no script asks: what an engine tells of itself, its history, an end before its step, a transfer that is handed back,
+//! and lists of calls. The rows of `tests/run/engine_*.test` have the rest.
+
+use crate::engine_lines::Answer::{Count, Done, Four, Moved, Refused, State, Turned};
+use crate::engine_lines::Ask::{
+    Advance, CheckSubmit, Checkpoint, Issue, MakeRoom, Mark, Raise, Read, Step, Submit, Terminate,
+    Unmark, Write,
+};
+use crate::engine_lines::{
+    Answer, COPIED, CopyOfFour, READ_FAILED, answer_of, copy, engine_after, go_through, said,
+    segment, told,
+};
+use dma_engine::call::{Call, Reply};
+use dma_engine::engine::Engine;
+use dma_engine::fault::EngineFault;
+use dma_engine::outcome::{Outcome, TransResult};
+use dma_engine::run::{run, run_into};
+use dma_engine::turn::{Running, Status, Turn};
+use dma_mem::lists::Bytes;
+use dma_mem::marks::MarkKind::{Reading, Writing};
+use std::alloc::Global;
+use std::process::Abort;
+use std::test::Fail;
+
+// Two copies on channel 0, of which the first waits and signals and is before its end, and one on channel 1.
+fn before_an_end(alloc: Global, engine: &mut Engine) -> Result<(), Fail> {
+    let with_events = CopyOfFour(0x100, 0x200, (Some(3), Some(5)));
+    let lines = [
+        (Write(0x100, &[1, 2, 3, 4]), Done),
+        (Mark(Reading, segment(0x180, 2)), Done),
+        (Mark(Writing, segment(0x190, 3)), Done),
+        (Unmark, Done),
+        (Raise(3), Done),
+        (MakeRoom(2), Refused(EngineFault::NoChannel)),
+        (MakeRoom(0), Done),
+        (Submit(0, with_events), Count(1)),
+        (Submit(0, copy(0x200, 0x300)), Count(2)),
+        (Submit(1, copy(0x100, 0x380)), Count(1)),
+        (MakeRoom(0), Done),
+        (Issue(0), Count(2)),
+        (Step(0), Turned(Turn::Started(1))),
+        (MakeRoom(0), Done),
+        // the wait, seven instructions and the signal
+        (Advance(0, 9), Moved(9, None)),
+    ];
+    go_through(alloc, engine, &lines)
+}
+
+// Then its end, and that of the second.
+fn after_both_ends(alloc: Global, engine: &mut Engine) -> Result<(), Fail> {
+    let lines = [
+        (Advance(0, 9), Moved(0, Some(Ok(COPIED)))),
+        (Read(0x200, 4), Four([1, 2, 3, 4])),
+        (Terminate(0), Count(1)),
+    ];
+    go_through(alloc, engine, &lines)
+}
+
+fn has_that_history(engine: &Engine) -> bool {
+    let wanted: [(&'static str, [u32; 3], &'static [u8]); 14] = [
+        ("wrote", [0x100, 0, 0], &[1, 2, 3, 4]),
+        ("marked for reads", [0x180, 2, 0], &[]),
+        ("marked for writes", [0x190, 3, 0], &[]),
+        ("unmarked", [0, 0, 0], &[]),
+        ("raised", [3, 0, 0], &[]),
+        ("submitted", [0, 1, 4], &[]),
+        ("submitted", [0, 2, 4], &[]),
+        ("submitted", [1, 1, 4], &[]),
+        ("issued", [0, 0, 0], &[]),
+        ("passed", [0, 3, 0], &[]),
+        ("signalled", [0, 5, 0], &[]),
+        ("finished", [0, 4, 0], &[]),
+        ("read", [0x200, 0, 0], &[1, 2, 3, 4]),
+        ("terminated", [0, 0, 1], &[]),
+    ];
+    for (entry, other) in engine.history().iter().zip(wanted.iter()) {
+        if said(entry) != *other {
+            return false;
+        }
+    }
+    engine.history().len() == wanted.len()
+}
+
+// Whether an engine tells these counts of a channel that rests.
+fn rests(engine: &Engine, ch: u8, counts: [u32; 5]) -> bool {
+    told(engine, ch) == (counts, [false; 3], None)
+}
+
+#[test]
+fn an_engine_tells_what_was_done(rt: HostRuntime) -> Result<(), Fail> {
+    let mut engine = Engine::new(rt.alloc(), 0x400, 2)?;
+    assert!(rt; (engine.size(), engine.channels()) == (0x400, 2));
+    before_an_end(rt.alloc(), &mut engine)?;
+    let running = Running {
+        cookie: 1,
+        stored: 4,
+    };
+    let before = ([2, 0, 2, 0, 0], [false, false, true], Some(running));
+    assert!(rt; told(&engine, 0) == before);
+    after_both_ends(rt.alloc(), &mut engine)?;
+    assert!(rt; has_that_history(&engine));
+    assert!(rt; rests(&engine, 0, [2, 2, 0, 0, 0]));
+    assert!(rt; (engine.steps(), engine.finished_all()) == (10, 2));
+    assert!(rt; engine.status(0, 2) == Status::Complete);
+    assert!(rt; engine.result(0, 1).is_some());
+    forgets(&rt, &mut engine);
+    Ok(())
+}
+
+// A checkpoint forgets it; a pause is known.
+fn forgets(rt: &impl Abort, engine: &mut Engine) {
+    assert!(rt; engine.checkpoint() == Ok(()));
+    assert!(rt; engine.history().is_empty());
+    assert!(rt; rests(engine, 0, [2, 2, 0, 2, 2]));
+    assert!(rt; rests(engine, 1, [1, 0, 1, 0, 1]));
+    assert!(rt; rests(engine, 2, [0; 5]));
+    assert!(rt; (engine.steps(), engine.finished_all()) == (10, 2));
+    assert!(rt; engine.result(0, 1).is_none());
+    assert!(rt; engine.pause(1) == Ok(()));
+    assert!(rt; engine.paused(1) && !engine.paused(0));
+    assert!(rt; engine.resume(1) == Ok(()));
+    assert!(rt; rests(engine, 1, [1, 0, 1, 0, 1]));
+}
+
+// An engine whose one copy is issued.
+fn issued(alloc: Global) -> Result<Engine, Fail> {
+    let lines = [
+        (Submit(0, copy(0x100, 0x200)), Count(1)),
+        (Issue(0), Count(1)),
+    ];
+    engine_after(alloc, 0x400, &lines)
+}
+
+// Whether steps that end nothing answer this.
+fn goes_on(engine: &mut Engine, turns: &[Turn]) -> bool {
+    for turn in turns {
+        if engine.ending(0) || engine.step_unless_ending(0) != Some(Ok(*turn)) {
+            return false;
+        }
+    }
+    true
+}
+
+// Whether the next step ends the copy so, and isn't taken unless it may.
+fn ends(engine: &mut Engine, end: Turn) -> bool {
+    engine.ending(0)
+        && engine.step_unless_ending(0).is_none()
+        && engine.finished(0) == 0
+        && engine.step(0) == Ok(end)
+        && !engine.ending(0)
+}
+
+#[test]
+fn an_end_is_known_before_its_step(rt: HostRuntime) -> Result<(), Fail> {
+    let mut engine = issued(rt.alloc())?;
+    assert!(rt; goes_on(&mut engine, &[Turn::Started(1)]));
+    assert!(rt; goes_on(&mut engine, &[Turn::Moved; 7]));
+    assert!(rt; ends(&mut engine, COPIED));
+    Ok(())
+}
+
+#[test]
+fn a_failing_burst_is_known_as_an_end(rt: HostRuntime) -> Result<(), Fail> {
+    let mut engine = issued(rt.alloc())?;
+    assert!(rt; goes_on(&mut engine, &[Turn::Started(1)]));
+    assert!(rt; goes_on(&mut engine, &[Turn::Moved; 3]));
+    assert!(rt; !engine.ending(0));
+    assert!(rt; engine.mark(Reading, segment(0x103, 1)) == Ok(()));
+    assert!(rt; ends(&mut engine, READ_FAILED));
+    assert!(rt; engine.halted(0));
+    Ok(())
+}
+
+// The transfer that is handed back is compared where its line is carried out.
+#[test]
+fn a_refused_transfer_is_handed_back(rt: HostRuntime) -> Result<(), Fail> {
+    let above = copy(0, 13);
+    let fits = copy(0, 12);
+    let is_above = Refused(EngineFault::OutOfMemoryRange);
+    let has_no_channel = Refused(EngineFault::NoChannel);
+    let lines = [
+        (CheckSubmit(0, above), is_above),
+        (Submit(0, above), is_above),
+        (CheckSubmit(2, above), has_no_channel),
+        (Submit(2, above), has_no_channel),
+        (CheckSubmit(0, fits), Count(1)),
+        (Submit(0, fits), Count(1)),
+        (CheckSubmit(0, fits), Count(2)),
+    ];
+    let engine = engine_after(rt.alloc(), 16, &lines)?;
+    assert!(rt; rests(&engine, 0, [1, 0, 1, 0, 0]));
+    Ok(())
+}
+
+// The replies to calls of the host on memory, marks and events.
+fn host_replies(alloc: Global, engine: &mut Engine) -> Result<Vec<Reply>, Fail> {
+    let bytes = Bytes::from_slice(alloc, &[1, 2, 3, 4])?;
+    let kind = Reading;
+    let segment = segment(0, 1);
+    let calls = [
+        Call::Write { addr: 0x10, bytes },
+        Call::Read { addr: 0x10, len: 4 },
+        Call::Mark { kind, segment },
+        Call::Unmark,
+        Call::Raise { event: 0 },
+    ];
+    Ok(run(alloc, engine, &calls).ok().ok_or("no memory")?)
+}
+
+// Adds those to calls that start a copy and end it, with checkpoints before and behind its end.
+fn add_replies(alloc: Global, engine: &mut Engine, replies: &mut Vec<Reply>) -> Result<(), Fail> {
+    let transfer = copy(0x10, 0x20).transfer(alloc)?;
+    let calls = [
+        Call::Submit { ch: 0, transfer },
+        Call::Issue { ch: 0 },
+        Call::Pause { ch: 0 },
+        Call::Resume { ch: 0 },
+        Call::Step { ch: 0 },
+        Call::Step { ch: 0 },
+        Call::Checkpoint,
+        Call::Status { ch: 0, cookie: 1 },
+        Call::Terminate { ch: 0 },
+        Call::Result { ch: 0, cookie: 1 },
+        Call::Checkpoint,
+        Call::Result { ch: 0, cookie: 1 },
+    ];
+    Ok(run_into(engine, &calls, replies).ok().ok_or("no memory")?)
+}
+
+fn are_as_wanted(replies: &[Reply]) -> bool {
+    let aborted = Outcome {
+        result: TransResult::Aborted,
+        residue: 4,
+    };
+    let running = EngineFault::Running { ch: 0, cookie: 1 };
+    let wanted = [
+        Done,
+        Four([1, 2, 3, 4]),
+        Done,
+        Done,
+        Done,
+        Count(1),
+        Count(1),
+        Done,
+        Done,
+        Turned(Turn::Started(1)),
+        Turned(Turn::Moved),
+        Refused(running),
+        State(Status::InProgress),
+        Count(1),
+        Answer::Result(Some(aborted)),
+        Done,
+        Answer::Result(None),
+    ];
+    for (reply, answer) in replies.iter().zip(wanted.iter()) {
+        if answer_of(reply) != *answer {
+            return false;
+        }
+    }
+    replies.len() == wanted.len()
+}
+
+#[test]
+fn lists_of_calls(rt: HostRuntime) -> Result<(), Fail> {
+    let mut engine = Engine::new(rt.alloc(), 64, 1)?;
+    let mut replies = host_replies(rt.alloc(), &mut engine)?;
+    add_replies(rt.alloc(), &mut engine, &mut replies)?;
+    assert!(rt; are_as_wanted(&replies));
+    assert!(rt; rests(&engine, 0, [1, 1, 0, 1, 1]));
+    Ok(())
+}

@@ -1,0 +1,244 @@
+//! Calls on an engine with what each must answer, carried out one after another, and what an engine tells of itself.
+
+use dma_engine::advance::{Advanced, advance};
+use dma_engine::call::Reply;
+use dma_engine::engine::Engine;
+use dma_engine::entry::{Entry, Signaller};
+use dma_engine::fault::EngineFault;
+use dma_engine::outcome::{Outcome, TransResult};
+use dma_engine::turn::{Running, Status, Turn};
+use dma_mem::marks::MarkKind;
+use dma_mem::segment::Segment;
+use dma_mem::transfer::{Transfer, TransferFault};
+use std::alloc::Global;
+use std::test::Fail;
+
+/// The first cookie finishes, with all its bytes copied.
+pub const COPIED: Turn = Turn::Finished {
+    cookie: 1,
+    result: TransResult::NoError,
+    residue: 0,
+};
+
+/// The first cookie finishes by a load that fails, four bytes before its end.
+pub const READ_FAILED: Turn = Turn::Finished {
+    cookie: 1,
+    result: TransResult::ReadFailed,
+    residue: 4,
+};
+
+/// A copy of four bytes from the first address to the second, with the event that it waits for and the one that it signals.
+#[derive(Clone, Copy)]
+pub struct CopyOfFour(pub u32, pub u32, pub (Option<u8>, Option<u8>));
+
+impl CopyOfFour {
+    /// The transfer.
+    pub fn transfer(self, alloc: Global) -> Result<Transfer, TransferFault> {
+        let CopyOfFour(src, dst, (wait, signal)) = self;
+        Transfer::new(alloc, &[segment(src, 4)], &[segment(dst, 4)], wait, signal)
+    }
+
+    // Whether a transfer is this one.
+    fn is(self, transfer: &Transfer) -> bool {
+        let CopyOfFour(src, dst, events) = self;
+        transfer.src() == [segment(src, 4)].as_slice()
+            && transfer.dst() == [segment(dst, 4)].as_slice()
+            && (transfer.wait(), transfer.signal()) == events
+    }
+}
+
+/// The copy that neither waits nor signals.
+pub fn copy(src: u32, dst: u32) -> CopyOfFour {
+    CopyOfFour(src, dst, (None, None))
+}
+
+pub fn segment(addr: u32, len: u32) -> Segment {
+    Segment { addr, len }
+}
+
+/// A call, with its arguments.
+#[derive(Clone, Copy)]
+pub enum Ask {
+    Write(u32, &'static [u8]),
+    Read(u32, u32),
+    Mark(MarkKind, Segment),
+    Unmark,
+    Raise(u8),
+    CheckSubmit(u8, CopyOfFour),
+    Submit(u8, CopyOfFour),
+    /// A copy of four bytes from 0x100 on, whose destinations lie on the first three pages.
+    SubmitOverPages(u8),
+    Issue(u8),
+    Terminate(u8),
+    MakeRoom(u8),
+    Step(u8),
+    /// Steps of a channel in a row, at most this many.
+    Advance(u8, u32),
+    Checkpoint,
+}
+
+/// What a call answers.
+#[derive(Clone, Copy, Debug, PartialEq)]
+pub enum Answer {
+    Done,
+    /// Four bytes were read.
+    Four([u8; 4]),
+    /// Another number of bytes was read, or another transfer was handed back than was submitted.
+    Other,
+    /// A cookie, or how many cookies were issued or aborted.
+    Count(u32),
+    Turned(Turn),
+    /// How many steps moved, and what the step after them answered, if there was one.
+    Moved(u32, Option<Result<Turn, EngineFault>>),
+    State(Status),
+    Result(Option<Outcome>),
+    Refused(EngineFault),
+}
+
+/// A call with what it must answer.
+pub type Line = (Ask, Answer);
+
+/// Carries lines out. The error is that one isn't answered as it must be, or that a transfer to be submitted can't be made.
+pub fn go_through(alloc: Global, engine: &mut Engine, lines: &[Line]) -> Result<(), Fail> {
+    for (index, (ask, wanted)) in lines.iter().enumerate() {
+        let answer = answer_to(alloc, engine, *ask)?;
+        if answer != *wanted {
+            return Err(Fail::new(format_args!("line {index} answers {answer:?}")));
+        }
+    }
+    Ok(())
+}
+
+/// A new engine of two channels that has carried lines out.
+pub fn engine_after(alloc: Global, size: u32, lines: &[Line]) -> Result<Engine, Fail> {
+    let mut engine = Engine::new(alloc, size, 2)?;
+    go_through(alloc, &mut engine, lines)?;
+    Ok(engine)
+}
+
+/// What a call answers. The error is that a transfer to be submitted can't be made.
+pub fn answer_to(alloc: Global, engine: &mut Engine, ask: Ask) -> Result<Answer, Fail> {
+    Ok(match ask {
+        Ask::Write(addr, bytes) => done(engine.write(addr, bytes)),
+        Ask::Read(addr, len) => match engine.read(addr, len) {
+            Ok(bytes) => four(bytes.as_slice()),
+            Err(fault) => Answer::Refused(fault),
+        },
+        Ask::Mark(kind, segment) => done(engine.mark(kind, segment)),
+        Ask::Unmark => done(engine.unmark()),
+        Ask::Raise(event) => done(engine.raise(event)),
+        Ask::CheckSubmit(ch, copy) => counted(engine.check_submit(ch, &copy.transfer(alloc)?)),
+        Ask::Submit(ch, copy) => submits(engine, ch, copy, copy.transfer(alloc)?),
+        Ask::SubmitOverPages(ch) => match engine.submit(ch, over_pages(alloc)?) {
+            Ok(cookie) => Answer::Count(cookie),
+            Err(refused) => Answer::Refused(refused.fault),
+        },
+        Ask::Issue(ch) => counted(engine.issue(ch)),
+        Ask::Terminate(ch) => counted(engine.terminate(ch)),
+        Ask::MakeRoom(ch) => done(engine.make_room(ch)),
+        Ask::Step(ch) => match engine.step(ch) {
+            Ok(turn) => Answer::Turned(turn),
+            Err(fault) => Answer::Refused(fault),
+        },
+        Ask::Advance(ch, most) => {
+            let Advanced { moved, last } = advance(engine, ch, most);
+            Answer::Moved(moved, last)
+        }
+        Ask::Checkpoint => done(engine.checkpoint()),
+    })
+}
+
+fn over_pages(alloc: Global) -> Result<Transfer, TransferFault> {
+    let destinations = [segment(0x0FFE, 3), segment(0x2000, 1)];
+    Transfer::new(alloc, &[segment(0x100, 4)], &destinations, None, None)
+}
+
+fn done(outcome: Result<(), EngineFault>) -> Answer {
+    match outcome {
+        Ok(()) => Answer::Done,
+        Err(fault) => Answer::Refused(fault),
+    }
+}
+
+fn counted(outcome: Result<u32, EngineFault>) -> Answer {
+    match outcome {
+        Ok(count) => Answer::Count(count),
+        Err(fault) => Answer::Refused(fault),
+    }
+}
+
+fn four(bytes: &[u8]) -> Answer {
+    match bytes {
+        [a, b, c, d] => Answer::Four([*a, *b, *c, *d]),
+        _ => Answer::Other,
+    }
+}
+
+// What the submit of a transfer answers, which must be handed back where it is refused.
+fn submits(engine: &mut Engine, ch: u8, copy: CopyOfFour, transfer: Transfer) -> Answer {
+    match engine.submit(ch, transfer) {
+        Ok(cookie) => Answer::Count(cookie),
+        Err(refused) if copy.is(&refused.transfer) => Answer::Refused(refused.fault),
+        Err(_) => Answer::Other,
+    }
+}
+
+/// What a reply says.
+pub fn answer_of(reply: &Reply) -> Answer {
+    match reply {
+        Reply::Done => Answer::Done,
+        Reply::Bytes(bytes) => four(bytes.as_slice()),
+        Reply::Cookie(count) | Reply::Count(count) => Answer::Count(*count),
+        Reply::Turned(turn) => Answer::Turned(*turn),
+        Reply::State(status) => Answer::State(*status),
+        Reply::Result(outcome) => Answer::Result(*outcome),
+        Reply::Refused(fault) => Answer::Refused(*fault),
+    }
+}
+
+/// What an engine tells of a channel: how many cookies were given, are finished, aren't, were forgotten by the last
+/// checkpoint, and had been given before it; whether the channel is paused, halted, and before an end; and what runs.
+pub fn told(engine: &Engine, ch: u8) -> ([u32; 5], [bool; 3], Option<Running>) {
+    let counts = [
+        engine.used(ch),
+        engine.finished(ch),
+        engine.unfinished(ch),
+        engine.forgotten(ch),
+        engine.used_at_base(ch),
+    ];
+    let states = [engine.paused(ch), engine.halted(ch), engine.ending(ch)];
+    (counts, states, engine.running(ch))
+}
+
+/// What an entry of a history says: its kind, numbers, and bytes.
+pub fn said(entry: &Entry) -> (&'static str, [u32; 3], &[u8]) {
+    match entry {
+        Entry::Wrote { addr, bytes } => ("wrote", [*addr, 0, 0], bytes.as_slice()),
+        Entry::ReadBack { addr, bytes } => ("read", [*addr, 0, 0], bytes.as_slice()),
+        Entry::Submitted {
+            ch,
+            transfer,
+            cookie,
+        } => ("submitted", [u32::from(*ch), *cookie, transfer.len()], &[]),
+        Entry::Issued { ch } => ("issued", [u32::from(*ch), 0, 0], &[]),
+        Entry::Passed { ch, event } => ("passed", [u32::from(*ch), u32::from(*event), 0], &[]),
+        Entry::Signalled { by, event } => match by {
+            Signaller::Channel(ch) => ("signalled", [u32::from(*ch), u32::from(*event), 0], &[]),
+            Signaller::Host => ("raised", [u32::from(*event), 0, 0], &[]),
+        },
+        Entry::Finished { ch, result, done } => match result {
+            TransResult::NoError => ("finished", [u32::from(*ch), *done, 0], &[]),
+            _ => ("failed", [u32::from(*ch), *done, 0], &[]),
+        },
+        Entry::Terminated { ch, done, count } => (
+            "terminated",
+            [u32::from(*ch), *done, *count],
+            &[],
+        ),
+        Entry::Marked { kind, segment } => match kind {
+            MarkKind::Reading => ("marked for reads", [segment.addr, segment.len, 0], &[]),
+            MarkKind::Writing => ("marked for writes", [segment.addr, segment.len, 0], &[]),
+        },
+        Entry::Unmarked => ("unmarked", [0, 0, 0], &[]),
+    }
+}

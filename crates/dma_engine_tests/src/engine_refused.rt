@@ -1,0 +1,241 @@
+//! Calls on an engine whose memory is refused, and which are then made once more. `tests/refuse_calls` refuses each request
+//! of these tests in turn, and wants each row to meet a refusal; with ample memory none does.
+//!
+//! Beside the engine that is asked is another, of which all is asked but the call that is refused. While both tell the same,
+//! that call has changed nothing; and both tell the same once each was asked it with memory.
+
+use crate::engine_lines::Answer::{Count, Done, Four, Moved, Turned};
+use crate::engine_lines::Ask::{
+    Advance, Checkpoint, Issue, MakeRoom, Mark, Raise, Read, Step, Submit, SubmitOverPages,
+    Terminate, Unmark, Write,
+};
+use crate::engine_lines::{
+    Answer, Ask, COPIED, CopyOfFour, Line, READ_FAILED, answer_to, copy, engine_after, go_through,
+    said, segment, told,
+};
+use dma_engine::engine::Engine;
+use dma_engine::fault::{EngineFault, NewFault};
+use dma_engine::turn::Turn;
+use dma_mem::marks::MarkKind::{Reading, Writing};
+use std::alloc::Global;
+use std::process::Abort;
+use std::test::Fail;
+
+// Whether two engines tell the same of a channel.
+fn tell_the_same_of(this: &Engine, that: &Engine, ch: u8) -> bool {
+    for cookie in 1..5 {
+        if this.status(ch, cookie) != that.status(ch, cookie)
+            || this.result(ch, cookie) != that.result(ch, cookie)
+        {
+            return false;
+        }
+    }
+    told(this, ch) == told(that, ch)
+}
+
+// Whether two engines tell the same, but for the bytes of their memories.
+fn tell_the_same(this: &Engine, that: &Engine) -> bool {
+    for (entry, other) in this.history().iter().zip(that.history().iter()) {
+        if said(entry) != said(other) {
+            return false;
+        }
+    }
+    this.history().len() == that.history().len()
+        && this.steps() == that.steps()
+        && this.finished_all() == that.finished_all()
+        && tell_the_same_of(this, that, 0)
+        && tell_the_same_of(this, that, 1)
+}
+
+// The engine that is asked, and the one beside it.
+#[derive(Drop)]
+struct Pair {
+    asked: Engine,
+    other: Engine,
+}
+
+// Whether their memories have the same bytes, by a read of each, which both histories then have.
+fn have_same_bytes(pair: &mut Pair) -> Result<bool, Fail> {
+    let size = pair.asked.size();
+    let these = pair.asked.read(0, size)?;
+    let those = pair.other.read(0, size)?;
+    Ok(these.as_slice() == those.as_slice())
+}
+
+// Ends what is unfinished on channel 0 of both, which must then tell the same and have the same bytes.
+fn end_alike(rt: &impl Abort, pair: &mut Pair) -> Result<(), Fail> {
+    let count = pair.asked.terminate(0)?;
+    assert_eq!(rt; pair.other.terminate(0)?, count);
+    assert!(rt; have_same_bytes(pair)?);
+    assert!(rt; tell_the_same(&pair.asked, &pair.other));
+    Ok(())
+}
+
+// A name, a call that takes memory, and what it answers where there is memory.
+type Row = (&'static str, Ask, Answer);
+
+// Asks an engine, once more where it is refused memory. `looks` is whether the memories are read between the two calls.
+fn asked_again(
+    rt: &(impl Abort + Print),
+    alloc: Global,
+    pair: &mut Pair,
+    row: Row,
+    looks: bool,
+) -> Result<Answer, Fail> {
+    let (name, ask, _) = row;
+    println!(rt; "row {}", name)?;
+    let first = answer_to(alloc, &mut pair.asked, ask)?;
+    if first != Answer::Refused(EngineFault::NoMemory) {
+        return Ok(first);
+    }
+    println!(rt; "refused {}", name)?;
+    assert!(rt; tell_the_same(&pair.asked, &pair.other));
+    if looks {
+        assert!(rt; have_same_bytes(pair)?);
+    }
+    answer_to(alloc, &mut pair.asked, ask)
+}
+
+// Asks one of two engines that have carried lines out, and then the other.
+fn asked_after(
+    rt: &(impl Abort + Print),
+    alloc: Global,
+    before: &[Line],
+    row: Row,
+    looks: bool,
+) -> Result<(), Fail> {
+    let mut pair = pair_after(alloc, before)?;
+    let answered = asked_again(rt, alloc, &mut pair, row, looks)?;
+    let (_, ask, wanted) = row;
+    assert_eq!(rt; answered, wanted);
+    go_through(alloc, &mut pair.other, &[(ask, wanted)])?;
+    assert!(rt; tell_the_same(&pair.asked, &pair.other));
+    end_alike(rt, &mut pair)
+}
+
+fn pair_after(alloc: Global, lines: &[Line]) -> Result<Pair, Fail> {
+    let asked = engine_after(alloc, 0x3000, lines)?;
+    let other = engine_after(alloc, 0x3000, lines)?;
+    Ok(Pair { asked, other })
+}
+
+#[test]
+fn calls_without_room(rt: HostRuntime) -> Result<(), Fail> {
+    // The lists have no room, since the checkpoint gave it back. Of channel 0 cookie 1 is finished, cookie 2 issued,
+    // into two pages that no write made, and cookie 3 given.
+    let before = [
+        (Write(0x100, &[1, 2, 3, 4]), Done),
+        (Submit(0, copy(0x100, 0x200)), Count(1)),
+        (Submit(0, copy(0x200, 0x1FFE)), Count(2)),
+        (Issue(0), Count(2)),
+        (Step(0), Turned(Turn::Started(1))),
+        (Advance(0, 9), Moved(7, Some(Ok(COPIED)))),
+        (Submit(0, copy(0x100, 0x2000)), Count(3)),
+        (Raise(5), Done),
+        (Mark(Writing, segment(0x2FFF, 1)), Done),
+        (Checkpoint, Done),
+    ];
+    let with_events = CopyOfFour(0x100, 0x200, (Some(3), Some(7)));
+    let rows = [
+        // over two pages, one of which isn't made
+        ("write", Write(0x0FFE, &[7, 8, 9]), Done),
+        ("read", Read(0x0FFE, 4), Four([0; 4])),
+        ("mark", Mark(Reading, segment(0x103, 1)), Done),
+        ("unmark", Unmark, Done),
+        ("raise", Raise(3), Done),
+        ("checkpoint", Checkpoint, Done),
+        ("submit", Submit(1, with_events), Count(1)),
+        ("issue", Issue(0), Count(1)),
+        ("terminate", Terminate(0), Count(2)),
+        ("make_room", MakeRoom(0), Done),
+        ("step that starts", Step(0), Turned(Turn::Started(2))),
+    ];
+    for row in rows {
+        for looks in [false, true] {
+            asked_after(&rt, rt.alloc(), &before, row, looks)?;
+        }
+    }
+    Ok(())
+}
+
+#[test]
+fn steps_that_add_an_entry(rt: HostRuntime) -> Result<(), Fail> {
+    let none = (None, None);
+    let moved = Turn::Moved;
+    // the copy's events, the kind of the marks in its source, how many steps move before this one, and what it answers
+    let steps = [
+        ("step that finishes", none, Writing, 7, COPIED),
+        ("step that signals", (None, Some(7)), Writing, 7, moved),
+        ("step that passes", (Some(3), None), Writing, 0, moved),
+        ("step that fails", none, Reading, 3, READ_FAILED),
+    ];
+    for (name, events, marks, most, turn) in steps {
+        let before = [
+            (Submit(0, CopyOfFour(0x100, 0x200, events)), Count(1)),
+            (Mark(marks, segment(0x100, 4)), Done),
+            (Write(0x100, &[1, 2, 3, 4]), Done),
+            (Issue(0), Count(1)),
+            (Raise(3), Done),
+            (Checkpoint, Done),
+            (Step(0), Turned(Turn::Started(1))),
+            (Advance(0, most), Moved(most, None)),
+        ];
+        // its destination can't be read while it runs
+        let row = (name, Step(0), Turned(turn));
+        asked_after(&rt, rt.alloc(), &before, row, false)?;
+    }
+    Ok(())
+}
+
+// The first page is there. Where the third is refused, the second was made before it.
+#[test]
+fn a_start_that_makes_two_pages(rt: HostRuntime) -> Result<(), Fail> {
+    let before = [
+        (Write(0x100, &[1, 2, 3, 4]), Done),
+        (SubmitOverPages(0), Count(1)),
+        (Issue(0), Count(1)),
+        (Checkpoint, Done),
+    ];
+    let row = (
+        "step that makes two pages",
+        Step(0),
+        Turned(Turn::Started(1)),
+    );
+    for looks in [false, true] {
+        asked_after(&rt, rt.alloc(), &before, row, looks)?;
+    }
+    Ok(())
+}
+
+// The very transfer that is handed back is submitted once more.
+#[test]
+fn a_transfer_is_submitted_again(rt: HostRuntime) -> Result<(), Fail> {
+    println!(rt; "row Engine::submit")?;
+    let mut engine = Engine::new(rt.alloc(), 0x3000, 2)?;
+    let asked = engine.submit(0, copy(0x100, 0x200).transfer(rt.alloc())?);
+    let again = match asked {
+        Err(refused) if refused.fault == EngineFault::NoMemory => {
+            println!(rt; "refused Engine::submit")?;
+            engine.submit(0, refused.transfer)
+        }
+        _ => asked,
+    };
+    assert!(rt; again.ok() == Some(1) && engine.used(0) == 1);
+    Ok(())
+}
+
+#[test]
+fn an_engine_is_made_when_asked_again(rt: HostRuntime) -> Result<(), Fail> {
+    println!(rt; "row Engine::new")?;
+    let engine = match Engine::new(rt.alloc(), 0x3000, 2) {
+        Ok(engine) => engine,
+        Err(fault) => {
+            println!(rt; "refused Engine::new")?;
+            assert_eq!(rt; fault, NewFault::NoMemory);
+            Engine::new(rt.alloc(), 0x3000, 2)?
+        }
+    };
+    assert_eq!(rt; (engine.size(), engine.channels()), (0x3000, 2));
+    assert_eq!(rt; engine.history().len(), 0);
+    Ok(())
+}

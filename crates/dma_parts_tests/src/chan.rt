@@ -1,0 +1,214 @@
+//! A channel on hand-written programs, and on memory of which not all pages are made.
+
+use dma_chan::channel::Channel;
+use dma_chan::compile::compile;
+use dma_chan::program::Program;
+use dma_chan::turn::{ChanTurn, FaultKind};
+use dma_insn::insn::Insn;
+use dma_mem::events::Events;
+use dma_mem::marks::{MarkKind, Marks};
+use dma_mem::memory::{MemFault, Memory};
+use dma_mem::segment::Segment;
+use dma_mem::transfer::Transfer;
+use std::alloc::Global;
+use std::process::Abort;
+use std::test::Fail;
+
+pub fn segment(addr: u32, len: u32) -> Segment {
+    Segment { addr, len }
+}
+
+// A memory of 256 bytes in which the byte at each address is the address.
+pub fn counted(alloc: Global) -> Result<Memory, MemFault> {
+    let mut memory = Memory::new(alloc, 256)?;
+    for address in 0..=255u8 {
+        memory.write(u32::from(address), &[address])?;
+    }
+    Ok(memory)
+}
+
+// A channel with what it works on.
+#[derive(Drop)]
+struct Machine {
+    channel: Channel,
+    memory: Memory,
+    events: Events,
+    marks: Marks,
+}
+
+// Whether an instruction is read from its program once, to ask what it does and to execute it.
+#[derive(Clone, Copy, PartialEq)]
+enum Reads {
+    Once,
+    Twice,
+}
+
+impl Machine {
+    // A channel with this program, over this memory.
+    fn new(alloc: Global, program: Program, memory: Memory) -> Result<Machine, Fail> {
+        let mut channel = Channel::new(alloc)?;
+        channel.load(program);
+        Ok(Machine {
+            channel,
+            memory,
+            events: Events::new(),
+            marks: Marks::new(alloc),
+        })
+    }
+
+    // The fault that the next instruction would answer, and its answer. None without a program, or where it finds no page.
+    fn step(&mut self, reads: Reads) -> Option<(Option<FaultKind>, ChanTurn)> {
+        let (channel, memory) = (&mut self.channel, &mut self.memory);
+        if !channel.is_loaded() || channel.taken() == u32::MAX || !channel.ready(memory) {
+            return None;
+        }
+        if reads == Reads::Twice {
+            let fault = channel.failing(memory, &self.marks);
+            return Some((fault, channel.step(memory, &mut self.events, &self.marks)));
+        }
+        let next = channel.next().ok()?;
+        let fault = channel.failing_at(next, memory, &self.marks);
+        Some((
+            fault,
+            channel.execute(next, memory, &mut self.events, &self.marks),
+        ))
+    }
+
+    // Whether this many instructions are executed.
+    fn moves(&mut self, count: u32, reads: Reads) -> bool {
+        for _ in 0..count {
+            if self.step(reads) != Some((None, ChanTurn::Moved)) {
+                return false;
+            }
+        }
+        true
+    }
+
+    // Whether the next instruction fails by this.
+    fn fails(&mut self, kind: FaultKind) -> bool {
+        let failed = Some((Some(kind), ChanTurn::Fault(kind)));
+        self.step(Reads::Once) == failed && self.step(Reads::Twice) == failed
+    }
+
+    // Whether this comes next at this offset, with these counts of executed instructions and stored bytes.
+    fn is_at(&self, next: Insn, pc: u32, taken: u32, stored: u64) -> bool {
+        let channel = &self.channel;
+        channel.is_loaded()
+            && channel.ahead() == Ok(next)
+            && (channel.pc(), channel.taken(), channel.stored()) == (pc, taken, stored)
+    }
+
+    // Whether the bytes at `to` up to `to + last` are those that `counted` has at `from` and on.
+    fn has(&self, from: u8, to: u8, last: u8) -> bool {
+        for place in 0..=last {
+            let byte = self.memory.byte(u32::from(to.wrapping_add(place)));
+            if byte != Some(from.wrapping_add(place)) {
+                return false;
+            }
+        }
+        true
+    }
+}
+
+// A channel with a program of these bytes, over this memory.
+fn machine_of(alloc: Global, bytes: &[u8], memory: Memory) -> Result<Machine, Fail> {
+    Machine::new(alloc, Program::from_bytes(alloc, bytes)?, memory)
+}
+
+// Loads 32 bytes from 0x40 and 32 from 0x10, and stores them to 0x80 and on.
+static TWO_LOADS: &[u8] =
+    b"\xbc\0\x40\0\0\0\xbc\x02\x80\0\0\0\xbc\x01\x19\x40\x06\0\x04\xbc\0\x10\0\0\0\x04\x08\x08\0";
+
+#[test]
+fn a_marked_load_changes_nothing(rt: HostRuntime) -> Result<(), Fail> {
+    let mut machine = machine_of(rt.alloc(), TWO_LOADS, counted(rt.alloc())?)?;
+    assert!(rt; machine.moves(5, Reads::Twice));
+    machine.marks.add(MarkKind::Reading, segment(0x20, 1))?;
+    assert!(rt; machine.fails(FaultKind::DataReadErr));
+    assert!(rt; machine.is_at(Insn::Ld, 25, 5, 0) && machine.has(0, 0, 255));
+    machine.marks.clear();
+    assert!(rt; machine.moves(1, Reads::Twice) && machine.moves(1, Reads::Once));
+    assert!(rt; machine.is_at(Insn::St, 27, 7, 32));
+    assert!(rt; machine.has(0x40, 0x80, 0x1f) && machine.has(0xa0, 0xa0, 0x1f));
+    assert!(rt; machine.moves(1, Reads::Twice) && machine.is_at(Insn::End, 28, 8, 64));
+    assert!(rt; machine.has(0x40, 0x80, 0x1f) && machine.has(0x10, 0xa0, 0x1f));
+    assert!(rt; machine.step(Reads::Once) == Some((None, ChanTurn::Ended)));
+    assert!(rt; machine.step(Reads::Once).is_none() && machine.step(Reads::Twice).is_none());
+    assert!(rt; (machine.channel.pc(), machine.channel.taken()) == (28, 9));
+    Ok(())
+}
+
+#[test]
+fn a_marked_store_changes_nothing(rt: HostRuntime) -> Result<(), Fail> {
+    let mut machine = machine_of(rt.alloc(), TWO_LOADS, counted(rt.alloc())?)?;
+    machine.marks.add(MarkKind::Writing, segment(0x9f, 1))?;
+    assert!(rt; machine.moves(6, Reads::Once));
+    assert!(rt; machine.fails(FaultKind::DataWriteErr));
+    assert!(rt; machine.is_at(Insn::St, 26, 6, 0) && machine.has(0, 0, 255));
+    machine.channel.unload();
+    assert!(rt; !machine.channel.is_loaded() && machine.channel.taken() == 6);
+    Ok(())
+}
+
+#[test]
+fn what_is_left_falls_by_one_each_step(rt: HostRuntime) -> Result<(), Fail> {
+    let (src, dst) = ([segment(0x11, 40)], [segment(0x82, 40)]);
+    let transfer = Transfer::new(rt.alloc(), &src, &dst, None, None)?;
+    let program = compile(rt.alloc(), &transfer)?;
+    let mut machine = Machine::new(rt.alloc(), program, counted(rt.alloc())?)?;
+    for taken in 0..20u32 {
+        assert!(rt; machine.channel.left() == Some(20 - taken), "after {taken}");
+        assert!(rt; machine.step(Reads::Twice).is_some());
+    }
+    assert!(rt; machine.channel.left().is_none() && !machine.channel.is_loaded());
+    assert!(rt; machine.has(0x11, 0x82, 39) && machine.channel.stored() == 40);
+    Ok(())
+}
+
+// ---- pages
+
+// Loads 16 bytes from 0x1FF8 and stores them to 0x3FFC: both ranges lie on two pages. Its store is the fifth instruction.
+pub static ACROSS: &[u8] =
+    b"\xbc\0\xf8\x1f\0\0\xbc\x02\xfc\x3f\0\0\xbc\x01\xf1\x40\x3c\0\x04\x08\0";
+
+// A memory of this size that has eight bytes before 0x2000, and no page but theirs.
+pub fn eight_bytes(alloc: Global, size: u32) -> Result<Memory, MemFault> {
+    let mut memory = Memory::new(alloc, size)?;
+    memory.write(0x1ff8, &[1, 2, 3, 4, 5, 6, 7, 8])?;
+    Ok(memory)
+}
+
+// A memory has those bytes from 0x3FFC on, and the pages of 16 bytes there.
+pub fn assert_stored(rt: &impl Abort, memory: &Memory) -> Result<(), Fail> {
+    let mut bytes = [9; 18];
+    memory.read_into(0x3ffb, &mut bytes)?;
+    assert!(rt; bytes == [0, 1, 2, 3, 4, 5, 6, 7, 8, 0, 0, 0, 0, 0, 0, 0, 0, 0]);
+    assert!(rt; memory.made(segment(0x3ffc, 16)));
+    assert!(rt; !memory.made(segment(0x2000, 1)));
+    Ok(())
+}
+
+#[test]
+fn a_store_across_two_pages_needs_both(rt: HostRuntime) -> Result<(), Fail> {
+    let mut machine = machine_of(rt.alloc(), ACROSS, eight_bytes(rt.alloc(), 0x5000)?)?;
+    assert!(rt; machine.moves(4, Reads::Twice) && machine.step(Reads::Twice).is_none());
+    machine.memory.prepare(segment(0x3ffc, 4))?;
+    assert!(rt; machine.step(Reads::Twice).is_none());
+    machine.memory.prepare(segment(0x4000, 1))?;
+    assert!(rt; machine.moves(1, Reads::Twice));
+    assert!(rt; machine.step(Reads::Twice) == Some((None, ChanTurn::Ended)));
+    assert!(rt; machine.channel.ready(&machine.memory));
+    assert_stored(&rt, &machine.memory)
+}
+
+// Of a store that overhangs the size the pages are needed that lie below it; of one that lies above it none is.
+#[test]
+fn a_store_that_overhangs_needs_what_lies_below(rt: HostRuntime) -> Result<(), Fail> {
+    let mut machine = machine_of(rt.alloc(), ACROSS, eight_bytes(rt.alloc(), 0x3ffe)?)?;
+    assert!(rt; machine.moves(4, Reads::Once) && machine.step(Reads::Once).is_none());
+    machine.memory.prepare(segment(0x3ffc, 2))?;
+    assert!(rt; machine.fails(FaultKind::DataWriteErr));
+    let mut above = machine_of(rt.alloc(), ACROSS, eight_bytes(rt.alloc(), 0x2010)?)?;
+    assert!(rt; above.moves(4, Reads::Once) && above.fails(FaultKind::DataWriteErr));
+    Ok(())
+}

@@ -1,0 +1,143 @@
+//! Calls whose memory is refused, and which are then made once more. `tests/refuse_calls` refuses each request of these
+//! tests in turn, and wants each row to meet a refusal; with ample memory none does.
+
+use crate::mem::{DESTINATIONS, SOURCES, assert_has_all, copy, fill, segment};
+use dma_mem::marks::{MarkKind, Marks};
+use dma_mem::memory::{MemFault, Memory};
+use dma_mem::range_set::RangeSet;
+use dma_mem::transfer::{Transfer, TransferFault};
+use std::alloc::Global;
+use std::process::Abort;
+use std::test::Fail;
+
+// A memory that has only a 7, below its middle. The size is a parameter, so that no proof computes with that many bytes.
+fn memory_with_seven(alloc: Global, size: u32) -> Result<Memory, MemFault> {
+    let mut memory = Memory::new(alloc, size)?;
+    memory.write(0x3F_FFFE, &[7])?;
+    Ok(memory)
+}
+
+// A memory of 8 MiB has these bytes across its middle, where the second list of pages begins. The pages beside the middle
+// ones aren't made.
+fn assert_has(rt: &impl Abort, memory: &Memory, middle: [u8; 4]) -> Result<(), Fail> {
+    let mut bytes = [9; 4];
+    memory.read_into(0x3F_FFFE, &mut bytes)?;
+    assert!(rt; bytes == middle);
+    assert!(rt; !memory.made(segment(0x3F_CFFF, 1)));
+    assert!(rt; !memory.made(segment(0x40_1000, 1)));
+    Ok(())
+}
+
+// Makes the page of the 7 and three more, twice where the first call is refused.
+fn prepare_again(rt: &(impl Abort + Print), memory: &mut Memory) -> Result<(), Fail> {
+    let pages = segment(0x3F_DFFF, 0x2002);
+    if let Err(fault) = memory.prepare(pages) {
+        println!(rt; "refused Memory::prepare")?;
+        assert!(rt; fault == MemFault::NoMemory);
+        assert!(rt; !memory.made(pages));
+        assert_has(rt, memory, [7, 0, 0, 0])?;
+        memory.prepare(pages)?;
+    }
+    assert!(rt; memory.made(pages));
+    assert_has(rt, memory, [7, 0, 0, 0])
+}
+
+// Writes across the middle, twice where the first call is refused.
+fn write_again(rt: &(impl Abort + Print), memory: &mut Memory) -> Result<(), Fail> {
+    if let Err(fault) = memory.write(0x3F_FFFE, &[1, 2, 3, 4]) {
+        println!(rt; "refused Memory::write")?;
+        assert!(rt; fault == MemFault::NoMemory);
+        assert_has(rt, memory, [7, 0, 0, 0])?;
+        memory.write(0x3F_FFFE, &[1, 2, 3, 4])?;
+    }
+    assert_has(rt, memory, [1, 2, 3, 4])
+}
+
+// Copies a memory, twice where the first call is refused.
+fn copy_again(rt: &(impl Abort + Print), memory: &Memory) -> Result<(), Fail> {
+    let copy = match memory.try_copy() {
+        Ok(copy) => copy,
+        Err(_) => {
+            println!(rt; "refused Memory::try_copy")?;
+            memory.try_copy()?
+        }
+    };
+    assert_has(rt, &copy, [7, 0, 0, 0])
+}
+
+#[test]
+fn memories_are_asked_again(rt: HostRuntime) -> Result<(), Fail> {
+    println!(rt; "row Memory::prepare\nrow Memory::write\nrow Memory::try_copy")?;
+    let mut written = memory_with_seven(rt.alloc(), 0x80_0000)?;
+    copy_again(&rt, &written)?;
+    write_again(&rt, &mut written)?;
+    let mut prepared = memory_with_seven(rt.alloc(), 0x80_0000)?;
+    prepare_again(&rt, &mut prepared)
+}
+
+// A transfer that was made, or none where that was refused.
+fn made(
+    rt: &(impl Abort + Print),
+    call: &str,
+    asked: Result<Transfer, TransferFault>,
+) -> Result<Option<Transfer>, Fail> {
+    if let Err(fault) = asked {
+        println!(rt; "refused {call}")?;
+        assert!(rt; fault == TransferFault::NoMemory);
+    }
+    Ok(asked.ok())
+}
+
+#[test]
+fn transfers_are_made_when_asked_again(rt: HostRuntime) -> Result<(), Fail> {
+    println!(rt; "row Transfer::new\nrow Transfer::fill")?;
+    let copied = match made(&rt, "Transfer::new", copy(rt.alloc()))? {
+        Some(made) => made,
+        None => copy(rt.alloc())?,
+    };
+    assert_has_all(&rt, &copied, &SOURCES);
+    let filled = match made(&rt, "Transfer::fill", fill(rt.alloc()))? {
+        Some(made) => made,
+        None => fill(rt.alloc())?,
+    };
+    assert_has_all(&rt, &filled, &[segment(0x10, 1)]);
+    Ok(())
+}
+
+// The rule that is broken is named before want of memory, whichever request is refused.
+#[test]
+fn rules_come_before_refused_memory(rt: HostRuntime) {
+    let wrong = Transfer::new(rt.alloc(), &SOURCES, &DESTINATIONS, None, Some(32));
+    assert!(rt; wrong.err() == Some(TransferFault::BadEvent));
+    let meeting = Transfer::fill(rt.alloc(), 0x45, &DESTINATIONS, None, None);
+    assert!(rt; meeting.err() == Some(TransferFault::SourceMeetsDestination));
+}
+
+#[test]
+fn sets_are_made_when_asked_again(rt: HostRuntime) -> Result<(), Fail> {
+    println!(rt; "row RangeSet::new")?;
+    let set = match RangeSet::new(rt.alloc(), &SOURCES) {
+        Ok(set) => set,
+        Err(_) => {
+            println!(rt; "refused RangeSet::new")?;
+            RangeSet::new(rt.alloc(), &SOURCES)?
+        }
+    };
+    assert!(rt; set.ranges() == SOURCES.as_slice());
+    Ok(())
+}
+
+#[test]
+fn marks_are_added_when_asked_again(rt: HostRuntime) -> Result<(), Fail> {
+    println!(rt; "row Marks::add")?;
+    let mut marks = Marks::new(rt.alloc());
+    let marked = segment(0x20, 1);
+    if marks.add(MarkKind::Reading, marked).is_err() {
+        println!(rt; "refused Marks::add")?;
+        assert!(rt; !marks.hits(MarkKind::Reading, marked));
+        marks.add(MarkKind::Reading, marked)?;
+    }
+    assert!(rt; marks.hits(MarkKind::Reading, marked));
+    assert!(rt; !marks.hits(MarkKind::Writing, marked));
+    Ok(())
+}

@@ -1,0 +1,197 @@
+//! What no clause says: how many calls of its streams a command makes, however it ends, and that what was printed before
+//! memory was refused is written whole.
+ghost use Rattle.std.specs.Prelude.{◌∷◌, []};
+
+use crate::fakes::{FakeReader, FakeWriter};
+use dma_script::command::{Command, OpenCommand, SUCCESS, serve, serve_open};
+use dma_script::printing::push_line;
+use std::alloc::{AllocError, Global};
+use std::process::Abort;
+use std::sync::Wait;
+use std::test::Fail;
+use std::thread::Threads;
+
+/// Prints its input as one line, and may then be refused memory.
+#[derive(Drop)]
+struct Echo {
+    is_refused: bool,
+}
+
+impl Command for Echo {
+    ghost use Rattle.std.specs.Prelude.{[], ◌∷◌};
+    ghost use Rattle.std.proofs.Common.{lit<};
+
+    ghost printed = { λ input. record { groups = (input ∷ []) ∷ [] ∷ []; status = 0 } };
+
+    fn answer(&self, _alloc: Global, input: &[u8], out: &mut Vec<u8>) -> Result<u8, AllocError> {
+        push_line(out, input)?;
+        if self.is_refused {
+            return Err(AllocError);
+        }
+        Ok(SUCCESS)
+    }
+
+    ghost some_group = { λ input. lit< tt };
+}
+
+impl OpenCommand for Echo {
+    ghost use Rattle.std.specs.Prelude.{[], ◌∷◌, ◌≡◌, refl};
+    ghost use Rattle.std.proofs.Common.{lit<};
+
+    ghost may_print = { λ input p. p ≡ record { groups = (input ∷ []) ∷ [] ∷ []; status = 0 } };
+
+    fn answer<H: Threads + Wait + Sync>(
+        &self,
+        _rt: &H,
+        _alloc: Global,
+        input: &[u8],
+        out: &mut Vec<u8>,
+    ) -> Result<u8, AllocError> {
+        push_line(out, input)?;
+        if self.is_refused {
+            return Err(AllocError);
+        }
+        Ok(SUCCESS)
+    }
+
+    ghost some_print = { λ input. record {
+      printed = record { groups = (input ∷ []) ∷ [] ∷ []; status = 0 };
+      allowed = refl;
+      first = record { count = 0; some_left = lit< tt; whole = refl };
+    } };
+}
+
+/// A call of the command, and how its streams behave.
+#[derive(Clone, Copy)]
+struct Call {
+    is_open: bool,
+    is_refused: bool,
+    /// The most bytes of a read.
+    most_read: usize,
+    /// The number of the read that fails, from 1; 0 where none does.
+    read_fails: usize,
+    /// The most bytes of a write.
+    most_written: usize,
+    /// The number of the write that fails, from 1; 0 where none does.
+    write_fails: usize,
+    /// That write fails by taking no byte.
+    takes_none: bool,
+}
+
+/// The call comes to this status and text, after this many reads and writes.
+fn assert_ends<H: Abort + Threads + Wait + Sync>(
+    rt: &H,
+    alloc: Global,
+    input: &[u8],
+    call: Call,
+    (status, text, reads, writes): (u8, &[u8], usize, usize),
+) {
+    assert!(rt; call.most_read > 0 && call.most_written > 0);
+    let mut reader = FakeReader {
+        rest: input,
+        most: call.most_read,
+        fails_at: call.read_fails,
+        calls: 0,
+        failed: false,
+    };
+    let mut writer = FakeWriter {
+        bytes: Vec::new(alloc),
+        most: call.most_written,
+        fails_at: call.write_fails,
+        takes_none: call.takes_none,
+        calls: 0,
+        failed: false,
+    };
+    let echo = Echo {
+        is_refused: call.is_refused,
+    };
+    let ended = if call.is_open {
+        serve_open(rt, &echo, alloc, &mut reader, &mut writer)
+    } else {
+        serve(&echo, alloc, &mut reader, &mut writer)
+    };
+    assert_eq!(rt; ended, status);
+    assert_eq!(rt; writer.bytes.as_slice(), text);
+    assert_eq!(rt; (reader.calls, writer.calls), (reads, writes));
+}
+
+/// The call comes to this status and text after this many reads. Where a write fails or takes no byte, each in turn, it comes
+/// to status 1 and the text before that write, which is the last.
+fn assert_each_write_fails<H: Abort + Threads + Wait + Sync>(
+    rt: &H,
+    alloc: Global,
+    input: &[u8],
+    call: Call,
+    (status, text, reads): (u8, &[u8], usize),
+) {
+    let writes = if call.most_written == 1 {
+        text.len()
+    } else {
+        1
+    };
+    assert_ends(rt, alloc, input, call, (status, text, reads, writes));
+    for taken in 0..writes {
+        assert!(rt; taken < text.len());
+        let end = (1, &text[..taken], reads, taken + 1);
+        for takes_none in [false, true] {
+            let call = Call {
+                write_fails: taken + 1,
+                takes_none,
+                ..call
+            };
+            assert_ends(rt, alloc, input, call, end);
+        }
+    }
+}
+
+/// The command reads three bytes and then the end. Each of its reads fails in turn, and each write of what it then prints.
+fn assert_each_read_fails<H: Abort + Threads + Wait + Sync>(rt: &H, alloc: Global, call: Call) {
+    let status = if call.is_refused { 3 } else { 0 };
+    let reads = if call.most_read == 1 { 4 } else { 2 };
+    assert_each_write_fails(rt, alloc, b"abc", call, (status, b"abc\n", reads));
+    for read_fails in 1..=reads {
+        let call = Call { read_fails, ..call };
+        let end = (1, b"input failed\n".as_slice(), read_fails);
+        assert_each_write_fails(rt, alloc, b"abc", call, end);
+    }
+}
+
+/// A call whose streams move all at once, and of which none fails.
+const PLAIN: Call = Call {
+    is_open: false,
+    is_refused: false,
+    most_read: 8192,
+    read_fails: 0,
+    most_written: 8192,
+    write_fails: 0,
+    takes_none: false,
+};
+
+#[test]
+fn each_read_and_each_write_fails(rt: HostRuntime) {
+    for is_open in [false, true] {
+        for is_refused in [false, true] {
+            for (most_read, most_written) in [(8192, 8192), (8192, 1), (1, 8192), (1, 1)] {
+                let call = Call {
+                    is_open,
+                    is_refused,
+                    most_read,
+                    most_written,
+                    ..PLAIN
+                };
+                assert_each_read_fails(&rt, rt.alloc(), call);
+            }
+        }
+    }
+}
+
+#[test]
+fn an_input_that_is_too_long(rt: HostRuntime) -> Result<(), Fail> {
+    let input = vec![in rt.alloc(); b'#'; 4_194_305]?;
+    let end = (1, b"line 0: InputTooLong\n".as_slice(), 513);
+    for is_open in [false, true] {
+        let call = Call { is_open, ..PLAIN };
+        assert_each_write_fails(&rt, rt.alloc(), &input, call, end);
+    }
+    Ok(())
+}
