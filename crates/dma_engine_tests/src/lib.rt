@@ -11,6 +11,10 @@ mod engine_refused;
 #[cfg(test)]
 mod example;
 #[cfg(test)]
+mod races;
+#[cfg(test)]
+mod scenes;
+#[cfg(test)]
 mod work;
 #[cfg(test)]
 mod work_refused;

@@ -1,9 +1,10 @@
 //! Calls through a desk whose memory is refused, and which are then made once more. `tests/refuse_calls` refuses each
 //! request of these tests in turn, and wants each row to meet a refusal; with ample memory none does.
 
-use crate::work::{
-    BOTH_COPIED, COMPLETE, IN_PROGRESS, Scene, UNKNOWN, copy, issued, play, raced, second_issued,
-    seen, step_often, with_a_reader, without_room,
+use crate::races::{BOTH_COPIED, raced};
+use crate::scenes::{
+    COMPLETE, IN_PROGRESS, Scene, UNKNOWN, copy, issued, play, second_issued, seen, step_often,
+    with_a_reader, without_room,
 };
 use dma_engine::{Engine, EngineFault, MarkKind, Outcome, Running, Status};
 use dma_mem::segment::Segment;

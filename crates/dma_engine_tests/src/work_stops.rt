@@ -1,6 +1,6 @@
 //! A copy in three bursts that is stopped through a desk after each of its instructions, and what a reader sees of it.
 
-use crate::work::{COMPLETE, Scene, play, stepped, submitted};
+use crate::scenes::{COMPLETE, Scene, play, stepped, submitted};
 use dma_engine::{Engine, Outcome, TransResult, Turn};
 use dma_work::{Desk, DeskName, StatusReader};
 use std::alloc::Global;

@@ -1,5 +1,7 @@
 //! Instructions that are written and read.
 
+ghost use Rattle.std.specs.Prelude.{◌<◌};
+
 use dma_insn::assembler::reading_tells;
 use dma_insn::codec::{DecodeFault, decode, encode, no_spelling_begins_another};
 use dma_insn::disassembler::{disassembly_assembles, disassembly_tells};

@@ -1,0 +1,169 @@
+//! Threads and a gate, and a reader that asks while workers run.
+
+ghost use Rattle.std.specs.Prelude.{◌≡◌, ◌<◌};
+ghost use Rattle.dma_work.specs.Desk.{Names};
+
+use crate::scenes::{COMPLETE, second_issued, settled, submitted, with_a_reader};
+use dma_engine::Status;
+use dma_work::{DeskName, Gate, Job, Parts, Shared, StatusReader, Tally, Totals, run_workers};
+use std::alloc::Global;
+use std::marker::Brand;
+use std::process::Abort;
+use std::sync::{Mutex, MutexGuard, Wait};
+use std::test::Fail;
+use std::thread;
+use std::thread::Threads;
+
+// How often a gate looks at most.
+const MOST_LOOKS: u64 = 20_000_000;
+
+// Holds each of two workers before each of its turns until the other is there too.
+#[derive(Drop)]
+struct InStep {
+    // the number of the turn that each has come to
+    turns: Mutex<[u64; 2]>,
+    is_wrong: Mutex<bool>,
+}
+
+impl InStep {
+    // Whether the other worker comes to this turn too.
+    fn meets<R: Wait>(&self, rt: &R, other: usize, n: u64) -> bool
+        requires { other < 2 }
+    {
+        for _ in 0..MOST_LOOKS {
+            if self.turns.lock(rt)[other] >= n {
+                return true;
+            }
+        }
+        false
+    }
+}
+
+impl Gate for InStep {
+    fn turn<R: Wait>(&self, rt: &R, worker: u32, n: u64) {
+        if worker > 1 || n == 0 {
+            *self.is_wrong.lock(rt) = true;
+            return;
+        }
+        let me = worker as usize;
+        let mut turns = self.turns.lock(rt);
+        let follows = turns[me] == n - 1;
+        turns[me] = n;
+        drop(turns);
+        if !self.meets(rt, 1 - me, n) || !follows {
+            *self.is_wrong.lock(rt) = true;
+        }
+    }
+}
+
+// Asks often how far cookie 1 of channel 0 is. Whether it is known each time, and complete for good.
+fn ask_often(mut reader: StatusReader) -> (StatusReader, bool) {
+    let mut is_right = true;
+    let mut is_complete = false;
+    for _ in 0..10_000 {
+        match reader.status(0, 1) {
+            Some(Status::Complete) => is_complete = true,
+            Some(Status::InProgress) => is_right = is_right && !is_complete,
+            _ => is_right = false,
+        }
+    }
+    (reader, is_right)
+}
+
+// Runs jobs over two copies once more, since memory was refused. No job had begun then.
+fn run_again<N: DeskName + Send + Sync, R: Threads + Wait + Sync + Abort + Print, G: Gate>(
+    rt: &R,
+    alloc: Global,
+    shared: &Shared<N>,
+    jobs: [Job; 2],
+    gate: &G,
+) -> Result<Vec<Tally>, Fail> {
+    println!(rt; "refused run_workers")?;
+    let desk = shared.desk().lock(rt);
+    let steps = desk.engine().steps();
+    let entries = desk.engine().history().len();
+    MutexGuard::unlock(desk);
+    assert!(rt; (steps, entries) == (0, 4));
+    Ok(run_workers(rt, alloc, shared, &jobs, gate)?)
+}
+
+// Submits a copy to channel 0 and issues it, and the reader learns of it.
+fn begin<N: DeskName, R: Wait>(
+    rt: &R,
+    alloc: Global,
+    shared: &Shared<N>,
+    reader: &mut StatusReader,
+) -> Result<(), Fail>
+    requires { (N.log ≡ reader.old.log) × (N.base ≡ reader.old.base) }
+{
+    let mut desk = shared.desk().lock(rt);
+    let answer = submitted(rt, alloc, &mut desk, 4);
+    MutexGuard::unlock(desk);
+    reader.learn(answer?.ticket);
+    Ok(())
+}
+
+/// The totals and the number of entries after two jobs, which pass a gate while another thread asks. The first copies what
+/// the reader learns of before they begin.
+pub fn raced<N: DeskName + Send + Sync, R: Threads + Wait + Sync + Abort + Print, G: Gate>(
+    rt: &R,
+    alloc: Global,
+    parts: Parts,
+    mut reader: StatusReader,
+    jobs: [Job; 2],
+    gate: &G,
+) -> Result<Option<(Totals, usize)>, Fail>
+    requires names { Names N.steps N.finished N.base N.log parts }
+    requires follows { (N.log ≡ reader.log) × (N.base ≡ reader.base) }
+{
+    let shared = Shared::<N>::new(parts);
+    if let Err(fail) = begin(rt, alloc, &shared, &mut reader) {
+        drop(shared.close(rt));
+        return Err(fail);
+    }
+    let ((mut reader, is_right), tallies) = thread::join(
+        rt,
+        move || ask_often(reader),
+        || run_workers(rt, alloc, &shared, &jobs, gate),
+    );
+    let tallies = match tallies {
+        Ok(tallies) => Ok(tallies),
+        Err(_) => run_again(rt, alloc, &shared, jobs, gate),
+    };
+    match tallies {
+        Ok(tallies) => {
+            assert!(rt; is_right && reader.status(0, 1) == COMPLETE);
+            Ok(settled(rt, shared, tallies))
+        }
+        Err(fail) => {
+            drop(shared.close(rt));
+            Err(fail)
+        }
+    }
+}
+
+/// The totals of two copies of four bytes.
+pub const BOTH_COPIED: Totals = Totals {
+    steps: 16,
+    finished: 2,
+    terminated: 0,
+};
+
+#[test]
+fn two_workers_in_step(rt: HostRuntime) -> Result<(), Fail> {
+    let first = Job::new(0, 0, 9).ok_or("no job")?;
+    let second = Job::new(1, 1, 9).ok_or("no job")?;
+    let (parts, reader) = with_a_reader(&rt, rt.alloc(), second_issued(rt.alloc())?)?;
+    let gate = InStep {
+        turns: Mutex::new([0; 2]),
+        is_wrong: Mutex::new(false),
+    };
+    let jobs = [first, second];
+    let done = raced::<Brand, _, _>(&rt, rt.alloc(), parts, reader, jobs, &gate)?;
+    // two submits, two issues and two finishes
+    assert!(rt; done == Some((BOTH_COPIED, 6)));
+    let InStep { turns, is_wrong } = gate;
+    assert!(rt; turns.into_inner() == [9, 9]);
+    assert!(rt; !is_wrong.into_inner());
+    Ok(())
+}
