@@ -286,6 +286,7 @@ fn push_body(code: &mut Vec<u8>) -> Result<(), AllocError>
 }
 
 // Appends an instruction's bytes.
+#[inline(always)]
 fn push(code: &mut Vec<u8>, insn: Insn) -> Result<(), AllocError>
     ensures ok { OnOk result (code.new.items ≡ code.old.items ++ spelling insn) }
 {

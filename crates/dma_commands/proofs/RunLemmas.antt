@@ -1,24 +1,31 @@
 -- What the lines of a script print and leave.
-use Rattle.std.proofs.Common.{◌≡◌, ◌≢◌, ℕ, ◌+◌, ◌≤◌, Bool, true, false, if◌then◌else◌, codes, zero, List, [], ◌∷◌, ◌++◌, length, Option, Some, None, refl, ap, sym, subst, ◌∙◌, take, suc, add-one, append_assoc, arith}
+use Rattle.std.proofs.Common.{◌≡◌, ◌≢◌, ℕ, ◌+◌, ◌≤◌, Bool, true, false, if◌then◌else◌, codes, zero, List, [], ◌∷◌, ◌++◌, length, Option, Some, None, refl, ap, sym, subst, ◌∙◌, take, drop, suc, add-one, append_assoc, arith}
 use Rattle.std.proofs.lemmas.List.{length-append}
 use Rattle.std.specs.Prelude.{is_some}
 use Rattle.std.specs.List.{filter_map, range_with_len, cons_option}
 use Rattle.std.proofs.lemmas.List.Elements.{filter_map-append}
 use Rattle.dma_mem.specs.Places.{Descriptor}
-use Rattle.dma_engine.specs.declared.call.Call.TheVariants.{Submit}
-use Rattle.dma_engine.specs.Answer.{answer}
+use Rattle.dma_engine.specs.declared.call.Call.TheVariants.{Read, Submit}
+use Rattle.dma_engine.specs.declared.call.Reply.{Reply}
+use Rattle.dma_engine.specs.declared.call.Reply.TheVariants.{Bytes, Refused}
+use Rattle.dma_engine.specs.declared.entry.Entry.TheVariants.{ReadBack}
+use Rattle.dma_engine.specs.declared.fault.EngineFault.{EngineFault}
+use Rattle.dma_engine.specs.Answer.{answer, read_fault, unless}
+use Rattle.dma_engine.specs.Turn.{with_entry}
+use Rattle.dma_engine.proofs.Queues.{slice_get-push_last}
 use Rattle.dma_engine.proofs.WhatRuns.{range_with_len-add}
 use Rattle.dma_mem.specs.declared.transfer.TransferFault.{TransferFault}
 use Rattle.dma_mem.specs.declared.transfer.TransferFault.TheVariants as transfers
 use Rattle.std.specs.Option.{option_map}
 use Rattle.dma_engine.specs.Object.{Object}
-use Rattle.dma_engine.specs.View.{View, ChannelSchedule, running, runs}
+use Rattle.dma_engine.specs.View.{View, ChannelSchedule, object_of, running, runs}
 use Rattle.dma_script.specs.Command.{text_of, printed_text, AppendsGroups}
 use Rattle.dma_script.specs.Interpreted.{ActsInTurn, PrintsLines, StopsAtALine}
 use Rattle.dma_script.specs.declared.statements.Statement.{Statement}
-use Rattle.dma_commands.specs.Printed.{transfer_fault_name, refused_line}
-use Rattle.dma_commands.specs.Run.{Answered, copied, copied_after, is_in_use, told, unless_unfit, line_answer, lines_answered}
-use Rattle.dma_commands.specs.inner.RunSteps.{AnswersLine}
+use Rattle.dma_script.specs.Printing.{hex_address, spaced_bytes}
+use Rattle.dma_commands.specs.Printed.{call_line, transfer_fault_name, refused_line}
+use Rattle.dma_commands.specs.Run.{Answered, call_answer, copied, copied_after, is_in_use, told, unless_unfit, line_answer, lines_answered}
+use Rattle.dma_commands.specs.inner.RunSteps.{AnswersLine, read_at, read_in}
 
 -- ---- a transfer's rules
 
@@ -28,6 +35,22 @@ unless_unfit-none fault v answered none = rw none refl
 -- a transfer that breaks a rule
 pub unfit : (v : View) (out out' : List ℕ) (fault : Option TransferFault) (e : TransferFault) (answered : Answered) → fault ≡ Some e → (e ≢ transfers.NoMemory) × (out' ≡ out ++ text_of (refused_line (transfer_fault_name e) ∷ [])) → AnswersLine (unless_unfit fault v answered) v out out'
 unfit v out out' fault e answered is prints = rw is (record { acts = refl; prints = prints.1 })
+
+-- what a read that was answered left in the history
+kept_read : (v w : View) (addr : ℕ) (b bytes : List ℕ) (fault : Option EngineFault) → (Bytes b, w) ≡ unless fault v (Bytes bytes, with_entry v (ReadBack addr bytes)) → read_at w.history (length v.history) ≡ b
+kept_read v w addr b bytes (Some f) is = absurd (let bad : Bytes b ≡ Refused f = ap (λ (x : Reply × View). x.0) is in cc)
+kept_read v w addr b bytes None is =
+    let told_bytes : Bytes b ≡ Bytes bytes = ap (λ (x : Reply × View). x.0) is in
+    let same : b ≡ bytes = cc in
+    let after : w ≡ with_entry v (ReadBack addr bytes) = ap (λ (x : Reply × View). x.1) is in
+    ap (λ (u : View). read_at u.history (length v.history)) after ∙ ap read_in (slice_get-push_last v.history (ReadBack addr bytes) (length v.history) refl) ∙ sym same
+
+-- a read, whose bytes are printed from the history
+pub read_prints : (v w : View) (addr n : ℕ) (bytes out out' : List ℕ) → (Bytes bytes, w) ≡ answer v (Read addr n) → out' ≡ out ++ text_of (((codes "read 0x" ++ hex_address addr) ++ spaced_bytes (read_at w.history (length v.history))) ∷ []) → AnswersLine (call_answer v (Read addr n)) w out out'
+read_prints v w addr n bytes out out' is prints =
+    let kept = kept_read v w addr bytes (take n (drop addr (object_of v).image)) (read_fault v addr n) is in
+    subst (λ (x : Reply × View). AnswersLine (told (call_line (Read addr n) x.0) x.1) w out out') is
+    (record { acts = refl; prints = prints ∙ ap (λ (b : List ℕ). out ++ text_of (((codes "read 0x" ++ hex_address addr) ++ spaced_bytes b) ∷ [])) kept })
 
 -- channel 0 in use or not
 pub where_used : (start : List ℕ) (v : View) (t : Descriptor) → is_in_use v ≡ true → copied start v t ≡ told (refused_line (codes "ChannelInUse")) v

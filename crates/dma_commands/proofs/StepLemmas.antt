@@ -1,19 +1,25 @@
 -- Runs of equal answers, and the lines of those before.
-use Rattle.std.proofs.Common.{◌≡◌, ℕ, ◌+◌, ◌<◌, List, [], ◌∷◌, ◌++◌, map, Bool, true, false, refl, ap, sym, ◌∙◌, zero, suc, add-one, append_assoc, arith}
-use Rattle.std.specs.Prelude.{replicate}
+use Rattle.std.proofs.Common.{◌≡◌, ◌≢◌, ℕ, ◌+◌, ◌<◌, List, [], ◌∷◌, ◌++◌, map, Bool, true, false, refl, ap, sym, subst, ◌∙◌, zero, suc, add-one, append_assoc, arith}
+use Rattle.std.specs.Prelude.{Result, replicate}
 use Rattle.std.specs.Str.{bytes_eq}
 use Rattle.std.proofs.Math.Nat.{zero-lt-suc}
 use Rattle.std.proofs.lemmas.List.{append-nil, map-append, replicate-append-replicate}
 use Rattle.std.proofs.lemmas.Slice.Eq.{bytes_eq-Decides}
 use Rattle.dma_script.specs.Command.{text_of}
 use Rattle.dma_engine.specs.declared.call.Call.{Call}
+use Rattle.dma_engine.specs.declared.call.Call.TheVariants.{Step}
 use Rattle.dma_engine.specs.declared.call.Reply.{Reply}
+use Rattle.dma_engine.specs.declared.call.Reply.TheVariants.{Turned, Refused}
+use Rattle.dma_engine.specs.declared.fault.EngineFault.{EngineFault}
+use Rattle.dma_engine.specs.declared.fault.EngineFault.TheVariants.{NoMemory}
+use Rattle.dma_engine.specs.declared.turn.Turn.{Turn}
 use Rattle.dma_engine.specs.View.{View}
-use Rattle.dma_engine.specs.Answer.{answers}
+use Rattle.dma_engine.specs.Answer.{CallAnswers, StepAnswers, answer, answers, reply_of}
 use Rattle.dma_commands.specs.Printed.{reply_text}
 use Rattle.dma_commands.specs.inner.Counting.{text_with}
-use Rattle.dma_commands.specs.Run.{joined, runs_of, step_line, step_lines}
-use Rattle.dma_commands.proofs.Served.{answers-append}
+use Rattle.dma_commands.specs.inner.RunSteps.{AnswersLine}
+use Rattle.dma_commands.specs.Run.{joined, runs_of, step_answer, step_line, step_lines}
+use Rattle.dma_commands.proofs.Served.{answers-append, served-one}
 
 -- ---- runs
 
@@ -100,3 +106,10 @@ more-texts v w step calls m n k rest sum is same =
     ap (λ (l : List Reply). map reply_text a.0 ++ (map reply_text l ++ rest)) later
     ∙ sym (append_assoc (map reply_text a.0) (map reply_text (answers a.1 (replicate n step)).0) rest)
     ∙ ap (λ l. l ++ rest) (sym (map-append reply_text a.0 (answers a.1 (replicate n step)).0) ∙ ap (λ (b : List Reply × View). map reply_text b.0) (sym (steps-more v step m n k sum)))
+
+-- ---- one step alone
+
+pub step_prints : (v w : View) (ch : ℕ) (turned : Result Turn EngineFault) (reply : Reply) (out out' : List ℕ) → StepAnswers v ch turned w → (reply ≡ reply_of Turned turned) × (reply ≢ Refused NoMemory) → out' ≡ out ++ text_of (step_line ch (reply_text reply, 1) ∷ []) → AnswersLine (step_answer v ch 1) w out out'
+step_prints v w ch turned reply out out' answers is prints =
+    let answered : (reply, w) ≡ answer v (Step ch) = served-one v (Step ch) reply w is.1 (subst (λ (r : Reply). CallAnswers v (Step ch) r w) (sym is.0) answers) in
+    subst (λ (x : Reply × View). AnswersLine (step_lines ch (reply_text x.0 ∷ []), x.1) w out out') answered (record { acts = refl; prints = prints })

@@ -1,6 +1,7 @@
 //! What is printed of refusals, calls and replies.
 ghost use Rattle.std.specs.Prelude.{◌≡◌, ◌≢◌, ◌++◌, ◌∷◌, [], IfOk, OnOk, OnErr, codes, decimal};
 ghost use Rattle.dma_script.specs.Command.{text_of};
+ghost use Rattle.dma_script.specs.Printing.{hex_address, spaced_bytes};
 ghost use Rattle.dma_commands.specs.Printed.{call_line, call_words, fault_text, outcome_text, refused_line, reply_text, residue_text, result_name, status_name, transfer_fault_name, turn_text};
 
 use dma_engine::{Call, EngineFault, Outcome, Reply, Status, TransResult, Turn};
@@ -61,6 +62,7 @@ fn status_name(status: Status) -> &'static str
 }
 
 /// A text, at the end.
+#[inline(always)]
 pub fn push_text(line: &mut Vec<u8>, text: &str) -> Result<(), AllocError>
     ensures { OnOk result (line.new.items ≡ line.old.items ++ text.now) }
 {
@@ -78,6 +80,7 @@ fn push_pair(line: &mut Vec<u8>, word: &str, first: u64, second: u64) -> Result<
 }
 
 /// A word and a number, at the end.
+#[inline(always)]
 pub fn push_worded(line: &mut Vec<u8>, word: &str, number: u64) -> Result<(), AllocError>
     ensures { OnOk result (line.new.items ≡ line.old.items ++ (word.now ++ decimal number)) }
 {
@@ -242,6 +245,23 @@ pub fn push_told(
     push_line(out, line)
 }
 
+/// Appends the line of a read, or nothing.
+pub fn push_read(
+    line: &mut Vec<u8>,
+    addr: u32,
+    bytes: &[u8],
+    out: &mut Vec<u8>,
+) -> Result<(), AllocError>
+    ensures ok { OnOk result (out.new.items ≡ out.old.items ++ text_of (((codes "read 0x" ++ hex_address addr) ++ spaced_bytes bytes.now) ∷ [])) }
+    ensures err { OnErr result (out.new.items ≡ out.old.items) }
+{
+    line.clear();
+    push_text(line, "read 0x")?;
+    push_address(line, addr)?;
+    push_bytes(line, bytes)?;
+    push_line(out, line)
+}
+
 /// Appends what is printed of a reply after a word, or nothing.
 pub fn push_after(
     line: &mut Vec<u8>,
@@ -265,6 +285,16 @@ pub fn push_cookie(line: &mut Vec<u8>, cookie: u32, out: &mut Vec<u8>) -> Result
 {
     line.clear();
     push_worded(line, "cookie ", u64::from(cookie))?;
+    push_line(out, line)
+}
+
+/// Appends `issued N`, or nothing.
+pub fn push_issued(line: &mut Vec<u8>, count: u32, out: &mut Vec<u8>) -> Result<(), AllocError>
+    ensures ok { OnOk result (out.new.items ≡ out.old.items ++ text_of ((codes "issued " ++ decimal count) ∷ [])) }
+    ensures err { OnErr result (out.new.items ≡ out.old.items) }
+{
+    line.clear();
+    push_worded(line, "issued ", u64::from(count))?;
     push_line(out, line)
 }
 

@@ -8,11 +8,12 @@ pub mod calls;
 mod copies;
 mod steps;
 
-use crate::run::calls::{answer_call, answer_totals, submit_line, write_line};
+use crate::run::calls::{
+    answer_call, answer_totals, issue_line, read_line, submit_line, write_line,
+};
 use crate::run::copies::{answer_copy, answer_fill};
 use crate::run::steps::{StepLines, answer_steps};
 use dma_engine::{Call, Engine, NewFault};
-use dma_mem::segment::Segment;
 use dma_script::command::{Command, FAULT, SUCCESS, serve};
 use dma_script::fault::ScriptError;
 use dma_script::input::Source;
@@ -33,30 +34,33 @@ fn run_statement(
     ensures err { OnErr result (out.new.items ≡ out.old.items) }
 {
     let line = &mut told.lines;
-    let call = match statement {
-        Statement::Write { addr, bytes } => {
-            return write_line(engine, addr, bytes.as_slice(), line, out);
-        }
-        Statement::Copy(lists) => return answer_copy(engine, lists.into_inner(), line, out),
-        Statement::Fill { src, dst } => return answer_fill(engine, src, dst, line, out),
+    match statement {
+        Statement::Write { addr, bytes } => write_line(engine, addr, bytes, line, out),
+        Statement::Read(segment) => read_line(engine, segment, line, out),
+        Statement::Copy(lists) => answer_copy(engine, lists.into_inner(), line, out),
+        Statement::Fill { src, dst } => answer_fill(engine, src, dst, line, out),
         Statement::Submit { ch, transfer } => {
-            return submit_line(engine, ch, transfer.into_inner(), line, out);
+            submit_line(engine, ch, transfer.into_inner(), line, out)
         }
-        Statement::Step { ch, count } => return answer_steps(engine, ch, count, told, out),
-        Statement::Totals => return answer_totals(engine, line, out),
-        Statement::Read(Segment { addr, len }) => Call::Read { addr, len },
-        Statement::Issue { ch } => Call::Issue { ch },
-        Statement::Pause { ch } => Call::Pause { ch },
-        Statement::Resume { ch } => Call::Resume { ch },
-        Statement::Terminate { ch } => Call::Terminate { ch },
-        Statement::Status { ch, cookie } => Call::Status { ch, cookie },
-        Statement::Result { ch, cookie } => Call::Result { ch, cookie },
-        Statement::Mark { kind, segment } => Call::Mark { kind, segment },
-        Statement::Unmark => Call::Unmark,
-        Statement::Raise { event } => Call::Raise { event },
-        Statement::Checkpoint => Call::Checkpoint,
-    };
-    answer_call(engine, &call, line, out)
+        Statement::Issue { ch } => issue_line(engine, ch, line, out),
+        Statement::Step { ch, count } => answer_steps(engine, ch, count, told, out),
+        Statement::Totals => answer_totals(engine, line, out),
+        Statement::Pause { ch } => answer_call(engine, &Call::Pause { ch }, line, out),
+        Statement::Resume { ch } => answer_call(engine, &Call::Resume { ch }, line, out),
+        Statement::Terminate { ch } => answer_call(engine, &Call::Terminate { ch }, line, out),
+        Statement::Status { ch, cookie } => {
+            answer_call(engine, &Call::Status { ch, cookie }, line, out)
+        }
+        Statement::Result { ch, cookie } => {
+            answer_call(engine, &Call::Result { ch, cookie }, line, out)
+        }
+        Statement::Mark { kind, segment } => {
+            answer_call(engine, &Call::Mark { kind, segment }, line, out)
+        }
+        Statement::Unmark => answer_call(engine, &Call::Unmark, line, out),
+        Statement::Raise { event } => answer_call(engine, &Call::Raise { event }, line, out),
+        Statement::Checkpoint => answer_call(engine, &Call::Checkpoint, line, out),
+    }
 }
 
 /// Carries out lines on an engine.

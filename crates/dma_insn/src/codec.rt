@@ -24,6 +24,7 @@ pub enum DecodeFault {
 }
 
 /// Writes the bytes of an instruction at the front of `out`, and answers how many they are; the others stay.
+#[inline(always)]
 pub fn encode(insn: Insn, out: &mut [u8; 6]) -> usize
     ensures count { result ≡ length (spelling insn) }
     ensures bytes { out.new ≡ spelling insn ++ drop result out.old }

@@ -1,7 +1,7 @@
 -- Lemmas on how a command ends, on lines, their words, and which are skipped, on the causes of faulty lines, on lines that are
 -- carried out in turn, on numbers, hexadecimal words and lists of segments; worked scripts.
+pub mod AddedLines
 pub mod CauseLemmas
-pub mod Digits
 pub mod EndLemmas
 pub mod FaultLemmas
 pub mod HexLemmas
@@ -10,6 +10,7 @@ pub mod LineLemmas
 pub mod ListLemmas
 pub mod NumberLemmas
 pub mod PairLemmas
+pub mod PlainLines
 pub mod RaceLemmas
 pub mod RowLemmas
 pub mod Rows

@@ -1,8 +1,7 @@
 -- The words of a line, cut off one after another.
-use Rattle.std.proofs.Common.{◌≡◌, ◌==◌, ◌∙◌, ℕ, ◌+◌, ◌-◌, ◌<◌, ◌≤◌, true, false, not, List, [], ◌∷◌, ◌++◌, length, take, drop, filter, get_or, refl, sym, ap, arith, add-one, append_assoc, drop-cons, drop-drop, length-drop, inl, inr, Result, Ok, Err}
-use Rattle.std.specs.Prelude.{OnOk}
+use Rattle.std.proofs.Common.{◌≡◌, ◌==◌, ◌∙◌, ℕ, ◌+◌, ◌-◌, ◌<◌, ◌≤◌, true, false, not, List, [], ◌∷◌, ◌++◌, length, take, drop, filter, get_or, refl, sym, ap, arith, add-one, drop-cons, drop-drop, length-drop, inl, inr}
 use Rattle.std.proofs.lemmas.List.{take_rest, length-take-le, take-append-drop, get_or-drop, get_or-take}
-use Rattle.std.proofs.lemmas.Bool.{cases_lt, ne_eqb}
+use Rattle.std.proofs.lemmas.Bool.{cases_lt, false≢true, ne_eqb}
 use Rattle.std.proofs.lemmas.Grind.{get_or_default_zero}
 use Rattle.std.proofs.lemmas.List.Splits.{slice_split_at, slice_split_none}
 use Rattle.std.specs.List.{slice_split}
@@ -24,10 +23,6 @@ no_blank_more line start end none other k after below = elim (cases_lt k end) [
   | inr more ↦ let same : k ≡ end = omega arith in rw same other
 ]
 
--- What was read before, a part that is added and the words behind it.
-pub words_joined : (before added part rest all : List (List ℕ)) → added ≡ before ++ part → before ++ (part ++ rest) ≡ all → added ++ rest ≡ all
-words_joined before added part rest all is e = ap (λ (l : List (List ℕ)). l ++ rest) is ∙ append_assoc before part rest ∙ e
-
 -- A part without a blank.
 no_blank_in : (line : List ℕ) (start end : ℕ) (part : List ℕ) → length part ≡ end - start → ((j : ℕ) → j < end - start → get_or part j 0 ≡ get_or line (start + j) 0) → NoBlank line start end → (k d : ℕ) → k < length part → is_blank (get_or part k d) ≡ false
 no_blank_in line start end part size same none k d h =
@@ -42,7 +37,7 @@ cut_at line start end after within =
     sym (take-append-drop (end - start) (drop start line)) ∙ ap (λ (rest : List ℕ). take (end - start) (drop start line) ++ rest) (behind ∙ first)
 
 -- What ends at a blank, with no blank before that, is a part, and the words behind the blank follow.
-pub words_at : (line : List ℕ) (start end : ℕ) → start ≤ end → end < length line → NoBlank line start end → is_blank (get_or line end 0) ≡ true → words_of (drop start line) ≡ kept_part (take (end - start) (drop start line)) ++ words_of (drop (end + 1) line)
+words_at : (line : List ℕ) (start end : ℕ) → start ≤ end → end < length line → NoBlank line start end → is_blank (get_or line end 0) ≡ true → words_of (drop start line) ≡ kept_part (take (end - start) (drop start line)) ++ words_of (drop (end + 1) line)
 words_at line start end after within none blank =
     let part = take (end - start) (drop start line) in
     let size : length part ≡ end - start = length-take-le (end - start) (drop start line) (omega (arith, length-drop start line)) in
@@ -50,15 +45,37 @@ words_at line start end after within none blank =
     ap words_of (cut_at line start end after within) ∙ ap (filter (λ word. not (length word == 0))) split ∙ kept_first part (slice_split is_blank (drop (end + 1) line))
 
 -- Where no blank is left, the rest is the last part.
-pub words_last : (line : List ℕ) (start : ℕ) → NoBlank line start (length line) → words_of (drop start line) ≡ kept_part (drop start line)
+words_last : (line : List ℕ) (start : ℕ) → NoBlank line start (length line) → words_of (drop start line) ≡ kept_part (drop start line)
 words_last line start none = ap (filter (λ word. not (length word == 0))) (slice_split_none is_blank (drop start line) (λ k d h. no_blank_in line start (length line) (drop start line) (length-drop start line) (λ j less. get_or-drop start line j 0) none k d h))
 
--- The last part is added, and all words are there.
-pub words_all : (line : List ℕ) (start : ℕ) (before added : List (List ℕ)) → NoBlank line start (length line) → before ++ words_of (drop start line) ≡ words_of line → added ≡ before ++ kept_part (take (length line - start) (drop start line)) → added ≡ words_of line
-words_all line start before added none e is =
-    is ∙ ap (λ (rest : List ℕ). before ++ kept_part rest) (take_rest line start) ∙ ap (λ (l : List (List ℕ)). before ++ l) (sym (words_last line start none)) ∙ e
+-- A blank at the start changes nothing.
+pub words_past_blank : (line : List ℕ) → 0 < length line → is_blank (get_or line 0 0) ≡ true → words_of (drop 1 line) ≡ words_of line
+words_past_blank [] some blank = absurd (omega arith)
+words_past_blank (b ∷ line) some blank = rw blank refl
 
--- What holds on Ok.
-pub on_ok : {T E P Q : Type 0} (r : Result T E) → (P → Q) → OnOk r P → OnOk r Q
-on_ok (Ok x) f p = f p
-on_ok (Err e) f p = p
+-- A part with a byte is a word.
+kept_some : (part : List ℕ) → 0 < length part → kept_part part ≡ part ∷ []
+kept_some [] some = absurd (omega arith)
+kept_some (b ∷ part) some = let full : (length (b ∷ part) == 0) ≡ false = ne_eqb (length (b ∷ part)) 0 (λ z. omega arith) in rw full refl
+
+-- The first byte is a blank and is none.
+not_both : (b : ℕ) → is_blank b ≡ true → is_blank b ≡ false → ⊥
+not_both b blank other = false≢true (sym other ∙ blank)
+
+-- A word that a line begins with ends at the first blank.
+pub word_at : (line : List ℕ) (end : ℕ) → is_blank (get_or line 0 0) ≡ false → end < length line → NoBlank line 0 end → is_blank (get_or line end 0) ≡ true → words_of line ≡ take end line ∷ words_of (take (length line - (end + 1)) (drop (end + 1) line))
+word_at line end first within none blank =
+    let place : end - 0 ≡ end = omega arith in
+    let some : 0 < end = elim (cases_lt 0 end) [
+      | inl less ↦ less
+      | inr more ↦ let zero_end : end ≡ 0 = omega arith in absurd (not_both (get_or line end 0) blank (ap (λ (k : ℕ). is_blank (get_or line k 0)) zero_end ∙ first))
+    ] in
+    let size : length (take end line) ≡ end = length-take-le end line (omega arith) in
+    let cut = words_at line 0 end (omega arith) within none blank in
+    cut ∙ ap (λ (n : ℕ). kept_part (take n line) ++ words_of (drop (end + 1) line)) place
+    ∙ ap (λ (front : List (List ℕ)). front ++ words_of (drop (end + 1) line)) (kept_some (take end line) (omega arith))
+    ∙ ap (λ (rest : List ℕ). take end line ∷ words_of rest) (sym (take_rest line (end + 1)))
+
+-- A line without a blank is a word.
+pub word_alone : (line : List ℕ) → 0 < length line → NoBlank line 0 (length line) → words_of line ≡ line ∷ []
+word_alone line some none = words_last line 0 none ∙ kept_some line some

@@ -101,3 +101,9 @@ bytes_at (word ∷ words) = do
   front ← hex_at word
   rest ← bytes_at words
   Ok (front ++ rest)
+
+-- bytes read before, and then those of hexadecimal words, joined
+abbrev pub bytes_after : List ℕ → List (List ℕ) → Result (List ℕ) Cause
+bytes_after before words = do
+  more ← bytes_at words
+  Ok (before ++ more)

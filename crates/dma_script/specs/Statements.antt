@@ -152,6 +152,12 @@ abbrev pub first_line : Keyword → List (List ℕ) → Result RunScript Cause
 first_line keywords.Memory words = memory_line words
 first_line _ words = Err causes.First
 
+-- a line that is its keyword alone
+abbrev pub bare_line : Statement → List (List ℕ) → Result Statement Cause
+bare_line line words = do
+  none ← no_word words
+  Ok line
+
 -- A later line, by its keyword and the words after that: it is not the memory line.
 abbrev pub later_line : Keyword → List (List ℕ) → Result Statement Cause
 later_line keywords.Memory words = Err causes.First
@@ -176,18 +182,18 @@ later_line keywords.Step words = step_line words
 later_line keywords.Status words = status_line words
 later_line keywords.Result words = result_line words
 later_line keywords.Mark words = mark_line words
-later_line keywords.Unmark words = do
-  none ← no_word words
-  Ok statements.Unmark
+later_line keywords.Unmark words = bare_line statements.Unmark words
 later_line keywords.Raise words = do
   event ← byte_alone words
   Ok (statements.Raise event)
-later_line keywords.Checkpoint words = do
-  none ← no_word words
-  Ok statements.Checkpoint
-later_line keywords.Totals words = do
-  none ← no_word words
-  Ok statements.Totals
+later_line keywords.Checkpoint words = bare_line statements.Checkpoint words
+later_line keywords.Totals words = bare_line statements.Totals words
+
+-- lines that were read, and one more at their end
+abbrev pub added : List Statement → Result Statement Cause → Result (List Statement) Cause
+added before line = do
+  statement ← line
+  Ok (before ++ statement ∷ [])
 
 -- The next line of a run script, of which nothing is read before the memory line.
 abbrev pub next_line : Option RunScript → Keyword → List (List ℕ) → Result (Option RunScript) Cause

@@ -1,92 +1,102 @@
 //! What the words after the first of a line say.
-ghost use Rattle.std.specs.Prelude.{◌≡◌, ◌==◌, ◌∷◌, [], None, Some, if◌then◌else◌, map, nat_lt};
+ghost use Rattle.std.specs.Prelude.{◌≡◌, ◌==◌, ◌∷◌, [], IfOk, OnErr};
 ghost use Rattle.std.specs.Option.{option_map};
-ghost use Rattle.dma_script.specs.Words.{hex_digit_of, hex_pair_of};
+ghost use Rattle.dma_script.specs.Words.{hex_pair_of, words_of};
 ghost use Rattle.dma_script.specs.Lines.{Gives, LineGives, seen_by};
-ghost use Rattle.dma_script.specs.Arguments.{no_word, one_of, two_of, three_of, one_or_two, first_and_rest, one_and_more, number_at, number_where, byte_of, byte_where, byte_alone, segment_at, list_at, hex_after, bytes_at};
+ghost use Rattle.dma_script.specs.Arguments.{no_word, one_of, two_of, three_of, one_or_two, first_and_rest, one_and_more, number_at, number_where, byte_of, byte_where, byte_alone, segment_at, list_at, hex_after, bytes_after, bytes_at};
 
 use crate::fault::{Cause, LineError};
-use crate::words::{number, segment_in};
+use crate::words::{is_blank, next_word, number, segment_in};
 use dma_mem::lists::{Bytes, Segments};
 use dma_mem::segment::Segment;
-use std::alloc::Global;
+use dma_text::digits::digit_value;
+use std::alloc::{AllocError, Global};
 
 /// No word.
-pub(crate) fn no_word(words: &[&[u8]]) -> Result<(), Cause>
-    ensures { result ≡ no_word (map (λ word. word.now) words.now) }
+pub(crate) fn no_word(line: &[u8]) -> Result<(), Cause>
+    ensures { result ≡ no_word (words_of line.now) }
 {
-    match words {
-        [] => Ok(()),
-        _ => Err(Cause::Words),
+    match next_word(line) {
+        None => Ok(()),
+        Some(_) => Err(Cause::Words),
     }
 }
 
-/// One word and no more.
-pub(crate) fn one_of<'a>(words: &[&'a [u8]]) -> Result<&'a [u8], Cause>
-    ensures { seen_by (λ a. a.now) result ≡ one_of (map (λ word. word.now) words.now) }
+/// A word and what follows it.
+#[inline(always)]
+pub(crate) fn first_and_rest(line: &[u8]) -> Result<(&[u8], &[u8]), Cause>
+    ensures given { seen_by (λ w. (w.0.now, words_of w.1.now)) result ≡ first_and_rest (words_of line.now) }
+    ensures some { IfOk result (λ w. words_of line.now ≡ w.0.now ∷ words_of w.1.now) }
+    ensures none { OnErr result (words_of line.now ≡ []) }
 {
-    match words {
-        [a] => Ok(*a),
-        _ => Err(Cause::Words),
+    next_word(line).ok_or(Cause::Words)
+}
+
+/// One word and no more.
+#[inline(always)]
+pub(crate) fn one_of(line: &[u8]) -> Result<&[u8], Cause>
+    ensures { seen_by (λ a. a.now) result ≡ one_of (words_of line.now) }
+{
+    let (a, after) = first_and_rest(line)?;
+    match next_word(after) {
+        None => Ok(a),
+        Some(_) => Err(Cause::Words),
     }
 }
 
 /// Two words and no more.
-pub(crate) fn two_of<'a>(words: &[&'a [u8]]) -> Result<(&'a [u8], &'a [u8]), Cause>
-    ensures { seen_by (λ w. (w.0.now, w.1.now)) result ≡ two_of (map (λ word. word.now) words.now) }
+pub(crate) fn two_of(line: &[u8]) -> Result<(&[u8], &[u8]), Cause>
+    ensures { seen_by (λ w. (w.0.now, w.1.now)) result ≡ two_of (words_of line.now) }
 {
-    match words {
-        [a, b] => Ok((*a, *b)),
-        _ => Err(Cause::Words),
+    let (a, after) = first_and_rest(line)?;
+    let (b, end) = first_and_rest(after)?;
+    match next_word(end) {
+        None => Ok((a, b)),
+        Some(_) => Err(Cause::Words),
     }
 }
 
 /// Three words and no more.
-pub(crate) fn three_of<'a>(words: &[&'a [u8]]) -> Result<(&'a [u8], &'a [u8], &'a [u8]), Cause>
-    ensures { seen_by (λ w. (w.0.now, w.1.now, w.2.now)) result ≡ three_of (map (λ word. word.now) words.now) }
+pub(crate) fn three_of(line: &[u8]) -> Result<(&[u8], &[u8], &[u8]), Cause>
+    ensures { seen_by (λ w. (w.0.now, w.1.now, w.2.now)) result ≡ three_of (words_of line.now) }
 {
-    match words {
-        [a, b, c] => Ok((*a, *b, *c)),
-        _ => Err(Cause::Words),
+    let (a, after) = first_and_rest(line)?;
+    let (b, more) = first_and_rest(after)?;
+    let (c, end) = first_and_rest(more)?;
+    match next_word(end) {
+        None => Ok((a, b, c)),
+        Some(_) => Err(Cause::Words),
     }
 }
 
 /// A word, one more where there is one, and no more.
-pub(crate) fn one_or_two<'a>(words: &[&'a [u8]]) -> Result<(&'a [u8], Option<&'a [u8]>), Cause>
-    ensures { seen_by (λ w. (w.0.now, option_map (λ word. word.now) w.1)) result ≡ one_or_two (map (λ word. word.now) words.now) }
+#[inline(always)]
+pub(crate) fn one_or_two(line: &[u8]) -> Result<(&[u8], Option<&[u8]>), Cause>
+    ensures { seen_by (λ w. (w.0.now, option_map (λ word. word.now) w.1)) result ≡ one_or_two (words_of line.now) }
 {
-    match words {
-        [a] => Ok((*a, None)),
-        [a, b] => Ok((*a, Some(*b))),
-        _ => Err(Cause::Words),
+    let (a, after) = first_and_rest(line)?;
+    let Some((b, end)) = next_word(after) else {
+        return Ok((a, None));
+    };
+    match next_word(end) {
+        None => Ok((a, Some(b))),
+        Some(_) => Err(Cause::Words),
     }
 }
 
-/// A word and those that follow it.
-pub(crate) fn first_and_rest<'a, 'w>(
-    words: &'w [&'a [u8]],
-) -> Result<(&'a [u8], &'w [&'a [u8]]), Cause>
-    ensures { seen_by (λ w. (w.0.now, map (λ word. word.now) w.1.now)) result ≡ first_and_rest (map (λ word. word.now) words.now) }
+/// A word and what follows it, which has one or more words.
+pub(crate) fn one_and_more(line: &[u8]) -> Result<(&[u8], &[u8]), Cause>
+    ensures { seen_by (λ w. (w.0.now, words_of w.1.now)) result ≡ one_and_more (words_of line.now) }
 {
-    match words {
-        [] => Err(Cause::Words),
-        [a, rest @ ..] => Ok((*a, rest)),
-    }
-}
-
-/// A word and one or more others.
-pub(crate) fn one_and_more<'a, 'w>(
-    words: &'w [&'a [u8]],
-) -> Result<(&'a [u8], &'w [&'a [u8]]), Cause>
-    ensures { seen_by (λ w. (w.0.now, map (λ word. word.now) w.1.now)) result ≡ one_and_more (map (λ word. word.now) words.now) }
-{
-    match words {
-        [] | [_] => Err(Cause::Words),
-        [a, more @ ..] => Ok((*a, more)),
+    let (a, more) = first_and_rest(line)?;
+    match next_word(more) {
+        None => Err(Cause::Words),
+        Some(_) => Ok((a, more)),
     }
 }
 
 /// The number that a word spells.
+#[inline(always)]
 pub(crate) fn number_at(word: &[u8]) -> Result<u32, Cause>
     ensures { result ≡ number_at word.now }
 {
@@ -124,10 +134,10 @@ pub(crate) fn byte_where(number: Option<u32>) -> Result<Option<u8>, Cause>
 }
 
 /// A number of at most 255, alone.
-pub(crate) fn byte_alone(words: &[&[u8]]) -> Result<u8, Cause>
-    ensures { result ≡ byte_alone (map (λ word. word.now) words.now) }
+pub(crate) fn byte_alone(line: &[u8]) -> Result<u8, Cause>
+    ensures { result ≡ byte_alone (words_of line.now) }
 {
-    let word = one_of(words)?;
+    let word = one_of(line)?;
     let number = number_at(word)?;
     byte_of(number)
 }
@@ -157,43 +167,12 @@ pub(crate) fn list_at(alloc: Global, word: &[u8]) -> Result<Segments, LineError>
     Ok(list)
 }
 
-/// What stands for no digit in the table below.
-const NONE: u8 = 255;
-
-/// The value of each byte as a hexadecimal digit, 16 bytes to a row. It's a table, since a branch on digits is often guessed
-/// wrong, and arithmetic without a branch takes many steps.
-const DIGIT_VALUES: [u8; 256] = [
-    NONE, NONE, NONE, NONE, NONE, NONE, NONE, NONE, NONE, NONE, NONE, NONE, NONE, NONE, NONE, NONE, // 0x00
-    NONE, NONE, NONE, NONE, NONE, NONE, NONE, NONE, NONE, NONE, NONE, NONE, NONE, NONE, NONE, NONE, // 0x10
-    NONE, NONE, NONE, NONE, NONE, NONE, NONE, NONE, NONE, NONE, NONE, NONE, NONE, NONE, NONE, NONE, // 0x20
-    0, 1, 2, 3, 4, 5, 6, 7, 8, 9, NONE, NONE, NONE, NONE, NONE, NONE, // 0x30
-    NONE, 10, 11, 12, 13, 14, 15, NONE, NONE, NONE, NONE, NONE, NONE, NONE, NONE, NONE, // 0x40
-    NONE, NONE, NONE, NONE, NONE, NONE, NONE, NONE, NONE, NONE, NONE, NONE, NONE, NONE, NONE, NONE, // 0x50
-    NONE, 10, 11, 12, 13, 14, 15, NONE, NONE, NONE, NONE, NONE, NONE, NONE, NONE, NONE, // 0x60
-    NONE, NONE, NONE, NONE, NONE, NONE, NONE, NONE, NONE, NONE, NONE, NONE, NONE, NONE, NONE, NONE, // 0x70
-    NONE, NONE, NONE, NONE, NONE, NONE, NONE, NONE, NONE, NONE, NONE, NONE, NONE, NONE, NONE, NONE, // 0x80
-    NONE, NONE, NONE, NONE, NONE, NONE, NONE, NONE, NONE, NONE, NONE, NONE, NONE, NONE, NONE, NONE, // 0x90
-    NONE, NONE, NONE, NONE, NONE, NONE, NONE, NONE, NONE, NONE, NONE, NONE, NONE, NONE, NONE, NONE, // 0xa0
-    NONE, NONE, NONE, NONE, NONE, NONE, NONE, NONE, NONE, NONE, NONE, NONE, NONE, NONE, NONE, NONE, // 0xb0
-    NONE, NONE, NONE, NONE, NONE, NONE, NONE, NONE, NONE, NONE, NONE, NONE, NONE, NONE, NONE, NONE, // 0xc0
-    NONE, NONE, NONE, NONE, NONE, NONE, NONE, NONE, NONE, NONE, NONE, NONE, NONE, NONE, NONE, NONE, // 0xd0
-    NONE, NONE, NONE, NONE, NONE, NONE, NONE, NONE, NONE, NONE, NONE, NONE, NONE, NONE, NONE, NONE, // 0xe0
-    NONE, NONE, NONE, NONE, NONE, NONE, NONE, NONE, NONE, NONE, NONE, NONE, NONE, NONE, NONE, NONE, // 0xf0
-];
-
-/// The value of a hexadecimal digit, and a number above 15 for any other byte.
-fn digit_or_more(byte: u8) -> u8
-    ensures { hex_digit_of byte ≡ (if nat_lt result 16 then Some result else None) }
-{
-    DIGIT_VALUES[usize::from(byte)]
-}
-
 /// The byte that two hexadecimal digits spell.
 pub(crate) fn byte_in(high: u8, low: u8) -> Option<u8>
     ensures { result ≡ hex_pair_of high low }
 {
-    let high = digit_or_more(high);
-    let low = digit_or_more(low);
+    let high = digit_value(high);
+    let low = digit_value(low);
     if high < 16 && low < 16 {
         Some(16 * high + low)
     } else {
@@ -214,10 +193,6 @@ fn push_pair(bytes: &mut Vec<u8>, high: u8, low: u8) -> Result<(), LineError>
 fn push_hex(bytes: &mut Vec<u8>, word: &[u8]) -> Result<(), LineError>
     ensures { LineGives result bytes.new.items (hex_after bytes.old.items word.now) }
 {
-    // Most words are one byte.
-    if let [high, low] = word {
-        return push_pair(bytes, *high, *low);
-    }
     let mut rest = word;
     while let [high, low, after @ ..] = rest {
         push_pair(bytes, *high, *low)?;
@@ -230,22 +205,36 @@ fn push_hex(bytes: &mut Vec<u8>, word: &[u8]) -> Result<(), LineError>
     }
 }
 
-/// How many bytes words of hexadecimal digits spell, for the room of their list.
-fn bytes_of(words: &[&[u8]]) -> usize {
-    let mut count = 0usize;
-    for word in words {
-        count = count.saturating_add(word.len() / 2);
+/// The bytes of the words at the front that are two digits with a blank behind them, as most are, and what follows them.
+#[tactic(auto, using(crate::proofs::HexLemmas::bytes_after_pair, crate::proofs::HexLemmas::bytes_after_none))]
+fn pairs_at(alloc: Global, line: &[u8]) -> Result<(Vec<u8>, &[u8]), AllocError>
+    ensures { IfOk result (λ read. bytes_after read.0.items (words_of read.1.now) ≡ bytes_at (words_of line.now)) }
+{
+    // Just the room that such words want, with a blank between.
+    let mut bytes = Vec::with_capacity(alloc, line.len() / 3 + 1)?;
+    let mut rest = line;
+    while let [high, low, blank, after @ ..] = rest {
+        let Some(byte) = byte_in(*high, *low) else {
+            return Ok((bytes, rest));
+        };
+        if !is_blank(*blank) {
+            return Ok((bytes, rest));
+        }
+        bytes.push_reserved(byte);
+        rest = after;
     }
-    count
+    Ok((bytes, rest))
 }
 
-/// The bytes that words of hexadecimal digits spell, joined.
-pub(crate) fn bytes_at(alloc: Global, words: &[&[u8]]) -> Result<Bytes, LineError>
-    ensures { Gives (λ bytes. bytes) result (bytes_at (map (λ word. word.now) words.now)) }
+/// The bytes that the words of a line spell, which are words of hexadecimal digits, joined.
+#[tactic(auto, using(crate::proofs::HexLemmas::bytes_after_last))]
+pub(crate) fn bytes_at(alloc: Global, line: &[u8]) -> Result<Bytes, LineError>
+    ensures { Gives (λ bytes. bytes) result (bytes_at (words_of line.now)) }
 {
-    let mut bytes = Vec::with_capacity(alloc, bytes_of(words))?;
-    for word in words {
+    let (mut bytes, mut rest) = pairs_at(alloc, line)?;
+    while let Some((word, after)) = next_word(rest) {
         push_hex(&mut bytes, word)?;
+        rest = after;
     }
     Ok(Bytes::from_vec(bytes))
 }

@@ -12,7 +12,7 @@ use std::io::{Read, Stdin};
 pub const LONGEST_INPUT: usize = 4_194_304;
 
 /// The bytes asked for by one read.
-const READ_SIZE: usize = 8192;
+const READ_SIZE: usize = 65_536;
 
 /// A reader that can tell whether a read of it has failed.
 pub trait Source: Read {

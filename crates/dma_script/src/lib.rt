@@ -15,5 +15,6 @@ pub mod pairs;
 pub mod plan;
 pub mod printing;
 pub mod race;
+mod run_lines;
 pub mod statements;
 pub mod words;

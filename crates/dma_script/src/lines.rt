@@ -1,17 +1,19 @@
 //! Reading a script line by line, up to its first fault.
-ghost use Rattle.std.specs.Prelude.{◌≡◌, ◌+◌, List, ℕ, map};
+ghost use Rattle.std.specs.Prelude.{◌≡◌, true};
+ghost use Rattle.std.specs.List.{list_all};
 ghost use Rattle.dma_script.specs.Lines.{LineGives, ScriptGives, after_line, after_script, first_number, is_skipped};
-ghost use Rattle.dma_script.specs.Words.{words_of};
+ghost use Rattle.dma_script.specs.Words.{is_plain, words_of};
 
 use crate::fault::{Cause, Fault, LineError, ScriptError};
-use crate::words::{is_blank, is_plain_line, split_line, split_words};
+use crate::words::{is_blank, is_plain_line, is_plain_text, split_line};
 use std::alloc::Global;
 
 /// A kind of script, as what was read of it so far.
 pub trait Script {
-    ghost use Rattle.std.specs.Prelude.{List, ℕ, Result, map};
+    ghost use Rattle.std.specs.Prelude.{List, ℕ, Result};
     ghost use Rattle.dma_script.specs.declared.fault.Cause.{Cause};
     ghost use Rattle.dma_script.specs.Lines.{LineGives};
+    ghost use Rattle.dma_script.specs.Words.{words_of};
 
     ghost View: { Type 0 };
 
@@ -20,8 +22,8 @@ pub trait Script {
     ghost step: { View → List (List ℕ) → Result View Cause };
 
     /// Takes the words of the next line that is not skipped.
-    fn take_line(&mut self, alloc: Global, words: &[&[u8]]) -> Result<(), LineError>
-        ensures { LineGives result (view self.new) (step (view self.old) (map (λ word. word.now) words.now)) };
+    fn take_line(&mut self, alloc: Global, words: &[u8]) -> Result<(), LineError>
+        ensures { LineGives result (view self.new) (step (view self.old) (words_of words.now)) };
 }
 
 /// Whether a line is skipped and only counted: it has no words, or is a comment. Only its first word is looked for, so a
@@ -37,26 +39,38 @@ fn is_skipped(line: &[u8]) -> bool
     true
 }
 
-/// Reads one line, with a list for its words that is there already.
-fn read_line<'a, S: Script>(
+/// Whether each byte of a line is plain, where that may be known already.
+fn is_plain(known: bool, line: &[u8]) -> bool
+    requires { known ≡ true → list_all is_plain line.now ≡ true }
+    ensures { result ≡ list_all is_plain line.now }
+{
+    if known {
+        return true;
+    }
+    is_plain_line(line)
+}
+
+/// Reads one line, which may be known to be plain.
+fn read_line<S: Script>(
     script: &mut S,
     alloc: Global,
-    words: &mut Vec<&'a [u8]>,
-    line: &'a [u8],
+    plain: bool,
+    line: &[u8],
 ) -> Result<(), LineError>
+    requires { plain ≡ true → list_all is_plain line.now ≡ true }
     ensures { LineGives result (S.view script.new) (after_line S.step (S.view script.old) line.now) }
 {
     if is_skipped(line) {
         return Ok(());
     }
-    if !is_plain_line(line) {
+    if !is_plain(plain, line) {
         return Err(LineError::Fault(Cause::Byte));
     }
-    split_words(words, line)?;
-    script.take_line(alloc, words)
+    script.take_line(alloc, line)
 }
 
 /// Reads a whole script, up to its first fault. After an `Err` nothing is known of what was read.
+#[tactic(auto, using(crate::proofs::PlainLines::lines_plain, crate::proofs::PlainLines::first_plain, crate::proofs::PlainLines::rest_plain))]
 pub fn read_script<S: Script>(
     script: &mut S,
     alloc: Global,
@@ -64,13 +78,13 @@ pub fn read_script<S: Script>(
 ) -> Result<(), ScriptError>
     ensures { ScriptGives (λ _. S.view script.new) result (after_script S.step (S.view script.old) input.now) }
 {
+    let plain = is_plain_text(input);
     let mut rest = input;
     let mut number = 0usize;
-    let mut words = Vec::new(alloc);
     while !rest.is_empty() {
         let (line, after) = split_line(rest);
         number += 1;
-        match read_line(script, alloc, &mut words, line) {
+        match read_line(script, alloc, plain, line) {
             Ok(()) => rest = after,
             Err(LineError::NoMemory) => return Err(ScriptError::NoMemory),
             Err(LineError::Fault(cause)) => {

@@ -66,7 +66,7 @@ pub fn read_pairs(alloc: Global, input: &[u8]) -> Result<Vec<u8>, PairsError>
     let mut rest = input;
     while let [high, low, after @ ..] = rest {
         if let Some(byte) = byte_in(*high, *low) {
-            bytes.push(byte)?;
+            bytes.push_reserved(byte);
             rest = past_space(after);
         } else if is_gap(*high) {
             if *high == b'\n' {

@@ -1,12 +1,14 @@
 //! The words of a transfer with its events, and the line of a plan script.
-ghost use Rattle.std.specs.Prelude.{◌≡◌, map};
+ghost use Rattle.std.specs.Prelude.{◌≡◌};
 ghost use Rattle.std.specs.Option.{option_map};
 ghost use Rattle.dma_script.specs.Lines.{Gives, ScriptGives, seen_by};
+ghost use Rattle.dma_script.specs.Words.{words_of};
 ghost use Rattle.dma_script.specs.Plan.{after_fill, after_fixed, events_of, is_place, plan_of, seen_words, source_at, spelling, transfer_line, transfer_numbers, transfer_of, transfer_words};
 
-use crate::arguments::{byte_where, list_at, number_at, number_where};
+use crate::arguments::{byte_where, first_and_rest, list_at, number_at, number_where};
 use crate::fault::{Cause, Fault, LineError, ScriptError};
 use crate::lines::{Script, first_number, read_script};
+use crate::words::next_word;
 use dma_mem::lists::Segments;
 use dma_text::bytes::is_text;
 use std::alloc::Global;
@@ -70,52 +72,58 @@ pub struct PlanLine {
 }
 
 /// The word after a fixed one, where that stands first, and the words that follow.
-fn after_fixed<'a, 'w>(fixed: &[u8], words: &'w [&'a [u8]]) -> (Option<&'a [u8]>, &'w [&'a [u8]])
-    ensures word { option_map (λ word. word.now) result.0 ≡ (after_fixed fixed.now (map (λ word. word.now) words.now)).0 }
-    ensures rest { map (λ word. word.now) result.1.now ≡ (after_fixed fixed.now (map (λ word. word.now) words.now)).1 }
+fn after_fixed<'a>(fixed: &[u8], words: &'a [u8]) -> (Option<&'a [u8]>, &'a [u8])
+    ensures word { option_map (λ word. word.now) result.0 ≡ (after_fixed fixed.now (words_of words.now)).0 }
+    ensures rest { words_of result.1.now ≡ (after_fixed fixed.now (words_of words.now)).1 }
 {
-    if let [first, word, rest @ ..] = words {
-        if is_text(first, fixed) {
-            return (Some(*word), rest);
-        }
+    let Some((first, more)) = next_word(words) else {
+        return (None, words);
+    };
+    let Some((word, rest)) = next_word(more) else {
+        return (None, words);
+    };
+    if is_text(first, fixed) {
+        (Some(word), rest)
+    } else {
+        (None, words)
     }
-    (None, words)
 }
 
 /// `[wait E] [signal E]`
-fn events_of<'a>(words: &[&'a [u8]]) -> Result<(Option<&'a [u8]>, Option<&'a [u8]>), Cause>
-    ensures { seen_by (λ e. (option_map (λ word. word.now) e.0, option_map (λ word. word.now) e.1)) result ≡ events_of (map (λ word. word.now) words.now) }
+fn events_of(words: &[u8]) -> Result<(Option<&[u8]>, Option<&[u8]>), Cause>
+    ensures { seen_by (λ e. (option_map (λ word. word.now) e.0, option_map (λ word. word.now) e.1)) result ≡ events_of (words_of words.now) }
 {
     let (wait, words) = after_fixed(b"wait", words);
     let (signal, words) = after_fixed(b"signal", words);
-    if words.is_empty() {
-        Ok((wait, signal))
-    } else {
-        Err(Cause::Words)
+    match next_word(words) {
+        None => Ok((wait, signal)),
+        Some(_) => Err(Cause::Words),
     }
 }
 
 /// Whether a transfer is a fill, and the words that follow.
-fn after_fill<'a, 'w>(words: &'w [&'a [u8]]) -> (bool, &'w [&'a [u8]])
-    ensures fill { result.0 ≡ (after_fill (map (λ word. word.now) words.now)).0 }
-    ensures rest { map (λ word. word.now) result.1.now ≡ (after_fill (map (λ word. word.now) words.now)).1 }
+fn after_fill(words: &[u8]) -> (bool, &[u8])
+    ensures fill { result.0 ≡ (after_fill (words_of words.now)).0 }
+    ensures rest { words_of result.1.now ≡ (after_fill (words_of words.now)).1 }
 {
-    if let [first, rest @ ..] = words {
-        if is_text(first, b"fill") {
-            return (true, rest);
-        }
+    let Some((first, rest)) = next_word(words) else {
+        return (false, words);
+    };
+    if is_text(first, b"fill") {
+        (true, rest)
+    } else {
+        (false, words)
     }
-    (false, words)
 }
 
 /// `LIST to LIST [wait E] [signal E]` or `fill ADDR to LIST [wait E] [signal E]`, of which the words are counted.
-pub(crate) fn transfer_words<'a>(words: &[&'a [u8]]) -> Result<TransferWords<'a>, Cause>
-    ensures { seen_by seen_words result ≡ transfer_words (map (λ word. word.now) words.now) }
+pub(crate) fn transfer_words(words: &[u8]) -> Result<TransferWords<'_>, Cause>
+    ensures { seen_by seen_words result ≡ transfer_words (words_of words.now) }
 {
     let (fill, words) = after_fill(words);
-    let [src, to, dst, more @ ..] = words else {
-        return Err(Cause::Words);
-    };
+    let (src, after) = first_and_rest(words)?;
+    let (to, lists) = first_and_rest(after)?;
+    let (dst, more) = first_and_rest(lists)?;
     if !is_text(to, b"to") {
         return Err(Cause::Words);
     }
@@ -183,8 +191,8 @@ pub(crate) fn transfer_of(numbers: TransferNumbers) -> Result<TransferLine, Caus
 }
 
 /// `LIST to LIST [wait E] [signal E]` or `fill ADDR to LIST [wait E] [signal E]`
-fn transfer_line(alloc: Global, words: &[&[u8]]) -> Result<TransferLine, LineError>
-    ensures { Gives (λ line. line) result (transfer_line (map (λ word. word.now) words.now)) }
+fn transfer_line(alloc: Global, words: &[u8]) -> Result<TransferLine, LineError>
+    ensures { Gives (λ line. line) result (transfer_line (words_of words.now)) }
 {
     let words = transfer_words(words)?;
     let numbers = transfer_numbers(alloc, words)?;
@@ -209,7 +217,7 @@ impl Script for PlanSoFar {
 
     ghost step = { plan_step };
 
-    fn take_line(&mut self, alloc: Global, words: &[&[u8]]) -> Result<(), LineError> {
+    fn take_line(&mut self, alloc: Global, words: &[u8]) -> Result<(), LineError> {
         if self.line.is_some() {
             return Err(LineError::Fault(Cause::Words));
         }

@@ -8,11 +8,13 @@ use crate::fault::Fault;
 use dma_text::digits::glyph;
 pub use dma_text::digits::push_decimal;
 use std::alloc::{AllocError, Global};
+use std::mem;
 
 /// The most bytes of a program that are printed in one line (profile).
 const ROW_BYTES: usize = 16;
 
 /// Appends a line and its line feed, or nothing.
+#[inline(always)]
 pub fn push_line(out: &mut Vec<u8>, line: &[u8]) -> Result<(), AllocError>
     ensures ok { OnOk result (out.new.items ≡ out.old.items ++ text_of (line.now ∷ [])) }
     ensures err { OnErr result (out.new.items ≡ out.old.items) }
@@ -44,10 +46,19 @@ pub fn push_byte(line: &mut Vec<u8>, byte: u8) -> Result<(), AllocError>
 pub fn push_bytes(line: &mut Vec<u8>, bytes: &[u8]) -> Result<(), AllocError>
     ensures { OnOk result (line.new.items ≡ line.old.items ++ spaced_bytes bytes.now) }
 {
-    line.reserve(bytes.len().saturating_mul(3))?;
+    let Some(room) = bytes.len().checked_mul(3) else {
+        return Err(AllocError);
+    };
+    line.reserve(room)?;
+    // Taken out of its place, the list is a local, whose length can stand in a register.
+    let empty = Vec::new(*line.allocator());
+    let mut text = mem::replace(line, empty);
     for byte in bytes {
-        line.extend_from_slice(&[b' ', glyph(*byte / 16), glyph(*byte % 16)])?;
+        text.push_reserved(b' ');
+        text.push_reserved(glyph(*byte / 16));
+        text.push_reserved(glyph(*byte % 16));
     }
+    *line = text;
     Ok(())
 }
 
@@ -55,11 +66,17 @@ pub fn push_bytes(line: &mut Vec<u8>, bytes: &[u8]) -> Result<(), AllocError>
 pub fn push_address(line: &mut Vec<u8>, addr: u32) -> Result<(), AllocError>
     ensures { OnOk result (line.new.items ≡ line.old.items ++ hex_address addr) }
 {
-    line.reserve(8)?;
-    for byte in addr.to_be_bytes() {
-        push_byte(line, byte)?;
-    }
-    Ok(())
+    let [a, b, c, d] = addr.to_be_bytes();
+    line.extend_from_slice(&[
+        glyph(a / 16),
+        glyph(a % 16),
+        glyph(b / 16),
+        glyph(b % 16),
+        glyph(c / 16),
+        glyph(c % 16),
+        glyph(d / 16),
+        glyph(d % 16),
+    ])
 }
 
 /// The bytes of a row with a space between two, at the end.

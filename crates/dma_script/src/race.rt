@@ -1,14 +1,16 @@
 //! The lines of a race script: those that come before `go` and the jobs among them, and those that come after it.
-ghost use Rattle.std.specs.Prelude.{◌≡◌, ◌++◌, ◌∷◌, [], IfOk, OnErr, OnOk, map};
-ghost use Rattle.dma_script.specs.Lines.{Gives, LineGives, ScriptGives};
+ghost use Rattle.std.specs.Prelude.{◌≡◌, ◌++◌, ◌∷◌, [], IfOk, OnErr, OnOk};
+ghost use Rattle.dma_script.specs.Lines.{LineGives, ScriptGives};
+ghost use Rattle.dma_script.specs.Statements.{added};
+ghost use Rattle.dma_script.specs.Words.{words_of};
 ghost use Rattle.dma_script.specs.Race.{IsJob, IsRace, is_early, job_line, line_after_go, race_keyword_of, race_script_of};
 
 use crate::arguments::{no_word, number_at, three_of};
 use crate::fault::{Cause, Fault, LineError, ScriptError};
 use crate::lines::{Script, read_script};
-use crate::statements::{
-    Keyword, ReadSoFar, RunScript, Statement, Statements, keyword_in, later_line,
-};
+use crate::run_lines::add_later_line;
+use crate::statements::{Keyword, ReadSoFar, RunScript, Statements, keyword_in};
+use crate::words::next_word;
 use dma_text::bytes::is_text;
 use std::alloc::{AllocError, Global};
 use std::marker::Model;
@@ -126,8 +128,8 @@ fn is_early(keyword: Keyword) -> bool
 }
 
 /// `job FIRST LAST TURNS`
-fn job_line(words: &[&[u8]]) -> Result<JobLine, Cause>
-    ensures line { result ≡ job_line (map (λ word. word.now) words.now) }
+fn job_line(words: &[u8]) -> Result<JobLine, Cause>
+    ensures line { result ≡ job_line (words_of words.now) }
     ensures within { IfOk result IsJob }
 {
     let (first, last, turns) = three_of(words)?;
@@ -144,16 +146,17 @@ fn job_line(words: &[&[u8]]) -> Result<JobLine, Cause>
     })
 }
 
-/// A line after `go`.
-fn line_after_go(
+/// Adds a line after `go`.
+fn add_after_go(
+    after: &mut Statements,
     alloc: Global,
     keyword: RaceKeyword,
-    words: &[&[u8]],
-) -> Result<Statement, LineError>
-    ensures { Gives (λ line. line) result (line_after_go keyword (map (λ word. word.now) words.now)) }
+    words: &[u8],
+) -> Result<(), LineError>
+    ensures { LineGives result after.new (added after.old (line_after_go keyword (words_of words.now))) }
 {
     match keyword {
-        RaceKeyword::Line(keyword) => later_line(alloc, keyword, words),
+        RaceKeyword::Line(keyword) => add_later_line(after, alloc, keyword, words),
         RaceKeyword::Job | RaceKeyword::Go => Err(LineError::Fault(Cause::Command)),
     }
 }
@@ -191,13 +194,8 @@ impl RaceSoFar {
     }
 
     /// Takes a line that a run script has too.
-    fn take_early(
-        &mut self,
-        alloc: Global,
-        keyword: Keyword,
-        words: &[&[u8]],
-    ) -> Result<(), LineError>
-        ensures { LineGives result self.new (early_line self.old keyword (map (λ word. word.now) words.now)) }
+    fn take_early(&mut self, alloc: Global, keyword: Keyword, words: &[u8]) -> Result<(), LineError>
+        ensures { LineGives result self.new (early_line self.old keyword (words_of words.now)) }
     {
         if !is_early(keyword) {
             return Err(LineError::Fault(Cause::Command));
@@ -217,8 +215,8 @@ impl RaceSoFar {
     }
 
     /// Takes `job FIRST LAST TURNS` by the words after the first.
-    fn take_job(&mut self, words: &[&[u8]]) -> Result<(), LineError>
-        ensures { LineGives result self.new (job_taken self.old (map (λ word. word.now) words.now)) }
+    fn take_job(&mut self, words: &[u8]) -> Result<(), LineError>
+        ensures { LineGives result self.new (job_taken self.old (words_of words.now)) }
     {
         self.behind_memory()?;
         let job = job_line(words)?;
@@ -230,8 +228,8 @@ impl RaceSoFar {
     }
 
     /// Takes `go` by the words after it.
-    fn take_go(&mut self, alloc: Global, words: &[&[u8]]) -> Result<(), LineError>
-        ensures { LineGives result self.new (go_taken self.old (map (λ word. word.now) words.now)) }
+    fn take_go(&mut self, alloc: Global, words: &[u8]) -> Result<(), LineError>
+        ensures { LineGives result self.new (go_taken self.old (words_of words.now)) }
     {
         self.behind_memory()?;
         no_word(words)?;
@@ -244,9 +242,9 @@ impl RaceSoFar {
         &mut self,
         alloc: Global,
         keyword: RaceKeyword,
-        words: &[&[u8]],
+        words: &[u8],
     ) -> Result<(), LineError>
-        ensures { LineGives result self.new (line_before_go self.old keyword (map (λ word. word.now) words.now)) }
+        ensures { LineGives result self.new (line_before_go self.old keyword (words_of words.now)) }
     {
         match keyword {
             RaceKeyword::Line(keyword) => self.take_early(alloc, keyword, words),
@@ -256,21 +254,12 @@ impl RaceSoFar {
     }
 
     /// Takes a line by its keyword and the words after that.
-    fn take(
-        &mut self,
-        alloc: Global,
-        keyword: RaceKeyword,
-        words: &[&[u8]],
-    ) -> Result<(), LineError>
-        ensures { LineGives result self.new (next_race_line self.old keyword (map (λ word. word.now) words.now)) }
+    fn take(&mut self, alloc: Global, keyword: RaceKeyword, words: &[u8]) -> Result<(), LineError>
+        ensures { LineGives result self.new (next_race_line self.old keyword (words_of words.now)) }
     {
         match &mut self.after {
             None => self.take_before_go(alloc, keyword, words),
-            Some(after) => {
-                let statement = line_after_go(alloc, keyword, words)?;
-                after.push(statement)?;
-                Ok(())
-            }
+            Some(after) => add_after_go(after, alloc, keyword, words),
         }
     }
 }
@@ -284,8 +273,8 @@ impl Script for RaceSoFar {
 
     ghost step = { race_step };
 
-    fn take_line(&mut self, alloc: Global, words: &[&[u8]]) -> Result<(), LineError> {
-        let Some((word, arguments)) = words.split_first() else {
+    fn take_line(&mut self, alloc: Global, words: &[u8]) -> Result<(), LineError> {
+        let Some((word, arguments)) = next_word(words) else {
             return Err(LineError::Fault(Cause::Command));
         };
         let Some(keyword) = race_keyword_in(word) else {

@@ -1,17 +1,14 @@
 //! The lines of a run script.
-ghost use Rattle.std.specs.Prelude.{◌≡◌, ◌++◌, ◌∷◌, [], IfOk, List, None, OnErr, OnOk, map};
+ghost use Rattle.std.specs.Prelude.{◌≡◌, ◌++◌, ◌∷◌, [], IfOk, None, OnErr, OnOk};
 
 use crate::apart::Apart;
-use crate::arguments::{
-    byte_alone, byte_of, bytes_at, first_and_rest, list_at, no_word, number_at, number_where,
-    one_and_more, one_of, one_or_two, segment_at, three_of, two_of,
-};
 use crate::fault::{Cause, Fault, LineError, ScriptError};
 use crate::lines::{Script, read_script};
-use crate::plan::{TransferLine, transfer_numbers, transfer_of, transfer_words};
+use crate::plan::TransferLine;
+use crate::run_lines::{add_later_line, first_line};
+use crate::words::next_word;
 use dma_mem::lists::{Bytes, Segments};
 use dma_mem::marks::MarkKind;
-use dma_mem::memory::MAX_SIZE;
 use dma_mem::segment::Segment;
 use dma_text::bytes::is_text;
 use std::alloc::{AllocError, Global};
@@ -203,11 +200,13 @@ impl Statements {
     }
 
     /// Adds a statement at the end. Without memory for it the list stays as it was.
+    #[inline(always)]
     pub(crate) fn push(&mut self, statement: Statement) -> Result<(), AllocError>
         ensures ok { OnOk result (self.new ≡ self.old ++ statement ∷ []) }
         ensures err { OnErr result (self.new ≡ self.old) }
     {
-        self.items.push(statement)?;
+        self.items.reserve(1)?;
+        self.items.push_reserved(statement);
         Ok(())
     }
 }
@@ -224,8 +223,9 @@ pub struct RunScript {
 }
 
 ghost use Rattle.std.specs.Option.{ForSome};
-ghost use Rattle.dma_script.specs.Lines.{Gives, LineGives, ScriptGives};
-ghost use Rattle.dma_script.specs.Statements.{channel_and_cookie, copy_line, count_of, fill_line, first_line, IsWithin, keyword_of, later_line, mark_kind_of, mark_line, memory_line, next_line, read_line, result_line, run_script_of, status_line, step_line, submit_line, write_line};
+ghost use Rattle.dma_script.specs.Lines.{LineGives, ScriptGives};
+ghost use Rattle.dma_script.specs.Words.{words_of};
+ghost use Rattle.dma_script.specs.Statements.{IsWithin, keyword_of, next_line, run_script_of};
 
 /// The command that a word is.
 pub(crate) fn keyword_in(word: &[u8]) -> Option<Keyword>
@@ -254,222 +254,6 @@ pub(crate) fn keyword_in(word: &[u8]) -> Option<Keyword>
     }
 }
 
-/// `memory SIZE CHANNELS`
-fn memory_line(alloc: Global, words: &[&[u8]]) -> Result<RunScript, Cause>
-    ensures line { result ≡ memory_line (map (λ word. word.now) words.now) }
-    ensures within { IfOk result IsWithin }
-{
-    let (size, channels) = two_of(words)?;
-    let size = number_at(size)?;
-    let channels = number_at(channels)?;
-    if !(1..=MAX_SIZE).contains(&size) {
-        return Err(Cause::SizeOutOfRange);
-    }
-    if !(1..=MAX_CHANNELS).contains(&channels) {
-        return Err(Cause::BadChannels);
-    }
-    Ok(RunScript {
-        size,
-        channels,
-        statements: Statements::new(alloc),
-    })
-}
-
-/// `write ADDR HEX`
-fn write_line(alloc: Global, words: &[&[u8]]) -> Result<Statement, LineError>
-    ensures { Gives (λ line. line) result (write_line (map (λ word. word.now) words.now)) }
-{
-    let (addr, hex) = one_and_more(words)?;
-    let addr = number_at(addr)?;
-    let bytes = bytes_at(alloc, hex)?;
-    Ok(Statement::Write { addr, bytes })
-}
-
-/// `read SEG`
-fn read_line(words: &[&[u8]]) -> Result<Statement, Cause>
-    ensures { result ≡ read_line (map (λ word. word.now) words.now) }
-{
-    let segment = segment_at(one_of(words)?)?;
-    Ok(Statement::Read(segment))
-}
-
-/// `copy LIST to LIST`
-fn copy_line(alloc: Global, words: &[&[u8]]) -> Result<Statement, LineError>
-    ensures { Gives (λ line. line) result (copy_line (map (λ word. word.now) words.now)) }
-{
-    let (src, to, dst) = three_of(words)?;
-    if !is_text(to, b"to") {
-        return Err(LineError::Fault(Cause::Words));
-    }
-    let src = list_at(alloc, src)?;
-    let dst = list_at(alloc, dst)?;
-    Ok(Statement::Copy(Apart::new(alloc, CopyLine { src, dst })?))
-}
-
-/// `fill ADDR to LIST`
-fn fill_line(alloc: Global, words: &[&[u8]]) -> Result<Statement, LineError>
-    ensures { Gives (λ line. line) result (fill_line (map (λ word. word.now) words.now)) }
-{
-    let (src, to, dst) = three_of(words)?;
-    if !is_text(to, b"to") {
-        return Err(LineError::Fault(Cause::Words));
-    }
-    let src = number_at(src)?;
-    let dst = list_at(alloc, dst)?;
-    Ok(Statement::Fill { src, dst })
-}
-
-/// `submit CH LIST to LIST [wait E] [signal E]` or `submit CH fill ADDR to LIST [wait E] [signal E]`
-fn submit_line(alloc: Global, words: &[&[u8]]) -> Result<Statement, LineError>
-    ensures { Gives (λ line. line) result (submit_line (map (λ word. word.now) words.now)) }
-{
-    let (ch, words) = first_and_rest(words)?;
-    let words = transfer_words(words)?;
-    let number = number_at(ch)?;
-    let numbers = transfer_numbers(alloc, words)?;
-    let ch = byte_of(number)?;
-    let transfer = Apart::new(alloc, transfer_of(numbers)?)?;
-    Ok(Statement::Submit { ch, transfer })
-}
-
-/// The count of a step line.
-fn count_of(count: Option<u32>) -> Result<u32, Cause>
-    ensures { result ≡ count_of count }
-{
-    match count {
-        None => Ok(1),
-        Some(n) => {
-            if (1..=MAX_STEPS).contains(&n) {
-                Ok(n)
-            } else {
-                Err(Cause::Range)
-            }
-        }
-    }
-}
-
-/// `step CH [N]`
-fn step_line(words: &[&[u8]]) -> Result<Statement, Cause>
-    ensures { result ≡ step_line (map (λ word. word.now) words.now) }
-{
-    let (ch, steps) = one_or_two(words)?;
-    let number = number_at(ch)?;
-    let steps = number_where(steps)?;
-    let ch = byte_of(number)?;
-    let count = count_of(steps)?;
-    Ok(Statement::Step { ch, count })
-}
-
-/// `CH COOKIE`
-fn channel_and_cookie(words: &[&[u8]]) -> Result<(u8, u32), Cause>
-    ensures { result ≡ channel_and_cookie (map (λ word. word.now) words.now) }
-{
-    let (ch, cookie) = two_of(words)?;
-    let number = number_at(ch)?;
-    let cookie = number_at(cookie)?;
-    let ch = byte_of(number)?;
-    Ok((ch, cookie))
-}
-
-/// `status CH COOKIE`
-fn status_line(words: &[&[u8]]) -> Result<Statement, Cause>
-    ensures { result ≡ status_line (map (λ word. word.now) words.now) }
-{
-    let (ch, cookie) = channel_and_cookie(words)?;
-    Ok(Statement::Status { ch, cookie })
-}
-
-/// `result CH COOKIE`
-fn result_line(words: &[&[u8]]) -> Result<Statement, Cause>
-    ensures { result ≡ result_line (map (λ word. word.now) words.now) }
-{
-    let (ch, cookie) = channel_and_cookie(words)?;
-    Ok(Statement::Result { ch, cookie })
-}
-
-/// What a mark makes fail.
-fn mark_kind_in(word: &[u8]) -> Option<MarkKind>
-    ensures { result ≡ mark_kind_of word.now }
-{
-    if is_text(word, b"read") {
-        Some(MarkKind::Reading)
-    } else if is_text(word, b"write") {
-        Some(MarkKind::Writing)
-    } else {
-        None
-    }
-}
-
-/// `mark read SEG` or `mark write SEG`
-fn mark_line(words: &[&[u8]]) -> Result<Statement, Cause>
-    ensures { result ≡ mark_line (map (λ word. word.now) words.now) }
-{
-    let (kind, segment) = two_of(words)?;
-    let kind = mark_kind_in(kind).ok_or(Cause::Words)?;
-    let segment = segment_at(segment)?;
-    Ok(Statement::Mark { kind, segment })
-}
-
-/// The first line, by its keyword and the words after that.
-fn first_line(alloc: Global, keyword: Keyword, words: &[&[u8]]) -> Result<RunScript, Cause>
-    ensures line { result ≡ first_line keyword (map (λ word. word.now) words.now) }
-    ensures within { IfOk result IsWithin }
-{
-    match keyword {
-        Keyword::Memory => memory_line(alloc, words),
-        _ => Err(Cause::First),
-    }
-}
-
-/// A later line.
-pub(crate) fn later_line(
-    alloc: Global,
-    keyword: Keyword,
-    words: &[&[u8]],
-) -> Result<Statement, LineError>
-    ensures { Gives (λ line. line) result (later_line keyword (map (λ word. word.now) words.now)) }
-{
-    match keyword {
-        Keyword::Memory => Err(LineError::Fault(Cause::First)),
-        Keyword::Write => write_line(alloc, words),
-        Keyword::Read => Ok(read_line(words)?),
-        Keyword::Copy => copy_line(alloc, words),
-        Keyword::Fill => fill_line(alloc, words),
-        Keyword::Submit => submit_line(alloc, words),
-        Keyword::Issue => Ok(Statement::Issue {
-            ch: byte_alone(words)?,
-        }),
-        Keyword::Pause => Ok(Statement::Pause {
-            ch: byte_alone(words)?,
-        }),
-        Keyword::Resume => Ok(Statement::Resume {
-            ch: byte_alone(words)?,
-        }),
-        Keyword::Terminate => Ok(Statement::Terminate {
-            ch: byte_alone(words)?,
-        }),
-        Keyword::Step => Ok(step_line(words)?),
-        Keyword::Status => Ok(status_line(words)?),
-        Keyword::Result => Ok(result_line(words)?),
-        Keyword::Mark => Ok(mark_line(words)?),
-        Keyword::Unmark => {
-            no_word(words)?;
-            Ok(Statement::Unmark)
-        }
-        Keyword::Raise => Ok(Statement::Raise {
-            event: byte_alone(words)?,
-        }),
-        Keyword::Checkpoint => {
-            no_word(words)?;
-            Ok(Statement::Checkpoint)
-        }
-        Keyword::Totals => {
-            no_word(words)?;
-            Ok(Statement::Totals)
-        }
-    }
-}
-
 /// What was read of a run script so far: nothing before its memory line.
 #[derive(Drop)]
 pub(crate) struct ReadSoFar {
@@ -486,23 +270,23 @@ impl ReadSoFar {
     }
 
     /// Takes a line by its keyword and the words after that.
+    #[inline(always)]
     pub(crate) fn take(
         &mut self,
         alloc: Global,
         keyword: Keyword,
-        words: &[&[u8]],
+        words: &[u8],
     ) -> Result<(), LineError>
-        ensures line { LineGives result self.new.script (next_line self.old.script keyword (map (λ word. word.now) words.now)) }
+        ensures line { LineGives result self.new.script (next_line self.old.script keyword (words_of words.now)) }
         ensures err { OnErr result (self.new.script ≡ self.old.script) }
     {
         match &mut self.script {
-            None => self.script = Some(first_line(alloc, keyword, words)?),
-            Some(script) => {
-                let statement = later_line(alloc, keyword, words)?;
-                script.statements.push(statement)?;
+            None => {
+                self.script = Some(first_line(alloc, keyword, words)?);
+                Ok(())
             }
+            Some(script) => add_later_line(&mut script.statements, alloc, keyword, words),
         }
-        Ok(())
     }
 }
 
@@ -517,8 +301,8 @@ impl Script for ReadSoFar {
 
     ghost step = { run_step };
 
-    fn take_line(&mut self, alloc: Global, words: &[&[u8]]) -> Result<(), LineError> {
-        let Some((word, arguments)) = words.split_first() else {
+    fn take_line(&mut self, alloc: Global, words: &[u8]) -> Result<(), LineError> {
+        let Some((word, arguments)) = next_word(words) else {
             return Err(LineError::Fault(Cause::Command));
         };
         let Some(keyword) = keyword_in(word) else {

@@ -1,12 +1,12 @@
 //! The words of a line, and what a word spells.
-ghost use Rattle.std.specs.Prelude.{◌≡◌, ◌∷◌, ◌++◌, ◌<◌, ◌≤◌, map, length, OnOk};
+ghost use Rattle.std.specs.Prelude.{◌≡◌, ◌∷◌, [], ◌<◌, ◌≤◌, MatchOption, false, length, slice_index};
 ghost use Rattle.std.specs.List.{list_all};
 ghost use Rattle.std.specs.Str.Lines.{lines, strip_carriage_return};
-ghost use Rattle.dma_script.specs.Words.{is_blank, is_plain, kept_part, segment_of, words_of, number_of, number_in};
+ghost use Rattle.dma_script.specs.Words.{is_blank, is_plain, is_plain_or_feed, segment_of, words_of, number_of, number_in};
 
 use dma_mem::segment::Segment;
 use dma_text::bytes::position_of;
-use std::alloc::AllocError;
+use dma_text::digits::digit_value;
 
 /// The line less a carriage return at its end.
 fn without_return(line: &[u8]) -> &[u8]
@@ -38,29 +38,44 @@ pub(crate) fn is_blank(byte: u8) -> bool
     byte == b' ' || byte == b'\t'
 }
 
-/// Adds a word at the end, unless it has no byte.
-fn push_word<'a>(words: &mut Vec<&'a [u8]>, word: &'a [u8]) -> Result<(), AllocError>
-    ensures { OnOk result (map (λ word. word.now) words.new.items ≡ map (λ word. word.now) words.old.items ++ kept_part word.now) }
+/// The line from its first byte on that is no blank.
+fn without_blanks(line: &[u8]) -> &[u8]
+    ensures words { words_of result.now ≡ words_of line.now }
+    ensures first { 0 < length result.now → is_blank (slice_index result.now 0) ≡ false }
 {
-    if !word.is_empty() {
-        words.push(word)?;
+    let mut rest = line;
+    while let [first, after @ ..] = rest {
+        if !is_blank(*first) {
+            return rest;
+        }
+        rest = after;
     }
-    Ok(())
+    rest
 }
 
-/// The words of a line, what stands between its blanks, in a list that is there already, in place of what it had.
-pub fn split_words<'a>(words: &mut Vec<&'a [u8]>, line: &'a [u8]) -> Result<(), AllocError>
-    ensures { OnOk result (map (λ word. word.now) words.new.items ≡ words_of line.now) }
+/// A word that a line begins with, and what follows the blank behind it.
+fn cut_word(line: &[u8]) -> (&[u8], &[u8])
+    requires some { 0 < length line.now }
+    requires first { is_blank (slice_index line.now 0) ≡ false }
+    ensures { words_of line.now ≡ result.0.now ∷ words_of result.1.now }
 {
-    words.clear();
-    let mut start = 0;
     for end in 0..line.len() {
         if is_blank(line[end]) {
-            push_word(words, &line[start..end])?;
-            start = end + 1;
+            return (&line[..end], &line[end + 1..]);
         }
     }
-    push_word(words, &line[start..])
+    (line, &[])
+}
+
+/// The first word of a line, which is what stands between its blanks, and what follows it; none where there is no word.
+pub(crate) fn next_word(line: &[u8]) -> Option<(&[u8], &[u8])>
+    ensures { MatchOption result (words_of line.now ≡ []) (λ w. words_of line.now ≡ w.0.now ∷ words_of w.1.now) }
+{
+    let rest = without_blanks(line);
+    if rest.is_empty() {
+        return None;
+    }
+    Some(cut_word(rest))
 }
 
 /// A printable ASCII character, a space or a tab.
@@ -82,6 +97,25 @@ pub fn is_plain_line(line: &[u8]) -> bool
     plain
 }
 
+/// A plain byte or a line feed.
+fn is_plain_or_feed(byte: u8) -> bool
+    ensures { result ≡ is_plain_or_feed byte }
+{
+    is_plain(byte) || byte == b'\n'
+}
+
+/// Whether each byte of a text is plain or a line feed: then each of its lines is plain.
+pub(crate) fn is_plain_text(text: &[u8]) -> bool
+    ensures { result ≡ list_all is_plain_or_feed text.now }
+{
+    // No early end, as for a line.
+    let mut plain = true;
+    for b in text {
+        plain &= is_plain_or_feed(*b);
+    }
+    plain
+}
+
 /// The number that one or more digits of a base spell, where it is at most 4,294,967,295.
 fn number_in(digits: &[u8], radix: u32) -> Option<u32>
     requires low { 2 ≤ radix }
@@ -93,7 +127,10 @@ fn number_in(digits: &[u8], radix: u32) -> Option<u32>
     }
     let mut value = 0u32;
     for b in digits {
-        let digit = char::from(*b).to_digit(radix)?;
+        let digit = u32::from(digit_value(*b));
+        if digit >= radix {
+            return None;
+        }
         value = value.checked_mul(radix)?.checked_add(digit)?;
     }
     Some(value)

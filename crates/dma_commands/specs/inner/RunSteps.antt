@@ -1,5 +1,7 @@
 -- What a line of a script has done and printed.
-use Rattle.std.specs.Prelude.{◌≡◌, ℕ, ◌++◌, List}
+use Rattle.std.specs.Prelude.{◌≡◌, ℕ, ◌++◌, List, [], Option, Some, slice_get}
+use Rattle.dma_engine.specs.declared.entry.Entry.{Entry}
+use Rattle.dma_engine.specs.declared.entry.Entry.TheVariants.{ReadBack}
 use Rattle.dma_engine.specs.View.{View}
 use Rattle.dma_script.specs.Command.{text_of}
 use Rattle.dma_commands.specs.Run.{Answered}
@@ -8,3 +10,12 @@ use Rattle.dma_commands.specs.Run.{Answered}
 pub record AnswersLine (answered : Answered) (new : View) (out out' : List ℕ) : Type 0 where
   pub acts : new ≡ answered.1
   pub prints : out' ≡ out ++ text_of answered.0
+
+-- the bytes that an entry read, none where it is no read
+abbrev pub read_in : Option Entry → List ℕ
+read_in (Some (ReadBack addr bytes)) = bytes
+read_in _ = []
+
+-- those of a history's entry at a place
+abbrev pub read_at : List Entry → ℕ → List ℕ
+read_at history place = read_in (slice_get history place)

@@ -4,14 +4,17 @@ ghost use Rattle.dma_engine.specs.Answer.{CallAnswers, answer};
 ghost use Rattle.dma_engine.specs.View.{object_of, running};
 ghost use Rattle.dma_script.specs.Command.{text_of};
 ghost use Rattle.dma_commands.specs.Printed.{refused_line, transfer_fault_name};
-ghost use Rattle.dma_commands.specs.inner.RunSteps.{AnswersLine};
+ghost use Rattle.dma_commands.specs.inner.RunSteps.{AnswersLine, read_at};
 ghost use Rattle.dma_commands.specs.Run.{call_answer, submit_answer, totals_line, totals_of};
 
 use crate::printing::{
-    push_cookie, push_refused, push_refused_call, push_told, push_worded, rule_name,
+    push_cookie, push_issued, push_read, push_refused, push_refused_call, push_told, push_worded,
+    rule_name,
 };
 use crate::transfers::transfer_of;
-use dma_engine::{Call, Engine, EngineFault, Reply};
+use dma_engine::{Call, Engine, EngineFault, Entry, Reply};
+use dma_mem::lists::Bytes;
+use dma_mem::segment::Segment;
 use dma_mem::transfer::{Transfer, TransferFault};
 use dma_script::plan::TransferLine;
 use dma_script::printing::push_line;
@@ -29,6 +32,7 @@ pub fn reply_to(engine: &mut Engine, call: &Call) -> Result<Reply, AllocError>
 }
 
 /// Carries out one call, and appends its line or nothing.
+#[inline(never)]
 pub fn answer_call(
     engine: &mut Engine,
     call: &Call,
@@ -42,19 +46,48 @@ pub fn answer_call(
     push_told(line, call, &reply, out)
 }
 
-/// Carries out `write ADDR HEX`.
+/// Carries out `write ADDR HEX`, whose bytes the history takes for itself.
+#[inline(never)]
 pub fn write_line(
     engine: &mut Engine,
     addr: u32,
-    bytes: &[u8],
+    bytes: Bytes,
     line: &mut Vec<u8>,
     out: &mut Vec<u8>,
 ) -> Result<(), AllocError>
-    ensures ok { OnOk result (AnswersLine (call_answer engine.old.view (Call.Write addr bytes.now)) engine.new.view out.old.items out.new.items) }
+    ensures ok { OnOk result (AnswersLine (call_answer engine.old.view (Call.Write addr bytes)) engine.new.view out.old.items out.new.items) }
     ensures err { OnErr result (out.new.items ≡ out.old.items) }
 {
-    match engine.write(addr, bytes) {
+    match engine.write_owned(addr, bytes) {
         Ok(()) => push_line(out, b"ok"),
+        Err(fault) => push_refused_call(line, fault, out),
+    }
+}
+
+/// The bytes that a history's entry at a place read, none where it is no read.
+fn read_at(history: &[Entry], place: usize) -> &[u8]
+    ensures { result.now ≡ read_at history.now place }
+{
+    match history.get(place) {
+        Some(Entry::ReadBack { bytes, .. }) => bytes.as_slice(),
+        _ => &[],
+    }
+}
+
+/// Carries out `read SEG`. The bytes are printed from the history, which keeps them.
+#[inline(never)]
+pub fn read_line(
+    engine: &mut Engine,
+    segment: Segment,
+    line: &mut Vec<u8>,
+    out: &mut Vec<u8>,
+) -> Result<(), AllocError>
+    ensures ok { OnOk result (AnswersLine (call_answer engine.old.view (Call.Read segment.addr segment.len)) engine.new.view out.old.items out.new.items) }
+    ensures err { OnErr result (out.new.items ≡ out.old.items) }
+{
+    let place = engine.history().len();
+    match engine.read_back(segment.addr, segment.len) {
+        Ok(()) => push_read(line, segment.addr, read_at(engine.history(), place), out),
         Err(fault) => push_refused_call(line, fault, out),
     }
 }
@@ -89,6 +122,7 @@ fn submit(
 }
 
 /// Carries out `submit CH LIST to LIST [wait E] [signal E]` or `submit CH fill ADDR to LIST [wait E] [signal E]`.
+#[inline(never)]
 pub fn submit_line(
     engine: &mut Engine,
     ch: u8,
@@ -102,6 +136,23 @@ pub fn submit_line(
     match transfer_of(words) {
         Ok(transfer) => submit(engine, ch, transfer, line, out),
         Err(fault) => push_unfit(line, fault, out),
+    }
+}
+
+/// Carries out `issue CH`.
+#[inline(never)]
+pub fn issue_line(
+    engine: &mut Engine,
+    ch: u8,
+    line: &mut Vec<u8>,
+    out: &mut Vec<u8>,
+) -> Result<(), AllocError>
+    ensures ok { OnOk result (AnswersLine (call_answer engine.old.view (Call.Issue ch)) engine.new.view out.old.items out.new.items) }
+    ensures err { OnErr result (out.new.items ≡ out.old.items) }
+{
+    match engine.issue(ch) {
+        Ok(count) => push_issued(line, count, out),
+        Err(fault) => push_refused_call(line, fault, out),
     }
 }
 
@@ -128,6 +179,7 @@ fn push_totals(line: &mut Vec<u8>, entries: u64, steps: u64, running: u64) -> Re
 }
 
 /// Carries out `totals`.
+#[inline(never)]
 pub fn answer_totals(
     engine: &Engine,
     line: &mut Vec<u8>,

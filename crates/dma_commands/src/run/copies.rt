@@ -108,6 +108,7 @@ fn answer_through(
 }
 
 /// Carries out `copy LIST to LIST`.
+#[inline(never)]
 pub fn answer_copy(
     engine: &mut Engine,
     lists: CopyLine,
@@ -128,6 +129,7 @@ pub fn answer_copy(
 }
 
 /// Carries out `fill ADDR to LIST`.
+#[inline(never)]
 pub fn answer_fill(
     engine: &mut Engine,
     src: u32,

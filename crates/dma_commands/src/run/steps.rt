@@ -12,6 +12,7 @@ ghost use Rattle.dma_commands.specs.Run.{step_answer, step_line};
 use crate::printing::{push_reply, push_text, push_worded};
 use dma_engine::advance::{Advanced, advance};
 use dma_engine::{Engine, EngineFault, Reply, Turn};
+use dma_script::printing::push_line;
 use std::alloc::{AllocError, Global};
 use std::mem;
 
@@ -131,6 +132,7 @@ fn take_steps(
 }
 
 /// Steps a channel so often, and leaves the lines.
+#[inline(never)]
 fn step_text(
     engine: &mut Engine,
     ch: u8,
@@ -151,7 +153,34 @@ fn step_text(
     Ok(())
 }
 
+/// The line of one answer, at the end.
+fn push_one_step(line: &mut Vec<u8>, ch: u8, reply: &Reply) -> Result<(), AllocError>
+    ensures { OnOk result (line.new.items ≡ line.old.items ++ step_line ch (reply_text reply.now, 1)) }
+{
+    push_worded(line, "step ", u64::from(ch))?;
+    push_text(line, " ")?;
+    push_reply(line, reply)?;
+    push_worded(line, " x", 1)
+}
+
+/// Carries out `step CH`, whose one answer is no run of several.
+fn answer_step(
+    engine: &mut Engine,
+    ch: u8,
+    line: &mut Vec<u8>,
+    out: &mut Vec<u8>,
+) -> Result<(), AllocError>
+    ensures ok { OnOk result (AnswersLine (step_answer engine.old.view ch 1) engine.new.view out.old.items out.new.items) }
+    ensures err { OnErr result (out.new.items ≡ out.old.items) }
+{
+    let reply = step_reply(engine.step(ch))?;
+    line.clear();
+    push_one_step(line, ch, &reply)?;
+    push_line(out, line)
+}
+
 /// Carries out `step CH [N]`. No step takes memory for its answer, and those after one that changed nothing take no time.
+#[inline(never)]
 pub fn answer_steps(
     engine: &mut Engine,
     ch: u8,
@@ -162,6 +191,9 @@ pub fn answer_steps(
     ensures ok { OnOk result (AnswersLine (step_answer engine.old.view ch count) engine.new.view out.old.items out.new.items) }
     ensures err { OnErr result (out.new.items ≡ out.old.items) }
 {
+    if count == 1 {
+        return answer_step(engine, ch, &mut told.lines, out);
+    }
     step_text(engine, ch, count, told)?;
     out.extend_from_slice(&told.lines)?;
     Ok(())

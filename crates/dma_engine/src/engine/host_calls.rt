@@ -1,7 +1,8 @@
 //! The calls of the host on memory, marks and flags.
 
-ghost use Rattle.std.specs.Prelude.{◌≡◌, ◌≢◌, ◌+◌, ◌≤◌, ℕ, IfErr, IfOk, OnErr, take, drop, length};
-ghost use Rattle.dma_engine.specs.Answer.{CallAnswers, reply_of};
+ghost use Rattle.std.specs.Prelude.{◌≡◌, ◌≢◌, ◌+◌, ◌≤◌, ℕ, IfErr, IfOk, None, OnErr, OnOk, take, drop, length};
+ghost use Rattle.dma_engine.specs.Answer.{CallAnswers, read_fault, reply_of, write_fault};
+ghost use Rattle.dma_engine.specs.View.{object_of, size};
 ghost use Rattle.dma_engine.specs.Room.{HasRoom, KeepsRoom};
 
 use crate::call::{Call, Reply};
@@ -28,6 +29,25 @@ impl Engine {
         ensures answer { CallAnswers self.old.view (Call.Write addr bytes.now) (reply_of (λ _. Reply.Done) result) self.new.view }
         ensures kept { OnErr result (KeepsRoom self.old self.new) }
     {
+        self.check_write(addr, bytes)?;
+        let kept = Bytes::from_slice(self.alloc, bytes)?;
+        self.write_checked(addr, kept)
+    }
+
+    /// Writes bytes from an address on, as `write` does, but moves them into the history, without a copy.
+    pub fn write_owned(&mut self, addr: u32, bytes: Bytes) -> Result<(), EngineFault>
+        ensures answer { CallAnswers self.old.view (Call.Write addr bytes) (reply_of (λ _. Reply.Done) result) self.new.view }
+        ensures kept { OnErr result (KeepsRoom self.old self.new) }
+    {
+        self.check_write(addr, bytes.as_slice())?;
+        self.write_checked(addr, bytes)
+    }
+
+    // Fails where a write is refused for another reason than memory.
+    fn check_write(&self, addr: u32, bytes: &[u8]) -> Result<(), EngineFault>
+        ensures free { OnOk result (write_fault self.now.view addr (length bytes.now) ≡ None) }
+        ensures err { IfErr result (λ fault. CallAnswers self.now.view (Call.Write addr bytes.now) (Reply.Refused fault) self.now.view) }
+    {
         if addr as usize + bytes.len() > self.size as usize {
             return Err(EngineFault::OutOfMemoryRange);
         }
@@ -35,16 +55,23 @@ impl Engine {
             addr,
             len: bytes.len() as u32,
         };
-        if let Some((ch, cookie)) = self.first_in_the_way(&Way::Write(range)) {
-            return Err(EngineFault::Busy { ch, cookie });
+        match self.first_in_the_way(&Way::Write(range)) {
+            Some((ch, cookie)) => Err(EngineFault::Busy { ch, cookie }),
+            None => Ok(()),
         }
-        let kept = Bytes::from_slice(self.alloc, bytes)?;
+    }
+
+    // Carries out a write that was checked: it fails only when out of memory.
+    fn write_checked(&mut self, addr: u32, bytes: Bytes) -> Result<(), EngineFault>
+        requires { write_fault self.old.view addr (length bytes) ≡ None }
+        ensures answer { CallAnswers self.old.view (Call.Write addr bytes) (reply_of (λ _. Reply.Done) result) self.new.view }
+        ensures kept { OnErr result (KeepsRoom self.old self.new) }
+    {
         self.history.reserve(1)?;
-        let Ok(()) = self.memory.write(addr, bytes) else {
+        let Ok(()) = self.memory.write(addr, bytes.as_slice()) else {
             return Err(EngineFault::NoMemory);
         };
-        self.history
-            .push_reserved(Entry::Wrote { addr, bytes: kept });
+        self.history.push_reserved(Entry::Wrote { addr, bytes });
         Ok(())
     }
 
@@ -56,19 +83,41 @@ impl Engine {
         ensures answer { CallAnswers self.old.view (Call.Read addr len) (reply_of (λ bytes. Reply.Bytes bytes) result) self.new.view }
         ensures kept { OnErr result (KeepsRoom self.old self.new) }
     {
-        if addr as usize + len as usize > self.size as usize {
-            return Err(EngineFault::OutOfMemoryRange);
-        }
-        let range = Segment { addr, len };
-        if let Some((ch, cookie)) = self.first_in_the_way(&Way::Read(range)) {
-            return Err(EngineFault::Busy { ch, cookie });
-        }
+        self.check_read(addr, len)?;
         let answer = bytes_of(self.alloc, &self.memory, addr, len)?;
         let kept = Bytes::from_slice(self.alloc, answer.as_slice())?;
         self.history.reserve(1)?;
         self.history
             .push_reserved(Entry::ReadBack { addr, bytes: kept });
         Ok(answer)
+    }
+
+    /// Reads bytes from an address on, as `read` does, but returns no copy of them: they are in the history's last entry.
+    pub fn read_back(&mut self, addr: u32, len: u32) -> Result<(), EngineFault>
+        ensures answer { CallAnswers self.old.view (Call.Read addr len) (reply_of (λ _. Reply.Bytes (take len (drop addr (object_of self.old.view).image))) result) self.new.view }
+        ensures kept { OnErr result (KeepsRoom self.old self.new) }
+    {
+        self.check_read(addr, len)?;
+        let bytes = bytes_of(self.alloc, &self.memory, addr, len)?;
+        self.history.reserve(1)?;
+        self.history.push_reserved(Entry::ReadBack { addr, bytes });
+        Ok(())
+    }
+
+    // Fails where a read is refused for another reason than memory.
+    fn check_read(&self, addr: u32, len: u32) -> Result<(), EngineFault>
+        ensures free { OnOk result (read_fault self.now.view addr len ≡ None) }
+        ensures within { OnOk result (addr + len ≤ size self.now.view) }
+        ensures err { IfErr result (λ fault. CallAnswers self.now.view (Call.Read addr len) (Reply.Refused fault) self.now.view) }
+    {
+        if addr as usize + len as usize > self.size as usize {
+            return Err(EngineFault::OutOfMemoryRange);
+        }
+        let range = Segment { addr, len };
+        match self.first_in_the_way(&Way::Read(range)) {
+            Some((ch, cookie)) => Err(EngineFault::Busy { ch, cookie }),
+            None => Ok(()),
+        }
     }
 
     /// Marks a range, which need not lie below the memory's size: from then on bursts of that kind fail there, and nothing

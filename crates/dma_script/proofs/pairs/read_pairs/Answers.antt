@@ -1,5 +1,5 @@
 use Rattle.std.proofs.Common.{◌≡◌, ◌∙◌, ◌+◌, ◌-◌, take, drop, ◌++◌, ◌∷◌, [], ap, sym, get_or, length, true, arith, length-drop}
-use Rattle.std.proofs.lemmas.List.{take_rest}
+use Rattle.std.proofs.lemmas.List.{length_push, take_rest}
 use Rattle.dma_script.specs.Pairs.{is_gap}
 use Rattle.dma_script.proofs.PairLemmas.{pairs_after, pairs_after_feed, pairs_after_gap, pairs_after_pair, pairs_after_same}
 use Rattle.dma_script.proofs.pairs.read_pairs.Goals as goal
@@ -15,7 +15,9 @@ loop-rest-preserved-in-Some c =
     let later = c.past_space-rest.result.now in
     record {
       counted = omega (arith, c.past_space-rest.ensures.within, ap length tail ∙ length-drop 2 rest, c.loop-rest.invariant.counted, c.in-len2-up.len_at_least);
-      reads = ap (λ read. pairs_after read line later) c.in_ok-push.ensures.items ∙ pairs_after_same bytes line after later (c.past_space-rest.ensures.same line)
+      room = omega (arith, c.past_space-rest.ensures.within, ap length tail ∙ length-drop 2 rest, c.loop-rest.invariant.room, c.in-len2-up.len_at_least, ap length c.push_reserved.ensures.items, length_push c.loop-rest.bytes.items c.in-Some.byte);
+      capacity = omega (arith, c.loop-rest.invariant.capacity, c.push_reserved.ensures.capacity);
+      reads = ap (λ read. pairs_after read line later) c.push_reserved.ensures.items ∙ pairs_after_same bytes line after later (c.past_space-rest.ensures.same line)
           ∙ ap (pairs_after bytes line) tail ∙ pairs_after_pair c.loop-rest.bytes.items line c.in-Some.byte rest c.in-len2-up.len_at_least (sym c.in-Some.ensures) ∙ c.loop-rest.invariant.reads;
     }
 
@@ -30,10 +32,14 @@ loop-rest-preserved c =
     elim c.if-high-eq10.branch [
       | then-high-eq10 w ↦ rw w.line-is (record {
         counted = omega (arith, shorter, c.loop-rest.invariant.counted, c.in-len2-up.len_at_least);
+        room = omega (arith, shorter, c.loop-rest.invariant.room, c.in-len2-up.len_at_least);
+        capacity = c.loop-rest.invariant.capacity;
         reads = ap (pairs_after bytes (line + 1)) tail ∙ pairs_after_feed bytes line rest (omega (arith, c.in-len2-up.len_at_least)) gap w.if-high-eq10.true ∙ c.loop-rest.invariant.reads;
       })
       | else-high-eq10 w ↦ rw w.line-is (record {
         counted = omega (arith, shorter, c.loop-rest.invariant.counted, c.in-len2-up.len_at_least);
+        room = omega (arith, shorter, c.loop-rest.invariant.room, c.in-len2-up.len_at_least);
+        capacity = c.loop-rest.invariant.capacity;
         reads = ap (pairs_after bytes line) tail ∙ pairs_after_gap bytes line rest (omega (arith, c.in-len2-up.len_at_least)) gap w.if-high-eq10.false ∙ c.loop-rest.invariant.reads;
       })
     ]

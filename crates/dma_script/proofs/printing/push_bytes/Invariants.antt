@@ -1,7 +1,10 @@
--- The bytes so far stand behind what stood there.
-use Rattle.std.proofs.Common.{◌≡◌, ◌++◌, take}
+-- The bytes so far stand behind what stood there, and there is room for the others.
+use Rattle.std.proofs.Common.{◌≡◌, ◌≤◌, ◌+◌, ◌-◌, ◌*◌, ◌++◌, length, take}
 use Rattle.dma_script.specs.Printing.{spaced_bytes}
 use Rattle.dma_script.proofs.printing.push_bytes.Given as goal
 
 abbrev pub invariant-loop-byte : goal.invariant-loop-byte
-invariant-loop-byte l = l.line.items ≡ l.initial.line.items ++ spaced_bytes (take l.byte-index l.bytes)
+invariant-loop-byte l = record {
+  text : l.text.items ≡ l.initial.text.items ++ spaced_bytes (take l.byte-index l.bytes);
+  room : length l.text.items + 3 * (length l.bytes - l.byte-index) ≤ l.text.cap;
+}

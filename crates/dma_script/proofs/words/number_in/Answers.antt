@@ -5,23 +5,23 @@ use Rattle.dma_script.proofs.words.number_in.Goals as goal
 
 pub returns-in_err-checked_mul : goal.returns-in_err-checked_mul
 returns-in_err-checked_mul c =
-    let digit : c.in_ok-digit.digit ≡ digit_value (get_or c.args.digits.now c.loop-b.b-index 0) = search rules in
-    c.from_residual-in_err-checked_mul.ensures ∙ sym (number_in_above_more c.args.radix c.args.digits.now c.loop-b.b-index c.loop-b.value c.in_ok-digit.digit (omega arith) (omega arith) c.loop-b.invariant.value digit (omega (arith, c.in_err-checked_mul.ensures)))
+    let digit : c.from-digit.result ≡ digit_value (get_or c.args.digits.now c.loop-b.b-index 0) = search rules in
+    c.from_residual.ensures ∙ sym (number_in_above_more c.args.radix c.args.digits.now c.loop-b.b-index c.loop-b.value c.from-digit.result (omega arith) (omega arith) c.loop-b.invariant.value digit (omega (arith, c.in_err-checked_mul.ensures)))
 
 pub returns-in_err-value : goal.returns-in_err-value
 returns-in_err-value c =
-    let digit : c.in_ok-digit.digit ≡ digit_value (get_or c.args.digits.now c.loop-b.b-index 0) = search rules in
-    c.from_residual-in_err-value.ensures ∙ sym (number_in_above_more c.args.radix c.args.digits.now c.loop-b.b-index c.loop-b.value c.in_ok-digit.digit (omega arith) (omega arith) c.loop-b.invariant.value digit (omega (arith, c.in_err-value.ensures, c.in_ok-checked_mul.ensures)))
+    let digit : c.from-digit.result ≡ digit_value (get_or c.args.digits.now c.loop-b.b-index 0) = search rules in
+    c.from_residual-in_err-value.ensures ∙ sym (number_in_above_more c.args.radix c.args.digits.now c.loop-b.b-index c.loop-b.value c.from-digit.result (omega arith) (omega arith) c.loop-b.invariant.value digit (omega (arith, c.in_err-value.ensures, c.in_ok-checked_mul.ensures)))
 
 pub loop-b-preserved : goal.loop-b-preserved
 loop-b-preserved c =
-    let digit : c.in_ok-digit.digit ≡ digit_value (get_or c.args.digits.now c.loop-b.b-index 0) = search rules in
-    let small : c.in_ok-digit.digit < c.args.radix = omega (arith, c.in_ok-digit.ensures) in
-    let sum : c.in_ok-value.value ≡ c.loop-b.value * c.args.radix + c.in_ok-digit.digit = omega (arith, c.in_ok-checked_mul.ensures, c.in_ok-value.ensures) in
+    let digit : c.from-digit.result ≡ digit_value (get_or c.args.digits.now c.loop-b.b-index 0) = search rules in
+    let small : c.from-digit.result < c.args.radix = omega (arith, c.if-digit-radix.false) in
+    let sum : c.in_ok-value.value ≡ c.loop-b.value * c.args.radix + c.from-digit.result = omega (arith, c.in_ok-checked_mul.ensures, c.in_ok-value.ensures) in
     record {
       digits = digits_next c.args.radix c.args.digits.now c.loop-b.b-index (omega arith) c.loop-b.invariant.digits (subst (λ d. d < c.args.radix) digit small);
       small = omega (arith, c.in_ok-value.ensures);
-      value = sum ∙ digits_value_next c.args.radix c.args.digits.now c.loop-b.b-index c.loop-b.value c.in_ok-digit.digit (omega arith) c.loop-b.invariant.value digit;
+      value = sum ∙ digits_value_next c.args.radix c.args.digits.now c.loop-b.b-index c.loop-b.value c.from-digit.result (omega arith) c.loop-b.invariant.value digit;
     }
 
 pub returns : goal.returns
