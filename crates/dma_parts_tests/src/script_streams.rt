@@ -188,7 +188,7 @@ fn each_read_and_each_write_fails(rt: HostRuntime) {
 #[test]
 fn an_input_that_is_too_long(rt: HostRuntime) -> Result<(), Fail> {
     let input = vec![in rt.alloc(); b'#'; 4_194_305]?;
-    let end = (1, b"line 0: InputTooLong\n".as_slice(), 513);
+    let end = (1, b"line 0: InputTooLong\n".as_slice(), 65);
     for is_open in [false, true] {
         let call = Call { is_open, ..PLAIN };
         assert_each_write_fails(&rt, rt.alloc(), &input, call, end);
