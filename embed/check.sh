@@ -137,7 +137,7 @@ if has "$CC"; then
     if has nm; then
         try "names of the library" names
     else
-        echo "there is no nm: the names that the library exports are not compared"
+        echo "there is no nm: the comparison of the names that the library exports is left out"
     fi
     try "README.md" readme
     in_c plain $CC $c_flags
@@ -145,7 +145,7 @@ if has "$CC"; then
     if has "$CXX"; then
         in_cxx
     else
-        echo "there is no C++ compiler $CXX: the header isn't tried in C++"
+        echo "there is no C++ compiler $CXX: the test of the header in C++ is left out"
     fi
 else
     echo "there is no C compiler $CC: the tests in C are left out"
