@@ -177,7 +177,7 @@ fn push_refusal(line: &mut Vec<u8>, fault: EngineFault) -> Result<(), AllocError
 }
 
 /// What is printed of a reply, at the end.
-pub fn push_reply(line: &mut Vec<u8>, reply: &Reply) -> Result<(), AllocError>
+pub(crate) fn push_reply(line: &mut Vec<u8>, reply: &Reply) -> Result<(), AllocError>
     ensures { OnOk result (line.new.items ≡ line.old.items ++ reply_text reply.now) }
 {
     match reply {
@@ -246,7 +246,7 @@ pub fn push_told(
 }
 
 /// Appends the line of a read, or nothing.
-pub fn push_read(
+pub(crate) fn push_read(
     line: &mut Vec<u8>,
     addr: u32,
     bytes: &[u8],
@@ -263,7 +263,7 @@ pub fn push_read(
 }
 
 /// Appends what is printed of a reply after a word, or nothing.
-pub fn push_after(
+pub(crate) fn push_after(
     line: &mut Vec<u8>,
     word: &str,
     reply: &Reply,
@@ -289,7 +289,11 @@ pub fn push_cookie(line: &mut Vec<u8>, cookie: u32, out: &mut Vec<u8>) -> Result
 }
 
 /// Appends `issued N`, or nothing.
-pub fn push_issued(line: &mut Vec<u8>, count: u32, out: &mut Vec<u8>) -> Result<(), AllocError>
+pub(crate) fn push_issued(
+    line: &mut Vec<u8>,
+    count: u32,
+    out: &mut Vec<u8>,
+) -> Result<(), AllocError>
     ensures ok { OnOk result (out.new.items ≡ out.old.items ++ text_of ((codes "issued " ++ decimal count) ∷ [])) }
     ensures err { OnErr result (out.new.items ≡ out.old.items) }
 {

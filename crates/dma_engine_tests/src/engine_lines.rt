@@ -7,6 +7,7 @@ use dma_engine::entry::{Entry, Signaller};
 use dma_engine::fault::EngineFault;
 use dma_engine::outcome::{Outcome, TransResult};
 use dma_engine::turn::{Running, Status, Turn};
+use dma_mem::lists::Bytes;
 use dma_mem::marks::MarkKind;
 use dma_mem::segment::Segment;
 use dma_mem::transfer::{Transfer, TransferFault};
@@ -60,7 +61,10 @@ pub fn segment(addr: u32, len: u32) -> Segment {
 #[derive(Clone, Copy)]
 pub enum Ask {
     Write(u32, &'static [u8]),
+    WriteOwned(u32, &'static [u8]),
     Read(u32, u32),
+    /// A read whose bytes are looked for in the history.
+    ReadBack(u32, u32),
     Mark(MarkKind, Segment),
     Unmark,
     Raise(u8),
@@ -120,10 +124,14 @@ pub fn engine_after(alloc: Global, size: u32, lines: &[Line]) -> Result<Engine, 
 pub fn answer_to(alloc: Global, engine: &mut Engine, ask: Ask) -> Result<Answer, Fail> {
     Ok(match ask {
         Ask::Write(addr, bytes) => done(engine.write(addr, bytes)),
+        Ask::WriteOwned(addr, bytes) => {
+            done(engine.write_owned(addr, Bytes::from_slice(alloc, bytes)?))
+        }
         Ask::Read(addr, len) => match engine.read(addr, len) {
             Ok(bytes) => four(bytes.as_slice()),
             Err(fault) => Answer::Refused(fault),
         },
+        Ask::ReadBack(addr, len) => read_back(engine, addr, len),
         Ask::Mark(kind, segment) => done(engine.mark(kind, segment)),
         Ask::Unmark => done(engine.unmark()),
         Ask::Raise(event) => done(engine.raise(event)),
@@ -170,6 +178,16 @@ fn counted(outcome: Result<u32, EngineFault>) -> Answer {
 fn four(bytes: &[u8]) -> Answer {
     match bytes {
         [a, b, c, d] => Answer::Four([*a, *b, *c, *d]),
+        _ => Answer::Other,
+    }
+}
+
+fn read_back(engine: &mut Engine, addr: u32, len: u32) -> Answer {
+    if let Err(fault) = engine.read_back(addr, len) {
+        return Answer::Refused(fault);
+    }
+    match engine.history().last() {
+        Some(Entry::ReadBack { bytes, .. }) => four(bytes.as_slice()),
         _ => Answer::Other,
     }
 }

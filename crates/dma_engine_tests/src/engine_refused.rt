@@ -6,8 +6,8 @@
 
 use crate::engine_lines::Answer::{Count, Done, Four, Moved, Turned};
 use crate::engine_lines::Ask::{
-    Advance, Checkpoint, Issue, MakeRoom, Mark, Raise, Read, Step, Submit, SubmitOverPages,
-    Terminate, Unmark, Write,
+    Advance, Checkpoint, Issue, MakeRoom, Mark, Raise, Read, ReadBack, Step, Submit,
+    SubmitOverPages, Terminate, Unmark, Write, WriteOwned,
 };
 use crate::engine_lines::{
     Answer, Ask, COPIED, CopyOfFour, Line, READ_FAILED, answer_to, copy, engine_after, go_through,
@@ -139,7 +139,9 @@ fn calls_without_room(rt: HostRuntime) -> Result<(), Fail> {
     let rows = [
         // over two pages, one of which isn't made
         ("write", Write(0x0FFE, &[7, 8, 9]), Done),
+        ("write_owned", WriteOwned(0x0FFE, &[7, 8, 9]), Done),
         ("read", Read(0x0FFE, 4), Four([0; 4])),
+        ("read_back", ReadBack(0x0FFE, 4), Four([0; 4])),
         ("mark", Mark(Reading, segment(0x103, 1)), Done),
         ("unmark", Unmark, Done),
         ("raise", Raise(3), Done),

@@ -56,16 +56,25 @@ impl Gate for InStep {
     }
 }
 
-// Asks often how far cookie 1 of channel 0 is. Whether it is known each time, and complete for good.
+// Whether a cookie is known, and still complete where it was.
+fn is_known(status: Option<Status>, is_complete: &mut bool) -> bool {
+    match status {
+        Some(Status::Complete) => {
+            *is_complete = true;
+            true
+        }
+        Some(Status::InProgress) => !*is_complete,
+        _ => false,
+    }
+}
+
+// Asks often how far cookie 1 of each channel is. Whether both are known each time, and complete for good.
 fn ask_often(mut reader: StatusReader) -> (StatusReader, bool) {
     let mut is_right = true;
-    let mut is_complete = false;
+    let (mut first, mut second) = (false, false);
     for _ in 0..10_000 {
-        match reader.status(0, 1) {
-            Some(Status::Complete) => is_complete = true,
-            Some(Status::InProgress) => is_right = is_right && !is_complete,
-            _ => is_right = false,
-        }
+        is_right &= is_known(reader.status(0, 1), &mut first);
+        is_right &= is_known(reader.status(1, 1), &mut second);
     }
     (reader, is_right)
 }
@@ -103,8 +112,8 @@ fn begin<N: DeskName, R: Wait>(
     Ok(())
 }
 
-/// The totals and the number of entries after two jobs, which pass a gate while another thread asks. The first copies what
-/// the reader learns of before they begin.
+/// Two jobs pass a gate while another thread asks. Returns the totals and the number of entries. The first job makes the copy
+/// that the reader has learned of, the second one that was submitted before the desk was there.
 pub fn raced<N: DeskName + Send + Sync, R: Threads + Wait + Sync + Abort + Print, G: Gate>(
     rt: &R,
     alloc: Global,

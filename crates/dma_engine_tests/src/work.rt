@@ -20,8 +20,8 @@ use std::test::Fail;
 
 // ---- a checkpoint
 
-// A reader sees the same of channel 0 before and after a checkpoint, by which one finished cookie is forgotten, and then the
-// next cookie.
+// A checkpoint forgets one finished cookie of channel 0. The reader gets the same statuses before and after it, and then the
+// next cookie's.
 #[derive(Clone, Copy)]
 struct Checkpoint {
     seen: [Option<Status>; 3],
@@ -89,7 +89,7 @@ fn all_see(readers: &mut [StatusReader], wanted: [Option<Status>; 3]) -> bool {
     true
 }
 
-// Lets the parts of an engine go.
+// Drops the parts of an engine.
 fn close<N: DeskName, R: Wait>(rt: &R, parts: Parts)
     requires { Names N.steps N.finished N.base N.log parts }
 {

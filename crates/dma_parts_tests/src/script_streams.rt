@@ -160,7 +160,7 @@ fn assert_each_read_fails<H: Abort + Threads + Wait + Sync>(rt: &H, alloc: Globa
 const PLAIN: Call = Call {
     is_open: false,
     is_refused: false,
-    most_read: 8192,
+    most_read: 65_536,
     read_fails: 0,
     most_written: 8192,
     write_fails: 0,

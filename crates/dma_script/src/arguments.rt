@@ -205,12 +205,12 @@ fn push_hex(bytes: &mut Vec<u8>, word: &[u8]) -> Result<(), LineError>
     }
 }
 
-/// The bytes of the words at the front that are two digits with a blank behind them, as most are, and what follows them.
+/// Reads words of two digits while a blank follows each, as in most lines. Returns their bytes and the rest of the line.
 #[tactic(auto, using(crate::proofs::HexLemmas::bytes_after_pair, crate::proofs::HexLemmas::bytes_after_none))]
 fn pairs_at(alloc: Global, line: &[u8]) -> Result<(Vec<u8>, &[u8]), AllocError>
     ensures { IfOk result (λ read. bytes_after read.0.items (words_of read.1.now) ≡ bytes_at (words_of line.now)) }
 {
-    // Just the room that such words want, with a blank between.
+    // just the room that such words need
     let mut bytes = Vec::with_capacity(alloc, line.len() / 3 + 1)?;
     let mut rest = line;
     while let [high, low, blank, after @ ..] = rest {
@@ -226,7 +226,7 @@ fn pairs_at(alloc: Global, line: &[u8]) -> Result<(Vec<u8>, &[u8]), AllocError>
     Ok((bytes, rest))
 }
 
-/// The bytes that the words of a line spell, which are words of hexadecimal digits, joined.
+/// Returns the joined bytes of a line's words of hexadecimal digits.
 #[tactic(auto, using(crate::proofs::HexLemmas::bytes_after_last))]
 pub(crate) fn bytes_at(alloc: Global, line: &[u8]) -> Result<Bytes, LineError>
     ensures { Gives (λ bytes. bytes) result (bytes_at (words_of line.now)) }

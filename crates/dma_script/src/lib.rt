@@ -17,4 +17,4 @@ pub mod printing;
 pub mod race;
 mod run_lines;
 pub mod statements;
-pub mod words;
+mod words;

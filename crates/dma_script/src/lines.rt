@@ -26,8 +26,8 @@ pub trait Script {
         ensures { LineGives result (view self.new) (step (view self.old) (words_of words.now)) };
 }
 
-/// Whether a line is skipped and only counted: it has no words, or is a comment. Only its first word is looked for, so a
-/// comment takes no memory.
+/// Whether a line is skipped and only counted: it has no words, or is a comment. Only its first byte that is no blank is
+/// looked at.
 fn is_skipped(line: &[u8]) -> bool
     ensures { result ≡ is_skipped (words_of line.now) }
 {
@@ -39,7 +39,7 @@ fn is_skipped(line: &[u8]) -> bool
     true
 }
 
-/// Whether each byte of a line is plain, where that may be known already.
+/// Whether each byte of a line is plain. It is known where the whole input was found to be plain.
 fn is_plain(known: bool, line: &[u8]) -> bool
     requires { known ≡ true → list_all is_plain line.now ≡ true }
     ensures { result ≡ list_all is_plain line.now }
@@ -50,7 +50,7 @@ fn is_plain(known: bool, line: &[u8]) -> bool
     is_plain_line(line)
 }
 
-/// Reads one line, which may be known to be plain.
+/// Reads one line, which is known to be plain where the whole input is.
 fn read_line<S: Script>(
     script: &mut S,
     alloc: Global,

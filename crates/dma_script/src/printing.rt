@@ -50,7 +50,7 @@ pub fn push_bytes(line: &mut Vec<u8>, bytes: &[u8]) -> Result<(), AllocError>
         return Err(AllocError);
     };
     line.reserve(room)?;
-    // Taken out of its place, the list is a local, whose length can stand in a register.
+    // Taken out of its place, the list is a local, whose length can stay in a register.
     let empty = Vec::new(*line.allocator());
     let mut text = mem::replace(line, empty);
     for byte in bytes {

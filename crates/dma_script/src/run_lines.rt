@@ -1,5 +1,5 @@
-//! The lines of a run script: each kind is read by its words, and added where it is read, since a line takes several words of
-//! memory that a call would copy.
+//! The lines of a run script. Each kind of line is read by a function that also adds it to the list: a `Statement` that was
+//! returned would be copied.
 ghost use Rattle.std.specs.Prelude.{◌≡◌, ◌++◌, ◌∷◌, [], IfOk, Ok, OnErr};
 ghost use Rattle.dma_script.specs.Lines.{LineGives};
 ghost use Rattle.dma_script.specs.Words.{words_of};

@@ -38,7 +38,7 @@ pub(crate) fn is_blank(byte: u8) -> bool
     byte == b' ' || byte == b'\t'
 }
 
-/// The line from its first byte on that is no blank.
+/// Returns a line without its leading blanks.
 fn without_blanks(line: &[u8]) -> &[u8]
     ensures words { words_of result.now ≡ words_of line.now }
     ensures first { 0 < length result.now → is_blank (slice_index result.now 0) ≡ false }
@@ -53,7 +53,7 @@ fn without_blanks(line: &[u8]) -> &[u8]
     rest
 }
 
-/// A word that a line begins with, and what follows the blank behind it.
+/// Returns the word that a line begins with, and what follows the blank behind it.
 fn cut_word(line: &[u8]) -> (&[u8], &[u8])
     requires some { 0 < length line.now }
     requires first { is_blank (slice_index line.now 0) ≡ false }
@@ -67,7 +67,7 @@ fn cut_word(line: &[u8]) -> (&[u8], &[u8])
     (line, &[])
 }
 
-/// The first word of a line, which is what stands between its blanks, and what follows it; none where there is no word.
+/// Returns the first word of a line and the rest of the line, or `None` where there is no word.
 pub(crate) fn next_word(line: &[u8]) -> Option<(&[u8], &[u8])>
     ensures { MatchOption result (words_of line.now ≡ []) (λ w. words_of line.now ≡ w.0.now ∷ words_of w.1.now) }
 {

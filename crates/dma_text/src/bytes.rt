@@ -12,8 +12,8 @@ pub fn position_of(byte: u8, bytes: &[u8]) -> Option<usize>
     memchr(byte, bytes)
 }
 
-/// Whether a word is a text. They are compared byte by byte: so a text of the program's own becomes part of its code, and
-/// most words differ from it in their length or in their first byte.
+/// Whether a word is a text. They are compared byte by byte: most words differ from a text in their length or their first
+/// byte, and a text that is a constant of the program becomes part of its code.
 #[inline(always)]
 #[tactic(auto, using(crate::proofs::SameTexts::other_length, crate::proofs::SameTexts::other_byte, crate::proofs::SameTexts::same_bytes))]
 pub fn is_text(word: &[u8], text: &[u8]) -> bool

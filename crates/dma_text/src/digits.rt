@@ -41,7 +41,7 @@ pub fn glyph(digit: u8) -> u8
     GLYPHS[usize::from(digit)]
 }
 
-/// What is not a digit of any base in the table below.
+/// The table's value for a byte that is no digit.
 const NONE: u8 = 36;
 
 /// The value of each byte as a digit, 16 bytes to a row. It's a table, since a branch on digits is often guessed wrong, and

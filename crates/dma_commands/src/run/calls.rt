@@ -33,7 +33,7 @@ pub fn reply_to(engine: &mut Engine, call: &Call) -> Result<Reply, AllocError>
 
 /// Carries out one call, and appends its line or nothing.
 #[inline(never)]
-pub fn answer_call(
+pub(crate) fn answer_call(
     engine: &mut Engine,
     call: &Call,
     line: &mut Vec<u8>,
@@ -46,9 +46,9 @@ pub fn answer_call(
     push_told(line, call, &reply, out)
 }
 
-/// Carries out `write ADDR HEX`, whose bytes the history takes for itself.
+/// Carries out `write ADDR HEX`. Its bytes are moved into the history.
 #[inline(never)]
-pub fn write_line(
+pub(crate) fn write_line(
     engine: &mut Engine,
     addr: u32,
     bytes: Bytes,
@@ -64,7 +64,7 @@ pub fn write_line(
     }
 }
 
-/// The bytes that a history's entry at a place read, none where it is no read.
+/// Returns the bytes of the read at a place of a history, or none where that entry is no read.
 fn read_at(history: &[Entry], place: usize) -> &[u8]
     ensures { result.now ≡ read_at history.now place }
 {
@@ -76,7 +76,7 @@ fn read_at(history: &[Entry], place: usize) -> &[u8]
 
 /// Carries out `read SEG`. The bytes are printed from the history, which keeps them.
 #[inline(never)]
-pub fn read_line(
+pub(crate) fn read_line(
     engine: &mut Engine,
     segment: Segment,
     line: &mut Vec<u8>,
@@ -123,7 +123,7 @@ fn submit(
 
 /// Carries out `submit CH LIST to LIST [wait E] [signal E]` or `submit CH fill ADDR to LIST [wait E] [signal E]`.
 #[inline(never)]
-pub fn submit_line(
+pub(crate) fn submit_line(
     engine: &mut Engine,
     ch: u8,
     words: TransferLine,
@@ -141,7 +141,7 @@ pub fn submit_line(
 
 /// Carries out `issue CH`.
 #[inline(never)]
-pub fn issue_line(
+pub(crate) fn issue_line(
     engine: &mut Engine,
     ch: u8,
     line: &mut Vec<u8>,
@@ -180,7 +180,7 @@ fn push_totals(line: &mut Vec<u8>, entries: u64, steps: u64, running: u64) -> Re
 
 /// Carries out `totals`.
 #[inline(never)]
-pub fn answer_totals(
+pub(crate) fn answer_totals(
     engine: &Engine,
     line: &mut Vec<u8>,
     out: &mut Vec<u8>,

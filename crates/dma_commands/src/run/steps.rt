@@ -153,7 +153,7 @@ fn step_text(
     Ok(())
 }
 
-/// The line of one answer, at the end.
+/// Appends the line of one answer.
 fn push_one_step(line: &mut Vec<u8>, ch: u8, reply: &Reply) -> Result<(), AllocError>
     ensures { OnOk result (line.new.items ≡ line.old.items ++ step_line ch (reply_text reply.now, 1)) }
 {
@@ -163,7 +163,7 @@ fn push_one_step(line: &mut Vec<u8>, ch: u8, reply: &Reply) -> Result<(), AllocE
     push_worded(line, " x", 1)
 }
 
-/// Carries out `step CH`, whose one answer is no run of several.
+/// Carries out a step line of one step, whose line ends in `x1`.
 fn answer_step(
     engine: &mut Engine,
     ch: u8,

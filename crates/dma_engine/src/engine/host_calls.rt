@@ -34,7 +34,8 @@ impl Engine {
         self.write_checked(addr, kept)
     }
 
-    /// Writes bytes from an address on, as `write` does, but moves them into the history, without a copy.
+    /// Writes bytes from an address on, as `write` does, but moves them into the history, without a copy. After an `Err` they
+    /// are gone.
     pub fn write_owned(&mut self, addr: u32, bytes: Bytes) -> Result<(), EngineFault>
         ensures answer { CallAnswers self.old.view (Call.Write addr bytes) (reply_of (λ _. Reply.Done) result) self.new.view }
         ensures kept { OnErr result (KeepsRoom self.old self.new) }
