@@ -1,4 +1,4 @@
-use Rattle.std.proofs.Common.{sym, ◌∙◌}
+use Rattle.std.proofs.Common.{sym}
 use Rattle.dma_text.proofs.DigitTable.{looked_up}
 use Rattle.dma_text.proofs.digits.digit_value.Goals as goal
 
