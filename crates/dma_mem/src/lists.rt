@@ -1,15 +1,22 @@
-//! Lists that contracts see as their items alone.
+//! Lists that contracts see as their items alone. A short one lies in the value itself and takes no memory.
 
 ghost use Rattle.std.specs.Prelude.{◌≡◌, ◌∷◌, ◌++◌, ◌==◌, [], length, IfOk, OnOk, OnErr};
 
 use crate::segment::Segment;
+use smallvec::SmallVec;
 use std::alloc::{AllocError, Global};
 use std::marker::Model;
+
+/// How many bytes a list has in itself.
+const INLINE_BYTES: usize = 16;
+
+/// How many segments a list has in itself.
+const INLINE_SEGMENTS: usize = 2;
 
 /// A list of bytes.
 #[derive(Debug, Drop)]
 pub struct Bytes {
-    bytes: Vec<u8>,
+    bytes: SmallVec<u8, INLINE_BYTES>,
 }
 
 impl Model for Bytes {
@@ -25,14 +32,16 @@ impl Bytes {
     pub fn from_vec(bytes: Vec<u8>) -> Bytes
         ensures { result ≡ bytes.items }
     {
-        Bytes { bytes }
+        Bytes {
+            bytes: SmallVec::from_vec(bytes),
+        }
     }
 
     /// A copy of these bytes.
     pub fn from_slice(alloc: Global, bytes: &[u8]) -> Result<Bytes, AllocError>
         ensures { IfOk result (λ list. list ≡ bytes.now) }
     {
-        let bytes = Vec::from_slice(alloc, bytes)?;
+        let bytes = SmallVec::from_slice(alloc, bytes)?;
         Ok(Bytes { bytes })
     }
 
@@ -61,7 +70,7 @@ impl Bytes {
 /// A list of segments.
 #[derive(Debug, Drop)]
 pub struct Segments {
-    segments: Vec<Segment>,
+    segments: SmallVec<Segment, INLINE_SEGMENTS>,
 }
 
 impl Model for Segments {
@@ -79,7 +88,7 @@ impl Segments {
         ensures { result ≡ [] }
     {
         Segments {
-            segments: Vec::new(alloc),
+            segments: SmallVec::new(alloc),
         }
     }
 
@@ -87,7 +96,7 @@ impl Segments {
     pub fn from_slice(alloc: Global, segments: &[Segment]) -> Result<Segments, AllocError>
         ensures { IfOk result (λ list. list ≡ segments.now) }
     {
-        let segments = Vec::from_slice(alloc, segments)?;
+        let segments = SmallVec::from_slice(alloc, segments)?;
         Ok(Segments { segments })
     }
 
