@@ -1,3 +1,4 @@
+pub mod Begun
 pub mod RunLemmas
 pub mod Served
 pub mod Advances

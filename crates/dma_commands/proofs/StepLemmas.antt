@@ -1,8 +1,9 @@
 -- Runs of equal answers, and the lines of those before.
-use Rattle.std.proofs.Common.{◌≡◌, ◌≢◌, ℕ, ◌+◌, ◌<◌, List, [], ◌∷◌, ◌++◌, map, Bool, true, false, refl, ap, sym, subst, ◌∙◌, zero, suc, add-one, append_assoc, arith}
-use Rattle.std.specs.Prelude.{Result, replicate}
+use Rattle.std.proofs.Common.{◌≡◌, ◌≢◌, ℕ, ◌+◌, ◌<◌, List, [], ◌∷◌, ◌++◌, map, Bool, true, false, refl, ap, sym, subst, ◌∙◌, zero, suc, add-one, append_assoc, arith, codes, lit<}
+use Rattle.std.specs.Prelude.{Result, decimal, replicate}
 use Rattle.std.specs.Str.{bytes_eq}
 use Rattle.std.proofs.Math.Nat.{zero-lt-suc}
+use Rattle.std.proofs.lemmas.Fmt.{decimal_digit}
 use Rattle.std.proofs.lemmas.List.{append-nil, map-append, replicate-append-replicate}
 use Rattle.std.proofs.lemmas.Slice.Eq.{bytes_eq-Decides}
 use Rattle.dma_script.specs.Command.{text_of}
@@ -113,3 +114,13 @@ pub step_prints : (v w : View) (ch : ℕ) (turned : Result Turn EngineFault) (re
 step_prints v w ch turned reply out out' answers is prints =
     let answered : (reply, w) ≡ answer v (Step ch) = served-one v (Step ch) reply w is.1 (subst (λ (r : Reply). CallAnswers v (Step ch) r w) (sym is.0) answers) in
     subst (λ (x : Reply × View). AnswersLine (step_lines ch (reply_text x.0 ∷ []), x.1) w out out') answered (record { acts = refl; prints = prints })
+
+-- the parts of the line of one step, one after another
+pub one_step_parts : (line a b c d : List ℕ) (ch : ℕ) (text : List ℕ) → a ≡ line ++ (codes "step " ++ decimal ch) → b ≡ a ++ codes " " → c ≡ b ++ text → d ≡ c ++ codes " x1" → d ≡ line ++ step_line ch (text, 1)
+one_step_parts line a b c d ch text first blank answer last =
+    let front = codes "step " ++ decimal ch in
+    let one : codes " x1" ≡ codes " x" ++ decimal 1 = sym (ap (λ (l : List ℕ). codes " x" ++ l) (decimal_digit 1 (lit< tt))) in
+    last ∙ ap (λ (l : List ℕ). c ++ l) one
+    ∙ ap (λ (l : List ℕ). l ++ (codes " x" ++ decimal 1)) (answer ∙ ap (λ (l : List ℕ). l ++ text) (blank ∙ ap (λ (l : List ℕ). l ++ codes " ") first ∙ append_assoc line front (codes " ")) ∙ append_assoc line (front ++ codes " ") text)
+    ∙ append_assoc line (front ++ codes " " ++ text) (codes " x" ++ decimal 1)
+    ∙ ap (λ (l : List ℕ). line ++ l) (sym (append_assoc (front ++ codes " " ++ text) (codes " x") (decimal 1)))

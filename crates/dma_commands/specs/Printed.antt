@@ -1,5 +1,5 @@
 -- What is printed of refusals, calls and replies, without line feeds (profile).
-use Rattle.std.specs.Prelude.{ℕ, ◌++◌, List, [], Option, Some, None, codes, decimal}
+use Rattle.std.specs.Prelude.{◌≡◌, ℕ, ◌++◌, List, [], Option, Some, None, codes, decimal, length, take}
 use Rattle.dma_mem.specs.declared.transfer.TransferFault.{TransferFault}
 use Rattle.dma_mem.specs.declared.transfer.TransferFault.TheVariants as transfers
 use Rattle.dma_engine.specs.declared.call.Call.{Call}
@@ -16,6 +16,10 @@ use Rattle.dma_engine.specs.declared.turn.Status.TheVariants.{Unknown, InProgres
 use Rattle.dma_engine.specs.declared.turn.Turn.{Turn}
 use Rattle.dma_engine.specs.declared.turn.Turn.TheVariants.{Nothing, Held, Started, Moved, Waiting, Paused, Halted, Finished}
 use Rattle.dma_script.specs.Printing.{hex_address, spaced_bytes}
+
+-- A list begins with all of another.
+pub record Begins (whole front : List ℕ) : Type 0 where
+  pub front_is : take (length front) whole ≡ front
 
 -- the name of a refusal of a transfer's rules
 abbrev pub transfer_fault_name : TransferFault → List ℕ

@@ -1,12 +1,16 @@
-//! What is printed of refusals, calls and replies.
-ghost use Rattle.std.specs.Prelude.{◌≡◌, ◌≢◌, ◌++◌, ◌∷◌, [], IfOk, OnOk, OnErr, codes, decimal};
+//! What is printed of refusals, calls and replies. The parts of a line are appended one after another, and are removed where
+//! one of them is refused memory: so each says that what was there before is still at the front.
+#![tactic(auto, using(crate::proofs::Begun::begins_more, crate::proofs::Begun::begins_pushed, crate::proofs::Begun::begins_same, crate::proofs::Begun::line_ends, crate::proofs::Begun::line_gone))]
+
+ghost use Rattle.std.specs.Prelude.{◌≡◌, ◌≢◌, ◌≤◌, ◌++◌, ◌∷◌, [], IfOk, Ok, OnOk, OnErr, codes, decimal, length, take};
+ghost use Rattle.dma_engine.specs.Answer.{reply_of};
 ghost use Rattle.dma_script.specs.Command.{text_of};
 ghost use Rattle.dma_script.specs.Printing.{hex_address, spaced_bytes};
-ghost use Rattle.dma_commands.specs.Printed.{call_line, call_words, fault_text, outcome_text, refused_line, reply_text, residue_text, result_name, status_name, transfer_fault_name, turn_text};
+ghost use Rattle.dma_commands.specs.Printed.{Begins, call_line, call_words, fault_text, outcome_text, refused_line, reply_text, residue_text, result_name, status_name, transfer_fault_name, turn_text};
 
 use dma_engine::{Call, EngineFault, Outcome, Reply, Status, TransResult, Turn};
 use dma_mem::transfer::TransferFault;
-use dma_script::printing::{push_address, push_bytes, push_decimal, push_line};
+use dma_script::printing::{push_address, push_bytes, push_decimal};
 use std::alloc::AllocError;
 
 /// The name of a refusal of a transfer's rules.
@@ -64,14 +68,16 @@ fn status_name(status: Status) -> &'static str
 /// A text, at the end.
 #[inline(always)]
 pub fn push_text(line: &mut Vec<u8>, text: &str) -> Result<(), AllocError>
-    ensures { OnOk result (line.new.items ≡ line.old.items ++ text.now) }
+    ensures ok { OnOk result (line.new.items ≡ line.old.items ++ text.now) }
+    ensures begins { Begins line.new.items line.old.items }
 {
     line.extend_from_slice(text.as_bytes())
 }
 
 /// A word and two numbers, at the end.
 fn push_pair(line: &mut Vec<u8>, word: &str, first: u64, second: u64) -> Result<(), AllocError>
-    ensures { OnOk result (line.new.items ≡ line.old.items ++ (word.now ++ decimal first ++ codes " " ++ decimal second)) }
+    ensures ok { OnOk result (line.new.items ≡ line.old.items ++ (word.now ++ decimal first ++ codes " " ++ decimal second)) }
+    ensures begins { Begins line.new.items line.old.items }
 {
     push_text(line, word)?;
     push_decimal(line, first)?;
@@ -82,7 +88,8 @@ fn push_pair(line: &mut Vec<u8>, word: &str, first: u64, second: u64) -> Result<
 /// A word and a number, at the end.
 #[inline(always)]
 pub fn push_worded(line: &mut Vec<u8>, word: &str, number: u64) -> Result<(), AllocError>
-    ensures { OnOk result (line.new.items ≡ line.old.items ++ (word.now ++ decimal number)) }
+    ensures ok { OnOk result (line.new.items ≡ line.old.items ++ (word.now ++ decimal number)) }
+    ensures begins { Begins line.new.items line.old.items }
 {
     push_text(line, word)?;
     push_decimal(line, number)
@@ -90,7 +97,8 @@ pub fn push_worded(line: &mut Vec<u8>, word: &str, number: u64) -> Result<(), Al
 
 /// A refusal of a call, at the end.
 fn push_fault(line: &mut Vec<u8>, fault: EngineFault) -> Result<(), AllocError>
-    ensures { OnOk result (line.new.items ≡ line.old.items ++ fault_text fault) }
+    ensures ok { OnOk result (line.new.items ≡ line.old.items ++ fault_text fault) }
+    ensures begins { Begins line.new.items line.old.items }
 {
     match fault {
         EngineFault::OutOfMemoryRange => push_text(line, "OutOfMemoryRange"),
@@ -111,7 +119,8 @@ fn push_fault(line: &mut Vec<u8>, fault: EngineFault) -> Result<(), AllocError>
 
 /// `NAME residue N`, at the end.
 fn push_residue(line: &mut Vec<u8>, outcome: TransResult, residue: u32) -> Result<(), AllocError>
-    ensures { OnOk result (line.new.items ≡ line.old.items ++ residue_text outcome residue) }
+    ensures ok { OnOk result (line.new.items ≡ line.old.items ++ residue_text outcome residue) }
+    ensures begins { Begins line.new.items line.old.items }
 {
     push_text(line, result_name(outcome))?;
     push_worded(line, " residue ", u64::from(residue))
@@ -119,7 +128,8 @@ fn push_residue(line: &mut Vec<u8>, outcome: TransResult, residue: u32) -> Resul
 
 /// How a cookie finished, if it did, at the end.
 fn push_outcome(line: &mut Vec<u8>, outcome: Option<Outcome>) -> Result<(), AllocError>
-    ensures { OnOk result (line.new.items ≡ line.old.items ++ outcome_text outcome) }
+    ensures ok { OnOk result (line.new.items ≡ line.old.items ++ outcome_text outcome) }
+    ensures begins { Begins line.new.items line.old.items }
 {
     match outcome {
         None => push_text(line, "none"),
@@ -134,7 +144,8 @@ fn push_finished(
     outcome: TransResult,
     residue: u32,
 ) -> Result<(), AllocError>
-    ensures { OnOk result (line.new.items ≡ line.old.items ++ turn_text (Turn.Finished cookie outcome residue)) }
+    ensures ok { OnOk result (line.new.items ≡ line.old.items ++ turn_text (Turn.Finished cookie outcome residue)) }
+    ensures begins { Begins line.new.items line.old.items }
 {
     push_worded(line, "finished ", u64::from(cookie))?;
     push_text(line, " ")?;
@@ -143,7 +154,8 @@ fn push_finished(
 
 /// What a step did, at the end.
 fn push_turn(line: &mut Vec<u8>, turn: Turn) -> Result<(), AllocError>
-    ensures { OnOk result (line.new.items ≡ line.old.items ++ turn_text turn) }
+    ensures ok { OnOk result (line.new.items ≡ line.old.items ++ turn_text turn) }
+    ensures begins { Begins line.new.items line.old.items }
 {
     match turn {
         Turn::Nothing => push_text(line, "nothing"),
@@ -163,22 +175,34 @@ fn push_turn(line: &mut Vec<u8>, turn: Turn) -> Result<(), AllocError>
 
 /// What stands before the name of a refusal, at the end.
 fn begin_refusal(line: &mut Vec<u8>) -> Result<(), AllocError>
-    ensures { OnOk result (line.new.items ≡ line.old.items ++ codes "refused ") }
+    ensures ok { OnOk result (line.new.items ≡ line.old.items ++ codes "refused ") }
+    ensures begins { Begins line.new.items line.old.items }
 {
     push_text(line, "refused ")
 }
 
 /// `refused NAME`, at the end.
 fn push_refusal(line: &mut Vec<u8>, fault: EngineFault) -> Result<(), AllocError>
-    ensures { OnOk result (line.new.items ≡ line.old.items ++ refused_line (fault_text fault)) }
+    ensures ok { OnOk result (line.new.items ≡ line.old.items ++ refused_line (fault_text fault)) }
+    ensures begins { Begins line.new.items line.old.items }
 {
     begin_refusal(line)?;
     push_fault(line, fault)
 }
 
+/// `refused NAME` of a rule, at the end.
+fn push_refused_name(line: &mut Vec<u8>, name: &str) -> Result<(), AllocError>
+    ensures ok { OnOk result (line.new.items ≡ line.old.items ++ refused_line name.now) }
+    ensures begins { Begins line.new.items line.old.items }
+{
+    begin_refusal(line)?;
+    push_text(line, name)
+}
+
 /// What is printed of a reply, at the end.
 pub(crate) fn push_reply(line: &mut Vec<u8>, reply: &Reply) -> Result<(), AllocError>
-    ensures { OnOk result (line.new.items ≡ line.old.items ++ reply_text reply.now) }
+    ensures ok { OnOk result (line.new.items ≡ line.old.items ++ reply_text reply.now) }
+    ensures begins { Begins line.new.items line.old.items }
 {
     match reply {
         Reply::Done => push_text(line, "ok"),
@@ -191,9 +215,22 @@ pub(crate) fn push_reply(line: &mut Vec<u8>, reply: &Reply) -> Result<(), AllocE
     }
 }
 
+/// What is printed of a step, at the end.
+#[inline(always)]
+pub fn push_turned(line: &mut Vec<u8>, turned: Result<Turn, EngineFault>) -> Result<(), AllocError>
+    ensures ok { OnOk result (line.new.items ≡ line.old.items ++ reply_text (reply_of (λ turn. Reply.Turned turn) turned)) }
+    ensures begins { Begins line.new.items line.old.items }
+{
+    match turned {
+        Ok(turn) => push_turn(line, turn),
+        Err(fault) => push_refusal(line, fault),
+    }
+}
+
 /// What is printed of a call before its reply, at the end.
 fn push_call(line: &mut Vec<u8>, call: &Call) -> Result<(), AllocError>
-    ensures { OnOk result (line.new.items ≡ line.old.items ++ call_words call.now) }
+    ensures ok { OnOk result (line.new.items ≡ line.old.items ++ call_words call.now) }
+    ensures begins { Begins line.new.items line.old.items }
 {
     match call {
         Call::Read { addr, .. } => {
@@ -218,7 +255,8 @@ fn push_call(line: &mut Vec<u8>, call: &Call) -> Result<(), AllocError>
 
 /// The line that a call prints, by its reply, at the end.
 fn push_call_line(line: &mut Vec<u8>, call: &Call, reply: &Reply) -> Result<(), AllocError>
-    ensures { OnOk result (line.new.items ≡ line.old.items ++ call_line call.now reply.now) }
+    ensures ok { OnOk result (line.new.items ≡ line.old.items ++ call_line call.now reply.now) }
+    ensures begins { Begins line.new.items line.old.items }
 {
     if let Reply::Refused(fault) = reply {
         return push_refusal(line, *fault);
@@ -227,105 +265,114 @@ fn push_call_line(line: &mut Vec<u8>, call: &Call, reply: &Reply) -> Result<(), 
     push_reply(line, reply)
 }
 
-// Each of these appends a line whole or nothing. It is written first in a buffer, whose bytes it replaces: a caller keeps
-// one for all lines, so that a line takes no memory but for its place at the end.
+/// The first word of a line and a reply, at the end.
+fn push_worded_reply(line: &mut Vec<u8>, word: &str, reply: &Reply) -> Result<(), AllocError>
+    ensures ok { OnOk result (line.new.items ≡ line.old.items ++ (word.now ++ reply_text reply.now)) }
+    ensures begins { Begins line.new.items line.old.items }
+{
+    push_text(line, word)?;
+    push_reply(line, reply)
+}
+
+/// What was read at an address, at the end.
+fn push_read_bytes(line: &mut Vec<u8>, addr: u32, bytes: &[u8]) -> Result<(), AllocError>
+    ensures ok { OnOk result (line.new.items ≡ line.old.items ++ ((codes "read 0x" ++ hex_address addr) ++ spaced_bytes bytes.now)) }
+    ensures begins { Begins line.new.items line.old.items }
+{
+    push_text(line, "read 0x")?;
+    push_address(line, addr)?;
+    push_bytes(line, bytes)
+}
+
+/// Ends a line whose parts are behind the first `start` bytes. Where they or its end were refused memory, they are removed.
+#[inline(always)]
+pub fn end_line(
+    out: &mut Vec<u8>,
+    start: usize,
+    parts: Result<(), AllocError>,
+) -> Result<(), AllocError>
+    requires { start ≤ length out.old.items }
+    ensures ok { OnOk result ((parts ≡ Ok tt) × (out.new.items ≡ out.old.items ++ 10 ∷ [])) }
+    ensures err { OnErr result (out.new.items ≡ take start out.old.items) }
+{
+    if parts.is_ok() && out.push(b'\n').is_ok() {
+        return Ok(());
+    }
+    out.truncate(start);
+    Err(AllocError)
+}
+
+// Each of these appends a line whole or nothing.
 
 /// Appends the line that a call prints, by its reply, or nothing.
-pub fn push_told(
-    line: &mut Vec<u8>,
-    call: &Call,
-    reply: &Reply,
-    out: &mut Vec<u8>,
-) -> Result<(), AllocError>
+pub fn push_told(call: &Call, reply: &Reply, out: &mut Vec<u8>) -> Result<(), AllocError>
     ensures ok { OnOk result (out.new.items ≡ out.old.items ++ text_of (call_line call.now reply.now ∷ [])) }
     ensures err { OnErr result (out.new.items ≡ out.old.items) }
 {
-    line.clear();
-    push_call_line(line, call, reply)?;
-    push_line(out, line)
+    let start = out.len();
+    let parts = push_call_line(out, call, reply);
+    end_line(out, start, parts)
 }
 
 /// Appends the line of a read, or nothing.
-pub(crate) fn push_read(
-    line: &mut Vec<u8>,
-    addr: u32,
-    bytes: &[u8],
-    out: &mut Vec<u8>,
-) -> Result<(), AllocError>
+pub(crate) fn push_read(addr: u32, bytes: &[u8], out: &mut Vec<u8>) -> Result<(), AllocError>
     ensures ok { OnOk result (out.new.items ≡ out.old.items ++ text_of (((codes "read 0x" ++ hex_address addr) ++ spaced_bytes bytes.now) ∷ [])) }
     ensures err { OnErr result (out.new.items ≡ out.old.items) }
 {
-    line.clear();
-    push_text(line, "read 0x")?;
-    push_address(line, addr)?;
-    push_bytes(line, bytes)?;
-    push_line(out, line)
+    let start = out.len();
+    let parts = push_read_bytes(out, addr, bytes);
+    end_line(out, start, parts)
 }
 
 /// Appends what is printed of a reply after a word, or nothing.
-pub(crate) fn push_after(
-    line: &mut Vec<u8>,
-    word: &str,
-    reply: &Reply,
-    out: &mut Vec<u8>,
-) -> Result<(), AllocError>
+pub(crate) fn push_after(word: &str, reply: &Reply, out: &mut Vec<u8>) -> Result<(), AllocError>
     ensures ok { OnOk result (out.new.items ≡ out.old.items ++ text_of ((word.now ++ reply_text reply.now) ∷ [])) }
     ensures err { OnErr result (out.new.items ≡ out.old.items) }
 {
-    line.clear();
-    push_text(line, word)?;
-    push_reply(line, reply)?;
-    push_line(out, line)
+    let start = out.len();
+    let parts = push_worded_reply(out, word, reply);
+    end_line(out, start, parts)
 }
 
 /// Appends `cookie N`, or nothing.
-pub fn push_cookie(line: &mut Vec<u8>, cookie: u32, out: &mut Vec<u8>) -> Result<(), AllocError>
+pub fn push_cookie(cookie: u32, out: &mut Vec<u8>) -> Result<(), AllocError>
     ensures ok { OnOk result (out.new.items ≡ out.old.items ++ text_of ((codes "cookie " ++ decimal cookie) ∷ [])) }
     ensures err { OnErr result (out.new.items ≡ out.old.items) }
 {
-    line.clear();
-    push_worded(line, "cookie ", u64::from(cookie))?;
-    push_line(out, line)
+    let start = out.len();
+    let parts = push_worded(out, "cookie ", u64::from(cookie));
+    end_line(out, start, parts)
 }
 
 /// Appends `issued N`, or nothing.
-pub(crate) fn push_issued(
-    line: &mut Vec<u8>,
-    count: u32,
-    out: &mut Vec<u8>,
-) -> Result<(), AllocError>
+pub(crate) fn push_issued(count: u32, out: &mut Vec<u8>) -> Result<(), AllocError>
     ensures ok { OnOk result (out.new.items ≡ out.old.items ++ text_of ((codes "issued " ++ decimal count) ∷ [])) }
     ensures err { OnErr result (out.new.items ≡ out.old.items) }
 {
-    line.clear();
-    push_worded(line, "issued ", u64::from(count))?;
-    push_line(out, line)
+    let start = out.len();
+    let parts = push_worded(out, "issued ", u64::from(count));
+    end_line(out, start, parts)
 }
 
 /// Appends the line of a refusal, or nothing. Where memory was refused it prints nothing and the script ends.
-pub fn push_refused_call(
-    line: &mut Vec<u8>,
-    fault: EngineFault,
-    out: &mut Vec<u8>,
-) -> Result<(), AllocError>
+pub fn push_refused_call(fault: EngineFault, out: &mut Vec<u8>) -> Result<(), AllocError>
     ensures ok { OnOk result ((fault ≢ EngineFault.NoMemory) × (out.new.items ≡ out.old.items ++ text_of (refused_line (fault_text fault) ∷ []))) }
     ensures err { OnErr result (out.new.items ≡ out.old.items) }
 {
     if let EngineFault::NoMemory = fault {
         return Err(AllocError);
     }
-    line.clear();
-    push_refusal(line, fault)?;
-    push_line(out, line)
+    let start = out.len();
+    let parts = push_refusal(out, fault);
+    end_line(out, start, parts)
 }
 
 /// Appends `refused NAME`, or nothing.
-pub fn push_refused(line: &mut Vec<u8>, name: &str, out: &mut Vec<u8>) -> Result<(), AllocError>
+pub fn push_refused(name: &str, out: &mut Vec<u8>) -> Result<(), AllocError>
     ensures ok { OnOk result (out.new.items ≡ out.old.items ++ text_of (refused_line name.now ∷ [])) }
     ensures err { OnErr result (out.new.items ≡ out.old.items) }
 {
-    line.clear();
-    begin_refusal(line)?;
-    push_text(line, name)?;
-    push_line(out, line)
+    let start = out.len();
+    let parts = push_refused_name(out, name);
+    end_line(out, start, parts)
 }

@@ -33,33 +33,32 @@ fn run_statement(
     ensures ok { OnOk result (AnswersLine (line_answer engine.old.view statement) engine.new.view out.old.items out.new.items) }
     ensures err { OnErr result (out.new.items ≡ out.old.items) }
 {
-    let line = &mut told.lines;
     match statement {
-        Statement::Write { addr, bytes } => write_line(engine, addr, bytes, line, out),
-        Statement::Read(segment) => read_line(engine, segment, line, out),
-        Statement::Copy(lists) => answer_copy(engine, lists.into_inner(), line, out),
-        Statement::Fill { src, dst } => answer_fill(engine, src, dst, line, out),
+        Statement::Write { addr, bytes } => write_line(engine, addr, bytes, out),
+        Statement::Read(segment) => read_line(engine, segment, out),
+        Statement::Copy(lists) => answer_copy(engine, lists.into_inner(), out),
+        Statement::Fill { src, dst } => answer_fill(engine, src, dst, out),
         Statement::Submit { ch, transfer } => {
-            submit_line(engine, ch, transfer.into_inner(), line, out)
+            submit_line(engine, ch, transfer.into_inner(), out)
         }
-        Statement::Issue { ch } => issue_line(engine, ch, line, out),
+        Statement::Issue { ch } => issue_line(engine, ch, out),
         Statement::Step { ch, count } => answer_steps(engine, ch, count, told, out),
-        Statement::Totals => answer_totals(engine, line, out),
-        Statement::Pause { ch } => answer_call(engine, &Call::Pause { ch }, line, out),
-        Statement::Resume { ch } => answer_call(engine, &Call::Resume { ch }, line, out),
-        Statement::Terminate { ch } => answer_call(engine, &Call::Terminate { ch }, line, out),
+        Statement::Totals => answer_totals(engine, out),
+        Statement::Pause { ch } => answer_call(engine, &Call::Pause { ch }, out),
+        Statement::Resume { ch } => answer_call(engine, &Call::Resume { ch }, out),
+        Statement::Terminate { ch } => answer_call(engine, &Call::Terminate { ch }, out),
         Statement::Status { ch, cookie } => {
-            answer_call(engine, &Call::Status { ch, cookie }, line, out)
+            answer_call(engine, &Call::Status { ch, cookie }, out)
         }
         Statement::Result { ch, cookie } => {
-            answer_call(engine, &Call::Result { ch, cookie }, line, out)
+            answer_call(engine, &Call::Result { ch, cookie }, out)
         }
         Statement::Mark { kind, segment } => {
-            answer_call(engine, &Call::Mark { kind, segment }, line, out)
+            answer_call(engine, &Call::Mark { kind, segment }, out)
         }
-        Statement::Unmark => answer_call(engine, &Call::Unmark, line, out),
-        Statement::Raise { event } => answer_call(engine, &Call::Raise { event }, line, out),
-        Statement::Checkpoint => answer_call(engine, &Call::Checkpoint, line, out),
+        Statement::Unmark => answer_call(engine, &Call::Unmark, out),
+        Statement::Raise { event } => answer_call(engine, &Call::Raise { event }, out),
+        Statement::Checkpoint => answer_call(engine, &Call::Checkpoint, out),
     }
 }
 

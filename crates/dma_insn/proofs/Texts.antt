@@ -14,7 +14,8 @@ use Rattle.dma_insn.specs.declared.insn.Counter.TheVariants.{Lc0, Lc1}
 use Rattle.dma_insn.specs.declared.insn.Insn.{Insn}
 use Rattle.dma_insn.specs.declared.insn.Insn.TheVariants.{Mov, Ld, St, Rmb, Wmb, Nop, End, Lp, LpEnd, Sev, Wfe}
 use Rattle.dma_insn.specs.Spelling.{HasRanges}
-use Rattle.dma_insn.specs.AssemblyText.{onto_first, text_lines, words_of, is_skipped, IsDecimal, hex_digits, value_word, Statement, dmaend, dmald, dmast, dmarmb, dmawmb, dmanop, dmalp, dmalpend, dmasev, dmawfe, dmamov, IsWritten, insn_of, Writes, WriteAll, ProgramText, joined, most_bytes, Assembles}
+use Rattle.dma_text.specs.Digits.{hex_digits}
+use Rattle.dma_insn.specs.AssemblyText.{onto_first, text_lines, words_of, is_skipped, IsDecimal, value_word, Statement, dmaend, dmald, dmast, dmarmb, dmawmb, dmanop, dmalp, dmalpend, dmasev, dmawfe, dmamov, IsWritten, insn_of, Writes, WriteAll, ProgramText, joined, most_bytes, Assembles}
 use Rattle.dma_insn.specs.Disassembly.{AllInRange, insn_text, text_of, Disassembles, DisassemblyAssembles}
 use Rattle.dma_insn.proofs.ProgramLaws.{write_more, assembles_once}
 

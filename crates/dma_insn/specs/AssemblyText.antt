@@ -5,7 +5,7 @@ use Rattle.std.specs.List.{list_all, list_any}
 use Rattle.std.specs.Option.{option_and_then}
 use Rattle.std.specs.Str.{all_ascii_digits, bytes_eq}
 use Rattle.std.specs.Str.Parse.{digits_value}
-use Rattle.std.specs.Fmt.{digit_glyph}
+use Rattle.dma_text.specs.Digits.{hex_digits}
 use Rattle.dma_insn.specs.Spelling.{spelling}
 use Rattle.dma_insn.specs.declared.insn.Reg.{Reg}
 use Rattle.dma_insn.specs.declared.insn.Reg.TheVariants.{Sar, Ccr, Dar}
@@ -44,13 +44,7 @@ pub record IsDecimal (word : List ℕ) (n : ℕ) : Type 0 where
   pub no_zeros : slice_index word 0 ≡ 48 → length word ≡ 1
   pub value_is : n ≡ digits_value 10 word
 
--- the eight hexadecimal digits of a number below 2 ^ 32, of 0 to 9 and A to F
-abbrev pub hex_digits : ℕ → List ℕ
-hex_digits v =
-    map (λ weight. digit_glyph true (v / weight % 16))
-    (0x10000000 ∷ 0x1000000 ∷ 0x100000 ∷ 0x10000 ∷ 0x1000 ∷ 0x100 ∷ 0x10 ∷ 0x1 ∷ [])
-
--- 0x and these digits
+-- 0x and the eight hexadecimal digits of a number
 abbrev pub value_word : ℕ → List ℕ
 value_word v = codes "0x" ++ hex_digits v
 

@@ -1,14 +1,14 @@
 //! A program's bytes, written as its text.
 
 ghost use Rattle.std.specs.Prelude.{◌≡◌, ℕ, ◌++◌, ◌∷◌, [], List, MatchResult, MatchOption, IfSome, IfOk, IfErr, OnOk, ◌<◌, codes, decimal};
-ghost use Rattle.dma_insn.specs.AssemblyText.{register_word, hex_digits};
+ghost use Rattle.dma_insn.specs.AssemblyText.{register_word};
 ghost use Rattle.dma_insn.specs.Disassembly.{counter_number, insn_text, AreSpelled, Disassembles, IsDisFault, StopsAt, DisassemblyAssembles, DisassemblyTells};
 ghost use Rattle.dma_insn.specs.declared.disassembler.DisFault.TheVariants.{NoMemory};
 ghost use Rattle.dma_insn.specs.declared.insn.Insn.TheVariants.{Mov, Wfe};
 
 use crate::codec::{DecodeFault, decode};
 use crate::insn::{Counter, Event, Insn, Reg};
-use dma_text::digits::{glyph, push_decimal};
+use dma_text::digits::{hex_digits, push_decimal};
 use std::alloc::{AllocError, Global};
 use thiserror::Error;
 
@@ -152,14 +152,15 @@ fn push_wait(text: &mut Vec<u8>, event: Event, invalid: bool) -> Result<(), Allo
     }
 }
 
-// What stands before the digits of DMAMOV.
-fn value_front(reg: Reg) -> &'static str
-    ensures { result.now ≡ codes "DMAMOV " ++ (register_word reg ++ codes " 0x") }
+// Adds what the line of DMAMOV has before its digits.
+#[inline(always)]
+fn push_value_front(text: &mut Vec<u8>, reg: Reg) -> Result<(), AllocError>
+    ensures { OnOk result (text.new.items ≡ text.old.items ++ (codes "DMAMOV " ++ (register_word reg ++ codes " 0x"))) }
 {
     match reg {
-        Reg::Sar => "DMAMOV SAR 0x",
-        Reg::Ccr => "DMAMOV CCR 0x",
-        Reg::Dar => "DMAMOV DAR 0x",
+        Reg::Sar => text.extend_from_slice(b"DMAMOV SAR 0x"),
+        Reg::Ccr => text.extend_from_slice(b"DMAMOV CCR 0x"),
+        Reg::Dar => text.extend_from_slice(b"DMAMOV DAR 0x"),
     }
 }
 
@@ -167,23 +168,7 @@ fn value_front(reg: Reg) -> &'static str
 fn push_value(text: &mut Vec<u8>, reg: Reg, value: u32) -> Result<(), AllocError>
     ensures { OnOk result (text.new.items ≡ text.old.items ++ (insn_text (Mov reg value) ++ 10 ∷ [])) }
 {
-    text.extend_from_slice(value_front(reg).as_bytes())?;
+    push_value_front(text, reg)?;
     text.extend_from_slice(&hex_digits(value))?;
     text.extend_from_slice(b"\n")
-}
-
-// Eight hexadecimal digits in capitals.
-fn hex_digits(value: u32) -> [u8; 8]
-    ensures { result ≡ hex_digits value }
-{
-    [
-        glyph((value / 0x1000_0000 % 16) as u8),
-        glyph((value / 0x100_0000 % 16) as u8),
-        glyph((value / 0x10_0000 % 16) as u8),
-        glyph((value / 0x1_0000 % 16) as u8),
-        glyph((value / 0x1000 % 16) as u8),
-        glyph((value / 0x100 % 16) as u8),
-        glyph((value / 0x10 % 16) as u8),
-        glyph((value % 16) as u8),
-    ]
 }

@@ -1,7 +1,7 @@
 -- A line that is added to a script's lines.
 use Rattle.std.proofs.Common.{◌≡◌, List, [], ◌∷◌, ◌++◌, ap, Some, Result, Ok, Err}
 use Rattle.dma_script.specs.Lines.{◌>>=◌, LineGives}
-use Rattle.dma_script.specs.Statements.{added}
+use Rattle.dma_script.specs.inner.Adding.{added}
 use Rattle.dma_script.specs.Race.{RaceRead}
 use Rattle.dma_script.specs.declared.fault.Cause.{Cause}
 use Rattle.dma_script.specs.declared.fault.LineError.{LineError}

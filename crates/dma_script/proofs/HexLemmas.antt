@@ -4,7 +4,8 @@ use Rattle.std.proofs.lemmas.Bool.{eqb-true, false_from_ne_true}
 use Rattle.std.specs.Option.{ok_or, option_map, option_and_then}
 use Rattle.dma_script.specs.Words.{bytes_in, hex_digit_of, hex_pair_of, is_blank, words_of}
 use Rattle.dma_script.specs.Lines.{◌>>=◌, LineGives, Gives}
-use Rattle.dma_script.specs.Arguments.{hex_at, hex_after, bytes_after, bytes_at}
+use Rattle.dma_script.specs.Arguments.{hex_at, bytes_at}
+use Rattle.dma_script.specs.inner.Joining.{hex_after, bytes_after}
 use Rattle.dma_script.specs.declared.fault.Cause.TheVariants.{Hex}
 use Rattle.dma_script.specs.declared.fault.LineError.{LineError}
 use Rattle.dma_script.specs.declared.fault.LineError.TheVariants.{NoMemory, Fault}

@@ -6,7 +6,8 @@ use Rattle.std.specs.Str.Lines.{lines, strip_carriage_return}
 use Rattle.std.proofs.lemmas.Bool.{cases_lt, false≢true}
 use Rattle.std.proofs.lemmas.List.{get_or-drop, get_or-take, length-take-le, nil_from_length}
 use Rattle.std.proofs.lemmas.List.Sums.{AllPass-from_list_all, fails_before_first, list_all-from_AllPass}
-use Rattle.dma_script.specs.Words.{is_plain, is_plain_or_feed}
+use Rattle.dma_script.specs.Words.{is_plain}
+use Rattle.dma_script.specs.inner.Plain.{is_plain_or_feed}
 use Rattle.dma_script.proofs.LineLemmas.{lines_first, lines_last}
 
 -- a line of plain bytes

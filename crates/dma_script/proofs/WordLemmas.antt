@@ -5,11 +5,15 @@ use Rattle.std.proofs.lemmas.Bool.{cases_lt, false≢true, ne_eqb}
 use Rattle.std.proofs.lemmas.Grind.{get_or_default_zero}
 use Rattle.std.proofs.lemmas.List.Splits.{slice_split_at, slice_split_none}
 use Rattle.std.specs.List.{slice_split}
-use Rattle.dma_script.specs.Words.{is_blank, kept_part, words_of}
+use Rattle.dma_script.specs.Words.{is_blank, words_of}
 
 -- No byte is a blank from one place on up to another.
 abbrev pub NoBlank : List ℕ → ℕ → ℕ → Type 0
 NoBlank line start end = (k : ℕ) → start ≤ k → k < end → is_blank (get_or line k 0) ≡ false
+
+-- a part of a line as a list: a part without a byte is no word
+abbrev kept_part : List ℕ → List (List ℕ)
+kept_part part = filter (λ word. not (length word == 0)) (part ∷ [])
 
 -- One part and others.
 kept_first : (part : List ℕ) (parts : List (List ℕ)) → filter (λ word. not (length word == 0)) (part ∷ parts) ≡ kept_part part ++ filter (λ word. not (length word == 0)) parts

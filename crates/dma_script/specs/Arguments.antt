@@ -88,12 +88,6 @@ list_at word = ok_or (list_of word) causes.Number
 abbrev pub hex_at : List ℕ → Result (List ℕ) Cause
 hex_at word = ok_or (bytes_in word) causes.Hex
 
--- bytes read before, and then those of a hexadecimal word
-abbrev pub hex_after : List ℕ → List ℕ → Result (List ℕ) Cause
-hex_after before word = do
-  more ← hex_at word
-  Ok (before ++ more)
-
 -- the bytes of hexadecimal words, joined
 abbrev pub bytes_at : List (List ℕ) → Result (List ℕ) Cause
 bytes_at [] = Ok []
@@ -101,9 +95,3 @@ bytes_at (word ∷ words) = do
   front ← hex_at word
   rest ← bytes_at words
   Ok (front ++ rest)
-
--- bytes read before, and then those of hexadecimal words, joined
-abbrev pub bytes_after : List ℕ → List (List ℕ) → Result (List ℕ) Cause
-bytes_after before words = do
-  more ← bytes_at words
-  Ok (before ++ more)

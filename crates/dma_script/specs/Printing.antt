@@ -2,7 +2,7 @@
 use Rattle.std.specs.Prelude.{ℕ, ◌+◌, ◌*◌, ◌/◌, ◌%◌, true, List, [], ◌∷◌, length, map, flat_map, take, drop, codes, decimal}
 use Rattle.std.specs.List.{concat, range_with_len}
 use Rattle.std.specs.Fmt.{digit_glyph}
-use Rattle.std.specs.Int.{to_be_bytes, w32}
+use Rattle.dma_text.specs.Digits.{hex_digits}
 use Rattle.dma_script.specs.declared.fault.Cause.{Cause}
 use Rattle.dma_script.specs.declared.fault.Cause.TheVariants.{Byte, Command, First, Words, Number, Hex, Range, SizeOutOfRange, BadChannels, Go}
 use Rattle.dma_script.specs.declared.fault.Fault.{Fault}
@@ -34,7 +34,7 @@ spaced_bytes bytes = flat_map (λ b. 32 ∷ hex_byte_of b) bytes
 
 -- an address in eight digits
 abbrev pub hex_address : ℕ → List ℕ
-hex_address addr = flat_map hex_byte_of (to_be_bytes w32 addr)
+hex_address addr = hex_digits addr
 
 -- the bytes of one printed line: those of a row of the given number, from 0, sixteen to a row
 abbrev pub row_at : List ℕ → ℕ → List ℕ

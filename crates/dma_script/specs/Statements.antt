@@ -189,12 +189,6 @@ later_line keywords.Raise words = do
 later_line keywords.Checkpoint words = bare_line statements.Checkpoint words
 later_line keywords.Totals words = bare_line statements.Totals words
 
--- lines that were read, and one more at their end
-abbrev pub added : List Statement → Result Statement Cause → Result (List Statement) Cause
-added before line = do
-  statement ← line
-  Ok (before ++ statement ∷ [])
-
 -- The next line of a run script, of which nothing is read before the memory line.
 abbrev pub next_line : Option RunScript → Keyword → List (List ℕ) → Result (Option RunScript) Cause
 next_line None keyword words = do

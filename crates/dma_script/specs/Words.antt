@@ -18,14 +18,6 @@ is_blank b = b == 32 || b == 9
 abbrev pub is_plain : ℕ → Bool
 is_plain b = b == 9 || (nat_le 32 b && nat_le b 126)
 
--- a plain byte or a line feed
-abbrev pub is_plain_or_feed : ℕ → Bool
-is_plain_or_feed b = is_plain b || b == 10
-
--- a part of a line as a list: a part without a byte is no word
-abbrev pub kept_part : List ℕ → List (List ℕ)
-kept_part part = filter (λ word. not (length word == 0)) (part ∷ [])
-
 -- what stands between the blanks
 abbrev pub words_of : List ℕ → List (List ℕ)
 words_of line = filter (λ word. not (length word == 0)) (slice_split is_blank line)

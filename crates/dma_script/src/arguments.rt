@@ -3,7 +3,8 @@ ghost use Rattle.std.specs.Prelude.{◌≡◌, ◌==◌, ◌∷◌, [], IfOk, On
 ghost use Rattle.std.specs.Option.{option_map};
 ghost use Rattle.dma_script.specs.Words.{hex_pair_of, words_of};
 ghost use Rattle.dma_script.specs.Lines.{Gives, LineGives, seen_by};
-ghost use Rattle.dma_script.specs.Arguments.{no_word, one_of, two_of, three_of, one_or_two, first_and_rest, one_and_more, number_at, number_where, byte_of, byte_where, byte_alone, segment_at, list_at, hex_after, bytes_after, bytes_at};
+ghost use Rattle.dma_script.specs.Arguments.{no_word, one_of, two_of, three_of, one_or_two, first_and_rest, one_and_more, number_at, number_where, byte_of, byte_where, byte_alone, segment_at, list_at, bytes_at};
+ghost use Rattle.dma_script.specs.inner.Joining.{bytes_after, hex_after};
 
 use crate::fault::{Cause, LineError};
 use crate::words::{is_blank, next_word, number, segment_in};
@@ -38,10 +39,8 @@ pub(crate) fn one_of(line: &[u8]) -> Result<&[u8], Cause>
     ensures { seen_by (λ a. a.now) result ≡ one_of (words_of line.now) }
 {
     let (a, after) = first_and_rest(line)?;
-    match next_word(after) {
-        None => Ok(a),
-        Some(_) => Err(Cause::Words),
-    }
+    no_word(after)?;
+    Ok(a)
 }
 
 /// Two words and no more.
@@ -50,10 +49,8 @@ pub(crate) fn two_of(line: &[u8]) -> Result<(&[u8], &[u8]), Cause>
 {
     let (a, after) = first_and_rest(line)?;
     let (b, end) = first_and_rest(after)?;
-    match next_word(end) {
-        None => Ok((a, b)),
-        Some(_) => Err(Cause::Words),
-    }
+    no_word(end)?;
+    Ok((a, b))
 }
 
 /// Three words and no more.
@@ -78,10 +75,8 @@ pub(crate) fn one_or_two(line: &[u8]) -> Result<(&[u8], Option<&[u8]>), Cause>
     let Some((b, end)) = next_word(after) else {
         return Ok((a, None));
     };
-    match next_word(end) {
-        None => Ok((a, Some(b))),
-        Some(_) => Err(Cause::Words),
-    }
+    no_word(end)?;
+    Ok((a, Some(b)))
 }
 
 /// A word and what follows it, which has one or more words.

@@ -40,7 +40,7 @@ fn is_skipped(line: &[u8]) -> bool
 }
 
 /// Whether each byte of a line is plain. It is known where the whole input was found to be plain.
-fn is_plain(known: bool, line: &[u8]) -> bool
+fn is_line_plain(known: bool, line: &[u8]) -> bool
     requires { known ≡ true → list_all is_plain line.now ≡ true }
     ensures { result ≡ list_all is_plain line.now }
 {
@@ -63,7 +63,7 @@ fn read_line<S: Script>(
     if is_skipped(line) {
         return Ok(());
     }
-    if !is_plain(plain, line) {
+    if !is_line_plain(plain, line) {
         return Err(LineError::Fault(Cause::Byte));
     }
     script.take_line(alloc, line)

@@ -5,7 +5,7 @@ ghost use Rattle.dma_script.specs.Lines.{Gives, ScriptGives, seen_by};
 ghost use Rattle.dma_script.specs.Words.{words_of};
 ghost use Rattle.dma_script.specs.Plan.{after_fill, after_fixed, events_of, is_place, plan_of, seen_words, source_at, spelling, transfer_line, transfer_numbers, transfer_of, transfer_words};
 
-use crate::arguments::{byte_where, first_and_rest, list_at, number_at, number_where};
+use crate::arguments::{byte_where, first_and_rest, list_at, no_word, number_at, number_where};
 use crate::fault::{Cause, Fault, LineError, ScriptError};
 use crate::lines::{Script, first_number, read_script};
 use crate::words::next_word;
@@ -95,10 +95,8 @@ fn events_of(words: &[u8]) -> Result<(Option<&[u8]>, Option<&[u8]>), Cause>
 {
     let (wait, words) = after_fixed(b"wait", words);
     let (signal, words) = after_fixed(b"signal", words);
-    match next_word(words) {
-        None => Ok((wait, signal)),
-        Some(_) => Err(Cause::Words),
-    }
+    no_word(words)?;
+    Ok((wait, signal))
 }
 
 /// Whether a transfer is a fill, and the words that follow.

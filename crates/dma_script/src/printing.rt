@@ -5,7 +5,7 @@ ghost use Rattle.dma_script.specs.Command.{text_of};
 ghost use Rattle.dma_script.specs.Printing.{fault_line, hex_address, hex_byte_of, program_lines, row_line, spaced_bytes};
 
 use crate::fault::Fault;
-use dma_text::digits::glyph;
+use dma_text::digits::{glyph, hex_digits};
 pub use dma_text::digits::push_decimal;
 use std::alloc::{AllocError, Global};
 use std::mem;
@@ -42,9 +42,10 @@ pub fn push_byte(line: &mut Vec<u8>, byte: u8) -> Result<(), AllocError>
     line.extend_from_slice(&[glyph(byte / 16), glyph(byte % 16)])
 }
 
-/// Bytes with a space before each, at the end.
+/// Appends bytes with a space before each, or nothing.
 pub fn push_bytes(line: &mut Vec<u8>, bytes: &[u8]) -> Result<(), AllocError>
-    ensures { OnOk result (line.new.items ≡ line.old.items ++ spaced_bytes bytes.now) }
+    ensures ok { OnOk result (line.new.items ≡ line.old.items ++ spaced_bytes bytes.now) }
+    ensures err { OnErr result (line.new.items ≡ line.old.items) }
 {
     let Some(room) = bytes.len().checked_mul(3) else {
         return Err(AllocError);
@@ -54,29 +55,21 @@ pub fn push_bytes(line: &mut Vec<u8>, bytes: &[u8]) -> Result<(), AllocError>
     let empty = Vec::new(*line.allocator());
     let mut text = mem::replace(line, empty);
     for byte in bytes {
+        let value = *byte;
         text.push_reserved(b' ');
-        text.push_reserved(glyph(*byte / 16));
-        text.push_reserved(glyph(*byte % 16));
+        text.push_reserved(glyph(value / 16));
+        text.push_reserved(glyph(value % 16));
     }
     *line = text;
     Ok(())
 }
 
-/// An address in eight digits, at the end.
+/// Appends an address in eight digits, or nothing.
 pub fn push_address(line: &mut Vec<u8>, addr: u32) -> Result<(), AllocError>
-    ensures { OnOk result (line.new.items ≡ line.old.items ++ hex_address addr) }
+    ensures ok { OnOk result (line.new.items ≡ line.old.items ++ hex_address addr) }
+    ensures err { OnErr result (line.new.items ≡ line.old.items) }
 {
-    let [a, b, c, d] = addr.to_be_bytes();
-    line.extend_from_slice(&[
-        glyph(a / 16),
-        glyph(a % 16),
-        glyph(b / 16),
-        glyph(b % 16),
-        glyph(c / 16),
-        glyph(c % 16),
-        glyph(d / 16),
-        glyph(d % 16),
-    ])
+    line.extend_from_slice(&hex_digits(addr))
 }
 
 /// The bytes of a row with a space between two, at the end.

@@ -1,7 +1,7 @@
 //! The lines of a race script: those that come before `go` and the jobs among them, and those that come after it.
 ghost use Rattle.std.specs.Prelude.{◌≡◌, ◌++◌, ◌∷◌, [], IfOk, OnErr, OnOk};
 ghost use Rattle.dma_script.specs.Lines.{LineGives, ScriptGives};
-ghost use Rattle.dma_script.specs.Statements.{added};
+ghost use Rattle.dma_script.specs.inner.Adding.{AddsLine};
 ghost use Rattle.dma_script.specs.Words.{words_of};
 ghost use Rattle.dma_script.specs.Race.{IsJob, IsRace, is_early, job_line, line_after_go, race_keyword_of, race_script_of};
 
@@ -153,7 +153,7 @@ fn add_after_go(
     keyword: RaceKeyword,
     words: &[u8],
 ) -> Result<(), LineError>
-    ensures { LineGives result after.new (added after.old (line_after_go keyword (words_of words.now))) }
+    ensures { AddsLine result after.old after.new (line_after_go keyword (words_of words.now)) }
 {
     match keyword {
         RaceKeyword::Line(keyword) => add_later_line(after, alloc, keyword, words),

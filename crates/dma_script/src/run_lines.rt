@@ -3,7 +3,8 @@
 ghost use Rattle.std.specs.Prelude.{◌≡◌, ◌++◌, ◌∷◌, [], IfOk, Ok, OnErr};
 ghost use Rattle.dma_script.specs.Lines.{LineGives};
 ghost use Rattle.dma_script.specs.Words.{words_of};
-ghost use Rattle.dma_script.specs.Statements.{IsWithin, added, bare_line, channel_and_cookie, copy_line, count_of, fill_line, first_line, later_line, mark_kind_of, mark_line, memory_line, read_line, result_line, status_line, step_line, submit_line, write_line};
+ghost use Rattle.dma_script.specs.inner.Adding.{AddsLine};
+ghost use Rattle.dma_script.specs.Statements.{IsWithin, bare_line, channel_and_cookie, copy_line, count_of, fill_line, first_line, later_line, mark_kind_of, mark_line, memory_line, read_line, result_line, status_line, step_line, submit_line, write_line};
 
 use crate::apart::Apart;
 use crate::arguments::{
@@ -44,8 +45,7 @@ fn memory_line(alloc: Global, words: &[u8]) -> Result<RunScript, Cause>
 /// Adds a line at the end.
 #[inline(always)]
 fn add(statements: &mut Statements, line: Statement) -> Result<(), LineError>
-    ensures line { LineGives result statements.new (Ok (statements.old ++ line ∷ [])) }
-    ensures err { OnErr result (statements.new ≡ statements.old) }
+    ensures { AddsLine result statements.old statements.new (Ok line) }
 {
     statements.push(line)?;
     Ok(())
@@ -54,8 +54,7 @@ fn add(statements: &mut Statements, line: Statement) -> Result<(), LineError>
 /// Adds a line that is its keyword alone.
 #[inline(always)]
 fn add_bare(statements: &mut Statements, words: &[u8], line: Statement) -> Result<(), LineError>
-    ensures line { LineGives result statements.new (added statements.old (bare_line line (words_of words.now))) }
-    ensures err { OnErr result (statements.new ≡ statements.old) }
+    ensures { AddsLine result statements.old statements.new (bare_line line (words_of words.now)) }
 {
     no_word(words)?;
     add(statements, line)
@@ -64,8 +63,7 @@ fn add_bare(statements: &mut Statements, words: &[u8], line: Statement) -> Resul
 /// `write ADDR HEX`
 #[inline(never)]
 fn add_write(statements: &mut Statements, alloc: Global, words: &[u8]) -> Result<(), LineError>
-    ensures line { LineGives result statements.new (added statements.old (write_line (words_of words.now))) }
-    ensures err { OnErr result (statements.new ≡ statements.old) }
+    ensures { AddsLine result statements.old statements.new (write_line (words_of words.now)) }
 {
     let (addr, hex) = one_and_more(words)?;
     let addr = number_at(addr)?;
@@ -76,8 +74,7 @@ fn add_write(statements: &mut Statements, alloc: Global, words: &[u8]) -> Result
 /// `read SEG`
 #[inline(never)]
 fn add_read(statements: &mut Statements, words: &[u8]) -> Result<(), LineError>
-    ensures line { LineGives result statements.new (added statements.old (read_line (words_of words.now))) }
-    ensures err { OnErr result (statements.new ≡ statements.old) }
+    ensures { AddsLine result statements.old statements.new (read_line (words_of words.now)) }
 {
     let segment = segment_at(one_of(words)?)?;
     add(statements, Statement::Read(segment))
@@ -86,8 +83,7 @@ fn add_read(statements: &mut Statements, words: &[u8]) -> Result<(), LineError>
 /// `copy LIST to LIST`
 #[inline(never)]
 fn add_copy(statements: &mut Statements, alloc: Global, words: &[u8]) -> Result<(), LineError>
-    ensures line { LineGives result statements.new (added statements.old (copy_line (words_of words.now))) }
-    ensures err { OnErr result (statements.new ≡ statements.old) }
+    ensures { AddsLine result statements.old statements.new (copy_line (words_of words.now)) }
 {
     let (src, to, dst) = three_of(words)?;
     if !is_text(to, b"to") {
@@ -104,8 +100,7 @@ fn add_copy(statements: &mut Statements, alloc: Global, words: &[u8]) -> Result<
 /// `fill ADDR to LIST`
 #[inline(never)]
 fn add_fill(statements: &mut Statements, alloc: Global, words: &[u8]) -> Result<(), LineError>
-    ensures line { LineGives result statements.new (added statements.old (fill_line (words_of words.now))) }
-    ensures err { OnErr result (statements.new ≡ statements.old) }
+    ensures { AddsLine result statements.old statements.new (fill_line (words_of words.now)) }
 {
     let (src, to, dst) = three_of(words)?;
     if !is_text(to, b"to") {
@@ -119,8 +114,7 @@ fn add_fill(statements: &mut Statements, alloc: Global, words: &[u8]) -> Result<
 /// `submit CH LIST to LIST [wait E] [signal E]` or `submit CH fill ADDR to LIST [wait E] [signal E]`
 #[inline(never)]
 fn add_submit(statements: &mut Statements, alloc: Global, words: &[u8]) -> Result<(), LineError>
-    ensures line { LineGives result statements.new (added statements.old (submit_line (words_of words.now))) }
-    ensures err { OnErr result (statements.new ≡ statements.old) }
+    ensures { AddsLine result statements.old statements.new (submit_line (words_of words.now)) }
 {
     let (ch, words) = first_and_rest(words)?;
     let words = transfer_words(words)?;
@@ -150,8 +144,7 @@ fn count_of(count: Option<u32>) -> Result<u32, Cause>
 /// `step CH [N]`
 #[inline(never)]
 fn add_step(statements: &mut Statements, words: &[u8]) -> Result<(), LineError>
-    ensures line { LineGives result statements.new (added statements.old (step_line (words_of words.now))) }
-    ensures err { OnErr result (statements.new ≡ statements.old) }
+    ensures { AddsLine result statements.old statements.new (step_line (words_of words.now)) }
 {
     let (ch, steps) = one_or_two(words)?;
     let number = number_at(ch)?;
@@ -175,8 +168,7 @@ fn channel_and_cookie(words: &[u8]) -> Result<(u8, u32), Cause>
 /// `status CH COOKIE`
 #[inline(never)]
 fn add_status(statements: &mut Statements, words: &[u8]) -> Result<(), LineError>
-    ensures line { LineGives result statements.new (added statements.old (status_line (words_of words.now))) }
-    ensures err { OnErr result (statements.new ≡ statements.old) }
+    ensures { AddsLine result statements.old statements.new (status_line (words_of words.now)) }
 {
     let (ch, cookie) = channel_and_cookie(words)?;
     add(statements, Statement::Status { ch, cookie })
@@ -185,8 +177,7 @@ fn add_status(statements: &mut Statements, words: &[u8]) -> Result<(), LineError
 /// `result CH COOKIE`
 #[inline(never)]
 fn add_result(statements: &mut Statements, words: &[u8]) -> Result<(), LineError>
-    ensures line { LineGives result statements.new (added statements.old (result_line (words_of words.now))) }
-    ensures err { OnErr result (statements.new ≡ statements.old) }
+    ensures { AddsLine result statements.old statements.new (result_line (words_of words.now)) }
 {
     let (ch, cookie) = channel_and_cookie(words)?;
     add(statements, Statement::Result { ch, cookie })
@@ -208,8 +199,7 @@ fn mark_kind_in(word: &[u8]) -> Option<MarkKind>
 /// `mark read SEG` or `mark write SEG`
 #[inline(never)]
 fn add_mark(statements: &mut Statements, words: &[u8]) -> Result<(), LineError>
-    ensures line { LineGives result statements.new (added statements.old (mark_line (words_of words.now))) }
-    ensures err { OnErr result (statements.new ≡ statements.old) }
+    ensures { AddsLine result statements.old statements.new (mark_line (words_of words.now)) }
 {
     let (kind, segment) = two_of(words)?;
     let kind = mark_kind_in(kind).ok_or(Cause::Words)?;
@@ -235,8 +225,7 @@ pub(crate) fn add_later_line(
     keyword: Keyword,
     words: &[u8],
 ) -> Result<(), LineError>
-    ensures line { LineGives result statements.new (added statements.old (later_line keyword (words_of words.now))) }
-    ensures err { OnErr result (statements.new ≡ statements.old) }
+    ensures { AddsLine result statements.old statements.new (later_line keyword (words_of words.now)) }
 {
     match keyword {
         Keyword::Memory => Err(LineError::Fault(Cause::First)),

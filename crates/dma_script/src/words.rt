@@ -1,8 +1,9 @@
 //! The words of a line, and what a word spells.
-ghost use Rattle.std.specs.Prelude.{◌≡◌, ◌∷◌, [], ◌<◌, ◌≤◌, MatchOption, false, length, slice_index};
+ghost use Rattle.std.specs.Prelude.{◌≡◌, ◌==◌, ◌∷◌, [], ◌<◌, ◌≤◌, MatchOption, false, length, position, slice_index};
 ghost use Rattle.std.specs.List.{list_all};
 ghost use Rattle.std.specs.Str.Lines.{lines, strip_carriage_return};
-ghost use Rattle.dma_script.specs.Words.{is_blank, is_plain, is_plain_or_feed, segment_of, words_of, number_of, number_in};
+ghost use Rattle.dma_script.specs.Words.{is_blank, is_plain, segment_of, words_of, number_of, number_in};
+ghost use Rattle.dma_script.specs.inner.Plain.{is_plain_or_feed};
 
 use dma_mem::segment::Segment;
 use dma_text::bytes::position_of;
@@ -146,11 +147,18 @@ pub fn number(word: &[u8]) -> Option<u32>
     }
 }
 
+/// The position of the first plus. Words are short, so a plain loop finds it sooner than a search in many bytes at once.
+fn plus_in(word: &[u8]) -> Option<usize>
+    ensures { result ≡ position (λ b. b == 43) word.now }
+{
+    word.iter().position(|b| *b == b'+')
+}
+
 /// A segment: two numbers with a plus between.
 pub fn segment_in(word: &[u8]) -> Option<Segment>
     ensures { result ≡ segment_of word.now }
 {
-    let plus = position_of(b'+', word)?;
+    let plus = plus_in(word)?;
     let addr = number(&word[..plus])?;
     let len = number(&word[plus + 1..])?;
     Some(Segment { addr, len })

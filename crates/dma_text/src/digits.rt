@@ -2,6 +2,7 @@
 ghost use Rattle.std.specs.Prelude.{◌≡◌, ◌++◌, ◌<◌, OnErr, OnOk, decimal, true};
 ghost use Rattle.std.specs.Char.{digit_value};
 ghost use Rattle.std.specs.Fmt.{digit_glyph};
+ghost use Rattle.dma_text.specs.Digits.{hex_digits};
 
 use itoa::Buffer;
 use std::alloc::AllocError;
@@ -39,6 +40,23 @@ pub fn glyph(digit: u8) -> u8
     ensures { result ≡ digit_glyph true digit }
 {
     GLYPHS[usize::from(digit)]
+}
+
+/// The eight hexadecimal digits of a number, in capitals.
+#[inline(always)]
+pub fn hex_digits(value: u32) -> [u8; 8]
+    ensures { result ≡ hex_digits value }
+{
+    [
+        glyph((value / 0x1000_0000 % 16) as u8),
+        glyph((value / 0x100_0000 % 16) as u8),
+        glyph((value / 0x10_0000 % 16) as u8),
+        glyph((value / 0x1_0000 % 16) as u8),
+        glyph((value / 0x1000 % 16) as u8),
+        glyph((value / 0x100 % 16) as u8),
+        glyph((value / 0x10 % 16) as u8),
+        glyph((value % 16) as u8),
+    ]
 }
 
 /// The table's value for a byte that is no digit.

@@ -76,7 +76,7 @@ fn until_go<N: DeskName + Send + Sync, R: Threads + Wait + Sync>(
     ensures ok { OnOk result (PrintsAll lines out.old.items out.new.items) }
     ensures err { OnErr result (PrintsFirst lines out.old.items out.new.items) }
 {
-    run_early_statements(rt, alloc, shared, reader, lines, out)?;
+    run_early_statements(rt, shared, reader, lines, out)?;
     match run_workers(rt, alloc, shared, jobs, &NoGate) {
         Ok(tallies) => Ok(tallies),
         Err(NoMemory) => Err(AllocError),
@@ -120,7 +120,7 @@ fn settled<N: DeskName, R: Wait>(
                 book: _,
             } = missing;
             shared.close(rt);
-            push_refused(&mut Vec::new(alloc), "MissingTally", out)?;
+            push_refused("MissingTally", out)?;
             Ok(None)
         }
     }
@@ -193,7 +193,7 @@ fn run_race<R: Threads + Wait + Sync>(
     let engine = engine_of(alloc, &script)?;
     let jobs = jobs_of(alloc, script.jobs.as_slice())?;
     let Some((parts, reader)) = parts_of(rt, alloc, engine)? else {
-        push_refused(&mut Vec::new(alloc), "NoReader", out)?;
+        push_refused("NoReader", out)?;
         return Ok(FAULT);
     };
     let RaceScript { before, after, .. } = script;

@@ -1,15 +1,16 @@
 //! The lines of a script that are one call, and the totals.
+#![tactic(auto, using(crate::proofs::Begun::begins_more, crate::proofs::Begun::begins_pushed, crate::proofs::Begun::begins_same, crate::proofs::Begun::line_ends, crate::proofs::Begun::line_gone))]
 ghost use Rattle.std.specs.Prelude.{◌≡◌, ◌≢◌, ◌++◌, ◌∷◌, [], OnOk, OnErr, IfOk, length};
 ghost use Rattle.dma_engine.specs.Answer.{CallAnswers, answer};
 ghost use Rattle.dma_engine.specs.View.{object_of, running};
 ghost use Rattle.dma_script.specs.Command.{text_of};
-ghost use Rattle.dma_commands.specs.Printed.{refused_line, transfer_fault_name};
+ghost use Rattle.dma_commands.specs.Printed.{Begins, refused_line, transfer_fault_name};
 ghost use Rattle.dma_commands.specs.inner.RunSteps.{AnswersLine, read_at};
 ghost use Rattle.dma_commands.specs.Run.{call_answer, submit_answer, totals_line, totals_of};
 
 use crate::printing::{
-    push_cookie, push_issued, push_read, push_refused, push_refused_call, push_told, push_worded,
-    rule_name,
+    end_line, push_cookie, push_issued, push_read, push_refused, push_refused_call, push_told,
+    push_worded, rule_name,
 };
 use crate::transfers::transfer_of;
 use dma_engine::{Call, Engine, EngineFault, Entry, Reply};
@@ -33,17 +34,12 @@ pub fn reply_to(engine: &mut Engine, call: &Call) -> Result<Reply, AllocError>
 
 /// Carries out one call, and appends its line or nothing.
 #[inline(never)]
-pub(crate) fn answer_call(
-    engine: &mut Engine,
-    call: &Call,
-    line: &mut Vec<u8>,
-    out: &mut Vec<u8>,
-) -> Result<(), AllocError>
+pub(crate) fn answer_call(engine: &mut Engine, call: &Call, out: &mut Vec<u8>) -> Result<(), AllocError>
     ensures ok { OnOk result (AnswersLine (call_answer engine.old.view call.now) engine.new.view out.old.items out.new.items) }
     ensures err { OnErr result (out.new.items ≡ out.old.items) }
 {
     let reply = reply_to(engine, call)?;
-    push_told(line, call, &reply, out)
+    push_told(call, &reply, out)
 }
 
 /// Carries out `write ADDR HEX`. Its bytes are moved into the history.
@@ -52,7 +48,6 @@ pub(crate) fn write_line(
     engine: &mut Engine,
     addr: u32,
     bytes: Bytes,
-    line: &mut Vec<u8>,
     out: &mut Vec<u8>,
 ) -> Result<(), AllocError>
     ensures ok { OnOk result (AnswersLine (call_answer engine.old.view (Call.Write addr bytes)) engine.new.view out.old.items out.new.items) }
@@ -60,7 +55,7 @@ pub(crate) fn write_line(
 {
     match engine.write_owned(addr, bytes) {
         Ok(()) => push_line(out, b"ok"),
-        Err(fault) => push_refused_call(line, fault, out),
+        Err(fault) => push_refused_call(fault, out),
     }
 }
 
@@ -76,32 +71,23 @@ fn read_at(history: &[Entry], place: usize) -> &[u8]
 
 /// Carries out `read SEG`. The bytes are printed from the history, which keeps them.
 #[inline(never)]
-pub(crate) fn read_line(
-    engine: &mut Engine,
-    segment: Segment,
-    line: &mut Vec<u8>,
-    out: &mut Vec<u8>,
-) -> Result<(), AllocError>
+pub(crate) fn read_line(engine: &mut Engine, segment: Segment, out: &mut Vec<u8>) -> Result<(), AllocError>
     ensures ok { OnOk result (AnswersLine (call_answer engine.old.view (Call.Read segment.addr segment.len)) engine.new.view out.old.items out.new.items) }
     ensures err { OnErr result (out.new.items ≡ out.old.items) }
 {
     let place = engine.history().len();
     match engine.read_back(segment.addr, segment.len) {
-        Ok(()) => push_read(line, segment.addr, read_at(engine.history(), place), out),
-        Err(fault) => push_refused_call(line, fault, out),
+        Ok(()) => push_read(segment.addr, read_at(engine.history(), place), out),
+        Err(fault) => push_refused_call(fault, out),
     }
 }
 
 /// Appends what a transfer that breaks a rule prints. Where memory was refused it prints nothing and the script ends.
-pub fn push_unfit(
-    line: &mut Vec<u8>,
-    fault: TransferFault,
-    out: &mut Vec<u8>,
-) -> Result<(), AllocError>
+pub fn push_unfit(fault: TransferFault, out: &mut Vec<u8>) -> Result<(), AllocError>
     ensures ok { OnOk result ((fault ≢ TransferFault.NoMemory) × (out.new.items ≡ out.old.items ++ text_of (refused_line (transfer_fault_name fault) ∷ []))) }
     ensures err { OnErr result (out.new.items ≡ out.old.items) }
 {
-    push_refused(line, rule_name(fault)?, out)
+    push_refused(rule_name(fault)?, out)
 }
 
 /// Gives a transfer to a channel.
@@ -109,15 +95,14 @@ fn submit(
     engine: &mut Engine,
     ch: u8,
     transfer: Transfer,
-    line: &mut Vec<u8>,
     out: &mut Vec<u8>,
 ) -> Result<(), AllocError>
     ensures ok { OnOk result (AnswersLine (call_answer engine.old.view (Call.Submit ch transfer)) engine.new.view out.old.items out.new.items) }
     ensures err { OnErr result (out.new.items ≡ out.old.items) }
 {
     match engine.submit(ch, transfer) {
-        Ok(cookie) => push_cookie(line, cookie, out),
-        Err(refused) => push_refused_call(line, refused.fault, out),
+        Ok(cookie) => push_cookie(cookie, out),
+        Err(refused) => push_refused_call(refused.fault, out),
     }
 }
 
@@ -127,32 +112,26 @@ pub(crate) fn submit_line(
     engine: &mut Engine,
     ch: u8,
     words: TransferLine,
-    line: &mut Vec<u8>,
     out: &mut Vec<u8>,
 ) -> Result<(), AllocError>
     ensures ok { OnOk result (AnswersLine (submit_answer engine.old.view ch words) engine.new.view out.old.items out.new.items) }
     ensures err { OnErr result (out.new.items ≡ out.old.items) }
 {
     match transfer_of(words) {
-        Ok(transfer) => submit(engine, ch, transfer, line, out),
-        Err(fault) => push_unfit(line, fault, out),
+        Ok(transfer) => submit(engine, ch, transfer, out),
+        Err(fault) => push_unfit(fault, out),
     }
 }
 
 /// Carries out `issue CH`.
 #[inline(never)]
-pub(crate) fn issue_line(
-    engine: &mut Engine,
-    ch: u8,
-    line: &mut Vec<u8>,
-    out: &mut Vec<u8>,
-) -> Result<(), AllocError>
+pub(crate) fn issue_line(engine: &mut Engine, ch: u8, out: &mut Vec<u8>) -> Result<(), AllocError>
     ensures ok { OnOk result (AnswersLine (call_answer engine.old.view (Call.Issue ch)) engine.new.view out.old.items out.new.items) }
     ensures err { OnErr result (out.new.items ≡ out.old.items) }
 {
     match engine.issue(ch) {
-        Ok(count) => push_issued(line, count, out),
-        Err(fault) => push_refused_call(line, fault, out),
+        Ok(count) => push_issued(count, out),
+        Err(fault) => push_refused_call(fault, out),
     }
 }
 
@@ -171,7 +150,8 @@ fn running_count(engine: &Engine) -> usize
 
 /// `totals entries N steps N running N`, at the end.
 fn push_totals(line: &mut Vec<u8>, entries: u64, steps: u64, running: u64) -> Result<(), AllocError>
-    ensures { OnOk result (line.new.items ≡ line.old.items ++ totals_line entries steps running) }
+    ensures ok { OnOk result (line.new.items ≡ line.old.items ++ totals_line entries steps running) }
+    ensures begins { Begins line.new.items line.old.items }
 {
     push_worded(line, "totals entries ", entries)?;
     push_worded(line, " steps ", steps)?;
@@ -180,18 +160,14 @@ fn push_totals(line: &mut Vec<u8>, entries: u64, steps: u64, running: u64) -> Re
 
 /// Carries out `totals`.
 #[inline(never)]
-pub(crate) fn answer_totals(
-    engine: &Engine,
-    line: &mut Vec<u8>,
-    out: &mut Vec<u8>,
-) -> Result<(), AllocError>
+pub(crate) fn answer_totals(engine: &Engine, out: &mut Vec<u8>) -> Result<(), AllocError>
     ensures ok { OnOk result (out.new.items ≡ out.old.items ++ text_of (totals_of engine.now.view ∷ [])) }
     ensures err { OnErr result (out.new.items ≡ out.old.items) }
 {
     let entries = engine.history().len();
     let steps = engine.steps();
     let running = running_count(engine);
-    line.clear();
-    push_totals(line, entries as u64, steps, running as u64)?;
-    push_line(out, line)
+    let start = out.len();
+    let parts = push_totals(out, entries as u64, steps, running as u64);
+    end_line(out, start, parts)
 }

@@ -55,18 +55,13 @@ fn step_through(engine: &mut Engine) -> Result<Reply, AllocError>
 }
 
 /// Issues what was submitted to channel 0 and steps through it.
-fn carry_through(
-    engine: &mut Engine,
-    start: &str,
-    line: &mut Vec<u8>,
-    out: &mut Vec<u8>,
-) -> Result<(), AllocError>
+fn carry_through(engine: &mut Engine, start: &str, out: &mut Vec<u8>) -> Result<(), AllocError>
     ensures ok { OnOk result (AnswersLine (carried_through start.now engine.old.view) engine.new.view out.old.items out.new.items) }
     ensures err { OnErr result (out.new.items ≡ out.old.items) }
 {
     reply_to(engine, &Call::Issue { ch: 0 })?;
     let last = step_through(engine)?;
-    push_after(line, start, &last, out)
+    push_after(start, &last, out)
 }
 
 /// Submits a transfer to channel 0, issues it and steps through it.
@@ -74,15 +69,14 @@ fn copy_through(
     engine: &mut Engine,
     start: &str,
     transfer: Transfer,
-    line: &mut Vec<u8>,
     out: &mut Vec<u8>,
 ) -> Result<(), AllocError>
     ensures ok { OnOk result (AnswersLine (copied_after start.now (answer engine.old.view (Call.Submit 0 transfer))) engine.new.view out.old.items out.new.items) }
     ensures err { OnErr result (out.new.items ≡ out.old.items) }
 {
     match engine.submit(0, transfer) {
-        Ok(_) => carry_through(engine, start, line, out),
-        Err(refused) => push_refused_call(line, refused.fault, out),
+        Ok(_) => carry_through(engine, start, out),
+        Err(refused) => push_refused_call(refused.fault, out),
     }
 }
 
@@ -91,7 +85,6 @@ fn answer_through(
     engine: &mut Engine,
     start: &str,
     words: TransferLine,
-    line: &mut Vec<u8>,
     out: &mut Vec<u8>,
 ) -> Result<(), AllocError>
     ensures ok { OnOk result (AnswersLine (through_answer engine.old.view start.now (transfer_of words)) engine.new.view out.old.items out.new.items) }
@@ -99,12 +92,12 @@ fn answer_through(
 {
     let transfer = match transfer_of(words) {
         Ok(transfer) => transfer,
-        Err(fault) => return push_unfit(line, fault, out),
+        Err(fault) => return push_unfit(fault, out),
     };
     if is_in_use(engine) {
-        return push_refused(line, "ChannelInUse", out);
+        return push_refused("ChannelInUse", out);
     }
-    copy_through(engine, start, transfer, line, out)
+    copy_through(engine, start, transfer, out)
 }
 
 /// Carries out `copy LIST to LIST`.
@@ -112,7 +105,6 @@ fn answer_through(
 pub fn answer_copy(
     engine: &mut Engine,
     lists: CopyLine,
-    line: &mut Vec<u8>,
     out: &mut Vec<u8>,
 ) -> Result<(), AllocError>
     ensures ok { OnOk result (AnswersLine (copy_answer engine.old.view lists.src lists.dst) engine.new.view out.old.items out.new.items) }
@@ -125,7 +117,7 @@ pub fn answer_copy(
         wait: None,
         signal: None,
     };
-    answer_through(engine, "copy ", words, line, out)
+    answer_through(engine, "copy ", words, out)
 }
 
 /// Carries out `fill ADDR to LIST`.
@@ -134,7 +126,6 @@ pub fn answer_fill(
     engine: &mut Engine,
     src: u32,
     dst: Segments,
-    line: &mut Vec<u8>,
     out: &mut Vec<u8>,
 ) -> Result<(), AllocError>
     ensures ok { OnOk result (AnswersLine (fill_answer engine.old.view src dst) engine.new.view out.old.items out.new.items) }
@@ -146,7 +137,7 @@ pub fn answer_fill(
         wait: None,
         signal: None,
     };
-    answer_through(engine, "fill ", words, line, out)
+    answer_through(engine, "fill ", words, out)
 }
 
 /// The law that a copy or a fill is stepped until its last answer: neither takes so many steps that the loop ends by its own

@@ -1,26 +1,26 @@
 //! The lines of a script that step a channel. Equal answers that follow each other are counted in one printed line.
+#![tactic(auto, using(crate::proofs::Begun::begins_more, crate::proofs::Begun::begins_pushed, crate::proofs::Begun::begins_same, crate::proofs::Begun::line_ends, crate::proofs::Begun::line_gone))]
 ghost use Rattle.std.specs.Prelude.{◌≡◌, ◌≢◌, ◌≤◌, ◌<◌, ◌+◌, ◌++◌, ◌∷◌, [], List, ℕ, OnOk, OnErr, IfOk, IsTrue, Err, map, replicate};
 ghost use Rattle.dma_engine.specs.Answer.{answers, reply_of};
 ghost use Rattle.dma_engine.specs.Room.{IsIdle};
 ghost use Rattle.dma_engine.specs.declared.call.Call.TheVariants as calls;
 ghost use Rattle.dma_script.specs.Command.{text_of};
-ghost use Rattle.dma_commands.specs.Printed.{reply_text};
+ghost use Rattle.dma_commands.specs.Printed.{Begins, reply_text};
 ghost use Rattle.dma_commands.specs.inner.Counting.{text_with};
 ghost use Rattle.dma_commands.specs.inner.RunSteps.{AnswersLine};
 ghost use Rattle.dma_commands.specs.Run.{step_answer, step_line};
 
-use crate::printing::{push_reply, push_text, push_worded};
+use crate::printing::{end_line, push_reply, push_text, push_turned, push_worded};
 use dma_engine::advance::{Advanced, advance};
 use dma_engine::{Engine, EngineFault, Reply, Turn};
-use dma_script::printing::push_line;
 use std::alloc::{AllocError, Global};
 use std::mem;
 
 /// The answers of steps so far: the lines of those before, and how many equal ones come last. A script keeps one for all its
-/// lines, and other lines write theirs in `lines`.
+/// lines.
 #[derive(Drop)]
 pub struct StepLines {
-    pub lines: Vec<u8>,
+    lines: Vec<u8>,
     last: Vec<u8>,
     count: u32,
     next: Vec<u8>,
@@ -153,30 +153,42 @@ fn step_text(
     Ok(())
 }
 
-/// Appends the line of one answer.
-fn push_one_step(line: &mut Vec<u8>, ch: u8, reply: &Reply) -> Result<(), AllocError>
-    ensures { OnOk result (line.new.items ≡ line.old.items ++ step_line ch (reply_text reply.now, 1)) }
+/// Fails where a step was refused memory.
+fn unless_refused_memory(turned: Result<Turn, EngineFault>) -> Result<(), AllocError>
+    ensures { OnOk result (reply_of (λ turn. Reply.Turned turn) turned ≢ Reply.Refused EngineFault.NoMemory) }
+{
+    match turned {
+        Ok(_) => Ok(()),
+        Err(EngineFault::NoMemory) => Err(AllocError),
+        Err(_) => Ok(()),
+    }
+}
+
+/// The line of one step, at the end.
+fn push_one_step(
+    line: &mut Vec<u8>,
+    ch: u8,
+    turned: Result<Turn, EngineFault>,
+) -> Result<(), AllocError>
+    ensures ok { OnOk result (line.new.items ≡ line.old.items ++ step_line ch (reply_text (reply_of (λ turn. Reply.Turned turn) turned), 1)) }
+    ensures begins { Begins line.new.items line.old.items }
 {
     push_worded(line, "step ", u64::from(ch))?;
     push_text(line, " ")?;
-    push_reply(line, reply)?;
-    push_worded(line, " x", 1)
+    push_turned(line, turned)?;
+    push_text(line, " x1")
 }
 
-/// Carries out a step line of one step, whose line ends in `x1`.
-fn answer_step(
-    engine: &mut Engine,
-    ch: u8,
-    line: &mut Vec<u8>,
-    out: &mut Vec<u8>,
-) -> Result<(), AllocError>
+/// Carries out `step CH`, whose one answer is no run of several.
+fn answer_step(engine: &mut Engine, ch: u8, out: &mut Vec<u8>) -> Result<(), AllocError>
     ensures ok { OnOk result (AnswersLine (step_answer engine.old.view ch 1) engine.new.view out.old.items out.new.items) }
     ensures err { OnErr result (out.new.items ≡ out.old.items) }
 {
-    let reply = step_reply(engine.step(ch))?;
-    line.clear();
-    push_one_step(line, ch, &reply)?;
-    push_line(out, line)
+    let turned = engine.step(ch);
+    unless_refused_memory(turned)?;
+    let start = out.len();
+    let parts = push_one_step(out, ch, turned);
+    end_line(out, start, parts)
 }
 
 /// Carries out `step CH [N]`. No step takes memory for its answer, and those after one that changed nothing take no time.
@@ -192,7 +204,7 @@ pub fn answer_steps(
     ensures err { OnErr result (out.new.items ≡ out.old.items) }
 {
     if count == 1 {
-        return answer_step(engine, ch, &mut told.lines, out);
+        return answer_step(engine, ch, out);
     }
     step_text(engine, ch, count, told)?;
     out.extend_from_slice(&told.lines)?;

@@ -20,7 +20,7 @@ use dma_script::plan::TransferLine;
 use dma_script::printing::push_line;
 use dma_script::statements::{Statement, Statements};
 use dma_work::{DeskName, Shared, StatusReader};
-use std::alloc::{AllocError, Global};
+use std::alloc::AllocError;
 use std::sync::{MutexGuard, Wait};
 
 /// The reply of a call that answers bytes.
@@ -45,7 +45,6 @@ fn count_reply(count: Result<u32, EngineFault>) -> Reply
 
 /// Appends the line of a call, or nothing. Where memory was refused it prints nothing and the script ends.
 fn push_answer(
-    line: &mut Vec<u8>,
     call: &Call,
     reply: &Reply,
     out: &mut Vec<u8>,
@@ -56,7 +55,7 @@ fn push_answer(
     if let Reply::Refused(EngineFault::NoMemory) = reply {
         return Err(AllocError);
     }
-    push_told(line, call, reply, out)
+    push_told(call, reply, out)
 }
 
 /// Carries out `write ADDR HEX`.
@@ -65,7 +64,6 @@ fn write_early<N: DeskName, R: Wait>(
     shared: &Shared<N>,
     addr: u32,
     bytes: &[u8],
-    line: &mut Vec<u8>,
     out: &mut Vec<u8>,
 ) -> Result<(), AllocError>
     ensures ok { OnOk result (PrintsEarly (Statement.Write addr bytes.now) out.old.items out.new.items) }
@@ -76,7 +74,7 @@ fn write_early<N: DeskName, R: Wait>(
     MutexGuard::unlock(desk);
     match written {
         Ok(()) => push_line(out, b"ok"),
-        Err(fault) => push_refused_call(line, fault, out),
+        Err(fault) => push_refused_call(fault, out),
     }
 }
 
@@ -85,7 +83,6 @@ fn read_early<N: DeskName, R: Wait>(
     rt: &R,
     shared: &Shared<N>,
     segment: Segment,
-    line: &mut Vec<u8>,
     out: &mut Vec<u8>,
 ) -> Result<(), AllocError>
     ensures ok { OnOk result (PrintsEarly (Statement.Read segment) out.old.items out.new.items) }
@@ -96,7 +93,7 @@ fn read_early<N: DeskName, R: Wait>(
     let read = desk.read(addr, len);
     MutexGuard::unlock(desk);
     let reply = bytes_reply(read);
-    push_answer(line, &Call::Read { addr, len }, &reply, out)
+    push_answer(&Call::Read { addr, len }, &reply, out)
 }
 
 /// Gives a transfer to a channel, and tells the reader of it.
@@ -106,7 +103,6 @@ fn submit_transfer<N: DeskName, R: Wait>(
     reader: &mut StatusReader,
     ch: u8,
     transfer: Transfer,
-    line: &mut Vec<u8>,
     out: &mut Vec<u8>,
 ) -> Result<(), AllocError>
     requires follows { (N.log ≡ reader.old.log) × (N.base ≡ reader.old.base) }
@@ -120,9 +116,9 @@ fn submit_transfer<N: DeskName, R: Wait>(
     match submitted {
         Ok(receipt) => {
             reader.learn(receipt.ticket);
-            push_cookie(line, receipt.cookie, out)
+            push_cookie(receipt.cookie, out)
         }
-        Err(refused) => push_refused_call(line, refused.fault, out),
+        Err(refused) => push_refused_call(refused.fault, out),
     }
 }
 
@@ -133,7 +129,6 @@ fn submit_early<N: DeskName, R: Wait>(
     reader: &mut StatusReader,
     ch: u8,
     words: TransferLine,
-    line: &mut Vec<u8>,
     out: &mut Vec<u8>,
 ) -> Result<(), AllocError>
     requires follows { (N.log ≡ reader.old.log) × (N.base ≡ reader.old.base) }
@@ -142,8 +137,8 @@ fn submit_early<N: DeskName, R: Wait>(
     ensures follows { (N.log ≡ reader.new.log) × (N.base ≡ reader.new.base) }
 {
     match transfer_of(words) {
-        Ok(transfer) => submit_transfer(rt, shared, reader, ch, transfer, line, out),
-        Err(fault) => push_unfit(line, fault, out),
+        Ok(transfer) => submit_transfer(rt, shared, reader, ch, transfer, out),
+        Err(fault) => push_unfit(fault, out),
     }
 }
 
@@ -152,7 +147,6 @@ fn issue_early<N: DeskName, R: Wait>(
     rt: &R,
     shared: &Shared<N>,
     ch: u8,
-    line: &mut Vec<u8>,
     out: &mut Vec<u8>,
 ) -> Result<(), AllocError>
     ensures ok { OnOk result (PrintsEarly (Statement.Issue ch) out.old.items out.new.items) }
@@ -162,7 +156,7 @@ fn issue_early<N: DeskName, R: Wait>(
     let issued = desk.issue(ch);
     MutexGuard::unlock(desk);
     let reply = count_reply(issued);
-    push_answer(line, &Call::Issue { ch }, &reply, out)
+    push_answer(&Call::Issue { ch }, &reply, out)
 }
 
 /// Carries out `terminate CH`, and tells the reader of what it ended.
@@ -171,7 +165,6 @@ fn terminate_early<N: DeskName, R: Wait>(
     shared: &Shared<N>,
     reader: &mut StatusReader,
     ch: u8,
-    line: &mut Vec<u8>,
     out: &mut Vec<u8>,
 ) -> Result<(), AllocError>
     requires follows { (N.log ≡ reader.old.log) × (N.base ≡ reader.old.base) }
@@ -186,9 +179,9 @@ fn terminate_early<N: DeskName, R: Wait>(
     match closed {
         Ok(closed) => {
             reader.learn(closed.ticket);
-            push_answer(line, &call, &Reply::Count(closed.count), out)
+            push_answer(&call, &Reply::Count(closed.count), out)
         }
-        Err(fault) => push_answer(line, &call, &Reply::Refused(fault), out),
+        Err(fault) => push_answer(&call, &Reply::Refused(fault), out),
     }
 }
 
@@ -198,7 +191,6 @@ fn result_early<N: DeskName, R: Wait>(
     shared: &Shared<N>,
     ch: u8,
     cookie: u32,
-    line: &mut Vec<u8>,
     out: &mut Vec<u8>,
 ) -> Result<(), AllocError>
     ensures ok { OnOk result (PrintsEarly (Statement.Result ch cookie) out.old.items out.new.items) }
@@ -208,7 +200,6 @@ fn result_early<N: DeskName, R: Wait>(
     let outcome = desk.result(ch, cookie);
     MutexGuard::unlock(desk);
     push_answer(
-        line,
         &Call::Result { ch, cookie },
         &Reply::Result(outcome),
         out,
@@ -220,7 +211,6 @@ fn status_early(
     reader: &mut StatusReader,
     ch: u8,
     cookie: u32,
-    line: &mut Vec<u8>,
     out: &mut Vec<u8>,
 ) -> Result<(), AllocError>
     ensures ok { OnOk result (PrintsEarly (Statement.Status ch cookie) out.old.items out.new.items) }
@@ -229,7 +219,6 @@ fn status_early(
 {
     match reader.status(ch, cookie) {
         Some(status) => push_answer(
-            line,
             &Call::Status { ch, cookie },
             &Reply::State(status),
             out,
@@ -244,7 +233,6 @@ fn run_early_statement<N: DeskName, R: Wait>(
     shared: &Shared<N>,
     reader: &mut StatusReader,
     statement: Statement,
-    line: &mut Vec<u8>,
     out: &mut Vec<u8>,
 ) -> Result<(), AllocError>
     requires early { IsEarly statement }
@@ -255,16 +243,16 @@ fn run_early_statement<N: DeskName, R: Wait>(
 {
     match statement {
         Statement::Write { addr, bytes } => {
-            write_early(rt, shared, addr, bytes.as_slice(), line, out)
+            write_early(rt, shared, addr, bytes.as_slice(), out)
         }
-        Statement::Read(segment) => read_early(rt, shared, segment, line, out),
+        Statement::Read(segment) => read_early(rt, shared, segment, out),
         Statement::Submit { ch, transfer } => {
-            submit_early(rt, shared, reader, ch, transfer.into_inner(), line, out)
+            submit_early(rt, shared, reader, ch, transfer.into_inner(), out)
         }
-        Statement::Issue { ch } => issue_early(rt, shared, ch, line, out),
-        Statement::Terminate { ch } => terminate_early(rt, shared, reader, ch, line, out),
-        Statement::Status { ch, cookie } => status_early(reader, ch, cookie, line, out),
-        Statement::Result { ch, cookie } => result_early(rt, shared, ch, cookie, line, out),
+        Statement::Issue { ch } => issue_early(rt, shared, ch, out),
+        Statement::Terminate { ch } => terminate_early(rt, shared, reader, ch, out),
+        Statement::Status { ch, cookie } => status_early(reader, ch, cookie, out),
+        Statement::Result { ch, cookie } => result_early(rt, shared, ch, cookie, out),
         Statement::Copy(_)
         | Statement::Fill { .. }
         | Statement::Pause { .. }
@@ -284,7 +272,6 @@ struct LinesOnDesk<'a, N: DeskName, R: Wait> {
     rt: &'a R,
     shared: &'a Shared<N>,
     reader: StatusReader,
-    text: Vec<u8>,
 }
 
 impl<N: DeskName, R: Wait> Interpreter for LinesOnDesk<'_, N, R> {
@@ -305,7 +292,6 @@ impl<N: DeskName, R: Wait> Interpreter for LinesOnDesk<'_, N, R> {
             self.shared,
             &mut self.reader,
             line,
-            &mut self.text,
             out,
         )
     }
@@ -315,7 +301,6 @@ impl<N: DeskName, R: Wait> Interpreter for LinesOnDesk<'_, N, R> {
 /// printed stands there.
 pub fn run_early_statements<N: DeskName, R: Wait>(
     rt: &R,
-    alloc: Global,
     shared: &Shared<N>,
     reader: StatusReader,
     lines: Statements,
@@ -326,12 +311,10 @@ pub fn run_early_statements<N: DeskName, R: Wait>(
     ensures ok { OnOk result (PrintsAll lines out.old.items out.new.items) }
     ensures err { OnErr result (PrintsFirst lines out.old.items out.new.items) }
 {
-    let text = Vec::new(alloc);
     let mut desk = LinesOnDesk {
         rt,
         shared,
         reader,
-        text,
     };
     interpret_lines(&mut desk, lines.into_vec(), out)
 }

@@ -1,7 +1,8 @@
 -- Reading the words from here on behind the bytes so far is reading all words, and there is room for a byte for each three.
 use Rattle.std.proofs.Common.{◌≡◌, ◌≤◌, ◌+◌, ◌*◌, ◌/◌, length}
 use Rattle.dma_script.specs.Words.{words_of}
-use Rattle.dma_script.specs.Arguments.{bytes_after, bytes_at}
+use Rattle.dma_script.specs.Arguments.{bytes_at}
+use Rattle.dma_script.specs.inner.Joining.{bytes_after}
 use Rattle.dma_script.proofs.arguments.pairs_at.Given as goal
 
 abbrev pub invariant-loop-rest : goal.invariant-loop-rest

@@ -1,6 +1,6 @@
 use Rattle.std.proofs.Common.{◌∙◌, ap}
 use Rattle.std.proofs.lemmas.List.{take_rest}
-use Rattle.dma_script.specs.Arguments.{hex_after}
+use Rattle.dma_script.specs.inner.Joining.{hex_after}
 use Rattle.dma_script.proofs.HexLemmas.{hex_after_pair}
 use Rattle.dma_script.proofs.arguments.push_hex.Goals as goal
 

@@ -1,6 +1,6 @@
 -- Reading the rest of the word behind the bytes so far is reading the whole word.
 use Rattle.std.proofs.Common.{◌≡◌, length}
-use Rattle.dma_script.specs.Arguments.{hex_after}
+use Rattle.dma_script.specs.inner.Joining.{hex_after}
 use Rattle.dma_script.proofs.arguments.push_hex.Given as goal
 
 abbrev pub invariant-loop-rest : goal.invariant-loop-rest

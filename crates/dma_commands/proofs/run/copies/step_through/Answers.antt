@@ -21,6 +21,15 @@ loop-left-preserved-else-not-goes_on-2 c =
     c.loop-left.invariant
     ∙ advanced-on c.loop-left.engine.view c.advance-steps.new.engine.view c.advance-steps.result c.in-Some.last c.in_ok-reply.reply left c.loop-left.left all c.advance-steps.ensures.answers c.in-Some.is c.in_ok-reply.ensures.reply (sym c.goes_on.ensures ∙ c.if-not-goes_on.false)
 
+pub loop-left-preserved-else-not-goes_on-3 : goal.loop-left-preserved-else-not-goes_on-3
+loop-left-preserved-else-not-goes_on-3 c =
+    let n = c.advance-steps.result.moved in
+    let few = rw c.in-Some.is at c.advance-steps.ensures.other in
+    let left = c.loop-left.left - n - 1 in
+    let all : n + suc left ≡ c.loop-left.left = omega (arith, few.0) in
+    c.loop-left.invariant
+    ∙ advanced-on c.loop-left.engine.view c.advance-steps.new.engine.view c.advance-steps.result c.in-Some.last c.in_ok-reply.reply left c.loop-left.left all c.advance-steps.ensures.answers c.in-Some.is c.in_ok-reply.ensures.reply (sym c.goes_on.ensures ∙ c.if-not-goes_on.false)
+
 pub loop-left-preserved : goal.loop-left-preserved
 loop-left-preserved c =
     let n = c.advance-steps.result.moved in

@@ -11,4 +11,4 @@ returns-in-Some c =
     let read : RaceRead = record { before = c.self.inside.before.script; jobs = c.self.inside.jobs; after = c.self.inside.after } in
     let new = c.add_after_go.new.after in
     subst (λ (x : RaceRead). LineGives c.add_after_go.result (record read { after = Some new }) (next_race_line x c.args.keyword words)) c.self.view_is
-    (rw c.in-Some.is (added_to_race c.add_after_go.result read c.in-Some.after new (line_after_go c.args.keyword words) c.add_after_go.ensures))
+    (rw c.in-Some.is (added_to_race c.add_after_go.result read c.in-Some.after new (line_after_go c.args.keyword words) c.add_after_go.ensures.gives))

@@ -1,0 +1,9 @@
+-- Numbers as text.
+use Rattle.std.specs.Prelude.{ℕ, ◌/◌, ◌%◌, true, List, [], ◌∷◌, map}
+use Rattle.std.specs.Fmt.{digit_glyph}
+
+-- the eight hexadecimal digits of a number below 2 ^ 32, of 0 to 9 and A to F
+abbrev pub hex_digits : ℕ → List ℕ
+hex_digits v =
+    map (λ weight. digit_glyph true (v / weight % 16))
+    (0x10000000 ∷ 0x1000000 ∷ 0x100000 ∷ 0x10000 ∷ 0x1000 ∷ 0x100 ∷ 0x10 ∷ 0x1 ∷ [])
