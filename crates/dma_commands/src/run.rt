@@ -2,7 +2,7 @@
 ghost use Rattle.std.specs.Prelude.{◌≡◌, ◌≤◌, ◌+◌, ◌++◌, OnOk, OnErr, IfSome};
 ghost use Rattle.dma_script.specs.Command.{AppendsGroups, Ends, failures, longest_input, printed_text, printed_within};
 ghost use Rattle.dma_commands.specs.Run.{line_answer, lines_answered, printed};
-ghost use Rattle.dma_commands.specs.inner.RunSteps.{AnswersLine};
+ghost use Rattle.dma_commands.specs.inner.RunSteps.{AnswersLine, IsShort};
 
 pub mod calls;
 mod copies;
@@ -36,29 +36,47 @@ fn run_statement(
     match statement {
         Statement::Write { addr, bytes } => write_line(engine, addr, bytes, out),
         Statement::Read(segment) => read_line(engine, segment, out),
-        Statement::Copy(lists) => answer_copy(engine, lists.into_inner(), out),
+        Statement::Copy(lists) => answer_copy(engine, lists, out),
         Statement::Fill { src, dst } => answer_fill(engine, src, dst, out),
-        Statement::Submit { ch, transfer } => {
-            submit_line(engine, ch, transfer.into_inner(), out)
-        }
+        Statement::Submit { ch, transfer } => submit_line(engine, ch, transfer, out),
         Statement::Issue { ch } => issue_line(engine, ch, out),
         Statement::Step { ch, count } => answer_steps(engine, ch, count, told, out),
         Statement::Totals => answer_totals(engine, out),
+        Statement::Pause { .. }
+        | Statement::Resume { .. }
+        | Statement::Terminate { .. }
+        | Statement::Status { .. }
+        | Statement::Result { .. }
+        | Statement::Mark { .. }
+        | Statement::Unmark
+        | Statement::Raise { .. }
+        | Statement::Checkpoint => answer_short(engine, statement, out),
+    }
+}
+
+/// Carries out a line that is one call, without a list or bytes. It is apart from the lines that are frequent, since the
+/// locals of each arm of a `match` are cleared whichever arm is taken.
+#[inline(never)]
+fn answer_short(
+    engine: &mut Engine,
+    statement: Statement,
+    out: &mut Vec<u8>,
+) -> Result<(), AllocError>
+    requires { IsShort statement }
+    ensures ok { OnOk result (AnswersLine (line_answer engine.old.view statement) engine.new.view out.old.items out.new.items) }
+    ensures err { OnErr result (out.new.items ≡ out.old.items) }
+{
+    match statement {
         Statement::Pause { ch } => answer_call(engine, &Call::Pause { ch }, out),
         Statement::Resume { ch } => answer_call(engine, &Call::Resume { ch }, out),
         Statement::Terminate { ch } => answer_call(engine, &Call::Terminate { ch }, out),
-        Statement::Status { ch, cookie } => {
-            answer_call(engine, &Call::Status { ch, cookie }, out)
-        }
-        Statement::Result { ch, cookie } => {
-            answer_call(engine, &Call::Result { ch, cookie }, out)
-        }
-        Statement::Mark { kind, segment } => {
-            answer_call(engine, &Call::Mark { kind, segment }, out)
-        }
+        Statement::Status { ch, cookie } => answer_call(engine, &Call::Status { ch, cookie }, out),
+        Statement::Result { ch, cookie } => answer_call(engine, &Call::Result { ch, cookie }, out),
+        Statement::Mark { kind, segment } => answer_call(engine, &Call::Mark { kind, segment }, out),
         Statement::Unmark => answer_call(engine, &Call::Unmark, out),
         Statement::Raise { event } => answer_call(engine, &Call::Raise { event }, out),
         Statement::Checkpoint => answer_call(engine, &Call::Checkpoint, out),
+        _ => unreachable!(),
     }
 }
 

@@ -28,13 +28,19 @@ impl Model for Bytes {
 }
 
 impl Bytes {
-    /// The bytes of a vector, which it takes.
+    /// The bytes of a vector, moved: a long one keeps its memory, a short one is copied into the value.
     pub fn from_vec(bytes: Vec<u8>) -> Bytes
         ensures { result ≡ bytes.items }
     {
-        Bytes {
-            bytes: SmallVec::from_vec(bytes),
+        if bytes.len() > INLINE_BYTES {
+            return Bytes {
+                bytes: SmallVec::from_vec(bytes),
+            };
         }
+        let Ok(bytes) = SmallVec::from_slice(*bytes.allocator(), &bytes) else {
+            unreachable!();
+        };
+        Bytes { bytes }
     }
 
     /// A copy of these bytes.

@@ -2,7 +2,7 @@
 use Rattle.std.specs.Prelude.{ℕ, ◌+◌, ◌*◌, ◌/◌, ◌%◌, true, List, [], ◌∷◌, length, map, flat_map, take, drop, codes, decimal}
 use Rattle.std.specs.List.{concat, range_with_len}
 use Rattle.std.specs.Fmt.{digit_glyph}
-use Rattle.dma_text.specs.Digits.{hex_digits}
+use Rattle.dma_text.specs.Digits.{hex_digits, hex_pair}
 use Rattle.dma_script.specs.declared.fault.Cause.{Cause}
 use Rattle.dma_script.specs.declared.fault.Cause.TheVariants.{Byte, Command, First, Words, Number, Hex, Range, SizeOutOfRange, BadChannels, Go}
 use Rattle.dma_script.specs.declared.fault.Fault.{Fault}
@@ -26,7 +26,7 @@ fault_line fault = concat (codes "line " ∷ decimal fault.line ∷ codes ": " �
 
 -- a byte in two capital hexadecimal digits
 abbrev pub hex_byte_of : ℕ → List ℕ
-hex_byte_of b = digit_glyph true (b / 16) ∷ digit_glyph true (b % 16) ∷ []
+hex_byte_of b = hex_pair b
 
 -- bytes with a space before each
 abbrev pub spaced_bytes : List ℕ → List ℕ

@@ -200,8 +200,8 @@ fn push_hex(bytes: &mut Vec<u8>, word: &[u8]) -> Result<(), LineError>
     }
 }
 
-/// Reads words of two digits while a blank follows each, as in most lines. Returns their bytes and the rest of the line.
-#[tactic(auto, using(crate::proofs::HexLemmas::bytes_after_pair, crate::proofs::HexLemmas::bytes_after_none))]
+/// Reads words of two digits with a blank between two, as most lines have them. Returns their bytes and the rest of the line.
+#[tactic(auto, using(crate::proofs::HexLemmas::bytes_after_pair, crate::proofs::HexLemmas::bytes_after_none, crate::proofs::HexLemmas::bytes_after_end))]
 fn pairs_at(alloc: Global, line: &[u8]) -> Result<(Vec<u8>, &[u8]), AllocError>
     ensures { IfOk result (λ read. bytes_after read.0.items (words_of read.1.now) ≡ bytes_at (words_of line.now)) }
 {
@@ -217,6 +217,12 @@ fn pairs_at(alloc: Global, line: &[u8]) -> Result<(Vec<u8>, &[u8]), AllocError>
         }
         bytes.push_reserved(byte);
         rest = after;
+    }
+    if let [high, low] = rest
+        && let Some(byte) = byte_in(*high, *low)
+    {
+        bytes.push_reserved(byte);
+        rest = &[];
     }
     Ok((bytes, rest))
 }

@@ -5,7 +5,7 @@ ghost use Rattle.dma_script.specs.Command.{text_of};
 ghost use Rattle.dma_script.specs.Printing.{fault_line, hex_address, hex_byte_of, program_lines, row_line, spaced_bytes};
 
 use crate::fault::Fault;
-use dma_text::digits::{glyph, hex_digits};
+use dma_text::digits::{hex_digits, hex_pair};
 pub use dma_text::digits::push_decimal;
 use std::alloc::{AllocError, Global};
 use std::mem;
@@ -39,7 +39,7 @@ pub fn push_byte(line: &mut Vec<u8>, byte: u8) -> Result<(), AllocError>
     ensures ok { OnOk result (line.new.items ≡ line.old.items ++ hex_byte_of byte) }
     ensures err { OnErr result (line.new.items ≡ line.old.items) }
 {
-    line.extend_from_slice(&[glyph(byte / 16), glyph(byte % 16)])
+    line.extend_from_slice(&hex_pair(byte))
 }
 
 /// Appends bytes with a space before each, or nothing.
@@ -55,10 +55,10 @@ pub fn push_bytes(line: &mut Vec<u8>, bytes: &[u8]) -> Result<(), AllocError>
     let empty = Vec::new(*line.allocator());
     let mut text = mem::replace(line, empty);
     for byte in bytes {
-        let value = *byte;
+        let [high, low] = hex_pair(*byte);
         text.push_reserved(b' ');
-        text.push_reserved(glyph(value / 16));
-        text.push_reserved(glyph(value % 16));
+        text.push_reserved(high);
+        text.push_reserved(low);
     }
     *line = text;
     Ok(())

@@ -1,8 +1,7 @@
 //! Digits that are read, and numbers and digits that are written.
-ghost use Rattle.std.specs.Prelude.{◌≡◌, ◌++◌, ◌<◌, OnErr, OnOk, decimal, true};
+ghost use Rattle.std.specs.Prelude.{◌≡◌, ◌++◌, OnErr, OnOk, decimal};
 ghost use Rattle.std.specs.Char.{digit_value};
-ghost use Rattle.std.specs.Fmt.{digit_glyph};
-ghost use Rattle.dma_text.specs.Digits.{hex_digits};
+ghost use Rattle.dma_text.specs.Digits.{hex_digits, hex_pair};
 
 use itoa::Buffer;
 use std::alloc::AllocError;
@@ -31,32 +30,36 @@ fn push_digits(line: &mut Vec<u8>, number: u64) -> Result<(), AllocError>
     line.extend_from_slice(Buffer::new().format(number).as_bytes())
 }
 
-/// The hexadecimal digits in capitals. They're a table, since a branch on digits is often guessed wrong.
-const GLYPHS: [u8; 16] = *b"0123456789ABCDEF";
+/// Each byte in two hexadecimal digits, in capitals. A table takes fewer steps than the arithmetic.
+const PAIRS: [u8; 512] = *b"\
+000102030405060708090A0B0C0D0E0F101112131415161718191A1B1C1D1E1F\
+202122232425262728292A2B2C2D2E2F303132333435363738393A3B3C3D3E3F\
+404142434445464748494A4B4C4D4E4F505152535455565758595A5B5C5D5E5F\
+606162636465666768696A6B6C6D6E6F707172737475767778797A7B7C7D7E7F\
+808182838485868788898A8B8C8D8E8F909192939495969798999A9B9C9D9E9F\
+A0A1A2A3A4A5A6A7A8A9AAABACADAEAFB0B1B2B3B4B5B6B7B8B9BABBBCBDBEBF\
+C0C1C2C3C4C5C6C7C8C9CACBCCCDCECFD0D1D2D3D4D5D6D7D8D9DADBDCDDDEDF\
+E0E1E2E3E4E5E6E7E8E9EAEBECEDEEEFF0F1F2F3F4F5F6F7F8F9FAFBFCFDFEFF";
 
-/// A hexadecimal digit in capitals.
-pub fn glyph(digit: u8) -> u8
-    requires { digit < 16 }
-    ensures { result ≡ digit_glyph true digit }
+/// A byte in two hexadecimal digits, in capitals.
+#[inline(always)]
+pub fn hex_pair(byte: u8) -> [u8; 2]
+    ensures { result ≡ hex_pair byte }
 {
-    GLYPHS[usize::from(digit)]
+    let place = 2 * usize::from(byte);
+    [PAIRS[place], PAIRS[place + 1]]
 }
 
-/// The eight hexadecimal digits of a number, in capitals.
+/// A number in eight hexadecimal digits, in capitals.
 #[inline(always)]
 pub fn hex_digits(value: u32) -> [u8; 8]
     ensures { result ≡ hex_digits value }
 {
-    [
-        glyph((value / 0x1000_0000 % 16) as u8),
-        glyph((value / 0x100_0000 % 16) as u8),
-        glyph((value / 0x10_0000 % 16) as u8),
-        glyph((value / 0x1_0000 % 16) as u8),
-        glyph((value / 0x1000 % 16) as u8),
-        glyph((value / 0x100 % 16) as u8),
-        glyph((value / 0x10 % 16) as u8),
-        glyph((value % 16) as u8),
-    ]
+    let [a, b] = hex_pair((value / 0x100_0000) as u8);
+    let [c, d] = hex_pair((value / 0x1_0000 % 256) as u8);
+    let [e, f] = hex_pair((value / 0x100 % 256) as u8);
+    let [g, h] = hex_pair((value % 256) as u8);
+    [a, b, c, d, e, f, g, h]
 }
 
 /// The table's value for a byte that is no digit.

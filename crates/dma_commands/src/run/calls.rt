@@ -17,6 +17,7 @@ use dma_engine::{Call, Engine, EngineFault, Entry, Reply};
 use dma_mem::lists::Bytes;
 use dma_mem::segment::Segment;
 use dma_mem::transfer::{Transfer, TransferFault};
+use dma_script::apart::Apart;
 use dma_script::plan::TransferLine;
 use dma_script::printing::push_line;
 use std::alloc::AllocError;
@@ -111,13 +112,13 @@ fn submit(
 pub(crate) fn submit_line(
     engine: &mut Engine,
     ch: u8,
-    words: TransferLine,
+    words: Apart<TransferLine>,
     out: &mut Vec<u8>,
 ) -> Result<(), AllocError>
     ensures ok { OnOk result (AnswersLine (submit_answer engine.old.view ch words) engine.new.view out.old.items out.new.items) }
     ensures err { OnErr result (out.new.items ≡ out.old.items) }
 {
-    match transfer_of(words) {
+    match transfer_of(words.into_inner()) {
         Ok(transfer) => submit(engine, ch, transfer, out),
         Err(fault) => push_unfit(fault, out),
     }

@@ -13,6 +13,7 @@ use dma_engine::advance::advance;
 use dma_engine::{Call, Engine, Reply, Turn};
 use dma_mem::lists::Segments;
 use dma_mem::transfer::Transfer;
+use dma_script::apart::Apart;
 use dma_script::plan::{Origin, TransferLine};
 use dma_script::statements::CopyLine;
 use std::alloc::AllocError;
@@ -104,13 +105,13 @@ fn answer_through(
 #[inline(never)]
 pub fn answer_copy(
     engine: &mut Engine,
-    lists: CopyLine,
+    lists: Apart<CopyLine>,
     out: &mut Vec<u8>,
 ) -> Result<(), AllocError>
     ensures ok { OnOk result (AnswersLine (copy_answer engine.old.view lists.src lists.dst) engine.new.view out.old.items out.new.items) }
     ensures err { OnErr result (out.new.items ≡ out.old.items) }
 {
-    let CopyLine { src, dst } = lists;
+    let CopyLine { src, dst } = lists.into_inner();
     let words = TransferLine {
         src: Origin::List(src),
         dst,

@@ -1,0 +1,36 @@
+-- The table of bytes in two digits, entry by entry.
+use Rattle.std.proofs.Common.{◌≡◌, ℕ, ◌+◌, ◌*◌, ◌/◌, ◌%◌, ◌<◌, List, map, true, eqb, refl, ap, ◌∙◌, sym, arith}
+use Rattle.std.specs.Prelude.{slice_index_or, if◌then◌else◌}
+use Rattle.std.specs.Fmt.{digit_glyph}
+use Rattle.std.specs.List.{range_with_len}
+use Rattle.std.proofs.lemmas.List.FromFn.{get_or-map-range_with_len}
+use Rattle.dma_text.specs.declared.digits.TheConstants.{PAIRS}
+
+-- the digit at a place of the table
+digit_at : ℕ → ℕ
+digit_at k = digit_glyph true (if eqb (k % 2) 0 then k / 2 / 16 else k / 2 % 16)
+
+-- the whole table at once
+table : map digit_at (range_with_len 0 512) ≡ PAIRS
+unfolding digit_at
+table = refl
+
+-- one entry
+entry : (k : ℕ) → k < 512 → slice_index_or PAIRS k 0 ≡ digit_at k
+entry k h = sym (ap (λ (l : List ℕ). slice_index_or l k 0) table) ∙ get_or-map-range_with_len digit_at 0 512 k k 0 h (omega arith)
+
+-- the first digit of a byte
+pub first_digit : (b : ℕ) → b < 256 → slice_index_or PAIRS (2 * b) 0 ≡ digit_glyph true (b / 16)
+unfolding digit_at
+first_digit b h =
+    let even : 2 * b % 2 ≡ 0 = omega arith in
+    let half : 2 * b / 2 ≡ b = omega arith in
+    entry (2 * b) (omega arith) ∙ rw (even, half) refl
+
+-- the second
+pub second_digit : (b : ℕ) → b < 256 → slice_index_or PAIRS (2 * b + 1) 0 ≡ digit_glyph true (b % 16)
+unfolding digit_at
+second_digit b h =
+    let odd : (2 * b + 1) % 2 ≡ 1 = omega arith in
+    let half : (2 * b + 1) / 2 ≡ b = omega arith in
+    entry (2 * b + 1) (omega arith) ∙ rw (odd, half) refl
