@@ -21,4 +21,6 @@ pub mod LayerLaws
 pub mod CopyAlone
 pub mod TwoSlices
 pub mod ReadyLaws
+pub mod BodyBlocks
+mod BodyBytes
 pub mod Rows

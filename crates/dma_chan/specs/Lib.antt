@@ -5,6 +5,7 @@ pub mod Exec
 pub mod Programs
 pub mod Channel
 pub mod Run
+pub mod InRow
 pub mod Tree
 pub mod Compiled
 pub mod Traffic

@@ -5,3 +5,4 @@ pub mod At
 pub mod Spans
 pub mod NextWrites
 pub mod Compiling
+pub mod Blocks

@@ -55,7 +55,7 @@ impl Burst {
     }
 
     // How many bytes it moves.
-    fn len(self) -> u32
+    pub(crate) fn len(self) -> u32
         requires { (self.size ≤ 16) × (self.beats ≤ 16) }
         ensures value { result ≡ burst_len self }
         ensures limit { result ≤ 256 }
@@ -102,7 +102,7 @@ impl Burst {
 
 // The burst of a load.
 #[tactic(auto, using(crate::proofs::BurstEnds::burst_of_end))]
-fn source_burst(registers: &Registers) -> Burst
+pub(crate) fn source_burst(registers: &Registers) -> Burst
     ensures value { result ≡ source_of registers.now }
     ensures addr { result.addr ≡ registers.now.sar }
     ensures some { (1 ≤ result.size) × (1 ≤ result.beats) }
@@ -113,7 +113,7 @@ fn source_burst(registers: &Registers) -> Burst
 
 // The burst of a store.
 #[tactic(auto, using(crate::proofs::BurstEnds::burst_of_end))]
-fn destination_burst(registers: &Registers) -> Burst
+pub(crate) fn destination_burst(registers: &Registers) -> Burst
     ensures value { result ≡ destination_of registers.now }
     ensures addr { result.addr ≡ registers.now.dar }
     ensures some { (1 ≤ result.size) × (1 ≤ result.beats) }

@@ -1,6 +1,7 @@
 //! Programs of one channel of a PL330 controller, and the machine that runs them.
 #![tactic(auto)]
 
+mod blocks;
 mod bursts;
 pub mod channel;
 pub mod compile;

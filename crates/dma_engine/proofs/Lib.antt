@@ -18,6 +18,7 @@ pub mod StepCases
 pub mod MovingSteps
 pub mod InstructionSteps
 pub mod Starts
+pub mod StepsInRow
 pub mod Rooms
 pub mod Opening
 pub mod CallLists

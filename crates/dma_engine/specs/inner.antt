@@ -8,3 +8,4 @@ pub mod Found
 pub mod Due
 pub mod Holds
 pub mod Inside
+pub mod InRow

@@ -2,7 +2,7 @@
 
 ghost use Rattle.std.specs.Prelude.{◌≡◌, ◌≢◌, ◌<◌, IsTrue, IsNone, None, IfSome, IfErr, Ok, false};
 ghost use Rattle.dma_engine.specs.Advance.{IsAdvance};
-ghost use Rattle.dma_engine.specs.Answer.{Extends, KeepsOutcomes};
+ghost use Rattle.dma_engine.specs.Answer.{Extends, KeepsOutcomes, StepAnswers};
 ghost use Rattle.dma_engine.specs.Room.{HasRoom, IsIdle, KeepsRoom};
 ghost use Rattle.dma_engine.specs.View.{IsSound, memory_of, schedule_at};
 
@@ -48,7 +48,23 @@ pub fn advance(engine: &mut Engine, ch: u8, most: u32) -> Advanced
     advanced
 }
 
-// The same, by what the steps themselves tell.
+// Takes one step, and returns its answer where that is not `Moved`.
+#[inline(always)]
+fn step_unless_moved(engine: &mut Engine, ch: u8) -> Option<Result<Turn, EngineFault>>
+    ensures moved { IsNone result → StepAnswers engine.old.view ch (Ok Turn.Moved) engine.new.view }
+    ensures answer { IfSome result (λ last. StepAnswers engine.old.view ch last engine.new.view) }
+    ensures other { IfSome result (λ last. last ≢ Ok Turn.Moved) }
+    ensures room { HasRoom engine.old ch → IfSome result (λ last. IfErr last (λ fault. fault ≡ EngineFault.NoMemory → (schedule_at engine.old.view ch).taken ≡ None)) }
+    ensures kept { IfSome result (λ last. IsIdle last → KeepsRoom engine.old engine.new) }
+{
+    if engine.moves(ch) {
+        return None;
+    }
+    let turn = engine.rare_step(ch);
+    if has_moved(turn) { None } else { Some(turn) }
+}
+
+// The same, with the clauses of the steps alone. Loop bodies are executed as a block where they can be, else step by step.
 fn take_steps(engine: &mut Engine, ch: u8, most: u32) -> Advanced
     ensures answers { IsAdvance engine.old.view ch result engine.new.view }
     ensures all { IsNone result.last → result.moved ≡ most }
@@ -56,19 +72,20 @@ fn take_steps(engine: &mut Engine, ch: u8, most: u32) -> Advanced
     ensures room { HasRoom engine.old ch → result.moved ≡ 0 → IfSome result.last (λ last. IfErr last (λ fault. fault ≡ EngineFault.NoMemory → (schedule_at engine.old.view ch).taken ≡ None)) }
     ensures kept { result.moved ≡ 0 → IfSome result.last (λ last. IsIdle last) → KeepsRoom engine.old engine.new }
 {
-    for moved in 0..most {
-        if !engine.moves(ch) {
-            let turn = engine.rare_step(ch);
-            if !has_moved(turn) {
-                return Advanced {
-                    moved,
-                    last: Some(turn),
-                };
-            }
+    let mut moved = 0;
+    while moved < most {
+        let ahead = engine.run_ahead(ch, most - moved);
+        if ahead > 0 {
+            moved += ahead;
+            continue;
         }
+        if let Some(last) = step_unless_moved(engine, ch) {
+            return Advanced {
+                moved,
+                last: Some(last),
+            };
+        }
+        moved += 1;
     }
-    Advanced {
-        moved: most,
-        last: None,
-    }
+    Advanced { moved, last: None }
 }

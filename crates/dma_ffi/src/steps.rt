@@ -2,7 +2,9 @@
 
 ghost use Rattle.std.specs.Prelude.{◌≡◌};
 ghost use Rattle.dma_ffi.specs.Told.{AnswersSteps, goes_on, steps_answer};
+ghost use Rattle.dma_ffi.specs.inner.InRow.{after_moves};
 
+use dma_engine::advance::advance;
 use dma_engine::{Engine, EngineFault, Turn};
 
 /// The steps that were taken.
@@ -21,6 +23,13 @@ fn goes_on(turn: Turn) -> bool
     matches!(turn, Turn::Started(_) | Turn::Moved)
 }
 
+// Returns the answer of the last step, after `moved` more steps that moved.
+fn after_moves(moved: u32, last: Option<Turn>) -> Option<Turn>
+    ensures { result ≡ after_moves moved last }
+{
+    if moved == 0 { last } else { Some(Turn::Moved) }
+}
+
 /// Takes at most so many steps of a channel: up to one that neither starts nor moves, or to where one is refused.
 ///
 /// The error is the refusal of the first step. A refusal of a later one isn't told: the steps before it are. It changed
@@ -28,19 +37,22 @@ fn goes_on(turn: Turn) -> bool
 pub fn take_steps(engine: &mut Engine, ch: u8, most: u32) -> Result<Taken, EngineFault>
     ensures { AnswersSteps engine.old.view ch most (steps_answer result) engine.new.view }
 {
+    let mut count = 0;
     let mut last = None;
-    for count in 0..most {
-        match engine.step(ch) {
-            Ok(turn) => {
+    while count < most {
+        let advanced = advance(engine, ch, most - count);
+        count += advanced.moved;
+        last = after_moves(advanced.moved, last);
+        match advanced.last {
+            None => return Ok(Taken { count, last }),
+            Some(Ok(turn)) => {
+                count += 1;
                 last = Some(turn);
                 if !goes_on(turn) {
-                    return Ok(Taken {
-                        count: count + 1,
-                        last,
-                    });
+                    return Ok(Taken { count, last });
                 }
             }
-            Err(fault) => {
+            Some(Err(fault)) => {
                 if count == 0 {
                     return Err(fault);
                 }
@@ -48,5 +60,5 @@ pub fn take_steps(engine: &mut Engine, ch: u8, most: u32) -> Result<Taken, Engin
             }
         }
     }
-    Ok(Taken { count: most, last })
+    Ok(Taken { count, last })
 }

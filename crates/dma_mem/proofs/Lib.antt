@@ -3,6 +3,8 @@ pub mod ImageOver
 pub mod SharedPlaces
 pub mod OverTransfers
 pub mod BytesPut
+pub mod BlockCopies
+pub mod PageChanges
 pub mod TransferRules
 pub mod PlaceAt
 pub mod MarkHits

@@ -12,7 +12,7 @@ use Rattle.dma_mem.specs.declared.segment.Segment.{Segment}
 use Rattle.dma_mem.specs.Places.{Descriptor, places, share, range_of, sources, destinations, writes, touches, is_free_of}
 use Rattle.dma_mem.specs.Rules.{IsTransfer}
 use Rattle.dma_mem.specs.Ranges.{IsCoalesced, HasSources, SameAddresses}
-use Rattle.dma_mem.specs.inner.RangesInOrder.{IsOrdered, Joins}
+use Rattle.dma_mem.specs.inner.RangesInOrder.{IsOrdered, IsClearOf, Joins}
 use Rattle.dma_mem.proofs.SharedPlaces.{share-true, share_none, shared_by, in_range, range_in, share-append_left}
 use Rattle.dma_mem.proofs.TransferRules.{same-sources}
 
@@ -228,6 +228,31 @@ meets_none rs first s p past =
     share_none _ _ (λ a i j.
     let at = places_in rs nowhere a j in
     omega (arith, p.0 at.k nowhere (omega arith) (omega (arith, at.within)), (range_in s.addr s.len a i).0, at.lies.1))
+
+-- up to where the first of the others begins, none of the segment's addresses is in a range
+pub clear_before : (rs : List Segment) (first : ℕ) (addr len : ℕ) → IsOrdered rs → EndBy addr rs first → first < length rs → len ≤ (get_or rs first nowhere).addr - addr → IsClearOf rs addr len
+clear_before rs first addr len o p within low a above below i =
+    let at = places_in rs nowhere a i in
+    elim (cases_lt at.k first) [
+      | inl before ↦ omega (arith, p.0 at.k nowhere (omega arith) before, above, at.lies.1)
+      | inr later ↦
+          let order = o.starts first at.k nowhere later at.within in
+          omega (arith, order, low, above, below, at.lies.0)
+    ]
+
+-- where it begins, or at the segment's first address, one is
+pub next_in : (rs : List Segment) (first : ℕ) (addr len : ℕ) → IsOrdered rs → EndBy addr rs first → first < length rs → len ≡ (get_or rs first nowhere).addr - addr → Contains (places rs) (addr + len)
+next_in rs first addr len o p within is =
+    let r = get_or rs first nowhere in
+    let filled : 0 < r.len = o.filled first nowhere within in
+    let after : addr < r.addr + r.len = p.1 first nowhere (omega arith) within in
+    in_places rs first nowhere (addr + len) within (omega (arith, is), omega (arith, is, filled, after))
+
+-- and where all end below, none at all
+pub clear_past : (rs : List Segment) (first : ℕ) (addr len : ℕ) → EndBy addr rs first → length rs ≤ first → IsClearOf rs addr len
+clear_past rs first addr len p past a above below i =
+    let at = places_in rs nowhere a i in
+    omega (arith, p.0 at.k nowhere (omega arith) (omega (arith, at.within)), above, at.lies.1)
 
 -- so it is where the segment ends at the first range's first address or below it
 pub below_all : (rs : List Segment) (s : Segment) → IsOrdered rs → s.addr + s.len ≤ (get_or rs 0 nowhere).addr → share (range_of s) (places rs) ≡ false

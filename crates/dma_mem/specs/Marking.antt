@@ -1,5 +1,5 @@
 -- Marks, at which bursts fail.
-use Rattle.std.specs.Prelude.{ℕ, ◌+◌, Bool, true, false, ◌&&◌, nat_lt, nat_le, List}
+use Rattle.std.specs.Prelude.{◌≡◌, ℕ, ◌+◌, ◌≤◌, ◌<◌, Bool, true, false, ◌&&◌, nat_lt, nat_le, List}
 use Rattle.std.specs.List.{list_any}
 use Rattle.dma_mem.specs.declared.segment.Segment.{Segment}
 use Rattle.dma_mem.specs.declared.marks.MarkKind.{MarkKind}
@@ -23,6 +23,10 @@ lies_in a s = nat_le s.addr a && nat_lt a (s.addr + s.len)
 -- Whether an address lies in a mark of the kind.
 abbrev pub is_marked : MarkKind → MarkList → ℕ → Bool
 is_marked kind marks a = list_any (λ m. same_kind kind m.0 && lies_in a m.1) marks
+
+-- None of the `len` addresses from `addr` on lies in a mark of the kind.
+abbrev pub NoneMarked : MarkKind → MarkList → ℕ → ℕ → Type 0
+NoneMarked kind marks addr len = (a : ℕ) → addr ≤ a → a < addr + len → is_marked kind marks a ≡ false
 
 -- Whether one of these addresses lies in a mark of the kind.
 unfoldable pub meets_mark : MarkKind → MarkList → List ℕ → Bool

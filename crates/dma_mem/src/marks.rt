@@ -1,12 +1,12 @@
 //! Ranges of a memory that are marked as failing.
 
-ghost use Rattle.std.specs.Prelude.{◌≡◌, ◌∷◌, ◌++◌, [], IfOk, OnOk, OnErr};
+ghost use Rattle.std.specs.Prelude.{◌≡◌, ◌+◌, ◌≤◌, ◌<◌, ◌∷◌, ◌++◌, [], IsTrue, IfOk, OnOk, OnErr};
 ghost use Rattle.std.specs.List.{list_any, range_with_len};
 ghost use Rattle.dma_mem.specs.Meeting.{hits};
-ghost use Rattle.dma_mem.specs.Marking.{is_marked};
+ghost use Rattle.dma_mem.specs.Marking.{NoneMarked, is_marked};
 ghost use Rattle.dma_mem.specs.inner.MarkRanges.{AreRangesOf};
 
-use crate::ordered::{add_in_order, meets_ordered};
+use crate::ordered::{add_in_order, clear_of_ordered, meets_ordered};
 use crate::segment::Segment;
 use std::alloc::{AllocError, Global};
 use std::marker::Model;
@@ -109,5 +109,15 @@ impl Marks {
         ensures addresses { result ≡ list_any (is_marked kind self.now) (range_with_len segment.addr segment.len) }
     {
         meets_ordered(self.ranges(kind), segment)
+    }
+
+    /// Returns how many addresses of the segment, from its first on, come before the first that lies in a mark of the kind:
+    /// all of them where none does.
+    pub fn unmarked(&self, kind: MarkKind, segment: Segment) -> u32
+        ensures few { result ≤ segment.len }
+        ensures none { NoneMarked kind self.now segment.addr result }
+        ensures next { result < segment.len → IsTrue (is_marked kind self.now (segment.addr + result)) }
+    {
+        clear_of_ordered(self.ranges(kind), segment)
     }
 }

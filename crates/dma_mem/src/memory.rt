@@ -1,6 +1,6 @@
 //! A memory of bytes.
 
-ghost use Rattle.std.specs.Prelude.{◌≡◌, ◌≢◌, ℕ, ◌+◌, ◌%◌, ◌/◌, ◌≤◌, ◌++◌, length, take, drop, replicate, slice_get, nat_lt, true, false, if◌then◌else◌, IsTrue, IfOk, IfErr, IfSome, IsSome, OnOk, OnErr};
+ghost use Rattle.std.specs.Prelude.{◌≡◌, ◌≢◌, ℕ, ◌+◌, ◌%◌, ◌/◌, ◌≤◌, ◌⊎◌, ◌++◌, length, take, drop, replicate, slice_get, nat_lt, true, false, if◌then◌else◌, IsTrue, IfOk, IfErr, IfSome, IsSome, OnOk, OnErr};
 ghost use Rattle.std.specs.List.{list_all, range_with_len};
 ghost use Rattle.dma_mem.specs.Places.{range_of, places, all_below};
 ghost use Rattle.dma_mem.specs.Image.{put, bytes_at, is_size};
@@ -176,6 +176,28 @@ impl Memory {
         ensures made { self.new.made ≡ self.old.made }
     {
         self.pages.write_parts(addr, front, back);
+    }
+
+    /// Copies `len` bytes from one address on to another on, whose pages are made. The two ranges share no address.
+    pub fn copy_apart(&mut self, from: u32, to: u32, len: u32)
+        requires source { from + len ≤ length self.old.image }
+        requires within { to + len ≤ length self.old.image }
+        requires made { AllMade self.old (range_with_len to len) }
+        requires apart { (from + len ≤ to) ⊎ (to + len ≤ from) }
+        ensures image { self.new.image ≡ put self.old.image (bytes_at to (take len (drop from self.old.image))) }
+        ensures made { self.new.made ≡ self.old.made }
+    {
+        self.pages.copy_apart(from, to, len);
+    }
+
+    /// Fills `len` bytes from an address on, whose pages are made, with one byte.
+    pub fn fill(&mut self, addr: u32, len: u32, byte: u8)
+        requires within { addr + len ≤ length self.old.image }
+        requires made { AllMade self.old (range_with_len addr len) }
+        ensures image { self.new.image ≡ put self.old.image (bytes_at addr (replicate len byte)) }
+        ensures made { self.new.made ≡ self.old.made }
+    {
+        self.pages.fill(addr, len, byte);
     }
 
     /// Writes the bytes from an address on, and makes their pages first.

@@ -1,11 +1,11 @@
 //! Lists of ranges in order, and the binary search in them.
 
 ghost use Rattle.std.specs.Prelude.{◌≡◌, ◌+◌, ◌<◌, ◌≤◌, ◌∷◌, ◌++◌, false, length, take, drop, IsTrue, OnOk, OnErr};
-ghost use Rattle.std.specs.List.{list_any};
+ghost use Rattle.std.specs.List.{list_any, Contains};
 ghost use Rattle.std.specs.List.Sorted.{IsPermutation, IsNonDecreasingBy, IsPartitionPoint};
 ghost use Rattle.dma_mem.specs.declared.segment.Segment.{Segment};
 ghost use Rattle.dma_mem.specs.Places.{places, range_of, share};
-ghost use Rattle.dma_mem.specs.inner.RangesInOrder.{IsOrdered, AddsAddresses};
+ghost use Rattle.dma_mem.specs.inner.RangesInOrder.{IsOrdered, AddsAddresses, IsClearOf};
 
 use crate::segment::{Segment, meets};
 use std::alloc::AllocError;
@@ -119,6 +119,22 @@ pub fn meets_ordered(ranges: &[Segment], segment: Segment) -> bool
         return false;
     }
     meets_by_search(ranges, segment)
+}
+
+/// Returns how many addresses of the segment, from its first on, come before the first that is in one of the ranges: all
+/// of them where none is. It is a binary search.
+pub fn clear_of_ordered(ranges: &[Segment], segment: Segment) -> u32
+    requires { IsOrdered ranges.now }
+    ensures few { result ≤ segment.len }
+    ensures clear { IsClearOf ranges.now segment.addr result }
+    ensures next { result < segment.len → Contains (places ranges.now) (segment.addr + result) }
+{
+    let first = ended_by(ranges, u64::from(segment.addr));
+    if first >= ranges.len() {
+        return segment.len;
+    }
+    let begin = ranges[first].addr;
+    begin.saturating_sub(segment.addr).min(segment.len)
 }
 
 /// Whether one of the ranges has an address of one of the segments.

@@ -1,6 +1,6 @@
 //! Memory by pages of 4,096 bytes, each made on first write.
 
-ghost use Rattle.std.specs.Prelude.{◌≡◌, ℕ, ◌+◌, ◌%◌, ◌/◌, ◌≤◌, ◌++◌, length, take, drop, replicate, true, false, IsTrue, IfOk, IfSome, IsSome, OnOk, OnErr};
+ghost use Rattle.std.specs.Prelude.{◌≡◌, ℕ, ◌+◌, ◌%◌, ◌/◌, ◌≤◌, ◌⊎◌, ◌++◌, length, take, drop, replicate, true, false, IsTrue, IfOk, IfSome, IsSome, OnOk, OnErr};
 ghost use Rattle.std.specs.List.{list_all, range_with_len};
 ghost use Rattle.dma_mem.specs.Places.{range_of};
 ghost use Rattle.dma_mem.specs.Image.{put, bytes_at, is_size};
@@ -126,6 +126,29 @@ impl Pages {
         ensures made { self.new.made ≡ self.old.made }
     {
         self.table.put_parts(addr as usize, front, back);
+    }
+
+    /// Copies `len` bytes from one address on to another on, whose pages are made. The two ranges share no address.
+    pub fn copy_apart(&mut self, from: u32, to: u32, len: u32)
+        requires source { from + len ≤ length self.old.image }
+        requires within { to + len ≤ length self.old.image }
+        requires made { AllMade self.old (range_with_len to len) }
+        requires apart { (from + len ≤ to) ⊎ (to + len ≤ from) }
+        ensures image { self.new.image ≡ put self.old.image (bytes_at to (take len (drop from self.old.image))) }
+        ensures made { self.new.made ≡ self.old.made }
+    {
+        self.table
+            .copy_apart(from as usize, to as usize, len as usize);
+    }
+
+    /// Fills `len` bytes from an address on, whose pages are made, with one byte.
+    pub fn fill(&mut self, addr: u32, len: u32, byte: u8)
+        requires within { addr + len ≤ length self.old.image }
+        requires made { AllMade self.old (range_with_len addr len) }
+        ensures image { self.new.image ≡ put self.old.image (bytes_at addr (replicate len byte)) }
+        ensures made { self.new.made ≡ self.old.made }
+    {
+        self.table.fill(addr as usize, len as usize, byte);
     }
 
     /// Writes the bytes from an address on, and makes their pages first.

@@ -4,6 +4,8 @@ ghost use Rattle.std.specs.Prelude.{◌≡◌, ◌≢◌, ℕ, ◌+◌, ◌*◌,
 ghost use Rattle.dma_mem.specs.Image.{put, bytes_at};
 ghost use Rattle.dma_mem.specs.inner.PageTable.{page_at, IsLaid, image_of};
 
+mod blocks;
+
 use std::alloc::{AllocError, Global};
 use std::marker::Model;
 

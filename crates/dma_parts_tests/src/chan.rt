@@ -84,6 +84,14 @@ impl Machine {
         true
     }
 
+    // How many instructions of loop bodies are executed as one block, of at most so many as are asked for.
+    fn bodies(&mut self, most: u32) -> u32 {
+        if self.channel.taken() >= 500_000 {
+            return 0;
+        }
+        self.channel.run_bodies(most, &mut self.memory, &self.marks)
+    }
+
     // Whether the next instruction fails by this.
     fn fails(&mut self, kind: FaultKind) -> bool {
         let failed = Some((Some(kind), ChanTurn::Fault(kind)));
@@ -162,6 +170,73 @@ fn what_is_left_falls_by_one_each_step(rt: HostRuntime) -> Result<(), Fail> {
     }
     assert!(rt; machine.channel.left().is_none() && !machine.channel.is_loaded());
     assert!(rt; machine.has(0x11, 0x82, 39) && machine.channel.stored() == 40);
+    Ok(())
+}
+
+// ---- blocks of loop bodies
+
+// Copies 16 bytes from 0x11 to 0x81 by four bursts of 4: the loop's body is at 20, and has five instructions.
+static LOOP: &[u8] =
+    b"\xbc\0\x11\0\0\0\xbc\x02\x81\0\0\0\xbc\x01\x31\x40\x0c\0\x22\x03\x04\x12\x08\x13\x3c\x04\0";
+
+// Copies 512 bytes from 0x11 to 0x811 by a loop of two loops of 256: the body is at 22.
+static NEST: &[u8] =
+    b"\xbc\0\x11\0\0\0\xbc\x02\x11\x08\0\0\xbc\x01\x01\x40\0\0\x20\x01\x22\xff\x04\x12\x08\x13\x3c\x04\x38\x08\0";
+
+// Steps before, the most instructions of a block, how many it executes, and the bytes that are stored then.
+#[test]
+fn a_block_has_as_many_bodies_as_it_may(rt: HostRuntime) -> Result<(), Fail> {
+    for (steps, most, ran, stored) in &[
+        (3, 100, 0, 0),
+        (4, 6, 0, 0),
+        (4, 7, 5, 4),
+        (4, 14, 10, 8),
+        (4, 100, 20, 16),
+        (5, 100, 0, 0),
+        (9, 100, 15, 16),
+        (19, 100, 5, 16),
+    ] {
+        let mut machine = machine_of(rt.alloc(), LOOP, counted(rt.alloc())?)?;
+        assert!(rt;
+            machine.moves(*steps, Reads::Once) && machine.bodies(*most) == *ran,
+            "{steps}"
+        );
+        assert!(rt; machine.channel.taken() == steps.wrapping_add(*ran));
+        assert!(rt; machine.channel.stored() == *stored);
+        assert!(rt; machine.has(0x11, 0x81, 3) == (*stored > 0) && machine.has(0x91, 0x91, 0x1f));
+    }
+    Ok(())
+}
+
+#[test]
+fn a_block_ends_before_a_mark(rt: HostRuntime) -> Result<(), Fail> {
+    for (place, ran) in &[
+        (0x80, 20),
+        (0x81, 0),
+        (0x84, 0),
+        (0x85, 5),
+        (0x8f, 15),
+        (0x91, 20),
+    ] {
+        let mut machine = machine_of(rt.alloc(), LOOP, counted(rt.alloc())?)?;
+        machine.marks.add(MarkKind::Writing, segment(*place, 1))?;
+        assert!(rt;
+            machine.moves(4, Reads::Once) && machine.bodies(100) == *ran,
+            "{place}"
+        );
+    }
+    Ok(())
+}
+
+#[test]
+fn a_loop_of_loops_is_one_block(rt: HostRuntime) -> Result<(), Fail> {
+    let mut memory = Memory::new(rt.alloc(), 0x1000)?;
+    memory.prepare(segment(0, 0x1000))?;
+    let mut machine = machine_of(rt.alloc(), NEST, memory)?;
+    assert!(rt; machine.moves(5, Reads::Once) && machine.bodies(100_000) == 2562);
+    assert!(rt; (machine.channel.pc(), machine.channel.taken()) == (28, 2567));
+    assert!(rt; machine.channel.stored() == 512 && machine.moves(1, Reads::Once));
+    assert!(rt; machine.is_at(Insn::End, 30, 2568, 512));
     Ok(())
 }
 

@@ -83,6 +83,8 @@ fn marks_are_hit_by_kind_and_address(rt: HostRuntime) -> Result<(), Fail> {
     assert!(rt; hit(&marks, 0x10, 32) == [true, false]);
     assert!(rt; hit(&marks, 0x50, 1) == [false, false]);
     assert!(rt; hit(&marks, u32::MAX, 1) == [false, true]);
+    assert!(rt; marks.unmarked(MarkKind::Reading, segment(0x10, 32)) == 16);
+    assert!(rt; marks.unmarked(MarkKind::Writing, segment(0x10, 32)) == 32);
     marks.clear();
     assert!(rt; hit(&marks, 0x10, 32) == [false, false]);
     Ok(())
@@ -155,6 +157,30 @@ fn a_memory_has_what_was_written(rt: HostRuntime) -> Result<(), Fail> {
     assert!(rt; buf == [7; 5]);
     assert!(rt; memory.read_into(0x1F, &mut buf) == Ok(()));
     assert!(rt; buf == [0, 0xAA, 0xBB, 0xCC, 0]);
+    Ok(())
+}
+
+// Copies three bytes that lie on two pages to two others, and fills three addresses on a page that was there and one more.
+fn move_blocks(rt: &impl Abort, memory: &mut Memory) -> Result<(), MemFault> {
+    memory.write(0x0FFE, &[1, 2, 3])?;
+    memory.prepare(segment(0x2FFF, 3))?;
+    assert!(rt; memory.size() == 0x4000);
+    memory.copy_apart(0x0FFE, 0x2FFF, 3);
+    memory.prepare(segment(0x1FFE, 3))?;
+    assert!(rt; memory.size() == 0x4000);
+    memory.fill(0x1FFE, 3, 7);
+    Ok(())
+}
+
+#[test]
+fn blocks_are_moved_across_pages(rt: HostRuntime) -> Result<(), Fail> {
+    let mut memory = Memory::new(rt.alloc(), 0x4000)?;
+    move_blocks(&rt, &mut memory)?;
+    let mut buf = [9; 5];
+    assert!(rt; memory.read_into(0x2FFE, &mut buf) == Ok(()));
+    assert!(rt; buf == [0, 1, 2, 3, 0]);
+    assert!(rt; memory.read_into(0x1FFD, &mut buf) == Ok(()));
+    assert!(rt; buf == [0, 7, 7, 7, 0]);
     Ok(())
 }
 

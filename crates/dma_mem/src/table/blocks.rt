@@ -1,0 +1,157 @@
+//! Blocks of bytes on pages that are made: copied from other addresses, or filled with one byte.
+
+ghost use Rattle.std.specs.Prelude.{◌≡◌, ℕ, ◌+◌, ◌/◌, ◌%◌, ◌<◌, ◌≤◌, ◌⊎◌, ◌^◌, length, slice_set};
+ghost use Rattle.dma_mem.specs.inner.Blocks.{copied, filled, CopiesBlock, FillsBlock};
+ghost use Rattle.dma_mem.specs.inner.PageTable.{page_at};
+
+use crate::table::{GROUP_SIZE, Group, PAGE_SIZE, Page, Table, shown};
+use std::mem;
+
+// How many of `len` bytes from `start` on lie on the page of the first.
+fn on_one_page(start: usize, len: usize) -> usize
+    ensures most { result ≤ len }
+    ensures some { 0 < len → 0 < result }
+    ensures fits { start % 4096 + result ≤ 4096 }
+{
+    len.min(PAGE_SIZE - start % PAGE_SIZE)
+}
+
+// Copies `len` bytes of a slice to another place in it.
+fn copy_bytes(all: &mut [u8], from: usize, to: usize, len: usize)
+    requires source { from + len ≤ length all.old }
+    requires within { to + len ≤ length all.old }
+    ensures { all.new ≡ copied all.old from to len }
+{
+    all.copy_within(from..from + len, to);
+}
+
+// Fills `len` bytes of a slice from `start` on with one byte.
+fn fill_bytes(all: &mut [u8], start: usize, len: usize, byte: u8)
+    requires { start + len ≤ length all.old }
+    ensures { all.new ≡ filled all.old start len byte }
+{
+    all[start..start + len].fill(byte);
+}
+
+impl Page {
+    // Copies `len` of its bytes to another place in it.
+    fn copy_within(&mut self, from: usize, to: usize, len: usize)
+        requires made { 0 < length self.old }
+        requires source { from + len ≤ 4096 }
+        requires within { to + len ≤ 4096 }
+        ensures whole { length self.new ≡ 4096 }
+        ensures len { length self.new ≡ length self.old }
+        ensures bytes { self.new ≡ copied self.old from to len }
+    {
+        copy_bytes(&mut self.bytes, from, to, len);
+    }
+
+    // Fills `len` of its bytes from an offset on with one byte.
+    fn fill(&mut self, offset: usize, len: usize, byte: u8)
+        requires made { 0 < length self.old }
+        requires fits { offset + len ≤ 4096 }
+        ensures whole { length self.new ≡ 4096 }
+        ensures len { length self.new ≡ length self.old }
+        ensures bytes { self.new ≡ filled self.old offset len byte }
+    {
+        fill_bytes(&mut self.bytes, offset, len, byte);
+    }
+}
+
+impl Group {
+    // Puts a page at an index, and returns the one that was there.
+    fn replace(&mut self, index: usize, page: Page) -> Page
+        requires { index < length self.old }
+        ensures old { result ≡ page_at self.old index }
+        ensures new { self.new ≡ slice_set self.old index page }
+    {
+        mem::replace(&mut self.pages[index], page)
+    }
+
+    // Fills `len` bytes of a page that is made, from an offset on, with one byte.
+    fn fill(&mut self, index: usize, offset: usize, len: usize, byte: u8)
+        requires made { 0 < length (page_at self.old index) }
+        requires fits { offset + len ≤ 4096 }
+        ensures whole { length (page_at self.old index) ≡ 4096 }
+        ensures new { self.new ≡ slice_set self.old index (filled (page_at self.old index) offset len byte) }
+    {
+        let page = &mut self.pages[index];
+        page.fill(offset, len, byte);
+    }
+}
+
+impl Table {
+    // Copies `len` bytes that lie on one page to addresses that lie on one page, which is made.
+    //
+    // The page that they are copied to is out of the table meanwhile, so that the other page can be read in place.
+    fn copy_on_pages(&mut self, from: usize, to: usize, len: usize)
+        requires source { from % 4096 + len ≤ 4096 }
+        requires within { to % 4096 + len ≤ 4096 }
+        requires made { 0 < length (page_at self.old (to / 4096)) }
+        ensures len { (p : ℕ) → length (page_at self.new p) ≡ length (page_at self.old p) }
+        ensures count { length self.new ≡ length self.old }
+        ensures image { CopiesBlock self.old self.new from to len }
+    {
+        let (number, offset) = (to / PAGE_SIZE, to % PAGE_SIZE);
+        let empty = Page::new(*self.groups.allocator());
+        let mut page = self.groups[number / GROUP_SIZE].replace(number % GROUP_SIZE, empty);
+        if from / PAGE_SIZE == number {
+            page.copy_within(from % PAGE_SIZE, offset, len);
+        } else {
+            let source = shown(self.page(from / PAGE_SIZE));
+            let start = from % PAGE_SIZE;
+            page.put(offset, &source[start..start + len], &[]);
+        }
+        self.groups[number / GROUP_SIZE].replace(number % GROUP_SIZE, page);
+    }
+
+    /// Copies `len` bytes from one address on to another on, whose pages are made. The two ranges share no address.
+    #[inline(never)]
+    pub(crate) fn copy_apart(&mut self, from: usize, to: usize, len: usize)
+        requires source { from + len < 2 ^ 33 }
+        requires limit { to + len < 2 ^ 33 }
+        requires made { (a : ℕ) → to ≤ a → a < to + len → 0 < length (page_at self.old (a / 4096)) }
+        requires apart { (from + len ≤ to) ⊎ (to + len ≤ from) }
+        ensures len { (p : ℕ) → length (page_at self.new p) ≡ length (page_at self.old p) }
+        ensures count { length self.new ≡ length self.old }
+        ensures image { CopiesBlock self.old self.new from to len }
+    {
+        let mut done = 0;
+        while done < len {
+            let (source, target) = (from + done, to + done);
+            let count = on_one_page(source, on_one_page(target, len - done));
+            self.copy_on_pages(source, target, count);
+            done += count;
+        }
+    }
+
+    // Fills `len` bytes that lie on one page, which is made, with one byte.
+    fn fill_on_page(&mut self, start: usize, len: usize, byte: u8)
+        requires within { start % 4096 + len ≤ 4096 }
+        requires made { 0 < length (page_at self.old (start / 4096)) }
+        ensures len { (p : ℕ) → length (page_at self.new p) ≡ length (page_at self.old p) }
+        ensures count { length self.new ≡ length self.old }
+        ensures image { FillsBlock self.old self.new start len byte }
+    {
+        let number = start / PAGE_SIZE;
+        let group = &mut self.groups[number / GROUP_SIZE];
+        group.fill(number % GROUP_SIZE, start % PAGE_SIZE, len, byte);
+    }
+
+    /// Fills `len` bytes from `start` on, whose pages are made, with one byte.
+    #[inline(never)]
+    pub(crate) fn fill(&mut self, start: usize, len: usize, byte: u8)
+        requires limit { start + len < 2 ^ 33 }
+        requires made { (a : ℕ) → start ≤ a → a < start + len → 0 < length (page_at self.old (a / 4096)) }
+        ensures len { (p : ℕ) → length (page_at self.new p) ≡ length (page_at self.old p) }
+        ensures count { length self.new ≡ length self.old }
+        ensures image { FillsBlock self.old self.new start len byte }
+    {
+        let mut done = 0;
+        while done < len {
+            let count = on_one_page(start + done, len - done);
+            self.fill_on_page(start + done, count, byte);
+            done += count;
+        }
+    }
+}
