@@ -12,6 +12,7 @@ use dma_mem::lists::{Bytes, Segments};
 use dma_mem::segment::Segment;
 use dma_text::digits::digit_value;
 use std::alloc::{AllocError, Global};
+use std::mem;
 
 /// No word.
 pub(crate) fn no_word(line: &[u8]) -> Result<(), Cause>
@@ -200,13 +201,16 @@ fn push_hex(bytes: &mut Vec<u8>, word: &[u8]) -> Result<(), LineError>
     }
 }
 
-/// Reads words of two digits with a blank between two, as most lines have them. Returns their bytes and the rest of the line.
+/// Reads words of two digits with a blank between two, as most lines have them. Appends their bytes to an empty list, and
+/// returns it and the rest of the line.
 #[tactic(auto, using(crate::proofs::HexLemmas::bytes_after_pair, crate::proofs::HexLemmas::bytes_after_none, crate::proofs::HexLemmas::bytes_after_end))]
-fn pairs_at(alloc: Global, line: &[u8]) -> Result<(Vec<u8>, &[u8]), AllocError>
+fn pairs_at(empty: Vec<u8>, line: &[u8]) -> Result<(Vec<u8>, &[u8]), AllocError>
+    requires { empty.items ≡ [] }
     ensures { IfOk result (λ read. bytes_after read.0.items (words_of read.1.now) ≡ bytes_at (words_of line.now)) }
 {
-    // just the room that such words need
-    let mut bytes = Vec::with_capacity(alloc, line.len() / 3 + 1)?;
+    let mut bytes = empty;
+    // room for as many such words as the line can have
+    bytes.reserve(line.len() / 3 + 1)?;
     let mut rest = line;
     while let [high, low, blank, after @ ..] = rest {
         let Some(byte) = byte_in(*high, *low) else {
@@ -227,15 +231,20 @@ fn pairs_at(alloc: Global, line: &[u8]) -> Result<(Vec<u8>, &[u8]), AllocError>
     Ok((bytes, rest))
 }
 
-/// Returns the joined bytes of a line's words of hexadecimal digits.
+/// Reads the bytes of a line's words of hexadecimal digits into a list that a caller keeps for this, and returns a copy of
+/// them. So a short line takes no memory of its own.
 #[tactic(auto, using(crate::proofs::HexLemmas::bytes_after_last))]
-pub(crate) fn bytes_at(alloc: Global, line: &[u8]) -> Result<Bytes, LineError>
+pub(crate) fn bytes_at(alloc: Global, kept: &mut Vec<u8>, line: &[u8]) -> Result<Bytes, LineError>
     ensures { Gives (λ bytes. bytes) result (bytes_at (words_of line.now)) }
 {
-    let (mut bytes, mut rest) = pairs_at(alloc, line)?;
+    let mut empty = mem::replace(kept, Vec::new(alloc));
+    empty.clear();
+    let (mut bytes, mut rest) = pairs_at(empty, line)?;
     while let Some((word, after)) = next_word(rest) {
         push_hex(&mut bytes, word)?;
         rest = after;
     }
-    Ok(Bytes::from_vec(bytes))
+    let copy = Bytes::from_slice(alloc, &bytes)?;
+    *kept = bytes;
+    Ok(copy)
 }

@@ -5,8 +5,8 @@ ghost use Rattle.dma_script.specs.Command.{text_of};
 ghost use Rattle.dma_script.specs.Printing.{fault_line, hex_address, hex_byte_of, program_lines, row_line, spaced_bytes};
 
 use crate::fault::Fault;
-use dma_text::digits::{hex_digits, hex_pair};
 pub use dma_text::digits::push_decimal;
+use dma_text::digits::{hex_digits, hex_pair};
 use std::alloc::{AllocError, Global};
 use std::mem;
 

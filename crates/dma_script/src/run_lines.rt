@@ -8,8 +8,8 @@ ghost use Rattle.dma_script.specs.Statements.{IsWithin, bare_line, channel_and_c
 
 use crate::apart::Apart;
 use crate::arguments::{
-    byte_alone, byte_of, bytes_at, first_and_rest, list_at, no_word, number_at, number_where,
-    one_and_more, one_of, one_or_two, segment_at, three_of, two_of,
+    byte_alone, byte_of, first_and_rest, list_at, no_word, number_at, number_where, one_and_more,
+    one_of, one_or_two, segment_at, three_of, two_of,
 };
 use crate::fault::{Cause, LineError};
 use crate::plan::{transfer_numbers, transfer_of, transfer_words};
@@ -67,7 +67,7 @@ fn add_write(statements: &mut Statements, alloc: Global, words: &[u8]) -> Result
 {
     let (addr, hex) = one_and_more(words)?;
     let addr = number_at(addr)?;
-    let bytes = bytes_at(alloc, hex)?;
+    let bytes = statements.bytes_at(alloc, hex)?;
     add(statements, Statement::Write { addr, bytes })
 }
 

@@ -2,6 +2,7 @@
 ghost use Rattle.std.specs.Prelude.{◌≡◌, ◌++◌, ◌∷◌, [], IfOk, None, OnErr, OnOk};
 
 use crate::apart::Apart;
+use crate::arguments::bytes_at;
 use crate::fault::{Cause, Fault, LineError, ScriptError};
 use crate::lines::{Script, read_script};
 use crate::plan::TransferLine;
@@ -163,6 +164,8 @@ pub enum Statement {
 #[derive(Debug, Drop)]
 pub struct Statements {
     items: Vec<Statement>,
+    // where the bytes of a `write` line are read
+    bytes: Vec<u8>,
 }
 
 impl Model for Statements {
@@ -175,12 +178,17 @@ impl Model for Statements {
 }
 
 impl Statements {
+    ghost use Rattle.dma_script.specs.Arguments.{bytes_at};
+    ghost use Rattle.dma_script.specs.Lines.{Gives};
+    ghost use Rattle.dma_script.specs.Words.{words_of};
+
     /// A list without statements, which takes no memory.
     pub(crate) fn new(alloc: Global) -> Statements
         ensures { result ≡ [] }
     {
         Statements {
             items: Vec::new(alloc),
+            bytes: Vec::new(alloc),
         }
     }
 
@@ -195,8 +203,16 @@ impl Statements {
     pub fn into_vec(self) -> Vec<Statement>
         ensures { result.items ≡ self }
     {
-        let Statements { items } = self;
+        let Statements { items, bytes: _ } = self;
         items
+    }
+
+    /// The bytes of a `write` line's hexadecimal words.
+    pub(crate) fn bytes_at(&mut self, alloc: Global, words: &[u8]) -> Result<Bytes, LineError>
+        ensures bytes { Gives (λ bytes. bytes) result (bytes_at (words_of words.now)) }
+        ensures same { self.new ≡ self.old }
+    {
+        bytes_at(alloc, &mut self.bytes, words)
     }
 
     /// Adds a statement at the end. Without memory for it the list stays as it was.
