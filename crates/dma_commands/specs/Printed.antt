@@ -17,7 +17,7 @@ use Rattle.dma_engine.specs.declared.turn.Turn.{Turn}
 use Rattle.dma_engine.specs.declared.turn.Turn.TheVariants.{Nothing, Held, Started, Moved, Waiting, Paused, Halted, Finished}
 use Rattle.dma_script.specs.Printing.{hex_address, spaced_bytes}
 
--- A list begins with all of another.
+-- The list `whole` begins with all of `front`.
 pub record Begins (whole front : List ℕ) : Type 0 where
   pub front_is : take (length front) whole ≡ front
 

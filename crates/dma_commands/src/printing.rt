@@ -1,5 +1,7 @@
-//! What is printed of refusals, calls and replies. The parts of a line are appended one after another, and are removed where
-//! one of them is refused memory: so each says that what was there before is still at the front.
+//! What is printed of refusals, calls and replies.
+//!
+//! The parts of a line are appended to the output one after another. Where one is refused memory, [`end_line`] removes the
+//! line again. So each function promises that the output still begins with what it was before (`begins`).
 #![tactic(auto, using(crate::proofs::Begun::begins_more, crate::proofs::Begun::begins_pushed, crate::proofs::Begun::begins_same, crate::proofs::Begun::line_ends, crate::proofs::Begun::line_gone))]
 
 ghost use Rattle.std.specs.Prelude.{◌≡◌, ◌≢◌, ◌≤◌, ◌++◌, ◌∷◌, [], IfOk, Ok, OnOk, OnErr, codes, decimal, length, take};
@@ -190,7 +192,7 @@ fn push_refusal(line: &mut Vec<u8>, fault: EngineFault) -> Result<(), AllocError
     push_fault(line, fault)
 }
 
-/// `refused NAME` of a rule, at the end.
+/// Appends `refused ` and a name.
 fn push_refused_name(line: &mut Vec<u8>, name: &str) -> Result<(), AllocError>
     ensures ok { OnOk result (line.new.items ≡ line.old.items ++ refused_line name.now) }
     ensures begins { Begins line.new.items line.old.items }
@@ -215,7 +217,7 @@ pub(crate) fn push_reply(line: &mut Vec<u8>, reply: &Reply) -> Result<(), AllocE
     }
 }
 
-/// What is printed of a step, at the end.
+/// Appends what is printed of the answer to a step.
 #[inline(always)]
 pub fn push_turned(line: &mut Vec<u8>, turned: Result<Turn, EngineFault>) -> Result<(), AllocError>
     ensures ok { OnOk result (line.new.items ≡ line.old.items ++ reply_text (reply_of (λ turn. Reply.Turned turn) turned)) }
@@ -265,7 +267,7 @@ fn push_call_line(line: &mut Vec<u8>, call: &Call, reply: &Reply) -> Result<(), 
     push_reply(line, reply)
 }
 
-/// The first word of a line and a reply, at the end.
+/// Appends the first word of a line, and what is printed of a reply.
 fn push_worded_reply(line: &mut Vec<u8>, word: &str, reply: &Reply) -> Result<(), AllocError>
     ensures ok { OnOk result (line.new.items ≡ line.old.items ++ (word.now ++ reply_text reply.now)) }
     ensures begins { Begins line.new.items line.old.items }
@@ -274,7 +276,7 @@ fn push_worded_reply(line: &mut Vec<u8>, word: &str, reply: &Reply) -> Result<()
     push_reply(line, reply)
 }
 
-/// What was read at an address, at the end.
+/// Appends `read 0xADDR` and the bytes that were read there.
 fn push_read_bytes(line: &mut Vec<u8>, addr: u32, bytes: &[u8]) -> Result<(), AllocError>
     ensures ok { OnOk result (line.new.items ≡ line.old.items ++ ((codes "read 0x" ++ hex_address addr) ++ spaced_bytes bytes.now)) }
     ensures begins { Begins line.new.items line.old.items }
@@ -284,7 +286,8 @@ fn push_read_bytes(line: &mut Vec<u8>, addr: u32, bytes: &[u8]) -> Result<(), Al
     push_bytes(line, bytes)
 }
 
-/// Ends a line whose parts are behind the first `start` bytes. Where they or its end were refused memory, they are removed.
+/// Ends the line that begins after the first `start` bytes of the output. Where one of its parts or the line feed is refused
+/// memory, it removes the line and returns the error.
 #[inline(always)]
 pub fn end_line(
     out: &mut Vec<u8>,
@@ -302,7 +305,7 @@ pub fn end_line(
     Err(AllocError)
 }
 
-// Each of these appends a line whole or nothing.
+// Each function below appends a whole line, or nothing where memory is refused.
 
 /// Appends the line that a call prints, by its reply, or nothing.
 pub fn push_told(call: &Call, reply: &Reply, out: &mut Vec<u8>) -> Result<(), AllocError>

@@ -54,8 +54,8 @@ fn run_statement(
     }
 }
 
-/// Carries out a line that is one call, without a list or bytes. It is apart from the lines that are frequent, since the
-/// locals of each arm of a `match` are cleared whichever arm is taken.
+/// Carries out a line that is one call without a list or bytes. It isn't inlined into `run_statement`, since these lines are
+/// rare and the locals of all arms of a `match` are cleared whichever arm is taken.
 #[inline(never)]
 fn answer_short(
     engine: &mut Engine,
@@ -72,7 +72,11 @@ fn answer_short(
         Statement::Terminate { ch } => answer_call(engine, &Call::Terminate { ch }, out),
         Statement::Status { ch, cookie } => answer_call(engine, &Call::Status { ch, cookie }, out),
         Statement::Result { ch, cookie } => answer_call(engine, &Call::Result { ch, cookie }, out),
-        Statement::Mark { kind, segment } => answer_call(engine, &Call::Mark { kind, segment }, out),
+        Statement::Mark { kind, segment } => answer_call(
+            engine,
+            &Call::Mark { kind, segment },
+            out,
+        ),
         Statement::Unmark => answer_call(engine, &Call::Unmark, out),
         Statement::Raise { event } => answer_call(engine, &Call::Raise { event }, out),
         Statement::Checkpoint => answer_call(engine, &Call::Checkpoint, out),

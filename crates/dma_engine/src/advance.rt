@@ -48,7 +48,7 @@ pub fn advance(engine: &mut Engine, ch: u8, most: u32) -> Advanced
     advanced
 }
 
-// Takes one step, and returns its answer where that is not `Moved`.
+// Takes one step. Returns its answer, or `None` where that is `Moved`.
 #[inline(always)]
 fn step_unless_moved(engine: &mut Engine, ch: u8) -> Option<Result<Turn, EngineFault>>
     ensures moved { IsNone result → StepAnswers engine.old.view ch (Ok Turn.Moved) engine.new.view }
@@ -64,7 +64,8 @@ fn step_unless_moved(engine: &mut Engine, ch: u8) -> Option<Result<Turn, EngineF
     if has_moved(turn) { None } else { Some(turn) }
 }
 
-// The same, with the clauses of the steps alone. Loop bodies are executed as a block where they can be, else step by step.
+// Does the work of `advance`, and promises what follows from the contracts of the steps alone. It executes loop bodies as one
+// block where it can, and all else step by step.
 fn take_steps(engine: &mut Engine, ch: u8, most: u32) -> Advanced
     ensures answers { IsAdvance engine.old.view ch result engine.new.view }
     ensures all { IsNone result.last → result.moved ≡ most }

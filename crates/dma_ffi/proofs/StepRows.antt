@@ -44,18 +44,18 @@ moved_stays : (m : ℕ) → after_moves m (Some Moved) ≡ Some Moved
 moved_stays zero = refl
 moved_stays (suc m) = refl
 
--- one step that moved, after others
+-- one more step, which moved
 row_moved : (v u w : View) (ch n : ℕ) (last : Option Turn) → InARow v ch n last u → goes_on last ≡ true → CallAnswers u (Step ch) (Turned Moved) w → InARow v ch (suc n) (Some Moved) w
 row_moved v u w ch n last row goes answer = (u, last, Moved, row, goes, answer, refl)
 
--- Steps in a row, and the answers of the calls after them.
+-- Steps in a row, and the answers of further calls after them.
 pub record RowOn (v : View) (ch n : ℕ) (last : Option Turn) (calls : List Call) (replies : List Reply) (w : View) : Type 0 where
   pub view : View
   pub row : InARow v ch n last view
   pub goes : goes_on last ≡ true
   pub rest : AreAnswers view calls replies w
 
--- m steps that moved, after others
+-- m more steps, which moved
 pub row_moves : (m : ℕ) (v u w : View) (ch n : ℕ) (last : Option Turn) (calls : List Call) (replies : List Reply) → InARow v ch n last u → goes_on last ≡ true → AreAnswers u (replicate m (Step ch) ++ calls) (replicate m (Turned Moved) ++ replies) w → RowOn v ch (n + m) (after_moves m last) calls replies w
 row_moves zero v u w ch n last calls replies row goes all =
     let none : n ≡ n + 0 = omega arith in
@@ -72,18 +72,18 @@ row_moves (suc m) v u w ch n last calls replies row goes all =
       rest = next.rest;
     }
 
--- ---- what `advance` answers, after steps in a row
+-- ---- the answers of `advance` after steps in a row
 
 answers_as : (u w : View) (ch : ℕ) (advanced : Advanced) (x : Option (Result Turn EngineFault)) → advanced.last ≡ x → IsAdvance u ch advanced w → AreAnswers u (replicate advanced.moved (Step ch) ++ last_call ch x) (replicate advanced.moved (Turned Moved) ++ last_reply x) w
 answers_as u w ch advanced x is all = subst (λ (y : Option (Result Turn EngineFault)). AreAnswers u (replicate advanced.moved (Step ch) ++ last_call ch y) (replicate advanced.moved (Turned Moved) ++ last_reply y) w) is all
 
--- all moved
+-- all steps moved
 pub row_none : (v u w : View) (ch n : ℕ) (last : Option Turn) (advanced : Advanced) → advanced.last ≡ None → InARow v ch n last u → goes_on last ≡ true → IsAdvance u ch advanced w → InARow v ch (n + advanced.moved) (after_moves advanced.moved last) w
 row_none v u w ch n last advanced is row goes all =
     let on = row_moves advanced.moved v u w ch n last [] [] row goes (answers_as u w ch advanced None is all) in
     subst (λ (x : View). InARow v ch (n + advanced.moved) (after_moves advanced.moved last) x) (sym on.rest) on.row
 
--- one more answered something else
+-- the step after those that moved answered something else
 pub row_ok : (v u w : View) (ch n : ℕ) (last : Option Turn) (advanced : Advanced) (turn : Turn) → advanced.last ≡ Some (Ok turn) → InARow v ch n last u → goes_on last ≡ true → IsAdvance u ch advanced w → InARow v ch (n + advanced.moved + 1) (Some turn) w
 row_ok v u w ch n last advanced turn is row goes all =
     let on = row_moves advanced.moved v u w ch n last (Step ch ∷ []) (Turned turn ∷ []) row goes (answers_as u w ch advanced (Some (Ok turn)) is all) in
@@ -91,7 +91,7 @@ row_ok v u w ch n last advanced turn is row goes all =
     let here : InARow v ch (suc (n + advanced.moved)) (Some turn) on.rest.0 = (on.view, after_moves advanced.moved last, turn, on.row, on.goes, on.rest.1, refl) in
     subst (λ (k : ℕ). InARow v ch k (Some turn) w) more (subst (λ (x : View). InARow v ch (suc (n + advanced.moved)) (Some turn) x) (sym on.rest.2) here)
 
--- one more was refused
+-- the step after those that moved was refused
 pub record RowRefused (v : View) (ch n : ℕ) (last : Option Turn) (fault : EngineFault) (w : View) : Type 0 where
   pub view : View
   pub row : InARow v ch n last view
@@ -106,7 +106,7 @@ row_err v u w ch n last advanced fault is row goes all =
       refused = subst (λ (x : View). StepAnswers on.view ch (Err fault) x) (sym on.rest.2) on.rest.1;
     }
 
--- the first was refused
+-- the first step of all was refused
 pub first_refused : (v w : View) (ch n : ℕ) (last : Option Turn) (fault : EngineFault) → n ≡ 0 → RowRefused v ch n last fault w → StepAnswers v ch (Err fault) w
 first_refused v w ch n last fault none r =
     let row : InARow v ch 0 last r.view = subst (λ (k : ℕ). InARow v ch k last r.view) none r.row in

@@ -110,7 +110,7 @@ fn program_of(alloc: Global, text: &[u8]) -> Result<Bytes, Refusal>
     ensures { AnswersText text.now result }
 {
     match assemble(alloc, text) {
-        Ok(program) => Ok(Bytes::from_vec(program)),
+        Ok(program) => Bytes::from_vec(program).map_err(|_| asm_refusal(AsmFault::NoMemory)),
         Err(fault) => Err(asm_refusal(fault)),
     }
 }
@@ -120,7 +120,7 @@ fn text_of(alloc: Global, program: &[u8]) -> Result<Bytes, Refusal>
     ensures { AnswersProgram program.now result }
 {
     match disassemble(alloc, program) {
-        Ok(text) => Ok(Bytes::from_vec(text)),
+        Ok(text) => Bytes::from_vec(text).map_err(|_| dis_refusal(DisFault::NoMemory)),
         Err(fault) => Err(dis_refusal(fault)),
     }
 }

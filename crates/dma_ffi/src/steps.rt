@@ -23,7 +23,7 @@ fn goes_on(turn: Turn) -> bool
     matches!(turn, Turn::Started(_) | Turn::Moved)
 }
 
-// Returns the answer of the last step, after `moved` more steps that moved.
+// Returns the answer of the last step once `moved` more steps have moved.
 fn after_moves(moved: u32, last: Option<Turn>) -> Option<Turn>
     ensures { result ≡ after_moves moved last }
 {

@@ -152,7 +152,7 @@ fn push_wait(text: &mut Vec<u8>, event: Event, invalid: bool) -> Result<(), Allo
     }
 }
 
-// Adds what the line of DMAMOV has before its digits.
+// Appends what a DMAMOV line has before its digits.
 #[inline(always)]
 fn push_value_front(text: &mut Vec<u8>, reg: Reg) -> Result<(), AllocError>
     ensures { OnOk result (text.new.items ≡ text.old.items ++ (codes "DMAMOV " ++ (register_word reg ++ codes " 0x"))) }

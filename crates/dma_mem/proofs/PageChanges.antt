@@ -1,4 +1,4 @@
--- Tables of which one page was taken out, changed and put back.
+-- Tables in which one page was taken out, changed and put back.
 use Rattle.std.proofs.Common.{◌≡◌, ◌≢◌, ℕ, ◌+◌, ◌*◌, ◌/◌, ◌%◌, ◌<◌, ◌≤◌, List, [], length, get_or, set, take, drop, refl, ap, sym, ◌∙◌, arith, inl, inr}
 use Rattle.std.proofs.lemmas.Bool.{cases_eq}
 use Rattle.std.proofs.lemmas.List.{get_or-set_same, get_or-set_other, set-set, length-set, get_or-take, get_or-drop, length-take, length-drop}
@@ -8,7 +8,7 @@ use Rattle.dma_mem.specs.inner.PageTable.{page_at, flat, image_of}
 use Rattle.dma_mem.proofs.PageTables.{within_pages, page_found, group_within, others_kept, page_at-flat_same, length-flat_set, laid-put}
 use Rattle.dma_mem.proofs.PageImages.{image_of-laid, read_found}
 
--- a page of a table is this one, and the others are as they were
+-- one page of a table was replaced by this one, and the others are as they were
 pub record HasInstead (old new : List (List ℕ)) (n : ℕ) (page : List ℕ) : Type 0 where
   pub count : length new ≡ length old
   pub at : page_at new n ≡ page
@@ -25,7 +25,7 @@ page_in_group groups pages n group v made is = page_found groups pages n n group
 pub within_group : (groups : List (List (List ℕ))) (pages : List (List ℕ)) (n : ℕ) (group : List (List ℕ)) → flat groups ≡ pages → 0 < length (page_at pages n) → group ≡ get_or groups (n / 1024) group → n % 1024 < length group
 within_group groups pages n group v made is = within_pages group (n % 1024) (rw (page_in_group groups pages n group v made is) made)
 
--- a table with another page in the place of one
+-- a table in which one page was replaced
 pub replaced : (groups : List (List (List ℕ))) (pages : List (List ℕ)) (n : ℕ) (group new : List (List ℕ)) (page : List ℕ) → flat groups ≡ pages → 0 < length (page_at pages n) → group ≡ get_or groups (n / 1024) group → new ≡ set group (n % 1024) page → HasInstead pages (flat (set groups (n / 1024) new)) n page
 replaced groups pages n group new page v made is e =
     let h = group_found groups pages n v made in
@@ -51,7 +51,7 @@ put_back groups pages n group taken again last empty page v made is out back in_
     let same : last ≡ set group (n % 1024) page = in_place ∙ ap (λ g. set g (n % 1024) page) (taken_group groups pages n again taken v made back ∙ out) ∙ set-set group (n % 1024) empty page in
     rw (set-set groups (n / 1024) taken last) (replaced groups pages n group last page v made is same)
 
--- the lengths of pages stay where the page has as many bytes as before
+-- the lengths of all pages stay where the new page is as long as the old one
 pub lengths_kept : (old new : List (List ℕ)) (n : ℕ) (page : List ℕ) → HasInstead old new n page → length page ≡ length (page_at old n) → (p : ℕ) → length (page_at new p) ≡ length (page_at old p)
 lengths_kept old new n page change e p = elim (cases_eq p n) [
   | inl same ↦ ap (λ q. length (page_at new q)) same ∙ ap length change.at ∙ e ∙ ap (λ q. length (page_at old q)) (sym same)
@@ -69,7 +69,7 @@ image_changed size old new start page bs change is whole fits =
     fits
     ∙ ap (λ a. put (image_of size old) (bytes_at a bs)) at
 
--- bytes of one page are those of the image
+-- bytes read from one page are those of the image
 pub page_read : (size : ℕ) (pages : List (List ℕ)) (from len : ℕ) (page : List ℕ) → length page ≡ 4096 → ((k : ℕ) → get_or page k 0 ≡ get_or (page_at pages (from / 4096)) k 0) → from % 4096 + len ≤ 4096 → from + len ≤ size → take len (drop (from % 4096) page) ≡ take len (drop from (image_of size pages))
 page_read size pages from len page whole bytes fits within =
     let part = take len (drop (from % 4096) page) in
@@ -83,7 +83,7 @@ page_read size pages from len page whole bytes fits within =
     ∙ bytes (from % 4096 + k)
     ∙ sym (ap (λ p. get_or (page_at pages p) ((from + k) % 4096) 0) number ∙ ap (λ i. get_or (page_at pages (from / 4096)) i 0) offset))
 
--- a page with a copy of bytes that lie on one page
+-- the destination page after a copy of bytes that lie on one page
 pub record HasCopy (old : List (List ℕ)) (from to len : ℕ) (page : List ℕ) : Type 0 where
   pub whole : length page ≡ 4096
   pub kept : length page ≡ length (page_at old (to / 4096))
@@ -96,7 +96,7 @@ has_copy old from to len source page whole bytes fits long kept is = record {
   is = λ size within. is ∙ ap (λ bs. put (page_at old (to / 4096)) (bytes_at (to % 4096) bs)) (page_read size old from len source whole bytes fits within);
 }
 
--- put back it shows a copy of the block
+-- with this page put back, the table shows a copy of the block
 pub block_copied : (old new : List (List ℕ)) (from to len : ℕ) (page : List ℕ) → HasInstead old new (to / 4096) page → HasCopy old from to len page → to % 4096 + len ≤ 4096 → CopiesBlock old new from to len
 block_copied old new from to len page change copy fits size within _ =
     let part = take len (drop from (image_of size old)) in

@@ -229,7 +229,7 @@ meets_none rs first s p past =
     let at = places_in rs nowhere a j in
     omega (arith, p.0 at.k nowhere (omega arith) (omega (arith, at.within)), (range_in s.addr s.len a i).0, at.lies.1))
 
--- up to where the first of the others begins, none of the segment's addresses is in a range
+-- from `addr` on, no address below the first range that ends above `addr` is in a range
 pub clear_before : (rs : List Segment) (first : ℕ) (addr len : ℕ) → IsOrdered rs → EndBy addr rs first → first < length rs → len ≤ (get_or rs first nowhere).addr - addr → IsClearOf rs addr len
 clear_before rs first addr len o p within low a above below i =
     let at = places_in rs nowhere a i in
@@ -240,7 +240,7 @@ clear_before rs first addr len o p within low a above below i =
           omega (arith, order, low, above, below, at.lies.0)
     ]
 
--- where it begins, or at the segment's first address, one is
+-- the first address from `addr` on that isn't below that range is in it
 pub next_in : (rs : List Segment) (first : ℕ) (addr len : ℕ) → IsOrdered rs → EndBy addr rs first → first < length rs → len ≡ (get_or rs first nowhere).addr - addr → Contains (places rs) (addr + len)
 next_in rs first addr len o p within is =
     let r = get_or rs first nowhere in
@@ -248,7 +248,7 @@ next_in rs first addr len o p within is =
     let after : addr < r.addr + r.len = p.1 first nowhere (omega arith) within in
     in_places rs first nowhere (addr + len) within (omega (arith, is), omega (arith, is, filled, after))
 
--- and where all end below, none at all
+-- where all ranges end at `addr` or below, no address from there on is in a range
 pub clear_past : (rs : List Segment) (first : ℕ) (addr len : ℕ) → EndBy addr rs first → length rs ≤ first → IsClearOf rs addr len
 clear_past rs first addr len p past a above below i =
     let at = places_in rs nowhere a i in

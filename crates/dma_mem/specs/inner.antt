@@ -7,3 +7,4 @@ pub mod MarkRanges
 pub mod KeptRanges
 pub mod Origins
 pub mod Checking
+pub mod Stored

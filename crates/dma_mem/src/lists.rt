@@ -1,91 +1,150 @@
-//! Lists that contracts see as their items alone. A short one lies in the value itself and takes no memory.
+//! Lists that contracts see as their items alone. A short list is kept in the value itself and asks for no memory. A longer
+//! one is behind a pointer, so that a value is small: histories and scripts have many.
 
-ghost use Rattle.std.specs.Prelude.{◌≡◌, ◌∷◌, ◌++◌, ◌==◌, [], length, IfOk, OnOk, OnErr};
+ghost use Rattle.std.specs.Prelude.{◌≡◌, ◌∷◌, ◌++◌, ◌==◌, ◌≤◌, [], length, IfOk, OnOk, OnErr};
+ghost use Rattle.dma_mem.specs.inner.Stored.{FitsInline, bytes_in, segments_in};
 
 use crate::segment::Segment;
-use smallvec::SmallVec;
 use std::alloc::{AllocError, Global};
 use std::marker::Model;
+use std::slice;
 
-/// How many bytes a list has in itself.
-const INLINE_BYTES: usize = 16;
+/// The most bytes that are kept in the value itself.
+const INLINE_BYTES: usize = 22;
 
-/// How many segments a list has in itself.
-const INLINE_SEGMENTS: usize = 2;
+/// Where the bytes of a list are.
+#[derive(Debug, Drop)]
+enum StoredBytes {
+    /// In the value: the first `len` of these.
+    Few { len: u8, bytes: [u8; INLINE_BYTES] },
+    /// Behind a pointer.
+    Long(Box<Vec<u8>>),
+}
 
 /// A list of bytes.
 #[derive(Debug, Drop)]
 pub struct Bytes {
-    bytes: SmallVec<u8, INLINE_BYTES>,
+    stored: StoredBytes,
 }
 
 impl Model for Bytes {
     ghost use Rattle.std.specs.Prelude.{List, ℕ};
+    ghost use Rattle.dma_mem.specs.inner.Stored.{FitsInline, bytes_in};
 
     ghost Value = { List ℕ };
 
-    ghost view = { λ b. b.bytes.items };
+    ghost view = { λ b. bytes_in b.stored };
+
+    ghost invariant = { λ b. FitsInline b.stored };
+}
+
+/// Returns a copy of a few bytes, kept in the value.
+fn few(bytes: &[u8]) -> StoredBytes
+    requires { length bytes.now ≤ 22 }
+    ensures bytes { bytes_in result ≡ bytes.now }
+    ensures fits { FitsInline result }
+{
+    let mut all = [0; INLINE_BYTES];
+    let front = &mut all[..bytes.len()];
+    front.copy_from_slice(bytes);
+    StoredBytes::Few {
+        len: bytes.len() as u8,
+        bytes: all,
+    }
 }
 
 impl Bytes {
-    /// The bytes of a vector, moved: a long one keeps its memory, a short one is copied into the value.
-    pub fn from_vec(bytes: Vec<u8>) -> Bytes
-        ensures { result ≡ bytes.items }
-    {
-        if bytes.len() > INLINE_BYTES {
-            return Bytes {
-                bytes: SmallVec::from_vec(bytes),
-            };
-        }
-        let Ok(bytes) = SmallVec::from_slice(*bytes.allocator(), &bytes) else {
-            unreachable!();
-        };
-        Bytes { bytes }
-    }
-
     /// A copy of these bytes.
     pub fn from_slice(alloc: Global, bytes: &[u8]) -> Result<Bytes, AllocError>
         ensures { IfOk result (λ list. list ≡ bytes.now) }
     {
-        let bytes = SmallVec::from_slice(alloc, bytes)?;
-        Ok(Bytes { bytes })
+        if bytes.len() <= INLINE_BYTES {
+            let stored = few(bytes);
+            return Ok(Bytes { stored });
+        }
+        let bytes = Vec::from_slice(alloc, bytes)?;
+        let stored = StoredBytes::Long(Box::new(alloc, bytes)?);
+        Ok(Bytes { stored })
+    }
+
+    /// Returns the bytes of a vector. Those of a long one are moved, and not copied.
+    pub fn from_vec(bytes: Vec<u8>) -> Result<Bytes, AllocError>
+        ensures { IfOk result (λ list. list ≡ bytes.items) }
+    {
+        if bytes.len() <= INLINE_BYTES {
+            let stored = few(&bytes);
+            return Ok(Bytes { stored });
+        }
+        let stored = StoredBytes::Long(Box::new(*bytes.allocator(), bytes)?);
+        Ok(Bytes { stored })
     }
 
     /// The bytes.
     pub fn as_slice(&self) -> &[u8]
         ensures { result.now ≡ self.now }
     {
-        self.bytes.as_slice()
+        match &self.stored {
+            StoredBytes::Few { len, bytes } => &bytes[..usize::from(*len)],
+            StoredBytes::Long(bytes) => bytes.as_slice(),
+        }
     }
 
     /// How many bytes there are.
     pub fn len(&self) -> usize
         ensures { result ≡ length self.now }
     {
-        self.bytes.len()
+        self.as_slice().len()
     }
 
     /// Whether there is no byte.
     pub fn is_empty(&self) -> bool
         ensures { result ≡ (length self.now == 0) }
     {
-        self.bytes.is_empty()
+        self.as_slice().is_empty()
     }
+}
+
+/// Where the segments of a list are.
+#[derive(Debug, Drop)]
+enum StoredSegments {
+    /// There are none.
+    Empty,
+    /// In the value.
+    One(Segment),
+    /// Behind a pointer.
+    Many(Box<Vec<Segment>>),
 }
 
 /// A list of segments.
 #[derive(Debug, Drop)]
 pub struct Segments {
-    segments: SmallVec<Segment, INLINE_SEGMENTS>,
+    alloc: Global,
+    stored: StoredSegments,
 }
 
 impl Model for Segments {
     ghost use Rattle.std.specs.Prelude.{List};
     ghost use Rattle.dma_mem.specs.declared.segment.Segment.{Segment};
+    ghost use Rattle.dma_mem.specs.inner.Stored.{segments_in};
 
     ghost Value = { List Segment };
 
-    ghost view = { λ s. s.segments.items };
+    ghost view = { λ s. segments_in s.stored };
+}
+
+/// Returns a copy of these segments, kept in the value where there is one.
+fn stored(alloc: Global, segments: &[Segment]) -> Result<StoredSegments, AllocError>
+    ensures { IfOk result (λ stored. segments_in stored ≡ segments.now) }
+{
+    match segments {
+        [] => Ok(StoredSegments::Empty),
+        [segment] => Ok(StoredSegments::One(*segment)),
+        _ => {
+            let list = Vec::from_slice(alloc, segments)?;
+            let list = Box::new(alloc, list)?;
+            Ok(StoredSegments::Many(list))
+        }
+    }
 }
 
 impl Segments {
@@ -94,7 +153,8 @@ impl Segments {
         ensures { result ≡ [] }
     {
         Segments {
-            segments: SmallVec::new(alloc),
+            alloc,
+            stored: StoredSegments::Empty,
         }
     }
 
@@ -102,36 +162,40 @@ impl Segments {
     pub fn from_slice(alloc: Global, segments: &[Segment]) -> Result<Segments, AllocError>
         ensures { IfOk result (λ list. list ≡ segments.now) }
     {
-        let segments = SmallVec::from_slice(alloc, segments)?;
-        Ok(Segments { segments })
+        let stored = stored(alloc, segments)?;
+        Ok(Segments { alloc, stored })
     }
 
     /// The segments.
     pub fn as_slice(&self) -> &[Segment]
         ensures { result.now ≡ self.now }
     {
-        self.segments.as_slice()
+        match &self.stored {
+            StoredSegments::Empty => &[],
+            StoredSegments::One(segment) => slice::from_ref(segment),
+            StoredSegments::Many(segments) => segments.as_slice(),
+        }
     }
 
     /// How many segments there are.
     pub fn len(&self) -> usize
         ensures { result ≡ length self.now }
     {
-        self.segments.len()
+        self.as_slice().len()
     }
 
     /// Whether there is no segment.
     pub fn is_empty(&self) -> bool
         ensures { result ≡ (length self.now == 0) }
     {
-        self.segments.is_empty()
+        self.as_slice().is_empty()
     }
 
-    /// The same list again, in memory of its own.
+    /// Returns a copy of the list.
     pub fn try_copy(&self) -> Result<Segments, AllocError>
         ensures { IfOk result (λ copy. copy ≡ self.now) }
     {
-        Segments::from_slice(*self.segments.allocator(), self.as_slice())
+        Segments::from_slice(self.alloc, self.as_slice())
     }
 
     /// Adds a segment at the end. Without memory for it the list stays as it was.
@@ -139,7 +203,14 @@ impl Segments {
         ensures ok { OnOk result (self.new ≡ self.old ++ segment ∷ []) }
         ensures err { OnErr result (self.new ≡ self.old) }
     {
-        self.segments.push(segment)?;
+        match &mut self.stored {
+            StoredSegments::Empty => self.stored = StoredSegments::One(segment),
+            StoredSegments::One(first) => {
+                let both = [*first, segment];
+                self.stored = stored(self.alloc, &both)?;
+            }
+            StoredSegments::Many(segments) => segments.push(segment)?,
+        }
         Ok(())
     }
 }

@@ -111,8 +111,8 @@ impl Marks {
         meets_ordered(self.ranges(kind), segment)
     }
 
-    /// Returns how many addresses of the segment, from its first on, come before the first that lies in a mark of the kind:
-    /// all of them where none does.
+    /// Returns how many addresses of the segment come before the first that lies in a mark of the kind. It is the segment's
+    /// length where none does.
     pub fn unmarked(&self, kind: MarkKind, segment: Segment) -> u32
         ensures few { result ≤ segment.len }
         ensures none { NoneMarked kind self.now segment.addr result }

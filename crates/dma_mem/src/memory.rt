@@ -178,7 +178,8 @@ impl Memory {
         self.pages.write_parts(addr, front, back);
     }
 
-    /// Copies `len` bytes from one address on to another on, whose pages are made. The two ranges share no address.
+    /// Copies the `len` bytes from address `from` on to the addresses from `to` on, whose pages are made. The two ranges share
+    /// no address.
     pub fn copy_apart(&mut self, from: u32, to: u32, len: u32)
         requires source { from + len ≤ length self.old.image }
         requires within { to + len ≤ length self.old.image }
@@ -190,7 +191,7 @@ impl Memory {
         self.pages.copy_apart(from, to, len);
     }
 
-    /// Fills `len` bytes from an address on, whose pages are made, with one byte.
+    /// Sets the `len` bytes from an address on, whose pages are made, to one byte.
     pub fn fill(&mut self, addr: u32, len: u32, byte: u8)
         requires within { addr + len ≤ length self.old.image }
         requires made { AllMade self.old (range_with_len addr len) }

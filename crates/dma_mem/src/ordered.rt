@@ -121,8 +121,8 @@ pub fn meets_ordered(ranges: &[Segment], segment: Segment) -> bool
     meets_by_search(ranges, segment)
 }
 
-/// Returns how many addresses of the segment, from its first on, come before the first that is in one of the ranges: all
-/// of them where none is. It is a binary search.
+/// Returns, by binary search, how many addresses of the segment come before the first that lies in one of the ranges. It is
+/// the segment's length where none does.
 pub fn clear_of_ordered(ranges: &[Segment], segment: Segment) -> u32
     requires { IsOrdered ranges.now }
     ensures few { result ≤ segment.len }

@@ -4,7 +4,7 @@ ghost use Rattle.std.specs.Prelude.{◌≡◌, ◌↔◌, IsTrue};
 ghost use Rattle.dma_mem.specs.Meeting.{Meets, meets};
 
 /// The addresses from `addr` up to, not including, `addr + len`, the sum taken without wrapping.
-#[derive(Clone, Copy, Debug, Default, PartialEq, Eq)]
+#[derive(Clone, Copy, Debug, PartialEq, Eq)]
 pub struct Segment {
     /// The first address.
     pub addr: u32,

@@ -1,6 +1,6 @@
 //! Transfers from a list of segments to another.
 
-ghost use Rattle.std.specs.Prelude.{◌≡◌, ◌+◌, ◌<◌, ◌≤◌, ◌↔◌, All, IsTrue, false, IfOk, IfErr, MatchResult, length, slice_get, unwrap_or};
+ghost use Rattle.std.specs.Prelude.{◌≡◌, ◌+◌, ◌<◌, ◌≤◌, ◌↔◌, All, IsTrue, false, IfOk, IfErr, MatchResult, length, slice_get, unwrap_or, OnOk};
 ghost use Rattle.dma_mem.specs.Places.{Descriptor, filling, places, sources, destinations, size_of, lies_below, all_below, share, range_of, touches, writes, is_free_of};
 ghost use Rattle.dma_mem.specs.Meeting.{meets, IsFree};
 ghost use Rattle.std.specs.List.{list_any};
@@ -271,6 +271,21 @@ fn checked_len(
     Ok(len as u32)
 }
 
+// Returns how many bytes a fill of these destinations writes, or the first refusal that holds.
+fn checked_fill(
+    src: u32,
+    dst: &[Segment],
+    wait: Option<u8>,
+    signal: Option<u8>,
+) -> Result<u32, TransferFault>
+    ensures len { IfOk result (λ len. (refusal_of (filling src dst.now wait signal) ≡ None) × (len ≡ total dst.now)) }
+    ensures accepted { OnOk result (refusal_of_fill src dst.now wait signal ≡ None) }
+    ensures err { IfErr result (λ fault. refusal_of_fill src dst.now wait signal ≡ Some fault) }
+{
+    let byte = Segment { addr: src, len: 1 };
+    checked_len(Totals::Any, &[byte], dst, wait, signal)
+}
+
 // The place of a position of a list, or none past its end.
 fn place_at(list: &[Segment], position: u32) -> Option<u32>
     requires { All (λ s. s.addr + s.len ≤ 4294967296) list.now }
@@ -373,11 +388,10 @@ impl Transfer {
         ensures rules { IfOk result (λ t. IsTransfer t) }
         ensures err { IfErr result (λ fault. fault ≡ unwrap_or (refusal_of_fill src dst.now wait signal) TransferFault.NoMemory) }
     {
-        let byte = Segment { addr: src, len: 1 };
-        let len = checked_len(Totals::Any, &[byte], dst, wait, signal)?;
+        let len = checked_fill(src, dst, wait, signal)?;
         let list = copied(alloc, dst)?;
         Ok(Transfer {
-            src: Origin::Place(byte),
+            src: Origin::Place(Segment { addr: src, len: 1 }),
             dst: list,
             wait,
             signal,
@@ -398,10 +412,9 @@ impl Transfer {
         ensures rules { IfOk result (λ t. IsTransfer t) }
         ensures err { IfErr result (λ fault. refusal_of_fill src dst wait signal ≡ Some fault) }
     {
-        let byte = Segment { addr: src, len: 1 };
-        let len = checked_len(Totals::Any, &[byte], dst.as_slice(), wait, signal)?;
+        let len = checked_fill(src, dst.as_slice(), wait, signal)?;
         Ok(Transfer {
-            src: Origin::Place(byte),
+            src: Origin::Place(Segment { addr: src, len: 1 }),
             dst,
             wait,
             signal,

@@ -84,7 +84,7 @@ impl Machine {
         true
     }
 
-    // How many instructions of loop bodies are executed as one block, of at most so many as are asked for.
+    // Executes loop bodies as one block of at most `most` instructions, and returns how many it executed.
     fn bodies(&mut self, most: u32) -> u32 {
         if self.channel.taken() >= 500_000 {
             return 0;
@@ -175,15 +175,16 @@ fn what_is_left_falls_by_one_each_step(rt: HostRuntime) -> Result<(), Fail> {
 
 // ---- blocks of loop bodies
 
-// Copies 16 bytes from 0x11 to 0x81 by four bursts of 4: the loop's body is at 20, and has five instructions.
+// Copies 16 bytes from 0x11 to 0x81 by four bursts of 4. The loop's body is at offset 20 and has five instructions.
 static LOOP: &[u8] =
     b"\xbc\0\x11\0\0\0\xbc\x02\x81\0\0\0\xbc\x01\x31\x40\x0c\0\x22\x03\x04\x12\x08\x13\x3c\x04\0";
 
-// Copies 512 bytes from 0x11 to 0x811 by a loop of two loops of 256: the body is at 22.
+// Copies 512 bytes from 0x11 to 0x811 by two rounds of an outer loop, each 256 of an inner one. The body is at offset 22.
 static NEST: &[u8] =
     b"\xbc\0\x11\0\0\0\xbc\x02\x11\x08\0\0\xbc\x01\x01\x40\0\0\x20\x01\x22\xff\x04\x12\x08\x13\x3c\x04\x38\x08\0";
 
-// Steps before, the most instructions of a block, how many it executes, and the bytes that are stored then.
+// A row has the steps before the block, the most instructions that the block may have, how many it has, and how many bytes
+// are stored after it.
 #[test]
 fn a_block_has_as_many_bodies_as_it_may(rt: HostRuntime) -> Result<(), Fail> {
     for (steps, most, ran, stored) in &[

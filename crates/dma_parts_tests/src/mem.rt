@@ -44,7 +44,7 @@ fn grown(alloc: Global, segment: Segment) -> Result<Segments, AllocError> {
 fn lists_have_what_they_were_given(rt: HostRuntime) -> Result<(), Fail> {
     let bytes = Bytes::from_slice(rt.alloc(), &[1, 2])?;
     assert!(rt; bytes.as_slice() == [1, 2].as_slice() && bytes.len() == 2);
-    assert!(rt; Bytes::from_vec(Vec::new(rt.alloc())).is_empty());
+    assert!(rt; Bytes::from_vec(Vec::new(rt.alloc()))?.is_empty());
     let segments = grown(rt.alloc(), segment(4, 5))?;
     assert!(rt; segments.as_slice() == [segment(4, 5)].as_slice() && segments.len() == 1);
     assert!(rt; Segments::new(rt.alloc()).is_empty());
@@ -160,7 +160,7 @@ fn a_memory_has_what_was_written(rt: HostRuntime) -> Result<(), Fail> {
     Ok(())
 }
 
-// Copies three bytes that lie on two pages to two others, and fills three addresses on a page that was there and one more.
+// Copies three bytes that lie on two pages to two other pages, and sets three bytes that lie on two pages.
 fn move_blocks(rt: &impl Abort, memory: &mut Memory) -> Result<(), MemFault> {
     memory.write(0x0FFE, &[1, 2, 3])?;
     memory.prepare(segment(0x2FFF, 3))?;

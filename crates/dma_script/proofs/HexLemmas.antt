@@ -89,7 +89,7 @@ bytes_after_pair before (a ∷ b ∷ c ∷ rest) byte three is blank = pair_afte
 last_pair_word : (a b high low : ℕ) → hex_digit_of a ≡ Some high → hex_digit_of b ≡ Some low → words_of (a ∷ b ∷ []) ≡ (a ∷ b ∷ []) ∷ []
 last_pair_word a b high low at_a at_b = rw (digit_is_no_blank a high at_a, digit_is_no_blank b low at_b) refl
 
--- Such a word at the end, behind other bytes.
+-- Such a word at the end of a line, after bytes read before.
 last_pair_after : (a b byte : ℕ) (before : List ℕ) (high low : Option ℕ) → hex_digit_of a ≡ high → hex_digit_of b ≡ low → option_and_then (λ h. option_map (λ l. 16 * h + l) low) high ≡ Some byte → bytes_after (before ++ byte ∷ []) (words_of []) ≡ bytes_after before (words_of (a ∷ b ∷ []))
 last_pair_after a b byte before None low at_a at_b is = absurd (let bad : None ≡ Some byte = is in cc)
 last_pair_after a b byte before (Some h) None at_a at_b is = absurd (let bad : None ≡ Some byte = is in cc)
@@ -98,7 +98,7 @@ last_pair_after a b byte before (Some h) (Some l) at_a at_b is =
     let read : hex_after before (a ∷ b ∷ []) ≡ Ok (before ++ byte ∷ []) = rw (at_a, at_b, same) refl in
     bytes_after_more before (before ++ byte ∷ []) (a ∷ b ∷ []) [] (words_of (a ∷ b ∷ [])) (last_pair_word a b h l at_a at_b) read
 
--- The last word, of two digits.
+-- The last word of a line, where it has two digits.
 pub bytes_after_end : (before rest : List ℕ) (byte : ℕ) → length rest ≡ 2 → hex_pair_of (get_or rest 0 0) (get_or rest 1 0) ≡ Some byte → bytes_after (before ++ byte ∷ []) (words_of []) ≡ bytes_after before (words_of rest)
 bytes_after_end before [] byte two is = absurd (omega arith)
 bytes_after_end before (a ∷ []) byte two is = absurd (omega arith)

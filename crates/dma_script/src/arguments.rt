@@ -201,15 +201,15 @@ fn push_hex(bytes: &mut Vec<u8>, word: &[u8]) -> Result<(), LineError>
     }
 }
 
-/// Reads words of two digits with a blank between two, as most lines have them. Appends their bytes to an empty list, and
-/// returns it and the rest of the line.
+/// Reads words of two digits with one blank after each, as most lines have them. Appends their bytes to `empty`, and returns
+/// that list and the rest of the line.
 #[tactic(auto, using(crate::proofs::HexLemmas::bytes_after_pair, crate::proofs::HexLemmas::bytes_after_none, crate::proofs::HexLemmas::bytes_after_end))]
 fn pairs_at(empty: Vec<u8>, line: &[u8]) -> Result<(Vec<u8>, &[u8]), AllocError>
     requires { empty.items ≡ [] }
     ensures { IfOk result (λ read. bytes_after read.0.items (words_of read.1.now) ≡ bytes_at (words_of line.now)) }
 {
     let mut bytes = empty;
-    // room for as many such words as the line can have
+    // Room for as many such words as the line can have, so that no byte asks for memory.
     bytes.reserve(line.len() / 3 + 1)?;
     let mut rest = line;
     while let [high, low, blank, after @ ..] = rest {
@@ -231,8 +231,8 @@ fn pairs_at(empty: Vec<u8>, line: &[u8]) -> Result<(Vec<u8>, &[u8]), AllocError>
     Ok((bytes, rest))
 }
 
-/// Reads the bytes of a line's words of hexadecimal digits into a list that a caller keeps for this, and returns a copy of
-/// them. So a short line takes no memory of its own.
+/// Returns the joined bytes of a line's words of hexadecimal digits. They are read into `kept` and copied from there: a
+/// caller keeps that list from line to line, so that a short line asks for no memory.
 #[tactic(auto, using(crate::proofs::HexLemmas::bytes_after_last))]
 pub(crate) fn bytes_at(alloc: Global, kept: &mut Vec<u8>, line: &[u8]) -> Result<Bytes, LineError>
     ensures { Gives (λ bytes. bytes) result (bytes_at (words_of line.now)) }

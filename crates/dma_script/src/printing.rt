@@ -64,7 +64,7 @@ pub fn push_bytes(line: &mut Vec<u8>, bytes: &[u8]) -> Result<(), AllocError>
     Ok(())
 }
 
-/// Appends an address in eight digits, or nothing.
+/// Appends an address in eight hexadecimal digits, or nothing.
 pub fn push_address(line: &mut Vec<u8>, addr: u32) -> Result<(), AllocError>
     ensures ok { OnOk result (line.new.items ≡ line.old.items ++ hex_address addr) }
     ensures err { OnErr result (line.new.items ≡ line.old.items) }

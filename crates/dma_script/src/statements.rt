@@ -164,7 +164,7 @@ pub enum Statement {
 #[derive(Debug, Drop)]
 pub struct Statements {
     items: Vec<Statement>,
-    // where the bytes of a `write` line are read
+    // The list that the bytes of each `write` line are read into. It is kept so that it grows once.
     bytes: Vec<u8>,
 }
 
@@ -207,7 +207,7 @@ impl Statements {
         items
     }
 
-    /// The bytes of a `write` line's hexadecimal words.
+    /// Returns the joined bytes of the hexadecimal words of a `write` line.
     pub(crate) fn bytes_at(&mut self, alloc: Global, words: &[u8]) -> Result<Bytes, LineError>
         ensures bytes { Gives (λ bytes. bytes) result (bytes_at (words_of words.now)) }
         ensures same { self.new ≡ self.old }

@@ -1,4 +1,4 @@
--- The table of bytes in two digits, entry by entry.
+-- The table of the two hexadecimal digits of each byte, entry by entry.
 use Rattle.std.proofs.Common.{◌≡◌, ℕ, ◌+◌, ◌*◌, ◌/◌, ◌%◌, ◌<◌, List, map, true, eqb, refl, ap, ◌∙◌, sym, arith}
 use Rattle.std.specs.Prelude.{slice_index_or, if◌then◌else◌}
 use Rattle.std.specs.Fmt.{digit_glyph}
@@ -27,7 +27,7 @@ first_digit b h =
     let half : 2 * b / 2 ≡ b = omega arith in
     entry (2 * b) (omega arith) ∙ rw (even, half) refl
 
--- the second
+-- the second digit of a byte
 pub second_digit : (b : ℕ) → b < 256 → slice_index_or PAIRS (2 * b + 1) 0 ≡ digit_glyph true (b % 16)
 unfolding digit_at
 second_digit b h =

@@ -30,7 +30,7 @@ fn push_digits(line: &mut Vec<u8>, number: u64) -> Result<(), AllocError>
     line.extend_from_slice(Buffer::new().format(number).as_bytes())
 }
 
-/// Each byte in two hexadecimal digits, in capitals. A table takes fewer steps than the arithmetic.
+/// The two hexadecimal digits of each byte, in capitals. A look-up takes fewer instructions than arithmetic.
 const PAIRS: [u8; 512] = *b"\
 000102030405060708090A0B0C0D0E0F101112131415161718191A1B1C1D1E1F\
 202122232425262728292A2B2C2D2E2F303132333435363738393A3B3C3D3E3F\
@@ -41,7 +41,7 @@ A0A1A2A3A4A5A6A7A8A9AAABACADAEAFB0B1B2B3B4B5B6B7B8B9BABBBCBDBEBF\
 C0C1C2C3C4C5C6C7C8C9CACBCCCDCECFD0D1D2D3D4D5D6D7D8D9DADBDCDDDEDF\
 E0E1E2E3E4E5E6E7E8E9EAEBECEDEEEFF0F1F2F3F4F5F6F7F8F9FAFBFCFDFEFF";
 
-/// A byte in two hexadecimal digits, in capitals.
+/// Returns the two hexadecimal digits of a byte, in capitals.
 #[inline(always)]
 pub fn hex_pair(byte: u8) -> [u8; 2]
     ensures { result ≡ hex_pair byte }
@@ -50,7 +50,7 @@ pub fn hex_pair(byte: u8) -> [u8; 2]
     [PAIRS[place], PAIRS[place + 1]]
 }
 
-/// A number in eight hexadecimal digits, in capitals.
+/// Returns the eight hexadecimal digits of a number, in capitals.
 #[inline(always)]
 pub fn hex_digits(value: u32) -> [u8; 8]
     ensures { result ≡ hex_digits value }

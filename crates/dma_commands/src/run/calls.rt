@@ -1,5 +1,6 @@
 //! The lines of a script that are one call, and the totals.
 #![tactic(auto, using(crate::proofs::Begun::begins_more, crate::proofs::Begun::begins_pushed, crate::proofs::Begun::begins_same, crate::proofs::Begun::line_ends, crate::proofs::Begun::line_gone))]
+
 ghost use Rattle.std.specs.Prelude.{◌≡◌, ◌≢◌, ◌++◌, ◌∷◌, [], OnOk, OnErr, IfOk, length};
 ghost use Rattle.dma_engine.specs.Answer.{CallAnswers, answer};
 ghost use Rattle.dma_engine.specs.View.{object_of, running};
@@ -35,7 +36,11 @@ pub fn reply_to(engine: &mut Engine, call: &Call) -> Result<Reply, AllocError>
 
 /// Carries out one call, and appends its line or nothing.
 #[inline(never)]
-pub(crate) fn answer_call(engine: &mut Engine, call: &Call, out: &mut Vec<u8>) -> Result<(), AllocError>
+pub(crate) fn answer_call(
+    engine: &mut Engine,
+    call: &Call,
+    out: &mut Vec<u8>,
+) -> Result<(), AllocError>
     ensures ok { OnOk result (AnswersLine (call_answer engine.old.view call.now) engine.new.view out.old.items out.new.items) }
     ensures err { OnErr result (out.new.items ≡ out.old.items) }
 {
@@ -72,7 +77,11 @@ fn read_at(history: &[Entry], place: usize) -> &[u8]
 
 /// Carries out `read SEG`. The bytes are printed from the history, which keeps them.
 #[inline(never)]
-pub(crate) fn read_line(engine: &mut Engine, segment: Segment, out: &mut Vec<u8>) -> Result<(), AllocError>
+pub(crate) fn read_line(
+    engine: &mut Engine,
+    segment: Segment,
+    out: &mut Vec<u8>,
+) -> Result<(), AllocError>
     ensures ok { OnOk result (AnswersLine (call_answer engine.old.view (Call.Read segment.addr segment.len)) engine.new.view out.old.items out.new.items) }
     ensures err { OnErr result (out.new.items ≡ out.old.items) }
 {

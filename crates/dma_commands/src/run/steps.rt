@@ -1,5 +1,6 @@
 //! The lines of a script that step a channel. Equal answers that follow each other are counted in one printed line.
 #![tactic(auto, using(crate::proofs::Begun::begins_more, crate::proofs::Begun::begins_pushed, crate::proofs::Begun::begins_same, crate::proofs::Begun::line_ends, crate::proofs::Begun::line_gone))]
+
 ghost use Rattle.std.specs.Prelude.{◌≡◌, ◌≢◌, ◌≤◌, ◌<◌, ◌+◌, ◌++◌, ◌∷◌, [], List, ℕ, OnOk, OnErr, IfOk, IsTrue, Err, map, replicate};
 ghost use Rattle.dma_engine.specs.Answer.{answers, reply_of};
 ghost use Rattle.dma_engine.specs.Room.{IsIdle};
@@ -16,8 +17,8 @@ use dma_engine::{Engine, EngineFault, Reply, Turn};
 use std::alloc::{AllocError, Global};
 use std::mem;
 
-/// The answers of steps so far: the lines of those before, and how many equal ones come last. A script keeps one for all its
-/// lines.
+/// The answers of the steps of a line so far: the printed lines of the earlier ones, and how many equal ones come last. A
+/// script keeps one value for all its `step` lines, so that its lists grow once.
 #[derive(Drop)]
 pub struct StepLines {
     lines: Vec<u8>,
@@ -153,7 +154,7 @@ fn step_text(
     Ok(())
 }
 
-/// Fails where a step was refused memory.
+/// Returns an error where the step was refused memory.
 fn unless_refused_memory(turned: Result<Turn, EngineFault>) -> Result<(), AllocError>
     ensures { OnOk result (reply_of (λ turn. Reply.Turned turn) turned ≢ Reply.Refused EngineFault.NoMemory) }
 {
@@ -164,7 +165,7 @@ fn unless_refused_memory(turned: Result<Turn, EngineFault>) -> Result<(), AllocE
     }
 }
 
-/// The line of one step, at the end.
+/// Appends the text of the line of one step.
 fn push_one_step(
     line: &mut Vec<u8>,
     ch: u8,
@@ -179,7 +180,7 @@ fn push_one_step(
     push_text(line, " x1")
 }
 
-/// Carries out `step CH`, whose one answer is no run of several.
+/// Carries out a `step` line of one step, whose line ends in `x1`. It is appended to the output itself.
 fn answer_step(engine: &mut Engine, ch: u8, out: &mut Vec<u8>) -> Result<(), AllocError>
     ensures ok { OnOk result (AnswersLine (step_answer engine.old.view ch 1) engine.new.view out.old.items out.new.items) }
     ensures err { OnErr result (out.new.items ≡ out.old.items) }

@@ -187,5 +187,5 @@ fn bytes_of(alloc: Global, memory: &Memory, addr: u32, len: u32) -> Result<Bytes
     let Ok(()) = memory.read_into(addr, &mut bytes) else {
         unreachable!();
     };
-    Ok(Bytes::from_vec(bytes))
+    Bytes::from_vec(bytes)
 }

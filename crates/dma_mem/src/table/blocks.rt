@@ -1,4 +1,4 @@
-//! Blocks of bytes on pages that are made: copied from other addresses, or filled with one byte.
+//! Copies and fills of blocks of bytes, whose destination is on pages that are made.
 
 ghost use Rattle.std.specs.Prelude.{◌≡◌, ℕ, ◌+◌, ◌/◌, ◌%◌, ◌<◌, ◌≤◌, ◌⊎◌, ◌^◌, length, slice_set};
 ghost use Rattle.dma_mem.specs.inner.Blocks.{copied, filled, CopiesBlock, FillsBlock};
@@ -7,7 +7,7 @@ ghost use Rattle.dma_mem.specs.inner.PageTable.{page_at};
 use crate::table::{GROUP_SIZE, Group, PAGE_SIZE, Page, Table, shown};
 use std::mem;
 
-// How many of `len` bytes from `start` on lie on the page of the first.
+// Returns how many of the `len` bytes from `start` on lie on the page of the first.
 fn on_one_page(start: usize, len: usize) -> usize
     ensures most { result ≤ len }
     ensures some { 0 < len → 0 < result }
@@ -16,7 +16,7 @@ fn on_one_page(start: usize, len: usize) -> usize
     len.min(PAGE_SIZE - start % PAGE_SIZE)
 }
 
-// Copies `len` bytes of a slice to another place in it.
+// Copies the `len` bytes of a slice from `from` on to the places from `to` on.
 fn copy_bytes(all: &mut [u8], from: usize, to: usize, len: usize)
     requires source { from + len ≤ length all.old }
     requires within { to + len ≤ length all.old }
@@ -25,7 +25,7 @@ fn copy_bytes(all: &mut [u8], from: usize, to: usize, len: usize)
     all.copy_within(from..from + len, to);
 }
 
-// Fills `len` bytes of a slice from `start` on with one byte.
+// Sets the `len` bytes of a slice from `start` on to one byte.
 fn fill_bytes(all: &mut [u8], start: usize, len: usize, byte: u8)
     requires { start + len ≤ length all.old }
     ensures { all.new ≡ filled all.old start len byte }
@@ -34,7 +34,7 @@ fn fill_bytes(all: &mut [u8], start: usize, len: usize, byte: u8)
 }
 
 impl Page {
-    // Copies `len` of its bytes to another place in it.
+    // Copies the `len` bytes of the page from `from` on to the places from `to` on.
     fn copy_within(&mut self, from: usize, to: usize, len: usize)
         requires made { 0 < length self.old }
         requires source { from + len ≤ 4096 }
@@ -46,7 +46,7 @@ impl Page {
         copy_bytes(&mut self.bytes, from, to, len);
     }
 
-    // Fills `len` of its bytes from an offset on with one byte.
+    // Sets the `len` bytes of the page from an offset on to one byte.
     fn fill(&mut self, offset: usize, len: usize, byte: u8)
         requires made { 0 < length self.old }
         requires fits { offset + len ≤ 4096 }
@@ -68,7 +68,7 @@ impl Group {
         mem::replace(&mut self.pages[index], page)
     }
 
-    // Fills `len` bytes of a page that is made, from an offset on, with one byte.
+    // Sets the `len` bytes from an offset on of a page that is made to one byte.
     fn fill(&mut self, index: usize, offset: usize, len: usize, byte: u8)
         requires made { 0 < length (page_at self.old index) }
         requires fits { offset + len ≤ 4096 }
@@ -83,7 +83,7 @@ impl Group {
 impl Table {
     // Copies `len` bytes that lie on one page to addresses that lie on one page, which is made.
     //
-    // The page that they are copied to is out of the table meanwhile, so that the other page can be read in place.
+    // The destination's page is taken out of the table for the copy, so that the source's page can be read in place.
     fn copy_on_pages(&mut self, from: usize, to: usize, len: usize)
         requires source { from % 4096 + len ≤ 4096 }
         requires within { to % 4096 + len ≤ 4096 }
@@ -105,7 +105,8 @@ impl Table {
         self.groups[number / GROUP_SIZE].replace(number % GROUP_SIZE, page);
     }
 
-    /// Copies `len` bytes from one address on to another on, whose pages are made. The two ranges share no address.
+    /// Copies the `len` bytes from address `from` on to the addresses from `to` on, whose pages are made. The two ranges share
+    /// no address.
     #[inline(never)]
     pub(crate) fn copy_apart(&mut self, from: usize, to: usize, len: usize)
         requires source { from + len < 2 ^ 33 }
@@ -125,7 +126,7 @@ impl Table {
         }
     }
 
-    // Fills `len` bytes that lie on one page, which is made, with one byte.
+    // Sets `len` bytes that lie on one page, which is made, to one byte.
     fn fill_on_page(&mut self, start: usize, len: usize, byte: u8)
         requires within { start % 4096 + len ≤ 4096 }
         requires made { 0 < length (page_at self.old (start / 4096)) }
@@ -138,7 +139,7 @@ impl Table {
         group.fill(number % GROUP_SIZE, start % PAGE_SIZE, len, byte);
     }
 
-    /// Fills `len` bytes from `start` on, whose pages are made, with one byte.
+    /// Sets the `len` bytes from `start` on, whose pages are made, to one byte.
     #[inline(never)]
     pub(crate) fn fill(&mut self, start: usize, len: usize, byte: u8)
         requires limit { start + len < 2 ^ 33 }

@@ -1,4 +1,4 @@
--- Bytes of hexadecimal words that are joined to those before them.
+-- Bytes of hexadecimal words, joined to the bytes read before them.
 use Rattle.std.specs.Prelude.{ℕ, List, ◌++◌, Result, Ok}
 use Rattle.dma_script.specs.declared.fault.Cause.{Cause}
 use Rattle.dma_script.specs.Arguments.{bytes_at, hex_at}

@@ -1,4 +1,4 @@
--- Texts whose lines are plain.
+-- The bytes of texts whose lines are all plain.
 use Rattle.std.specs.Prelude.{ℕ, Bool, ◌==◌, ◌||◌}
 use Rattle.dma_script.specs.Words.{is_plain}
 
