@@ -132,7 +132,7 @@ impl Model for Segments {
     ghost view = { λ s. segments_in s.stored };
 }
 
-/// Returns a copy of these segments, kept in the value where there is one.
+/// Returns a copy of these segments, kept in the value where there is only one.
 fn stored(alloc: Global, segments: &[Segment]) -> Result<StoredSegments, AllocError>
     ensures { IfOk result (λ stored. segments_in stored ≡ segments.now) }
 {

@@ -201,7 +201,7 @@ fn push_hex(bytes: &mut Vec<u8>, word: &[u8]) -> Result<(), LineError>
     }
 }
 
-/// Reads words of two digits with one blank after each, as most lines have them. Appends their bytes to `empty`, and returns
+/// Reads words of two digits with one blank between two, as most lines have them. Appends their bytes to `empty`, and returns
 /// that list and the rest of the line.
 #[tactic(auto, using(crate::proofs::HexLemmas::bytes_after_pair, crate::proofs::HexLemmas::bytes_after_none, crate::proofs::HexLemmas::bytes_after_end))]
 fn pairs_at(empty: Vec<u8>, line: &[u8]) -> Result<(Vec<u8>, &[u8]), AllocError>

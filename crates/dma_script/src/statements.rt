@@ -164,7 +164,7 @@ pub enum Statement {
 #[derive(Debug, Drop)]
 pub struct Statements {
     items: Vec<Statement>,
-    // The list that the bytes of each `write` line are read into. It is kept so that it grows once.
+    // The list that the bytes of a `write` line are read into. Its room is used again for the next line.
     bytes: Vec<u8>,
 }
 

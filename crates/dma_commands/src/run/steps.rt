@@ -18,7 +18,7 @@ use std::alloc::{AllocError, Global};
 use std::mem;
 
 /// The answers of the steps of a line so far: the printed lines of the earlier ones, and how many equal ones come last. A
-/// script keeps one value for all its `step` lines, so that its lists grow once.
+/// script keeps one value for all its `step` lines, so that the room of its lists is used again.
 #[derive(Drop)]
 pub struct StepLines {
     lines: Vec<u8>,
