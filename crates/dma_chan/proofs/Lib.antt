@@ -23,4 +23,10 @@ pub mod TwoSlices
 pub mod ReadyLaws
 pub mod BodyBlocks
 mod BodyBytes
+pub mod SteppedOver
+pub mod AmongOthers
+pub mod OthersKept
+pub mod CallsAmongOthers
+pub mod CallsInTurn
+pub mod GapSteps
 pub mod Rows

@@ -4,12 +4,16 @@ pub mod Next
 pub mod Exec
 pub mod Programs
 pub mod Channel
+pub mod NextWrites
 pub mod Run
 pub mod InRow
+pub mod Stepping
 pub mod Tree
 pub mod Compiled
 pub mod Traffic
 pub mod Layer
 pub mod Ready
 pub mod Fails
+pub mod Others
+pub mod InTurn
 pub mod inner

@@ -3,6 +3,6 @@
 pub mod Fields
 pub mod At
 pub mod Spans
-pub mod NextWrites
 pub mod Compiling
 pub mod Blocks
+pub mod Gaps

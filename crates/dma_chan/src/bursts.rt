@@ -18,7 +18,8 @@ use crate::turn::{ChanTurn, FaultKind};
 use circular_buffer::HeapCircularBuffer;
 use dma_insn::control::BurstEnd;
 use dma_mem::marks::{MarkKind, Marks};
-use dma_mem::memory::{MemFault, Memory};
+use dma_mem::memory::MemFault;
+use dma_mem::ram::Ram;
 use dma_mem::segment::Segment;
 
 /// The most bytes that a channel's buffer holds (profile), and the most of one burst (PL330 manual: 16 beats of 16 bytes).
@@ -124,11 +125,11 @@ pub(crate) fn destination_burst(registers: &Registers) -> Burst
 
 // Whether a burst may touch its addresses: they lie in the memory and in no mark of the kind.
 #[tactic(auto, using(crate::proofs::BurstReach::reaches_span))]
-fn may_touch(kind: MarkKind, marks: &Marks, memory: &Memory, burst: Burst) -> bool
+fn may_touch<M: Ram>(kind: MarkKind, marks: &Marks, memory: &M, burst: Burst) -> bool
     requires some { (1 ≤ burst.size) × (1 ≤ burst.beats) }
     requires limit { (burst.size ≤ 16) × (burst.beats ≤ 16) }
-    ensures exact { result ≡ reaches kind marks.now (length memory.now.image) (touched burst) }
-    ensures within { IsTrue result → burst.addr + span_of burst ≤ length memory.now.image }
+    ensures exact { result ≡ reaches kind marks.now (length (M.paged memory.now).image) (touched burst) }
+    ensures within { IsTrue result → burst.addr + span_of burst ≤ length (M.paged memory.now).image }
     ensures below { IsTrue result → burst.addr + span_of burst < 2 ^ 32 }
 {
     let span = burst.span();
@@ -163,12 +164,17 @@ fn put_rounds(buffer: &mut HeapCircularBuffer<u8>, bytes: &[u8], rounds: u32)
 
 // Loads the bytes of a burst into the buffer: those of one page in place, and by the block those that lie on two pages.
 #[tactic(auto, using(crate::proofs::BurstRounds::read_touched))]
-fn load_span(burst: Burst, buffer: &mut HeapCircularBuffer<u8>, block: &mut [u8], memory: &Memory)
+fn load_span<M: Ram>(
+    burst: Burst,
+    buffer: &mut HeapCircularBuffer<u8>,
+    block: &mut [u8],
+    memory: &M,
+)
     requires limit { (burst.size ≤ 16) × (burst.beats ≤ 16) }
     requires room { length buffer.old.items + burst_len burst ≤ buffer.old.capacity }
-    requires within { burst.addr + span_of burst ≤ length memory.now.image }
+    requires within { burst.addr + span_of burst ≤ length (M.paged memory.now).image }
     requires block { length block.old ≡ 256 }
-    ensures { buffer.new ≡ ring (buffer.old.items ++ read_at memory.now.image (touched burst)) buffer.old.capacity }
+    ensures { buffer.new ≡ ring (buffer.old.items ++ read_at (M.paged memory.now).image (touched burst)) buffer.old.capacity }
 {
     let len = burst.span().len as usize;
     let bytes = memory.bytes(burst.addr, &mut block[..len]);
@@ -176,18 +182,18 @@ fn load_span(burst: Burst, buffer: &mut HeapCircularBuffer<u8>, block: &mut [u8]
 }
 
 // The fault that DMALD answers. Without one there is room for its bytes, and it may touch its addresses.
-pub(crate) fn load_fault(
+pub(crate) fn load_fault<M: Ram>(
     marks: &Marks,
     registers: &Registers,
     buffer: &HeapCircularBuffer<u8>,
-    memory: &Memory,
+    memory: &M,
 ) -> Option<FaultKind>
     requires capacity { buffer.now.capacity ≡ 256 }
-    ensures told { (flags : List Bool) → result ≡ fault_in (act marks.now Ld (state registers.now buffer.now.items memory.now.image flags)).0 }
-    ensures still { IfSome result (λ kind. (flags : List Bool) → act marks.now Ld (state registers.now buffer.now.items memory.now.image flags) ≡ faults kind (state registers.now buffer.now.items memory.now.image flags)) }
+    ensures told { (flags : List Bool) → result ≡ fault_in (act marks.now Ld (state registers.now buffer.now.items (M.paged memory.now).image flags)).0 }
+    ensures still { IfSome result (λ kind. (flags : List Bool) → act marks.now Ld (state registers.now buffer.now.items (M.paged memory.now).image flags) ≡ faults kind (state registers.now buffer.now.items (M.paged memory.now).image flags)) }
     ensures room { IsNone result → length buffer.now.items + burst_len (source_of registers.now) ≤ 256 }
-    ensures reaches { IsNone result → IsTrue (reaches MarkKind.Reading marks.now (length memory.now.image) (touched (source_of registers.now))) }
-    ensures within { IsNone result → registers.now.sar + span_of (source_of registers.now) ≤ length memory.now.image }
+    ensures reaches { IsNone result → IsTrue (reaches MarkKind.Reading marks.now (length (M.paged memory.now).image) (touched (source_of registers.now))) }
+    ensures within { IsNone result → registers.now.sar + span_of (source_of registers.now) ≤ length (M.paged memory.now).image }
     ensures below { IsNone result → registers.now.sar + span_of (source_of registers.now) < 2 ^ 32 }
 {
     let burst = source_burst(registers);
@@ -201,17 +207,17 @@ pub(crate) fn load_fault(
 }
 
 // Executes DMALD.
-pub(crate) fn load_burst(
+pub(crate) fn load_burst<M: Ram>(
     marks: &Marks,
     registers: &mut Registers,
     buffer: &mut HeapCircularBuffer<u8>,
     block: &mut [u8],
-    memory: &Memory,
+    memory: &M,
 ) -> ChanTurn
     requires capacity { buffer.old.capacity ≡ 256 }
     requires block { length block.old ≡ 256 }
     requires pc { registers.old.pc < 8192 }
-    ensures exact { (flags : List Bool) → act marks.now Ld (state registers.old buffer.old.items memory.now.image flags) ≡ (result, state registers.new buffer.new.items memory.now.image flags) }
+    ensures exact { (flags : List Bool) → act marks.now Ld (state registers.old buffer.old.items (M.paged memory.now).image flags) ≡ (result, state registers.new buffer.new.items (M.paged memory.now).image flags) }
     ensures capacity { buffer.new.capacity ≡ 256 }
     ensures pc { registers.new.pc ≤ registers.old.pc + 1 }
 {
@@ -246,15 +252,16 @@ fn past<'a>(front: &'a [u8], back: &'a [u8], count: usize) -> (&'a [u8], &'a [u8
 }
 
 // Stores the oldest bytes of the buffer as a burst. What it would overwrite itself isn't written.
-fn store_span(burst: Burst, buffer: &mut HeapCircularBuffer<u8>, memory: &mut Memory)
+fn store_span<M: Ram>(burst: Burst, buffer: &mut HeapCircularBuffer<u8>, memory: &mut M)
     requires some { (1 ≤ burst.size) × (1 ≤ burst.beats) }
     requires limit { (burst.size ≤ 16) × (burst.beats ≤ 16) }
     requires bytes { burst_len burst ≤ length buffer.old.items }
-    requires within { burst.addr + span_of burst ≤ length memory.old.image }
-    requires ready { IsTrue (none_missing memory.old (touched burst)) }
-    ensures written { memory.new.image ≡ put memory.old.image (left_by burst (take (burst_len burst) buffer.old.items)) }
-    ensures pages { memory.new.made ≡ memory.old.made }
+    requires within { burst.addr + span_of burst ≤ length (M.paged memory.old).image }
+    requires ready { IsTrue (none_missing (M.paged memory.old) (touched burst)) }
+    ensures written { (M.paged memory.new).image ≡ put (M.paged memory.old).image (left_by burst (take (burst_len burst) buffer.old.items)) }
+    ensures pages { (M.paged memory.new).made ≡ (M.paged memory.old).made }
     ensures taken { buffer.new ≡ ring (drop (burst_len burst) buffer.old.items) buffer.old.capacity }
+    ensures loan { M.loan memory.new ≡ M.loan memory.old }
 {
     let len = burst.len() as usize;
     let (front, back) = buffer.as_slices();
@@ -265,17 +272,17 @@ fn store_span(burst: Burst, buffer: &mut HeapCircularBuffer<u8>, memory: &mut Me
 }
 
 // The fault that DMAST answers. Without one the buffer has its bytes, and it may touch its addresses.
-pub(crate) fn store_fault(
+pub(crate) fn store_fault<M: Ram>(
     marks: &Marks,
     registers: &Registers,
     buffer: &HeapCircularBuffer<u8>,
-    memory: &Memory,
+    memory: &M,
 ) -> Option<FaultKind>
-    ensures told { (flags : List Bool) → result ≡ fault_in (act marks.now St (state registers.now buffer.now.items memory.now.image flags)).0 }
-    ensures still { IfSome result (λ kind. (flags : List Bool) → act marks.now St (state registers.now buffer.now.items memory.now.image flags) ≡ faults kind (state registers.now buffer.now.items memory.now.image flags)) }
+    ensures told { (flags : List Bool) → result ≡ fault_in (act marks.now St (state registers.now buffer.now.items (M.paged memory.now).image flags)).0 }
+    ensures still { IfSome result (λ kind. (flags : List Bool) → act marks.now St (state registers.now buffer.now.items (M.paged memory.now).image flags) ≡ faults kind (state registers.now buffer.now.items (M.paged memory.now).image flags)) }
     ensures bytes { IsNone result → burst_len (destination_of registers.now) ≤ length buffer.now.items }
-    ensures reaches { IsNone result → IsTrue (reaches MarkKind.Writing marks.now (length memory.now.image) (touched (destination_of registers.now))) }
-    ensures within { IsNone result → registers.now.dar + span_of (destination_of registers.now) ≤ length memory.now.image }
+    ensures reaches { IsNone result → IsTrue (reaches MarkKind.Writing marks.now (length (M.paged memory.now).image) (touched (destination_of registers.now))) }
+    ensures within { IsNone result → registers.now.dar + span_of (destination_of registers.now) ≤ length (M.paged memory.now).image }
     ensures below { IsNone result → registers.now.dar + span_of (destination_of registers.now) < 2 ^ 32 }
 {
     let burst = destination_burst(registers);
@@ -289,19 +296,20 @@ pub(crate) fn store_fault(
 }
 
 // Executes DMAST.
-pub(crate) fn store_burst(
+pub(crate) fn store_burst<M: Ram>(
     marks: &Marks,
     registers: &mut Registers,
     buffer: &mut HeapCircularBuffer<u8>,
-    memory: &mut Memory,
+    memory: &mut M,
 ) -> ChanTurn
     requires capacity { buffer.old.capacity ≡ 256 }
     requires pc { registers.old.pc < 8192 }
-    requires ready { IsTrue (none_missing memory.old (touched (destination_of registers.old))) }
-    ensures exact { (flags : List Bool) → act marks.now St (state registers.old buffer.old.items memory.old.image flags) ≡ (result, state registers.new buffer.new.items memory.new.image flags) }
-    ensures pages { memory.new.made ≡ memory.old.made }
+    requires ready { IsTrue (none_missing (M.paged memory.old) (touched (destination_of registers.old))) }
+    ensures exact { (flags : List Bool) → act marks.now St (state registers.old buffer.old.items (M.paged memory.old).image flags) ≡ (result, state registers.new buffer.new.items (M.paged memory.new).image flags) }
+    ensures pages { (M.paged memory.new).made ≡ (M.paged memory.old).made }
     ensures capacity { buffer.new.capacity ≡ 256 }
     ensures pc { registers.new.pc ≤ registers.old.pc + 1 }
+    ensures loan { M.loan memory.new ≡ M.loan memory.old }
 {
     if let Some(kind) = store_fault(marks, registers, buffer, memory) {
         return ChanTurn::Fault(kind);
@@ -314,9 +322,9 @@ pub(crate) fn store_burst(
 }
 
 // The part of a burst's span that lies below the memory's size, empty where none of it does.
-fn part_below(span: Segment, memory: &Memory) -> Segment
-    ensures addr { result.addr ≡ min span.addr (length memory.now.image) }
-    ensures len { result.len ≡ min span.len (length memory.now.image - span.addr) }
+fn part_below<M: Ram>(span: Segment, memory: &M) -> Segment
+    ensures addr { result.addr ≡ min span.addr (length (M.paged memory.now).image) }
+    ensures len { result.len ≡ min span.len (length (M.paged memory.now).image - span.addr) }
 {
     let size = memory.size();
     Segment {
@@ -326,8 +334,8 @@ fn part_below(span: Segment, memory: &Memory) -> Segment
 }
 
 // Whether a store finds the pages that it writes.
-pub(crate) fn store_finds_pages(registers: &Registers, memory: &Memory) -> bool
-    ensures { result ≡ none_missing memory.now (touched (destination_of registers.now)) }
+pub(crate) fn store_finds_pages<M: Ram>(registers: &Registers, memory: &M) -> bool
+    ensures { result ≡ none_missing (M.paged memory.now) (touched (destination_of registers.now)) }
 {
     let part = part_below(destination_burst(registers).span(), memory);
     memory.made(part)
@@ -356,18 +364,19 @@ fn first_page(segment: Segment) -> Option<u32>
 // Makes the pages that a store writes, and asks the memory nothing where it lies on a page that is known to be made, if
 // one is. It tells such a page again, mostly that of the store, since the next store mostly lies there too. The error is
 // `NoMemory`, and some pages may have been made.
-pub(crate) fn prepare_store(
+pub(crate) fn prepare_store<M: Ram>(
     registers: &Registers,
-    memory: &mut Memory,
+    memory: &mut M,
     known: Option<u32>,
 ) -> Result<Option<u32>, MemFault>
-    requires known { IfSome known (λ p. has_page memory.old p ≡ true) }
-    ensures ok { OnOk result (IsTrue (none_missing memory.new (touched (destination_of registers.now)))) }
-    ensures known { IfOk result (λ told. IfSome told (λ p. has_page memory.new p ≡ true)) }
-    ensures short { OnErr result (none_missing memory.new (touched (destination_of registers.now)) ≡ false) }
-    ensures image { memory.new.image ≡ memory.old.image }
-    ensures keeps { Keeps memory.old memory.new }
-    ensures others { MakesNoOther memory.old memory.new (touched (destination_of registers.now)) }
+    requires known { IfSome known (λ p. has_page (M.paged memory.old) p ≡ true) }
+    ensures ok { OnOk result (IsTrue (none_missing (M.paged memory.new) (touched (destination_of registers.now)))) }
+    ensures known { IfOk result (λ told. IfSome told (λ p. has_page (M.paged memory.new) p ≡ true)) }
+    ensures short { OnErr result (none_missing (M.paged memory.new) (touched (destination_of registers.now)) ≡ false) }
+    ensures image { (M.paged memory.new).image ≡ (M.paged memory.old).image }
+    ensures keeps { Keeps (M.paged memory.old) (M.paged memory.new) }
+    ensures others { MakesNoOther (M.paged memory.old) (M.paged memory.new) (touched (destination_of registers.now)) }
+    ensures loan { M.loan memory.new ≡ M.loan memory.old }
 {
     let span = destination_burst(registers).span();
     if let Some(page) = known {

@@ -15,7 +15,7 @@ use dma_insn::control::ControlWord;
 use dma_insn::insn::{Counter, Event, Insn, Reg, Times};
 use dma_mem::events::Events;
 use dma_mem::marks::Marks;
-use dma_mem::memory::Memory;
+use dma_mem::ram::Ram;
 
 /// What instructions move: the offset of the next instruction in the program, the source and destination addresses, the
 /// control word, and the two loop counters, the manual's SAR, DAR, CCR, LC0 and LC1.
@@ -182,13 +182,13 @@ fn go_on(registers: &mut Registers) -> ChanTurn
 }
 
 // Executes an instruction that takes so many bytes of the program.
-pub(crate) fn execute(
+pub(crate) fn execute<M: Ram>(
     insn: Insn,
     len: u32,
     registers: &mut Registers,
     buffer: &mut HeapCircularBuffer<u8>,
     block: &mut [u8],
-    memory: &mut Memory,
+    memory: &mut M,
     events: &mut Events,
     marks: &Marks,
 ) -> ChanTurn
@@ -196,11 +196,12 @@ pub(crate) fn execute(
     requires pc { registers.old.pc + len ≤ 8192 }
     requires capacity { buffer.old.capacity ≡ 256 }
     requires block { length block.old ≡ 256 }
-    requires ready { IsTrue (finds_pages (Ok insn) registers.old memory.old) }
-    ensures exact { act marks.now insn (state registers.old buffer.old.items memory.old.image events.old) ≡ (result, state registers.new buffer.new.items memory.new.image events.new) }
-    ensures pages { memory.new.made ≡ memory.old.made }
+    requires ready { IsTrue (finds_pages (Ok insn) registers.old (M.paged memory.old)) }
+    ensures exact { act marks.now insn (state registers.old buffer.old.items (M.paged memory.old).image events.old) ≡ (result, state registers.new buffer.new.items (M.paged memory.new).image events.new) }
+    ensures pages { (M.paged memory.new).made ≡ (M.paged memory.old).made }
     ensures capacity { buffer.new.capacity ≡ 256 }
     ensures pc { registers.new.pc ≤ registers.old.pc + len }
+    ensures loan { M.loan memory.new ≡ M.loan memory.old }
 {
     match insn {
         Insn::Mov(reg, value) => set_register(reg, value, len, registers),
@@ -218,15 +219,15 @@ pub(crate) fn execute(
 }
 
 // The fault that an instruction would answer. Nothing is executed.
-pub(crate) fn fault_of(
+pub(crate) fn fault_of<M: Ram>(
     insn: Insn,
     registers: &Registers,
     buffer: &HeapCircularBuffer<u8>,
-    memory: &Memory,
+    memory: &M,
     marks: &Marks,
 ) -> Option<FaultKind>
     requires capacity { buffer.now.capacity ≡ 256 }
-    ensures { (flags : List Bool) → result ≡ fault_in (act marks.now insn (state registers.now buffer.now.items memory.now.image flags)).0 }
+    ensures { (flags : List Bool) → result ≡ fault_in (act marks.now insn (state registers.now buffer.now.items (M.paged memory.now).image flags)).0 }
 {
     match insn {
         Insn::Mov(reg, value) => set_fault(reg, value),

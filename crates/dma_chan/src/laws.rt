@@ -1,6 +1,8 @@
 //! Laws of transfers' programs. Each is the clause of a function that does nothing.
 
 ghost use Rattle.dma_chan.specs.Layer.{StartsAt, AheadIs, LeftIs, StepIs, TurnTells, Survives, ShapeIs, CostIs, StoredIs, CopiesAlone};
+ghost use Rattle.dma_chan.specs.InTurn.{ChannelsCopyInTurn};
+ghost use Rattle.dma_chan.specs.Others.{CallsCopyAmongOthers, CopiesAmongOthers, WritesNoOther};
 ghost use Rattle.dma_chan.specs.Ready.{ReadyIs};
 
 /// What the channel does that runs a transfer's program, step by step, by the places of the transfer alone.
@@ -32,4 +34,26 @@ pub fn costs_little()
 /// What a program leaves that is run alone, of a transfer that doesn't wait: one simultaneous copy of all its bytes.
 pub fn copies_alone()
     ensures { CopiesAlone }
+{}
+
+/// What a transfer's program leaves of a memory that others write between its steps, but for the transfer's own places: there,
+/// one simultaneous copy of all its bytes.
+pub fn copies_among_others()
+    ensures { CopiesAmongOthers }
+{}
+
+/// The same by calls, each of which takes steps in a row, as `lent::step_over` does.
+pub fn calls_copy_among_others()
+    ensures { CallsCopyAmongOthers }
+{}
+
+/// What calls on several channels leave of one memory, whose transfers are free of each other: at the places of each transfer,
+/// one simultaneous copy of all its bytes.
+pub fn channels_copy_in_turn()
+    ensures { ChannelsCopyInTurn }
+{}
+
+/// What each instruction of any program leaves of a memory where it doesn't write.
+pub fn writes_no_other()
+    ensures { WritesNoOther }
 {}

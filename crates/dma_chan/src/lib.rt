@@ -7,6 +7,7 @@ pub mod channel;
 pub mod compile;
 mod exec;
 pub mod laws;
+pub mod lent;
 pub mod next;
 mod pieces;
 pub mod program;

@@ -11,7 +11,7 @@ use crate::turn::{ChanTurn, FaultKind};
 use dma_insn::insn::Event;
 use dma_mem::events::Events;
 use dma_mem::marks::Marks;
-use dma_mem::memory::Memory;
+use dma_mem::ram::Ram;
 use std::alloc::Global;
 use thiserror::Error;
 
@@ -56,17 +56,18 @@ fn program_of(alloc: Global, bytes: &[u8]) -> Result<Program, RunFault>
 }
 
 // Runs a program on a channel, with no marks and all flags clear.
-fn run_on(
+fn run_on<M: Ram>(
     mut channel: Channel,
     program: Program,
     alloc: Global,
-    memory: &mut Memory,
+    memory: &mut M,
     limit: u32,
 ) -> Result<RunEnd, RunFault>
     requires { length program.bytes ≤ 8192 }
-    ensures ok { IfOk result (λ how. RunsAlone program.bytes memory.old.image limit how memory.new.image) }
-    ensures err { IfErr result (λ fault. RunFails program.bytes memory.old limit fault memory.new) }
-    ensures pages { (p : ℕ) → has_page memory.old p ≡ true → has_page memory.new p ≡ true }
+    ensures ok { IfOk result (λ how. RunsAlone program.bytes (M.paged memory.old).image limit how (M.paged memory.new).image) }
+    ensures err { IfErr result (λ fault. RunFails program.bytes (M.paged memory.old) limit fault (M.paged memory.new)) }
+    ensures pages { (p : ℕ) → has_page (M.paged memory.old) p ≡ true → has_page (M.paged memory.new) p ≡ true }
+    ensures loan { M.loan memory.new ≡ M.loan memory.old }
 {
     channel.load(program);
     let mut events = Events::new();
@@ -98,16 +99,17 @@ fn run_on(
 ///
 /// The error is `ProgramTooLong` above [`MAX_BYTES`](crate::program::MAX_BYTES), else `NoMemory`, and nothing has run then,
 /// or `PageRefused`: memory is what the instructions before that store leave.
-pub fn run_program(
+pub fn run_program<M: Ram>(
     alloc: Global,
     bytes: &[u8],
-    memory: &mut Memory,
+    memory: &mut M,
     limit: u32,
 ) -> Result<RunEnd, RunFault>
-    ensures ok { IfOk result (λ how. RunsAlone bytes.now memory.old.image limit how memory.new.image) }
+    ensures ok { IfOk result (λ how. RunsAlone bytes.now (M.paged memory.old).image limit how (M.paged memory.new).image) }
     ensures fits { OnOk result (length bytes.now ≤ 8192) }
-    ensures err { IfErr result (λ fault. RunFails bytes.now memory.old limit fault memory.new) }
-    ensures pages { (p : ℕ) → has_page memory.old p ≡ true → has_page memory.new p ≡ true }
+    ensures err { IfErr result (λ fault. RunFails bytes.now (M.paged memory.old) limit fault (M.paged memory.new)) }
+    ensures pages { (p : ℕ) → has_page (M.paged memory.old) p ≡ true → has_page (M.paged memory.new) p ≡ true }
+    ensures loan { M.loan memory.new ≡ M.loan memory.old }
 {
     let program = program_of(alloc, bytes)?;
     let channel = Channel::new(alloc).map_err(|_| RunFault::NoMemory)?;

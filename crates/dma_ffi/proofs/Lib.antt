@@ -5,4 +5,3 @@ pub mod Tells
 pub mod CallsMade
 pub mod StepRows
 pub mod LaidLists
-pub mod Alone

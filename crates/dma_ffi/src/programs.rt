@@ -1,22 +1,21 @@
 //! The calls that need no controller: the version, programs run alone, assembled and disassembled.
 
-ghost use Rattle.std.specs.Prelude.{◌≡◌, ◌<◌, ◌≤◌, IfOk, IsTrue, OnOk, length};
-ghost use Rattle.dma_mem.specs.Image.{is_size};
+ghost use Rattle.std.specs.Prelude.{◌≡◌, length};
 ghost use Rattle.dma_ffi.specs.Programs.{AnswersProgram, AnswersRun, AnswersText, ToldProgram, ToldRun, ToldText, alone_code, asm_refusal, code_made, dis_refusal, end_in, fits, laid_into, len_made, out_made, place_made, room_code, version_text, where_fits};
-ghost use Rattle.dma_ffi.specs.inner.Alone.{run_fault};
 
 use crate::codes::{
     BUFFER_TOO_SMALL, NO_MEMORY, OK, PROGRAM_TOO_LONG, SIZE_OUT_OF_RANGE, code_of_cause,
     code_of_decode,
 };
 use crate::reports::{DmaRunEnd, end_of};
-use dma_chan::program::MAX_BYTES;
-use dma_chan::run::{RunEnd, RunFault, run_program};
+use dma_chan::lent::run_over;
+use dma_chan::program::ProgramFault;
+use dma_chan::run::RunEnd;
 use dma_insn::assembler::{AsmFault, assemble};
 use dma_insn::disassembler::{DisFault, disassemble};
 use dma_mem::lists::Bytes;
-use dma_mem::memory::{MAX_SIZE, Memory};
-use std::alloc::{AllocError, Global};
+use dma_mem::memory::MAX_SIZE;
+use std::alloc::Global;
 
 /// The version's text, and the zero that ends it.
 const VERSION: &[u8] = b"dilkwafam 1.0\0";
@@ -199,34 +198,7 @@ pub extern "C" fn dma_disassemble(
 
 // ---- programs run alone
 
-// A memory of these bytes.
-fn memory_of(alloc: Global, bytes: &[u8]) -> Result<Memory, AllocError>
-    requires some { 0 < length bytes.now }
-    requires fit { length bytes.now ≤ 4294963200 }
-    ensures image { IfOk result (λ memory. memory.image ≡ bytes.now) }
-    ensures size { OnOk result (IsTrue (is_size (length bytes.now))) }
-{
-    let Ok(mut memory) = Memory::new(alloc, bytes.len() as u32) else {
-        return Err(AllocError);
-    };
-    let Ok(()) = memory.write(0, bytes) else {
-        return Err(AllocError);
-    };
-    Ok(memory)
-}
-
-// Why a program wasn't run. A page that is refused while it runs is want of memory as well.
-fn run_fault(fault: RunFault) -> AloneFault
-    ensures { result ≡ run_fault fault }
-{
-    match fault {
-        RunFault::ProgramTooLong => AloneFault::ProgramTooLong,
-        RunFault::PageRefused { .. } => AloneFault::NoMemory,
-        RunFault::NoMemory => AloneFault::NoMemory,
-    }
-}
-
-// Runs a program alone over a copy of these bytes, which becomes them where it was run.
+// Runs a program alone over these bytes, in place.
 fn run_alone(
     alloc: Global,
     program: &[u8],
@@ -238,20 +210,11 @@ fn run_alone(
     if bytes.is_empty() || bytes.len() > MAX_SIZE as usize {
         return Err(AloneFault::SizeOutOfRange);
     }
-    if program.len() > MAX_BYTES {
-        return Err(AloneFault::ProgramTooLong);
+    match run_over(alloc, program, bytes, limit) {
+        Ok(end) => Ok(end),
+        Err(ProgramFault::ProgramTooLong) => Err(AloneFault::ProgramTooLong),
+        Err(ProgramFault::NoMemory) => Err(AloneFault::NoMemory),
     }
-    let Ok(mut memory) = memory_of(alloc, bytes) else {
-        return Err(AloneFault::NoMemory);
-    };
-    let end = match run_program(alloc, program, &mut memory, limit) {
-        Ok(end) => end,
-        Err(fault) => return Err(run_fault(fault)),
-    };
-    let Ok(()) = memory.read_into(0, bytes) else {
-        unreachable!();
-    };
-    Ok(end)
 }
 
 // The code of a program run alone, and how it ended.
@@ -270,8 +233,7 @@ fn tell_run(answer: Result<RunEnd, AloneFault>, ended: &mut DmaRunEnd) -> i32
     }
 }
 
-/// Runs a program alone over a memory of the caller's, for at most so many instructions. A page is never wanting once the copy
-/// of the memory is made; where it would be, nothing is told as run.
+/// Runs a program alone over a memory of the caller's, in place, for at most so many instructions.
 #[unsafe(no_mangle)]
 pub extern "C" fn dma_run_program(
     alloc: Global,

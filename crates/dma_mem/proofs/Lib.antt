@@ -11,6 +11,8 @@ pub mod MarkHits
 pub mod PageTables
 pub mod PageImages
 pub mod PrepareAll
+pub mod WholeMemory
+pub mod FlagBits
 pub mod RangeSets
 pub mod RangeReplaced
 pub mod NeighboursMeet

@@ -1,6 +1,12 @@
 -- Event flags.
-use Rattle.std.specs.Prelude.{Bool, false, List, replicate}
+use Rattle.std.specs.Prelude.{ℕ, Bool, false, nat_eq, List, map, replicate}
+use Rattle.std.specs.List.{range_with_len}
+use Rattle.std.specs.Int.{bit_at}
 
 -- The flags of the events 0 to 31, all clear (PL330 manual, DMASEV and DMAWFE: 32 events).
 unfoldable pub all_clear : List Bool
 all_clear = replicate 32 false
+
+-- the flags that the bits of a number are: that of an event is the bit of its number
+unfoldable pub flags_of : ℕ → List Bool
+flags_of bits = map (λ e. nat_eq (bit_at bits e) 1) (range_with_len 0 32)

@@ -1,5 +1,5 @@
 -- Memory by pages of 4,096 bytes, each made on first write (profile).
-use Rattle.std.specs.Prelude.{◌≡◌, ◌≢◌, ℕ, ◌/◌, Bool, true, false, ◌&&◌, nat_lt, List, length, slice_index_or, IsTrue}
+use Rattle.std.specs.Prelude.{◌≡◌, ◌≢◌, ℕ, ◌+◌, ◌/◌, Bool, true, false, ◌&&◌, nat_lt, List, length, replicate, slice_index_or, IsTrue}
 use Rattle.std.specs.List.{Contains}
 
 -- What contracts see of pages: a byte for each address below their size, and for each page, by its number, whether it is
@@ -28,3 +28,11 @@ pub record Keeps (old new : Paged) : Type 0 where
 -- Of the pages on which none of these addresses lies, those are made that were.
 abbrev pub MakesNoOther : Paged → Paged → List ℕ → Type 0
 MakesNoOther old new addresses = (p : ℕ) → ((a : ℕ) → Contains addresses a → a / 4096 ≢ p) → has_page new p ≡ has_page old p
+
+-- each page of so many bytes is made
+unfoldable pub all_made : ℕ → List Bool
+all_made size = replicate ((size + 4095) / 4096) true
+
+-- what contracts see of a memory that is there whole: these bytes, each on a page that is made
+abbrev pub whole : List ℕ → Paged
+whole image = record { image = image; made = all_made (length image) }

@@ -1,22 +1,23 @@
 //! The flags of the controller's events.
 
 ghost use Rattle.std.specs.Prelude.{◌≡◌, ◌≤◌, length, slice_index_or, slice_set, true, false};
-ghost use Rattle.dma_mem.specs.Flags.{all_clear};
+ghost use Rattle.dma_mem.specs.Flags.{all_clear, flags_of};
 
 use std::marker::Model;
 
 /// A flag for each event from 0 to 31 (PL330 manual, DMASEV and DMAWFE). Contracts see them as a list of 32 truth values.
 #[derive(Debug, Drop)]
 pub struct Events {
-    flags: [bool; 32],
+    bits: u32,
 }
 
 impl Model for Events {
     ghost use Rattle.std.specs.Prelude.{List, Bool};
+    ghost use Rattle.dma_mem.specs.Flags.{flags_of};
 
     ghost Value = { List Bool };
 
-    ghost view = { λ e. e.flags };
+    ghost view = { λ e. flags_of e.bits };
 }
 
 impl Events {
@@ -24,14 +25,28 @@ impl Events {
     pub fn new() -> Events
         ensures { result ≡ all_clear }
     {
-        Events { flags: [false; 32] }
+        Events { bits: 0 }
+    }
+
+    /// The flags that the bits of a number are.
+    pub fn from_bits(bits: u32) -> Events
+        ensures { result ≡ flags_of bits }
+    {
+        Events { bits }
+    }
+
+    /// The number whose bits they are.
+    pub fn bits(&self) -> u32
+        ensures { flags_of result ≡ self.now }
+    {
+        self.bits
     }
 
     /// The same flags again.
     pub fn copy(&self) -> Events
         ensures { result ≡ self.now }
     {
-        Events { flags: self.flags }
+        Events { bits: self.bits }
     }
 
     /// Whether the flag of an event is set.
@@ -40,8 +55,7 @@ impl Events {
         ensures flag { result ≡ slice_index_or self.now event false }
         ensures count { length self.now ≡ 32 }
     {
-        let index = usize::from(event);
-        self.flags[index]
+        (self.bits >> event) & 1 == 1
     }
 
     /// Sets the flag of an event.
@@ -49,7 +63,7 @@ impl Events {
         requires { event ≤ 31 }
         ensures { self.new ≡ slice_set self.old event true }
     {
-        self.flags[usize::from(event)] = true;
+        self.bits |= 1 << event;
     }
 
     /// Clears the flag of an event.
@@ -57,6 +71,6 @@ impl Events {
         requires { event ≤ 31 }
         ensures { self.new ≡ slice_set self.old event false }
     {
-        self.flags[usize::from(event)] = false;
+        self.bits &= !(1 << event);
     }
 }

@@ -7,6 +7,7 @@ pub mod marks;
 pub mod memory;
 mod ordered;
 mod pages;
+pub mod ram;
 pub mod range_set;
 pub mod segment;
 mod table;

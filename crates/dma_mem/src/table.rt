@@ -4,7 +4,7 @@ ghost use Rattle.std.specs.Prelude.{◌≡◌, ◌≢◌, ℕ, ◌+◌, ◌*◌,
 ghost use Rattle.dma_mem.specs.Image.{put, bytes_at};
 ghost use Rattle.dma_mem.specs.inner.PageTable.{page_at, IsLaid, image_of};
 
-mod blocks;
+pub(crate) mod blocks;
 
 use std::alloc::{AllocError, Global};
 use std::marker::Model;
@@ -36,7 +36,7 @@ fn put_bytes(all: &mut [u8], start: usize, bytes: &[u8])
 
 // Puts the bytes of two slices, those of the second behind those of the first, at `start` and after it.
 #[tactic(auto, using(crate::proofs::BytesPut::put_parts))]
-fn put_parts(all: &mut [u8], start: usize, front: &[u8], back: &[u8])
+pub(crate) fn put_parts(all: &mut [u8], start: usize, front: &[u8], back: &[u8])
     requires { start + length front.now + length back.now ≤ length all.old }
     ensures { all.new ≡ put all.old (bytes_at start (front.now ++ back.now)) }
 {

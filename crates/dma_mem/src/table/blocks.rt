@@ -17,7 +17,7 @@ fn on_one_page(start: usize, len: usize) -> usize
 }
 
 // Copies the `len` bytes of a slice from `from` on to the places from `to` on.
-fn copy_bytes(all: &mut [u8], from: usize, to: usize, len: usize)
+pub(crate) fn copy_bytes(all: &mut [u8], from: usize, to: usize, len: usize)
     requires source { from + len ≤ length all.old }
     requires within { to + len ≤ length all.old }
     ensures { all.new ≡ copied all.old from to len }
@@ -26,7 +26,7 @@ fn copy_bytes(all: &mut [u8], from: usize, to: usize, len: usize)
 }
 
 // Sets the `len` bytes of a slice from `start` on to one byte.
-fn fill_bytes(all: &mut [u8], start: usize, len: usize, byte: u8)
+pub(crate) fn fill_bytes(all: &mut [u8], start: usize, len: usize, byte: u8)
     requires { start + len ≤ length all.old }
     ensures { all.new ≡ filled all.old start len byte }
 {

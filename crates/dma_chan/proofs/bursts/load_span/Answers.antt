@@ -4,9 +4,9 @@ use Rattle.dma_chan.proofs.BurstRounds.{read_touched}
 use Rattle.dma_chan.proofs.bursts.load_span.Goals as goal
 
 pub returns : goal.returns
-returns c =
+returns g c =
     let burst = c.args.burst in
-    let image = c.args.memory.now.image in
+    let image = (g.M.Ram.paged c.args.memory.now).image in
     let old = c.args.buffer.now in
     let bytes = c.bytes-bytes.ensures ∙ ap (λ n. take n (drop burst.addr image)) (omega (arith, c.span-len.ensures.len, c.span-len.ensures.limit, c.requires.block, length-take {A = ℕ})) in
     c.put_rounds.ensures

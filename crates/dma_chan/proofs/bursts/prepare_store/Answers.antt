@@ -7,8 +7,8 @@ use Rattle.dma_chan.proofs.ReadyLaws.{part_all, part_short, part_touched, pages_
 use Rattle.dma_chan.proofs.bursts.prepare_store.Goals as goal
 
 pub returns-then-is_on_page-clause-ok : goal.returns-then-is_on_page-clause-ok
-returns-then-is_on_page-clause-ok c =
-    let m = c.args.memory.now in
+returns-then-is_on_page-clause-ok g c =
+    let m = g.M.Ram.paged c.args.memory.now in
     let b = c.destination_burst.result in
     let span = c.span-span.ensures in
     ap (λ b. none_missing m (touched b)) (sym c.destination_burst.ensures.value)
@@ -17,8 +17,8 @@ returns-then-is_on_page-clause-ok c =
     ∙ (rw c.in-Some.is at c.requires.known))
 
 pub returns-in-Ok-clause-ok : goal.returns-in-Ok-clause-ok
-returns-in-Ok-clause-ok c =
-    let m = c.prepare.new.self in
+returns-in-Ok-clause-ok g c =
+    let m = g.M.Ram.paged c.prepare.new.self in
     let b = c.destination_burst.result in
     let part = c.part_below-part.ensures in
     let image = c.prepare.ensures.image in
@@ -28,11 +28,11 @@ returns-in-Ok-clause-ok c =
     ∙ part_all m b c.part_below-part.result.addr c.part_below-part.result.len c.destination_burst.ensures.some.1 addr len (rw c.in-Ok.is at c.prepare.ensures.ok)
 
 pub returns-in-Err-clause-short : goal.returns-in-Err-clause-short
-returns-in-Err-clause-short c =
-    let m = c.prepare.new.self in
+returns-in-Err-clause-short g c =
+    let m = g.M.Ram.paged c.prepare.new.self in
     let b = c.destination_burst.result in
     let part = c.part_below-part.ensures in
-    let below : c.part_below-part.result.addr + c.part_below-part.result.len ≤ length c.args.memory.now.image = omega (arith, part.addr, part.len) in
+    let below : c.part_below-part.result.addr + c.part_below-part.result.len ≤ length (g.M.Ram.paged c.args.memory.now).image = omega (arith, part.addr, part.len) in
     let image = c.prepare.ensures.image in
     let addr = part.addr ∙ rw (c.span-span.ensures.addr, image) refl in
     let len = part.len ∙ rw (c.span-span.ensures.len, c.span-span.ensures.addr, image) refl in
@@ -40,17 +40,17 @@ returns-in-Err-clause-short c =
     ∙ part_short m b c.part_below-part.result.addr c.part_below-part.result.len c.destination_burst.ensures.some.1 addr len (rw c.in-Err.is at c.prepare.ensures.short below)
 
 pub returns-in-Ok-clause-others : goal.returns-in-Ok-clause-others
-returns-in-Ok-clause-others c = λ p off.
+returns-in-Ok-clause-others g c = λ p off.
     let b = c.destination_burst.result in
     let part = c.part_below-part.ensures in
     let addr = part.addr ∙ rw c.span-span.ensures.addr refl in
     let len = part.len ∙ rw (c.span-span.ensures.len, c.span-span.ensures.addr) refl in
-    c.prepare.ensures.others p (λ a here. off a (subst (λ b. Contains (touched b) a) c.destination_burst.ensures.value (part_touched b (length c.args.memory.now.image) c.part_below-part.result.addr c.part_below-part.result.len a c.destination_burst.ensures.some.1 addr len here)))
+    c.prepare.ensures.others p (λ a here. off a (subst (λ b. Contains (touched b) a) c.destination_burst.ensures.value (part_touched b (length (g.M.Ram.paged c.args.memory.now).image) c.part_below-part.result.addr c.part_below-part.result.len a c.destination_burst.ensures.some.1 addr len here)))
 
 pub returns-in-Err-clause-others : goal.returns-in-Err-clause-others
-returns-in-Err-clause-others c = λ p off.
+returns-in-Err-clause-others g c = λ p off.
     let b = c.destination_burst.result in
     let part = c.part_below-part.ensures in
     let addr = part.addr ∙ rw c.span-span.ensures.addr refl in
     let len = part.len ∙ rw (c.span-span.ensures.len, c.span-span.ensures.addr) refl in
-    c.prepare.ensures.others p (λ a here. off a (subst (λ b. Contains (touched b) a) c.destination_burst.ensures.value (part_touched b (length c.args.memory.now.image) c.part_below-part.result.addr c.part_below-part.result.len a c.destination_burst.ensures.some.1 addr len here)))
+    c.prepare.ensures.others p (λ a here. off a (subst (λ b. Contains (touched b) a) c.destination_burst.ensures.value (part_touched b (length (g.M.Ram.paged c.args.memory.now).image) c.part_below-part.result.addr c.part_below-part.result.len a c.destination_burst.ensures.some.1 addr len here)))

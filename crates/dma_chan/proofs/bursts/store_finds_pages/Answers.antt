@@ -5,8 +5,8 @@ use Rattle.dma_chan.proofs.ReadyLaws.{part_made}
 use Rattle.dma_chan.proofs.bursts.store_finds_pages.Goals as goal
 
 pub returns : goal.returns
-returns c =
-    let m = c.args.memory.now in
+returns g c =
+    let m = g.M.Ram.paged c.args.memory.now in
     let b = c.destination_burst.result in
     let part = c.part_below-part.ensures in
     let addr = part.addr ∙ ap (λ a. min a (length m.image)) c.span.ensures.addr in

@@ -4,9 +4,9 @@ use Rattle.dma_chan.proofs.ReadyLaws.{span_made}
 use Rattle.dma_chan.proofs.bursts.store_span.Goals as goal
 
 pub write_parts-requires-clause-within : goal.write_parts-requires-clause-within
-write_parts-requires-clause-within c =
+write_parts-requires-clause-within g c =
     omega (arith, c.past.ensures.len, c.first_of.ensures.len, c.span.ensures.len, c.len-len.ensures.value, c.requires.within, span_within c.args.burst c.requires.some.1)
 
 pub write_parts-requires-clause-made : goal.write_parts-requires-clause-made
-write_parts-requires-clause-made c =
-    span_made c.args.memory.now c.args.burst _ c.requires.some.1 c.requires.ready c.requires.within (omega (arith, c.past.ensures.len, c.first_of.ensures.len, c.span.ensures.len, c.len-len.ensures.value, span_within c.args.burst c.requires.some.1))
+write_parts-requires-clause-made g c =
+    span_made (g.M.Ram.paged c.args.memory.now) c.args.burst _ c.requires.some.1 c.requires.ready c.requires.within (omega (arith, c.past.ensures.len, c.first_of.ensures.len, c.span.ensures.len, c.len-len.ensures.value, span_within c.args.burst c.requires.some.1))

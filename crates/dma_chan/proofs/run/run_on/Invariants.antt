@@ -6,8 +6,9 @@ use Rattle.dma_chan.proofs.RunAlone.{HasRun}
 use Rattle.dma_chan.proofs.run.run_on.Given as goal
 
 abbrev pub invariant-loop-turn : goal.invariant-loop-turn
-invariant-loop-turn l = record {
-  run : HasRun l.fn.program.bytes (opening l.fn.memory.image) l.turn l.channel l.memory.image l.events;
-  known : IfSome l.known (λ p. has_page l.memory p ≡ true);
-  pages : (p : ℕ) → has_page l.fn.memory p ≡ true → has_page l.memory p ≡ true;
+invariant-loop-turn g l = record {
+  run : HasRun l.fn.program.bytes (opening (g.M.Ram.paged l.fn.memory).image) l.turn l.channel (g.M.Ram.paged l.memory).image l.events;
+  known : IfSome l.known (λ p. has_page (g.M.Ram.paged l.memory) p ≡ true);
+  pages : (p : ℕ) → has_page (g.M.Ram.paged l.fn.memory) p ≡ true → has_page (g.M.Ram.paged l.memory) p ≡ true;
+  loan : g.M.Ram.loan l.memory ≡ g.M.Ram.loan l.fn.memory;
 }

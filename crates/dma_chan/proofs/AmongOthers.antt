@@ -1,0 +1,144 @@
+-- A transfer's program over a memory that others write between its steps.
+use Rattle.std.proofs.Common.{◌≡◌, ◌≢◌, ℕ, zero, suc, ◌+◌, ◌-◌, ◌<◌, Bool, true, false, List, [], ◌∷◌, length, get_or, drop, refl, sym, ap, ◌∙◌, subst, arith, inl, inr}
+use Rattle.std.specs.Prelude.{unwrap_or, nat_eq}
+use Rattle.std.specs.List.{zip, Contains}
+use Rattle.std.specs.Map.{lookup}
+use Rattle.std.proofs.lemmas.Bool.{cases_lt}
+use Rattle.std.proofs.lemmas.List.{get_or_past}
+use Rattle.std.proofs.lemmas.List.Elements.{Contains-append_right}
+use Rattle.dma_insn.specs.declared.insn.Insn.{Insn}
+use Rattle.dma_insn.specs.declared.insn.Insn.TheVariants.{Mov, Ld, St, Rmb, Wmb, Nop, End, Lp, LpEnd, Sev, Wfe}
+use Rattle.dma_mem.specs.Places.{Descriptor, sources, size_of, lies_below}
+use Rattle.dma_mem.specs.Image.{put, moves_of}
+use Rattle.dma_mem.specs.Marking.{MarkList, meets_mark}
+use Rattle.dma_mem.specs.Rules.{IsTransfer}
+use Rattle.dma_mem.specs.declared.marks.MarkKind.TheVariants.{Reading, Writing}
+use Rattle.dma_mem.proofs.ImageOver.{length-after_moves}
+use Rattle.dma_mem.proofs.ImagePut.{length-put, get_or-put}
+use Rattle.dma_mem.proofs.OverTransfers.{Contains-take, Contains-drop}
+use Rattle.dma_chan.specs.declared.turn.ChanTurn.TheVariants.{Moved, Fault}
+use Rattle.dma_chan.specs.declared.turn.FaultKind.TheVariants.{DataWriteErr}
+use Rattle.dma_chan.specs.Exec.{read_at}
+use Rattle.dma_chan.specs.Channel.{ChannelValue, step_of, stepped}
+use Rattle.dma_chan.specs.Compiled.{cost}
+use Rattle.dma_chan.specs.Traffic.{member, stored_after, burst, read_places, written_places}
+use Rattle.dma_chan.specs.Layer.{Shared, effect_of, step_at, StepAgrees}
+use Rattle.dma_chan.specs.Others.{Touches, CopiesAmongOthers}
+use Rattle.dma_chan.specs.inner.At.{IsAt}
+use Rattle.dma_chan.proofs.ShapeLaws.{shape_is, stored_is, is_store}
+use Rattle.dma_chan.proofs.LayerLaws.{starts_at, step_is, survives}
+use Rattle.dma_chan.proofs.CopyAlone.{laid_over, laid_over_none, laid_over_all, laid_over_more}
+
+-- ---- a step that moves, by its effect
+
+stores_where_moved : (reads writes : List ℕ) (marks : MarkList) (m : Shared) → (effect_of St reads writes marks m).0 ≡ Moved → (effect_of St reads writes marks m).1.image ≡ put m.image (zip writes (read_at m.image reads))
+stores_where_moved reads writes marks m moved = by (meets_mark Writing marks writes) refl
+  where
+    by : (b : Bool) → meets_mark Writing marks writes ≡ b → (effect_of St reads writes marks m).1.image ≡ put m.image (zip writes (read_at m.image reads))
+    by true e = absurd (let f : Fault DataWriteErr ≡ Moved = rw e at moved in cc)
+    by false e = rw e refl
+
+pub keeps_image : (i : Insn) (reads writes : List ℕ) (marks : MarkList) (m : Shared) → i ≢ St → (effect_of i reads writes marks m).1.image ≡ m.image
+keeps_image St reads writes marks m f = absurd (f refl)
+keeps_image Ld reads writes marks m f = by (meets_mark Reading marks reads) refl
+  where
+    by : (b : Bool) → meets_mark Reading marks reads ≡ b → (effect_of Ld reads writes marks m).1.image ≡ m.image
+    by true e = rw e refl
+    by false e = rw e refl
+keeps_image (Wfe e v) reads writes marks m f = grind arith
+keeps_image End reads writes marks m f = refl
+keeps_image (Sev e) reads writes marks m f = refl
+keeps_image (Mov r v) reads writes marks m f = refl
+keeps_image Rmb reads writes marks m f = refl
+keeps_image Wmb reads writes marks m f = refl
+keeps_image Nop reads writes marks m f = refl
+keeps_image (Lp c n) reads writes marks m f = refl
+keeps_image (LpEnd c b) reads writes marks m f = refl
+
+-- ---- images that have the same bytes at some places
+
+-- the same bytes put into both leave the same byte at an address at which they had the same
+put-agrees : (x y : List ℕ) (es : List (ℕ × ℕ)) (a : ℕ) → length x ≡ length y → get_or x a 0 ≡ get_or y a 0 → get_or (put x es) a 0 ≡ get_or (put y es) a 0
+put-agrees x y es a long same =
+    elim (cases_lt a (length x)) [
+      | inl below ↦ get_or-put x es a below ∙ ap (unwrap_or (lookup (nat_eq a) es)) same ∙ sym (get_or-put y es a (omega arith))
+      | inr past ↦ get_or_past (put x es) a 0 (omega (arith, length-put x es)) ∙ sym (get_or_past (put y es) a 0 (omega (arith, length-put y es)))
+    ]
+
+read_at-agrees : (x y places : List ℕ) → ((a : ℕ) → Contains places a → get_or x a 0 ≡ get_or y a 0) → read_at x places ≡ read_at y places
+read_at-agrees x y [] h = refl
+read_at-agrees x y (p ∷ rest) h =
+    let here : get_or x p 0 ≡ get_or y p 0 = h p (0, omega arith, refl) in
+    let there : read_at x rest ≡ read_at y rest = read_at-agrees x y rest (λ a i. h a (Contains-append_right (p ∷ []) rest a i)) in
+    cc
+
+length-laid_over : (image : List ℕ) (t : Descriptor) (k : ℕ) → length (laid_over image t k) ≡ length image
+length-laid_over image t k = length-after_moves image (moves_of ((t, k) ∷ []))
+
+-- ---- along the way
+
+-- Before instruction number n: where the channel has come, and at what the transfer touches the memory is the first one with
+-- the bytes stored so far laid over it.
+pub record Among (t : Descriptor) (first : List ℕ) (n : ℕ) (image : List ℕ) (c : ChannelValue) : Type 0 where
+  pub at : IsAt t n image c
+  pub same : (a : ℕ) → Touches t a → get_or image a 0 ≡ get_or (laid_over first t (stored_after t n)) a 0
+  pub long : length image ≡ length first
+
+module _ (t : Descriptor) (marks : MarkList) (first : List ℕ) (h : IsTransfer t) (below : lies_below t (length first) ≡ true) where
+  -- what step number n leaves at what the transfer touches, where it moves
+  left_same : (n : ℕ) (m : Shared) (c : ChannelValue) → Among t first n m.image c → (step_at t n marks m).0 ≡ Moved → (a : ℕ) → Touches t a → get_or (step_at t n marks m).1.image a 0 ≡ get_or (laid_over first t (stored_after t (n + 1))) a 0
+  left_same n m c w moved a touches =
+      let reads = read_places t n in
+      let writes = written_places t n in
+      let base = laid_over first t (stored_after t n) in
+      elim (is_store (member t n)) [
+        | inl e ↦
+            let goes : (effect_of St reads writes marks m).0 ≡ Moved = ap (λ (i : Insn). (effect_of i reads writes marks m).0) (sym e) ∙ moved in
+            let in_sources : (b : ℕ) → Contains reads b → Touches t b = λ b i. inl (Contains-drop (stored_after t n) (sources t) b (Contains-take (burst t n) (drop (stored_after t n) (sources t)) b i)) in
+            let bytes : read_at m.image reads ≡ read_at base reads = read_at-agrees m.image base reads (λ b i. w.same b (in_sources b i)) in
+            let long : length m.image ≡ length base = w.long ∙ sym (length-laid_over first t (stored_after t n)) in
+            ap (λ (i : Insn). get_or (effect_of i reads writes marks m).1.image a 0) e
+            ∙ ap (λ (i : List ℕ). get_or i a 0) (stores_where_moved reads writes marks m goes)
+            ∙ ap (λ (bs : List ℕ). get_or (put m.image (zip writes bs)) a 0) bytes
+            ∙ put-agrees m.image base (zip writes (read_at base reads)) a long (w.same a touches)
+            ∙ ap (λ (i : List ℕ). get_or i a 0) (laid_over_more first t (stored_after t n) (burst t n) h)
+            ∙ ap (λ (k : ℕ). get_or (laid_over first t k) a 0) (sym ((stored_is t h).by_store n e))
+        | inr ne ↦
+            ap (λ (i : List ℕ). get_or i a 0) (keeps_image (member t n) reads writes marks m ne)
+            ∙ w.same a touches
+            ∙ ap (λ (k : ℕ). get_or (laid_over first t k) a 0) (sym ((stored_is t h).by_other n ne))
+      ]
+
+  -- one instruction, and what others do after it
+  pub next : (n : ℕ) (m : Shared) (c d : ChannelValue) (other : List ℕ) → Among t first n m.image c → (step_of marks c m.image m.flags).0 ≡ Moved → d ≡ stepped marks c m.image m.flags → ((a : ℕ) → Touches t a → get_or other a 0 ≡ get_or (step_of marks c m.image m.flags).1.image a 0) → length other ≡ length first → Among t first (n + 1) other d
+  next n m c d other w moved goes spared long =
+      let fits : lies_below t (length m.image) ≡ true = subst (λ (k : ℕ). lies_below t k ≡ true) (sym w.long) below in
+      let st : StepAgrees t n marks m c = step_is t n marks m c h fits w.at in
+      let moves : (step_at t n marks m).0 ≡ Moved = sym st.turn ∙ moved in
+      let kept : (a : ℕ) → Touches t a → get_or other a 0 ≡ get_or (step_at t n marks m).1.image a 0 = λ a touches. spared a touches ∙ ap (λ (i : List ℕ). get_or i a 0) st.image in
+      record {
+        at = subst (λ (e : ChannelValue). IsAt t (n + 1) other e) (sym goes) (survives t (n + 1) (step_at t n marks m).1.image other (stepped marks c m.image m.flags) (st.goes_on moves) (λ a i. kept a (inl i)));
+        same = λ a touches. kept a touches ∙ left_same n m c w moves a touches;
+        long = long;
+      }
+
+pub copies_among_others : CopiesAmongOthers
+copies_among_others t marks channel image flags h below run a touches =
+    let first = image 0 in
+    let some = (shape_is t h).some in
+    let last : cost t - 1 + 1 ≡ cost t = omega arith in
+    let w = along (cost t - 1) (omega arith) in
+    w.same a touches ∙ ap (λ (k : ℕ). get_or (laid_over first t k) a 0) ((stored_is t h).all) ∙ ap (λ (i : List ℕ). get_or i a 0) (laid_over_all first t (size_of t))
+  where
+    along : (n : ℕ) → n < cost t → Among t (image 0) n (image n) (channel n)
+    along zero l = record {
+      at = subst (λ (c : ChannelValue). IsAt t 0 (image 0) c) (sym run.begins) (starts_at t (image 0) h);
+      same = λ b i. sym (ap (λ (k : ℕ). get_or (laid_over (image 0) t k) b 0) ((stored_is t h).none) ∙ ap (λ (x : List ℕ). get_or x b 0) (laid_over_none (image 0) t));
+      long = refl;
+    }
+    along (suc n) l =
+        let m : Shared = record { image = image n; flags = flags n } in
+        let less : n + 1 < cost t = omega arith in
+        let e : n + 1 ≡ suc n = omega arith in
+        subst (λ (k : ℕ). Among t (image 0) k (image k) (channel k)) e
+        (next t marks (image 0) h below n m (channel n) (channel (n + 1)) (image (n + 1)) (along n (omega arith)) (run.moves n less) (run.goes_on n less) (λ b i. run.spared n b less i) (run.size (n + 1)))

@@ -1,0 +1,174 @@
+-- Several channels with transfers' programs, which are stepped in turn over one memory.
+use Rattle.std.proofs.Common.{◌≡◌, ◌≢◌, ℕ, zero, suc, ◌+◌, ◌<◌, ◌⊎◌, Bool, true, false, List, [], ◌∷◌, length, drop, get_or, Option, Some, None, refl, sym, ap, ◌∙◌, subst, arith, inl, inr}
+use Rattle.std.specs.Prelude.{IsSome}
+use Rattle.std.specs.List.{zip, Contains}
+use Rattle.std.specs.Map.{keys_of}
+use Rattle.std.proofs.lemmas.Bool.{cases_eq}
+use Rattle.std.proofs.lemmas.List.Elements.{Contains-append_cases, Contains-append_left, Contains-append_right}
+use Rattle.dma_insn.specs.declared.insn.Insn.{Insn}
+use Rattle.dma_insn.specs.declared.insn.Insn.TheVariants.{St}
+use Rattle.dma_mem.specs.Places.{Descriptor, destinations, is_free_of, lies_below}
+use Rattle.dma_mem.specs.Marking.{MarkList, meets_mark}
+use Rattle.dma_mem.specs.Rules.{IsTransfer}
+use Rattle.dma_mem.specs.declared.marks.MarkKind.TheVariants.{Writing}
+use Rattle.dma_mem.proofs.ImagePut.{get_or-put_other}
+use Rattle.dma_mem.proofs.OverTransfers.{Contains-take, Contains-drop}
+use Rattle.dma_mem.proofs.SharedPlaces.{is_free_of-true}
+use Rattle.dma_chan.specs.declared.turn.ChanTurn.{ChanTurn}
+use Rattle.dma_chan.specs.declared.turn.ChanTurn.TheVariants.{Moved, Waiting, Ended, Fault}
+use Rattle.dma_chan.specs.Exec.{read_at}
+use Rattle.dma_chan.specs.Channel.{ChannelValue}
+use Rattle.dma_chan.specs.Programs.{ProgramValue}
+use Rattle.dma_chan.specs.Traffic.{member, burst, stored_after, read_places, written_places}
+use Rattle.dma_chan.specs.Layer.{Shared, effect_of}
+use Rattle.dma_chan.specs.Stepping.{Stand, left_at, after_steps, goes_on_after, TakesSteps}
+use Rattle.dma_chan.specs.Others.{Touches}
+use Rattle.dma_chan.specs.InTurn.{AreTogether, CalledInTurn, ChannelsCopyInTurn}
+use Rattle.dma_chan.proofs.ShapeLaws.{is_store}
+use Rattle.dma_chan.proofs.OthersKept.{writes_no_other}
+use Rattle.dma_chan.proofs.AmongOthers.{Among, keeps_image}
+use Rattle.dma_chan.proofs.CallsAmongOthers.{Leads, Runs, agrees, at_first, call, call_fails, many, survived}
+
+-- ---- what a step of a transfer's program leaves where the transfer doesn't write
+
+zip-keys : (ds bs : List ℕ) (a : ℕ) → Contains (keys_of (zip ds bs)) a → Contains ds a
+zip-keys [] bs a h = absurd (omega (arith, h.1))
+zip-keys (d ∷ ds) [] a h = absurd (omega (arith, h.1))
+zip-keys (d ∷ ds) (b ∷ bs) a h = elim (Contains-append_cases (d ∷ []) (keys_of (zip ds bs)) a h) [
+  | inl e ↦ Contains-append_left (d ∷ []) ds a e
+  | inr e ↦ Contains-append_right (d ∷ []) ds a (zip-keys ds bs a e)
+]
+
+store_spares : (reads writes : List ℕ) (marks : MarkList) (m : Shared) (a : ℕ) → ¬ Contains writes a → get_or (effect_of St reads writes marks m).1.image a 0 ≡ get_or m.image a 0
+store_spares reads writes marks m a outside = by (meets_mark Writing marks writes) refl
+  where
+    by : (b : Bool) → meets_mark Writing marks writes ≡ b → get_or (effect_of St reads writes marks m).1.image a 0 ≡ get_or m.image a 0
+    by true e = rw e refl
+    by false e = rw e (get_or-put_other m.image (zip writes (read_at m.image reads)) a (λ i. outside (zip-keys writes (read_at m.image reads) a i)))
+
+effect_spares : (i : Insn) (reads writes : List ℕ) (marks : MarkList) (m : Shared) (a : ℕ) → ¬ Contains writes a → get_or (effect_of i reads writes marks m).1.image a 0 ≡ get_or m.image a 0
+effect_spares i reads writes marks m a outside =
+    elim (is_store i) [
+      | inl e ↦ ap (λ (j : Insn). get_or (effect_of j reads writes marks m).1.image a 0) e ∙ store_spares reads writes marks m a outside
+      | inr ne ↦ ap (λ (x : List ℕ). get_or x a 0) (keeps_image i reads writes marks m ne)
+    ]
+
+module _ (t : Descriptor) (marks : MarkList) (first : List ℕ) (h : IsTransfer t) (below : lies_below t (length first) ≡ true) where
+  step_spares : (n : ℕ) (u : Stand) (a : ℕ) → Among t first n u.image u.channel → ¬ Contains (destinations t) a → get_or (left_at marks u).image a 0 ≡ get_or u.image a 0
+  step_spares n u a w outside =
+      let m : Shared = record { image = u.image; flags = u.flags } in
+      let not_written : ¬ Contains (written_places t n) a = λ i. outside (Contains-drop (stored_after t n) (destinations t) a (Contains-take (burst t n) (drop (stored_after t n) (destinations t)) a i)) in
+      ap (λ (x : List ℕ). get_or x a 0) (agrees t marks first h below n u w).image
+      ∙ effect_spares (member t n) (read_places t n) (written_places t n) marks m a not_written
+
+  steps_spare : (j : ℕ) (s : Stand) (a : ℕ) → Runs t marks first h below s → ((k : ℕ) → k < j → goes_on_after marks s k ≡ true) → ¬ Contains (destinations t) a → get_or (after_steps marks s j).image a 0 ≡ get_or s.image a 0
+  steps_spare zero s a r moves outside = refl
+  steps_spare (suc j) s a r moves outside =
+      let u = after_steps marks s j in
+      let w = many t marks first h below j s r moves in
+      step_spares w.0 u a w.1 outside ∙ steps_spare j s a r (λ k l. moves k (omega arith)) outside
+
+  pub call_spares : (s v : Stand) (most taken : ℕ) (last : Option ChanTurn) (a : ℕ) → Runs t marks first h below s → TakesSteps marks s most taken last v → ¬ Contains (destinations t) a → get_or v.image a 0 ≡ get_or s.image a 0
+  call_spares s v most taken last a r steps outside =
+      ap (λ (u : Stand). get_or u.image a 0) steps.leaves ∙ steps_spare taken s a r steps.moves outside
+
+steps_size : (marks : MarkList) (s : Stand) (n : ℕ) → length (after_steps marks s n).image ≡ length s.image
+steps_size marks s zero = refl
+steps_size marks s (suc n) =
+    let u = after_steps marks s n in
+    (writes_no_other marks u.channel u.image u.flags).size ∙ steps_size marks s n
+
+-- what a transfer touches, another that is free of it doesn't write
+free_outside : (t u : Descriptor) (a : ℕ) → is_free_of u t ≡ true → Touches t a → ¬ Contains (destinations u) a
+free_outside t u a free touched =
+    let apart = is_free_of-true u t free in
+    elim touched [ inl i ↦ λ w. apart.writes_no_source a w i | inr i ↦ λ w. apart.writes_none a w i ]
+
+not_none : (o : Option ProgramValue) → IsSome o → o ≡ None → ⊥
+not_none o some e = let bad = e in let w = some in grind arith
+
+-- ---- along the calls
+
+module _ (transfers : ℕ → Descriptor) (count : ℕ) (marks : MarkList) (calls : ℕ) (who : ℕ → ℕ) (channels : ℕ → ℕ → ChannelValue) (before after : ℕ → Stand) (last : ℕ → Option ChanTurn) (together : AreTogether transfers count (length (before 0).image)) (run : CalledInTurn transfers count marks calls who channels before after last) where
+  -- a channel goes on in its transfer's program
+  abbrev Goes : ℕ → Stand → Type 0
+  Goes ch u = (n : ℕ) × Among (transfers ch) (before 0).image n u.image u.channel
+
+  -- how a channel is found before a call
+  abbrev found : ℕ → ℕ → Stand
+  found k ch = record { channel = channels k ch; image = (before k).image; flags = (before k).flags }
+
+  -- it goes on, or it has ended
+  abbrev Is : ℕ → ℕ → Type 0
+  Is k ch = Goes ch (found k ch) ⊎ ((channels k ch).program ≡ None)
+
+  -- the channel of a call goes on
+  caller : (k : ℕ) → k < calls → Is k (who k) → Goes (who k) (before k)
+  caller k l (inl r) = (r.0, subst (λ (c : ChannelValue). Among (transfers (who k)) (before 0).image r.0 (before k).image c) (sym (run.finds k l)) r.1)
+  caller k l (inr none) = absurd (not_none (before k).channel.program (run.is_loaded k l) (ap (λ (c : ChannelValue). c.program) (run.finds k l) ∙ none))
+
+  -- after the call it goes on or has ended
+  either_way : (k : ℕ) (l : who k < count) (o : Option ChanTurn) (v : Stand) → Leads (transfers (who k)) marks (before 0).image (together.rules (who k) l) (together.below (who k) l) o v → Goes (who k) v ⊎ (v.channel.program ≡ None)
+  either_way k l None v r = inl r
+  either_way k l (Some Moved) v r = inl r
+  either_way k l (Some (Waiting x)) v r = inl r
+  either_way k l (Some (Fault kind)) v r = inl r
+  either_way k l (Some Ended) v d = inr d.dropped
+
+  called : (k : ℕ) (l : k < calls) → Goes (who k) (before k) → Leads (transfers (who k)) marks (before 0).image (together.rules (who k) (run.within k l)) (together.below (who k) (run.within k l)) (last k) (after k)
+  called k l r =
+      let s = run.steps k l in
+      call (transfers (who k)) marks (before 0).image (together.rules (who k) (run.within k l)) (together.below (who k) (run.within k l)) (before k) (after k) s.0 s.1 (last k) r s.2
+
+  -- the channel of the call, as the next call finds it
+  own : (k : ℕ) (l : k < calls) → k + 1 < calls → Goes (who k) (after k) ⊎ ((after k).channel.program ≡ None) → Is (k + 1) (who k)
+  own k l less (inl r) =
+      let w = run.within k l in
+      inl (survived (transfers (who k)) marks (before 0).image (together.rules (who k) w) (together.below (who k) w) (after k) (found (k + 1) (who k)) r (run.leaves k l) (λ a i. run.spared k (who k) a less w i) (run.size k less))
+  own k l less (inr none) = inr (ap (λ (c : ChannelValue). c.program) (run.leaves k l) ∙ none)
+
+  -- any other one
+  other : (k ch : ℕ) (l : k < calls) → k + 1 < calls → (within : ch < count) → ch ≢ who k → Goes (who k) (before k) → Is k ch → Is (k + 1) ch
+  other k ch l less within ne r (inl q) =
+      let w = run.within k l in
+      let s = run.steps k l in
+      let free = together.free (who k) ch w within (λ e. ne (sym e)) in
+      let spares : (a : ℕ) → Touches (transfers ch) a → get_or (before (k + 1)).image a 0 ≡ get_or (before k).image a 0 = λ a i.
+      run.spared k ch a less within i
+      ∙ call_spares (transfers (who k)) marks (before 0).image (together.rules (who k) w) (together.below (who k) w) (before k) (after k) s.0 s.1 (last k) a r s.2 (free_outside (transfers ch) (transfers (who k)) a free i) in
+      let long : length (before (k + 1)).image ≡ length (before k).image = run.size k less ∙ ap (λ (u : Stand). length u.image) s.2.leaves ∙ steps_size marks (before k) s.1 in
+      inl (survived (transfers ch) marks (before 0).image (together.rules ch within) (together.below ch within) (found k ch) (found (k + 1) ch) q (run.others k ch l ne) spares long)
+  other k ch l less within ne r (inr none) = inr (ap (λ (c : ChannelValue). c.program) (run.others k ch l ne) ∙ none)
+
+  along : (k : ℕ) → k < calls → (ch : ℕ) → ch < count → Is k ch
+  along zero l ch within = inl (at_first (transfers ch) marks (before 0).image (together.rules ch within) (together.below ch within) (found 0 ch) (run.begins ch within) refl)
+  along (suc k) l ch within =
+      let e : k + 1 ≡ suc k = omega arith in
+      let less : k + 1 < calls = omega arith in
+      let here : k < calls = omega arith in
+      let w = run.within k here in
+      let r = caller k here (along k here (who k) w) in
+      let prior = along k here ch within in
+      subst (λ (j : ℕ). Is j ch) e
+      (elim (cases_eq ch (who k)) [
+        | inl same ↦ subst (λ (d : ℕ). Is (k + 1) d) (sym same) (own k here less (either_way k w (last k) (after k) (called k here r)))
+        | inr ne ↦ other k ch here less within ne r prior
+      ])
+
+  pub calls_go : (k : ℕ) (l : k < calls) → Goes (who k) (before k)
+  calls_go k l = caller k l (along k l (who k) (run.within k l))
+
+  pub calls_lead : (k : ℕ) (l : k < calls) → Leads (transfers (who k)) marks (before 0).image (together.rules (who k) (run.within k l)) (together.below (who k) (run.within k l)) (last k) (after k)
+  calls_lead k l = called k l (calls_go k l)
+
+pub channels_copy_in_turn : ChannelsCopyInTurn
+channels_copy_in_turn transfers count marks calls who channels before after last together run = record {
+  copies = λ k a l over touches.
+      let t = transfers (who k) in
+      let w = run.within k l in
+      (subst (λ (o : Option ChanTurn). Leads t marks (before 0).image (together.rules (who k) w) (together.below (who k) w) o (after k)) over (calls_lead transfers count marks calls who channels before after last together run k l)).all a touches;
+  never_fails = λ none k kind l.
+      let w = run.within k l in
+      let s = run.steps k l in
+      call_fails (transfers (who k)) marks (before 0).image (together.rules (who k) w) (together.below (who k) w) (before k) (after k) s.0 s.1 (last k) kind none (calls_go transfers count marks calls who channels before after last together run k l) s.2;
+}

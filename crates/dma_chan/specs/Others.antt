@@ -1,0 +1,75 @@
+-- Channels that are stepped over a memory that others write between the steps.
+use Rattle.std.specs.Prelude.{◌≡◌, ◌≢◌, ℕ, ◌+◌, ◌-◌, ◌<◌, ◌⊎◌, Bool, true, List, [], length, slice_index, Option, Some, IsSome}
+use Rattle.std.specs.List.{Contains}
+use Rattle.dma_mem.specs.Places.{Descriptor, sources, destinations, size_of, lies_below}
+use Rattle.dma_mem.specs.Image.{laid}
+use Rattle.dma_mem.specs.Marking.{MarkList}
+use Rattle.dma_mem.specs.Rules.{IsTransfer}
+use Rattle.dma_chan.specs.declared.turn.ChanTurn.{ChanTurn}
+use Rattle.dma_chan.specs.declared.turn.ChanTurn.TheVariants.{Moved, Ended, Fault}
+use Rattle.dma_chan.specs.declared.turn.FaultKind.{FaultKind}
+use Rattle.dma_chan.specs.Channel.{ChannelValue, loaded, step_of, stepped}
+use Rattle.dma_chan.specs.Compiled.{cost, compiled}
+use Rattle.dma_chan.specs.Stepping.{Stand, TakesSteps}
+use Rattle.dma_chan.specs.NextWrites.{written_next}
+
+-- whether a transfer reads or writes an address
+abbrev pub Touches : Descriptor → ℕ → Type 0
+Touches t a = Contains (sources t) a ⊎ Contains (destinations t) a
+
+-- A channel executes a transfer's program up to its DMAEND. Before instruction number n it stands so, and this is the memory
+-- and these are the flags that it finds. Between two instructions others may write any byte that the transfer neither reads
+-- nor writes, and do to the flags what they like.
+pub record RunsAmongOthers (t : Descriptor) (marks : MarkList) (channel : ℕ → ChannelValue) (image : ℕ → List ℕ) (flags : ℕ → List Bool) : Type 0 where
+  pub begins : channel 0 ≡ loaded (compiled t)
+  pub moves : (n : ℕ) → n + 1 < cost t → (step_of marks (channel n) (image n) (flags n)).0 ≡ Moved
+  pub goes_on : (n : ℕ) → n + 1 < cost t → channel (n + 1) ≡ stepped marks (channel n) (image n) (flags n)
+  pub spared : (n a : ℕ) → n + 1 < cost t → Touches t a →
+      slice_index (image (n + 1)) a ≡ slice_index (step_of marks (channel n) (image n) (flags n)).1.image a
+  pub size : (n : ℕ) → length (image n) ≡ length (image 0)
+
+-- In a memory that has its ranges, what it touches then is what one simultaneous copy of all its bytes leaves there of the
+-- memory that it began with.
+abbrev pub CopiesAmongOthers : Type 0
+CopiesAmongOthers =
+    (t : Descriptor) (marks : MarkList) (channel : ℕ → ChannelValue) (image : ℕ → List ℕ) (flags : ℕ → List Bool) → IsTransfer t →
+    lies_below t (length (image 0)) ≡ true → RunsAmongOthers t marks channel image flags →
+    (a : ℕ) → Touches t a → slice_index (image (cost t - 1)) a ≡ slice_index (laid (image 0) t (size_of t)) a
+
+-- What an instruction leaves of a memory: as many bytes, and but for those that a DMAST writes, the same. It holds of each
+-- program, also of one that was not compiled.
+pub record KeepsOthers (before after : List ℕ) (c : ChannelValue) : Type 0 where
+  pub size : length after ≡ length before
+  pub bytes : (a : ℕ) → ¬ Contains (written_next c) a → slice_index after a ≡ slice_index before a
+
+-- Each instruction does.
+abbrev pub WritesNoOther : Type 0
+WritesNoOther =
+    (marks : MarkList) (c : ChannelValue) (image : List ℕ) (flags : List Bool) → KeepsOthers image (step_of marks c image flags).1.image c
+
+-- ---- by calls, each of which takes steps in a row
+
+-- Calls on a channel into which a transfer's program was loaded: each finds it loaded and takes steps, from one stand to another.
+-- Between two calls others may write any byte that the transfer neither reads nor writes, and do to the flags what they like.
+pub record CalledAmongOthers (t : Descriptor) (marks : MarkList) (calls : ℕ) (before after : ℕ → Stand) (last : ℕ → Option ChanTurn) : Type 0 where
+  pub begins : (before 0).channel ≡ loaded (compiled t)
+  pub is_loaded : (k : ℕ) → k < calls → IsSome (before k).channel.program
+  pub steps : (k : ℕ) → k < calls → (most : ℕ) × (taken : ℕ) × TakesSteps marks (before k) most taken (last k) (after k)
+  pub goes_on : (k : ℕ) → k + 1 < calls → (before (k + 1)).channel ≡ (after k).channel
+  pub spared : (k a : ℕ) → k + 1 < calls → Touches t a →
+      slice_index (before (k + 1)).image a ≡ slice_index (after k).image a
+  pub size : (k : ℕ) → k + 1 < calls → length (before (k + 1)).image ≡ length (after k).image
+
+-- What such calls come to: what the transfer touches is, after the call that ends, what one simultaneous copy of all its bytes
+-- leaves there of the memory that the first call found; and without marks no call fails.
+pub record CallsCopy (t : Descriptor) (marks : MarkList) (calls : ℕ) (before after : ℕ → Stand) (last : ℕ → Option ChanTurn) : Type 0 where
+  pub copies : (k a : ℕ) → k < calls → last k ≡ Some Ended → Touches t a →
+      slice_index (after k).image a ≡ slice_index (laid (before 0).image t (size_of t)) a
+  pub never_fails : marks ≡ [] → (k : ℕ) (kind : FaultKind) → k < calls → last k ≢ Some (Fault kind)
+
+-- Over a memory that has the transfer's ranges they do.
+abbrev pub CallsCopyAmongOthers : Type 0
+CallsCopyAmongOthers =
+    (t : Descriptor) (marks : MarkList) (calls : ℕ) (before after : ℕ → Stand) (last : ℕ → Option ChanTurn) → IsTransfer t →
+    lies_below t (length (before 0).image) ≡ true → CalledAmongOthers t marks calls before after last →
+    CallsCopy t marks calls before after last

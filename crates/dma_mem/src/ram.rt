@@ -1,0 +1,185 @@
+//! What a channel's bursts need of a memory, and a memory over bytes that a caller lends.
+
+ghost use Rattle.std.specs.Prelude.{◌≡◌, ℕ, ◌+◌, ◌≤◌, ◌⊎◌, ◌++◌, length, take, drop, replicate, nat_lt, true, if◌then◌else◌, IfOk, IfErr, OnOk, OnErr};
+ghost use Rattle.std.specs.List.{list_all, range_with_len};
+ghost use Rattle.dma_mem.specs.Places.{range_of};
+ghost use Rattle.dma_mem.specs.Image.{put, bytes_at};
+ghost use Rattle.dma_mem.specs.Pages.{Paged, is_made, AllMade, Keeps, MakesNoOther};
+
+use crate::memory::{MemFault, Memory};
+use crate::segment::Segment;
+use crate::table::blocks::{copy_bytes, fill_bytes};
+use crate::table::put_parts;
+
+/// A memory that bursts read and write: bytes at the addresses from 0 up to its size, some of which are ready to be written.
+pub trait Ram {
+    // Its image, and which of its pages are made.
+    ghost paged: { Self → Paged };
+
+    // The loan by which it is reached, where it is lent. No call changes it.
+    ghost loan: { Self → ℕ };
+
+    /// How many bytes it has.
+    fn size(&self) -> u32
+        ensures { result ≡ length (paged self.now).image };
+
+    /// Whether each address of a segment lies below the size and on a page.
+    fn made(&self, segment: Segment) -> bool
+        ensures { result ≡ list_all (is_made (paged self.now)) (range_of segment) };
+
+    /// The bytes from an address on, as many as the block has: in place where they are in one piece, else the block, filled
+    /// with them.
+    fn bytes<'a>(&'a self, addr: u32, block: &'a mut [u8]) -> &'a [u8]
+        requires { addr + length block.old ≤ length (paged self.now).image }
+        ensures { result.now ≡ take (length block.old) (drop addr (paged self.now).image) };
+
+    /// Makes the pages of a segment where they aren't made.
+    ///
+    /// The error is `OutOfMemoryRange` where the segment ends above the size, and nothing has changed; else `NoMemory`, and
+    /// some of its pages may have been made.
+    fn prepare(&mut self, segment: Segment) -> Result<(), MemFault>
+        ensures ok { OnOk result (AllMade (paged self.new) (range_of segment)) }
+        ensures within { OnOk result (segment.addr + segment.len ≤ length (paged self.old).image) }
+        ensures short { segment.addr + segment.len ≤ length (paged self.old).image → OnErr result (¬ AllMade (paged self.new) (range_of segment)) }
+        ensures image { (paged self.new).image ≡ (paged self.old).image }
+        ensures keeps { Keeps (paged self.old) (paged self.new) }
+        ensures others { MakesNoOther (paged self.old) (paged self.new) (range_of segment) }
+        ensures err { IfErr result (λ fault. fault ≡ (if nat_lt (length (paged self.old).image) (segment.addr + segment.len) then MemFault.OutOfMemoryRange else MemFault.NoMemory)) }
+        ensures refused { nat_lt (length (paged self.old).image) (segment.addr + segment.len) ≡ true → paged self.new ≡ paged self.old }
+        ensures loan { loan self.new ≡ loan self.old };
+
+    /// Writes the bytes of two slices, those of the second behind those of the first, from an address on, to pages that
+    /// are made.
+    fn write_parts(&mut self, addr: u32, front: &[u8], back: &[u8])
+        requires within { addr + length front.now + length back.now ≤ length (paged self.old).image }
+        requires made { AllMade (paged self.old) (range_with_len addr (length front.now + length back.now)) }
+        ensures image { (paged self.new).image ≡ put (paged self.old).image (bytes_at addr (front.now ++ back.now)) }
+        ensures made { (paged self.new).made ≡ (paged self.old).made }
+        ensures loan { loan self.new ≡ loan self.old };
+
+    /// Copies `len` bytes from one address on to another on, whose pages are made. The two ranges share no address.
+    fn copy_apart(&mut self, from: u32, to: u32, len: u32)
+        requires source { from + len ≤ length (paged self.old).image }
+        requires within { to + len ≤ length (paged self.old).image }
+        requires made { AllMade (paged self.old) (range_with_len to len) }
+        requires apart { (from + len ≤ to) ⊎ (to + len ≤ from) }
+        ensures image { (paged self.new).image ≡ put (paged self.old).image (bytes_at to (take len (drop from (paged self.old).image))) }
+        ensures made { (paged self.new).made ≡ (paged self.old).made }
+        ensures loan { loan self.new ≡ loan self.old };
+
+    /// Fills `len` bytes from an address on, whose pages are made, with one byte.
+    fn fill(&mut self, addr: u32, len: u32, byte: u8)
+        requires within { addr + len ≤ length (paged self.old).image }
+        requires made { AllMade (paged self.old) (range_with_len addr len) }
+        ensures image { (paged self.new).image ≡ put (paged self.old).image (bytes_at addr (replicate len byte)) }
+        ensures made { (paged self.new).made ≡ (paged self.old).made }
+        ensures loan { loan self.new ≡ loan self.old };
+}
+
+impl Ram for Memory {
+    ghost paged = { λ m. m };
+
+    ghost loan = { λ _. 0 };
+
+    #[inline(always)]
+    fn size(&self) -> u32 {
+        Memory::size(self)
+    }
+
+    #[inline(always)]
+    fn made(&self, segment: Segment) -> bool {
+        Memory::made(self, segment)
+    }
+
+    #[inline(always)]
+    fn bytes<'a>(&'a self, addr: u32, block: &'a mut [u8]) -> &'a [u8] {
+        Memory::bytes(self, addr, block)
+    }
+
+    #[inline(always)]
+    fn prepare(&mut self, segment: Segment) -> Result<(), MemFault> {
+        Memory::prepare(self, segment)
+    }
+
+    #[inline(always)]
+    fn write_parts(&mut self, addr: u32, front: &[u8], back: &[u8]) {
+        Memory::write_parts(self, addr, front, back);
+    }
+
+    #[inline(always)]
+    fn copy_apart(&mut self, from: u32, to: u32, len: u32) {
+        Memory::copy_apart(self, from, to, len);
+    }
+
+    #[inline(always)]
+    fn fill(&mut self, addr: u32, len: u32, byte: u8) {
+        Memory::fill(self, addr, len, byte);
+    }
+}
+
+/// Bytes that a caller lends, as a memory from address 0 on. All of its pages are made.
+#[derive(Drop)]
+pub struct LentRam<'a> {
+    pub bytes: &'a mut [u8],
+    ghost fits: { length bytes.now ≤ 4294963200 },
+}
+
+impl<'a> LentRam<'a> {
+    /// Returns the memory of these bytes.
+    pub fn over(bytes: &'a mut [u8]) -> LentRam<'a>
+        requires { length bytes.old ≤ 4294963200 }
+        ensures same_reference { result.bytes.ghost_name ≡ bytes.entry.ghost_name }
+        ensures bytes { result.bytes.now ≡ bytes.old }
+    {
+        LentRam { bytes }
+    }
+}
+
+impl Ram for LentRam<'_> {
+    ghost use Rattle.dma_mem.specs.Pages.{whole};
+
+    ghost paged = { λ r. whole r.bytes.now };
+
+    ghost loan = { λ r. r.bytes.ghost_name };
+
+    #[inline(always)]
+    fn size(&self) -> u32 {
+        self.bytes.len() as u32
+    }
+
+    #[inline(always)]
+    #[tactic(auto, using(crate::proofs::WholeMemory::whole_tested))]
+    fn made(&self, segment: Segment) -> bool {
+        if segment.len == 0 {
+            return true;
+        }
+        segment.addr as usize + segment.len as usize <= self.bytes.len()
+    }
+
+    #[inline(always)]
+    fn bytes<'a>(&'a self, addr: u32, block: &'a mut [u8]) -> &'a [u8] {
+        let start = addr as usize;
+        &self.bytes[start..start + block.len()]
+    }
+
+    #[tactic(auto, using(crate::proofs::WholeMemory::whole_all))]
+    fn prepare(&mut self, segment: Segment) -> Result<(), MemFault> {
+        if segment.addr as usize + segment.len as usize > self.bytes.len() {
+            return Err(MemFault::OutOfMemoryRange);
+        }
+        Ok(())
+    }
+
+    #[inline(always)]
+    fn write_parts(&mut self, addr: u32, front: &[u8], back: &[u8]) {
+        put_parts(self.bytes, addr as usize, front, back);
+    }
+
+    fn copy_apart(&mut self, from: u32, to: u32, len: u32) {
+        copy_bytes(self.bytes, from as usize, to as usize, len as usize);
+    }
+
+    fn fill(&mut self, addr: u32, len: u32, byte: u8) {
+        fill_bytes(self.bytes, addr as usize, len as usize, byte);
+    }
+}
