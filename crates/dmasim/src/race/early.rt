@@ -44,11 +44,7 @@ fn count_reply(count: Result<u32, EngineFault>) -> Reply
 }
 
 /// Appends the line of a call, or nothing. Where memory was refused it prints nothing and the script ends.
-fn push_answer(
-    call: &Call,
-    reply: &Reply,
-    out: &mut Vec<u8>,
-) -> Result<(), AllocError>
+fn push_answer(call: &Call, reply: &Reply, out: &mut Vec<u8>) -> Result<(), AllocError>
     ensures ok { OnOk result ((reply.now ≢ Reply.Refused EngineFault.NoMemory) × (out.new.items ≡ out.old.items ++ text_of (call_line call.now reply.now ∷ []))) }
     ensures err { OnErr result (out.new.items ≡ out.old.items) }
 {
@@ -199,11 +195,7 @@ fn result_early<N: DeskName, R: Wait>(
     let mut desk = shared.desk().lock(rt);
     let outcome = desk.result(ch, cookie);
     MutexGuard::unlock(desk);
-    push_answer(
-        &Call::Result { ch, cookie },
-        &Reply::Result(outcome),
-        out,
-    )
+    push_answer(&Call::Result { ch, cookie }, &Reply::Result(outcome), out)
 }
 
 /// Carries out `status CH COOKIE`, which asks the reader and takes no lock.
@@ -218,11 +210,7 @@ fn status_early(
     ensures same { (reader.new.log ≡ reader.old.log) × (reader.new.base ≡ reader.old.base) }
 {
     match reader.status(ch, cookie) {
-        Some(status) => push_answer(
-            &Call::Status { ch, cookie },
-            &Reply::State(status),
-            out,
-        ),
+        Some(status) => push_answer(&Call::Status { ch, cookie }, &Reply::State(status), out),
         None => push_line(out, b"status none"),
     }
 }
@@ -242,9 +230,7 @@ fn run_early_statement<N: DeskName, R: Wait>(
     ensures follows { (N.log ≡ reader.new.log) × (N.base ≡ reader.new.base) }
 {
     match statement {
-        Statement::Write { addr, bytes } => {
-            write_early(rt, shared, addr, bytes.as_slice(), out)
-        }
+        Statement::Write { addr, bytes } => { write_early(rt, shared, addr, bytes.as_slice(), out) }
         Statement::Read(segment) => read_early(rt, shared, segment, out),
         Statement::Submit { ch, transfer } => {
             submit_early(rt, shared, reader, ch, transfer.into_inner(), out)
@@ -287,13 +273,7 @@ impl<N: DeskName, R: Wait> Interpreter for LinesOnDesk<'_, N, R> {
     ghost acts = { λ _ statement group _. (line : List ℕ) × (group ≡ line ∷ []) × EarlyPrints statement line };
 
     fn interpret(&mut self, line: Statement, out: &mut Vec<u8>) -> Result<(), AllocError> {
-        run_early_statement(
-            self.rt,
-            self.shared,
-            &mut self.reader,
-            line,
-            out,
-        )
+        run_early_statement(self.rt, self.shared, &mut self.reader, line, out)
     }
 }
 
@@ -311,10 +291,6 @@ pub fn run_early_statements<N: DeskName, R: Wait>(
     ensures ok { OnOk result (PrintsAll lines out.old.items out.new.items) }
     ensures err { OnErr result (PrintsFirst lines out.old.items out.new.items) }
 {
-    let mut desk = LinesOnDesk {
-        rt,
-        shared,
-        reader,
-    };
+    let mut desk = LinesOnDesk { rt, shared, reader };
     interpret_lines(&mut desk, lines.into_vec(), out)
 }
