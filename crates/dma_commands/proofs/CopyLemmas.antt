@@ -1,6 +1,6 @@
 -- A copy is stepped through.
 use Rattle.std.proofs.Common.{◌≡◌, ◌≢◌, ℕ, ◌+◌, true, false, if◌then◌else◌, refl, ap, sym, ◌∙◌, zero, suc, arith}
-use Rattle.std.specs.Prelude.{replicate, Some, None, Result}
+use Rattle.std.specs.Prelude.{replicate, Some, None, Result, Ok, Err}
 use Rattle.dma_engine.specs.declared.advance.Advanced.{Advanced}
 use Rattle.dma_engine.specs.declared.call.Call.TheVariants.{Step}
 use Rattle.dma_engine.specs.declared.call.Reply.{Reply}
@@ -62,3 +62,8 @@ pub advanced-end : (v w : View) (told : Advanced) (last : Result Turn EngineFaul
 advanced-end v w told last reply left all sum h some is off =
     let parts = last-answer v w 0 told last reply h some is in
     stepped-end left parts.0 w reply parts.2 off ∙ sym (moved-through told.moved left all v parts.0 sum parts.1)
+
+-- an answer after which a copy goes on is no refusal
+pub goes-on-moved : (last : Result Turn EngineFault) → goes_on (reply_of Turned last) ≡ true → reply_of Turned last ≢ Refused NoMemory
+goes-on-moved (Ok turn) on = λ bad. cc
+goes-on-moved (Err fault) on = λ bad. absurd (let no : false ≡ true = on in cc)

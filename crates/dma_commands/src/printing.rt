@@ -34,7 +34,7 @@ fn transfer_fault_name(fault: TransferFault) -> &'static str
 }
 
 /// The name of the rule that a transfer breaks. Where memory was refused there is none, and the error comes.
-pub fn rule_name(fault: TransferFault) -> Result<&'static str, AllocError>
+pub(crate) fn rule_name(fault: TransferFault) -> Result<&'static str, AllocError>
     ensures ok { IfOk result (λ name. (fault ≢ TransferFault.NoMemory) × (name.now ≡ transfer_fault_name fault)) }
     ensures err { OnErr result (fault ≡ TransferFault.NoMemory) }
 {
@@ -69,7 +69,7 @@ fn status_name(status: Status) -> &'static str
 
 /// A text, at the end.
 #[inline(always)]
-pub fn push_text(line: &mut Vec<u8>, text: &str) -> Result<(), AllocError>
+pub(crate) fn push_text(line: &mut Vec<u8>, text: &str) -> Result<(), AllocError>
     ensures ok { OnOk result (line.new.items ≡ line.old.items ++ text.now) }
     ensures begins { Begins line.new.items line.old.items }
 {
@@ -219,7 +219,10 @@ pub(crate) fn push_reply(line: &mut Vec<u8>, reply: &Reply) -> Result<(), AllocE
 
 /// Appends what is printed of the answer to a step.
 #[inline(always)]
-pub fn push_turned(line: &mut Vec<u8>, turned: Result<Turn, EngineFault>) -> Result<(), AllocError>
+pub(crate) fn push_turned(
+    line: &mut Vec<u8>,
+    turned: Result<Turn, EngineFault>,
+) -> Result<(), AllocError>
     ensures ok { OnOk result (line.new.items ≡ line.old.items ++ reply_text (reply_of (λ turn. Reply.Turned turn) turned)) }
     ensures begins { Begins line.new.items line.old.items }
 {
@@ -289,7 +292,7 @@ fn push_read_bytes(line: &mut Vec<u8>, addr: u32, bytes: &[u8]) -> Result<(), Al
 /// Ends the line that begins after the first `start` bytes of the output. Where one of its parts or the line feed is refused
 /// memory, it removes the line and returns the error.
 #[inline(always)]
-pub fn end_line(
+pub(crate) fn end_line(
     out: &mut Vec<u8>,
     start: usize,
     parts: Result<(), AllocError>,

@@ -19,6 +19,8 @@ mod insn_control;
 #[cfg(test)]
 mod insn_refused;
 #[cfg(test)]
+mod lent;
+#[cfg(test)]
 mod mem;
 #[cfg(test)]
 mod mem_refused;

@@ -160,13 +160,24 @@ fn a_memory_has_what_was_written(rt: HostRuntime) -> Result<(), Fail> {
     Ok(())
 }
 
-// Copies three bytes that lie on two pages to two other pages, and sets three bytes that lie on two pages.
-fn move_blocks(rt: &impl Abort, memory: &mut Memory) -> Result<(), MemFault> {
+// Copies three bytes that lie on two pages to two other pages.
+fn copy_three(rt: &impl Abort, memory: &mut Memory) -> Result<(), MemFault> {
     memory.write(0x0FFE, &[1, 2, 3])?;
-    memory.prepare(segment(0x2FFF, 3))?;
+    memory.prepare(Segment {
+        addr: 0x2FFF,
+        len: 3,
+    })?;
     assert!(rt; memory.size() == 0x4000);
     memory.copy_apart(0x0FFE, 0x2FFF, 3);
-    memory.prepare(segment(0x1FFE, 3))?;
+    Ok(())
+}
+
+// Fills three addresses that lie on two pages.
+fn fill_three(rt: &impl Abort, memory: &mut Memory) -> Result<(), MemFault> {
+    memory.prepare(Segment {
+        addr: 0x1FFE,
+        len: 3,
+    })?;
     assert!(rt; memory.size() == 0x4000);
     memory.fill(0x1FFE, 3, 7);
     Ok(())
@@ -175,7 +186,8 @@ fn move_blocks(rt: &impl Abort, memory: &mut Memory) -> Result<(), MemFault> {
 #[test]
 fn blocks_are_moved_across_pages(rt: HostRuntime) -> Result<(), Fail> {
     let mut memory = Memory::new(rt.alloc(), 0x4000)?;
-    move_blocks(&rt, &mut memory)?;
+    copy_three(&rt, &mut memory)?;
+    fill_three(&rt, &mut memory)?;
     let mut buf = [9; 5];
     assert!(rt; memory.read_into(0x2FFE, &mut buf) == Ok(()));
     assert!(rt; buf == [0, 1, 2, 3, 0]);

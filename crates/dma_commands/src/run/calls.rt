@@ -24,7 +24,7 @@ use dma_script::printing::push_line;
 use std::alloc::AllocError;
 
 /// Carries out one call. Where memory is refused the error comes.
-pub fn reply_to(engine: &mut Engine, call: &Call) -> Result<Reply, AllocError>
+pub(crate) fn reply_to(engine: &mut Engine, call: &Call) -> Result<Reply, AllocError>
     ensures answer { IfOk result (λ reply. (reply, engine.new.view) ≡ answer engine.old.view call.now) }
     ensures refused { OnErr result (CallAnswers engine.old.view call.now (Reply.Refused EngineFault.NoMemory) engine.new.view) }
 {

@@ -1,6 +1,6 @@
 //! The lines of a script that copy or fill: submitted to channel 0, issued, and stepped through.
 ghost use Rattle.std.specs.Prelude.{◌≡◌, OnOk, OnErr, IfOk};
-ghost use Rattle.dma_engine.specs.Answer.{answer};
+ghost use Rattle.dma_engine.specs.Answer.{answer, reply_of};
 ghost use Rattle.dma_commands.specs.inner.RunSteps.{AnswersLine};
 ghost use Rattle.dma_commands.specs.Run.{CopiesEnd, carried_through, copied_after, copy_answer, fill_answer, goes_on, is_in_use, most_steps, stepped_through, through_answer};
 ghost use Rattle.dma_commands.specs.Transfers.{transfer_of};
@@ -10,7 +10,7 @@ use crate::run::calls::{push_unfit, reply_to};
 use crate::run::steps::step_reply;
 use crate::transfers::transfer_of;
 use dma_engine::advance::advance;
-use dma_engine::{Call, Engine, Reply, Turn};
+use dma_engine::{Call, Engine, EngineFault, Reply, Turn};
 use dma_mem::lists::Segments;
 use dma_mem::transfer::Transfer;
 use dma_script::apart::Apart;
@@ -29,11 +29,11 @@ fn is_in_use(engine: &Engine) -> bool
     engine.unfinished(0) > 0 || engine.paused(0) || engine.halted(0)
 }
 
-/// Whether a copy or a fill goes on after such an answer.
-fn goes_on(reply: &Reply) -> bool
-    ensures { result ≡ goes_on reply.now }
+/// Whether a copy or a fill goes on after a step with this answer.
+fn goes_on(answer: Result<Turn, EngineFault>) -> bool
+    ensures { result ≡ goes_on (reply_of (λ turn. Reply.Turned turn) answer) }
 {
-    matches!(reply, Reply::Turned(Turn::Started(_) | Turn::Moved))
+    matches!(answer, Ok(Turn::Started(_) | Turn::Moved))
 }
 
 /// Steps channel 0 until an answer is neither Started nor Moved.
@@ -45,9 +45,8 @@ fn step_through(engine: &mut Engine) -> Result<Reply, AllocError>
         let steps = advance(engine, 0, left);
         left -= steps.moved;
         if let Some(last) = steps.last {
-            let reply = step_reply(last)?;
-            if !goes_on(&reply) {
-                return Ok(reply);
+            if !goes_on(last) {
+                return step_reply(last);
             }
             left -= 1;
         }

@@ -1,7 +1,9 @@
 use Rattle.std.proofs.Common.{◌≡◌, ℕ, ◌+◌, ◌-◌, ap, refl, sym, ◌∙◌, arith, suc}
 use Rattle.std.proofs.lemmas.Result.{IfOk-weaker}
-use Rattle.dma_commands.specs.Run.{stepped_through}
-use Rattle.dma_commands.proofs.CopyLemmas.{advanced-end, advanced-moved, advanced-on, stepped-last}
+use Rattle.dma_engine.specs.Answer.{reply_of}
+use Rattle.dma_engine.specs.declared.call.Reply.TheVariants.{Turned}
+use Rattle.dma_commands.specs.Run.{goes_on, stepped_through}
+use Rattle.dma_commands.proofs.CopyLemmas.{advanced-end, advanced-moved, advanced-on, goes-on-moved, stepped-last}
 use Rattle.dma_commands.proofs.run.copies.step_through.Goals as goal
 
 pub returns-then-not-goes_on : goal.returns-then-not-goes_on
@@ -9,26 +11,21 @@ returns-then-not-goes_on c =
     let n = c.advance-steps.result.moved in
     let few = rw c.in-Some.is at c.advance-steps.ensures.other in
     let all : n + (c.loop-left.left - n) ≡ c.loop-left.left = omega (arith, few.0) in
-    advanced-end c.loop-left.engine.view c.advance-steps.new.engine.view c.advance-steps.result c.in-Some.last c.in_ok-reply.reply (c.loop-left.left - n) c.loop-left.left all c.advance-steps.ensures.answers c.in-Some.is c.in_ok-reply.ensures.reply (sym c.goes_on.ensures ∙ c.if-not-goes_on.true)
-    ∙ sym c.loop-left.invariant
+    let off = sym c.goes_on.ensures ∙ c.if-not-goes_on.true in
+    IfOk-weaker c.step_reply.result _ _
+    (λ reply is. advanced-end c.loop-left.engine.view c.advance-steps.new.engine.view c.advance-steps.result c.in-Some.last reply (c.loop-left.left - n) c.loop-left.left all c.advance-steps.ensures.answers c.in-Some.is is (ap goes_on is.0 ∙ off)
+    ∙ sym c.loop-left.invariant)
+    c.step_reply.ensures.reply
 
-pub loop-left-preserved-else-not-goes_on-2 : goal.loop-left-preserved-else-not-goes_on-2
-loop-left-preserved-else-not-goes_on-2 c =
+pub loop-left-preserved-in-Some : goal.loop-left-preserved-in-Some
+loop-left-preserved-in-Some c =
     let n = c.advance-steps.result.moved in
     let few = rw c.in-Some.is at c.advance-steps.ensures.other in
     let left = c.loop-left.left - n - 1 in
     let all : n + suc left ≡ c.loop-left.left = omega (arith, few.0) in
+    let on = sym c.goes_on.ensures ∙ c.if-not-goes_on.false in
     c.loop-left.invariant
-    ∙ advanced-on c.loop-left.engine.view c.advance-steps.new.engine.view c.advance-steps.result c.in-Some.last c.in_ok-reply.reply left c.loop-left.left all c.advance-steps.ensures.answers c.in-Some.is c.in_ok-reply.ensures.reply (sym c.goes_on.ensures ∙ c.if-not-goes_on.false)
-
-pub loop-left-preserved-else-not-goes_on-3 : goal.loop-left-preserved-else-not-goes_on-3
-loop-left-preserved-else-not-goes_on-3 c =
-    let n = c.advance-steps.result.moved in
-    let few = rw c.in-Some.is at c.advance-steps.ensures.other in
-    let left = c.loop-left.left - n - 1 in
-    let all : n + suc left ≡ c.loop-left.left = omega (arith, few.0) in
-    c.loop-left.invariant
-    ∙ advanced-on c.loop-left.engine.view c.advance-steps.new.engine.view c.advance-steps.result c.in-Some.last c.in_ok-reply.reply left c.loop-left.left all c.advance-steps.ensures.answers c.in-Some.is c.in_ok-reply.ensures.reply (sym c.goes_on.ensures ∙ c.if-not-goes_on.false)
+    ∙ advanced-on c.loop-left.engine.view c.advance-steps.new.engine.view c.advance-steps.result c.in-Some.last (reply_of Turned c.in-Some.last) left c.loop-left.left all c.advance-steps.ensures.answers c.in-Some.is (refl, goes-on-moved c.in-Some.last on) on
 
 pub loop-left-preserved : goal.loop-left-preserved
 loop-left-preserved c =
