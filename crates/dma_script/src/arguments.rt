@@ -231,11 +231,8 @@ fn pairs_at(empty: Vec<u8>, line: &[u8]) -> Result<(Vec<u8>, &[u8]), AllocError>
     Ok((bytes, rest))
 }
 
-/// The most bytes of a line that are copied; the list of more is taken as it is.
-const MOST_COPIED: usize = 256;
-
-/// Returns the joined bytes of a line's words of hexadecimal digits. They are read into `kept`, and up to `MOST_COPIED` of them
-/// are copied from there: a caller keeps that list from line to line, so that a short line asks for no memory.
+/// Returns the joined bytes of a line's words of hexadecimal digits. They are read into `kept` and copied from there: a
+/// caller keeps that list from line to line, so that a short line asks for no memory.
 #[tactic(auto, using(crate::proofs::HexLemmas::bytes_after_last))]
 pub(crate) fn bytes_at(alloc: Global, kept: &mut Vec<u8>, line: &[u8]) -> Result<Bytes, LineError>
     ensures { Gives (λ bytes. bytes) result (bytes_at (words_of line.now)) }
@@ -246,9 +243,6 @@ pub(crate) fn bytes_at(alloc: Global, kept: &mut Vec<u8>, line: &[u8]) -> Result
     while let Some((word, after)) = next_word(rest) {
         push_hex(&mut bytes, word)?;
         rest = after;
-    }
-    if bytes.len() > MOST_COPIED {
-        return Ok(Bytes::from_vec(bytes)?);
     }
     let copy = Bytes::from_slice(alloc, &bytes)?;
     *kept = bytes;
