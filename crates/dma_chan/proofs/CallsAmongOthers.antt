@@ -1,12 +1,17 @@
 -- Calls that step a channel with a transfer's program, over a memory that others write between them.
-use Rattle.std.proofs.Common.{◌≡◌, ◌≢◌, ℕ, zero, suc, ◌+◌, ◌-◌, ◌<◌, true, false, List, [], length, get_or, Option, Some, None, refl, sym, ap, ◌∙◌, subst, arith, inl}
+use Rattle.std.proofs.Common.{◌≡◌, ◌≢◌, ℕ, zero, suc, ◌+◌, ◌-◌, ◌<◌, true, false, List, take, drop, length, get_or, Option, Some, None, refl, sym, ap, ◌∙◌, subst, arith, inl}
 use Rattle.std.specs.Prelude.{IsSome}
+use Rattle.std.specs.List.{Contains}
+use Rattle.std.proofs.lemmas.Bool.{false≢true, false_from_ne_true}
+use Rattle.std.proofs.lemmas.List.Folds.{Any-from_list_any}
 use Rattle.dma_insn.specs.declared.insn.Insn.TheVariants.{St, End}
-use Rattle.dma_mem.specs.Places.{Descriptor, size_of, lies_below}
+use Rattle.dma_mem.specs.Places.{Descriptor, sources, destinations, size_of, lies_below}
 use Rattle.dma_mem.specs.Image.{laid}
-use Rattle.dma_mem.specs.Marking.{MarkList}
+use Rattle.dma_mem.specs.Marking.{MarkList, is_marked, meets_mark}
 use Rattle.dma_mem.specs.Rules.{IsTransfer}
+use Rattle.dma_mem.specs.declared.marks.MarkKind.{MarkKind}
 use Rattle.dma_mem.specs.declared.marks.MarkKind.TheVariants.{Reading, Writing}
+use Rattle.dma_mem.proofs.OverTransfers.{Contains-drop, Contains-take}
 use Rattle.dma_chan.specs.declared.turn.ChanTurn.{ChanTurn}
 use Rattle.dma_chan.specs.declared.turn.ChanTurn.TheVariants.{Moved, Waiting, Ended, Fault}
 use Rattle.dma_chan.specs.declared.turn.FaultKind.{FaultKind}
@@ -14,17 +19,26 @@ use Rattle.dma_chan.specs.declared.turn.FaultKind.TheVariants.{UndefInstr, Opera
 use Rattle.dma_chan.specs.Exec.{ChangesNothing}
 use Rattle.dma_chan.specs.Channel.{ChannelValue, loaded, ahead_of, step_of, stepped}
 use Rattle.dma_chan.specs.Compiled.{compiled, cost}
-use Rattle.dma_chan.specs.Traffic.{member, stored_after, read_places, written_places}
+use Rattle.dma_chan.specs.Traffic.{burst, member, stored_after, read_places, written_places}
 use Rattle.dma_chan.specs.Layer.{Shared, step_at, StepAgrees, Tells}
 use Rattle.dma_chan.specs.Stepping.{Stand, answer_at, left_at, after_steps, goes_on_after, TakesSteps}
 use Rattle.dma_chan.proofs.SteppedOver.{stands_still, was_moved}
-use Rattle.dma_chan.specs.Others.{Touches, CallsCopyAmongOthers}
+use Rattle.dma_chan.specs.Others.{Misses, Touches, CallsCopyAmongOthers}
 use Rattle.dma_chan.specs.inner.At.{IsAt}
 use Rattle.dma_chan.proofs.ShapeLaws.{shape_is, stored_is}
 use Rattle.dma_chan.proofs.LayerLaws.{starts_at, step_is, survives, turn_tells}
-use Rattle.dma_chan.proofs.CopyAlone.{laid_over, laid_over_none, laid_over_all, unmarked}
+use Rattle.dma_chan.proofs.CopyAlone.{laid_over, laid_over_none, laid_over_all}
 use Rattle.dma_chan.proofs.OthersKept.{writes_no_other}
 use Rattle.dma_chan.proofs.AmongOthers.{Among, keeps_image, next}
+
+-- no mark lies at some of these places where none lies at any
+none_met : (kind : MarkKind) (marks : MarkList) (places : List ℕ) (k n : ℕ) → ((a : ℕ) → Contains places a → is_marked kind marks a ≡ false) → meets_mark kind marks (take n (drop k places)) ≡ false
+unfolding meets_mark
+none_met kind marks places k n none =
+    false_from_ne_true _ (λ e.
+    let w = Any-from_list_any (is_marked kind marks) (take n (drop k places)) e in
+    let at = Contains-drop k places w.1 (Contains-take n (drop k places) w.1 (w.0, w.2, w.3)) in
+    false≢true (sym (none w.1 at) ∙ w.4))
 
 -- ---- where calls lead
 
@@ -105,20 +119,20 @@ module _ (t : Descriptor) (marks : MarkList) (first : List ℕ) (h : IsTransfer 
       let w = many p s r steps.moves in
       subst (λ (o : Option ChanTurn). Leads o v) (sym steps.answer) (subst (Leads (Some (answer_at marks u))) (sym steps.leaves) (one w.0 u (answer_at marks u) w.1 refl))
 
-  -- without marks the last step of a call doesn't fail
-  no_fault : (n : ℕ) (m : Shared) (kind : FaultKind) → marks ≡ [] → (step_at t n marks m).0 ≢ Fault kind
+  -- where no mark lies at what the transfer touches, the last step of a call doesn't fail
+  no_fault : (n : ℕ) (m : Shared) (kind : FaultKind) → Misses marks t → (step_at t n marks m).0 ≢ Fault kind
   no_fault n m kind none e = told kind (subst (λ (x : ChanTurn). Tells t n marks m x) e (turn_tells t n marks m))
     where
       told : (k : FaultKind) → ¬ Tells t n marks m (Fault k)
-      told DataReadErr w = let bad : false ≡ true = sym (unmarked Reading (read_places t n)) ∙ (rw none at w.1) in cc
-      told DataWriteErr w = let bad : false ≡ true = sym (unmarked Writing (written_places t n)) ∙ (rw none at w.1) in cc
+      told DataReadErr w = let bad : false ≡ true = sym (none_met Reading marks (sources t) (stored_after t n) (burst t n) none.reads) ∙ w.1 in cc
+      told DataWriteErr w = let bad : false ≡ true = sym (none_met Writing marks (destinations t) (stored_after t n) (burst t n) none.writes) ∙ w.1 in cc
       told UndefInstr w = w
       told OperandInvalid w = w
       told MfifoErr w = w
       told StDataUnavailable w = w
       told InstrFetchErr w = w
 
-  pub call_fails : (s v : Stand) (most taken : ℕ) (last : Option ChanTurn) (kind : FaultKind) → marks ≡ [] → Runs s → TakesSteps marks s most taken last v → last ≢ Some (Fault kind)
+  pub call_fails : (s v : Stand) (most taken : ℕ) (last : Option ChanTurn) (kind : FaultKind) → Misses marks t → Runs s → TakesSteps marks s most taken last v → last ≢ Some (Fault kind)
   call_fails s v most zero last kind none r steps e = let bad : None ≡ Some (Fault kind) = sym steps.answer ∙ e in cc
   call_fails s v most (suc p) last kind none r steps e =
       let u = after_steps marks s p in

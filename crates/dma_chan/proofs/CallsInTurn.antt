@@ -25,7 +25,7 @@ use Rattle.dma_chan.specs.Stepping.{Stand, left_at, after_steps, goes_on_after, 
 use Rattle.dma_chan.specs.Others.{Touches}
 use Rattle.dma_chan.specs.InTurn.{AreTogether, CalledInTurn, ChannelsCopyInTurn}
 use Rattle.dma_chan.proofs.ShapeLaws.{is_store}
-use Rattle.dma_chan.proofs.OthersKept.{writes_no_other}
+use Rattle.dma_chan.proofs.SteppedOver.{steps_size}
 use Rattle.dma_chan.proofs.AmongOthers.{Among, keeps_image}
 use Rattle.dma_chan.proofs.CallsAmongOthers.{Leads, Runs, agrees, at_first, call, call_fails, many, survived}
 
@@ -71,12 +71,6 @@ module _ (t : Descriptor) (marks : MarkList) (first : List ℕ) (h : IsTransfer 
   pub call_spares : (s v : Stand) (most taken : ℕ) (last : Option ChanTurn) (a : ℕ) → Runs t marks first h below s → TakesSteps marks s most taken last v → ¬ Contains (destinations t) a → get_or v.image a 0 ≡ get_or s.image a 0
   call_spares s v most taken last a r steps outside =
       ap (λ (u : Stand). get_or u.image a 0) steps.leaves ∙ steps_spare taken s a r steps.moves outside
-
-steps_size : (marks : MarkList) (s : Stand) (n : ℕ) → length (after_steps marks s n).image ≡ length s.image
-steps_size marks s zero = refl
-steps_size marks s (suc n) =
-    let u = after_steps marks s n in
-    (writes_no_other marks u.channel u.image u.flags).size ∙ steps_size marks s n
 
 -- what a transfer touches, another that is free of it doesn't write
 free_outside : (t u : Descriptor) (a : ℕ) → is_free_of u t ≡ true → Touches t a → ¬ Contains (destinations u) a
@@ -167,7 +161,7 @@ channels_copy_in_turn transfers count marks calls who channels before after last
       let t = transfers (who k) in
       let w = run.within k l in
       (subst (λ (o : Option ChanTurn). Leads t marks (before 0).image (together.rules (who k) w) (together.below (who k) w) o (after k)) over (calls_lead transfers count marks calls who channels before after last together run k l)).all a touches;
-  never_fails = λ none k kind l.
+  never_fails = λ k kind l none.
       let w = run.within k l in
       let s = run.steps k l in
       call_fails (transfers (who k)) marks (before 0).image (together.rules (who k) w) (together.below (who k) w) (before k) (after k) s.0 s.1 (last k) kind none (calls_go transfers count marks calls who channels before after last together run k l) s.2;

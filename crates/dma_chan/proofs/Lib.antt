@@ -28,5 +28,8 @@ pub mod AmongOthers
 pub mod OthersKept
 pub mod CallsAmongOthers
 pub mod CallsInTurn
-pub mod GapSteps
 pub mod Rows
+pub mod SavedHeads
+pub mod SavedParts
+pub mod PlacesKept
+pub mod RegionsHave

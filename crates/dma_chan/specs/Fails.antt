@@ -1,5 +1,6 @@
 -- A program that is run alone and not to its end, for want of memory or since it is too long.
 use Rattle.std.specs.Prelude.{◌≡◌, ℕ, ◌<◌, ◌≤◌, false, List, length}
+use Rattle.dma_mem.specs.Marking.{MarkList}
 use Rattle.dma_mem.specs.Pages.{Paged}
 use Rattle.dma_chan.specs.declared.run.RunFault.{RunFault}
 use Rattle.dma_chan.specs.declared.run.RunFault.TheVariants.{ProgramTooLong, PageRefused, NoMemory}
@@ -9,16 +10,16 @@ use Rattle.dma_chan.specs.Ready.{next_finds}
 
 -- The first instructions of a program, fewer than the limit, have run from a state; the memory is what they leave, and the
 -- next one is a store that still lacks a page of it.
-pub record WantsPage (program : List ℕ) (s : State) (limit turns : ℕ) (left : Paged) : Type 0 where
+pub record WantsPage (marks : MarkList) (program : List ℕ) (s : State) (limit turns : ℕ) (left : Paged) : Type 0 where
   pub below_limit : turns < limit
-  pub goes_on : GoesOnFor program s turns
-  pub leaves : (state_after program s turns).image ≡ left.image
-  pub wants : next_finds program (state_after program s turns) left ≡ false
+  pub goes_on : GoesOnFor marks program s turns
+  pub leaves : (state_after marks program s turns).image ≡ left.image
+  pub wants : next_finds program (state_after marks program s turns) left ≡ false
 
--- Why a program isn't run to its end, and the memory before and after. It is too long or memory was refused before anything
+-- Why a program isn't run to its end with these marks, and the memory before and after. It is too long or memory was refused before anything
 -- has run, and nothing has changed, no page either; or a page was refused to the store after so many instructions.
-abbrev pub RunFails : List ℕ → Paged → ℕ → RunFault → Paged → Type 0
-RunFails program old limit ProgramTooLong new = (8192 < length program) × (new ≡ old)
-RunFails program old limit (PageRefused turns) new =
-    (length program ≤ 8192) × WantsPage program (opening old.image) limit turns new
-RunFails program old limit NoMemory new = (length program ≤ 8192) × (new ≡ old)
+abbrev pub RunFails : MarkList → List ℕ → Paged → ℕ → RunFault → Paged → Type 0
+RunFails marks program old limit ProgramTooLong new = (8192 < length program) × (new ≡ old)
+RunFails marks program old limit (PageRefused turns) new =
+    (length program ≤ 8192) × WantsPage marks program (opening old.image) limit turns new
+RunFails marks program old limit NoMemory new = (length program ≤ 8192) × (new ≡ old)

@@ -1,5 +1,5 @@
 -- Several channels that are stepped in turn over one memory.
-use Rattle.std.specs.Prelude.{◌≡◌, ◌≢◌, ℕ, ◌+◌, ◌<◌, true, [], length, slice_index, Option, Some, IsSome}
+use Rattle.std.specs.Prelude.{◌≡◌, ◌≢◌, ℕ, ◌+◌, ◌<◌, true, length, slice_index, Option, Some, IsSome}
 use Rattle.dma_mem.specs.Places.{Descriptor, size_of, lies_below, is_free_of}
 use Rattle.dma_mem.specs.Image.{laid}
 use Rattle.dma_mem.specs.Marking.{MarkList}
@@ -10,7 +10,7 @@ use Rattle.dma_chan.specs.declared.turn.FaultKind.{FaultKind}
 use Rattle.dma_chan.specs.Channel.{ChannelValue, loaded}
 use Rattle.dma_chan.specs.Compiled.{compiled}
 use Rattle.dma_chan.specs.Stepping.{Stand, TakesSteps}
-use Rattle.dma_chan.specs.Others.{Touches}
+use Rattle.dma_chan.specs.Others.{Misses, Touches}
 
 -- Calls on `count` channels, into each of which the program of its own transfer was loaded. Call number k takes steps of the
 -- channel `who k`, which has a program still, and leaves the other channels as they are. Between two calls others may write any
@@ -34,11 +34,12 @@ pub record AreTogether (transfers : ℕ → Descriptor) (count size : ℕ) : Typ
   pub free : (ch other : ℕ) → ch < count → other < count → ch ≢ other → is_free_of (transfers ch) (transfers other) ≡ true
 
 -- What such calls come to. After a call that ends, what the transfer of its channel touches is what one simultaneous copy of all
--- its bytes leaves there of the memory that the first call found; and without marks no call fails.
+-- its bytes leaves there of the memory that the first call found; and where no mark lies at that, no call
+-- on its channel fails.
 pub record CopiesInTurn (transfers : ℕ → Descriptor) (marks : MarkList) (calls : ℕ) (who : ℕ → ℕ) (before after : ℕ → Stand) (last : ℕ → Option ChanTurn) : Type 0 where
   pub copies : (k a : ℕ) → k < calls → last k ≡ Some Ended → Touches (transfers (who k)) a →
       slice_index (after k).image a ≡ slice_index (laid (before 0).image (transfers (who k)) (size_of (transfers (who k)))) a
-  pub never_fails : marks ≡ [] → (k : ℕ) (kind : FaultKind) → k < calls → last k ≢ Some (Fault kind)
+  pub never_fails : (k : ℕ) (kind : FaultKind) → k < calls → Misses marks (transfers (who k)) → last k ≢ Some (Fault kind)
 
 -- Where the transfers can be copied together, they do.
 abbrev pub ChannelsCopyInTurn : Type 0

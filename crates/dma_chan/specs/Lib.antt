@@ -4,6 +4,7 @@ pub mod Next
 pub mod Exec
 pub mod Programs
 pub mod Channel
+pub mod Saved
 pub mod NextWrites
 pub mod Run
 pub mod InRow
@@ -16,4 +17,5 @@ pub mod Ready
 pub mod Fails
 pub mod Others
 pub mod InTurn
+pub mod LentRegions
 pub mod inner

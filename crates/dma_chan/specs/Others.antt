@@ -1,9 +1,10 @@
 -- Channels that are stepped over a memory that others write between the steps.
-use Rattle.std.specs.Prelude.{◌≡◌, ◌≢◌, ℕ, ◌+◌, ◌-◌, ◌<◌, ◌⊎◌, Bool, true, List, [], length, slice_index, Option, Some, IsSome}
+use Rattle.std.specs.Prelude.{◌≡◌, ◌≢◌, ℕ, ◌+◌, ◌-◌, ◌<◌, ◌⊎◌, Bool, true, false, List, length, slice_index, Option, Some, IsSome}
 use Rattle.std.specs.List.{Contains}
 use Rattle.dma_mem.specs.Places.{Descriptor, sources, destinations, size_of, lies_below}
 use Rattle.dma_mem.specs.Image.{laid}
-use Rattle.dma_mem.specs.Marking.{MarkList}
+use Rattle.dma_mem.specs.declared.marks.MarkKind.TheVariants.{Reading, Writing}
+use Rattle.dma_mem.specs.Marking.{MarkList, is_marked}
 use Rattle.dma_mem.specs.Rules.{IsTransfer}
 use Rattle.dma_chan.specs.declared.turn.ChanTurn.{ChanTurn}
 use Rattle.dma_chan.specs.declared.turn.ChanTurn.TheVariants.{Moved, Ended, Fault}
@@ -16,6 +17,11 @@ use Rattle.dma_chan.specs.NextWrites.{written_next}
 -- whether a transfer reads or writes an address
 abbrev pub Touches : Descriptor → ℕ → Type 0
 Touches t a = Contains (sources t) a ⊎ Contains (destinations t) a
+
+-- No mark lies at what a transfer touches: no address that it reads is marked for loads, and none that it writes for stores.
+pub record Misses (marks : MarkList) (t : Descriptor) : Type 0 where
+  pub reads : (a : ℕ) → Contains (sources t) a → is_marked Reading marks a ≡ false
+  pub writes : (a : ℕ) → Contains (destinations t) a → is_marked Writing marks a ≡ false
 
 -- A channel executes a transfer's program up to its DMAEND. Before instruction number n it stands so, and this is the memory
 -- and these are the flags that it finds. Between two instructions others may write any byte that the transfer neither reads
@@ -61,11 +67,11 @@ pub record CalledAmongOthers (t : Descriptor) (marks : MarkList) (calls : ℕ) (
   pub size : (k : ℕ) → k + 1 < calls → length (before (k + 1)).image ≡ length (after k).image
 
 -- What such calls come to: what the transfer touches is, after the call that ends, what one simultaneous copy of all its bytes
--- leaves there of the memory that the first call found; and without marks no call fails.
+-- leaves there of the memory that the first call found; and where no mark lies at that, no call fails.
 pub record CallsCopy (t : Descriptor) (marks : MarkList) (calls : ℕ) (before after : ℕ → Stand) (last : ℕ → Option ChanTurn) : Type 0 where
   pub copies : (k a : ℕ) → k < calls → last k ≡ Some Ended → Touches t a →
       slice_index (after k).image a ≡ slice_index (laid (before 0).image t (size_of t)) a
-  pub never_fails : marks ≡ [] → (k : ℕ) (kind : FaultKind) → k < calls → last k ≢ Some (Fault kind)
+  pub never_fails : Misses marks t → (k : ℕ) (kind : FaultKind) → k < calls → last k ≢ Some (Fault kind)
 
 -- Over a memory that has the transfer's ranges they do.
 abbrev pub CallsCopyAmongOthers : Type 0

@@ -6,6 +6,7 @@ ghost use Rattle.circular_buffer.specs.Buffer.{buffer as ring};
 ghost use Rattle.dma_insn.specs.declared.insn.Insn.TheVariants.{Ld, St};
 ghost use Rattle.dma_insn.specs.ControlWord.{beat_bytes};
 ghost use Rattle.dma_mem.specs.Image.{put};
+ghost use Rattle.dma_mem.specs.Lent.{Avoids, with_gaps};
 ghost use Rattle.dma_mem.specs.Places.{range_of};
 ghost use Rattle.dma_mem.specs.Pages.{Paged, AllMade, has_page, Keeps, MakesNoOther};
 ghost use Rattle.dma_chan.specs.Bursts.{burst_len, touched, left_by, advance, reaches};
@@ -15,6 +16,7 @@ ghost use Rattle.dma_chan.specs.Ready.{none_missing};
 
 use crate::exec::Registers;
 use crate::turn::{ChanTurn, FaultKind};
+use crate::two_slices::{first_of, past};
 use circular_buffer::HeapCircularBuffer;
 use dma_insn::control::BurstEnd;
 use dma_mem::marks::{MarkKind, Marks};
@@ -123,16 +125,20 @@ pub(crate) fn destination_burst(registers: &Registers) -> Burst
     Burst::of(registers.dar, registers.ccr.destination())
 }
 
-// Whether a burst may touch its addresses: they lie in the memory and in no mark of the kind.
-#[tactic(auto, using(crate::proofs::BurstReach::reaches_span))]
+// Whether a burst may touch its addresses: they lie in the memory, in none of its gaps and in no mark of the kind.
+#[tactic(auto, using(crate::proofs::BurstReach::reaches_clear))]
 fn may_touch<M: Ram>(kind: MarkKind, marks: &Marks, memory: &M, burst: Burst) -> bool
     requires some { (1 ≤ burst.size) × (1 ≤ burst.beats) }
     requires limit { (burst.size ≤ 16) × (burst.beats ≤ 16) }
-    ensures exact { result ≡ reaches kind marks.now (length (M.paged memory.now).image) (touched burst) }
+    ensures exact { result ≡ reaches kind (with_gaps (M.loan memory.now) marks.now) (length (M.paged memory.now).image) (touched burst) }
     ensures within { IsTrue result → burst.addr + span_of burst ≤ length (M.paged memory.now).image }
     ensures below { IsTrue result → burst.addr + span_of burst < 2 ^ 32 }
+    ensures clear { IsTrue result → Avoids (M.loan memory.now).gaps burst.addr (span_of burst) }
 {
     let span = burst.span();
+    if memory.clear(span) < span.len {
+        return false;
+    }
     let end = u64::from(span.addr) + u64::from(span.len);
     end <= u64::from(memory.size()) && !marks.hits(kind, span)
 }
@@ -173,6 +179,7 @@ fn load_span<M: Ram>(
     requires limit { (burst.size ≤ 16) × (burst.beats ≤ 16) }
     requires room { length buffer.old.items + burst_len burst ≤ buffer.old.capacity }
     requires within { burst.addr + span_of burst ≤ length (M.paged memory.now).image }
+    requires clear { Avoids (M.loan memory.now).gaps burst.addr (span_of burst) }
     requires block { length block.old ≡ 256 }
     ensures { buffer.new ≡ ring (buffer.old.items ++ read_at (M.paged memory.now).image (touched burst)) buffer.old.capacity }
 {
@@ -189,12 +196,13 @@ pub(crate) fn load_fault<M: Ram>(
     memory: &M,
 ) -> Option<FaultKind>
     requires capacity { buffer.now.capacity ≡ 256 }
-    ensures told { (flags : List Bool) → result ≡ fault_in (act marks.now Ld (state registers.now buffer.now.items (M.paged memory.now).image flags)).0 }
-    ensures still { IfSome result (λ kind. (flags : List Bool) → act marks.now Ld (state registers.now buffer.now.items (M.paged memory.now).image flags) ≡ faults kind (state registers.now buffer.now.items (M.paged memory.now).image flags)) }
+    ensures told { (flags : List Bool) → result ≡ fault_in (act (with_gaps (M.loan memory.now) marks.now) Ld (state registers.now buffer.now.items (M.paged memory.now).image flags)).0 }
+    ensures still { IfSome result (λ kind. (flags : List Bool) → act (with_gaps (M.loan memory.now) marks.now) Ld (state registers.now buffer.now.items (M.paged memory.now).image flags) ≡ faults kind (state registers.now buffer.now.items (M.paged memory.now).image flags)) }
     ensures room { IsNone result → length buffer.now.items + burst_len (source_of registers.now) ≤ 256 }
-    ensures reaches { IsNone result → IsTrue (reaches MarkKind.Reading marks.now (length (M.paged memory.now).image) (touched (source_of registers.now))) }
+    ensures reaches { IsNone result → IsTrue (reaches MarkKind.Reading (with_gaps (M.loan memory.now) marks.now) (length (M.paged memory.now).image) (touched (source_of registers.now))) }
     ensures within { IsNone result → registers.now.sar + span_of (source_of registers.now) ≤ length (M.paged memory.now).image }
     ensures below { IsNone result → registers.now.sar + span_of (source_of registers.now) < 2 ^ 32 }
+    ensures clear { IsNone result → Avoids (M.loan memory.now).gaps registers.now.sar (span_of (source_of registers.now)) }
 {
     let burst = source_burst(registers);
     if buffer.len() + burst.len() as usize > BUFFER_SIZE {
@@ -217,7 +225,7 @@ pub(crate) fn load_burst<M: Ram>(
     requires capacity { buffer.old.capacity ≡ 256 }
     requires block { length block.old ≡ 256 }
     requires pc { registers.old.pc < 8192 }
-    ensures exact { (flags : List Bool) → act marks.now Ld (state registers.old buffer.old.items (M.paged memory.now).image flags) ≡ (result, state registers.new buffer.new.items (M.paged memory.now).image flags) }
+    ensures exact { (flags : List Bool) → act (with_gaps (M.loan memory.now) marks.now) Ld (state registers.old buffer.old.items (M.paged memory.now).image flags) ≡ (result, state registers.new buffer.new.items (M.paged memory.now).image flags) }
     ensures capacity { buffer.new.capacity ≡ 256 }
     ensures pc { registers.new.pc ≤ registers.old.pc + 1 }
 {
@@ -231,32 +239,13 @@ pub(crate) fn load_burst<M: Ram>(
     ChanTurn::Moved
 }
 
-// The first bytes of two slices that follow each other.
-fn first_of<'a>(front: &'a [u8], back: &'a [u8], count: usize) -> (&'a [u8], &'a [u8])
-    requires { count ≤ length (front.now ++ back.now) }
-    ensures bytes { result.0.now ++ result.1.now ≡ take count (front.now ++ back.now) }
-    ensures len { length result.0.now + length result.1.now ≡ count }
-{
-    let of_front = front.len().min(count);
-    (&front[..of_front], &back[..count - of_front])
-}
-
-// What follows the first bytes of two slices that follow each other.
-fn past<'a>(front: &'a [u8], back: &'a [u8], count: usize) -> (&'a [u8], &'a [u8])
-    requires { count ≤ length (front.now ++ back.now) }
-    ensures bytes { result.0.now ++ result.1.now ≡ drop count (front.now ++ back.now) }
-    ensures len { length result.0.now + length result.1.now + count ≡ length front.now + length back.now }
-{
-    let of_front = front.len().min(count);
-    (&front[of_front..], &back[count - of_front..])
-}
-
 // Stores the oldest bytes of the buffer as a burst. What it would overwrite itself isn't written.
 fn store_span<M: Ram>(burst: Burst, buffer: &mut HeapCircularBuffer<u8>, memory: &mut M)
     requires some { (1 ≤ burst.size) × (1 ≤ burst.beats) }
     requires limit { (burst.size ≤ 16) × (burst.beats ≤ 16) }
     requires bytes { burst_len burst ≤ length buffer.old.items }
     requires within { burst.addr + span_of burst ≤ length (M.paged memory.old).image }
+    requires clear { Avoids (M.loan memory.old).gaps burst.addr (span_of burst) }
     requires ready { IsTrue (none_missing (M.paged memory.old) (touched burst)) }
     ensures written { (M.paged memory.new).image ≡ put (M.paged memory.old).image (left_by burst (take (burst_len burst) buffer.old.items)) }
     ensures pages { (M.paged memory.new).made ≡ (M.paged memory.old).made }
@@ -278,12 +267,13 @@ pub(crate) fn store_fault<M: Ram>(
     buffer: &HeapCircularBuffer<u8>,
     memory: &M,
 ) -> Option<FaultKind>
-    ensures told { (flags : List Bool) → result ≡ fault_in (act marks.now St (state registers.now buffer.now.items (M.paged memory.now).image flags)).0 }
-    ensures still { IfSome result (λ kind. (flags : List Bool) → act marks.now St (state registers.now buffer.now.items (M.paged memory.now).image flags) ≡ faults kind (state registers.now buffer.now.items (M.paged memory.now).image flags)) }
+    ensures told { (flags : List Bool) → result ≡ fault_in (act (with_gaps (M.loan memory.now) marks.now) St (state registers.now buffer.now.items (M.paged memory.now).image flags)).0 }
+    ensures still { IfSome result (λ kind. (flags : List Bool) → act (with_gaps (M.loan memory.now) marks.now) St (state registers.now buffer.now.items (M.paged memory.now).image flags) ≡ faults kind (state registers.now buffer.now.items (M.paged memory.now).image flags)) }
     ensures bytes { IsNone result → burst_len (destination_of registers.now) ≤ length buffer.now.items }
-    ensures reaches { IsNone result → IsTrue (reaches MarkKind.Writing marks.now (length (M.paged memory.now).image) (touched (destination_of registers.now))) }
+    ensures reaches { IsNone result → IsTrue (reaches MarkKind.Writing (with_gaps (M.loan memory.now) marks.now) (length (M.paged memory.now).image) (touched (destination_of registers.now))) }
     ensures within { IsNone result → registers.now.dar + span_of (destination_of registers.now) ≤ length (M.paged memory.now).image }
     ensures below { IsNone result → registers.now.dar + span_of (destination_of registers.now) < 2 ^ 32 }
+    ensures clear { IsNone result → Avoids (M.loan memory.now).gaps registers.now.dar (span_of (destination_of registers.now)) }
 {
     let burst = destination_burst(registers);
     if buffer.len() < burst.len() as usize {
@@ -305,7 +295,7 @@ pub(crate) fn store_burst<M: Ram>(
     requires capacity { buffer.old.capacity ≡ 256 }
     requires pc { registers.old.pc < 8192 }
     requires ready { IsTrue (none_missing (M.paged memory.old) (touched (destination_of registers.old))) }
-    ensures exact { (flags : List Bool) → act marks.now St (state registers.old buffer.old.items (M.paged memory.old).image flags) ≡ (result, state registers.new buffer.new.items (M.paged memory.new).image flags) }
+    ensures exact { (flags : List Bool) → act (with_gaps (M.loan memory.old) marks.now) St (state registers.old buffer.old.items (M.paged memory.old).image flags) ≡ (result, state registers.new buffer.new.items (M.paged memory.new).image flags) }
     ensures pages { (M.paged memory.new).made ≡ (M.paged memory.old).made }
     ensures capacity { buffer.new.capacity ≡ 256 }
     ensures pc { registers.new.pc ≤ registers.old.pc + 1 }

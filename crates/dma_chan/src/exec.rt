@@ -6,6 +6,7 @@ ghost use Rattle.dma_insn.specs.declared.insn.Insn.TheVariants.{Mov, Lp, LpEnd, 
 ghost use Rattle.dma_chan.specs.Exec.{counter_of, act, fault_in, faults, state};
 ghost use Rattle.dma_chan.specs.declared.exec.Registers.{Registers};
 ghost use Rattle.dma_chan.specs.Ready.{finds_pages};
+ghost use Rattle.dma_mem.specs.Lent.{with_gaps};
 ghost use Rattle.dma_mem.specs.Marking.{MarkList};
 
 use crate::bursts::{load_burst, load_fault, store_burst, store_fault};
@@ -197,7 +198,7 @@ pub(crate) fn execute<M: Ram>(
     requires capacity { buffer.old.capacity ≡ 256 }
     requires block { length block.old ≡ 256 }
     requires ready { IsTrue (finds_pages (Ok insn) registers.old (M.paged memory.old)) }
-    ensures exact { act marks.now insn (state registers.old buffer.old.items (M.paged memory.old).image events.old) ≡ (result, state registers.new buffer.new.items (M.paged memory.new).image events.new) }
+    ensures exact { act (with_gaps (M.loan memory.old) marks.now) insn (state registers.old buffer.old.items (M.paged memory.old).image events.old) ≡ (result, state registers.new buffer.new.items (M.paged memory.new).image events.new) }
     ensures pages { (M.paged memory.new).made ≡ (M.paged memory.old).made }
     ensures capacity { buffer.new.capacity ≡ 256 }
     ensures pc { registers.new.pc ≤ registers.old.pc + len }
@@ -227,7 +228,7 @@ pub(crate) fn fault_of<M: Ram>(
     marks: &Marks,
 ) -> Option<FaultKind>
     requires capacity { buffer.now.capacity ≡ 256 }
-    ensures { (flags : List Bool) → result ≡ fault_in (act marks.now insn (state registers.now buffer.now.items (M.paged memory.now).image flags)).0 }
+    ensures { (flags : List Bool) → result ≡ fault_in (act (with_gaps (M.loan memory.now) marks.now) insn (state registers.now buffer.now.items (M.paged memory.now).image flags)).0 }
 {
     match insn {
         Insn::Mov(reg, value) => set_fault(reg, value),

@@ -2,6 +2,7 @@
 
 ghost use Rattle.dma_chan.specs.Layer.{StartsAt, AheadIs, LeftIs, StepIs, TurnTells, Survives, ShapeIs, CostIs, StoredIs, CopiesAlone};
 ghost use Rattle.dma_chan.specs.InTurn.{ChannelsCopyInTurn};
+ghost use Rattle.dma_chan.specs.LentRegions.{GapsMiss};
 ghost use Rattle.dma_chan.specs.Others.{CallsCopyAmongOthers, CopiesAmongOthers, WritesNoOther};
 ghost use Rattle.dma_chan.specs.Ready.{ReadyIs};
 
@@ -51,6 +52,12 @@ pub fn calls_copy_among_others()
 /// one simultaneous copy of all its bytes.
 pub fn channels_copy_in_turn()
     ensures { ChannelsCopyInTurn }
+{}
+
+/// That no gap lies at what a transfer touches, over regions that have it, so that the calls of
+/// [`calls_copy_among_others`] don't fail there.
+pub fn gaps_miss()
+    ensures { GapsMiss }
 {}
 
 /// What each instruction of any program leaves of a memory where it doesn't write.

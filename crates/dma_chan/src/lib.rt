@@ -12,4 +12,6 @@ pub mod next;
 mod pieces;
 pub mod program;
 pub mod run;
+pub mod save;
 pub mod turn;
+mod two_slices;

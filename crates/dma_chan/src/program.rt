@@ -1,6 +1,6 @@
 //! Programs.
 
-ghost use Rattle.std.specs.Prelude.{◌≡◌, ◌≤◌, ◌<◌, length, nat_lt, if◌then◌else◌, None, Some, IfOk, IfErr, OnOk};
+ghost use Rattle.std.specs.Prelude.{◌≡◌, ◌≤◌, ◌<◌, length, nat_lt, if◌then◌else◌, None, Some, IfOk, IfErr, OnOk, vec_capacity};
 
 use std::alloc::Global;
 use std::marker::Model;
@@ -23,17 +23,19 @@ pub enum ProgramFault {
 pub struct Program {
     bytes: Vec<u8>,
     cost: Option<u32>,
+    // Whether the bytes are in a channel's room, which has the capacity for each program.
+    in_room: bool,
 }
 
 impl Model for Program {
-    ghost use Rattle.std.specs.Prelude.{◌≤◌, length};
     ghost use Rattle.dma_chan.specs.Programs.{ProgramValue};
+    ghost use Rattle.dma_chan.specs.inner.Rooms.{IsProgram};
 
     ghost Value = { ProgramValue };
 
     ghost view = { λ p. record { bytes = p.bytes.items; cost = p.cost } };
 
-    ghost invariant = { λ p. length p.bytes.items ≤ 8192 };
+    ghost invariant = { IsProgram };
 }
 
 impl Program {
@@ -49,7 +51,51 @@ impl Program {
             return Err(ProgramFault::ProgramTooLong);
         }
         let bytes = Vec::from_slice(alloc, bytes).map_err(|_| ProgramFault::NoMemory)?;
-        Ok(Program { bytes, cost: None })
+        Ok(Program {
+            bytes,
+            cost: None,
+            in_room: false,
+        })
+    }
+
+    // Returns the program of these bytes, which has no cost, in a channel's room.
+    pub(crate) fn in_room(mut room: Vec<u8>, bytes: &[u8]) -> Program
+        requires room { 8192 ≤ vec_capacity room }
+        requires fits { length bytes.now ≤ 8192 }
+        ensures { result ≡ record { bytes = bytes.now; cost = None } }
+    {
+        room.clear();
+        let Ok(()) = room.extend_from_slice(bytes) else {
+            unreachable!()
+        };
+        Program {
+            bytes: room,
+            cost: None,
+            in_room: true,
+        }
+    }
+
+    // Takes the program out of a channel's room. The error is the program, where it is in none.
+    pub(crate) fn into_room(self) -> Result<Vec<u8>, Program>
+        ensures room { IfOk result (λ room. 8192 ≤ vec_capacity room) }
+        ensures none { IfErr result (λ program. program ≡ self) }
+    {
+        if self.in_room {
+            Ok(self.bytes)
+        } else {
+            Err(self)
+        }
+    }
+
+    // Returns the same program with this cost.
+    pub(crate) fn with_cost(self, cost: Option<u32>) -> Program
+        ensures { result ≡ record self { cost = cost } }
+    {
+        Program {
+            bytes: self.bytes,
+            cost,
+            in_room: self.in_room,
+        }
     }
 
     // What the compiler made.
@@ -60,6 +106,7 @@ impl Program {
         Program {
             bytes,
             cost: Some(cost),
+            in_room: false,
         }
     }
 

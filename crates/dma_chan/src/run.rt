@@ -1,8 +1,9 @@
 //! Programs run alone.
 
-ghost use Rattle.std.specs.Prelude.{◌≡◌, ◌≤◌, ℕ, length, nat_lt, if◌then◌else◌, true, IfOk, IfErr, OnOk};
+ghost use Rattle.std.specs.Prelude.{◌≡◌, ◌≤◌, ℕ, [], length, nat_lt, if◌then◌else◌, true, IfOk, IfErr, OnOk};
+ghost use Rattle.dma_mem.specs.Lent.{with_gaps};
 ghost use Rattle.dma_mem.specs.Pages.{has_page};
-ghost use Rattle.dma_chan.specs.Run.{RunsAlone};
+ghost use Rattle.dma_chan.specs.Run.{RunsOver};
 ghost use Rattle.dma_chan.specs.Fails.{RunFails};
 
 use crate::channel::Channel;
@@ -55,7 +56,7 @@ fn program_of(alloc: Global, bytes: &[u8]) -> Result<Program, RunFault>
     }
 }
 
-// Runs a program on a channel, with no marks and all flags clear.
+// Runs a program on a channel, with no marks but the memory's gaps, and all flags clear.
 fn run_on<M: Ram>(
     mut channel: Channel,
     program: Program,
@@ -64,8 +65,8 @@ fn run_on<M: Ram>(
     limit: u32,
 ) -> Result<RunEnd, RunFault>
     requires { length program.bytes ≤ 8192 }
-    ensures ok { IfOk result (λ how. RunsAlone program.bytes (M.paged memory.old).image limit how (M.paged memory.new).image) }
-    ensures err { IfErr result (λ fault. RunFails program.bytes (M.paged memory.old) limit fault (M.paged memory.new)) }
+    ensures ok { IfOk result (λ how. RunsOver (with_gaps (M.loan memory.old) []) program.bytes (M.paged memory.old).image limit how (M.paged memory.new).image) }
+    ensures err { IfErr result (λ fault. RunFails (with_gaps (M.loan memory.old) []) program.bytes (M.paged memory.old) limit fault (M.paged memory.new)) }
     ensures pages { (p : ℕ) → has_page (M.paged memory.old) p ≡ true → has_page (M.paged memory.new) p ≡ true }
     ensures loan { M.loan memory.new ≡ M.loan memory.old }
 {
@@ -94,7 +95,8 @@ fn run_on<M: Ram>(
     Ok(RunEnd::OutOfTurns)
 }
 
-/// Runs the bytes alone on a channel of their own, with no marks and all flags clear, for at most `limit` instructions. The
+/// Runs the bytes alone on a channel of their own, with no marks but the gaps of the memory and with all flags clear, for at most
+/// `limit` instructions. The
 /// pages that a store writes are made as it comes, and those that are made stay.
 ///
 /// The error is `ProgramTooLong` above [`MAX_BYTES`](crate::program::MAX_BYTES), else `NoMemory`, and nothing has run then,
@@ -105,9 +107,9 @@ pub fn run_program<M: Ram>(
     memory: &mut M,
     limit: u32,
 ) -> Result<RunEnd, RunFault>
-    ensures ok { IfOk result (λ how. RunsAlone bytes.now (M.paged memory.old).image limit how (M.paged memory.new).image) }
+    ensures ok { IfOk result (λ how. RunsOver (with_gaps (M.loan memory.old) []) bytes.now (M.paged memory.old).image limit how (M.paged memory.new).image) }
     ensures fits { OnOk result (length bytes.now ≤ 8192) }
-    ensures err { IfErr result (λ fault. RunFails bytes.now (M.paged memory.old) limit fault (M.paged memory.new)) }
+    ensures err { IfErr result (λ fault. RunFails (with_gaps (M.loan memory.old) []) bytes.now (M.paged memory.old) limit fault (M.paged memory.new)) }
     ensures pages { (p : ℕ) → has_page (M.paged memory.old) p ≡ true → has_page (M.paged memory.new) p ≡ true }
     ensures loan { M.loan memory.new ≡ M.loan memory.old }
 {

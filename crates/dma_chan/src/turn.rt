@@ -16,9 +16,9 @@ pub enum FaultKind {
     StDataUnavailable,
     /// No whole instruction at this offset, or a jump to before the program's start.
     InstrFetchErr,
-    /// A store that touches an address at or above the memory's size, or in a mark.
+    /// A store that touches an address at or above the memory's size, in one of its gaps, or in a mark.
     DataWriteErr,
-    /// A load that touches an address at or above the memory's size, or in a mark.
+    /// A load that touches an address at or above the memory's size, in one of its gaps, or in a mark.
     DataReadErr,
 }
 

@@ -8,10 +8,13 @@ pub mod PageChanges
 pub mod TransferRules
 pub mod PlaceAt
 pub mod MarkHits
+pub mod GapMarks
 pub mod PageTables
 pub mod PageImages
 pub mod PrepareAll
 pub mod WholeMemory
+pub mod Pieces
+pub mod PieceWrites
 pub mod FlagBits
 pub mod RangeSets
 pub mod RangeReplaced

@@ -22,7 +22,7 @@ same_bool false false f g = refl
 
 -- ---- tests of the elements of a list
 
-list_any-same : (p q : ℕ → Bool) → ((a : ℕ) → p a ≡ q a) → (xs : List ℕ) → list_any p xs ≡ list_any q xs
+pub list_any-same : (p q : ℕ → Bool) → ((a : ℕ) → p a ≡ q a) → (xs : List ℕ) → list_any p xs ≡ list_any q xs
 list_any-same p q h [] = refl
 list_any-same p q h (x ∷ xs) = ap (λ b. b || list_any p xs) (h x) ∙ ap (λ b. q x || b) (list_any-same p q h xs)
 
@@ -39,7 +39,7 @@ or_swap true b c d = refl
 or_swap false true c d = elim c as (λ c. true ≡ (c || true)) [ true ↦ refl | false ↦ refl ]
 or_swap false false c d = refl
 
-list_any-or : (p q : ℕ → Bool) (xs : List ℕ) → list_any (λ a. p a || q a) xs ≡ (list_any p xs || list_any q xs)
+pub list_any-or : (p q : ℕ → Bool) (xs : List ℕ) → list_any (λ a. p a || q a) xs ≡ (list_any p xs || list_any q xs)
 list_any-or p q [] = refl
 list_any-or p q (x ∷ xs) =
     ap (λ b. (p x || q x) || b) (list_any-or p q xs) ∙ or_swap (p x) (q x) (list_any p xs) (list_any q xs)
@@ -52,7 +52,7 @@ or_true : (b c : Bool) → c ≡ true → (b || c) ≡ true
 or_true true c h = refl
 or_true false c h = h
 
-or_assoc : (a b c : Bool) → ((a || b) || c) ≡ (a || (b || c))
+pub or_assoc : (a b c : Bool) → ((a || b) || c) ≡ (a || (b || c))
 or_assoc true b c = refl
 or_assoc false b c = refl
 
@@ -61,7 +61,7 @@ or_cases true c h = inl refl
 or_cases false c h = inr h
 
 -- an element that passes
-list_any_of : (p : ℕ → Bool) (xs : List ℕ) (a : ℕ) → Contains xs a → p a ≡ true → list_any p xs ≡ true
+pub list_any_of : (p : ℕ → Bool) (xs : List ℕ) (a : ℕ) → Contains xs a → p a ≡ true → list_any p xs ≡ true
 list_any_of p xs a i h = list_any_at p xs i.0 a i.1 (ap p i.2 ∙ h)
 
 -- ---- segments

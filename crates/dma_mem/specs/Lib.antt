@@ -7,5 +7,7 @@ pub mod Refusals
 pub mod Meeting
 pub mod Flags
 pub mod Pages
+pub mod Lent
+pub mod Regions
 pub mod Ranges
 pub mod inner

@@ -8,3 +8,4 @@ pub mod KeptRanges
 pub mod Origins
 pub mod Checking
 pub mod Stored
+pub mod Rewritten

@@ -9,6 +9,7 @@ mod ordered;
 mod pages;
 pub mod ram;
 pub mod range_set;
+pub mod regions;
 pub mod segment;
 mod table;
 pub mod transfer;

@@ -1,23 +1,25 @@
 //! What a channel's bursts need of a memory, and a memory over bytes that a caller lends.
 
-ghost use Rattle.std.specs.Prelude.{◌≡◌, ℕ, ◌+◌, ◌≤◌, ◌⊎◌, ◌++◌, length, take, drop, replicate, nat_lt, true, if◌then◌else◌, IfOk, IfErr, OnOk, OnErr};
+ghost use Rattle.std.specs.Prelude.{◌≡◌, ℕ, ◌+◌, ◌≤◌, ◌<◌, ◌⊎◌, ◌++◌, [], ◌∷◌, length, take, drop, replicate, nat_lt, true, if◌then◌else◌, IfOk, IfErr, OnOk, OnErr, IsTrue};
 ghost use Rattle.std.specs.List.{list_all, range_with_len};
 ghost use Rattle.dma_mem.specs.Places.{range_of};
 ghost use Rattle.dma_mem.specs.Image.{put, bytes_at};
+ghost use Rattle.dma_mem.specs.Lent.{Loan, Avoids, lies_in_one};
 ghost use Rattle.dma_mem.specs.Pages.{Paged, is_made, AllMade, Keeps, MakesNoOther};
 
 use crate::memory::{MemFault, Memory};
 use crate::segment::Segment;
-use crate::table::blocks::{copy_bytes, fill_bytes};
+use crate::table::blocks::{copy_bytes_apart, fill_bytes};
 use crate::table::put_parts;
 
-/// A memory that bursts read and write: bytes at the addresses from 0 up to its size, some of which are ready to be written.
+/// A memory that bursts read and write: bytes at the addresses from 0 up to its size, but for its gaps. Some of them are ready
+/// to be written.
 pub trait Ram {
     // Its image, and which of its pages are made.
     ghost paged: { Self → Paged };
 
-    // The loan by which it is reached, where it is lent. No call changes it.
-    ghost loan: { Self → ℕ };
+    // The loans by which it is reached, where it is lent, and its gaps. No call changes them.
+    ghost loan: { Self → Loan };
 
     /// How many bytes it has.
     fn size(&self) -> u32
@@ -27,10 +29,18 @@ pub trait Ram {
     fn made(&self, segment: Segment) -> bool
         ensures { result ≡ list_all (is_made (paged self.now)) (range_of segment) };
 
+    /// Returns how many addresses of a segment come before the first that lies in a gap. It is the segment's length where
+    /// none does.
+    fn clear(&self, segment: Segment) -> u32
+        ensures few { result ≤ segment.len }
+        ensures none { Avoids (loan self.now).gaps segment.addr result }
+        ensures next { result < segment.len → IsTrue (lies_in_one (loan self.now).gaps (segment.addr + result)) };
+
     /// The bytes from an address on, as many as the block has: in place where they are in one piece, else the block, filled
     /// with them.
     fn bytes<'a>(&'a self, addr: u32, block: &'a mut [u8]) -> &'a [u8]
-        requires { addr + length block.old ≤ length (paged self.now).image }
+        requires within { addr + length block.old ≤ length (paged self.now).image }
+        requires gaps { Avoids (loan self.now).gaps addr (length block.old) }
         ensures { result.now ≡ take (length block.old) (drop addr (paged self.now).image) };
 
     /// Makes the pages of a segment where they aren't made.
@@ -53,6 +63,7 @@ pub trait Ram {
     fn write_parts(&mut self, addr: u32, front: &[u8], back: &[u8])
         requires within { addr + length front.now + length back.now ≤ length (paged self.old).image }
         requires made { AllMade (paged self.old) (range_with_len addr (length front.now + length back.now)) }
+        requires gaps { Avoids (loan self.old).gaps addr (length front.now + length back.now) }
         ensures image { (paged self.new).image ≡ put (paged self.old).image (bytes_at addr (front.now ++ back.now)) }
         ensures made { (paged self.new).made ≡ (paged self.old).made }
         ensures loan { loan self.new ≡ loan self.old };
@@ -62,6 +73,8 @@ pub trait Ram {
         requires source { from + len ≤ length (paged self.old).image }
         requires within { to + len ≤ length (paged self.old).image }
         requires made { AllMade (paged self.old) (range_with_len to len) }
+        requires reads { Avoids (loan self.old).gaps from len }
+        requires writes { Avoids (loan self.old).gaps to len }
         requires apart { (from + len ≤ to) ⊎ (to + len ≤ from) }
         ensures image { (paged self.new).image ≡ put (paged self.old).image (bytes_at to (take len (drop from (paged self.old).image))) }
         ensures made { (paged self.new).made ≡ (paged self.old).made }
@@ -71,15 +84,18 @@ pub trait Ram {
     fn fill(&mut self, addr: u32, len: u32, byte: u8)
         requires within { addr + len ≤ length (paged self.old).image }
         requires made { AllMade (paged self.old) (range_with_len addr len) }
+        requires gaps { Avoids (loan self.old).gaps addr len }
         ensures image { (paged self.new).image ≡ put (paged self.old).image (bytes_at addr (replicate len byte)) }
         ensures made { (paged self.new).made ≡ (paged self.old).made }
         ensures loan { loan self.new ≡ loan self.old };
 }
 
 impl Ram for Memory {
+    ghost use Rattle.dma_mem.specs.Lent.{unlent};
+
     ghost paged = { λ m. m };
 
-    ghost loan = { λ _. 0 };
+    ghost loan = { λ _. unlent };
 
     #[inline(always)]
     fn size(&self) -> u32 {
@@ -89,6 +105,11 @@ impl Ram for Memory {
     #[inline(always)]
     fn made(&self, segment: Segment) -> bool {
         Memory::made(self, segment)
+    }
+
+    #[inline(always)]
+    fn clear(&self, segment: Segment) -> u32 {
+        segment.len
     }
 
     #[inline(always)]
@@ -136,11 +157,12 @@ impl<'a> LentRam<'a> {
 }
 
 impl Ram for LentRam<'_> {
+    ghost use Rattle.std.specs.Prelude.{[], ◌∷◌};
     ghost use Rattle.dma_mem.specs.Pages.{whole};
 
     ghost paged = { λ r. whole r.bytes.now };
 
-    ghost loan = { λ r. r.bytes.ghost_name };
+    ghost loan = { λ r. record { names = r.bytes.ghost_name ∷ []; gaps = [] } };
 
     #[inline(always)]
     fn size(&self) -> u32 {
@@ -154,6 +176,11 @@ impl Ram for LentRam<'_> {
             return true;
         }
         segment.addr as usize + segment.len as usize <= self.bytes.len()
+    }
+
+    #[inline(always)]
+    fn clear(&self, segment: Segment) -> u32 {
+        segment.len
     }
 
     #[inline(always)]
@@ -176,7 +203,7 @@ impl Ram for LentRam<'_> {
     }
 
     fn copy_apart(&mut self, from: u32, to: u32, len: u32) {
-        copy_bytes(self.bytes, from as usize, to as usize, len as usize);
+        copy_bytes_apart(self.bytes, from as usize, to as usize, len as usize);
     }
 
     fn fill(&mut self, addr: u32, len: u32, byte: u8) {

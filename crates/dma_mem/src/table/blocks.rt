@@ -4,7 +4,7 @@ ghost use Rattle.std.specs.Prelude.{◌≡◌, ℕ, ◌+◌, ◌/◌, ◌%◌, �
 ghost use Rattle.dma_mem.specs.inner.Blocks.{copied, filled, CopiesBlock, FillsBlock};
 ghost use Rattle.dma_mem.specs.inner.PageTable.{page_at};
 
-use crate::table::{GROUP_SIZE, Group, PAGE_SIZE, Page, Table, shown};
+use crate::table::{GROUP_SIZE, Group, PAGE_SIZE, Page, Table, put_bytes, shown};
 use std::mem;
 
 // Returns how many of the `len` bytes from `start` on lie on the page of the first.
@@ -23,6 +23,23 @@ pub(crate) fn copy_bytes(all: &mut [u8], from: usize, to: usize, len: usize)
     ensures { all.new ≡ copied all.old from to len }
 {
     all.copy_within(from..from + len, to);
+}
+
+// Copies the `len` bytes of a slice from `from` on to the places from `to` on, where the two ranges share no place: as one
+// block, while `copy_bytes` copies byte by byte.
+pub(crate) fn copy_bytes_apart(all: &mut [u8], from: usize, to: usize, len: usize)
+    requires source { from + len ≤ length all.old }
+    requires within { to + len ≤ length all.old }
+    requires apart { (from + len ≤ to) ⊎ (to + len ≤ from) }
+    ensures { all.new ≡ copied all.old from to len }
+{
+    if from + len <= to {
+        let (front, back) = all.split_at_mut(to);
+        put_bytes(back, 0, &front[from..from + len]);
+    } else {
+        let (front, back) = all.split_at_mut(from);
+        put_bytes(front, to, &back[..len]);
+    }
 }
 
 // Sets the `len` bytes of a slice from `start` on to one byte.

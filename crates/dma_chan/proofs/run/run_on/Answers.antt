@@ -1,28 +1,32 @@
-use Rattle.std.proofs.Common.{ℕ, List, refl, sym, ap, ◌∙◌, subst}
+use Rattle.std.proofs.Common.{ℕ, List, [], refl, sym, ap, ◌∙◌, subst}
 use Rattle.dma_chan.specs.Exec.{State}
 use Rattle.dma_chan.specs.Channel.{state_of}
 use Rattle.dma_chan.specs.Run.{opening}
 use Rattle.dma_chan.proofs.RunAlone.{HasRun, run_on, stops_unread}
+use Rattle.dma_mem.specs.Lent.{with_gaps}
 use Rattle.dma_chan.proofs.run.run_on.Goals as goal
 
 pub loop-turn-preserved : goal.loop-turn-preserved
 loop-turn-preserved g c =
+    let marks = with_gaps (g.M.Ram.loan c.args.memory.now) [] in
     let s = opening (g.M.Ram.paged c.args.memory.now).image in
     let image = (g.M.Ram.paged c.prepare.new.memory).image in
     let step = c.execute.ensures in
-    let h : HasRun c.args.program.bytes s c.loop-turn.turn c.loop-turn.channel image c.loop-turn.events = subst (λ (i : List ℕ). HasRun c.args.program.bytes s c.loop-turn.turn c.loop-turn.channel i c.loop-turn.events) (sym c.prepare.ensures.image) c.loop-turn.invariant.run in
+    let loan = c.prepare.ensures.loan ∙ c.loop-turn.invariant.loan in
+    let h : HasRun marks c.args.program.bytes s c.loop-turn.turn c.loop-turn.channel image c.loop-turn.events = subst (λ (i : List ℕ). HasRun marks c.args.program.bytes s c.loop-turn.turn c.loop-turn.channel i c.loop-turn.events) (sym c.prepare.ensures.image) c.loop-turn.invariant.run in
     record {
-      run = run_on c.args.program.bytes s c.loop-turn.turn c.loop-turn.channel c.execute.new.self image (g.M.Ram.paged c.execute.new.memory).image c.loop-turn.events c.execute.new.events c.execute.result h (rw c.new-marks.ensures at step.turn) c.in-Moved.is (rw c.new-marks.ensures at step.memory) (rw c.new-marks.ensures at step.events) (rw c.new-marks.ensures at step.channel);
+      run = run_on marks c.args.program.bytes s c.loop-turn.turn c.loop-turn.channel c.execute.new.self image (g.M.Ram.paged c.execute.new.memory).image c.loop-turn.events c.execute.new.events c.execute.result h (rw (c.new-marks.ensures, loan) at step.turn) c.in-Moved.is (rw (c.new-marks.ensures, loan) at step.memory) (rw (c.new-marks.ensures, loan) at step.events) (rw (c.new-marks.ensures, loan) at step.channel);
       known = rw step.pages (rw c.in-Ok-prepare.is at c.prepare.ensures.known);
       pages = λ p h. rw step.pages (c.prepare.ensures.keeps.made p (c.loop-turn.invariant.pages p h));
-      loan = step.loan ∙ c.prepare.ensures.loan ∙ c.loop-turn.invariant.loan;
+      loan = step.loan ∙ loan;
     }
 
 pub returns-in-Err-clause-ok : goal.returns-in-Err-clause-ok
 returns-in-Err-clause-ok g c =
+    let marks = with_gaps (g.M.Ram.loan c.args.memory.now) [] in
     let s = opening (g.M.Ram.paged c.args.memory.now).image in
     let run = c.loop-turn.invariant.run in
     let image = (g.M.Ram.paged c.loop-turn.memory).image in
     let place = c.pc-pc.ensures ∙ sym (ap (λ (s : State). s.registers.pc) run.here) in
     let unread = sym c.next.ensures ∙ c.in-Err.is in
-    (state_of c.loop-turn.channel image c.loop-turn.events, (c.loop-turn.turn, place, stops_unread c.args.program.bytes s c.args.limit c.loop-turn.turn c.loop-turn.channel image c.loop-turn.events c.in-Err.kind run c.loop-turn-test.true unread), refl)
+    (state_of c.loop-turn.channel image c.loop-turn.events, (c.loop-turn.turn, place, stops_unread marks c.args.program.bytes s c.args.limit c.loop-turn.turn c.loop-turn.channel image c.loop-turn.events c.in-Err.kind run c.loop-turn-test.true unread), refl)

@@ -1,0 +1,135 @@
+-- A save is the save of the channel that its parts make, and a channel's save has that channel's parts.
+use Rattle.std.proofs.Common.{◌≡◌, ◌≢◌, ℕ, zero, suc, ◌∷◌, ◌+◌, ◌^◌, ◌<◌, ◌≤◌, Bool, true, false, cond, List, [], ◌++◌, length, Option, Some, None, refl, sym, ◌∙◌, append_assoc, arith}
+use Rattle.std.proofs.lemmas.List.{take_at, drop_at, length-append, length-take, length-drop, nil_from_length}
+use Rattle.std.proofs.Common.{append-nil}
+use Rattle.std.specs.Prelude.{is_some, IfSome}
+use Rattle.std.specs.Int.{w32, to_le_bytes}
+use Rattle.dma_chan.specs.declared.save.head.Head.{Head}
+use Rattle.dma_chan.specs.Programs.{ProgramValue}
+use Rattle.dma_chan.specs.Channel.{ChannelValue, bytes_of_program, code_of}
+use Rattle.dma_chan.specs.Saved.{AreBytes, IsLoadedAt, IsChannelValue, checksum, sealed, cost_of, head_of, head_bytes, register_bytes, saved}
+use Rattle.dma_chan.specs.inner.Saves.{buffer_in, program_in, channel_in, HasHeadRanges, LoadsWhole, FitsIn}
+
+pub head_len : (h : Head) → length (head_bytes h) ≡ 48
+unfolding head_bytes register_bytes
+head_len h = refl
+
+-- ---- from the parts to the channel
+
+is_loaded_again : (b : Bool) (p : ProgramValue) → is_some (cond b (Some p) None) ≡ b
+is_loaded_again true p = refl
+is_loaded_again false p = refl
+
+cost_again : (b : Bool) (h : Head) (bytes : List ℕ) → LoadsWhole b h → cost_of (cond b (Some (record { bytes = bytes; cost = h.cost })) None) ≡ h.cost
+cost_again true h bytes l = refl
+cost_again false h bytes l = sym l.0
+
+code_again : (b : Bool) (h : Head) (bytes : List ℕ) → length bytes ≡ h.program_len → LoadsWhole b h
+    → bytes_of_program (cond b (Some (record { bytes = bytes; cost = h.cost })) None) ≡ bytes
+code_again true h bytes e l = refl
+code_again false h bytes e l = sym (nil_from_length bytes (e ∙ l.1))
+
+buffer_len : (save : List ℕ) (h : Head) → FitsIn (length save) h → length (buffer_in save h) ≡ h.buffer_len
+buffer_len save h f = simp (length-take, length-drop) (omega (arith, f.total))
+
+program_len : (save : List ℕ) (h : Head) → FitsIn (length save) h → length (program_in save h) ≡ h.program_len
+program_len save h f = simp (length-take, length-drop) (omega (arith, f.total))
+
+head_again : (save : List ℕ) (h : Head) → FitsIn (length save) h → head_of (channel_in save h) ≡ h
+head_again save h f =
+    let code = code_again h.is_loaded h (program_in save h) (program_len save h f) f.loads in
+    let loaded = is_loaded_again h.is_loaded (record { bytes = program_in save h; cost = h.cost }) in
+    let cost = cost_again h.is_loaded h (program_in save h) f.loads in
+    rw (loaded, cost, code, buffer_len save h f, program_len save h f) refl
+
+-- What has the parts of a save and is written with them is the save of the channel with these parts.
+pub sealed_is_saved : (save : List ℕ) (h : Head) → FitsIn (length save) h
+    → sealed (head_bytes h ++ (buffer_in save h ++ []) ++ program_in save h) ≡ saved (channel_in save h)
+unfolding saved
+sealed_is_saved save h f =
+    let code = code_again h.is_loaded h (program_in save h) (program_len save h f) f.loads in
+    rw (head_again save h f, code, append-nil) refl
+
+-- ---- from the channel to the parts
+
+program_again : (p : Option ProgramValue) → cond (is_some p) (Some (record { bytes = bytes_of_program p; cost = cost_of p })) None ≡ p
+program_again None = refl
+program_again (Some p) = refl
+
+cost_fits : (pc : ℕ) (p : Option ProgramValue) → IfSome p (IsLoadedAt pc) → IfSome (cost_of p) (λ n. n < 2 ^ 32)
+cost_fits pc None l = tt
+cost_fits pc (Some p) l = l.cost
+
+code_fits : (pc : ℕ) (p : Option ProgramValue) → IfSome p (IsLoadedAt pc) → length (bytes_of_program p) ≤ 8192
+code_fits pc None l = omega arith
+code_fits pc (Some p) l = l.limit
+
+loads_whole : (p : Option ProgramValue) (h : Head) → IfSome p (IsLoadedAt h.registers.pc) → h.cost ≡ cost_of p → h.program_len ≡ length (bytes_of_program p)
+    → LoadsWhole (is_some p) h
+loads_whole None h l cost len = (cost, len)
+loads_whole (Some p) h l cost len = omega (arith, l.offset)
+
+pub head_ranges : (c : ChannelValue) → IsChannelValue c → HasHeadRanges (head_of c)
+head_ranges c v = record {
+  registers = v.registers;
+  taken = v.taken;
+  stored = omega (arith, v.taken, v.few);
+  cost = cost_fits c.registers.pc c.program v.program;
+  buffer_len = omega (arith, v.buffer_limit);
+  program_len = omega (arith, code_fits c.registers.pc c.program v.program);
+}
+
+-- what follows the head in the save of a channel
+abbrev pub rest_of : ChannelValue → List ℕ
+rest_of c = c.buffer ++ (code_of c ++ to_le_bytes w32 (checksum (head_bytes (head_of c) ++ c.buffer ++ code_of c)))
+
+pub saved_rest : (c : ChannelValue) → saved c ≡ head_bytes (head_of c) ++ rest_of c
+unfolding saved sealed
+saved_rest c = simp append_assoc
+
+pub saved_len : (c : ChannelValue) → length (saved c) ≡ 48 + length c.buffer + length (code_of c) + 4
+saved_len c =
+    let check = to_le_bytes w32 (checksum (head_bytes (head_of c) ++ c.buffer ++ code_of c)) in
+    rw (saved_rest c) (omega (arith, head_len (head_of c), length-append (head_bytes (head_of c)) (rest_of c), length-append c.buffer (code_of c ++ check), length-append (code_of c) check))
+
+-- These bytes have the parts of this channel.
+pub record HasParts (c : ChannelValue) (save : List ℕ) : Type 0 where
+  pub fits : FitsIn (length save) (head_of c)
+  pub channel : channel_in save (head_of c) ≡ c
+  pub again : sealed (head_bytes (head_of c) ++ (buffer_in save (head_of c) ++ []) ++ program_in save (head_of c)) ≡ save
+
+-- The save of a channel has that channel's parts.
+pub saved_parts : (c : ChannelValue) (save : List ℕ) → IsChannelValue c → save ≡ saved c → HasParts c save
+unfolding saved
+saved_parts c save v e =
+    let head = head_bytes (head_of c) in
+    let check = to_le_bytes w32 (checksum (head ++ c.buffer ++ code_of c)) in
+    let whole : save ≡ head ++ rest_of c = e ∙ saved_rest c in
+    let apart : save ≡ (head ++ c.buffer) ++ (code_of c ++ check) = whole ∙ sym (append_assoc head c.buffer (code_of c ++ check)) in
+    let len : length (head ++ c.buffer) ≡ 48 + length c.buffer = omega (arith, head_len (head_of c), length-append head c.buffer) in
+    let buffer : buffer_in save (head_of c) ≡ c.buffer = rw (whole, drop_at head (rest_of c) 48 (head_len (head_of c))) (take_at c.buffer (code_of c ++ check) (length c.buffer) refl) in
+    let program : program_in save (head_of c) ≡ code_of c = rw (apart, drop_at (head ++ c.buffer) (code_of c ++ check) (48 + length c.buffer) len) (take_at (code_of c) check (length (code_of c)) refl) in
+    let total : length save ≡ 48 + length c.buffer + length (code_of c) + 4 = rw apart (omega (arith, len, length-append (head ++ c.buffer) (code_of c ++ check), length-append (code_of c) check)) in
+    record {
+      fits = record {
+        buffer = v.buffer_limit;
+        program = code_fits c.registers.pc c.program v.program;
+        total = total;
+        loads = loads_whole c.program (head_of c) v.program refl refl;
+        few = v.few;
+      };
+      channel = rw (program, buffer, program_again c.program) refl;
+      again = rw (buffer, program, append-nil) (sym e);
+    }
+
+-- ---- what every channel satisfies
+
+pub bytes_append : (xs ys : List ℕ) → AreBytes xs → AreBytes ys → AreBytes (xs ++ ys)
+bytes_append [] ys h g k = g k
+bytes_append (x ∷ xs) ys h g zero = h zero
+bytes_append (x ∷ xs) ys h g (suc k) = bytes_append xs ys (λ j. h (suc j)) g k
+
+pub loaded_at : (p : Option ProgramValue) (pc : ℕ) → length (bytes_of_program p) ≤ 8192 → AreBytes (bytes_of_program p)
+    → (p ≢ None → pc ≤ length (bytes_of_program p)) → IfSome (cost_of p) (λ n. n < 2 ^ 32) → IfSome p (IsLoadedAt pc)
+loaded_at None pc limit bytes offset cost = tt
+loaded_at (Some p) pc limit bytes offset cost = record { limit = limit; bytes = bytes; offset = offset (λ e. absurd cc); cost = cost }

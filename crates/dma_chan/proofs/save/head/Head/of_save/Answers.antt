@@ -1,0 +1,50 @@
+use Rattle.std.proofs.Common.{◌≡◌, [], ◌++◌, true, sym, refl, ◌∙◌, arith}
+use Rattle.std.proofs.lemmas.Slice.Eq.{slice_eq-Decides}
+use Rattle.std.proofs.lemmas.Bool.Decides.{Decides-eqb}
+use Rattle.dma_chan.specs.Saved.{head_of, head_bytes, sealed}
+use Rattle.dma_chan.specs.inner.Saves.{buffer_in, program_in}
+use Rattle.dma_chan.proofs.SavedParts.{saved_parts, saved_rest, head_ranges, rest_of, sealed_is_saved}
+use Rattle.dma_chan.proofs.save.head.Head.of_save.Goals as goal
+
+pub returns-then-save-lt-HEAD_LEN-clause-only : goal.returns-then-save-lt-HEAD_LEN-clause-only
+returns-then-save-lt-HEAD_LEN-clause-only c d v e =
+    let parts = saved_parts d c.args.save.now v e in
+    absurd (omega (arith, parts.fits.total))
+
+pub returns-in_default-clause-only : goal.returns-in_default-clause-only
+returns-in_default-clause-only c d v e =
+    let found = c.in_default.ensures (head_of d) (rest_of d) (head_ranges d v) (e ∙ saved_rest d) in
+    cc found
+
+pub returns-then-not-fits-clause-only : goal.returns-then-not-fits-clause-only
+returns-then-not-fits-clause-only c d v e =
+    let parts = saved_parts d c.args.save.now v e in
+    let found = c.in-Some.ensures (head_of d) (rest_of d) (head_ranges d v) (e ∙ saved_rest d) in
+    let head : c.in-Some.head ≡ head_of d = cc found in
+    let fits : c.fits.result ≡ true = c.fits.ensures.1 (rw head parts.fits) in
+    cc (fits, c.if-not-fits.true)
+
+pub returns-then-eq-clause-found : goal.returns-then-eq-clause-found
+returns-then-eq-clause-found c =
+    let save = c.args.save.now in
+    let head = c.in-Some.head in
+    let written : c.as_slice.result.now ≡ sealed (head_bytes head ++ (buffer_in save head ++ []) ++ program_in save head) =
+    rw (c.as_slice.ensures, c.write-again.ensures.bytes, c.buffer_of.ensures, c.program_of.ensures) refl in
+    let same = (slice_eq-Decides Decides-eqb _ _ _ c.eq.ensures).0 c.if-eq.true in
+    sym same ∙ written ∙ sealed_is_saved save head (c.fits.ensures.0 c.if-not-fits.false)
+
+pub returns-then-eq-clause-only : goal.returns-then-eq-clause-only
+returns-then-eq-clause-only c d v e =
+    let parts = saved_parts d c.args.save.now v e in
+    let found = c.in-Some.ensures (head_of d) (rest_of d) (head_ranges d v) (e ∙ saved_rest d) in
+    let head : c.in-Some.head ≡ head_of d = cc found in
+    rw head parts.channel
+
+pub returns-else-eq-clause-only : goal.returns-else-eq-clause-only
+returns-else-eq-clause-only c d v e =
+    let save = c.args.save.now in
+    let parts = saved_parts d save v e in
+    let found = c.in-Some.ensures (head_of d) (rest_of d) (head_ranges d v) (e ∙ saved_rest d) in
+    let head : c.in-Some.head ≡ head_of d = cc found in
+    let same : c.as_slice.result.now ≡ save = rw (c.as_slice.ensures, c.write-again.ensures.bytes, c.buffer_of.ensures, c.program_of.ensures, head) parts.again in
+    cc ((slice_eq-Decides Decides-eqb _ _ _ c.eq.ensures).1 same, c.if-eq.false)

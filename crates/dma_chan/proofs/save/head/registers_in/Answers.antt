@@ -1,0 +1,19 @@
+use Rattle.std.proofs.Common.{◌≡◌, Bool, true, false, ◌∙◌, ap, refl}
+use Rattle.std.specs.Prelude.{IsTrue}
+use Rattle.dma_insn.specs.ControlWord.{is_control}
+use Rattle.dma_chan.proofs.SavedHeads.{head_fields}
+use Rattle.dma_chan.proofs.save.head.registers_in.Goals as goal
+
+refused : (b : Bool) → false ≡ b → IsTrue b → ⊥
+refused true e t = absurd cc
+refused false e t = absurd cc
+
+pub returns-in_default : goal.returns-in_default
+returns-in_default c h rest r e =
+    let f = head_fields h rest c.args.save.now r e in
+    absurd (refused (is_control h.registers.ccr) (c.in_default.ensures.accepted ∙ ap is_control (c.u32_at.ensures ∙ f.ccr)) r.registers.control)
+
+pub returns : goal.returns
+returns c h rest r e =
+    let f = head_fields h rest c.args.save.now r e in
+    rw (c.u32_at-2.ensures, f.pc, c.u32_at-3.ensures, f.sar, c.u32_at-4.ensures, f.dar, f.lc0, f.lc1, c.in-Ok.ensures.ok, c.u32_at.ensures, f.ccr) refl

@@ -1,0 +1,85 @@
+//! Memory that a channel keeps for the longest program.
+
+ghost use Rattle.std.specs.Prelude.{◌≡◌, ◌≤◌, length, nat_lt, if◌then◌else◌, None, IsNone, IfSome, IfOk, IfErr, OnOk, OnErr, vec_capacity};
+ghost use Rattle.dma_chan.specs.Channel.{unloaded, loaded};
+
+use crate::channel::Channel;
+use crate::program::{MAX_BYTES, Program, ProgramFault};
+use std::alloc::{AllocError, Global};
+
+// Unloads a program. Where it was in the room, the room is kept.
+pub(super) fn put_away(program: &mut Option<Program>, room: &mut Option<Vec<u8>>)
+    requires { IfSome room.old (λ room. 8192 ≤ vec_capacity room) }
+    ensures program { program.new ≡ None }
+    ensures room { IfSome room.new (λ room. 8192 ≤ vec_capacity room) }
+{
+    if let Some(program) = program.take() {
+        if let Ok(free) = program.into_room() {
+            *room = Some(free);
+        }
+    }
+}
+
+impl Channel {
+    /// A channel without a program, as [`Channel::new`] makes it, that also has memory for the longest program. It keeps this
+    /// memory, so that [`Channel::load_bytes`] takes none from then on.
+    pub fn with_room(alloc: Global) -> Result<Channel, AllocError>
+        ensures { IfOk result (λ channel. channel ≡ unloaded) }
+    {
+        let mut channel = Channel::new(alloc)?;
+        channel.room = Some(Vec::with_capacity(alloc, MAX_BYTES)?);
+        Ok(channel)
+    }
+
+    /// Loads the program of these bytes, which need not be instructions, in place of what was there, as [`Channel::load`]
+    /// does. It has no cost. A channel that [`Channel::with_room`] made asks for no memory here.
+    ///
+    /// The error is `ProgramTooLong` above [`MAX_BYTES`], else `NoMemory`. Then nothing changes.
+    pub fn load_bytes(&mut self, alloc: Global, bytes: &[u8]) -> Result<(), ProgramFault>
+        ensures ok { OnOk result (self.new ≡ loaded (record { bytes = bytes.now; cost = None })) }
+        ensures fits { OnOk result (length bytes.now ≤ 8192) }
+        ensures err { IfErr result (λ fault. fault ≡ (if nat_lt 8192 (length bytes.now) then ProgramFault.ProgramTooLong else ProgramFault.NoMemory)) }
+        ensures unchanged { OnErr result (self.new ≡ self.old) }
+    {
+        let program = self.program_of(alloc, bytes)?;
+        self.load(program);
+        Ok(())
+    }
+
+    // Makes the program of these bytes, in the room where there is one: then no program is loaded any more.
+    pub(super) fn program_of(
+        &mut self,
+        alloc: Global,
+        bytes: &[u8],
+    ) -> Result<Program, ProgramFault>
+        ensures ok { IfOk result (λ program. program ≡ record { bytes = bytes.now; cost = None }) }
+        ensures fits { OnOk result (length bytes.now ≤ 8192) }
+        ensures err { IfErr result (λ fault. fault ≡ (if nat_lt 8192 (length bytes.now) then ProgramFault.ProgramTooLong else ProgramFault.NoMemory)) }
+        ensures unchanged { OnErr result (self.new ≡ self.old) }
+    {
+        if bytes.len() > MAX_BYTES {
+            return Err(ProgramFault::ProgramTooLong);
+        }
+        match self.take_room() {
+            Some(room) => Ok(Program::in_room(room, bytes)),
+            None => Program::from_bytes(alloc, bytes),
+        }
+    }
+
+    // Takes the room, also out of the loaded program, which is unloaded then.
+    fn take_room(&mut self) -> Option<Vec<u8>>
+        ensures room { IfSome result (λ room. 8192 ≤ vec_capacity room) }
+        ensures none { IsNone result → self.new ≡ self.old }
+    {
+        let Some(program) = self.program.take() else {
+            return self.room.take();
+        };
+        match program.into_room() {
+            Ok(room) => Some(room),
+            Err(program) => {
+                self.program = Some(program);
+                self.room.take()
+            }
+        }
+    }
+}

@@ -1,0 +1,126 @@
+//! Saves a channel, and restores it.
+
+ghost use Rattle.std.specs.Prelude.{◌≡◌, ◌≤◌, ◌++◌, length, drop, nat_le, is_some, Err, IsNone, IfSome, MatchResult, OnOk, OnErr};
+ghost use Rattle.dma_chan.specs.Channel.{ChannelValue, code_of};
+ghost use Rattle.dma_chan.specs.Saved.{head_of, saved, IsChannelValue};
+ghost use Rattle.dma_chan.specs.inner.Saves.{channel_in, FitsIn};
+
+use crate::channel::Channel;
+use crate::save::RestoreFault;
+use crate::save::head::{CHECKSUM_LEN, HEAD_LEN, Head};
+use crate::save::writing::{SaveBytes, write};
+use std::alloc::{AllocError, Global};
+
+impl Channel {
+    /// How many bytes the channel's save has, at most [`MAX_SAVE`](crate::save::MAX_SAVE).
+    pub fn save_len(&self) -> usize
+        ensures len { result ≡ length (saved self.now) }
+        ensures limit { result ≤ 8500 }
+    {
+        HEAD_LEN + self.buffer.len() + self.program_bytes().len() + CHECKSUM_LEN
+    }
+
+    /// Writes the channel's save to the front of `out`, and returns how many bytes it has. Where `out` has fewer, it returns
+    /// `None` and writes nothing.
+    pub fn save(&self, out: &mut [u8]) -> Option<usize>
+        ensures bytes { IfSome result (λ n. out.new ≡ saved self.now ++ drop n out.old) }
+        ensures len { IfSome result (λ n. n ≡ length (saved self.now)) }
+        ensures limit { length (saved self.now) ≤ 8500 }
+        ensures room { is_some result ≡ nat_le (length (saved self.now)) (length out.old) }
+        ensures unchanged { IsNone result → out.new ≡ out.old }
+        ensures channel { IsChannelValue self.now }
+    {
+        let bytes = self.saved_bytes();
+        let len = self.save_len();
+        if out.len() < len {
+            return None;
+        }
+        out[..len].copy_from_slice(bytes.as_slice());
+        Some(len)
+    }
+
+    /// Makes the channel the one of this save. A channel that [`Channel::with_room`] made asks for no memory here.
+    ///
+    /// The error is `BadSave` where the bytes are the save of no channel, else `NoMemory`. Then nothing changes.
+    pub fn restore(&mut self, alloc: Global, save: &[u8]) -> Result<(), RestoreFault>
+        // What is restored is the channel whose save the bytes are.
+        ensures ok { OnOk result (save.now ≡ saved self.new) }
+        // Each channel's save restores that channel, unless memory runs out.
+        ensures all { (c : ChannelValue) → IsChannelValue c → save.now ≡ saved c
+            → MatchResult result (λ _. self.new ≡ c) (λ fault. fault ≡ RestoreFault.NoMemory) }
+        // Memory runs out only at the save of a channel.
+        ensures memory { result ≡ Err RestoreFault.NoMemory → (c : ChannelValue) × (save.now ≡ saved c) }
+        ensures unchanged { OnErr result (self.new ≡ self.old) }
+    {
+        let Some(head) = Head::of_save(save) else {
+            return Err(RestoreFault::BadSave);
+        };
+        if self.restore_program(alloc, &head, save).is_err() {
+            return Err(RestoreFault::NoMemory);
+        }
+        self.registers = head.registers;
+        self.buffer.clear();
+        self.buffer.fill_from_slice(head.buffer_of(save));
+        self.taken = head.taken;
+        self.stored = head.stored;
+        Ok(())
+    }
+
+    // Returns the bytes of the program, none where none is loaded.
+    fn program_bytes(&self) -> &[u8]
+        ensures value { result.now ≡ code_of self.now }
+        ensures limit { length result.now ≤ 8192 }
+    {
+        match &self.program {
+            Some(program) => program.bytes(),
+            None => &[],
+        }
+    }
+
+    // Returns the head of the channel's save.
+    fn head(&self) -> Head
+        ensures head { result ≡ head_of self.now }
+        ensures buffer { length self.now.buffer ≤ 256 }
+    {
+        let cost = match &self.program {
+            Some(program) => program.cost(),
+            None => None,
+        };
+        Head {
+            registers: self.registers,
+            taken: self.taken,
+            stored: self.stored,
+            is_loaded: self.program.is_some(),
+            cost,
+            buffer_len: self.buffer.len() as u16,
+            program_len: self.program_bytes().len() as u16,
+        }
+    }
+
+    // Returns the channel's save.
+    fn saved_bytes(&self) -> SaveBytes
+        ensures bytes { result ≡ saved self.now }
+        ensures channel { IsChannelValue self.now }
+    {
+        let head = self.head();
+        let (front, back) = self.buffer.as_slices();
+        let program = self.program_bytes();
+        write(&head, front, back, program)
+    }
+
+    // Loads the program of a save with this head, or unloads the program.
+    fn restore_program(&mut self, alloc: Global, head: &Head, save: &[u8]) -> Result<(), AllocError>
+        requires { FitsIn (length save.now) head.now }
+        ensures ok { OnOk result (self.new.program ≡ (channel_in save.now head.now).program) }
+        ensures unchanged { OnErr result (self.new ≡ self.old) }
+    {
+        if !head.is_loaded {
+            self.unload();
+            return Ok(());
+        }
+        let bytes = head.program_of(save);
+        let program = self.program_of(alloc, bytes).map_err(|_| AllocError)?;
+        self.load(program.with_cost(head.cost));
+        Ok(())
+    }
+}

@@ -1,0 +1,214 @@
+-- What bytes written to one piece make of the image.
+use Rattle.std.proofs.Common.{◌≡◌, ℕ, ◌+◌, ◌-◌, ◌<◌, ◌≤◌, List, [], ◌∷◌, ◌++◌, length, get_or, take, drop, set, replicate, true, false, ◌&&◌, refl, ap, sym, ◌∙◌, arith, inl, inr, zero, suc, append_assoc}
+use Rattle.std.specs.Prelude.{nat_le}
+use Rattle.std.proofs.Math.Seq.{take-append-add, drop-append-add, map-set_same}
+use Rattle.std.proofs.lemmas.List.{length-append, length-replicate, length-map, take-append-le, drop-append-le, map-set, set-get_or, length-drop, length-take-le}
+use Rattle.dma_mem.specs.declared.regions.Region.{Region}
+use Rattle.std.proofs.lemmas.Bool.{cases_lt}
+use Rattle.dma_mem.specs.Lent.{lies_in_one}
+use Rattle.dma_mem.specs.Image.{put, bytes_at}
+use Rattle.dma_mem.specs.Pages.{all_made}
+use Rattle.dma_mem.specs.Regions.{Piece, end_of, piece_of, pieces_of, rises_from, in_order, bytes_above, image_of, gaps_above, gaps_of, has}
+use Rattle.dma_mem.specs.inner.Rewritten.{nowhere, piece_at, Holds, Writable, Rewritten}
+use Rattle.dma_mem.proofs.ImagePut.{length-put}
+use Rattle.dma_mem.proofs.BytesPut.{put-bytes_at, put_parts}
+use Rattle.dma_mem.proofs.PageImages.{put_none}
+use Rattle.dma_mem.proofs.Pieces.{first, no_region, piece_at_of, found, length-bytes_above, image_of-most}
+
+-- the piece at an index with other bytes
+abbrev pub with_bytes : List Piece → ℕ → List ℕ → Piece
+with_bytes ps i bs = record { addr = (piece_at ps i).addr; bytes = bs }
+
+-- what the image has before and after a piece, whatever its bytes
+pub record Context (at : ℕ) (ps : List Piece) (i : ℕ) : Type 0 where
+  pub left : List ℕ
+  pub right : List ℕ
+  pub long : at + length left ≡ (piece_at ps i).addr
+  pub is : (bs : List ℕ) → length bs ≡ length (piece_at ps i).bytes → bytes_above at (set ps i (with_bytes ps i bs)) ≡ left ++ (bs ++ right)
+
+pub context : (at : ℕ) (ps : List Piece) (i : ℕ) → rises_from at ps ≡ true → i < length ps → Context at ps i
+context at [] i h l = absurd (omega arith)
+context at (p ∷ ps) zero h l =
+    let f = first at p ps h in
+    let after = f.after in
+    let pad : List ℕ = replicate (p.addr - at) 0 in
+    let before : length pad ≡ p.addr - at = length-replicate (p.addr - at) 0 in
+    record {
+      left = pad;
+      right = bytes_above (end_of p) ps;
+      long = omega (arith, before);
+      is = λ bs e. ap (λ (n : ℕ). replicate (p.addr - at) 0 ++ (bs ++ bytes_above (p.addr + n) ps)) e;
+    }
+context at (p ∷ ps) (suc i) h l =
+    let f = first at p ps h in
+    let after = f.after in
+    let c = context (end_of p) ps i f.rest (omega arith) in
+    let long = c.long in
+    let pad : List ℕ = replicate (p.addr - at) 0 in
+    let before : length pad ≡ p.addr - at = length-replicate (p.addr - at) 0 in
+    record {
+      left = pad ++ (p.bytes ++ c.left);
+      right = c.right;
+      long = omega (arith, length-append pad (p.bytes ++ c.left), length-append p.bytes c.left, before);
+      is = λ bs e.
+          ap (λ (xs : List ℕ). pad ++ (p.bytes ++ xs)) (c.is bs e)
+          ∙ ap (λ (xs : List ℕ). pad ++ xs) (sym (append_assoc p.bytes c.left (bs ++ c.right)))
+          ∙ sym (append_assoc pad (p.bytes ++ c.left) (bs ++ c.right));
+    }
+
+-- the order and the gaps are those of the addresses and lengths
+pub same_order : (at : ℕ) (ps : List Piece) (i : ℕ) (bs : List ℕ) → i < length ps → length bs ≡ length (piece_at ps i).bytes → rises_from at (set ps i (with_bytes ps i bs)) ≡ rises_from at ps
+same_order at [] i bs l e = absurd (omega arith)
+same_order at (p ∷ ps) zero bs l e = ap (λ (n : ℕ). nat_le at p.addr && (nat_le (p.addr + n) 4294963200 && rises_from (p.addr + n) ps)) e
+same_order at (p ∷ ps) (suc i) bs l e =
+    let next = same_order (end_of p) ps i bs (omega arith) e in
+    rw next refl
+
+pub same_gaps : (at : ℕ) (ps : List Piece) (i : ℕ) (bs : List ℕ) → i < length ps → length bs ≡ length (piece_at ps i).bytes → gaps_above at (set ps i (with_bytes ps i bs)) ≡ gaps_above at ps
+same_gaps at [] i bs l e = absurd (omega arith)
+same_gaps at (p ∷ ps) zero bs l e = ap (λ (n : ℕ). record { addr = at; len = p.addr - at } ∷ gaps_above (p.addr + n) ps) e
+same_gaps at (p ∷ ps) (suc i) bs l e = ap (λ gaps. record { addr = at; len = p.addr - at } ∷ gaps) (same_gaps (end_of p) ps i bs (omega arith) e)
+
+-- bytes put into the middle of an image
+pub put_middle : (left old right : List ℕ) (start : ℕ) (bs : List ℕ) → start + length bs ≤ length old → left ++ (put old (bytes_at start bs) ++ right) ≡ put (left ++ (old ++ right)) (bytes_at (length left + start) bs)
+put_middle left old right start bs h =
+    let n = start + length bs in
+    let long : length (left ++ (old ++ right)) ≡ length left + (length old + length right) = omega (arith, length-append left (old ++ right), length-append old right) in
+    let front : take (length left + start) (left ++ (old ++ right)) ≡ left ++ take start old = take-append-add left (old ++ right) start ∙ ap (λ (xs : List ℕ). left ++ xs) (take-append-le start old right (omega arith)) in
+    let same : length left + start + length bs ≡ length left + n = omega arith in
+    let back : drop (length left + start + length bs) (left ++ (old ++ right)) ≡ drop n old ++ right = ap (λ (k : ℕ). drop k (left ++ (old ++ right))) same ∙ drop-append-add left (old ++ right) n ∙ drop-append-le n old right h in
+    ap (λ (xs : List ℕ). left ++ (xs ++ right)) (put-bytes_at old start bs h)
+    ∙ ap (λ (xs : List ℕ). left ++ xs) (append_assoc (take start old) (bs ++ drop n old) right ∙ ap (λ (xs : List ℕ). take start old ++ xs) (append_assoc bs (drop n old) right))
+    ∙ sym (append_assoc left (take start old) (bs ++ (drop n old ++ right)))
+    ∙ sym (put-bytes_at (left ++ (old ++ right)) (length left + start) bs (omega (arith, long)) ∙ ap (λ (xs : List ℕ). xs ++ (bs ++ drop (length left + start + length bs) (left ++ (old ++ right)))) front ∙ ap (λ (xs : List ℕ). (left ++ take start old) ++ (bs ++ xs)) back)
+
+-- the image around a piece
+around : (ps : List Piece) (i : ℕ) (h : in_order ps ≡ true) (l : i < length ps) → image_of ps ≡ (context 0 ps i h l).left ++ ((piece_at ps i).bytes ++ (context 0 ps i h l).right)
+around ps i h l = sym (ap image_of (set-get_or ps i nowhere)) ∙ (context 0 ps i h l).is (piece_at ps i).bytes refl
+
+-- each piece ends below the size
+pub ends_within : (ps : List Piece) (i : ℕ) → in_order ps ≡ true → i < length ps → end_of (piece_at ps i) ≤ length (image_of ps)
+ends_within ps i h l =
+    let c = context 0 ps i h l in
+    let long = c.long in
+    let p = piece_at ps i in
+    omega (arith, ap length (around ps i h l), length-append c.left (p.bytes ++ c.right), length-append p.bytes c.right)
+
+-- bytes put into a piece are put into the image
+pub put_piece : (ps : List Piece) (i start : ℕ) (bs : List ℕ) → in_order ps ≡ true → i < length ps → start + length bs ≤ length (piece_at ps i).bytes → image_of (set ps i (with_bytes ps i (put (piece_at ps i).bytes (bytes_at start bs)))) ≡ put (image_of ps) (bytes_at ((piece_at ps i).addr + start) bs)
+put_piece ps i start bs h l fits =
+    let c = context 0 ps i h l in
+    let old = (piece_at ps i).bytes in
+    let first_of : length c.left ≡ (piece_at ps i).addr = omega (arith, c.long) in
+    c.is (put old (bytes_at start bs)) (length-put old (bytes_at start bs))
+    ∙ put_middle c.left old c.right start bs fits
+    ∙ ap (λ (image : List ℕ). put image (bytes_at (length c.left + start) bs)) (sym (around ps i h l))
+    ∙ ap (λ (n : ℕ). put (image_of ps) (bytes_at (n + start) bs)) first_of
+
+-- what a piece has, the image has
+pub piece_shown : (ps : List Piece) (i a n : ℕ) → in_order ps ≡ true → i < length ps → Holds ps i a n → take n (drop (a - (piece_at ps i).addr) (piece_at ps i).bytes) ≡ take n (drop a (image_of ps))
+piece_shown ps i a n h l holds =
+    let c = context 0 ps i h l in
+    let p = piece_at ps i in
+    let k = a - p.addr in
+    let long = c.long in
+    let place : a ≡ length c.left + k = omega (arith, holds.first) in
+    let some : n ≤ length (drop k p.bytes) = omega (arith, holds.first, holds.last, length-drop k p.bytes) in
+    sym (ap (λ (xs : List ℕ). take n (drop a xs)) (around ps i h l)
+    ∙ ap (λ (m : ℕ). take n (drop m (c.left ++ (p.bytes ++ c.right)))) place
+    ∙ ap (take n) (drop-append-add c.left (p.bytes ++ c.right) k ∙ drop-append-le k p.bytes c.right (omega (arith, holds.first, holds.last)))
+    ∙ take-append-le n (drop k p.bytes) c.right some)
+
+-- ---- regions
+
+-- a write to one region is a write to the memory
+pub rewritten_at : (rs : List Region) (i addr : ℕ) (new : Region) (bs : List ℕ) → in_order (pieces_of rs) ≡ true → i < length rs → Holds (pieces_of rs) i addr (length bs) → new.addr ≡ (get_or rs i no_region).addr → new.bytes.ghost_name ≡ (get_or rs i no_region).bytes.ghost_name → new.bytes.now ≡ put (get_or rs i no_region).bytes.now (bytes_at (addr - (get_or rs i no_region).addr) bs) → Rewritten rs (set rs i new) addr bs
+rewritten_at rs i addr new bs order l holds same name is =
+    let r = get_or rs i no_region in
+    let ps = pieces_of rs in
+    let start = addr - r.addr in
+    let here : piece_at ps i ≡ piece_of r = piece_at_of rs i in
+    let begins : (piece_at ps i).addr ≡ r.addr = ap (λ (p : Piece). p.addr) here in
+    let inside : i < length ps = omega (arith, length-map rs piece_of) in
+    let bytes : new.bytes.now ≡ put (piece_at ps i).bytes (bytes_at start bs) = is ∙ ap (λ (p : Piece). put p.bytes (bytes_at start bs)) (sym here) in
+    let fits : start + length bs ≤ length (piece_at ps i).bytes = omega (arith, holds.first, holds.last) in
+    let keeps : length new.bytes.now ≡ length (piece_at ps i).bytes = ap length bytes ∙ length-put (piece_at ps i).bytes (bytes_at start bs) in
+    let pieces : pieces_of (set rs i new) ≡ set ps i (with_bytes ps i new.bytes.now) =
+    map-set piece_of rs i new ∙ ap (λ (n : ℕ). set ps i (record { addr = n; bytes = new.bytes.now })) (same ∙ sym begins) in
+    let place : (piece_at ps i).addr + start ≡ addr = omega (arith, holds.first) in
+    record {
+      image = ap image_of (pieces ∙ ap (λ (xs : List ℕ). set ps i (with_bytes ps i xs)) bytes) ∙ put_piece ps i start bs order inside fits ∙ ap (λ (n : ℕ). put (image_of ps) (bytes_at n bs)) place;
+      order = ap in_order pieces ∙ same_order 0 ps i new.bytes.now inside keeps;
+      gaps = ap gaps_of pieces ∙ same_gaps 0 ps i new.bytes.now inside keeps;
+      names = map-set_same (λ (x : Region). x.bytes.ghost_name) rs i new no_region name;
+    }
+
+-- what a region has, the image has
+pub region_shown : (rs : List Region) (i a n : ℕ) → in_order (pieces_of rs) ≡ true → i < length rs → Holds (pieces_of rs) i a n → take n (drop (a - (get_or rs i no_region).addr) (get_or rs i no_region).bytes.now) ≡ take n (drop a (image_of (pieces_of rs)))
+region_shown rs i a n order l holds =
+    let ps = pieces_of rs in
+    let here = piece_at_of rs i in
+    ap (λ (p : Piece). take n (drop (a - p.addr) p.bytes)) (sym here)
+    ∙ piece_shown ps i a n order (omega (arith, length-map rs piece_of)) holds
+
+-- nothing was written yet
+pub rewritten_none : (rs : List Region) (addr : ℕ) → Rewritten rs rs addr []
+rewritten_none rs addr = record { image = sym (put_none (image_of (pieces_of rs))); order = refl; gaps = refl; names = refl }
+
+-- a write, and one behind it
+pub rewritten_more : (old mid new : List Region) (addr next : ℕ) (front back : List ℕ) → Rewritten old mid addr front → Rewritten mid new next back → next ≡ addr + length front → Rewritten old new addr (front ++ back)
+rewritten_more old mid new addr next front back f g e = record {
+  image = g.image
+      ∙ ap (λ (image : List ℕ). put image (bytes_at next back)) f.image
+      ∙ ap (λ (n : ℕ). put (put (image_of (pieces_of old)) (bytes_at addr front)) (bytes_at n back)) e
+      ∙ put_parts (image_of (pieces_of old)) addr front back;
+  order = g.order ∙ f.order;
+  gaps = g.gaps ∙ f.gaps;
+  names = g.names ∙ f.names;
+}
+
+-- ---- what may be written
+
+-- a part of a range that may be written
+pub writable_part : (rs : List Region) (addr len a n : ℕ) → Writable rs addr len → addr ≤ a → a + n ≤ addr + len → Writable rs a n
+writable_part rs addr len a n w low high =
+    let within = w.within in
+    record { order = w.order; within = omega arith; gaps = λ x first last. w.gaps x (omega arith) (omega arith) }
+
+-- after a write as before it
+pub writable_after : (old new : List Region) (addr len place : ℕ) (bs : List ℕ) → Writable old addr len → Rewritten old new place bs → Writable new addr len
+writable_after old new addr len place bs w r =
+    let within = w.within in
+    record {
+      order = r.order ∙ w.order;
+      within = omega (arith, ap length r.image, length-put (image_of (pieces_of old)) (bytes_at place bs));
+      gaps = λ a first last. ap (λ gaps. lies_in_one gaps a) r.gaps ∙ w.gaps a first last;
+    }
+
+-- the region that has an address that may be written is one of them
+pub place_found : (rs : List Region) (addr len i : ℕ) → Writable rs addr len → 0 < len → i ≤ length rs → ((k : ℕ) → k < i → has addr (piece_at (pieces_of rs) k) ≡ false) → i < length rs
+place_found rs addr len i w some within none = elim (cases_lt i (length rs)) [
+  | inl less ↦ less
+  | inr past ↦
+      let ps = pieces_of rs in
+      let inside = w.within in
+      absurd (found 0 ps addr w.order (omega arith) (omega (arith, length-bytes_above 0 ps w.order)) (w.gaps addr (omega arith) (omega arith)) (λ k l. none k (omega (arith, length-map rs piece_of))))
+]
+
+-- addresses that may be written fit 32 bits
+pub writable_most : (rs : List Region) (addr len : ℕ) → Writable rs addr len → addr + len ≤ 4294963200
+writable_most rs addr len w = let inside = w.within in omega (arith, image_of-most (pieces_of rs) w.order)
+
+pub rewritten_length : (old new : List Region) (addr : ℕ) (bs : List ℕ) → Rewritten old new addr bs → length (image_of (pieces_of new)) ≡ length (image_of (pieces_of old))
+rewritten_length old new addr bs r = ap length r.image ∙ length-put (image_of (pieces_of old)) (bytes_at addr bs)
+
+-- all pages of a memory are made, before a write and after it
+pub rewritten_made : (old new : List Region) (addr : ℕ) (bs : List ℕ) → Rewritten old new addr bs → all_made (length (image_of (pieces_of new))) ≡ all_made (length (image_of (pieces_of old)))
+rewritten_made old new addr bs r = ap all_made (rewritten_length old new addr bs r)
+
+-- the image has as many bytes there
+pub ends_in : (rs : List Region) (i a n : ℕ) → in_order (pieces_of rs) ≡ true → i < length rs → Holds (pieces_of rs) i a n → length (take n (drop a (image_of (pieces_of rs)))) ≡ n
+ends_in rs i a n order l holds =
+    let ps = pieces_of rs in
+    let below = ends_within ps i order (omega (arith, length-map rs piece_of)) in
+    length-take-le n (drop a (image_of ps)) (omega (arith, holds.last, length-drop a (image_of ps)))

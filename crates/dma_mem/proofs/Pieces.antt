@@ -1,0 +1,244 @@
+-- The pieces of a memory: their order, the image and the gaps that they make, and the piece that has an address.
+use Rattle.std.proofs.Common.{◌≡◌, ℕ, ◌+◌, ◌-◌, ◌<◌, ◌≤◌, List, [], ◌∷◌, ◌++◌, length, get_or, take, drop, replicate, true, false, ◌&&◌, nat_lt, refl, ap, sym, ◌∙◌, arith, inl, inr, ◌⊎◌, zero, suc}
+use Rattle.std.specs.Prelude.{nat_le}
+use Rattle.std.proofs.Math.ListN.{get_or-map as get_or-map_all}
+use Rattle.std.proofs.lemmas.Bool.{leb-true, le-leb, ltb-true, lt-ltb, and_parts, cases_lt, false_from_ne_true}
+use Rattle.std.proofs.lemmas.List.{ext_get_or, get_or-map, drop_more, length-append, length-replicate, length-drop, length-take-le, get_or_append_left, get_or-append_right, get_or-replicate, get_or-drop, get_or-take}
+use Rattle.dma_mem.specs.declared.regions.Region.{Region}
+use Rattle.dma_mem.specs.Lent.{lies_in_one}
+use Rattle.dma_mem.specs.Marking.{lies_in}
+use Rattle.dma_mem.specs.Regions.{Piece, end_of, piece_of, pieces_of, rises_from, in_order, bytes_above, image_of, gaps_above, has, rest_from}
+use Rattle.dma_mem.specs.inner.Rewritten.{nowhere, piece_at}
+
+-- ---- pieces by their indices
+
+-- what a goal has for a region past the last
+abbrev pub no_region : Region
+no_region = record { addr = 0; bytes = record { ref_ptr = (0, 0); ghost_name = 0; now = [] } }
+
+pub piece_at_of : (rs : List Region) (i : ℕ) → piece_at (pieces_of rs) i ≡ piece_of (get_or rs i no_region)
+piece_at_of rs i = get_or-map_all piece_of rs i no_region
+
+-- the piece of a region that a loop reads
+pub piece_at_item : (rs : List Region) (i : ℕ) (r : Region) → i < length rs → r ≡ get_or rs i r → piece_at (pieces_of rs) i ≡ piece_of r
+piece_at_item rs i r h e = get_or-map piece_of rs i r nowhere h ∙ ap piece_of (sym e)
+
+pub drop_at : (ps : List Piece) (i : ℕ) → i < length ps → drop i ps ≡ piece_at ps i ∷ drop (i + 1) ps
+drop_at ps i h = drop_more ps i nowhere h
+
+-- ---- their order
+
+-- what holds of the first of pieces that rise
+pub record First (at : ℕ) (p : Piece) (ps : List Piece) : Type 0 where
+  pub after : at ≤ p.addr
+  pub most : end_of p ≤ 4294963200
+  pub rest : rises_from (end_of p) ps ≡ true
+
+pub first : (at : ℕ) (p : Piece) (ps : List Piece) → rises_from at (p ∷ ps) ≡ true → First at p ps
+first at p ps h =
+    let one = and_parts (nat_le at p.addr) (nat_le (end_of p) 4294963200 && rises_from (end_of p) ps) h in
+    let two = and_parts (nat_le (end_of p) 4294963200) (rises_from (end_of p) ps) one.1 in
+    record { after = leb-true at p.addr one.0; most = leb-true (end_of p) 4294963200 two.0; rest = two.1 }
+
+-- the pieces from an index on rise where those after it do, from the end of its piece
+pub rises_more : (ps : List Piece) (p : Piece) (i at : ℕ) → i < length ps → piece_at ps i ≡ p → at ≤ p.addr → end_of p ≤ 4294963200 → rises_from at (drop i ps) ≡ rises_from (end_of p) (drop (i + 1) ps)
+rises_more ps p i at h is after most =
+    ap (rises_from at) (drop_at ps i h)
+    ∙ ap (λ (q : Piece). rises_from at (q ∷ drop (i + 1) ps)) is
+    ∙ rw (le-leb at p.addr after, le-leb (end_of p) 4294963200 most) refl
+
+-- and don't, where it begins too low or ends too high
+pub rises_not : (ps : List Piece) (p : Piece) (i at : ℕ) → i < length ps → piece_at ps i ≡ p → (p.addr < at) ⊎ (4294963200 < end_of p) → rises_from at (drop i ps) ≡ false
+rises_not ps p i at h is bad =
+    ap (rises_from at) (drop_at ps i h)
+    ∙ ap (λ (q : Piece). rises_from at (q ∷ drop (i + 1) ps)) is
+    ∙ false_from_ne_true _ (λ e. let f = first at p (drop (i + 1) ps) e in elim bad [ inl low ↦ omega (arith, low, f.after) | inr high ↦ omega (arith, high, f.most) ])
+
+-- what holds of the piece at an index of pieces that rise from there
+pub first_at : (ps : List Piece) (p : Piece) (i at : ℕ) → i < length ps → piece_at ps i ≡ p → rises_from at (drop i ps) ≡ true → First at p (drop (i + 1) ps)
+first_at ps p i at h is rises =
+    first at p (drop (i + 1) ps) (sym (ap (rises_from at) (drop_at ps i h) ∙ ap (λ (q : Piece). rises_from at (q ∷ drop (i + 1) ps)) is) ∙ rises)
+
+-- ---- the size
+
+-- the address behind the last piece
+pub end_from : ℕ → List Piece → ℕ
+end_from at [] = at
+end_from at (p ∷ ps) = end_from (end_of p) ps
+
+pub length-bytes_above : (at : ℕ) (ps : List Piece) → rises_from at ps ≡ true → at + length (bytes_above at ps) ≡ end_from at ps
+unfolding end_from
+length-bytes_above at [] h = omega arith
+length-bytes_above at (p ∷ ps) h =
+    let f = first at p ps h in
+    let after = f.after in
+    let pad : List ℕ = replicate (p.addr - at) 0 in
+    let more = p.bytes ++ bytes_above (end_of p) ps in
+    let next = length-bytes_above (end_of p) ps f.rest in
+    let long : length pad ≡ p.addr - at = length-replicate (p.addr - at) 0 in
+    omega (arith, next, long, length-append pad more, length-append p.bytes (bytes_above (end_of p) ps))
+
+pub end_from-last : (at : ℕ) (ps : List Piece) (i : ℕ) → i + 1 ≡ length ps → end_from at ps ≡ end_of (piece_at ps i)
+unfolding end_from
+end_from-last at [] i h = absurd (omega arith)
+end_from-last at (p ∷ []) zero h = refl
+end_from-last at (p ∷ []) (suc i) h = absurd (omega arith)
+end_from-last at (p ∷ (q ∷ qs)) zero h = absurd (omega arith)
+end_from-last at (p ∷ (q ∷ qs)) (suc i) h = end_from-last (end_of p) (q ∷ qs) i (omega arith)
+
+end_from-most : (at : ℕ) (ps : List Piece) → at ≤ 4294963200 → rises_from at ps ≡ true → end_from at ps ≤ 4294963200
+unfolding end_from
+end_from-most at [] low h = low
+end_from-most at (p ∷ ps) low h = let f = first at p ps h in end_from-most (end_of p) ps f.most f.rest
+
+-- the size is the end of the last piece
+pub length-image_of : (ps : List Piece) (i : ℕ) → in_order ps ≡ true → i + 1 ≡ length ps → length (image_of ps) ≡ end_of (piece_at ps i)
+length-image_of ps i h last = omega (arith, length-bytes_above 0 ps h, end_from-last 0 ps i last)
+
+pub image_of-most : (ps : List Piece) → in_order ps ≡ true → length (image_of ps) ≤ 4294963200
+image_of-most ps h = omega (arith, length-bytes_above 0 ps h, end_from-most 0 ps (omega arith) h)
+
+-- ---- the gaps
+
+-- no gap has an address below where they begin
+pub gaps_past : (at : ℕ) (ps : List Piece) (a : ℕ) → rises_from at ps ≡ true → a < at → lies_in_one (gaps_above at ps) a ≡ false
+gaps_past at [] a h low = refl
+gaps_past at (p ∷ ps) a h low =
+    let f = first at p ps h in
+    let after = f.after in
+    rw (false_from_ne_true (nat_le at a) (λ e. omega (arith, leb-true at a e)), gaps_past (end_of p) ps a f.rest (omega arith)) refl
+
+-- an address below the first piece lies in the first gap
+pub in_first_gap : (at : ℕ) (p : Piece) (ps : List Piece) (a : ℕ) → at ≤ a → a < p.addr → lies_in_one (gaps_above at (p ∷ ps)) a ≡ true
+in_first_gap at p ps a low high = rw (le-leb at a low, lt-ltb a (at + (p.addr - at)) (omega arith)) refl
+
+-- an address that the first gap doesn't have lies in a gap where it lies in a later one
+pub past_first_gap : (at : ℕ) (p : Piece) (ps : List Piece) (a : ℕ) → (a < at) ⊎ (p.addr ≤ a) → at ≤ p.addr → lies_in_one (gaps_above at (p ∷ ps)) a ≡ lies_in_one (gaps_above (end_of p) ps) a
+past_first_gap at p ps a out after =
+    rw (false_from_ne_true (lies_in a (record { addr = at; len = p.addr - at })) (λ e.
+    let parts = and_parts (nat_le at a) (nat_lt a (at + (p.addr - at))) e in
+    elim out [ inl below ↦ omega (arith, below, leb-true at a parts.0) | inr above ↦ omega (arith, above, after, ltb-true a (at + (p.addr - at)) parts.1) ])) refl
+
+pub gaps_at : (ps : List Piece) (p : Piece) (i at a : ℕ) → i < length ps → piece_at ps i ≡ p → lies_in_one (gaps_above at (drop i ps)) a ≡ lies_in_one (gaps_above at (p ∷ drop (i + 1) ps)) a
+gaps_at ps p i at a h is =
+    ap (λ (qs : List Piece). lies_in_one (gaps_above at qs) a) (drop_at ps i h) ∙ ap (λ (q : Piece). lies_in_one (gaps_above at (q ∷ drop (i + 1) ps)) a) is
+
+-- ---- the piece that has an address
+
+pub has_from : (a : ℕ) (p : Piece) → p.addr ≤ a → a < end_of p → has a p ≡ true
+has_from a p low high = rw (le-leb p.addr a low, lt-ltb a (end_of p) high) refl
+
+pub has_not : (a : ℕ) (p : Piece) → (a < p.addr) ⊎ (end_of p ≤ a) → has a p ≡ false
+has_not a p out = false_from_ne_true _ (λ e.
+    let parts = and_parts (nat_le p.addr a) (nat_lt a (end_of p)) e in
+    elim out [ inl below ↦ omega (arith, below, leb-true p.addr a parts.0) | inr above ↦ omega (arith, above, ltb-true a (end_of p) parts.1) ])
+
+pub has_parts : (a : ℕ) (p : Piece) → has a p ≡ true → (p.addr ≤ a) × (a < end_of p)
+has_parts a p h = let parts = and_parts (nat_le p.addr a) (nat_lt a (end_of p)) h in (leb-true p.addr a parts.0, ltb-true a (end_of p) parts.1)
+
+-- an address below the size that no gap has lies in a piece
+pub found : (at : ℕ) (ps : List Piece) (a : ℕ) → rises_from at ps ≡ true → at ≤ a → a < end_from at ps → lies_in_one (gaps_above at ps) a ≡ false → ((k : ℕ) → k < length ps → has a (piece_at ps k) ≡ false) → ⊥
+unfolding end_from
+found at [] a h low high gaps none = omega arith
+found at (p ∷ ps) a h low high gaps none =
+    let f = first at p ps h in
+    elim (cases_lt a p.addr) [
+      | inl below ↦ let yes = in_first_gap at p ps a low below in cc
+      | inr begun ↦ elim (cases_lt a (end_of p)) [
+        | inl inside ↦ let yes = has_from a p begun inside in let no : has a p ≡ false = none 0 (omega arith) in cc
+        | inr past ↦ found (end_of p) ps a f.rest past high (sym (past_first_gap at p ps a (inr begun) f.after) ∙ gaps) (λ k l. none (suc k) (omega arith))
+      ]
+    ]
+
+-- ---- the bytes from an address on
+
+pub rest_at : (ps : List Piece) (i a : ℕ) → i < length ps → ((k : ℕ) → k < i → has a (piece_at ps k) ≡ false) → has a (piece_at ps i) ≡ true → rest_from ps a ≡ drop (a - (piece_at ps i).addr) (piece_at ps i).bytes
+rest_at [] i a h before here = absurd (omega arith)
+rest_at (p ∷ ps) zero a h before here = rw here refl
+rest_at (p ∷ ps) (suc i) a h before here =
+    let no : has a p ≡ false = before 0 (omega arith) in
+    rw no (rest_at ps i a (omega arith) (λ k l. before (suc k) (omega arith)) here)
+
+pub rest_none : (ps : List Piece) (a : ℕ) → ((k : ℕ) → k < length ps → has a (piece_at ps k) ≡ false) → rest_from ps a ≡ []
+rest_none [] a none = refl
+rest_none (p ∷ ps) a none =
+    let no : has a p ≡ false = none 0 (omega arith) in
+    rw no (rest_none ps a (λ k l. none (suc k) (omega arith)))
+
+rest_below : (at : ℕ) (ps : List Piece) (a : ℕ) → rises_from at ps ≡ true → a < at → rest_from ps a ≡ []
+rest_below at [] a h low = refl
+rest_below at (p ∷ ps) a h low =
+    let f = first at p ps h in
+    let after = f.after in
+    let no : has a p ≡ false = has_not a p (inl (omega arith)) in
+    rw no (rest_below (end_of p) ps a f.rest (omega arith))
+
+-- The image has these bytes from there on, and 0 where there are none.
+pub shown : (at : ℕ) (ps : List Piece) (k j : ℕ) → rises_from at ps ≡ true → (j ≡ 0) ⊎ (j < length (rest_from ps (at + k))) → get_or (bytes_above at ps) (k + j) 0 ≡ get_or (rest_from ps (at + k)) j 0
+shown at [] k j h w = refl
+shown at (p ∷ ps) k j h w =
+    let f = first at p ps h in
+    let after = f.after in
+    let n = p.addr - at in
+    let pad : List ℕ = replicate n 0 in
+    let later = bytes_above (end_of p) ps in
+    let long : length pad ≡ n = length-replicate n 0 in
+    let P : List ℕ → Type 0 = λ rest. get_or (pad ++ (p.bytes ++ later)) (k + j) 0 ≡ get_or rest j 0 in
+    elim (cases_lt k n) [
+      | inl below ↦
+          let no : has (at + k) p ≡ false = has_not (at + k) p (inl (omega arith)) in
+          let none : rest_from (p ∷ ps) (at + k) ≡ [] = rw no (rest_below (end_of p) ps (at + k) f.rest (omega arith)) in
+          let zero_j : j ≡ 0 = elim w [ inl z ↦ z | inr l ↦ absurd (omega (arith, l, ap length none)) ] in
+          get_or_append_left pad (p.bytes ++ later) 0 (k + j) (omega arith)
+          ∙ get_or-replicate n (k + j) 0 0 (omega arith)
+          ∙ sym (ap (λ (xs : List ℕ). get_or xs j 0) none)
+      | inr begun ↦
+          let skip : get_or (pad ++ (p.bytes ++ later)) (k + j) 0 ≡ get_or (p.bytes ++ later) (k + j - n) 0 = get_or-append_right pad (p.bytes ++ later) n (k + j) 0 long (omega arith) in
+          elim (cases_lt (at + k) (end_of p)) [
+            | inl inside ↦
+                let yes : has (at + k) p ≡ true = has_from (at + k) p (omega arith) inside in
+                let here : rest_from (p ∷ ps) (at + k) ≡ drop (at + k - p.addr) p.bytes = rw yes refl in
+                let fits : k + j - n < length p.bytes = elim w [ inl z ↦ omega arith | inr l ↦ omega (arith, l, ap length here, length-drop (at + k - p.addr) p.bytes) ] in
+                let same : k + j - n ≡ (at + k - p.addr) + j = omega arith in
+                skip
+                ∙ get_or_append_left p.bytes later 0 (k + j - n) fits
+                ∙ ap (λ (i : ℕ). get_or p.bytes i 0) same
+                ∙ sym (get_or-drop (at + k - p.addr) p.bytes j 0)
+                ∙ sym (ap (λ (xs : List ℕ). get_or xs j 0) here)
+            | inr past ↦
+                let no : has (at + k) p ≡ false = has_not (at + k) p (inr past) in
+                let here : rest_from (p ∷ ps) (at + k) ≡ rest_from ps (at + k) = rw no refl in
+                let m = at + k - end_of p in
+                let back : end_of p + m ≡ at + k = omega arith in
+                let along : rest_from ps (end_of p + m) ≡ rest_from (p ∷ ps) (at + k) = ap (rest_from ps) back ∙ sym here in
+                let w' : (j ≡ 0) ⊎ (j < length (rest_from ps (end_of p + m))) = elim w [ inl z ↦ inl z | inr l ↦ inr (omega (arith, l, ap length along)) ] in
+                let same : k + j - n - length p.bytes ≡ m + j = omega arith in
+                skip
+                ∙ get_or-append_right p.bytes later (length p.bytes) (k + j - n) 0 refl (omega arith)
+                ∙ ap (λ (i : ℕ). get_or later i 0) same
+                ∙ shown (end_of p) ps m j f.rest w'
+                ∙ ap (λ (xs : List ℕ). get_or xs j 0) along
+          ]
+    ]
+
+-- the byte at an address
+pub byte_shown : (ps : List Piece) (a : ℕ) → in_order ps ≡ true → get_or (image_of ps) a 0 ≡ get_or (rest_from ps a) 0 0
+byte_shown ps a h =
+    let e : a + 0 ≡ a = omega arith in
+    let f : 0 + a ≡ a = omega arith in
+    ap (λ (k : ℕ). get_or (image_of ps) k 0) (sym e) ∙ shown 0 ps a 0 h (inl refl) ∙ ap (λ (k : ℕ). get_or (rest_from ps k) 0 0) f
+
+-- what a piece has from an address on, the image has
+pub rest_shown : (ps : List Piece) (a n : ℕ) → in_order ps ≡ true → n ≤ length (rest_from ps a) → a + n ≤ length (image_of ps) → take n (rest_from ps a) ≡ take n (drop a (image_of ps))
+rest_shown ps a n h some within =
+    let image = image_of ps in
+    let f : 0 + a ≡ a = omega arith in
+    let one : length (take n (rest_from ps a)) ≡ n = length-take-le n (rest_from ps a) some in
+    let two : length (take n (drop a image)) ≡ n = length-take-le n (drop a image) (omega (arith, length-drop a image)) in
+    ext_get_or 0 _ _ (one ∙ sym two) (λ j l.
+    let less : j < n = omega arith in
+    let w : (j ≡ 0) ⊎ (j < length (rest_from ps (0 + a))) = inr (omega (arith, ap (λ (k : ℕ). length (rest_from ps k)) f)) in
+    get_or-take n (rest_from ps a) j 0 less
+    ∙ sym (ap (λ (k : ℕ). get_or (rest_from ps k) j 0) f)
+    ∙ sym (shown 0 ps a j h w)
+    ∙ sym (get_or-take n (drop a image) j 0 less ∙ get_or-drop a image j 0))

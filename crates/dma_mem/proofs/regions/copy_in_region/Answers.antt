@@ -1,0 +1,19 @@
+use Rattle.std.proofs.Common.{◌≡◌, ◌-◌, List, ℕ, length, take, drop, refl, arith, get_or, ap, ◌∙◌}
+use Rattle.dma_mem.specs.Regions.{pieces_of, image_of}
+use Rattle.dma_mem.specs.inner.Rewritten.{Holds}
+use Rattle.dma_mem.specs.Image.{put, bytes_at}
+use Rattle.dma_mem.proofs.Pieces.{no_region}
+use Rattle.dma_mem.proofs.PieceWrites.{rewritten_at, region_shown, ends_in}
+use Rattle.dma_mem.proofs.regions.copy_in_region.Goals as goal
+
+pub returns : goal.returns
+returns c =
+    let rs = c.args.regions.now in
+    let i = c.args.index in
+    let r = get_or rs i no_region in
+    let n = c.args.len in
+    let bytes = take n (drop c.args.from (image_of (pieces_of rs))) in
+    let shown = region_shown rs i c.args.from n c.requires.order c.requires.index c.requires.reads in
+    let long : length bytes ≡ n = ends_in rs i c.args.from n c.requires.order c.requires.index c.requires.reads in
+    let holds : Holds (pieces_of rs) i c.args.to (length bytes) = record { first = c.requires.writes.first; last = omega (arith, c.requires.writes.last, long) } in
+    rewritten_at rs i c.args.to _ bytes c.requires.order c.requires.index holds refl refl (c.copy_bytes_apart.ensures ∙ ap (λ (xs : List ℕ). put r.bytes.now (bytes_at (c.args.to - r.addr) xs)) shown)

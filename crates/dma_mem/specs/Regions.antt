@@ -1,0 +1,54 @@
+-- Memory that a caller lends in several regions.
+use Rattle.std.specs.Prelude.{ℕ, ◌+◌, ◌-◌, Bool, true, ◌&&◌, nat_le, nat_lt, List, [], ◌∷◌, ◌++◌, length, drop, map, replicate, if◌then◌else◌}
+use Rattle.dma_mem.specs.declared.regions.Region.{Region}
+use Rattle.dma_mem.specs.declared.segment.Segment.{Segment}
+
+-- A piece of a memory: the address of its first byte, and its bytes.
+pub record Piece : Type 0 where
+  pub addr : ℕ
+  pub bytes : List ℕ
+
+-- the address behind its last byte
+abbrev pub end_of : Piece → ℕ
+end_of p = p.addr + length p.bytes
+
+-- what regions hold
+abbrev pub piece_of : Region → Piece
+piece_of r = record { addr = r.addr; bytes = r.bytes.now }
+
+abbrev pub pieces_of : List Region → List Piece
+pieces_of regions = map piece_of regions
+
+-- Whether pieces rise from an address on, share no address, and end at the largest size of a memory at most.
+abbrev pub rises_from : ℕ → List Piece → Bool
+rises_from at [] = true
+rises_from at (p ∷ ps) = nat_le at p.addr && (nat_le (end_of p) 4294963200 && rises_from (end_of p) ps)
+
+abbrev pub in_order : List Piece → Bool
+in_order ps = rises_from 0 ps
+
+-- The bytes of the addresses from one on up to the end of the last piece, with zeros where no piece is.
+abbrev pub bytes_above : ℕ → List Piece → List ℕ
+bytes_above at [] = []
+bytes_above at (p ∷ ps) = replicate (p.addr - at) 0 ++ (p.bytes ++ bytes_above (end_of p) ps)
+
+-- The image of a memory that has its bytes in these pieces.
+abbrev pub image_of : List Piece → List ℕ
+image_of ps = bytes_above 0 ps
+
+-- The segments from an address on in which no piece is, below the last piece. They may be empty.
+abbrev pub gaps_above : ℕ → List Piece → List Segment
+gaps_above at [] = []
+gaps_above at (p ∷ ps) = record { addr = at; len = p.addr - at } ∷ gaps_above (end_of p) ps
+
+abbrev pub gaps_of : List Piece → List Segment
+gaps_of ps = gaps_above 0 ps
+
+-- whether a piece has an address
+abbrev pub has : ℕ → Piece → Bool
+has a p = nat_le p.addr a && nat_lt a (end_of p)
+
+-- The bytes of the piece that has an address, from that address on. There are none where no piece has it.
+abbrev pub rest_from : List Piece → ℕ → List ℕ
+rest_from [] a = []
+rest_from (p ∷ ps) a = if has a p then drop (a - p.addr) p.bytes else rest_from ps a
