@@ -1,8 +1,10 @@
 -- What runs, as a list.
 use Rattle.std.proofs.Common.{◌≡◌, ◌≢◌, ℕ, ◌+◌, ◌-◌, ◌<◌, ◌≤◌, List, [], ◌∷◌, ◌++◌, length, Option, Some, None, Bool, true, false, cond, refl, ap, ◌∙◌, arith, zero, suc, zero-add, add-zero, sym}
-use Rattle.std.specs.Prelude.{IfSome, find}
+use mir.Val.{bool_byte}
+use Rattle.std.specs.Prelude.{IfSome, find, is_some}
+use Rattle.std.proofs.lemmas.List.{length-append}
 use Rattle.std.specs.List.{All, filter_map, range_with_len, cons_option}
-use Rattle.std.specs.Option.{option_to_list, option_or}
+use Rattle.std.specs.Option.{option_map, option_to_list, option_or}
 use Rattle.std.proofs.lemmas.List.Folds.{find-append}
 use Rattle.std.proofs.lemmas.List.Elements.{All-nil, All-cons, filter_map-append}
 use Rattle.dma_engine.specs.Object.{Object}
@@ -108,3 +110,24 @@ find-none_at p o s ch r h none here =
 pub running-same : (o p : Object) (s t : List ChannelSchedule) → length o.channels ≡ length p.channels → ((c : ℕ) → c < length o.channels → runs p t c ≡ runs o s c) → running p t ≡ running o s
 unfolding running
 running-same o p s t e h = rw (← e) (filter_map-same (runs p t) (runs o s) 0 (length o.channels) (λ c l m. h c (omega arith)))
+
+-- one more where something runs on the next channel
+pub one-more-runs : (o : Object) (schedule : List ChannelSchedule) (ch : ℕ) → length (below o schedule (ch + 1)) ≡ length (below o schedule ch) + bool_byte (is_some (runs o schedule ch))
+one-more-runs o schedule ch =
+    let f = runs o schedule in
+    let first : 0 + ch ≡ ch = omega arith in
+    let by : (x : Option RunningTransfer) → length (cons_option x []) ≡ bool_byte (is_some x) = λ x. elim x as (λ x. length (cons_option x []) ≡ bool_byte (is_some x)) [ None ↦ refl | Some t ↦ refl ] in
+    ap (λ l. length (filter_map f l)) (range_with_len-add 0 ch 1)
+    ∙ ap length (filter_map-append f (range_with_len 0 ch) (range_with_len (0 + ch) 1))
+    ∙ length-append (below o schedule ch) (filter_map f (range_with_len (0 + ch) 1))
+    ∙ ap (λ k. length (below o schedule ch) + length (cons_option (f k) [])) first
+    ∙ ap (λ n. length (below o schedule ch) + n) (by (f ch))
+
+-- whether something runs there, by what is known of it
+pub runs_known : {X : Type 0} (f : RunningTransfer → X) (x : Option RunningTransfer) → is_some (option_map f x) ≡ is_some x
+runs_known f None = refl
+runs_known f (Some r) = refl
+
+pub few_byte : (b : Bool) → bool_byte b ≤ 1
+few_byte true = omega arith
+few_byte false = omega arith

@@ -1,6 +1,8 @@
 -- Histories: lists of entries, in the order in which they were added.
-use Rattle.std.specs.Prelude.{List, [], ◌∷◌}
+use Rattle.std.specs.Prelude.{ℕ, List, [], ◌∷◌, length}
+use Rattle.std.specs.List.{sum_by}
 use Rattle.dma_engine.specs.declared.entry.Entry.{Entry}
+use Rattle.dma_engine.specs.declared.entry.Entry.TheVariants.{Wrote, ReadBack}
 use Rattle.dma_engine.specs.Object.{Object, Allows, after}
 
 -- The object that these entries leave, from this one on.
@@ -12,3 +14,13 @@ object_after o (e ∷ es) = object_after (after o e) es
 abbrev pub IsLegal : Object → List Entry → Type 0
 IsLegal o [] = Unit {0}
 IsLegal o (e ∷ es) = Allows o e × IsLegal (after o e) es
+
+-- how many bytes an entry keeps: those of a write and of a read
+abbrev pub kept_by : Entry → ℕ
+kept_by (Wrote addr bytes) = length bytes
+kept_by (ReadBack addr bytes) = length bytes
+kept_by _ = 0
+
+-- how many bytes a history keeps
+abbrev pub kept_bytes : List Entry → ℕ
+kept_bytes history = sum_by kept_by history

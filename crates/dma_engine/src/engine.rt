@@ -29,6 +29,7 @@ mod checkpoints;
 mod host_calls;
 mod queue_calls;
 mod steps;
+mod totals;
 
 /// The most channels that an engine has (PL330 manual, the number of channel threads is configured).
 pub const MAX_CHANNELS: u8 = 8;

@@ -105,6 +105,24 @@ impl Engine {
         Ok(())
     }
 
+    /// Reads bytes from an address on, as `read` does, into `out`: as many as it has. After an error `out` is as it was.
+    pub fn read_into(&mut self, addr: u32, out: &mut [u8]) -> Result<(), EngineFault>
+        ensures answer { CallAnswers self.old.view (Call.Read addr (length out.old)) (reply_of (λ _. Reply.Bytes out.new) result) self.new.view }
+        ensures same { OnErr result (out.new ≡ out.old) }
+        ensures kept { OnErr result (KeepsRoom self.old self.new) }
+    {
+        if out.len() > self.size as usize {
+            return Err(EngineFault::OutOfMemoryRange);
+        }
+        let len = out.len() as u32;
+        self.check_read(addr, len)?;
+        let bytes = bytes_of(self.alloc, &self.memory, addr, len)?;
+        self.history.reserve(1)?;
+        out.copy_from_slice(bytes.as_slice());
+        self.history.push_reserved(Entry::ReadBack { addr, bytes });
+        Ok(())
+    }
+
     // Fails where a read is refused for another reason than memory.
     fn check_read(&self, addr: u32, len: u32) -> Result<(), EngineFault>
         ensures free { OnOk result (read_fault self.now.view addr len ≡ None) }

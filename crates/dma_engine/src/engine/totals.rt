@@ -1,0 +1,52 @@
+//! Totals of an engine, by which a host decides when to make a checkpoint.
+
+ghost use Rattle.std.specs.Prelude.{◌≡◌, length, min};
+ghost use Rattle.dma_engine.specs.History.{kept_by, kept_bytes};
+ghost use Rattle.dma_engine.specs.View.{object_of, running};
+
+use crate::engine::Engine;
+use crate::entry::Entry;
+
+// Returns how many bytes an entry of the history keeps.
+fn kept_by(entry: &Entry) -> usize
+    ensures { result ≡ kept_by entry.now }
+{
+    match entry {
+        Entry::Wrote { addr: _, bytes } | Entry::ReadBack { addr: _, bytes } => bytes
+            .as_slice()
+            .len(),
+        _ => 0,
+    }
+}
+
+// Returns how many bytes these entries keep, or `u64::MAX` where they are more.
+fn kept_in(history: &[Entry]) -> u64
+    ensures { result ≡ min (kept_bytes history.now) 18446744073709551615 }
+{
+    let mut kept = 0u64;
+    for index in 0..history.len() {
+        kept = kept.saturating_add(kept_by(&history[index]) as u64);
+    }
+    kept
+}
+
+impl Engine {
+    /// Returns how many bytes the history keeps, of writes and of reads, or `u64::MAX` where they are more. It looks at each
+    /// entry.
+    pub fn history_bytes(&self) -> u64
+        ensures { result ≡ min (kept_bytes self.now.view.history) 18446744073709551615 }
+    {
+        kept_in(self.history())
+    }
+
+    /// Returns how many transfers run.
+    pub fn running_count(&self) -> u8
+        ensures { result ≡ length (running (object_of self.now.view) self.now.view.schedule) }
+    {
+        let mut count = 0;
+        for ch in 0..self.channels() {
+            count += u8::from(self.running(ch).is_some());
+        }
+        count
+    }
+}
