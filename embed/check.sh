@@ -1,6 +1,6 @@
 #!/bin/sh
 # Builds and runs the tests of the library for C and Rust, and adds up what they tell. `make check` calls it with the
-# compilers (CC, CXX, CARGO) and the archives (LIB, HEAP). A part whose compiler is missing is left out, and told to be.
+# compilers (CC, CXX, CARGO) and the archive (LIB). A part whose compiler is missing is left out, and told to be.
 set -u
 cd "$(dirname "$0")" || exit 2
 out=out/check
@@ -65,13 +65,13 @@ cargo_lines='/^test result: / {p += $4; f += $6} END {print p + 0, f + 0}'
 
 # header COMPILER FLAG..: whether the header alone is taken without a warning
 header() {
-    printf '#include "dma.h"\n' | "$@" -pedantic-errors -Wall -Wextra -Werror -fsyntax-only -Ic -
+    printf '#include "dma330.h"\n' | "$@" -pedantic-errors -Wall -Wextra -Werror -fsyntax-only -Ic -
 }
 
-# names: whether the library exports the names that the header declares
+# names: whether the archive exports the names that the header declares, those of the kit's heap, and no others
 names() {
-    nm -g --defined-only "$LIB" | awk '$2 == "T" && $3 ~ /^dma_/ {print $3}' | sort >"$out/exported"
-    sed -n 's/^[a-z0-9_]* \(dma_[a-z_]*\)(.*/\1/p' c/dma.h | sort >"$out/declared"
+    nm -g --defined-only "$LIB" | awk 'NF == 3 && $3 !~ /^rattle_(alloc|realloc|dealloc)$/ {print $3}' | sort >"$out/exported"
+    sed -n 's/^[a-z0-9_]* \(dma330_[a-z_]*\)(.*/\1/p' c/dma330.h | sort >"$out/declared"
     diff "$out/exported" "$out/declared"
 }
 
@@ -80,14 +80,36 @@ example() {
     "$@" >"$out/printed" && diff "$out/printed" c/example.txt
 }
 
-# readme: whether the lines of C that the README has copy what they say
+# readme FLAG..: whether the lines of C that the README has copy what they say, with these flags of the compiler
 readme() {
     {
-        printf '#include "dma.h"\n#include <string.h>\nint main(void)\n{\n    uint8_t out[5];\n'
-        awk '/^## / {here = $0 == "## Link it into an emulator"} here && /^    / && !/make -C/' ../README.md
-        printf '    return dma_read(&dma, 0x1F, out, 5) != DMA_OK || memcmp(out, "\\0abc", 5) != 0;\n}\n'
+        printf '#include "dma330.h"\n#include <string.h>\nint main(void)\n{\n    uint8_t out[5];\n'
+        awk '/^## / {here = $0 == "## Link it into an emulator"} here && /^    / && !/^    (cc|make) /' ../README.md
+        printf '    return dma330_read(&dma, 0x1F, out, 5, &conflict) != DMA330_OK || memcmp(out, "\\0abc", 5) != 0;\n}\n'
     } >"$out/readme.c"
-    $CC -std=c99 -Wall -Wextra -Werror -Ic -o "$out/readme" "$out/readme.c" "$LIB" "$HEAP" && "$out/readme"
+    $CC -std=c99 -Wall -Wextra -Werror -o "$out/readme" "$out/readme.c" "$@" && "$out/readme"
+}
+
+# flags PREFIX: what dma330.pc of this prefix says to compile and link with, by pkg-config, where that is there
+flags() {
+    if has pkg-config; then
+        PKG_CONFIG_PATH=$1/lib/pkgconfig pkg-config --cflags --libs dma330
+    else
+        # a variable there is written as in a shell
+        (eval "$(sed -n '/^[a-z]*=/p; s/^\(Cflags\|Libs\): \(.*\)/echo \2/p' "$1/lib/pkgconfig/dma330.pc")")
+    fi
+}
+
+# installed: whether the README's lines are built by what is installed
+installed() {
+    make --no-print-directory install LIB="$LIB" DESTDIR= PREFIX="$PWD/$out/prefix" && readme $(flags "$PWD/$out/prefix")
+}
+
+# staged: whether DESTDIR is put before the places of the files, and nowhere in them
+staged() {
+    make --no-print-directory install LIB="$LIB" PREFIX=/opt/dma330 DESTDIR="$PWD/$out/staged" &&
+        cmp c/dma330.h "$out/staged/opt/dma330/include/dma330.h" && cmp "$LIB" "$out/staged/opt/dma330/lib/libdma330.a" &&
+        grep -qx prefix=/opt/dma330 "$out/staged/opt/dma330/lib/pkgconfig/dma330.pc"
 }
 
 # in_c SET COMPILER FLAG..: builds the programs with these flags, and runs them
@@ -96,15 +118,23 @@ in_c() {
     shift
     to=$out/$set
     mkdir "$to"
-    rows="c/lines.c c/rows.c c/readings.c"
-    make_it "$set abi.c" "$@" -o "$to/abi" c/abi.c "$LIB" "$HEAP" && try "$set abi.c" "$to/abi"
-    make_it "$set example.c" "$@" -o "$to/example" c/example.c "$LIB" "$HEAP" && try "$set example.c" example "$to/example"
-    make_it "$set threads.c" "$@" -pthread -o "$to/threads" c/threads.c "$LIB" "$HEAP" && try "$set threads.c" "$to/threads"
-    make_it "$set walk.c" "$@" -o "$to/walk" c/walk.c $rows "$LIB" "$HEAP" &&
+    rows="c/lines.c c/words.c c/rows.c c/readings.c"
+    make_it "$set abi.c" "$@" -o "$to/abi" c/abi.c "$LIB" && try "$set abi.c" "$to/abi"
+    make_it "$set example.c" "$@" -o "$to/example" c/example.c "$LIB" && try "$set example.c" example "$to/example"
+    make_it "$set threads.c" "$@" -pthread -o "$to/threads" c/threads.c "$LIB" && try "$set threads.c" "$to/threads"
+    make_it "$set walk.c" "$@" -o "$to/walk" c/walk.c $rows "$LIB" &&
         count "$set walk.c" "$last_line" "$to/walk" rows.txt
+    board="c/board.c c/guest.c"
+    make_it "$set board_test.c" "$@" -o "$to/board_test" c/board_test.c $board "$LIB" &&
+        count "$set board_test.c" "$last_line" "$to/board_test"
+    make_it "$set board_wild.c" "$@" -o "$to/board_wild" c/board_wild.c $board "$LIB" &&
+        count "$set board_wild.c" "$last_line" "$to/board_wild"
     wrap=-Wl,--wrap=malloc,--wrap=realloc,--wrap=free
-    make_it "$set refuse.c" "$@" $wrap -o "$to/refuse" c/refuse.c $rows "$LIB" "$HEAP" &&
+    make_it "$set refuse.c" "$@" $wrap -o "$to/refuse" c/refuse.c c/heap.c $rows "$LIB" &&
         count "$set refuse.c" "$last_line" "$to/refuse" rows.txt
+    make_it "$set channels.c" "$@" $wrap -o "$to/channels" c/channels.c c/heap.c c/words.c c/rows.c "$LIB" &&
+        count "$set channels.c" "$last_line" "$to/channels" channels.txt
+    make_it "$set totals.c" "$@" -o "$to/totals" c/totals.c "$LIB" && count "$set totals.c" "$last_line" "$to/totals"
 }
 
 # with_sanitizers: the same under them, where the compiler has them and what it makes can run here
@@ -120,26 +150,32 @@ with_sanitizers() {
 
 in_cxx() {
     for standard in c++98 c++17; do
-        try "dma.h in $standard" header $CXX -x c++ -std=$standard
+        try "dma330.h in $standard" header $CXX -x c++ -std=$standard
     done
-    make_it "example.c in C++" $CXX -x c++ -O2 -Wall -Wextra -Ic -o "$out/example_cxx" c/example.c -x none "$LIB" "$HEAP" &&
+    make_it "example.c in C++" $CXX -x c++ -O2 -Wall -Wextra -Ic -o "$out/example_cxx" c/example.c -x none "$LIB" &&
         try "example.c in C++" example "$out/example_cxx"
 }
 
 c_flags="-std=c99 -O2 -g -Wall -Wextra -Ic"
 if has "$CC"; then
     for standard in c89 c99 c11; do
-        try "dma.h in $standard" header $CC -x c -std=$standard
+        try "dma330.h in $standard" header $CC -x c -std=$standard
     done
     c89="-std=c89 -pedantic-errors -Wall -Wextra -Ic"
-    make_it "example.c in C89" $CC $c89 -o "$out/example_89" c/example.c "$LIB" "$HEAP" &&
+    make_it "example.c in C89" $CC $c89 -o "$out/example_89" c/example.c "$LIB" &&
         try "example.c in C89" example "$out/example_89"
     if has nm; then
         try "names of the library" names
     else
         echo "there is no nm: the comparison of the names that the library exports is left out"
     fi
-    try "README.md" readme
+    try "README.md" readme -Ic "$LIB"
+    if has make; then
+        try "make install" installed
+        try "make install with DESTDIR" staged
+    else
+        echo "there is no make: the tests of what it installs are left out"
+    fi
     in_c plain $CC $c_flags
     with_sanitizers
     if has "$CXX"; then
@@ -154,7 +190,7 @@ fi
 # ---- Rust ----
 
 cargo_in() {
-    (cd rust && DMA_FFI_LIB="$LIB" DMA_FFI_HEAP="$HEAP" $CARGO "$@")
+    (cd rust && DMA330_LIB="$LIB" $CARGO "$@")
 }
 
 if ! has "$CARGO"; then
@@ -165,6 +201,7 @@ else
     count "Rust tests" "$cargo_lines" cargo_in test --offline --quiet --no-fail-fast
     try "Rust example emulator" example cargo_in run --offline --quiet --example emulator
     try "Rust example threads" cargo_in run --offline --quiet --example threads
+    try "Rust example guest_ram" cargo_in run --offline --quiet --example guest_ram
 fi
 
 echo "$passed passed, $failed failed"

@@ -1,5 +1,5 @@
-/* Each call of dma.h is in the library, and the library is that of this header. The sizes are asserted in dma.h itself. */
-#include "dma.h"
+/* Each call of dma330.h is in the library, and the library is that of this header. The header itself asserts the sizes. */
+#include "dma330.h"
 
 #include <stdio.h>
 #include <string.h>
@@ -9,22 +9,28 @@ typedef void (*any_call)(void);
 
 extern const any_call all_calls[];
 const any_call all_calls[] = {
-    (any_call)dma_open,       (any_call)dma_close,       (any_call)dma_write,     (any_call)dma_read,
-    (any_call)dma_submit,     (any_call)dma_submit_fill, (any_call)dma_issue,     (any_call)dma_pause,
-    (any_call)dma_resume,     (any_call)dma_terminate,   (any_call)dma_step,      (any_call)dma_status,
-    (any_call)dma_result,     (any_call)dma_running,     (any_call)dma_unfinished, (any_call)dma_forgotten,
-    (any_call)dma_steps,      (any_call)dma_mark,        (any_call)dma_unmark,    (any_call)dma_raise,
-    (any_call)dma_checkpoint, (any_call)dma_version,     (any_call)dma_run_program, (any_call)dma_assemble,
-    (any_call)dma_disassemble
+    (any_call)dma330_open,       (any_call)dma330_close,       (any_call)dma330_write,     (any_call)dma330_read,
+    (any_call)dma330_submit,     (any_call)dma330_submit_fill, (any_call)dma330_issue,     (any_call)dma330_pause,
+    (any_call)dma330_resume,     (any_call)dma330_terminate,   (any_call)dma330_step,      (any_call)dma330_status,
+    (any_call)dma330_result,     (any_call)dma330_running,     (any_call)dma330_unfinished, (any_call)dma330_forgotten,
+    (any_call)dma330_steps,      (any_call)dma330_mark,        (any_call)dma330_unmark,    (any_call)dma330_raise,
+    (any_call)dma330_checkpoint, (any_call)dma330_version,     (any_call)dma330_run_program, (any_call)dma330_assemble,
+    (any_call)dma330_disassemble, (any_call)dma330_history_entries, (any_call)dma330_history_bytes,
+    (any_call)dma330_running_count,
+    (any_call)dma330_channel_open, (any_call)dma330_channel_close, (any_call)dma330_channel_load_copy,
+    (any_call)dma330_channel_load_fill, (any_call)dma330_channel_load_program, (any_call)dma330_channel_load_from,
+    (any_call)dma330_channel_step, (any_call)dma330_channel_stop, (any_call)dma330_channel_registers,
+    (any_call)dma330_channel_mark, (any_call)dma330_channel_unmark, (any_call)dma330_channel_save,
+    (any_call)dma330_channel_restore
 };
 
 int main(void)
 {
-    char version[DMA_MAX_VERSION];
+    char version[DMA330_MAX_VERSION];
     size_t count = sizeof all_calls / sizeof all_calls[0];
     size_t length = 0;
-    if (dma_version(version, sizeof version, &length) != DMA_OK || strcmp(version, DMA_VERSION) != 0) {
-        printf("the library is not that of this header, which is %s\n", DMA_VERSION);
+    if (dma330_version(version, sizeof version, &length) != DMA330_OK || strcmp(version, DMA330_VERSION) != 0) {
+        printf("the library is not that of this header, which is %s\n", DMA330_VERSION);
         return 1;
     }
     printf("%s, %lu calls\n", version, (unsigned long)count);

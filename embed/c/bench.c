@@ -6,7 +6,7 @@
  *
  * It prints how many steps and calls there were, and the nanoseconds that they took by the clock and of the processor. */
 #define _POSIX_C_SOURCE 199309L
-#include "dma.h"
+#include "dma330.h"
 
 #include <stdio.h>
 #include <stdlib.h>
@@ -52,27 +52,29 @@ static void expect(int holds, const char *what)
     }
 }
 
-static void load(dma_controller *controller, long copies)
+static void load(dma330_controller *controller, long copies)
 {
-    const dma_segment src = {0, MIB}, dst = {MIB, MIB};
+    const dma330_segment src = {0, MIB}, dst = {MIB, MIB};
     uint32_t cookie, issued;
     long n;
-    expect(dma_open(controller, MEMORY, 1) == DMA_OK, "no controller");
-    for (n = 0; n < copies; n++)
-        expect(dma_submit(controller, 0, &src, 1, &dst, 1, DMA_NO_EVENT, DMA_NO_EVENT, &cookie) == DMA_OK, "no copy");
-    expect(dma_issue(controller, 0, &issued) == DMA_OK, "not issued");
+    expect(dma330_open(controller, MEMORY, 1) == DMA330_OK, "no controller");
+    for (n = 0; n < copies; n++) {
+        int32_t code = dma330_submit(controller, 0, &src, 1, &dst, 1, DMA330_NO_EVENT, DMA330_NO_EVENT, &cookie);
+        expect(code == DMA330_OK, "no copy");
+    }
+    expect(dma330_issue(controller, 0, &issued) == DMA330_OK, "not issued");
 }
 
 /* Until there is nothing more to do. */
-static void step_all(dma_controller *controller, uint32_t most, measured *m)
+static void step_all(dma330_controller *controller, uint32_t most, measured *m)
 {
-    dma_report report;
+    dma330_report report;
     begin(m);
     do {
-        expect(dma_step(controller, 0, most, &report) == DMA_OK, "a step was refused");
+        expect(dma330_step(controller, 0, most, &report) == DMA330_OK, "a step was refused");
         m->steps += report.taken;
         m->calls++;
-    } while (report.turn != DMA_NOTHING);
+    } while (report.turn != DMA330_NOTHING);
     end(m);
 }
 
@@ -89,14 +91,15 @@ static void copy_all(long copies, measured *m)
 
 static void step_copies(uint32_t most, long copies, int are_written, measured *m)
 {
-    dma_controller controller = DMA_CONTROLLER_INIT;
+    dma330_controller controller = DMA330_CONTROLLER_INIT;
+    dma330_conflict conflict;
     load(&controller, copies);
     if (are_written)
-        expect(dma_write(&controller, 0, from, MIB) == DMA_OK, "not written");
+        expect(dma330_write(&controller, 0, from, MIB, &conflict) == DMA330_OK, "not written");
     step_all(&controller, most, m);
-    expect(dma_read(&controller, MIB, to, MIB) == DMA_OK, "not read");
+    expect(dma330_read(&controller, MIB, to, MIB, &conflict) == DMA330_OK, "not read");
     expect(!are_written || memcmp(from, to, MIB) == 0, "not copied");
-    dma_close(&controller);
+    dma330_close(&controller);
 }
 
 int main(int count, char **words)

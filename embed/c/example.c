@@ -1,6 +1,6 @@
 /* A copy from submit to finish, and then a device in the loop of an emulator: a guest's register writes submit, the main
  * loop steps, and the guest polls for completion. It prints what example.txt has. */
-#include "dma.h"
+#include "dma330.h"
 
 #include <stdio.h>
 #include <stdlib.h>
@@ -8,17 +8,18 @@
 /* A refusal that nothing here expects ends the program. */
 static void expect_ok(int32_t code, const char *call)
 {
-    if (code != DMA_OK) {
+    if (code != DMA330_OK) {
         fprintf(stderr, "%s was refused: %ld\n", call, (long)code);
         exit(1);
     }
 }
 
-static void print_memory(dma_controller *controller, uint32_t addr, uint8_t count)
+static void print_memory(dma330_controller *controller, uint32_t addr, uint8_t count)
 {
+    dma330_conflict conflict;
     uint8_t bytes[255];
     uint8_t n;
-    expect_ok(dma_read(controller, addr, bytes, count), "dma_read");
+    expect_ok(dma330_read(controller, addr, bytes, count, &conflict), "dma330_read");
     printf("read 0x%08lX", (unsigned long)addr);
     for (n = 0; n < count; n++)
         printf(" %02X", bytes[n]);
@@ -30,25 +31,26 @@ static void print_memory(dma_controller *controller, uint32_t addr, uint8_t coun
 static void copy_three_bytes(void)
 {
     static const uint8_t bytes[3] = {0xAA, 0xBB, 0xCC};
-    const dma_segment from = {0x10, 3};
-    const dma_segment to = {0x20, 3};
-    dma_controller controller = DMA_CONTROLLER_INIT;
-    dma_report report;
-    dma_outcome outcome;
+    const dma330_segment from = {0x10, 3};
+    const dma330_segment to = {0x20, 3};
+    dma330_controller controller = DMA330_CONTROLLER_INIT;
+    dma330_conflict conflict;
+    dma330_report report;
+    dma330_outcome outcome;
     uint32_t cookie, issued;
 
-    expect_ok(dma_open(&controller, 64, 1), "dma_open");
-    expect_ok(dma_write(&controller, 0x10, bytes, sizeof bytes), "dma_write");
-    expect_ok(dma_submit(&controller, 0, &from, 1, &to, 1, DMA_NO_EVENT, DMA_NO_EVENT, &cookie), "dma_submit");
-    expect_ok(dma_issue(&controller, 0, &issued), "dma_issue");
+    expect_ok(dma330_open(&controller, 64, 1), "dma330_open");
+    expect_ok(dma330_write(&controller, 0x10, bytes, sizeof bytes, &conflict), "dma330_write");
+    expect_ok(dma330_submit(&controller, 0, &from, 1, &to, 1, DMA330_NO_EVENT, DMA330_NO_EVENT, &cookie), "dma330_submit");
+    expect_ok(dma330_issue(&controller, 0, &issued), "dma330_issue");
     do
-        expect_ok(dma_step(&controller, 0, 5, &report), "dma_step");
-    while (report.turn == DMA_STARTED || report.turn == DMA_MOVED);
-    expect_ok(dma_result(&controller, 0, cookie, &outcome), "dma_result");
+        expect_ok(dma330_step(&controller, 0, 5, &report), "dma330_step");
+    while (report.turn == DMA330_STARTED || report.turn == DMA330_MOVED);
+    expect_ok(dma330_result(&controller, 0, cookie, &outcome), "dma330_result");
     printf("copy finished %lu %s residue %lu\n", (unsigned long)cookie,
-           outcome.result == DMA_NO_ERROR ? "NoError" : "with an error", (unsigned long)outcome.residue);
+           outcome.result == DMA330_NO_ERROR ? "NoError" : "with an error", (unsigned long)outcome.residue);
     print_memory(&controller, 0x1F, 5);
-    dma_close(&controller);
+    dma330_close(&controller);
 }
 
 /* ---- a device: a controller behind registers, a block of them for each channel ---- */
@@ -59,7 +61,7 @@ enum { CHANNELS = 2, STEPS_OF_A_TURN = 4, NONE = -1 };
 enum { SRC, DST, LEN, WAIT, SIGNAL, START, STATE, ERROR, REGISTERS };
 
 typedef struct device {
-    dma_controller controller;
+    dma330_controller controller;
     uint32_t registers[CHANNELS][REGISTERS];
     uint32_t cookies[CHANNELS];    /* the last one given, 0 for none */
     uint32_t last_turns[CHANNELS]; /* what the last step of a turn did */
@@ -68,7 +70,7 @@ typedef struct device {
 static void reset(device *dev)
 {
     int channel;
-    expect_ok(dma_open(&dev->controller, 0x400, CHANNELS), "dma_open");
+    expect_ok(dma330_open(&dev->controller, 0x400, CHANNELS), "dma330_open");
     for (channel = 0; channel < CHANNELS; channel++) {
         dev->registers[channel][WAIT] = (uint32_t)NONE;
         dev->registers[channel][SIGNAL] = (uint32_t)NONE;
@@ -77,23 +79,23 @@ static void reset(device *dev)
 
 static int32_t event_of(uint32_t value)
 {
-    return value == (uint32_t)NONE ? DMA_NO_EVENT : (int32_t)(value & 31);
+    return value == (uint32_t)NONE ? DMA330_NO_EVENT : (int32_t)(value & 31);
 }
 
 /* A guest's mistake is no mistake of the emulator: it is told in a register. */
 static void start(device *dev, uint8_t channel)
 {
     uint32_t *registers = dev->registers[channel];
-    dma_segment from, to;
+    dma330_segment from, to;
     uint32_t issued;
     int32_t code;
     from.addr = registers[SRC];
     to.addr = registers[DST];
     from.len = to.len = registers[LEN];
-    code = dma_submit(&dev->controller, channel, &from, 1, &to, 1, event_of(registers[WAIT]), event_of(registers[SIGNAL]),
-                      &dev->cookies[channel]);
-    if (code == DMA_OK)
-        code = dma_issue(&dev->controller, channel, &issued);
+    code = dma330_submit(&dev->controller, channel, &from, 1, &to, 1, event_of(registers[WAIT]), event_of(registers[SIGNAL]),
+                         &dev->cookies[channel]);
+    if (code == DMA330_OK)
+        code = dma330_issue(&dev->controller, channel, &issued);
     registers[ERROR] = (uint32_t)-code;
 }
 
@@ -107,15 +109,15 @@ static void write_register(device *dev, uint8_t channel, uint32_t which, uint32_
 static uint32_t read_register(device *dev, uint8_t channel, uint32_t which)
 {
     if (which == STATE)
-        return (uint32_t)dma_status(&dev->controller, channel, dev->cookies[channel]);
+        return (uint32_t)dma330_status(&dev->controller, channel, dev->cookies[channel]);
     return dev->registers[channel][which];
 }
 
-static void tell(device *dev, uint8_t channel, const dma_report *report)
+static void tell(device *dev, uint8_t channel, const dma330_report *report)
 {
-    if (report->turn == DMA_WAITING && dev->last_turns[channel] != DMA_WAITING)
+    if (report->turn == DMA330_WAITING && dev->last_turns[channel] != DMA330_WAITING)
         printf("channel %d waits for event %lu\n", channel, (unsigned long)report->event);
-    if (report->turn == DMA_FINISHED)
+    if (report->turn == DMA330_FINISHED)
         printf("channel %d finished cookie %lu\n", channel, (unsigned long)report->cookie);
     dev->last_turns[channel] = report->turn;
 }
@@ -125,8 +127,8 @@ static void turn(device *dev)
 {
     uint8_t channel;
     for (channel = 0; channel < CHANNELS; channel++) {
-        dma_report report;
-        expect_ok(dma_step(&dev->controller, channel, STEPS_OF_A_TURN, &report), "dma_step");
+        dma330_report report;
+        expect_ok(dma330_step(&dev->controller, channel, STEPS_OF_A_TURN, &report), "dma330_step");
         tell(dev, channel, &report);
     }
 }
@@ -155,16 +157,17 @@ static const instruction guest[] = {
 /* Executes one instruction; answers whether it is done with it. */
 static int execute(device *dev, const instruction *next)
 {
+    dma330_conflict conflict;
     uint8_t byte = (uint8_t)next->value;
     switch (next->what) {
     case STORE:
-        expect_ok(dma_write(&dev->controller, next->at, &byte, 1), "dma_write");
+        expect_ok(dma330_write(&dev->controller, next->at, &byte, 1, &conflict), "dma330_write");
         return 1;
     case SET:
         write_register(dev, next->channel, next->at, next->value);
         return 1;
     case POLL:
-        return read_register(dev, next->channel, STATE) == DMA_COMPLETE;
+        return read_register(dev, next->channel, STATE) == DMA330_COMPLETE;
     default:
         return 1;
     }
@@ -182,6 +185,6 @@ int main(void)
     }
     print_memory(&dev.controller, 0x200, 2);
     print_memory(&dev.controller, 0x300, 1);
-    dma_close(&dev.controller);
+    dma330_close(&dev.controller);
     return 0;
 }

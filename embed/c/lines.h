@@ -2,40 +2,19 @@
 #ifndef LINES_H
 #define LINES_H
 
-#include "dma.h"
+#include "words.h"
 
-enum { MOST_BYTES = 16384, MOST_TEXT = 1 << 16, MOST_SEGMENTS = 80, RAM_BYTES = 1 << 16, ANSWER_ROOM = 4096 };
-
-/* A number of dma.h and its name there, without what all of its enum begin with. */
-typedef struct named {
-    int32_t number;
-    const char *name;
-} named;
-
-/* What a line says. */
-typedef struct arguments {
-    uint8_t channel;
-    uint32_t numbers[3];
-    dma_segment src[MOST_SEGMENTS];
-    dma_segment dst[MOST_SEGMENTS];
-    size_t src_count;
-    size_t dst_count;
-    int32_t wait;
-    int32_t signal;
-    uint8_t bytes[MOST_BYTES];
-    size_t len;
-    char text[MOST_TEXT];
-    size_t text_len;
-} arguments;
+enum { RAM_BYTES = 1 << 16, ANSWER_ROOM = 4096 };
 
 /* Whatever a call may write. */
 typedef struct outputs {
     uint32_t number;
     uint64_t wide;
-    dma_outcome outcome;
-    dma_run run;
-    dma_report report;
-    dma_run_end end;
+    dma330_outcome outcome;
+    dma330_run run;
+    dma330_report report;
+    dma330_run_end end;
+    dma330_conflict conflict;
     size_t len;
     size_t place;
     uint8_t bytes[MOST_BYTES];
@@ -43,7 +22,7 @@ typedef struct outputs {
 
 /* One who carries lines out; zeroed at first, and then play_from_here. */
 typedef struct player {
-    dma_controller controller;
+    dma330_controller controller;
     uint32_t size;          /* of the controller's memory */
     uint8_t ram[RAM_BYTES]; /* over which programs are run alone */
     arguments asked;
@@ -54,7 +33,7 @@ typedef struct player {
     int wrongs;    /* what no call may do, whatever it answers */
     /* Told where memory was refused, by the code, or, with a report, after the steps that it tells; then the call is made
      * again. None: the code is an answer like any other. */
-    void (*refused)(struct player *player, const dma_report *cut_short);
+    void (*refused)(struct player *player, const dma330_report *cut_short);
 } player;
 
 /* A player with a controller that isn't open. */
@@ -65,11 +44,5 @@ void carry_out(player *p, const char *line, char *answer);
 
 /* Whether a call has answered a code, since the program began. */
 int has_answered(const char *call, const char *code);
-
-/* The code's name, without the DMA_. */
-const char *code_name(int32_t code);
-
-/* All of them; behind the last stands one with no name. */
-extern const named all_codes[];
 
 #endif

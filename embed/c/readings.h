@@ -2,22 +2,24 @@
 #ifndef READINGS_H
 #define READINGS_H
 
-#include "dma.h"
+#include "dma330.h"
 
-enum { READ_CHANNELS = DMA_MAX_CHANNELS + 1, READ_COOKIES = 6, LOW_BYTES = 0x4000, HIGH_BYTES = 0x40, PIECE = 0x40 };
+enum { READ_CHANNELS = DMA330_MAX_CHANNELS + 1, READ_COOKIES = 6, LOW_BYTES = 0x4000, HIGH_BYTES = 0x40, PIECE = 0x40 };
 
 /* Zeros where a call was refused, and where nothing is. */
 typedef struct readings {
     int32_t steps_code;
     uint64_t steps;
+    int32_t running_code;
+    uint32_t running_count;
     struct {
         int32_t codes[3];
         uint32_t unfinished;
         uint32_t forgotten;
-        dma_run run;
+        dma330_run run;
         int32_t states[READ_COOKIES];
         int32_t result_codes[READ_COOKIES];
-        dma_outcome outcomes[READ_COOKIES];
+        dma330_outcome outcomes[READ_COOKIES];
     } channels[READ_CHANNELS];
     int32_t piece_codes[(LOW_BYTES + HIGH_BYTES) / PIECE];
     uint8_t low[LOW_BYTES];   /* the first bytes of the memory */
@@ -25,8 +27,8 @@ typedef struct readings {
 } readings;
 
 /* The readings of a controller whose memory has so many bytes. Of the bytes those are left out that a running transfer
- * writes. It adds reads to the history, which no reading tells. */
-void take_readings(dma_controller *controller, uint32_t size, readings *out);
+ * writes. It adds reads to the history, whose entries and bytes are no readings here. */
+void take_readings(dma330_controller *controller, uint32_t size, readings *out);
 
 /* Whether they are the same; the first that differ are printed. */
 int are_same(const readings *a, const readings *b);

@@ -2,6 +2,7 @@
  * it, until a run meets none. Where a call is told that memory was wanting, all readings are those of a controller that was
  * refused nothing and stands before that call, and the same call then answers what the row has. Nothing is leaked.
  * Link it with -Wl,--wrap=malloc,--wrap=realloc,--wrap=free */
+#include "heap.h"
 #include "lines.h"
 #include "readings.h"
 #include "rows.h"
@@ -20,9 +21,8 @@ static enum mode mode;
 static long left;       /* how many requests to give before the one to be refused */
 static int is_refused;  /* whether one was, in this run */
 static int is_untold;   /* whether one was, and no call has told it yet */
-static long live_blocks;
 
-static int refuses(void)
+int refuses(void)
 {
     int refuses_this = allocator == REFUSES || (allocator == COUNTS && left-- == 0);
     if (refuses_this) {
@@ -30,33 +30,6 @@ static int refuses(void)
         allocator = mode == WITH_ALL_AFTER ? REFUSES : GIVES;
     }
     return refuses_this;
-}
-
-void *__real_malloc(size_t size);
-void *__real_realloc(void *block, size_t size);
-void __real_free(void *block);
-void *__wrap_malloc(size_t size);
-void *__wrap_realloc(void *block, size_t size);
-void __wrap_free(void *block);
-
-void *__wrap_malloc(size_t size)
-{
-    void *made = refuses() ? NULL : __real_malloc(size);
-    live_blocks += made != NULL;
-    return made;
-}
-
-void *__wrap_realloc(void *block, size_t size)
-{
-    void *made = refuses() ? NULL : __real_realloc(block, size);
-    live_blocks += made != NULL && block == NULL;
-    return made;
-}
-
-void __wrap_free(void *block)
-{
-    live_blocks -= block != NULL;
-    __real_free(block);
 }
 
 /* ---- a group, with one request refused ---- */
@@ -74,30 +47,30 @@ static int is_right(int holds, const char *what)
 }
 
 /* Plays the group up to so many calls with nothing refused, then so many steps, and compares. */
-static int is_as_before(const player *p, long calls, const dma_report *steps)
+static int is_as_before(const player *p, long calls, const dma330_report *steps)
 {
     static char answer[ANSWER_ROOM];
     static readings here, there;
-    dma_report report;
+    dma330_report report;
     int n, is_same = 1;
     make_player(&other);
     other.stop_at = calls;
     for (n = 0; n < playing->count && !other.is_stopped; n++)
         carry_out(&other, playing->rows[n].line, answer);
     if (steps)
-        is_same = dma_step(&other.controller, p->asked.channel, steps->taken, &report) == DMA_OK &&
+        is_same = dma330_step(&other.controller, p->asked.channel, steps->taken, &report) == DMA330_OK &&
                   memcmp(&report, steps, sizeof report) == 0;
     take_readings(&refused_player.controller, p->size, &here);
     take_readings(&other.controller, p->size, &there);
     is_same = is_same && are_same(&here, &there) && memcmp(p->ram, other.ram, RAM_BYTES) == 0;
-    dma_close(&other.controller);
+    dma330_close(&other.controller);
     return is_same;
 }
 
 /* A call was refused memory; or, where there is a report, a step of it, and the steps before that stand. */
-static void on_refused(player *p, const dma_report *cut_short)
+static void on_refused(player *p, const dma330_report *cut_short)
 {
-    static dma_report steps_before;
+    static dma330_report steps_before;
     allocator = GIVES;
     refusals++;
     if (!is_right(is_untold, "memory was wanting, though none was refused")) {
@@ -139,7 +112,7 @@ static int plays_well(long number)
             is_well = 0;
         }
     }
-    dma_close(&refused_player.controller);
+    dma330_close(&refused_player.controller);
     is_well = is_right(live_blocks == 0, "a block was leaked") && is_well;
     return is_well && refused_player.wrongs == 0;
 }
@@ -156,7 +129,7 @@ static int refuse_each(void)
 
 /* ---- all of them ---- */
 
-/* The calls of dma.h that name NO_MEMORY. */
+/* The calls of dma330.h that name NO_MEMORY. */
 static const char *const growing[] = {"open", "write", "read", "submit", "submit_fill", "issue", "terminate", "step", "mark",
                                       "unmark", "raise", "checkpoint", "run_program", "assemble", "disassemble"};
 

@@ -2,7 +2,7 @@
  * copies to a channel of its own, and steps it until they are complete, two steps each time that it has the lock. The thread
  * that opens the controller is not the one that closes it. */
 #define _POSIX_C_SOURCE 200112L
-#include "dma.h"
+#include "dma330.h"
 
 #include <pthread.h>
 #include <stdio.h>
@@ -14,7 +14,7 @@ enum { THREADS = 4, REGION = 0x1000, COPY = 0x400, COPIES = 3, MOST = 2, ROUNDS 
 typedef struct board {
     pthread_barrier_t start;
     pthread_mutex_t lock;
-    dma_controller dma; /* by whoever has the lock */
+    dma330_controller dma; /* by whoever has the lock */
 } board;
 
 typedef struct processor {
@@ -44,28 +44,29 @@ static void give(board *b)
 static void copy_upward(const processor *p, uint32_t n)
 {
     const uint32_t from = p->channel * (uint32_t)REGION + n * COPY;
-    const dma_segment src = {from, COPY}, dst = {from + COPY, COPY};
-    dma_report report;
-    dma_outcome outcome;
+    const dma330_segment src = {from, COPY}, dst = {from + COPY, COPY};
+    dma330_report report;
+    dma330_outcome outcome;
     uint32_t cookie, issued, rounds = 0;
-    int32_t state;
+    int32_t code, state;
     take(p->board);
-    expect(dma_submit(&p->board->dma, p->channel, &src, 1, &dst, 1, DMA_NO_EVENT, DMA_NO_EVENT, &cookie) == DMA_OK,
-           "not submitted");
-    expect(dma_issue(&p->board->dma, p->channel, &issued) == DMA_OK && issued == 1, "not issued");
+    code = dma330_submit(&p->board->dma, p->channel, &src, 1, &dst, 1, DMA330_NO_EVENT, DMA330_NO_EVENT, &cookie);
+    expect(code == DMA330_OK, "not submitted");
+    expect(dma330_issue(&p->board->dma, p->channel, &issued) == DMA330_OK && issued == 1, "not issued");
     give(p->board);
     do {
         take(p->board);
-        expect(dma_step(&p->board->dma, p->channel, MOST, &report) == DMA_OK, "not stepped");
-        expect(report.turn == DMA_STARTED || report.turn == DMA_MOVED || report.turn == DMA_FINISHED, "it doesn't go on");
+        expect(dma330_step(&p->board->dma, p->channel, MOST, &report) == DMA330_OK, "not stepped");
+        expect(report.turn == DMA330_STARTED || report.turn == DMA330_MOVED || report.turn == DMA330_FINISHED,
+               "it doesn't go on");
         expect(rounds++ < ROUNDS, "it doesn't end");
-        state = dma_status(&p->board->dma, p->channel, cookie);
+        state = dma330_status(&p->board->dma, p->channel, cookie);
         give(p->board);
-    } while (state == DMA_IN_PROGRESS);
+    } while (state == DMA330_IN_PROGRESS);
     take(p->board);
-    expect(dma_result(&p->board->dma, p->channel, cookie, &outcome) == DMA_OK, "no result");
+    expect(dma330_result(&p->board->dma, p->channel, cookie, &outcome) == DMA330_OK, "no result");
     give(p->board);
-    expect(outcome.result == DMA_NO_ERROR && outcome.residue == 0, "not copied");
+    expect(outcome.result == DMA330_NO_ERROR && outcome.residue == 0, "not copied");
 }
 
 static void *run(void *argument)
@@ -88,14 +89,15 @@ static void pattern(uint8_t channel, uint8_t bytes[COPY])
 
 static void begin(board *b)
 {
+    dma330_conflict conflict;
     uint8_t bytes[COPY], channel;
     expect(pthread_barrier_init(&b->start, NULL, THREADS) == 0, "no barrier");
     expect(pthread_mutex_init(&b->lock, NULL) == 0, "no lock");
     memset(&b->dma, 0, sizeof b->dma);
-    expect(dma_open(&b->dma, THREADS * REGION, THREADS) == DMA_OK, "no controller");
+    expect(dma330_open(&b->dma, THREADS * REGION, THREADS) == DMA330_OK, "no controller");
     for (channel = 0; channel < THREADS; channel++) {
         pattern(channel, bytes);
-        expect(dma_write(&b->dma, channel * (uint32_t)REGION, bytes, COPY) == DMA_OK, "not written");
+        expect(dma330_write(&b->dma, channel * (uint32_t)REGION, bytes, COPY, &conflict) == DMA330_OK, "not written");
     }
 }
 
@@ -103,16 +105,18 @@ static void begin(board *b)
 static void *end(void *argument)
 {
     board *b = argument;
+    dma330_conflict conflict;
     uint8_t bytes[COPY], found[COPY], channel;
     uint32_t n;
     for (channel = 0; channel < THREADS; channel++) {
         pattern(channel, bytes);
         for (n = 0; n <= COPIES; n++) {
-            expect(dma_read(&b->dma, channel * (uint32_t)REGION + n * COPY, found, COPY) == DMA_OK, "not read");
+            uint32_t at = channel * (uint32_t)REGION + n * COPY;
+            expect(dma330_read(&b->dma, at, found, COPY, &conflict) == DMA330_OK, "not read");
             expect(memcmp(found, bytes, COPY) == 0, "other bytes");
         }
     }
-    dma_close(&b->dma);
+    dma330_close(&b->dma);
     return NULL;
 }
 

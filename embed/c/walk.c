@@ -47,13 +47,13 @@ static void walk(const group *of)
     make_player(&walker);
     for (n = 0; n < of->count; n++)
         walk_row(of, &of->rows[n]);
-    dma_close(&walker.controller);
+    dma330_close(&walker.controller);
 }
 
 /* ---- all codes of all calls ---- */
 
-/* By the comments of dma.h, but for NO_MEMORY, which refuse.c shows, and for two that no program lives to see: COOKIES_SPENT
- * comes after 2^31 submits, STEPS_SPENT after 2^64 steps. */
+/* By the comments of dma330.h, but for NO_MEMORY, which refuse.c shows, and for two that no program lives to see:
+ * COOKIES_SPENT comes after 2^31 submits, STEPS_SPENT after 2^64 steps. */
 static const struct {
     const char *call;
     const char *codes;
@@ -86,19 +86,6 @@ static const struct {
     {"assemble", "OK BAD_MNEMONIC BAD_OPERAND NUMBER_OUT_OF_RANGE PROGRAM_TOO_LONG BUFFER_TOO_SMALL"},
     {"disassemble", "OK CUT_INSTRUCTION UNKNOWN_INSTRUCTION BAD_FIELD BUFFER_TOO_SMALL"},
 };
-
-/* Whether a code is one of the words. */
-static int has_word(const char *words, const char *code)
-{
-    size_t len = strlen(code);
-    const char *at = words;
-    while ((at = strstr(at, code)) != NULL) {
-        if ((at == words || at[-1] == ' ') && (at[len] == ' ' || at[len] == '\0'))
-            return 1;
-        at += len;
-    }
-    return 0;
-}
 
 static void compare_codes(const char *call, const char *codes)
 {
@@ -142,11 +129,11 @@ static uint32_t last_offset(size_t cut)
 static void run_cut_programs(void)
 {
     static uint8_t memory[0x4000];
-    dma_run_end end;
+    dma330_run_end end;
     size_t cut;
     for (cut = 0; cut < sizeof copy_of_300; cut++) {
-        int32_t code = dma_run_program(copy_of_300, cut, memory, sizeof memory, 1000, &end);
-        if (!is_right(code == DMA_OK && end.end == DMA_END_FAULT && end.fault == DMA_INSTR_FETCH_ERR &&
+        int32_t code = dma330_run_program(copy_of_300, cut, memory, sizeof memory, 1000, &end);
+        if (!is_right(code == DMA330_OK && end.end == DMA330_END_FAULT && end.fault == DMA330_INSTR_FETCH_ERR &&
                       end.pc == last_offset(cut)))
             printf("WRONG: a program cut at %lu bytes: %s, offset %lu\n", (unsigned long)cut, code_name(code),
                    (unsigned long)end.pc);
@@ -156,36 +143,55 @@ static void run_cut_programs(void)
 static void run_whole_program(void)
 {
     static uint8_t memory[0x4000], wanted[0x4000];
-    dma_run_end end;
+    dma330_run_end end;
     int n;
     for (n = 0; n < 300; n++)
         memory[0x1000 + n] = wanted[0x1000 + n] = wanted[0x2000 + n] = (uint8_t)(n % 251);
-    if (!is_right(dma_run_program(copy_of_300, sizeof copy_of_300, memory, sizeof memory, 1000, &end) == DMA_OK &&
-                  end.end == DMA_END_ENDED && end.turns == 20 && memcmp(memory, wanted, sizeof memory) == 0))
+    if (!is_right(dma330_run_program(copy_of_300, sizeof copy_of_300, memory, sizeof memory, 1000, &end) == DMA330_OK &&
+                  end.end == DMA330_END_ENDED && end.turns == 20 && memcmp(memory, wanted, sizeof memory) == 0))
         printf("WRONG: the program of 300 bytes\n");
 }
 
 /* ---- lengths above 32 bits, whose low halves would be taken ---- */
 
+static void lend_long_lengths(uint8_t *bytes, size_t len)
+{
+    dma330_channel channel = DMA330_CHANNEL_INIT;
+    dma330_region region = {0, NULL, 0};
+    dma330_channel_report report;
+    uint32_t flags = 0;
+    region.bytes = bytes;
+    region.len = len;
+    if (!is_right(dma330_channel_open(&channel) == DMA330_OK &&
+                  dma330_channel_load_program(&channel, bytes, len) == DMA330_PROGRAM_TOO_LONG &&
+                  dma330_channel_restore(&channel, bytes, len) == DMA330_BAD_SAVE &&
+                  dma330_channel_load_from(&channel, &region, 1, 0) == DMA330_BAD_REGIONS &&
+                  dma330_channel_step(&channel, &region, 1, &flags, 1, &report) == DMA330_BAD_REGIONS))
+        printf("WRONG: a channel with more than 4 GiB\n");
+    dma330_channel_close(&channel);
+}
+
 static void ask_with_long_lengths(void)
 {
     const size_t len = ((size_t)1 << 32) + 8;
     const uint8_t end_of_program = 0;
-    dma_controller controller = DMA_CONTROLLER_INIT;
-    dma_run_end end;
+    dma330_controller controller = DMA330_CONTROLLER_INIT;
+    dma330_conflict conflict;
+    dma330_run_end end;
     uint8_t *bytes = mmap(NULL, len, PROT_READ | PROT_WRITE, MAP_PRIVATE | MAP_ANONYMOUS | MAP_NORESERVE, -1, 0);
-    if (bytes == MAP_FAILED || dma_open(&controller, 64, 1) != DMA_OK) {
+    if (bytes == MAP_FAILED || dma330_open(&controller, 64, 1) != DMA330_OK) {
         printf("lengths above 32 bits are left out: there is no room for them\n");
         return;
     }
     bytes[0] = 7;
-    if (!is_right(dma_read(&controller, 0, bytes, len) == DMA_OUT_OF_MEMORY_RANGE && bytes[0] == 7))
+    if (!is_right(dma330_read(&controller, 0, bytes, len, &conflict) == DMA330_OUT_OF_MEMORY_RANGE && bytes[0] == 7))
         printf("WRONG: a read of more than 4 GiB\n");
-    if (!is_right(dma_write(&controller, 0, bytes, len) == DMA_OUT_OF_MEMORY_RANGE))
+    if (!is_right(dma330_write(&controller, 0, bytes, len, &conflict) == DMA330_OUT_OF_MEMORY_RANGE))
         printf("WRONG: a write of more than 4 GiB\n");
-    if (!is_right(dma_run_program(&end_of_program, 1, bytes, len, 10, &end) == DMA_SIZE_OUT_OF_RANGE))
+    if (!is_right(dma330_run_program(&end_of_program, 1, bytes, len, 10, &end) == DMA330_SIZE_OUT_OF_RANGE))
         printf("WRONG: a program over more than 4 GiB\n");
-    dma_close(&controller);
+    lend_long_lengths(bytes, len);
+    dma330_close(&controller);
     munmap(bytes, len);
 }
 

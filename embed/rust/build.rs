@@ -1,30 +1,31 @@
-//! Links the library, and behind it the kit's heap over `malloc`. DMA_FFI_LIB and DMA_FFI_HEAP name the two archives; without
-//! them they are those of this repository and of the kit whose `rt` is found.
+//! Links the library. DMA330_LIB names the archive. Without it that is this repository's, which `make -C embed library` builds;
+//! where it isn't there, what `make -C embed install` has installed, as pkg-config finds it.
 
-use std::path::PathBuf;
+use std::path::{Path, PathBuf};
 use std::process::Command;
 
 fn main() {
-    link("DMA_FFI_LIB", || {
-        let here = std::env::var("CARGO_MANIFEST_DIR").expect("cargo names the crate's folder");
-        PathBuf::from(here).join("../../crates/dma_ffi/out/libdma_ffi.a")
-    });
-    link("DMA_FFI_HEAP", || kit().join("c/liblibc_c.a"));
+    println!("cargo:rerun-if-env-changed=DMA330_LIB");
+    let here = std::env::var("CARGO_MANIFEST_DIR").expect("cargo names the crate's folder");
+    let built = Path::new(&here).join("../out/libdma330.a");
+    match std::env::var_os("DMA330_LIB") {
+        Some(named) => link(&PathBuf::from(named)),
+        None if built.is_file() => link(&built),
+        None => link(&installed()),
+    }
 }
 
-// The folder of the kit.
-fn kit() -> PathBuf {
-    let told = Command::new("rt").arg("doc").output().expect("`rt doc` runs, or DMA_FFI_HEAP is set");
-    let page = PathBuf::from(String::from_utf8_lossy(&told.stdout).trim());
-    page.parent().expect("`rt doc` names a page of the kit").to_path_buf()
+fn installed() -> PathBuf {
+    let found = Command::new("pkg-config").args(["--variable=libdir", "dma330"]).output();
+    let folder = found.ok().filter(|found| found.status.success()).and_then(|found| String::from_utf8(found.stdout).ok());
+    let folder = folder.expect("`make -C embed library` or `make -C embed install` was run, or DMA330_LIB is set");
+    Path::new(folder.trim()).join("libdma330.a")
 }
 
-fn link(variable: &str, otherwise: impl FnOnce() -> PathBuf) {
-    println!("cargo:rerun-if-env-changed={variable}");
-    let archive = std::env::var_os(variable).map_or_else(otherwise, PathBuf::from);
+fn link(archive: &Path) {
     let name = archive.file_stem().and_then(|stem| stem.to_str()).and_then(|stem| stem.strip_prefix("lib"));
     let (Some(folder), Some(name), true) = (archive.parent(), name, archive.is_file()) else {
-        panic!("there is no archive {}: `make -C embed check` builds it", archive.display());
+        panic!("there is no archive {}", archive.display());
     };
     println!("cargo:rerun-if-changed={}", archive.display());
     println!("cargo:rustc-link-search=native={}", folder.display());

@@ -1,6 +1,6 @@
 -- A call from C is a list of the engine's calls.
 use Rattle.std.proofs.Common.{◌≡◌, ℕ, zero, suc, List, [], ◌∷◌, ◌++◌, Option, Some, None, refl, ap, subst, sym}
-use Rattle.std.specs.Prelude.{replicate}
+use Rattle.std.specs.Prelude.{replicate, length, min}
 use Rattle.dma_mem.specs.Places.{Descriptor, filling}
 use Rattle.dma_mem.specs.Refusals.{refusal_of, refusal_of_fill}
 use Rattle.dma_mem.specs.declared.marks.MarkKind.{MarkKind}
@@ -12,10 +12,11 @@ use Rattle.dma_engine.specs.declared.call.Reply.{Reply}
 use Rattle.dma_engine.specs.declared.call.Reply.TheVariants.{Done, Bytes, Cookie, Count, Turned, State, Result as Resulted, Refused}
 use Rattle.dma_engine.specs.declared.turn.Turn.{Turn}
 use Rattle.dma_engine.specs.Object.{channel, unfinished}
-use Rattle.dma_engine.specs.View.{View, running_on, object_of}
+use Rattle.dma_engine.specs.History.{kept_bytes}
+use Rattle.dma_engine.specs.View.{View, running, running_on, object_of}
 use Rattle.dma_engine.specs.Answer.{AreAnswers, CallAnswers}
 use Rattle.dma_ffi.specs.Codes.{mark_kind}
-use Rattle.dma_ffi.specs.Told.{Reads, Answer, Answers, AnswersMark, AnswersSteps, AnswersSubmit, Asked, InARow, Tells, Told, ask_call, ask_copy, ask_fill, ask_forgotten, ask_mark, ask_running, ask_step_count, ask_steps, ask_unfinished, closed, no_kind, numbered, replied, runs, stepped, unfit}
+use Rattle.dma_ffi.specs.Told.{Reads, Answer, Answers, AnswersMark, AnswersSteps, AnswersSubmit, Asked, InARow, Tells, Told, ask_call, ask_copy, ask_fill, ask_forgotten, ask_history_bytes, ask_history_entries, ask_mark, ask_running, ask_running_count, ask_step_count, ask_steps, ask_unfinished, closed, no_kind, numbered, replied, runs, stepped, unfit}
 use Rattle.dma_ffi.specs.Laws.{AreReplies, CallsAreTheEngines, calls_made, marking}
 
 -- calls in order have replies that fit an answer, and leave such a view
@@ -125,6 +126,9 @@ made v w (ask_running ch) answer h = read_made v w (runs (running_on v ch)) answ
 made v w (ask_unfinished ch) answer h = read_made v w (numbered (unfinished (channel (object_of v) ch))) answer tt h
 made v w (ask_forgotten ch) answer h = read_made v w (numbered (channel (object_of v) ch).forgotten) answer tt h
 made v w ask_step_count answer h = read_made v w (numbered v.steps) answer tt h
+made v w ask_history_entries answer h = read_made v w (numbered (length v.history)) answer tt h
+made v w ask_history_bytes answer h = read_made v w (numbered (min (kept_bytes v.history) 18446744073709551615)) answer tt h
+made v w ask_running_count answer h = read_made v w (numbered (length (running (object_of v) v.schedule))) answer tt h
 
 pub calls_are_the_engines : CallsAreTheEngines
 unfolding Told Tells

@@ -1,6 +1,7 @@
 -- The machine values of a controller's pointer, for its walks; what C is told, from what the engine answered; which calls of
 -- the engine were made; steps in a row; lists of C; programs run alone over the caller's bytes.
 pub mod Values
+pub mod ChannelValues
 pub mod Tells
 pub mod CallsMade
 pub mod StepRows

@@ -1,8 +1,8 @@
 -- What C is told, from what the engine answered.
-use Rattle.std.proofs.Common.{◌≡◌, ℕ, ◌+◌, ◌<◌, List, take, drop, Option, Some, None, Result, Ok, Err, Bool, true, false, refl, sym, ap, ◌∙◌, subst, arith}
-use Rattle.std.specs.Prelude.{◌≢◌, ℤ, pos, negsuc, OnErr, IsSome, IsSomeAnd, IfOk, IfErr, unwrap_or, nat_lt}
-use Rattle.std.proofs.lemmas.Bool.{lt-ltb, true≢false}
-use Rattle.dma_mem.specs.Places.{Descriptor, filling, writes}
+use Rattle.std.proofs.Common.{◌≡◌, ℕ, List, Option, Some, None, Result, Ok, Err, Bool, true, false, refl, sym, ap, ◌∙◌, subst, length, min}
+use Rattle.std.specs.Prelude.{◌≢◌, ℤ, pos, negsuc, OnErr, IsSome, IsSomeAnd, IfOk, IfErr, unwrap_or}
+use Rattle.std.proofs.lemmas.Bool.{true≢false}
+use Rattle.dma_mem.specs.Places.{Descriptor, filling}
 use Rattle.dma_mem.specs.Refusals.{refusal_of, refusal_of_fill}
 use Rattle.dma_mem.specs.declared.marks.MarkKind.{MarkKind}
 use Rattle.dma_mem.specs.declared.segment.Segment.{Segment}
@@ -12,7 +12,6 @@ use Rattle.dma_engine.specs.declared.call.Call.{Call}
 use Rattle.dma_engine.specs.declared.call.Call.TheVariants.{Read, Submit, Status as StatusOf, Result as ResultOf, Mark}
 use Rattle.dma_engine.specs.declared.call.Reply.{Reply}
 use Rattle.dma_engine.specs.declared.call.Reply.TheVariants.{Done, Bytes, State, Result as Resulted, Refused}
-use Rattle.dma_engine.specs.declared.entry.Entry.TheVariants.{ReadBack}
 use Rattle.dma_engine.specs.declared.fault.EngineFault.{EngineFault}
 use Rattle.dma_engine.specs.declared.fault.EngineFault.TheVariants.{OutOfMemoryRange, Busy, Running as RunningFront, NoChannel, CookiesSpent, StepsSpent, BadEvent, BadRange, NoMemory}
 use Rattle.dma_engine.specs.declared.fault.NewFault.{NewFault}
@@ -21,16 +20,17 @@ use Rattle.dma_engine.specs.declared.outcome.Outcome.{Outcome}
 use Rattle.dma_engine.specs.declared.turn.Running.{Running}
 use Rattle.dma_engine.specs.declared.turn.Status.{Status}
 use Rattle.dma_engine.specs.Object.{channel, unfinished}
-use Rattle.dma_engine.specs.View.{View, EngineState, object_of, running_on, size, new_fault, new_view}
-use Rattle.dma_engine.specs.Turn.{with_entry}
-use Rattle.dma_engine.specs.Answer.{CallAnswers, answer, busy, cause, first_running, reply_of, result_of, status_in, unless}
+use Rattle.dma_engine.specs.View.{View, EngineState, object_of, running_on, size, new_fault, new_view, running}
+use Rattle.dma_engine.specs.History.{kept_bytes}
+use Rattle.dma_engine.specs.Answer.{CallAnswers, reply_of, result_of, status_in}
 use Rattle.dma_engine.specs.Room.{HasGivenBack}
 use Rattle.dma_ffi.specs.declared.reports.DmaOutcome.{DmaOutcome}
+use Rattle.dma_ffi.specs.declared.reports.DmaConflict.{DmaConflict}
 use Rattle.dma_ffi.specs.declared.reports.DmaReport.{DmaReport}
 use Rattle.dma_ffi.specs.declared.reports.DmaRun.{DmaRun}
 use Rattle.dma_ffi.specs.declared.steps.Taken.{Taken}
 use Rattle.dma_ffi.specs.Codes.{bad_kind, fault_code, mark_kind, new_code, reply_code, status_code, transfer_code}
-use Rattle.dma_ffi.specs.Told.{Answer, Answers, AnswersMark, AnswersSteps, AnswersSubmit, Asked, IsWritten, Leaves, Tells, Told, ToldNew, Written, a_number, a_report, a_run, an_outcome, ask_call, ask_copy, ask_fill, ask_forgotten, ask_mark, ask_running, ask_step_count, ask_steps, ask_unfinished, closed, code_of, no_kind, nothing, number_in, numbered, outcome_in, replied, report_in, run_in, runs, some_bytes, stepped, steps_answer, unfit}
+use Rattle.dma_ffi.specs.Told.{Answer, Answers, AnswersMark, AnswersSteps, AnswersSubmit, Asked, IsWritten, Leaves, Tells, Told, ToldNew, Written, a_number, a_report, a_run, an_outcome, ask_call, ask_copy, ask_fill, ask_forgotten, ask_mark, ask_running, ask_step_count, ask_steps, ask_unfinished, closed, code_of, no_kind, nothing, number_in, numbered, outcome_in, replied, report_in, run_in, runs, stepped, steps_answer, unfit, ask_history_entries, ask_history_bytes, ask_running_count, a_conflict, bytes_or_conflict, conflict_in}
 
 -- ---- from an engine to its controller
 
@@ -67,23 +67,19 @@ tells_outcome v before ch cookie o told is written = (replied (Resulted o), ap (
 
 -- ---- reads
 
-pub tells_bytes : {code : ℤ} {after : List ℕ} (v : View) (w : View) (before : List ℕ) (addr len : ℕ) (bytes : List ℕ) → CallAnswers v (Read addr len) (Bytes bytes) w → code ≡ pos 0 → after ≡ bytes → Tells v (ask_call (Read addr len)) code (some_bytes before after) w
+pub tells_bytes : {code : ℤ} {after : List ℕ} (conflict : DmaConflict) (v : View) (w : View) (before : List ℕ) (addr len : ℕ) (bytes : List ℕ) → CallAnswers v (Read addr len) (Bytes bytes) w → code ≡ pos 0 → after ≡ bytes → Tells v (ask_call (Read addr len)) code (bytes_or_conflict before after conflict conflict) w
 unfolding Tells
-tells_bytes v w before addr len bytes answers is written = (replied (Bytes bytes), answers, is, written)
+tells_bytes conflict v w before addr len bytes answers is written = (replied (Bytes bytes), answers, is, (written, refl))
 
-pub tells_no_bytes : {code : ℤ} (v : View) (w : View) (out : List ℕ) (addr len : ℕ) (fault : EngineFault) → CallAnswers v (Read addr len) (Refused fault) w → code ≡ fault_code fault → Tells v (ask_call (Read addr len)) code (some_bytes out out) w
+pub tells_no_bytes : {code : ℤ} {after : DmaConflict} (before : DmaConflict) (v : View) (w : View) (out : List ℕ) (addr len : ℕ) (fault : EngineFault) → CallAnswers v (Read addr len) (Refused fault) w → code ≡ fault_code fault → after ≡ conflict_in (replied (Refused fault)) before → Tells v (ask_call (Read addr len)) code (bytes_or_conflict out out before after) w
 unfolding Tells
-tells_no_bytes v w out addr len fault answers is = (replied (Refused fault), answers, is, refl)
+tells_no_bytes before v w out addr len fault answers is named = (replied (Refused fault), answers, is, (refl, named))
 
--- as many bytes as there is room for may be more than an address can count, or the memory has
-pub tells_past : {code : ℤ} (v : View) (out : List ℕ) (addr len : ℕ) → size v < len → code ≡ fault_code OutOfMemoryRange → Tells v (ask_call (Read addr len)) code (some_bytes out out) v
-tells_past v out addr len above is =
-    let image = (object_of v).image in
-    let range : Segment = record { addr = addr; len = len } in
-    let past : nat_lt (size v) (addr + len) ≡ true = lt-ltb (size v) (addr + len) (omega (arith, above)) in
-    let told : answer v (Read addr len) ≡ (Refused OutOfMemoryRange, v) =
-    ap (λ b. unless (cause b OutOfMemoryRange (busy (first_running v (λ t. writes t range)))) v (Bytes (take len (drop addr image)), with_entry v (ReadBack addr (take len (drop addr image))))) past in
-    tells_no_bytes v v out addr len OutOfMemoryRange (sym told) is
+-- ---- calls that name a conflict
+
+pub tells_unless : {code : ℤ} {after : DmaConflict} (before : DmaConflict) (v w : View) (call : Call) (reply : Reply) → CallAnswers v call reply w → code ≡ reply_code reply → after ≡ conflict_in (replied reply) before → Tells v (ask_call call) code (a_conflict before after) w
+unfolding Tells
+tells_unless before v w call reply answers is named = (replied reply, answers, is, named)
 
 -- ---- marks
 
@@ -111,9 +107,23 @@ pub tells_forgotten : {code : ℤ} {after : ℕ} (v : View) (before : ℕ) (ch :
 unfolding Tells
 tells_forgotten {after = after} v before ch told is = (numbered after, (ap numbered told, refl), is, refl)
 
+-- a reading of a number
+pub tells_number_read : {code : ℤ} {after : ℕ} (v : View) (asked : Asked) (before number : ℕ) → ((answer : Answer) → answer ≡ numbered number → Answers v asked answer v) → after ≡ number → code ≡ pos 0 → Tells v asked code (a_number before after) v
+unfolding Tells
+tells_number_read {after = after} v asked before number fits told is = (numbered after, fits (numbered after) (ap numbered told), is, refl)
+
 pub tells_step_count : {code : ℤ} {after : ℕ} (v : View) (before : ℕ) → after ≡ v.steps → code ≡ pos 0 → Tells v ask_step_count code (a_number before after) v
 unfolding Tells
 tells_step_count {after = after} v before told is = (numbered after, (ap numbered told, refl), is, refl)
+
+pub tells_history_entries : {code : ℤ} {after : ℕ} (v : View) (before : ℕ) → after ≡ length v.history → code ≡ pos 0 → Tells v ask_history_entries code (a_number before after) v
+tells_history_entries v before told is = tells_number_read v ask_history_entries before (length v.history) (λ answer e. (e, refl)) told is
+
+pub tells_history_bytes : {code : ℤ} {after : ℕ} (v : View) (before : ℕ) → after ≡ min (kept_bytes v.history) 18446744073709551615 → code ≡ pos 0 → Tells v ask_history_bytes code (a_number before after) v
+tells_history_bytes v before told is = tells_number_read v ask_history_bytes before (min (kept_bytes v.history) 18446744073709551615) (λ answer e. (e, refl)) told is
+
+pub tells_running_count : {code : ℤ} {after : ℕ} (v : View) (before : ℕ) → after ≡ length (running (object_of v) v.schedule) → code ≡ pos 0 → Tells v ask_running_count code (a_number before after) v
+tells_running_count v before told is = tells_number_read v ask_running_count before (length (running (object_of v) v.schedule)) (λ answer e. (e, refl)) told is
 
 -- ---- steps
 

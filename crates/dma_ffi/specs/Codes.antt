@@ -59,13 +59,29 @@ not_running = negsuc 6
 abbrev pub buffer_too_small : ℤ
 buffer_too_small = negsuc 7
 
+-- the channel has no program
+abbrev pub no_program : ℤ
+no_program = negsuc 8
+
+-- a range to be marked is empty, or ends above 2^32
+abbrev pub bad_range : ℤ
+bad_range = negsuc 14
+
 -- a memory can't have this size
 abbrev pub size_out_of_range : ℤ
 size_out_of_range = negsuc 20
 
+-- there are more than 8 regions, or they aren't in order
+abbrev pub bad_regions : ℤ
+bad_regions = negsuc 21
+
 -- a program is longer than 8,192 bytes
 abbrev pub program_too_long : ℤ
 program_too_long = negsuc 39
+
+-- the bytes are no save of a channel
+abbrev pub bad_save : ℤ
+bad_save = negsuc 41
 
 -- the code of a refused call
 abbrev pub fault_code : EngineFault → ℤ
@@ -75,7 +91,7 @@ fault_code NoChannel = negsuc 11
 fault_code CookiesSpent = negsuc 12
 fault_code StepsSpent = negsuc 13
 fault_code BadEvent = bad_event
-fault_code BadRange = negsuc 14
+fault_code BadRange = bad_range
 fault_code (Running ch cookie) = negsuc 15
 fault_code NoMemory = no_memory
 

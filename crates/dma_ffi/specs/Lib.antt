@@ -3,5 +3,6 @@ pub mod Codes
 pub mod Reports
 pub mod Told
 pub mod Programs
+pub mod Channels
 pub mod Laws
 pub mod inner

@@ -1,5 +1,5 @@
 -- What C is told of a call: one definition for all calls on a controller.
-use Rattle.std.specs.Prelude.{◌≡◌, ◌≢◌, ℕ, ◌<◌, ◌≤◌, ◌⊎◌, zero, suc, Bool, true, false, ℤ, Option, None, Some, IsSomeAnd, MatchOption, Result, Ok, Err, List, unwrap_or}
+use Rattle.std.specs.Prelude.{◌≡◌, ◌≢◌, ℕ, ◌<◌, ◌≤◌, ◌⊎◌, zero, suc, Bool, true, false, ℤ, Option, None, Some, IsSomeAnd, MatchOption, Result, Ok, Err, List, length, min, unwrap_or}
 use Rattle.dma_mem.specs.Places.{Descriptor, filling}
 use Rattle.dma_mem.specs.Refusals.{refusal_of, refusal_of_fill}
 use Rattle.dma_mem.specs.declared.marks.MarkKind.{MarkKind}
@@ -11,15 +11,18 @@ use Rattle.dma_engine.specs.declared.call.Call.TheVariants.{Submit, Status as St
 use Rattle.dma_engine.specs.declared.call.Reply.{Reply}
 use Rattle.dma_engine.specs.declared.call.Reply.TheVariants.{Bytes, Cookie, Count, Result as Resulted, Refused}
 use Rattle.dma_engine.specs.declared.fault.EngineFault.{EngineFault}
+use Rattle.dma_engine.specs.declared.fault.EngineFault.TheVariants.{Busy, Running as RunningOn}
 use Rattle.dma_engine.specs.declared.fault.NewFault.TheVariants as engines
 use Rattle.dma_engine.specs.declared.turn.Running.{Running}
 use Rattle.dma_engine.specs.declared.turn.Turn.{Turn}
 use Rattle.dma_engine.specs.declared.turn.Turn.TheVariants.{Started, Moved}
 use Rattle.dma_engine.specs.Object.{channel, unfinished}
-use Rattle.dma_engine.specs.View.{View, EngineState, object_of, running_on, new_fault, new_view}
+use Rattle.dma_engine.specs.History.{kept_bytes}
+use Rattle.dma_engine.specs.View.{View, EngineState, object_of, running, running_on, new_fault, new_view}
 use Rattle.dma_engine.specs.Answer.{CallAnswers, StepAnswers}
 use Rattle.dma_engine.specs.Room.{HasGivenBack}
 use Rattle.dma_ffi.specs.declared.steps.Taken.{Taken}
+use Rattle.dma_ffi.specs.declared.reports.DmaConflict.{DmaConflict}
 use Rattle.dma_ffi.specs.declared.reports.DmaOutcome.{DmaOutcome}
 use Rattle.dma_ffi.specs.declared.reports.DmaRun.{DmaRun}
 use Rattle.dma_ffi.specs.declared.reports.DmaReport.{DmaReport}
@@ -48,6 +51,12 @@ pub data Asked : Type 0 where
   ask_forgotten : ℕ → Asked
   -- the step count
   ask_step_count : Asked
+  -- how many entries the history has
+  ask_history_entries : Asked
+  -- how many bytes the history keeps, of writes and of reads
+  ask_history_bytes : Asked
+  -- how many transfers run
+  ask_running_count : Asked
 
 -- What is answered.
 pub data Answer : Type 0 where
@@ -135,6 +144,9 @@ Answers v (ask_running ch) answer w = Reads v (runs (running_on v ch)) answer w
 Answers v (ask_unfinished ch) answer w = Reads v (numbered (unfinished (channel (object_of v) ch))) answer w
 Answers v (ask_forgotten ch) answer w = Reads v (numbered (channel (object_of v) ch).forgotten) answer w
 Answers v ask_step_count answer w = Reads v (numbered v.steps) answer w
+Answers v ask_history_entries answer w = Reads v (numbered (length v.history)) answer w
+Answers v ask_history_bytes answer w = Reads v (numbered (min (kept_bytes v.history) 18446744073709551615)) answer w
+Answers v ask_running_count answer w = Reads v (numbered (length (running (object_of v) v.schedule))) answer w
 
 -- the answer to steps: those that were taken, or the refusal of the first
 abbrev pub steps_answer : Result Taken EngineFault → Answer
@@ -158,7 +170,8 @@ code_of (numbered number) = ok_code
 pub data Written : Type 0 where
   nothing : Written
   a_number : ℕ → ℕ → Written
-  some_bytes : List ℕ → List ℕ → Written
+  a_conflict : DmaConflict → DmaConflict → Written
+  bytes_or_conflict : List ℕ → List ℕ → DmaConflict → DmaConflict → Written
   an_outcome : DmaOutcome → DmaOutcome → Written
   a_run : DmaRun → DmaRun → Written
   a_report : DmaReport → DmaReport → Written
@@ -174,6 +187,12 @@ number_in _ before = before
 abbrev pub bytes_in : Answer → List ℕ → List ℕ
 bytes_in (replied (Bytes bytes)) before = bytes
 bytes_in _ before = before
+
+-- The transfer that the answer names as the cause of a refusal, or what was there.
+abbrev pub conflict_in : Answer → DmaConflict → DmaConflict
+conflict_in (replied (Refused (Busy ch cookie))) before = record { channel = ch; cookie = cookie }
+conflict_in (replied (Refused (RunningOn ch cookie))) before = record { channel = ch; cookie = cookie }
+conflict_in _ before = before
 
 -- The answer's outcome, or what was there.
 abbrev pub outcome_in : Answer → DmaOutcome → DmaOutcome
@@ -194,7 +213,8 @@ report_in _ before = before
 abbrev pub IsWritten : Answer → Written → Type 0
 IsWritten answer nothing = Unit {0}
 IsWritten answer (a_number before after) = after ≡ number_in answer before
-IsWritten answer (some_bytes before after) = after ≡ bytes_in answer before
+IsWritten answer (a_conflict before after) = after ≡ conflict_in answer before
+IsWritten answer (bytes_or_conflict before after c d) = (after ≡ bytes_in answer before) × (d ≡ conflict_in answer c)
 IsWritten answer (an_outcome before after) = after ≡ outcome_in answer before
 IsWritten answer (a_run before after) = after ≡ run_in answer before
 IsWritten answer (a_report before after) = after ≡ report_in answer before
@@ -213,6 +233,9 @@ Leaves (ask_running ch) code e e' = e' ≡ e
 Leaves (ask_unfinished ch) code e e' = e' ≡ e
 Leaves (ask_forgotten ch) code e e' = e' ≡ e
 Leaves ask_step_count code e e' = e' ≡ e
+Leaves ask_history_entries code e e' = e' ≡ e
+Leaves ask_history_bytes code e e' = e' ≡ e
+Leaves ask_running_count code e e' = e' ≡ e
 Leaves (ask_call Checkpoint) code e e' = (code ≡ ok_code → HasGivenBack e') × (code ≢ ok_code → e' ≡ e)
 Leaves _ code e e' = Unit {0}
 

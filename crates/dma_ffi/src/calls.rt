@@ -1,44 +1,55 @@
 //! What the calls do to an engine that is there: each is the engine's own call, and tells C its answer.
 
 ghost use Rattle.std.specs.Prelude.{◌≡◌, ◌≢◌, IfErr, IfOk, length};
+ghost use Rattle.dma_engine.specs.Answer.{reply_of};
 ghost use Rattle.dma_engine.specs.Room.{HasGivenBack};
-ghost use Rattle.dma_ffi.specs.Codes.{ok_code, transfer_code};
+ghost use Rattle.dma_ffi.specs.Codes.{ok_code, reply_code, transfer_code};
 ghost use Rattle.dma_ffi.specs.Reports.{segment_of};
-ghost use Rattle.dma_ffi.specs.Told.{Tells, a_number, a_report, a_run, an_outcome, ask_call, ask_forgotten, ask_mark, ask_running, ask_step_count, ask_steps, ask_unfinished, nothing, some_bytes};
+ghost use Rattle.dma_ffi.specs.Told.{Tells, a_conflict, a_number, a_report, a_run, an_outcome, ask_call, ask_forgotten, ask_history_bytes, ask_history_entries, ask_running_count, ask_mark, ask_running, ask_step_count, ask_steps, ask_unfinished, bytes_or_conflict, conflict_in, nothing, replied};
 
 use crate::codes::{
     BAD_KIND, OK, code_of_fault, code_of_status, code_of_transfer, counted, done, kind_of,
     submitted,
 };
 use crate::reports::{
-    DmaOutcome, DmaReport, DmaRun, DmaSegment, told_outcome, told_run, told_steps,
+    DmaConflict, DmaOutcome, DmaReport, DmaRun, DmaSegment, name_conflict, told_outcome, told_run,
+    told_steps,
 };
 use crate::steps::take_steps;
-use dma_engine::{Call, Engine, EngineFault};
+use dma_engine::{Call, Engine, EngineFault, Reply};
 use dma_mem::transfer::{Transfer, TransferFault};
 
-/// Writes bytes from an address on.
-#[tactic(auto, using(crate::proofs::Tells::tells_call))]
-pub fn write(engine: &mut Engine, addr: u32, bytes: &[u8]) -> i32
-    ensures { Tells engine.old.view (ask_call (Call.Write addr bytes.now)) result nothing engine.new.view }
+// Returns the code of a call that answers nothing more, and writes the transfer that it conflicts with, if there is one.
+fn done_unless(answer: Result<(), EngineFault>, conflict: &mut DmaConflict) -> i32
+    ensures code { result ≡ reply_code (reply_of (λ _. Reply.Done) answer) }
+    ensures conflict { conflict.new ≡ conflict_in (replied (reply_of (λ _. Reply.Done) answer)) conflict.old }
 {
-    done(engine.write(addr, bytes))
+    if let Err(fault) = answer {
+        name_conflict(fault, conflict);
+    }
+    done(answer)
+}
+
+/// Writes bytes from an address on.
+#[tactic(auto, using(crate::proofs::Tells::tells_unless))]
+pub fn write(engine: &mut Engine, addr: u32, bytes: &[u8], conflict: &mut DmaConflict) -> i32
+    ensures { Tells engine.old.view (ask_call (Call.Write addr bytes.now)) result (a_conflict conflict.old conflict.new)
+        engine.new.view }
+{
+    done_unless(engine.write(addr, bytes), conflict)
 }
 
 /// Reads as many bytes as there is room for.
-pub fn read(engine: &mut Engine, addr: u32, out: &mut [u8]) -> i32
-    ensures { Tells engine.old.view (ask_call (Call.Read addr (length out.old))) result (some_bytes out.old out.new)
-        engine.new.view }
+pub fn read(engine: &mut Engine, addr: u32, out: &mut [u8], conflict: &mut DmaConflict) -> i32
+    ensures { Tells engine.old.view (ask_call (Call.Read addr (length out.old))) result
+        (bytes_or_conflict out.old out.new conflict.old conflict.new) engine.new.view }
 {
-    if out.len() > engine.size() as usize {
-        return code_of_fault(EngineFault::OutOfMemoryRange);
-    }
-    match engine.read(addr, out.len() as u32) {
-        Ok(bytes) => {
-            out.copy_from_slice(bytes.as_slice());
-            OK
+    match engine.read_into(addr, out) {
+        Ok(()) => OK,
+        Err(fault) => {
+            name_conflict(fault, conflict);
+            code_of_fault(fault)
         }
-        Err(fault) => code_of_fault(fault),
     }
 }
 
@@ -153,6 +164,33 @@ pub fn steps(engine: &Engine, steps: &mut u64) -> i32
     OK
 }
 
+/// How many entries the history has.
+#[tactic(auto, using(crate::proofs::Tells::tells_history_entries))]
+pub fn history_entries(engine: &Engine, count: &mut u64) -> i32
+    ensures { Tells engine.now.view ask_history_entries result (a_number count.old count.new) engine.now.view }
+{
+    *count = engine.history().len() as u64;
+    OK
+}
+
+/// How many bytes the history keeps.
+#[tactic(auto, using(crate::proofs::Tells::tells_history_bytes))]
+pub fn history_bytes(engine: &Engine, count: &mut u64) -> i32
+    ensures { Tells engine.now.view ask_history_bytes result (a_number count.old count.new) engine.now.view }
+{
+    *count = engine.history_bytes();
+    OK
+}
+
+/// How many transfers run.
+#[tactic(auto, using(crate::proofs::Tells::tells_running_count))]
+pub fn running_count(engine: &Engine, count: &mut u32) -> i32
+    ensures { Tells engine.now.view ask_running_count result (a_number count.old count.new) engine.now.view }
+{
+    *count = u32::from(engine.running_count());
+    OK
+}
+
 /// Marks a range.
 #[tactic(auto, using(crate::proofs::Tells::tells_mark, crate::proofs::Tells::tells_no_kind))]
 pub fn mark(engine: &mut Engine, kind: u32, range: DmaSegment) -> i32
@@ -181,11 +219,11 @@ pub fn raise(engine: &mut Engine, event: u8) -> i32
 }
 
 /// Makes the present the base of the history.
-#[tactic(auto, using(crate::proofs::Tells::tells_call, crate::proofs::Tells::gives_back, crate::proofs::Tells::stays))]
-pub fn checkpoint(engine: &mut Engine) -> i32
-    ensures answer { Tells engine.old.view (ask_call Call.Checkpoint) result nothing engine.new.view }
+#[tactic(auto, using(crate::proofs::Tells::tells_unless, crate::proofs::Tells::gives_back, crate::proofs::Tells::stays))]
+pub fn checkpoint(engine: &mut Engine, conflict: &mut DmaConflict) -> i32
+    ensures answer { Tells engine.old.view (ask_call Call.Checkpoint) result (a_conflict conflict.old conflict.new) engine.new.view }
     ensures room { (result ≡ ok_code) → HasGivenBack engine.new }
     ensures same { (result ≢ ok_code) → (engine.new ≡ engine.old) }
 {
-    done(engine.checkpoint())
+    done_unless(engine.checkpoint(), conflict)
 }

@@ -29,10 +29,18 @@ pub const NO_RESULT: i32 = -6;
 pub const NOT_RUNNING: i32 = -7;
 /// What is to be written is longer than the room for it.
 pub const BUFFER_TOO_SMALL: i32 = -8;
+/// The channel has no program.
+pub const NO_PROGRAM: i32 = -9;
+/// A range to be marked is empty, or ends above the last address.
+pub const BAD_RANGE: i32 = -15;
 /// A memory can't have this size.
 pub const SIZE_OUT_OF_RANGE: i32 = -21;
+/// There are too many regions, or they aren't in order.
+pub const BAD_REGIONS: i32 = -22;
 /// A program is longer than 8,192 bytes.
 pub const PROGRAM_TOO_LONG: i32 = -40;
+/// Bytes are no save of a channel.
+pub const BAD_SAVE: i32 = -42;
 
 /// The code of a refused call.
 pub fn code_of_fault(fault: EngineFault) -> i32
@@ -45,7 +53,7 @@ pub fn code_of_fault(fault: EngineFault) -> i32
         EngineFault::CookiesSpent => -13,
         EngineFault::StepsSpent => -14,
         EngineFault::BadEvent => BAD_EVENT,
-        EngineFault::BadRange => -15,
+        EngineFault::BadRange => BAD_RANGE,
         EngineFault::Running { .. } => -16,
         EngineFault::NoMemory => NO_MEMORY,
     }

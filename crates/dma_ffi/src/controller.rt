@@ -76,8 +76,8 @@ impl Controller {
     }
 }
 
-// Takes what may go from one thread to another.
-fn sent<T: Send>(value: T) -> T
+/// Takes what may go from one thread to another.
+pub(crate) fn sent<T: Send>(value: T) -> T
     ensures { result ≡ value }
 {
     value

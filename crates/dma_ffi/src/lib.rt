@@ -1,6 +1,6 @@
 //! The engine for programs in C and other languages: a controller that the caller keeps, and one function for each call.
 //!
-//! C declares `#include "dma.h"`. Each call on a controller tells C what the engine answers: `Told` says so of all of them.
+//! C declares `#include "dma330.h"`. Each call on a controller tells C what the engine answers: `Told` says so of all of them.
 //! Duties of the caller, which no proof can see (docs/EMBEDDING.md has them all): a controller is zeros before its first call,
 //! is not copied while it is open, and its members are neither read nor written; one call at a time has it, in an order that
 //! threads keep by a lock, by a start or a join, or by a sequentially consistent atomic; pointers are not null, aligned as
@@ -12,14 +12,20 @@
 ghost use Rattle.std.specs.Prelude.{◌≡◌, length, None};
 ghost use Rattle.dma_ffi.specs.Codes.{event_told};
 ghost use Rattle.dma_ffi.specs.Reports.{segment_of, segments_of};
-ghost use Rattle.dma_ffi.specs.Told.{Told, ToldNew, a_number, a_report, a_run, an_outcome, ask_call, ask_copy, ask_fill, ask_forgotten, ask_mark, ask_running, ask_step_count, ask_steps, ask_unfinished, copying, nothing, some_bytes};
+ghost use Rattle.dma_ffi.specs.Told.{Told, ToldNew, a_conflict, a_number, a_report, a_run, an_outcome, ask_call, ask_copy, ask_fill, ask_forgotten, ask_history_bytes, ask_history_entries, ask_mark, ask_running, ask_running_count, ask_step_count, ask_steps, ask_unfinished, bytes_or_conflict, copying, nothing};
 
 mod calls;
+mod channel_calls;
+mod channel_pointer;
+mod channel_steps;
+pub mod channels;
 mod codes;
 mod controller;
 mod engine_pointer;
+mod kept_channel;
 pub mod laws;
 mod lists;
+mod marked_channel;
 pub mod programs;
 mod reports;
 mod steps;
@@ -28,13 +34,13 @@ use codes::{ALREADY_OPEN, NO_MEMORY, NOT_OPEN, OK, code_of_new};
 use controller::Controller;
 use dma_engine::{Call, Engine};
 use lists::{copy_of, fill_of};
-use reports::{DmaOutcome, DmaReport, DmaRun, DmaSegment};
+use reports::{DmaConflict, DmaOutcome, DmaReport, DmaRun, DmaSegment};
 use std::alloc::Global;
 
 /// Makes an engine over a memory of zeros.
 #[tactic(auto, using(crate::proofs::Tells::new_already, crate::proofs::Tells::new_refused, crate::proofs::Tells::new_made))]
 #[unsafe(no_mangle)]
-pub extern "C" fn dma_open(
+pub extern "C" fn dma330_open(
     alloc: Global,
     controller: &mut Controller,
     size: u32,
@@ -58,7 +64,7 @@ pub extern "C" fn dma_open(
 
 /// Frees the engine, if there is one.
 #[unsafe(no_mangle)]
-pub extern "C" fn dma_close(alloc: Global, controller: &mut Controller)
+pub extern "C" fn dma330_close(alloc: Global, controller: &mut Controller)
     ensures { controller.new.engine.value ≡ None }
 {
     drop(controller.take(alloc));
@@ -67,19 +73,20 @@ pub extern "C" fn dma_close(alloc: Global, controller: &mut Controller)
 /// Writes bytes from an address on.
 #[tactic(auto, using(crate::proofs::Tells::told_closed, crate::proofs::Tells::told_open))]
 #[unsafe(no_mangle)]
-pub extern "C" fn dma_write(
+pub extern "C" fn dma330_write(
     alloc: Global,
     controller: &mut Controller,
     addr: u32,
     bytes: &[u8],
+    conflict: &mut DmaConflict,
 ) -> i32
-    ensures { Told controller.old.engine.value (ask_call (Call.Write addr bytes.now)) result nothing
-        controller.new.engine.value }
+    ensures { Told controller.old.engine.value (ask_call (Call.Write addr bytes.now)) result
+        (a_conflict conflict.old conflict.new) controller.new.engine.value }
 {
     let Some(mut engine) = controller.take(alloc) else {
         return NOT_OPEN;
     };
-    let code = calls::write(&mut engine, addr, bytes);
+    let code = calls::write(&mut engine, addr, bytes, conflict);
     controller.put(engine);
     code
 }
@@ -87,19 +94,20 @@ pub extern "C" fn dma_write(
 /// Reads as many bytes as there is room for.
 #[tactic(auto, using(crate::proofs::Tells::told_closed, crate::proofs::Tells::told_open))]
 #[unsafe(no_mangle)]
-pub extern "C" fn dma_read(
+pub extern "C" fn dma330_read(
     alloc: Global,
     controller: &mut Controller,
     addr: u32,
     out: &mut [u8],
+    conflict: &mut DmaConflict,
 ) -> i32
-    ensures { Told controller.old.engine.value (ask_call (Call.Read addr (length out.old))) result (some_bytes out.old out.new)
-        controller.new.engine.value }
+    ensures { Told controller.old.engine.value (ask_call (Call.Read addr (length out.old))) result
+        (bytes_or_conflict out.old out.new conflict.old conflict.new) controller.new.engine.value }
 {
     let Some(mut engine) = controller.take(alloc) else {
         return NOT_OPEN;
     };
-    let code = calls::read(&mut engine, addr, out);
+    let code = calls::read(&mut engine, addr, out, conflict);
     controller.put(engine);
     code
 }
@@ -107,7 +115,7 @@ pub extern "C" fn dma_read(
 /// Gives a copy to a channel. A negative event is none.
 #[tactic(auto, using(crate::proofs::Tells::told_closed, crate::proofs::Tells::told_open))]
 #[unsafe(no_mangle)]
-pub extern "C" fn dma_submit(
+pub extern "C" fn dma330_submit(
     alloc: Global,
     controller: &mut Controller,
     ch: u8,
@@ -132,7 +140,7 @@ pub extern "C" fn dma_submit(
 /// Gives a fill to a channel: the byte at `src` goes to every address of `dst`. A negative event is none.
 #[tactic(auto, using(crate::proofs::Tells::told_closed, crate::proofs::Tells::told_open))]
 #[unsafe(no_mangle)]
-pub extern "C" fn dma_submit_fill(
+pub extern "C" fn dma330_submit_fill(
     alloc: Global,
     controller: &mut Controller,
     ch: u8,
@@ -157,7 +165,7 @@ pub extern "C" fn dma_submit_fill(
 /// Issues all submitted cookies of a channel, and writes how many became so.
 #[tactic(auto, using(crate::proofs::Tells::told_closed, crate::proofs::Tells::told_open))]
 #[unsafe(no_mangle)]
-pub extern "C" fn dma_issue(
+pub extern "C" fn dma330_issue(
     alloc: Global,
     controller: &mut Controller,
     ch: u8,
@@ -177,7 +185,7 @@ pub extern "C" fn dma_issue(
 /// Pauses a channel.
 #[tactic(auto, using(crate::proofs::Tells::told_closed, crate::proofs::Tells::told_open))]
 #[unsafe(no_mangle)]
-pub extern "C" fn dma_pause(alloc: Global, controller: &mut Controller, ch: u8) -> i32
+pub extern "C" fn dma330_pause(alloc: Global, controller: &mut Controller, ch: u8) -> i32
     ensures { Told controller.old.engine.value (ask_call (Call.Pause ch)) result nothing controller.new.engine.value }
 {
     let Some(mut engine) = controller.take(alloc) else {
@@ -191,7 +199,7 @@ pub extern "C" fn dma_pause(alloc: Global, controller: &mut Controller, ch: u8) 
 /// Ends the pause of a channel.
 #[tactic(auto, using(crate::proofs::Tells::told_closed, crate::proofs::Tells::told_open))]
 #[unsafe(no_mangle)]
-pub extern "C" fn dma_resume(alloc: Global, controller: &mut Controller, ch: u8) -> i32
+pub extern "C" fn dma330_resume(alloc: Global, controller: &mut Controller, ch: u8) -> i32
     ensures { Told controller.old.engine.value (ask_call (Call.Resume ch)) result nothing controller.new.engine.value }
 {
     let Some(mut engine) = controller.take(alloc) else {
@@ -205,7 +213,7 @@ pub extern "C" fn dma_resume(alloc: Global, controller: &mut Controller, ch: u8)
 /// Aborts all unfinished cookies of a channel, and writes how many these were.
 #[tactic(auto, using(crate::proofs::Tells::told_closed, crate::proofs::Tells::told_open))]
 #[unsafe(no_mangle)]
-pub extern "C" fn dma_terminate(
+pub extern "C" fn dma330_terminate(
     alloc: Global,
     controller: &mut Controller,
     ch: u8,
@@ -225,7 +233,7 @@ pub extern "C" fn dma_terminate(
 /// Takes at most `most` steps of a channel, until one neither starts nor moves.
 #[tactic(auto, using(crate::proofs::Tells::told_closed, crate::proofs::Tells::told_open))]
 #[unsafe(no_mangle)]
-pub extern "C" fn dma_step(
+pub extern "C" fn dma330_step(
     alloc: Global,
     controller: &mut Controller,
     ch: u8,
@@ -246,7 +254,12 @@ pub extern "C" fn dma_step(
 /// How far a cookie is: the code tells it.
 #[tactic(auto, using(crate::proofs::Tells::told_closed, crate::proofs::Tells::told_open))]
 #[unsafe(no_mangle)]
-pub extern "C" fn dma_status(alloc: Global, controller: &mut Controller, ch: u8, cookie: u32) -> i32
+pub extern "C" fn dma330_status(
+    alloc: Global,
+    controller: &mut Controller,
+    ch: u8,
+    cookie: u32,
+) -> i32
     ensures { Told controller.old.engine.value (ask_call (Call.Status ch cookie)) result nothing
         controller.new.engine.value }
 {
@@ -261,7 +274,7 @@ pub extern "C" fn dma_status(alloc: Global, controller: &mut Controller, ch: u8,
 /// How a cookie finished.
 #[tactic(auto, using(crate::proofs::Tells::told_closed, crate::proofs::Tells::told_open))]
 #[unsafe(no_mangle)]
-pub extern "C" fn dma_result(
+pub extern "C" fn dma330_result(
     alloc: Global,
     controller: &mut Controller,
     ch: u8,
@@ -282,7 +295,7 @@ pub extern "C" fn dma_result(
 /// What runs on a channel.
 #[tactic(auto, using(crate::proofs::Tells::told_closed, crate::proofs::Tells::told_open))]
 #[unsafe(no_mangle)]
-pub extern "C" fn dma_running(
+pub extern "C" fn dma330_running(
     alloc: Global,
     controller: &mut Controller,
     ch: u8,
@@ -301,7 +314,7 @@ pub extern "C" fn dma_running(
 /// How many cookies of a channel aren't finished.
 #[tactic(auto, using(crate::proofs::Tells::told_closed, crate::proofs::Tells::told_open))]
 #[unsafe(no_mangle)]
-pub extern "C" fn dma_unfinished(
+pub extern "C" fn dma330_unfinished(
     alloc: Global,
     controller: &mut Controller,
     ch: u8,
@@ -321,7 +334,7 @@ pub extern "C" fn dma_unfinished(
 /// Marks a range: kind 0 for reading, 1 for writing.
 #[tactic(auto, using(crate::proofs::Tells::told_closed, crate::proofs::Tells::told_open))]
 #[unsafe(no_mangle)]
-pub extern "C" fn dma_mark(
+pub extern "C" fn dma330_mark(
     alloc: Global,
     controller: &mut Controller,
     kind: u32,
@@ -341,7 +354,7 @@ pub extern "C" fn dma_mark(
 /// Removes all marks.
 #[tactic(auto, using(crate::proofs::Tells::told_closed, crate::proofs::Tells::told_open))]
 #[unsafe(no_mangle)]
-pub extern "C" fn dma_unmark(alloc: Global, controller: &mut Controller) -> i32
+pub extern "C" fn dma330_unmark(alloc: Global, controller: &mut Controller) -> i32
     ensures { Told controller.old.engine.value (ask_call Call.Unmark) result nothing controller.new.engine.value }
 {
     let Some(mut engine) = controller.take(alloc) else {
@@ -355,7 +368,7 @@ pub extern "C" fn dma_unmark(alloc: Global, controller: &mut Controller) -> i32
 /// Sets the flag of an event.
 #[tactic(auto, using(crate::proofs::Tells::told_closed, crate::proofs::Tells::told_open))]
 #[unsafe(no_mangle)]
-pub extern "C" fn dma_raise(alloc: Global, controller: &mut Controller, event: u8) -> i32
+pub extern "C" fn dma330_raise(alloc: Global, controller: &mut Controller, event: u8) -> i32
     ensures { Told controller.old.engine.value (ask_call (Call.Raise event)) result nothing controller.new.engine.value }
 {
     let Some(mut engine) = controller.take(alloc) else {
@@ -369,13 +382,18 @@ pub extern "C" fn dma_raise(alloc: Global, controller: &mut Controller, event: u
 /// Makes the present the base of the history, forgets what was before, and gives back the room that the history took.
 #[tactic(auto, using(crate::proofs::Tells::told_closed, crate::proofs::Tells::told_open))]
 #[unsafe(no_mangle)]
-pub extern "C" fn dma_checkpoint(alloc: Global, controller: &mut Controller) -> i32
-    ensures { Told controller.old.engine.value (ask_call Call.Checkpoint) result nothing controller.new.engine.value }
+pub extern "C" fn dma330_checkpoint(
+    alloc: Global,
+    controller: &mut Controller,
+    conflict: &mut DmaConflict,
+) -> i32
+    ensures { Told controller.old.engine.value (ask_call Call.Checkpoint) result
+        (a_conflict conflict.old conflict.new) controller.new.engine.value }
 {
     let Some(mut engine) = controller.take(alloc) else {
         return NOT_OPEN;
     };
-    let code = calls::checkpoint(&mut engine);
+    let code = calls::checkpoint(&mut engine, conflict);
     controller.put(engine);
     code
 }
@@ -383,7 +401,7 @@ pub extern "C" fn dma_checkpoint(alloc: Global, controller: &mut Controller) -> 
 /// Of how many cookies of a channel checkpoints have forgotten the results.
 #[tactic(auto, using(crate::proofs::Tells::told_closed, crate::proofs::Tells::told_open))]
 #[unsafe(no_mangle)]
-pub extern "C" fn dma_forgotten(
+pub extern "C" fn dma330_forgotten(
     alloc: Global,
     controller: &mut Controller,
     ch: u8,
@@ -403,7 +421,7 @@ pub extern "C" fn dma_forgotten(
 /// The step count.
 #[tactic(auto, using(crate::proofs::Tells::told_closed, crate::proofs::Tells::told_open))]
 #[unsafe(no_mangle)]
-pub extern "C" fn dma_steps(alloc: Global, controller: &mut Controller, steps: &mut u64) -> i32
+pub extern "C" fn dma330_steps(alloc: Global, controller: &mut Controller, steps: &mut u64) -> i32
     ensures { Told controller.old.engine.value ask_step_count result (a_number steps.old steps.new)
         controller.new.engine.value }
 {
@@ -411,6 +429,63 @@ pub extern "C" fn dma_steps(alloc: Global, controller: &mut Controller, steps: &
         return NOT_OPEN;
     };
     let code = calls::steps(&engine, steps);
+    controller.put(engine);
+    code
+}
+
+/// How many entries the history has.
+#[tactic(auto, using(crate::proofs::Tells::told_closed, crate::proofs::Tells::told_open))]
+#[unsafe(no_mangle)]
+pub extern "C" fn dma330_history_entries(
+    alloc: Global,
+    controller: &mut Controller,
+    count: &mut u64,
+) -> i32
+    ensures { Told controller.old.engine.value ask_history_entries result (a_number count.old count.new)
+        controller.new.engine.value }
+{
+    let Some(engine) = controller.take(alloc) else {
+        return NOT_OPEN;
+    };
+    let code = calls::history_entries(&engine, count);
+    controller.put(engine);
+    code
+}
+
+/// How many bytes the history keeps, of writes and of reads.
+#[tactic(auto, using(crate::proofs::Tells::told_closed, crate::proofs::Tells::told_open))]
+#[unsafe(no_mangle)]
+pub extern "C" fn dma330_history_bytes(
+    alloc: Global,
+    controller: &mut Controller,
+    count: &mut u64,
+) -> i32
+    ensures { Told controller.old.engine.value ask_history_bytes result (a_number count.old count.new)
+        controller.new.engine.value }
+{
+    let Some(engine) = controller.take(alloc) else {
+        return NOT_OPEN;
+    };
+    let code = calls::history_bytes(&engine, count);
+    controller.put(engine);
+    code
+}
+
+/// How many transfers run.
+#[tactic(auto, using(crate::proofs::Tells::told_closed, crate::proofs::Tells::told_open))]
+#[unsafe(no_mangle)]
+pub extern "C" fn dma330_running_count(
+    alloc: Global,
+    controller: &mut Controller,
+    count: &mut u32,
+) -> i32
+    ensures { Told controller.old.engine.value ask_running_count result (a_number count.old count.new)
+        controller.new.engine.value }
+{
+    let Some(engine) = controller.take(alloc) else {
+        return NOT_OPEN;
+    };
+    let code = calls::running_count(&engine, count);
     controller.put(engine);
     code
 }

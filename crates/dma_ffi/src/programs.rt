@@ -54,7 +54,7 @@ fn copy_out(bytes: &[u8], out: &mut [u8]) -> bool
 
 /// Writes the version's text, which a zero ends, and its length without that zero.
 #[unsafe(no_mangle)]
-pub extern "C" fn dma_version(out: &mut [u8], len: &mut usize) -> i32
+pub extern "C" fn dma330_version(out: &mut [u8], len: &mut usize) -> i32
     ensures code { result ≡ room_code version_text out.old }
     ensures text { out.new ≡ laid_into version_text out.old }
     ensures len { len.new ≡ where_fits version_text out.old 13 len.old }
@@ -168,7 +168,7 @@ fn tell_made(
 
 /// Assembles a text, and hands out the bytes of its program; or writes the line of its first fault.
 #[unsafe(no_mangle)]
-pub extern "C" fn dma_assemble(
+pub extern "C" fn dma330_assemble(
     alloc: Global,
     text: &[u8],
     out: &mut [u8],
@@ -183,7 +183,7 @@ pub extern "C" fn dma_assemble(
 
 /// Disassembles a program, and hands out its text; or writes the first offset at which no instruction stands.
 #[unsafe(no_mangle)]
-pub extern "C" fn dma_disassemble(
+pub extern "C" fn dma330_disassemble(
     alloc: Global,
     program: &[u8],
     out: &mut [u8],
@@ -235,7 +235,7 @@ fn tell_run(answer: Result<RunEnd, AloneFault>, ended: &mut DmaRunEnd) -> i32
 
 /// Runs a program alone over a memory of the caller's, in place, for at most so many instructions.
 #[unsafe(no_mangle)]
-pub extern "C" fn dma_run_program(
+pub extern "C" fn dma330_run_program(
     alloc: Global,
     program: &[u8],
     memory: &mut [u8],

@@ -3,7 +3,7 @@
 ghost use Rattle.std.specs.Prelude.{◌≡◌};
 ghost use Rattle.dma_ffi.specs.Codes.{reply_code};
 ghost use Rattle.dma_ffi.specs.Reports.{did, end_of, ended, report_of, segment_of};
-ghost use Rattle.dma_ffi.specs.Told.{code_of, outcome_in, replied, report_in, run_in, runs, steps_answer};
+ghost use Rattle.dma_ffi.specs.Told.{code_of, conflict_in, outcome_in, replied, report_in, run_in, runs, steps_answer};
 
 use crate::codes::{NO_RESULT, NOT_RUNNING, OK, code_of_fault, number_of_kind, number_of_result};
 use crate::steps::Taken;
@@ -39,6 +39,16 @@ pub struct DmaRun {
     pub cookie: u32,
     /// How many of its bytes are stored.
     pub stored: u32,
+}
+
+/// The transfer that a call conflicts with.
+#[repr(C)]
+#[derive(Clone, Copy)]
+pub struct DmaConflict {
+    /// Its channel.
+    pub channel: u32,
+    /// Its cookie.
+    pub cookie: u32,
 }
 
 /// How many steps were taken, and what the last one did.
@@ -104,6 +114,21 @@ pub fn told_outcome(answer: Option<Outcome>, outcome: &mut DmaOutcome) -> i32
             OK
         }
         None => NO_RESULT,
+    }
+}
+
+/// Writes the transfer that a refusal names, if it names one.
+pub fn name_conflict(fault: EngineFault, conflict: &mut DmaConflict)
+    ensures { conflict.new ≡ conflict_in (replied (Reply.Refused fault)) conflict.old }
+{
+    match fault {
+        EngineFault::Busy { ch, cookie } | EngineFault::Running { ch, cookie } => {
+            *conflict = DmaConflict {
+                channel: u32::from(ch),
+                cookie,
+            };
+        }
+        _ => {}
     }
 }
 

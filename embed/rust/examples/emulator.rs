@@ -1,7 +1,7 @@
 //! A copy from submit to finish, and then a device in the loop of an emulator: a guest's register writes submit, the main
 //! loop steps, and the guest polls for completion. It prints what ../c/example.txt has, as the example in C does.
 
-use dma::{Controller, Error, Events, Segment, Status, TransferResult, Turn};
+use dma330::{Controller, Error, Events, Segment, Status, TransferResult, Turn};
 
 fn print_memory(controller: &mut Controller, addr: u32, count: usize) -> Result<(), Error> {
     let mut bytes = vec![0; count];

@@ -1,6 +1,6 @@
 //! A controller with a thread of its own, to which I/O threads send their copies; each waits until its copy is complete.
 
-use dma::{Controller, Error, Events, Outcome, Segment, TransferResult, Turn};
+use dma330::{Controller, Error, Events, Outcome, Segment, TransferResult, Turn};
 use std::collections::HashMap;
 use std::sync::mpsc::{channel, Receiver, Sender, TryRecvError};
 use std::thread;

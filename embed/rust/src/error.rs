@@ -11,10 +11,17 @@ pub enum Error {
     NoMemory,
     /// An event is above 31.
     BadEvent,
+    /// The channel has no program.
+    NoProgram,
     /// A range or a segment ends above the memory's size.
     OutOfMemoryRange,
-    /// A running transfer is in the way.
-    Busy,
+    /// The call conflicts with a running transfer.
+    Busy {
+        /// Its channel, the lowest of several.
+        channel: u8,
+        /// Its cookie.
+        cookie: u32,
+    },
     /// The channel's number isn't below the number of channels.
     NoChannel,
     /// The channel has given its last cookie, 2147483647.
@@ -24,11 +31,18 @@ pub enum Error {
     /// A range to be marked is empty, or ends above the last address.
     BadRange,
     /// A checkpoint was asked for while a transfer runs.
-    Running,
+    Running {
+        /// Its channel, the lowest of several.
+        channel: u8,
+        /// Its cookie.
+        cookie: u32,
+    },
     /// The number of channels isn't 1 to 8.
     BadChannels,
     /// The size of a memory isn't 1 to 4294963200 bytes.
     SizeOutOfRange,
+    /// There are more than 8 regions, or they are not in rising order, or two share an address, or one ends above 4294963200.
+    BadRegions,
     /// A list has no segment.
     EmptyList,
     /// A list has more than 64 segments.
@@ -47,6 +61,8 @@ pub enum Error {
     SourceMeetsDestination,
     /// A program has more than 8192 bytes.
     ProgramTooLong,
+    /// The bytes are no save of a channel.
+    BadSave,
     /// A line of assembly text has a fault.
     Assembly {
         /// Its number, from 1.
@@ -87,21 +103,23 @@ pub enum DisassemblyFault {
     BadField,
 }
 
+pub(crate) const BUSY: i32 = -11;
+pub(crate) const RUNNING: i32 = -16;
 const PROGRAM_TOO_LONG: i32 = -40;
 
-// The numbers of dma.h.
-const CODES: [(i32, Error); 20] = [
+// The numbers of dma330.h.
+const CODES: [(i32, Error); 21] = [
     (-3, Error::NoMemory),
     (-4, Error::BadEvent),
+    (-9, Error::NoProgram),
     (-10, Error::OutOfMemoryRange),
-    (-11, Error::Busy),
     (-12, Error::NoChannel),
     (-13, Error::CookiesSpent),
     (-14, Error::StepsSpent),
     (-15, Error::BadRange),
-    (-16, Error::Running),
     (-20, Error::BadChannels),
     (-21, Error::SizeOutOfRange),
+    (-22, Error::BadRegions),
     (-30, Error::EmptyList),
     (-31, Error::TooManySegments),
     (-32, Error::EmptySegment),
@@ -111,6 +129,7 @@ const CODES: [(i32, Error); 20] = [
     (-36, Error::DestinationsMeet),
     (-37, Error::SourceMeetsDestination),
     (PROGRAM_TOO_LONG, Error::ProgramTooLong),
+    (-42, Error::BadSave),
 ];
 
 const ASSEMBLY_CODES: [(i32, AssemblyFault); 4] = [
@@ -140,23 +159,25 @@ impl Error {
         found(&CODES, code).unwrap_or_else(|| unreachable!("the library answered the code {code}"))
     }
 
-    /// The error of a code of `dma_assemble`.
+    /// The error of a code of `dma330_assemble`.
     pub(crate) fn of_line(code: i32, line: usize) -> Error {
         found(&ASSEMBLY_CODES, code).map_or_else(|| Error::of(code), |fault| Error::Assembly { line, fault })
     }
 
-    /// The error of a code of `dma_disassemble`.
+    /// The error of a code of `dma330_disassemble`.
     pub(crate) fn of_offset(code: i32, offset: usize) -> Error {
         found(&DISASSEMBLY_CODES, code).map_or_else(|| Error::of(code), |fault| Error::Disassembly { offset, fault })
     }
 
-    /// Its number in `dma.h`.
+    /// Its number in `dma330.h`.
     ///
     /// ```
-    /// assert_eq!(dma::Error::NoChannel.code(), -12);
+    /// assert_eq!(dma330::Error::NoChannel.code(), -12);
     /// ```
     pub fn code(self) -> i32 {
         match self {
+            Error::Busy { .. } => BUSY,
+            Error::Running { .. } => RUNNING,
             Error::Assembly { fault, .. } => number_of(&ASSEMBLY_CODES, &fault),
             Error::Disassembly { fault, .. } => number_of(&DISASSEMBLY_CODES, &fault),
             plain => number_of(&CODES, &plain),
@@ -190,15 +211,17 @@ impl fmt::Display for Error {
         f.write_str(match self {
             Error::NoMemory => "out of memory",
             Error::BadEvent => "an event is above 31",
+            Error::NoProgram => "the channel has no program",
             Error::OutOfMemoryRange => "a range ends above the memory's size",
-            Error::Busy => "a running transfer is in the way",
+            Error::Busy { .. } => "a running transfer is in the way",
             Error::NoChannel => "there is no such channel",
             Error::CookiesSpent => "the channel has given its last cookie",
             Error::StepsSpent => "the step count is at its end",
             Error::BadRange => "the range is empty or ends above the last address",
-            Error::Running => "a transfer is running",
+            Error::Running { .. } => "a transfer is running",
             Error::BadChannels => "the number of channels is not 1 to 8",
             Error::SizeOutOfRange => "the size is not 1 to 4294963200 bytes",
+            Error::BadRegions => "there are more than 8 regions, or they are out of order, or meet, or end above 4294963200",
             Error::EmptyList => "a list has no segment",
             Error::TooManySegments => "a list has more than 64 segments",
             Error::EmptySegment => "a segment has length 0",
@@ -208,6 +231,7 @@ impl fmt::Display for Error {
             Error::DestinationsMeet => "two destination segments share an address",
             Error::SourceMeetsDestination => "a source and a destination segment share an address",
             Error::ProgramTooLong => "the program has more than 8192 bytes",
+            Error::BadSave => "the bytes are no save of a channel",
             Error::Assembly { line, fault } => return write!(f, "line {line}: {fault}"),
             Error::Disassembly { offset, fault } => return write!(f, "offset {offset}: {fault}"),
         })

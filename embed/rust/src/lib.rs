@@ -4,7 +4,7 @@
 //! pause, resume, terminate), and the channels run real PL330 programs, a step at a time and in any interleaving.
 //!
 //! ```
-//! use dma::{Controller, Events, Segment, Status};
+//! use dma330::{Controller, Events, Segment, Status};
 //!
 //! let mut controller = Controller::open(64, 1)?;
 //! controller.write(0x10, &[0xAA, 0xBB, 0xCC])?;
@@ -16,19 +16,24 @@
 //! let mut out = [0; 5];
 //! controller.read(0x1F, &mut out)?;
 //! assert_eq!(out, [0x00, 0xAA, 0xBB, 0xCC, 0x00]);
-//! # Ok::<(), dma::Error>(())
+//! # Ok::<(), dma330::Error>(())
 //! ```
+//!
+//! A [`Channel`] runs a program over memory of its caller instead, as the RAM of a guest (`examples/guest_ram.rs`).
 //!
 //! The library behind it is proved; what is not are the declarations in `sys`, which a test compares with the library's, and
 //! this crate's own lines. `docs/EMBEDDING.md` of the repository has more on memory, threads and marks.
 
 #![deny(missing_docs, unsafe_code)]
 
+mod channel;
 mod error;
 #[allow(missing_docs, unsafe_code)]
 mod sys;
 
+pub use channel::{Channel, ChannelSteps, ChannelTurn, Registers};
 pub use error::{AssemblyFault, DisassemblyFault, Error};
+pub use sys::Region;
 
 use std::fmt;
 
@@ -203,6 +208,13 @@ fn small(number: u32) -> u8 {
     u8::try_from(number).unwrap_or_else(|_| unreachable!("the library told the number {number}"))
 }
 
+fn number_of(kind: MarkKind) -> u32 {
+    match kind {
+        MarkKind::Reading => 0,
+        MarkKind::Writing => 1,
+    }
+}
+
 fn event(event: Option<u8>) -> i32 {
     event.map_or(-1, i32::from)
 }
@@ -235,7 +247,7 @@ fn turn_of(report: &sys::RawReport) -> Option<Turn> {
 /// what only tells takes `&self`, and one call at a time has a controller.
 ///
 /// ```
-/// use dma::{Controller, Error};
+/// use dma330::{Controller, Error};
 /// use std::{sync::Mutex, thread};
 ///
 /// let shared = Mutex::new(Controller::open(0x1000, 2)?);
@@ -250,7 +262,7 @@ fn turn_of(report: &sys::RawReport) -> Option<Turn> {
 ///
 /// ```compile_fail
 /// fn is_shared<T: Sync>() {}
-/// is_shared::<dma::Controller>();
+/// is_shared::<dma330::Controller>();
 /// ```
 pub struct Controller {
     handle: sys::Handle,
@@ -262,7 +274,7 @@ impl Controller {
     /// The error is the first that holds of `BadChannels`, `SizeOutOfRange` and `NoMemory`.
     ///
     /// ```
-    /// use dma::{Controller, Error};
+    /// use dma330::{Controller, Error};
     /// assert!(Controller::open(0x1000, 8).is_ok());
     /// assert_eq!(Controller::open(0, 9).err(), Some(Error::BadChannels));
     /// ```
@@ -294,7 +306,7 @@ impl Controller {
     /// `OutOfMemoryRange` and `CookiesSpent`; or it is `NoMemory`.
     ///
     /// ```
-    /// use dma::{Controller, Error, Events, Segment};
+    /// use dma330::{Controller, Error, Events, Segment};
     /// let mut controller = Controller::open(0x1000, 1)?;
     /// let from = [Segment::new(0x100, 2), Segment::new(0x180, 2)];
     /// assert_eq!(controller.submit(0, &from, &[Segment::new(0x200, 4)], Events::default()), Ok(1));
@@ -347,7 +359,7 @@ impl Controller {
     /// before it stand and are told, and the next call takes that step again, or answers its error if the cause still holds.
     ///
     /// ```
-    /// use dma::{Controller, Events, Outcome, Segment, Steps, TransferResult, Turn};
+    /// use dma330::{Controller, Events, Outcome, Segment, Steps, TransferResult, Turn};
     /// let mut controller = Controller::open(0x3000, 1)?;
     /// let cookie = controller.submit(0, &[Segment::new(0x1000, 4)], &[Segment::new(0x2000, 4)], Events::default())?;
     /// assert_eq!(controller.step(0, 9)?, Steps { taken: 1, last: Some(Turn::Nothing) });
@@ -356,7 +368,7 @@ impl Controller {
     /// assert_eq!(controller.step(0, 3)?, Steps { taken: 3, last: Some(Turn::Moved) });
     /// let outcome = Outcome { result: TransferResult::NoError, residue: 0 };
     /// assert_eq!(controller.step(0, 100)?, Steps { taken: 6, last: Some(Turn::Finished { cookie, outcome }) });
-    /// # Ok::<(), dma::Error>(())
+    /// # Ok::<(), dma330::Error>(())
     /// ```
     pub fn step(&mut self, channel: u8, most: u32) -> Result<Steps, Error> {
         let report = self.handle.step(channel, most)?;
@@ -396,12 +408,38 @@ impl Controller {
         self.handle.steps()
     }
 
+    /// How many entries the history has.
+    ///
+    /// ```
+    /// use dma330::{Controller, Error};
+    /// let mut controller = Controller::open(0x100, 1)?;
+    /// controller.write(0x10, &[1, 2, 3])?;
+    /// controller.read(0x10, &mut [0; 5])?;
+    /// assert_eq!((controller.history_entries(), controller.history_bytes()), (2, 8));
+    /// controller.checkpoint()?;
+    /// assert_eq!((controller.history_entries(), controller.history_bytes()), (0, 0));
+    /// # Ok::<(), Error>(())
+    /// ```
+    pub fn history_entries(&self) -> u64 {
+        self.handle.history_entries()
+    }
+
+    /// How many bytes the history keeps, of writes and of reads. It looks at each entry.
+    pub fn history_bytes(&self) -> u64 {
+        self.handle.history_bytes()
+    }
+
+    /// How many transfers run, on all channels.
+    pub fn running_count(&self) -> u32 {
+        self.handle.running_count()
+    }
+
     /// Marks a range, below the memory's size or not, in which bursts of that kind fail from then on.
     ///
     /// The error is `BadRange` or `NoMemory`.
     ///
     /// ```
-    /// use dma::{Controller, Events, MarkKind, Segment, TransferResult, Turn};
+    /// use dma330::{Controller, Events, MarkKind, Segment, TransferResult, Turn};
     /// let mut controller = Controller::open(0x400, 1)?;
     /// controller.mark(MarkKind::Writing, Segment::new(0x202, 1))?;
     /// controller.submit(0, &[Segment::new(0x100, 4)], &[Segment::new(0x200, 4)], Events::default())?;
@@ -409,14 +447,10 @@ impl Controller {
     /// let Some(Turn::Finished { outcome, .. }) = controller.step(0, 100)?.last else { panic!() };
     /// assert_eq!((outcome.result, outcome.residue), (TransferResult::WriteFailed, 4));
     /// assert_eq!(controller.step(0, 1)?.last, Some(Turn::Halted));
-    /// # Ok::<(), dma::Error>(())
+    /// # Ok::<(), dma330::Error>(())
     /// ```
     pub fn mark(&mut self, kind: MarkKind, range: Segment) -> Result<(), Error> {
-        let kind = match kind {
-            MarkKind::Reading => 0,
-            MarkKind::Writing => 1,
-        };
-        self.handle.mark(kind, range)
+        self.handle.mark(number_of(kind), range)
     }
 
     /// Removes all marks.
@@ -450,7 +484,7 @@ impl fmt::Debug for Controller {
 /// The version of the library.
 ///
 /// ```
-/// assert_eq!(dma::version(), "dilkwafam 1.0");
+/// assert_eq!(dma330::version(), "dilkwafam 1.0");
 /// ```
 pub fn version() -> String {
     let mut out = vec![0; 64];
@@ -468,12 +502,12 @@ pub fn version() -> String {
 /// Then the memory is as it was.
 ///
 /// ```
-/// use dma::{assemble, run_program, Fault, RunEnd};
+/// use dma330::{assemble, run_program, Fault, RunEnd};
 /// let program = assemble("DMASEV 3\nDMAWFE 3\nDMAEND\n")?;
 /// assert_eq!(run_program(&program, &mut [0; 16], 100), Ok(RunEnd::Ended { turns: 3 }));
 /// let fault = Fault::StDataUnavailable;
 /// assert_eq!(run_program(&assemble("DMAST")?, &mut [0; 16], 100), Ok(RunEnd::Fault { fault, pc: 0 }));
-/// # Ok::<(), dma::Error>(())
+/// # Ok::<(), dma330::Error>(())
 /// ```
 pub fn run_program(program: &[u8], memory: &mut [u8], limit: u32) -> Result<RunEnd, Error> {
     let end = sys::run_program(program, memory, limit)?;
@@ -510,7 +544,7 @@ const MAX_TEXT: usize = 9;
 /// The error is `Assembly` of the first line with a fault, or `NoMemory`.
 ///
 /// ```
-/// use dma::{assemble, AssemblyFault, Error};
+/// use dma330::{assemble, AssemblyFault, Error};
 /// let text = "DMALP 1 256\nDMALD\nDMAST\nDMALPEND 1 2\nDMAEND\n";
 /// assert_eq!(assemble(text), Ok(vec![0x22, 0xFF, 0x04, 0x08, 0x3C, 0x02, 0x00]));
 /// assert_eq!(assemble("DMALD\nDMALP 2 1"), Err(Error::Assembly { line: 2, fault: AssemblyFault::NumberOutOfRange }));
@@ -527,7 +561,7 @@ pub fn assemble(text: &str) -> Result<Vec<u8>, Error> {
 /// The error is `Disassembly` of the first byte at which no instruction begins, or `NoMemory`.
 ///
 /// ```
-/// use dma::{disassemble, DisassemblyFault, Error};
+/// use dma330::{disassemble, DisassemblyFault, Error};
 /// assert_eq!(disassemble(&[0x36, 0x1A, 0x00]).as_deref(), Ok("DMAWFE 3 invalid\nDMAEND\n"));
 /// let fault = DisassemblyFault::UnknownInstruction;
 /// assert_eq!(disassemble(&[0x04, 0x28]), Err(Error::Disassembly { offset: 1, fault }));

@@ -4,21 +4,23 @@
 //!
 //! - A controller is zeroed before it is opened, its members are never touched, and an open one is never copied:
 //!   [`Handle`] makes one of zeros, lends nobody its members, and is neither `Copy` nor `Clone`. A move leaves one
-//!   owner.
+//!   owner. The same holds of a channel and [`ChannelHandle`].
 //! - One call at a time: what changes something takes `&mut self`. What only tells takes `&self` of a type that isn't
 //!   `Sync` (it is a cell), and no call of the library calls back. A handle may go to another thread, since the check
 //!   of the library proves `Send` of the type that it keeps, and Rust orders what one thread does with a value before
 //!   what the next one does.
 //! - Pointers are not null, aligned and good for their counts: each comes from a reference, or from a slice beside its
-//!   length.
+//!   length. A [`Region`] is made of a slice that nobody else uses while the region is there.
 //! - Pointers of a call don't overlap, but where both are only read, and nobody else is at what they point to: that is
 //!   Rust's rule of `&mut` and `&`.
 //! - What is left to the program: one allocator behind `malloc`, no call from a signal handler or from the forked child
 //!   of a process with threads, and 32 KiB of stack.
 
+use crate::error::{BUSY, RUNNING};
 use crate::{Error, Segment};
 use std::cell::UnsafeCell;
 use std::ffi::c_void;
+use std::marker::PhantomData;
 use std::ptr;
 
 // Only the library reads and writes them.
@@ -34,6 +36,13 @@ struct RawController {
 pub struct RawOutcome {
     pub result: u32,
     pub residue: u32,
+}
+
+#[repr(C)]
+#[derive(Default)]
+struct RawConflict {
+    channel: u32,
+    cookie: u32,
 }
 
 #[repr(C)]
@@ -65,13 +74,82 @@ pub struct RawRunEnd {
     pub pc: u32,
 }
 
-// tests/declarations.rs compares these with dma.h and with the library's own.
+// Only the library reads and writes them.
+#[allow(dead_code)]
+#[repr(C)]
+struct RawChannel {
+    channel: *mut c_void,
+    is_open: u8,
+}
+
+/// A part of the caller's memory, which a channel reads and writes while it is stepped: bytes, and the address of the first.
+///
+/// ```
+/// use dma330::Region;
+/// let mut ram = vec![0; 0x1000];
+/// let _region = Region::new(0x8000_0000, &mut ram);
+/// ```
+///
+/// The bytes are free again when the region is gone.
+///
+/// ```compile_fail
+/// let mut ram = vec![0; 0x1000];
+/// let region = dma330::Region::new(0x8000_0000, &mut ram);
+/// ram[0] = 1;
+/// drop(region);
+/// ```
+#[repr(C)]
+pub struct Region<'a> {
+    addr: u32,
+    bytes: *mut u8,
+    len: usize,
+    lent: PhantomData<&'a mut [u8]>,
+}
+
+impl<'a> Region<'a> {
+    /// These bytes, from an address on.
+    pub fn new(addr: u32, bytes: &'a mut [u8]) -> Region<'a> {
+        Region { addr, bytes: bytes.as_mut_ptr(), len: bytes.len(), lent: PhantomData }
+    }
+}
+
+#[repr(C)]
+#[derive(Default)]
+pub struct RawChannelReport {
+    pub taken: u32,
+    pub turn: u32,
+    pub event: u32,
+    pub fault: u32,
+    pub pc: u32,
+}
+
+#[repr(C)]
+#[derive(Default)]
+pub struct RawRegisters {
+    pub pc: u32,
+    pub sar: u32,
+    pub dar: u32,
+    pub ccr: u32,
+    pub lc0: u8,
+    pub lc1: u8,
+    pub is_loaded: u8,
+    pub taken: u32,
+    pub stored: u64,
+}
+
+// tests/declarations.rs compares these with dma330.h and with the library's own.
 extern "C" {
-    fn dma_open(controller: *mut RawController, size: u32, channels: u8) -> i32;
-    fn dma_close(controller: *mut RawController);
-    fn dma_write(controller: *mut RawController, addr: u32, bytes: *const u8, len: usize) -> i32;
-    fn dma_read(controller: *mut RawController, addr: u32, out: *mut u8, len: usize) -> i32;
-    fn dma_submit(
+    fn dma330_open(controller: *mut RawController, size: u32, channels: u8) -> i32;
+    fn dma330_close(controller: *mut RawController);
+    fn dma330_write(
+        controller: *mut RawController,
+        addr: u32,
+        bytes: *const u8,
+        len: usize,
+        conflict: *mut RawConflict,
+    ) -> i32;
+    fn dma330_read(controller: *mut RawController, addr: u32, out: *mut u8, len: usize, conflict: *mut RawConflict) -> i32;
+    fn dma330_submit(
         controller: *mut RawController,
         channel: u8,
         src: *const Segment,
@@ -82,7 +160,7 @@ extern "C" {
         signal: i32,
         cookie: *mut u32,
     ) -> i32;
-    fn dma_submit_fill(
+    fn dma330_submit_fill(
         controller: *mut RawController,
         channel: u8,
         src: u32,
@@ -92,26 +170,77 @@ extern "C" {
         signal: i32,
         cookie: *mut u32,
     ) -> i32;
-    fn dma_issue(controller: *mut RawController, channel: u8, count: *mut u32) -> i32;
-    fn dma_pause(controller: *mut RawController, channel: u8) -> i32;
-    fn dma_resume(controller: *mut RawController, channel: u8) -> i32;
-    fn dma_terminate(controller: *mut RawController, channel: u8, count: *mut u32) -> i32;
-    fn dma_step(controller: *mut RawController, channel: u8, most: u32, report: *mut RawReport) -> i32;
-    fn dma_status(controller: *mut RawController, channel: u8, cookie: u32) -> i32;
-    fn dma_result(controller: *mut RawController, channel: u8, cookie: u32, outcome: *mut RawOutcome) -> i32;
-    fn dma_running(controller: *mut RawController, channel: u8, running: *mut RawRun) -> i32;
-    fn dma_unfinished(controller: *mut RawController, channel: u8, count: *mut u32) -> i32;
-    fn dma_forgotten(controller: *mut RawController, channel: u8, count: *mut u32) -> i32;
-    fn dma_steps(controller: *mut RawController, steps: *mut u64) -> i32;
-    fn dma_mark(controller: *mut RawController, kind: u32, range: Segment) -> i32;
-    fn dma_unmark(controller: *mut RawController) -> i32;
-    fn dma_raise(controller: *mut RawController, event: u8) -> i32;
-    fn dma_checkpoint(controller: *mut RawController) -> i32;
-    fn dma_version(out: *mut u8, room: usize, len: *mut usize) -> i32;
-    fn dma_run_program(program: *const u8, len: usize, memory: *mut u8, size: usize, limit: u32, end: *mut RawRunEnd)
-        -> i32;
-    fn dma_assemble(text: *const u8, text_len: usize, out: *mut u8, room: usize, len: *mut usize, place: *mut usize) -> i32;
-    fn dma_disassemble(
+    fn dma330_issue(controller: *mut RawController, channel: u8, count: *mut u32) -> i32;
+    fn dma330_pause(controller: *mut RawController, channel: u8) -> i32;
+    fn dma330_resume(controller: *mut RawController, channel: u8) -> i32;
+    fn dma330_terminate(controller: *mut RawController, channel: u8, count: *mut u32) -> i32;
+    fn dma330_step(controller: *mut RawController, channel: u8, most: u32, report: *mut RawReport) -> i32;
+    fn dma330_status(controller: *mut RawController, channel: u8, cookie: u32) -> i32;
+    fn dma330_result(controller: *mut RawController, channel: u8, cookie: u32, outcome: *mut RawOutcome) -> i32;
+    fn dma330_running(controller: *mut RawController, channel: u8, running: *mut RawRun) -> i32;
+    fn dma330_unfinished(controller: *mut RawController, channel: u8, count: *mut u32) -> i32;
+    fn dma330_forgotten(controller: *mut RawController, channel: u8, count: *mut u32) -> i32;
+    fn dma330_steps(controller: *mut RawController, steps: *mut u64) -> i32;
+    fn dma330_history_entries(controller: *mut RawController, count: *mut u64) -> i32;
+    fn dma330_history_bytes(controller: *mut RawController, count: *mut u64) -> i32;
+    fn dma330_running_count(controller: *mut RawController, count: *mut u32) -> i32;
+    fn dma330_mark(controller: *mut RawController, kind: u32, range: Segment) -> i32;
+    fn dma330_unmark(controller: *mut RawController) -> i32;
+    fn dma330_raise(controller: *mut RawController, event: u8) -> i32;
+    fn dma330_checkpoint(controller: *mut RawController, conflict: *mut RawConflict) -> i32;
+    fn dma330_channel_open(channel: *mut RawChannel) -> i32;
+    fn dma330_channel_close(channel: *mut RawChannel);
+    fn dma330_channel_load_copy(
+        channel: *mut RawChannel,
+        src: *const Segment,
+        src_count: usize,
+        dst: *const Segment,
+        dst_count: usize,
+        wait: i32,
+        signal: i32,
+    ) -> i32;
+    fn dma330_channel_load_fill(
+        channel: *mut RawChannel,
+        src: u32,
+        dst: *const Segment,
+        dst_count: usize,
+        wait: i32,
+        signal: i32,
+    ) -> i32;
+    fn dma330_channel_load_program(channel: *mut RawChannel, program: *const u8, len: usize) -> i32;
+    fn dma330_channel_load_from(channel: *mut RawChannel, regions: *const Region<'_>, count: usize, addr: u32) -> i32;
+    fn dma330_channel_step(
+        channel: *mut RawChannel,
+        regions: *mut Region<'_>,
+        count: usize,
+        flags: *mut u32,
+        most: u32,
+        report: *mut RawChannelReport,
+    ) -> i32;
+    fn dma330_channel_stop(channel: *mut RawChannel) -> i32;
+    fn dma330_channel_registers(channel: *mut RawChannel, registers: *mut RawRegisters) -> i32;
+    fn dma330_channel_mark(channel: *mut RawChannel, kind: u32, range: Segment) -> i32;
+    fn dma330_channel_unmark(channel: *mut RawChannel) -> i32;
+    fn dma330_channel_save(channel: *mut RawChannel, out: *mut u8, room: usize, len: *mut usize) -> i32;
+    fn dma330_channel_restore(channel: *mut RawChannel, save: *const u8, len: usize) -> i32;
+    fn dma330_version(out: *mut u8, room: usize, len: *mut usize) -> i32;
+    fn dma330_run_program(
+        program: *const u8,
+        len: usize,
+        memory: *mut u8,
+        size: usize,
+        limit: u32,
+        end: *mut RawRunEnd,
+    ) -> i32;
+    fn dma330_assemble(
+        text: *const u8,
+        text_len: usize,
+        out: *mut u8,
+        room: usize,
+        len: *mut usize,
+        place: *mut usize,
+    ) -> i32;
+    fn dma330_disassemble(
         program: *const u8,
         len: usize,
         out: *mut u8,
@@ -124,12 +253,23 @@ extern "C" {
 const OK: i32 = 0;
 const NO_RESULT: i32 = -6;
 const NOT_RUNNING: i32 = -7;
+const BUFFER_TOO_SMALL: i32 = -8;
 
 // What a call told, or why it was refused.
 fn told<T>(code: i32, value: T) -> Result<T, Error> {
     match code {
         OK => Ok(value),
         _ => Err(Error::of(code)),
+    }
+}
+
+// The same of a call that may conflict with a running transfer.
+fn free_of(code: i32, conflict: RawConflict) -> Result<(), Error> {
+    let (channel, cookie) = (conflict.channel as u8, conflict.cookie);
+    match code {
+        BUSY => Err(Error::Busy { channel, cookie }),
+        RUNNING => Err(Error::Running { channel, cookie }),
+        _ => told(code, ()),
     }
 }
 
@@ -150,130 +290,240 @@ impl Handle {
     pub fn open(size: u32, channels: u8) -> Result<Handle, Error> {
         let closed = RawController { engine: ptr::null_mut(), is_open: 0 };
         let mut handle = Handle { raw: UnsafeCell::new(closed) };
-        let code = unsafe { dma_open(handle.raw.get_mut(), size, channels) };
+        let code = unsafe { dma330_open(handle.raw.get_mut(), size, channels) };
         told(code, handle)
     }
 
     pub fn write(&mut self, addr: u32, bytes: &[u8]) -> Result<(), Error> {
-        told(unsafe { dma_write(self.raw.get_mut(), addr, bytes.as_ptr(), bytes.len()) }, ())
+        let mut conflict = RawConflict::default();
+        let (from, len) = (bytes.as_ptr(), bytes.len());
+        let code = unsafe { dma330_write(self.raw.get_mut(), addr, from, len, &mut conflict) };
+        free_of(code, conflict)
     }
 
     pub fn read(&mut self, addr: u32, out: &mut [u8]) -> Result<(), Error> {
-        told(unsafe { dma_read(self.raw.get_mut(), addr, out.as_mut_ptr(), out.len()) }, ())
+        let mut conflict = RawConflict::default();
+        let (to, len) = (out.as_mut_ptr(), out.len());
+        let code = unsafe { dma330_read(self.raw.get_mut(), addr, to, len, &mut conflict) };
+        free_of(code, conflict)
     }
 
     pub fn submit(&mut self, channel: u8, src: &[Segment], dst: &[Segment], wait: i32, signal: i32) -> Result<u32, Error> {
         let mut cookie = 0;
         let (from, to) = (src.as_ptr(), dst.as_ptr());
         let raw = self.raw.get_mut();
-        let code = unsafe { dma_submit(raw, channel, from, src.len(), to, dst.len(), wait, signal, &mut cookie) };
+        let code = unsafe { dma330_submit(raw, channel, from, src.len(), to, dst.len(), wait, signal, &mut cookie) };
         told(code, cookie)
     }
 
     pub fn submit_fill(&mut self, channel: u8, src: u32, dst: &[Segment], wait: i32, signal: i32) -> Result<u32, Error> {
         let mut cookie = 0;
         let raw = self.raw.get_mut();
-        let code = unsafe { dma_submit_fill(raw, channel, src, dst.as_ptr(), dst.len(), wait, signal, &mut cookie) };
+        let code = unsafe { dma330_submit_fill(raw, channel, src, dst.as_ptr(), dst.len(), wait, signal, &mut cookie) };
         told(code, cookie)
     }
 
     pub fn issue(&mut self, channel: u8) -> Result<u32, Error> {
         let mut count = 0;
-        let code = unsafe { dma_issue(self.raw.get_mut(), channel, &mut count) };
+        let code = unsafe { dma330_issue(self.raw.get_mut(), channel, &mut count) };
         told(code, count)
     }
 
     pub fn pause(&mut self, channel: u8) -> Result<(), Error> {
-        told(unsafe { dma_pause(self.raw.get_mut(), channel) }, ())
+        told(unsafe { dma330_pause(self.raw.get_mut(), channel) }, ())
     }
 
     pub fn resume(&mut self, channel: u8) -> Result<(), Error> {
-        told(unsafe { dma_resume(self.raw.get_mut(), channel) }, ())
+        told(unsafe { dma330_resume(self.raw.get_mut(), channel) }, ())
     }
 
     pub fn terminate(&mut self, channel: u8) -> Result<u32, Error> {
         let mut count = 0;
-        let code = unsafe { dma_terminate(self.raw.get_mut(), channel, &mut count) };
+        let code = unsafe { dma330_terminate(self.raw.get_mut(), channel, &mut count) };
         told(code, count)
     }
 
     pub fn step(&mut self, channel: u8, most: u32) -> Result<RawReport, Error> {
         let mut report = RawReport::default();
-        let code = unsafe { dma_step(self.raw.get_mut(), channel, most, &mut report) };
+        let code = unsafe { dma330_step(self.raw.get_mut(), channel, most, &mut report) };
         told(code, report)
     }
 
     pub fn status(&self, channel: u8, cookie: u32) -> i32 {
-        unsafe { dma_status(self.raw.get(), channel, cookie) }
+        unsafe { dma330_status(self.raw.get(), channel, cookie) }
     }
 
     pub fn result(&self, channel: u8, cookie: u32) -> Option<RawOutcome> {
         let mut outcome = RawOutcome::default();
-        let code = unsafe { dma_result(self.raw.get(), channel, cookie, &mut outcome) };
+        let code = unsafe { dma330_result(self.raw.get(), channel, cookie, &mut outcome) };
         told_unless(NO_RESULT, code, outcome)
     }
 
     pub fn running(&self, channel: u8) -> Option<RawRun> {
         let mut running = RawRun::default();
-        let code = unsafe { dma_running(self.raw.get(), channel, &mut running) };
+        let code = unsafe { dma330_running(self.raw.get(), channel, &mut running) };
         told_unless(NOT_RUNNING, code, running)
     }
 
     pub fn unfinished(&self, channel: u8) -> u32 {
         let mut count = 0;
-        let code = unsafe { dma_unfinished(self.raw.get(), channel, &mut count) };
+        let code = unsafe { dma330_unfinished(self.raw.get(), channel, &mut count) };
         assert_eq!(code, OK);
         count
     }
 
     pub fn forgotten(&self, channel: u8) -> u32 {
         let mut count = 0;
-        let code = unsafe { dma_forgotten(self.raw.get(), channel, &mut count) };
+        let code = unsafe { dma330_forgotten(self.raw.get(), channel, &mut count) };
         assert_eq!(code, OK);
         count
     }
 
     pub fn steps(&self) -> u64 {
         let mut steps = 0;
-        let code = unsafe { dma_steps(self.raw.get(), &mut steps) };
+        let code = unsafe { dma330_steps(self.raw.get(), &mut steps) };
         assert_eq!(code, OK);
         steps
     }
 
+    pub fn history_entries(&self) -> u64 {
+        let mut count = 0;
+        let code = unsafe { dma330_history_entries(self.raw.get(), &mut count) };
+        assert_eq!(code, OK);
+        count
+    }
+
+    pub fn history_bytes(&self) -> u64 {
+        let mut count = 0;
+        let code = unsafe { dma330_history_bytes(self.raw.get(), &mut count) };
+        assert_eq!(code, OK);
+        count
+    }
+
+    pub fn running_count(&self) -> u32 {
+        let mut count = 0;
+        let code = unsafe { dma330_running_count(self.raw.get(), &mut count) };
+        assert_eq!(code, OK);
+        count
+    }
+
     pub fn mark(&mut self, kind: u32, range: Segment) -> Result<(), Error> {
-        told(unsafe { dma_mark(self.raw.get_mut(), kind, range) }, ())
+        told(unsafe { dma330_mark(self.raw.get_mut(), kind, range) }, ())
     }
 
     pub fn unmark(&mut self) -> Result<(), Error> {
-        told(unsafe { dma_unmark(self.raw.get_mut()) }, ())
+        told(unsafe { dma330_unmark(self.raw.get_mut()) }, ())
     }
 
     pub fn raise(&mut self, event: u8) -> Result<(), Error> {
-        told(unsafe { dma_raise(self.raw.get_mut(), event) }, ())
+        told(unsafe { dma330_raise(self.raw.get_mut(), event) }, ())
     }
 
     pub fn checkpoint(&mut self) -> Result<(), Error> {
-        told(unsafe { dma_checkpoint(self.raw.get_mut()) }, ())
+        let mut conflict = RawConflict::default();
+        let code = unsafe { dma330_checkpoint(self.raw.get_mut(), &mut conflict) };
+        free_of(code, conflict)
     }
 }
 
 impl Drop for Handle {
     fn drop(&mut self) {
-        unsafe { dma_close(self.raw.get_mut()) }
+        unsafe { dma330_close(self.raw.get_mut()) }
+    }
+}
+
+/// A channel that is open, and is closed when it is dropped.
+pub struct ChannelHandle {
+    raw: UnsafeCell<RawChannel>,
+}
+
+unsafe impl Send for ChannelHandle {}
+
+impl ChannelHandle {
+    pub fn open() -> Result<ChannelHandle, Error> {
+        let closed = RawChannel { channel: ptr::null_mut(), is_open: 0 };
+        let mut handle = ChannelHandle { raw: UnsafeCell::new(closed) };
+        let code = unsafe { dma330_channel_open(handle.raw.get_mut()) };
+        told(code, handle)
+    }
+
+    pub fn load_copy(&mut self, src: &[Segment], dst: &[Segment], wait: i32, signal: i32) -> Result<(), Error> {
+        let (from, to) = (src.as_ptr(), dst.as_ptr());
+        let raw = self.raw.get_mut();
+        told(unsafe { dma330_channel_load_copy(raw, from, src.len(), to, dst.len(), wait, signal) }, ())
+    }
+
+    pub fn load_fill(&mut self, src: u32, dst: &[Segment], wait: i32, signal: i32) -> Result<(), Error> {
+        let raw = self.raw.get_mut();
+        told(unsafe { dma330_channel_load_fill(raw, src, dst.as_ptr(), dst.len(), wait, signal) }, ())
+    }
+
+    pub fn load_program(&mut self, program: &[u8]) -> Result<(), Error> {
+        told(unsafe { dma330_channel_load_program(self.raw.get_mut(), program.as_ptr(), program.len()) }, ())
+    }
+
+    pub fn load_from(&mut self, regions: &[Region<'_>], addr: u32) -> Result<(), Error> {
+        let (lent, count) = (regions.as_ptr(), regions.len());
+        told(unsafe { dma330_channel_load_from(self.raw.get_mut(), lent, count, addr) }, ())
+    }
+
+    pub fn step(&mut self, regions: &mut [Region<'_>], flags: &mut u32, most: u32) -> Result<RawChannelReport, Error> {
+        let mut report = RawChannelReport::default();
+        let (lent, count) = (regions.as_mut_ptr(), regions.len());
+        let code = unsafe { dma330_channel_step(self.raw.get_mut(), lent, count, flags, most, &mut report) };
+        told(code, report)
+    }
+
+    pub fn stop(&mut self) {
+        let code = unsafe { dma330_channel_stop(self.raw.get_mut()) };
+        assert_eq!(code, OK);
+    }
+
+    pub fn registers(&self) -> RawRegisters {
+        let mut registers = RawRegisters::default();
+        let code = unsafe { dma330_channel_registers(self.raw.get(), &mut registers) };
+        assert_eq!(code, OK);
+        registers
+    }
+
+    pub fn mark(&mut self, kind: u32, range: Segment) -> Result<(), Error> {
+        told(unsafe { dma330_channel_mark(self.raw.get_mut(), kind, range) }, ())
+    }
+
+    pub fn unmark(&mut self) {
+        let code = unsafe { dma330_channel_unmark(self.raw.get_mut()) };
+        assert_eq!(code, OK);
+    }
+
+    /// How many bytes were written; none where there is no room.
+    pub fn save(&self, out: &mut [u8]) -> Option<usize> {
+        let mut len = 0;
+        let code = unsafe { dma330_channel_save(self.raw.get(), out.as_mut_ptr(), out.len(), &mut len) };
+        told_unless(BUFFER_TOO_SMALL, code, len)
+    }
+
+    pub fn restore(&mut self, save: &[u8]) -> Result<(), Error> {
+        told(unsafe { dma330_channel_restore(self.raw.get_mut(), save.as_ptr(), save.len()) }, ())
+    }
+}
+
+impl Drop for ChannelHandle {
+    fn drop(&mut self) {
+        unsafe { dma330_channel_close(self.raw.get_mut()) }
     }
 }
 
 /// Writes the version and a zero byte, and answers the version's length; none where there is no room.
 pub fn version(out: &mut [u8]) -> Option<usize> {
     let mut len = 0;
-    let code = unsafe { dma_version(out.as_mut_ptr(), out.len(), &mut len) };
+    let code = unsafe { dma330_version(out.as_mut_ptr(), out.len(), &mut len) };
     (code == OK).then_some(len)
 }
 
 pub fn run_program(program: &[u8], memory: &mut [u8], limit: u32) -> Result<RawRunEnd, Error> {
     let mut end = RawRunEnd::default();
     let (bytes, room) = (memory.as_mut_ptr(), memory.len());
-    let code = unsafe { dma_run_program(program.as_ptr(), program.len(), bytes, room, limit, &mut end) };
+    let code = unsafe { dma330_run_program(program.as_ptr(), program.len(), bytes, room, limit, &mut end) };
     told(code, end)
 }
 
@@ -281,7 +531,7 @@ pub fn run_program(program: &[u8], memory: &mut [u8], limit: u32) -> Result<RawR
 pub fn assemble(text: &[u8], out: &mut [u8]) -> Result<usize, Error> {
     let (mut len, mut place) = (0, 0);
     let (bytes, room) = (out.as_mut_ptr(), out.len());
-    match unsafe { dma_assemble(text.as_ptr(), text.len(), bytes, room, &mut len, &mut place) } {
+    match unsafe { dma330_assemble(text.as_ptr(), text.len(), bytes, room, &mut len, &mut place) } {
         OK => Ok(len),
         code => Err(Error::of_line(code, place)),
     }
@@ -291,7 +541,7 @@ pub fn assemble(text: &[u8], out: &mut [u8]) -> Result<usize, Error> {
 pub fn disassemble(program: &[u8], out: &mut [u8]) -> Result<usize, Error> {
     let (mut len, mut place) = (0, 0);
     let (text, room) = (out.as_mut_ptr(), out.len());
-    match unsafe { dma_disassemble(program.as_ptr(), program.len(), text, room, &mut len, &mut place) } {
+    match unsafe { dma330_disassemble(program.as_ptr(), program.len(), text, room, &mut len, &mut place) } {
         OK => Ok(len),
         code => Err(Error::of_offset(code, place)),
     }

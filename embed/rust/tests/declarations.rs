@@ -1,8 +1,8 @@
-//! The three declarations of the library, in Rattle (its own), in C (dma.h) and in Rust (sys.rs), say the same: the same
+//! The three declarations of the library, in Rattle (its own), in C (dma330.h) and in Rust (sys.rs), say the same: the same
 //! calls, and of each the same parameters and result, as they are passed; and the same codes, where no row of rows.txt meets
 //! them. No compiler compares these.
 
-use dma::Error;
+use dma330::Error;
 use std::collections::BTreeMap;
 use std::fs;
 use std::path::{Path, PathBuf};
@@ -54,6 +54,11 @@ fn without_comments(text: &str) -> String {
     left
 }
 
+// A type's name without its lifetimes.
+fn plain_name(word: &str) -> &str {
+    word.split('<').next().unwrap_or_default().trim()
+}
+
 /// A type that is no pointer. Bytes, characters and truth values are all passed as a byte.
 fn value(word: &str, structs: &Structs) -> Passed {
     match word {
@@ -64,7 +69,7 @@ fn value(word: &str, structs: &Structs) -> Passed {
         "size_t" => "usize".into(),
         "u32" | "u64" | "i32" | "usize" => word.into(),
         _ => {
-            let fields = structs.get(word).unwrap_or_else(|| panic!("no type: {word}"));
+            let fields = structs.get(plain_name(word)).unwrap_or_else(|| panic!("no type: {word}"));
             let fields: Vec<Passed> = fields.iter().map(|field| value_or_pointer(field, structs)).collect();
             // a struct of one field is passed as that
             if fields.len() == 1 {
@@ -76,12 +81,12 @@ fn value(word: &str, structs: &Structs) -> Passed {
     }
 }
 
-// A field. What it points to is the library's own.
+// A field. What it points to is the library's own, or bytes; a slice is two.
 fn value_or_pointer(word: &str, structs: &Structs) -> Passed {
-    if word.contains('*') {
-        "*".into()
-    } else {
-        value(word, structs)
+    match word {
+        _ if word.starts_with('&') && word.ends_with("[u8]") => "* usize".into(),
+        _ if word.contains('*') => "*".into(),
+        _ => value(word, structs),
     }
 }
 
@@ -103,15 +108,16 @@ fn passed(kind: &str, structs: &Structs) -> Vec<Passed> {
 
 // ---- Rattle and Rust ----
 
-// The structs that C sees. Ghost fields are not there when it runs.
+// The structs that C sees. Fields that are ghosts or of type PhantomData are not there when it runs.
 fn structs_of_rust(text: &str, structs: &mut Structs) {
     for after in text.split("#[repr(C)]").skip(1) {
         let Some((name, rest)) = between(after, "struct ", "{") else { continue };
         let fields = rest.split_once("\n}").map_or("", |(fields, _)| fields);
         let field = |part: &str| part.rsplit_once(": ").map(|(_, kind)| kind.trim().to_string());
         let lines = fields.lines().map(|line| line.trim().trim_start_matches("pub ").trim_end_matches(','));
-        let plain = lines.filter(|line| !line.starts_with("ghost") && !line.starts_with('#'));
-        structs.insert(name.trim().to_string(), plain.filter_map(field).collect());
+        let plain =
+            lines.filter(|line| !line.starts_with("ghost") && !line.contains("PhantomData") && !line.starts_with('#'));
+        structs.insert(plain_name(name).to_string(), plain.filter_map(field).collect());
     }
 }
 
@@ -141,7 +147,9 @@ fn files_below(folder: &Path, found: &mut Vec<PathBuf>) {
 
 fn calls_of_library() -> Calls {
     let mut files = Vec::new();
-    files_below(&repository().join("crates/dma_ffi/src"), &mut files);
+    for folder in ["crates/dma_ffi/src", "crates/dma_mem/src"] {
+        files_below(&repository().join(folder), &mut files);
+    }
     let texts: Vec<String> = files.iter().map(|file| without_comments(&text_of(file))).collect();
     let (mut structs, mut calls) = (Structs::new(), Calls::new());
     texts.iter().for_each(|text| structs_of_rust(text, &mut structs));
@@ -173,7 +181,7 @@ fn kind_of_c(declaration: &str) -> String {
 }
 
 fn calls_of_header() -> Calls {
-    let text = without_comments(&text_of(&repository().join("embed/c/dma.h")));
+    let text = without_comments(&text_of(&repository().join("embed/c/dma330.h")));
     let mut structs = Structs::new();
     for after in text.split("typedef struct ").skip(1) {
         let (name, rest) = after.split_once('{').expect("fields");
@@ -182,7 +190,7 @@ fn calls_of_header() -> Calls {
         structs.insert(name.trim().to_string(), kinds.collect());
     }
     let mut calls = Calls::new();
-    for declaration in each_between(&text, "\n\n", " DMA_NO_NULLS;") {
+    for declaration in each_between(&text, "\n\n", " DMA330_NO_NULLS;") {
         let declaration = declaration.rsplit("\n\n").next().unwrap_or_default().trim();
         let (head, parameters) = declaration.split_once('(').expect("parameters");
         let (result, name) = head.rsplit_once(' ').expect("a result and a name");
@@ -205,8 +213,8 @@ fn compare(wanted: &Calls, found: &Calls, whose: &str) {
 #[test]
 fn the_header_declares_what_the_library_exports() {
     let library = calls_of_library();
-    assert!(library.len() >= 25);
-    compare(&library, &calls_of_header(), "dma.h");
+    assert!(library.len() >= 41);
+    compare(&library, &calls_of_header(), "dma330.h");
 }
 
 #[test]
@@ -218,9 +226,9 @@ fn the_crate_declares_what_the_library_exports() {
 #[test]
 fn codes_that_no_row_meets_are_the_librarys() {
     let library = text_of(&repository().join("crates/dma_ffi/src/codes.rt"));
-    let header = text_of(&repository().join("embed/c/dma.h"));
+    let header = text_of(&repository().join("embed/c/dma330.h"));
     let spent = [Error::CookiesSpent, Error::StepsSpent];
-    for (error, name) in spent.into_iter().zip(["DMA_COOKIES_SPENT", "DMA_STEPS_SPENT"]) {
+    for (error, name) in spent.into_iter().zip(["DMA330_COOKIES_SPENT", "DMA330_STEPS_SPENT"]) {
         let (code, _) = between(&library, &format!("EngineFault::{error:?} => "), ",").expect("the library has it");
         let (number, _) = between(&header, &format!("{name} = "), ",").expect("the header has it");
         assert_eq!(number, code, "{name}");

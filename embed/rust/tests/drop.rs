@@ -1,7 +1,8 @@
-//! A controller that is dropped is closed: what it held goes back to the heap.
+//! A controller and a channel that are dropped are closed: what they held goes back to the heap.
 
-use dma::{Controller, Error};
+use dma330::{Channel, Controller, Error};
 use std::fs;
+use std::sync::Mutex;
 
 const MIB: usize = 1 << 20;
 
@@ -21,12 +22,35 @@ fn open_write_and_drop(times: usize) -> Result<(), Error> {
     Ok(())
 }
 
+// Both tests measure the process.
+static ALONE: Mutex<()> = Mutex::new(());
+
 #[test]
 fn a_dropped_controller_gives_its_memory_back() -> Result<(), Error> {
+    let _alone = ALONE.lock();
     open_write_and_drop(4)?;
     let before = resident();
     open_write_and_drop(200)?;
     let grown = resident().saturating_sub(before);
     assert!(grown < 40 * MIB / 1024, "200 controllers were dropped, and {grown} KiB are held");
+    Ok(())
+}
+
+// Each keeps the longest program.
+fn open_load_and_drop(times: usize) -> Result<(), Error> {
+    for _ in 0..times {
+        Channel::open()?.load_program(&[0x18; 8192])?;
+    }
+    Ok(())
+}
+
+#[test]
+fn a_dropped_channel_gives_its_memory_back() -> Result<(), Error> {
+    let _alone = ALONE.lock();
+    open_load_and_drop(100)?;
+    let before = resident();
+    open_load_and_drop(50_000)?;
+    let grown = resident().saturating_sub(before);
+    assert!(grown < 40 * MIB / 1024, "50000 channels were dropped, and {grown} KiB are held");
     Ok(())
 }

@@ -1,130 +1,12 @@
 //! The rows of rows.txt, which the tests in C carry out too, by the safe type.
 
-use dma::{Controller, Error, Events, MarkKind, Outcome, RunEnd, Segment, Steps, Turn};
-use std::fmt::Debug;
+mod words;
+
+use dma330::{Controller, Error, Outcome, RunEnd, Segment, Steps, Turn};
+use words::{groups, hex, name, nothing, refused, small, Words};
 
 const ROWS: &str = include_str!("../../rows.txt");
 const RAM: usize = 1 << 16;
-
-/// The words of a line that are left.
-struct Words<'a>(&'a str);
-
-impl<'a> Words<'a> {
-    fn next(&mut self) -> &'a str {
-        let line = self.0.trim_start_matches(' ');
-        let end = line.find(' ').unwrap_or(line.len());
-        self.0 = &line[end..];
-        &line[..end]
-    }
-
-    fn number(&mut self) -> u32 {
-        number(self.next())
-    }
-
-    fn channel(&mut self) -> u8 {
-        small(self.number())
-    }
-
-    fn kind(&mut self) -> MarkKind {
-        match self.next() {
-            "READING" => MarkKind::Reading,
-            "WRITING" => MarkKind::Writing,
-            word => panic!("no kind of mark: {word}"),
-        }
-    }
-
-    fn list(&mut self) -> Vec<Segment> {
-        match self.next() {
-            "-" => Vec::new(),
-            word => word.split(',').flat_map(segments).collect(),
-        }
-    }
-
-    fn bytes(&mut self) -> Vec<u8> {
-        let word = self.next();
-        match word.split_once('*') {
-            Some(("mod251", count)) => (0..number(count)).map(|n| small(n % 251)).collect(),
-            Some((pair, count)) => vec![byte(pair); number(count) as usize],
-            None if word == "-" => Vec::new(),
-            None => (0..word.len()).step_by(2).map(|at| byte(&word[at..at + 2])).collect(),
-        }
-    }
-
-    fn text(&mut self) -> String {
-        let rest = self.0.strip_prefix(' ').unwrap_or(self.0);
-        match rest.split_once('*') {
-            Some((word, count)) => format!("{word}\n").repeat(number(count) as usize),
-            None => rest.replace(" / ", "\n"),
-        }
-    }
-
-    fn events(&mut self) -> Events {
-        let mut events = Events::default();
-        loop {
-            match self.next() {
-                "wait" => events.wait = Some(small(self.number())),
-                "signal" => events.signal = Some(small(self.number())),
-                "" => return events,
-                word => panic!("neither wait nor signal: {word}"),
-            }
-        }
-    }
-}
-
-fn number(word: &str) -> u32 {
-    let value = match word.strip_prefix("0x") {
-        Some(digits) => u32::from_str_radix(digits, 16),
-        None => word.parse(),
-    };
-    value.unwrap_or_else(|_| panic!("not a number: {word}"))
-}
-
-fn small(number: u32) -> u8 {
-    u8::try_from(number).expect("at most 255")
-}
-
-fn byte(pair: &str) -> u8 {
-    u8::from_str_radix(pair, 16).unwrap_or_else(|_| panic!("not a byte: {pair}"))
-}
-
-// ADDR+LEN, or ADDR+LEN*N for N of them behind one another
-fn segments(word: &str) -> Vec<Segment> {
-    let (addr, len) = word.split_once('+').expect("a segment");
-    let (len, count) = len.split_once('*').unwrap_or((len, "1"));
-    let (addr, len) = (number(addr), number(len));
-    (0..number(count)).map(|n| Segment::new(addr + n * len, len)).collect()
-}
-
-// A variant's name as dma.h writes it.
-fn name(value: impl Debug) -> String {
-    let debug = format!("{value:?}");
-    let variant = debug.split([' ', '(']).next().unwrap_or_default();
-    let mut name = String::new();
-    for letter in variant.chars() {
-        if letter.is_uppercase() && !name.is_empty() {
-            name.push('_');
-        }
-        name.push(letter.to_ascii_uppercase());
-    }
-    name
-}
-
-fn refused(error: Error) -> String {
-    match error {
-        Error::Assembly { line, fault } => format!("{} {line}", name(fault)),
-        Error::Disassembly { offset, fault } => format!("{} {offset}", name(fault)),
-        plain => name(plain),
-    }
-}
-
-fn hex(bytes: &[u8]) -> String {
-    match bytes {
-        [first, rest @ ..] if rest.len() >= 16 && rest.iter().all(|byte| byte == first) => {
-            format!("{first:02X}*{}", bytes.len())
-        }
-        _ => bytes.iter().map(|byte| format!("{byte:02X}")).collect(),
-    }
-}
 
 fn told_outcome(outcome: Outcome) -> String {
     format!("{} {}", name(outcome.result), outcome.residue)
@@ -156,10 +38,6 @@ fn told_end(end: RunEnd) -> String {
         RunEnd::Waiting { event } => format!("{word} {event}"),
         RunEnd::Fault { fault, pc } => format!("{word} {} {pc}", name(fault)),
     }
-}
-
-fn nothing(_: ()) -> String {
-    String::new()
 }
 
 /// Carries lines out.
@@ -232,15 +110,15 @@ impl Player {
             }
             "run_program" => {
                 let (size, limit, program) = (words.number() as usize, words.number(), words.bytes());
-                dma::run_program(&program, &mut self.ram[..size], limit).map(told_end)
+                dma330::run_program(&program, &mut self.ram[..size], limit).map(told_end)
             }
             "assemble" => {
                 let _room = words.number();
-                dma::assemble(&words.text()).map(|bytes| hex(&bytes))
+                dma330::assemble(&words.text()).map(|bytes| hex(&bytes))
             }
             "disassemble" => {
                 let _room = words.number();
-                let text = dma::disassemble(&words.bytes())?;
+                let text = dma330::disassemble(&words.bytes())?;
                 Ok(text.replace('\n', " / ").trim_end().to_string())
             }
             _ => self.channel_call(call, words),
@@ -311,18 +189,9 @@ impl Player {
     }
 }
 
-// The groups that the types of this crate can say: their titles and rows.
-fn groups() -> Vec<(&'static str, Vec<(&'static str, &'static str)>)> {
-    let text = &ROWS[ROWS.find("\n== ").expect("a group")..];
-    let groups = text.split("\n== ").skip(1).map(|group| group.split_once('\n').expect("a title"));
-    let alone = |(title, _): &(&str, &str)| !title.ends_with("(C alone)");
-    let rows = |rows: &'static str| rows.lines().filter(|row| !row.is_empty()).map(|row| row.rsplit_once(" = ").expect(row));
-    groups.filter(alone).map(|(title, text)| (title, rows(text).collect())).collect()
-}
-
 #[test]
 fn every_row_answers_what_it_says() {
-    let groups = groups();
+    let groups = groups(ROWS);
     assert!(groups.len() > 40);
     let mut wrong = Vec::new();
     for (title, rows) in groups {

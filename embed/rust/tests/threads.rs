@@ -1,6 +1,6 @@
 //! A controller goes from thread to thread: behind a lock, and by a move.
 
-use dma::{Controller, Error, Events, Outcome, Segment, Status, TransferResult};
+use dma330::{Controller, Error, Events, Outcome, Segment, Status, TransferResult};
 use std::sync::{Barrier, Mutex, MutexGuard};
 use std::thread;
 

@@ -1,7 +1,6 @@
-use Rattle.std.proofs.Common.{◌≡◌, ◌+◌, ◌-◌, ◌<◌, ◌≤◌, ◌∙◌, Some, None, Option, Result, Ok, Err, ap, sym, subst, arith, inl, inr, refl, true, false}
+use Rattle.std.proofs.Common.{◌≡◌, ◌+◌, ◌-◌, ◌∙◌, Some, Result, Ok, Err, ap, sym, arith, inl, inr, refl}
 use Rattle.dma_engine.specs.declared.fault.EngineFault.{EngineFault}
 use Rattle.dma_engine.specs.declared.turn.Turn.{Turn}
-use Rattle.dma_ffi.specs.Told.{InARow, TakesSteps, goes_on}
 use Rattle.dma_ffi.specs.inner.InRow.{after_moves}
 use Rattle.dma_ffi.proofs.StepRows.{row_none, row_ok, row_err, first_refused, takes_then}
 use Rattle.dma_ffi.proofs.steps.take_steps.Goals as goal

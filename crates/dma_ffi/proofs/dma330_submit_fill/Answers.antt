@@ -4,7 +4,7 @@ use Rattle.dma_ffi.specs.Codes.{event_told}
 use Rattle.dma_ffi.specs.Reports.{segments_of}
 use Rattle.dma_ffi.specs.Told.{Asked, Tells, a_number, ask_fill}
 use Rattle.dma_ffi.proofs.Tells.{tells_fill, told_open}
-use Rattle.dma_ffi.proofs.dma_submit_fill.Goals as goal
+use Rattle.dma_ffi.proofs.dma330_submit_fill.Goals as goal
 
 pub returns : goal.returns
 returns c =

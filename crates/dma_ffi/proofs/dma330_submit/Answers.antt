@@ -5,7 +5,7 @@ use Rattle.dma_ffi.specs.Codes.{event_told}
 use Rattle.dma_ffi.specs.Reports.{segments_of}
 use Rattle.dma_ffi.specs.Told.{Tells, a_number, ask_copy, copying}
 use Rattle.dma_ffi.proofs.Tells.{tells_copy, told_open}
-use Rattle.dma_ffi.proofs.dma_submit.Goals as goal
+use Rattle.dma_ffi.proofs.dma330_submit.Goals as goal
 
 pub returns : goal.returns
 returns c =

@@ -1,0 +1,23 @@
+-- What a pointer to a channel owns that C keeps.
+use Rattle.std.specs.Prelude.{Option, None, Some}
+use base.Fml.{Fml, ftrue}
+use denote.RawPtr.{Ptr}
+use mir.Syntax.{Ty}
+use Rattle.std.specs.declared.alloc.Global.{Global}
+use Rattle.std.specs.contracts.impls.GlobalAllocator.TheImpl.{ghosts}
+use Rattle.std.specs.Box.Ownership.{box_owns}
+use Rattle.dma_ffi.specs.declared.marked_channel.MarkedChannel.{MarkedChannel}
+use Rattle.dma_ffi.specs.contracts.marked_channel.MarkedChannel.{the_row}
+
+-- the only handle of the heap
+abbrev pub heap_handle : Global
+heap_handle = record { memory = record { seal = tt } }
+
+-- the right to free a block of the heap
+abbrev pub may_free : Ty → Ptr → Fml
+may_free = ghosts.dealloc_token heap_handle
+
+-- a channel with its marks, of this value, lies there in a block of its own, which may be freed; or nothing is owned
+abbrev pub owned : Ptr → Option MarkedChannel → Fml
+owned p (Some x) = box_owns may_free the_row p x
+owned p None = ftrue

@@ -1,0 +1,351 @@
+/* Each row of channels.txt in three ways: as it is; each step a call of its own, before which the channel is saved and
+ * another one restored; and without memory after dma330_channel_open, but for a call that may be out of memory. Besides: a
+ * call that fails writes nothing and changes no register, each call has failed with each code that dma330.h names at it, and
+ * nothing is leaked. Link it with -Wl,--wrap=malloc,--wrap=realloc,--wrap=free */
+#include "heap.h"
+#include "rows.h"
+#include "words.h"
+
+#include <stdio.h>
+#include <string.h>
+
+enum { RAM_BYTES = 1 << 23, MOST_REGIONS = 16, MOST_MARKS = 16, ANSWER_ROOM = 4096, UNWRITTEN = 0xA5 };
+
+static enum { PLAIN, SAVED, WITHOUT_MEMORY, WAYS } way;
+static long passed, failed;
+
+static void count(int holds, const char *title, const char *line, const char *answer)
+{
+    passed += holds;
+    failed += !holds;
+    if (!holds)
+        printf("WRONG, way %d: %s: %s: answered %s\n", (int)way, title, line, answer);
+}
+
+static int is_empty; /* the heap */
+
+int refuses(void)
+{
+    return is_empty;
+}
+
+/* ---- a channel, and the memory and the flags of its caller ---- */
+
+static dma330_channel channel;
+static uint8_t ram[RAM_BYTES];
+static dma330_region regions[MOST_REGIONS];
+static uint32_t flags;
+static dma330_segment marks[MOST_MARKS];
+static uint32_t kinds[MOST_MARKS];
+static uint8_t kept[DMA330_MAX_SAVE];
+static size_t region_count, mark_count, kept_len;
+static arguments asked;
+
+/* What calls write. */
+static struct {
+    dma330_channel_report report;
+    dma330_registers registers;
+    size_t len;
+    uint8_t save[1 << 14];
+} told, blank;
+
+static void set_regions(const dma330_segment *list, size_t list_count)
+{
+    uint8_t *at = ram;
+    region_count = 0;
+    while (region_count < list_count && region_count < MOST_REGIONS) {
+        dma330_region *region = &regions[region_count];
+        region->addr = list[region_count].addr;
+        region->len = list[region_count++].len;
+        region->bytes = at;
+        memset(at, 0, region->len);
+        at += region->len;
+    }
+}
+
+static uint8_t *byte_at(uint32_t addr)
+{
+    size_t n;
+    for (n = 0; n < region_count; n++)
+        if (addr >= regions[n].addr && addr - regions[n].addr < regions[n].len)
+            return regions[n].bytes + (addr - regions[n].addr);
+    bad_line("no region has the address", "poke, peek or equal");
+    return NULL;
+}
+
+/* Another channel goes on in its place, from its save and with its marks. */
+static int goes_on_in_another(void)
+{
+    static uint8_t save[DMA330_MAX_SAVE];
+    dma330_channel next = DMA330_CHANNEL_INIT;
+    size_t len = 0, n;
+    int is_well = dma330_channel_save(&channel, save, sizeof save, &len) == DMA330_OK && len <= sizeof save &&
+                  dma330_channel_open(&next) == DMA330_OK && dma330_channel_restore(&next, save, len) == DMA330_OK;
+    for (n = 0; n < mark_count; n++)
+        is_well = is_well && dma330_channel_mark(&next, kinds[n], marks[n]) == DMA330_OK;
+    dma330_channel_close(&channel);
+    channel = next;
+    return is_well;
+}
+
+/* ---- the calls ---- */
+
+#define ASK(name, call, with) \
+    static int32_t ask_##name(void) \
+    { \
+        return dma330_channel_##call with; \
+    }
+ASK(open, open, (&channel))
+ASK(load_copy, load_copy, (&channel, asked.src, asked.src_count, asked.dst, asked.dst_count, asked.wait, asked.signal))
+ASK(load_fill, load_fill, (&channel, asked.numbers[0], asked.dst, asked.dst_count, asked.wait, asked.signal))
+ASK(load_program, load_program, (&channel, asked.bytes, asked.len))
+ASK(load_from, load_from, (&channel, regions, region_count, asked.numbers[0]))
+ASK(stop, stop, (&channel))
+ASK(registers, registers, (&channel, &told.registers))
+ASK(restore, restore, (&channel, kept, kept_len))
+ASK(restore_bytes, restore, (&channel, asked.bytes, asked.len))
+
+static int32_t ask_close(void)
+{
+    dma330_channel_close(&channel);
+    mark_count = 0;
+    return DMA330_OK;
+}
+
+static int32_t ask_load_text(void)
+{
+    static uint8_t program[DMA330_MAX_PROGRAM];
+    size_t len = 0, place = 0;
+    is_empty = 0;
+    if (dma330_assemble(asked.text, asked.text_len, program, sizeof program, &len, &place) != DMA330_OK)
+        bad_line("no program", asked.text);
+    is_empty = way == WITHOUT_MEMORY;
+    return dma330_channel_load_program(&channel, program, len);
+}
+
+static int32_t ask_step(void)
+{
+    uint32_t taken = 0, most = asked.numbers[0];
+    int32_t code;
+    if (way != SAVED || !channel.is_open)
+        return dma330_channel_step(&channel, regions, region_count, &flags, most, &told.report);
+    do {
+        if (!goes_on_in_another())
+            return DMA330_BAD_SAVE;
+        code = dma330_channel_step(&channel, regions, region_count, &flags, most > 0, &told.report);
+        if (code != DMA330_OK)
+            return code;
+        taken += told.report.taken;
+        if (told.report.turn == DMA330_CHANNEL_NO_STEP && taken > 0)
+            told.report.turn = DMA330_CHANNEL_MOVED; /* the one before */
+    } while (told.report.turn == DMA330_CHANNEL_MOVED && told.report.taken > 0 && taken < most);
+    told.report.taken = taken;
+    return code;
+}
+
+static int32_t ask_mark(void)
+{
+    dma330_segment range = {asked.numbers[1], asked.numbers[2]};
+    int32_t code = dma330_channel_mark(&channel, asked.numbers[0], range);
+    kinds[mark_count] = asked.numbers[0];
+    marks[mark_count] = range;
+    mark_count += code == DMA330_OK;
+    return code;
+}
+
+static int32_t ask_unmark(void)
+{
+    mark_count = 0;
+    return dma330_channel_unmark(&channel);
+}
+
+/* The save is kept. It fits exactly into as many bytes as it has. */
+static int32_t ask_save(void)
+{
+    int32_t code = dma330_channel_save(&channel, told.save, asked.numbers[0], &told.len);
+    if (code != DMA330_OK)
+        return code;
+    if (told.len > sizeof kept ||
+        dma330_channel_save(&channel, told.save, told.len - 1, &kept_len) != DMA330_BUFFER_TOO_SMALL)
+        return DMA330_BAD_SAVE;
+    return dma330_channel_save(&channel, kept, told.len, &kept_len);
+}
+
+/* Each beginning of the save, and the save with each byte changed. The answer is that of the last which isn't BAD_SAVE. */
+static int32_t ask_restore_damaged(void)
+{
+    int32_t code, answer = DMA330_BAD_SAVE;
+    size_t n;
+    for (n = 0; n < 2 * kept_len; n++) {
+        kept[n / 2] ^= 0x10;
+        code = dma330_channel_restore(&channel, kept, n % 2 ? n / 2 : kept_len);
+        kept[n / 2] ^= 0x10;
+        if (code != DMA330_BAD_SAVE)
+            answer = code;
+    }
+    return answer;
+}
+
+#define LISTS "EMPTY_LIST TOO_MANY_SEGMENTS EMPTY_SEGMENT SEGMENT_WRAPS TOO_LONG DESTINATIONS_MEET SOURCE_MEETS_DESTINATION "
+
+/* The codes are those that dma330.h names at the call, but NO_MEMORY where an open channel asks for none. */
+static const struct call {
+    const char *name;
+    const char *shape;
+    int32_t (*ask)(void);
+    const char *codes;
+} calls[] = {
+    {"open", "", ask_open, "OK ALREADY_OPEN NO_MEMORY"},
+    {"close", "", ask_close, "OK"},
+    {"load_copy", "sd", ask_load_copy, "OK NOT_OPEN " LISTS "TOTALS_DIFFER BAD_EVENT NO_MEMORY"},
+    {"load_fill", "nd", ask_load_fill, "OK NOT_OPEN " LISTS "BAD_EVENT NO_MEMORY"},
+    {"load_program", "b", ask_load_program, "OK NOT_OPEN PROGRAM_TOO_LONG"},
+    {"load_text", "t", ask_load_text, "OK"},
+    {"load_from", "n", ask_load_from, "OK NOT_OPEN BAD_REGIONS"},
+    {"step", "n", ask_step, "OK NOT_OPEN BAD_REGIONS NO_PROGRAM"},
+    {"stop", "", ask_stop, "OK NOT_OPEN"},
+    {"registers", "", ask_registers, "OK NOT_OPEN"},
+    {"mark", "knn", ask_mark, "OK NOT_OPEN BAD_KIND BAD_RANGE NO_MEMORY"},
+    {"unmark", "", ask_unmark, "OK NOT_OPEN"},
+    {"save", "n", ask_save, "OK NOT_OPEN BUFFER_TOO_SMALL"},
+    {"restore", "", ask_restore, "OK NOT_OPEN"},
+    {"restore_bytes", "b", ask_restore_bytes, "OK BAD_SAVE"},
+    {"restore_damaged", "", ask_restore_damaged, "BAD_SAVE"},
+};
+
+enum { CALLS = sizeof calls / sizeof calls[0] };
+
+static unsigned char answered[CALLS][MOST_CODES];
+
+static void compare_codes(void)
+{
+    int n, code;
+    for (n = 0; n < CALLS; n++)
+        for (code = 0; all_codes[code].name != NULL; code++) {
+            const char *name = all_codes[code].name;
+            int may = has_word(calls[n].codes, name), has = answered[n][code];
+            if ((may || has) && strcmp(name, "NO_MEMORY") != 0)
+                count(may == has, "all codes", calls[n].name, name);
+        }
+}
+
+/* ---- rows ---- */
+
+static void say_report(answer *said, const dma330_channel_report *r)
+{
+    static const named turns[] = {
+        {0, "NO_STEP"}, {1, "MOVED"}, {2, "WAITING"}, {3, "ENDED"}, {4, "FAULT"}, {5, "SIGNALLED"}, NO_MORE
+    };
+    say(said, " %lu %s", (unsigned long)r->taken, name_of(turns, r->turn));
+    if (r->turn == DMA330_CHANNEL_WAITING || r->turn == DMA330_CHANNEL_SIGNALLED || r->event != 0)
+        say(said, " %lu", (unsigned long)r->event);
+    if (r->turn == DMA330_CHANNEL_FAULT || r->fault != 0)
+        say(said, " %s", name_of(faults, r->fault));
+    say(said, " at %lu", (unsigned long)r->pc);
+}
+
+static void say_registers(answer *said, const dma330_registers *r)
+{
+    say(said, " %lu 0x%08lX 0x%08lX 0x%08lX %d %d %d %lu %lu", (unsigned long)r->pc, (unsigned long)r->sar,
+        (unsigned long)r->dar, (unsigned long)r->ccr, r->lc0, r->lc1, r->is_loaded, (unsigned long)r->taken,
+        (unsigned long)r->stored);
+}
+
+/* Makes a call, again where it is out of memory and may be. Returns whether one that fails keeps what it has to keep. */
+static int make_call(const struct call *c, int32_t *code)
+{
+    static dma330_registers before, after;
+    int is_well = 1, is_again;
+    memset(&blank, UNWRITTEN, sizeof blank);
+    do {
+        int32_t was = dma330_channel_registers(&channel, &before);
+        memcpy(&told, &blank, sizeof told);
+        *code = c->ask();
+        is_again = is_empty && *code == DMA330_NO_MEMORY && has_word(c->codes, "NO_MEMORY");
+        is_empty = 0;
+        if (*code >= 0)
+            break;
+        is_well = is_well && memcmp(&told, &blank, sizeof told) == 0 && dma330_channel_registers(&channel, &after) == was &&
+                  (was != DMA330_OK || memcmp(&before, &after, sizeof before) == 0);
+    } while (is_again);
+    if (index_of(*code) >= 0)
+        answered[c - calls][index_of(*code)] = 1;
+    return is_well;
+}
+
+/* Carries out a line of the caller's own. Returns whether it is one. */
+static int is_the_callers(const char *word, const char *rest, answer *said)
+{
+    static const char *const own[] = {"regions", "s", "poke", "nb", "peek", "nn", "equal", "nnn", "raise", "n", "flags", "",
+                                      "saved", ""};
+    const uint32_t *numbers = asked.numbers;
+    uint32_t n;
+    int line = 0;
+    while (line < 14 && strcmp(own[line], word) != 0)
+        line += 2;
+    if (line == 14)
+        return 0;
+    read_arguments(own[line + 1], rest, &asked);
+    say(said, "OK");
+    if (line == 0)
+        set_regions(asked.src, asked.src_count);
+    for (n = 0; line == 2 && n < asked.len; n++)
+        *byte_at(numbers[0] + n) = asked.bytes[n];
+    for (n = 0; line == 4 && n < numbers[1]; n++)
+        asked.bytes[n] = *byte_at(numbers[0] + n);
+    say_bytes(said, line == 4 ? asked.bytes : kept, line == 4 ? numbers[1] : line == 12 ? kept_len : 0);
+    if (line == 6 && memcmp(byte_at(numbers[0]), byte_at(numbers[1]), numbers[2]) != 0)
+        say(said, ", but not equal");
+    if (line == 8)
+        flags |= (uint32_t)1 << numbers[0];
+    if (line == 10)
+        say(said, " 0x%08lX", (unsigned long)flags);
+    return 1;
+}
+
+static void play_row(const group *of, const row *next)
+{
+    static char text[ANSWER_ROOM];
+    answer said = {text, sizeof text};
+    const char *rest = next->line;
+    const struct call *c = calls;
+    char word[32];
+    int is_well = 1;
+    int32_t code;
+    text[0] = '\0';
+    next_word(&rest, word, sizeof word);
+    if (!is_the_callers(word, rest, &said)) {
+        while (strcmp(c->name, word) != 0)
+            if (++c == calls + CALLS)
+                bad_line("no call", word);
+        read_arguments(c->shape, rest, &asked);
+        is_empty = way == WITHOUT_MEMORY;
+        is_well = make_call(c, &code);
+        say(&said, "%s", code_name(code));
+        if (code == DMA330_OK && c->ask == ask_step)
+            say_report(&said, &told.report);
+        if (code == DMA330_OK && c->ask == ask_registers)
+            say_registers(&said, &told.registers);
+    }
+    count(is_well && strcmp(text, next->answer) == 0, of->title, next->line, text);
+}
+
+int main(int words_count, char **words)
+{
+    const group *groups = read_groups(words_count > 1 ? words[1] : "channels.txt");
+    for (way = PLAIN; way < WAYS; way++) {
+        const group *of;
+        for (of = groups; of->title != NULL; of++) {
+            int n;
+            flags = 0;
+            region_count = mark_count = kept_len = 0;
+            for (n = 0; n < of->count; n++)
+                play_row(of, &of->rows[n]);
+            dma330_channel_close(&channel);
+            count(live_blocks == 0, of->title, "blocks that are leaked", "");
+        }
+    }
+    compare_codes();
+    printf("%ld passed, %ld failed\n", passed, failed);
+    return failed != 0;
+}

@@ -1,0 +1,442 @@
+/* A verified software DMA controller (ARM DMA-330, memory to memory) for programs in C, from C89 on, and in C++.
+ *
+ * It is linked with libdma330.a. docs/EMBEDDING.md says what a caller owes; in short:
+ * - A dma330_controller is DMA330_CONTROLLER_INIT (zeros) before its first call. Its members are never touched. While it is
+ *   open it is never copied; it may be moved, and the first is then zeros before it is used again.
+ * - Its calls come one after another. Threads that share one take turns by a lock.
+ * - No pointer is null, not even one to no elements, and no two of a call overlap, but for lists that are only read. While a
+ *   call runs nobody else writes what its pointers point to, or reads what it writes.
+ *
+ * A call answers DMA330_OK, or a negative code: the first that applies of those that its comment names, in their order. A
+ * call that is refused changes nothing and writes no output; but DMA330_NOT_OPEN comes before all others, DMA330_NO_MEMORY
+ * may come in each place where it is named, `*place` is written where the code names a place, and `*conflict` where it is
+ * DMA330_BUSY or DMA330_RUNNING. */
+#ifndef DMA330_H
+#define DMA330_H
+
+#include <stddef.h>
+#include <stdint.h>
+
+#ifdef __cplusplus
+extern "C" {
+#endif
+
+/* What dma330_version writes, and room for what it writes in any version. */
+#define DMA330_VERSION "dilkwafam 1.0"
+#define DMA330_MAX_VERSION 32
+
+/* A controller that isn't open: dma330_controller controller = DMA330_CONTROLLER_INIT; (or one cleared by memset) */
+#define DMA330_CONTROLLER_INIT {0, 0}
+
+/* A channel that isn't open, in the same way. */
+#define DMA330_CHANNEL_INIT {0, 0}
+
+/* No event to wait for, or to signal; so is each other negative number. */
+#define DMA330_NO_EVENT (-1)
+
+/* The most segments of a list, bytes of a transfer, bytes of a program, channels of a controller, regions of the caller's
+ * memory, and bytes of a channel's save. */
+#define DMA330_MAX_SEGMENTS 64
+#define DMA330_MAX_BYTES 1048576
+#define DMA330_MAX_PROGRAM 8192
+#define DMA330_MAX_CHANNELS 8
+#define DMA330_MAX_REGIONS 8
+#define DMA330_MAX_SAVE 8500
+
+/* Room for the text of a program of so many bytes. */
+#define DMA330_MAX_TEXT(bytes) (9 * (bytes))
+
+#if defined(__GNUC__)
+#define DMA330_NO_NULLS __attribute__((nonnull))
+#else
+#define DMA330_NO_NULLS
+#endif
+
+/* A controller, which the caller keeps; its members are the library's own. */
+typedef struct dma330_controller {
+    void *engine;
+    uint8_t is_open;
+} dma330_controller;
+
+/* The addresses from addr up to, and not including, addr + len. */
+typedef struct dma330_segment {
+    uint32_t addr;
+    uint32_t len;
+} dma330_segment;
+
+/* How a transfer finished. */
+typedef struct dma330_outcome {
+    uint32_t result;  /* enum dma330_result_code */
+    uint32_t residue; /* how many of its bytes were not stored */
+} dma330_outcome;
+
+/* The running transfer that DMA330_BUSY or DMA330_RUNNING names: of several the one on the lowest channel. */
+typedef struct dma330_conflict {
+    uint32_t channel;
+    uint32_t cookie;
+} dma330_conflict;
+
+/* What runs on a channel: a transfer, from the step that starts it to the one that finishes it or the call that terminates
+ * it, also while it waits for an event. */
+typedef struct dma330_run {
+    uint32_t cookie;
+    uint32_t stored; /* how many of its bytes are stored so far */
+} dma330_run;
+
+/* What dma330_step did. A member that isn't said to be of the turn is 0. */
+typedef struct dma330_report {
+    uint32_t taken;   /* how many steps were taken, the last one too, whatever it did */
+    uint32_t turn;    /* what the last one did: enum dma330_turn */
+    uint32_t channel; /* of DMA330_HELD: the channel of the transfer in the way */
+    uint32_t cookie;  /* of DMA330_STARTED and DMA330_FINISHED; of DMA330_HELD that of the transfer in the way */
+    uint32_t event;   /* of DMA330_WAITING */
+    uint32_t result;  /* of DMA330_FINISHED: enum dma330_result_code, but DMA330_ABORTED, which dma330_terminate counts */
+    uint32_t residue; /* of DMA330_FINISHED: how many of its bytes were not stored */
+} dma330_report;
+
+/* A part of the caller's memory, whose first byte is at address `addr`. */
+typedef struct dma330_region {
+    uint32_t addr;
+    uint8_t *bytes;
+    size_t len;
+} dma330_region;
+
+/* A channel, which the caller keeps and steps over memory of its own; its members are the library's own. */
+typedef struct dma330_channel {
+    void *channel;
+    uint8_t is_open;
+} dma330_channel;
+
+/* What dma330_channel_step did. A member that isn't said to be of the turn is 0. */
+typedef struct dma330_channel_report {
+    uint32_t taken; /* how many steps were taken, the last one included, whatever it did */
+    uint32_t turn;  /* what the last one did: enum dma330_channel_turn */
+    uint32_t event; /* of DMA330_CHANNEL_SIGNALLED: whose flag was set; of DMA330_CHANNEL_WAITING: for which it waits */
+    uint32_t fault; /* of DMA330_CHANNEL_FAULT: enum dma330_fault */
+    uint32_t pc;    /* the offset of the next instruction: of WAITING and FAULT of the one that waits or failed, of ENDED
+                     * of the DMAEND */
+} dma330_channel_report;
+
+/* A channel's registers and counts. */
+typedef struct dma330_registers {
+    uint32_t pc; /* the offset of the next instruction in the program */
+    uint32_t sar;
+    uint32_t dar;
+    uint32_t ccr;
+    uint8_t lc0;
+    uint8_t lc1;
+    uint8_t is_loaded; /* 1 where it has a program, else 0 */
+    uint32_t taken;    /* how many instructions were executed since the program was loaded, DMAEND included */
+    uint64_t stored;   /* how many bytes were stored since then */
+} dma330_registers;
+
+/* How a program that was run alone ended. A member that isn't said to be of the end is 0. */
+typedef struct dma330_run_end {
+    uint32_t end;   /* enum dma330_end */
+    uint32_t turns; /* of DMA330_END_ENDED: how many instructions were executed, DMAEND too */
+    uint32_t event; /* of DMA330_END_WAITING */
+    uint32_t fault; /* of DMA330_END_FAULT: enum dma330_fault */
+    uint32_t pc;    /* of DMA330_END_FAULT: the offset of the instruction */
+} dma330_run_end;
+
+/* What the last of some steps did. A halted channel is told as halted, paused or not; else a paused one as paused, whatever
+ * it has to do. */
+enum dma330_turn {
+    DMA330_NO_STEP = 0,  /* none was asked for */
+    DMA330_STARTED = 1,  /* the channel's next transfer runs from now on */
+    DMA330_MOVED = 2,    /* one instruction was executed */
+    DMA330_NOTHING = 3,  /* no transfer is issued and unfinished */
+    DMA330_HELD = 4,     /* the next transfer can't start: a running one conflicts, of several that on the lowest channel */
+    DMA330_WAITING = 5,  /* for an event whose flag is clear */
+    DMA330_PAUSED = 6,   /* until dma330_resume or dma330_terminate */
+    DMA330_HALTED = 7,   /* by a transfer that failed, until dma330_terminate */
+    DMA330_FINISHED = 8
+};
+
+/* What the last of some steps of a channel over the caller's memory did. */
+enum dma330_channel_turn {
+    DMA330_CHANNEL_NO_STEP = 0,  /* `most` was 0, or 4294967295 instructions were executed since the load */
+    DMA330_CHANNEL_MOVED = 1,    /* an instruction was executed */
+    DMA330_CHANNEL_WAITING = 2,  /* for an event whose flag is clear; it has changed nothing */
+    DMA330_CHANNEL_ENDED = 3,    /* it was DMAEND: the program is gone */
+    DMA330_CHANNEL_FAULT = 4,    /* the instruction failed; it has changed nothing */
+    DMA330_CHANNEL_SIGNALLED = 5 /* it was DMASEV: the flag of `event` is set */
+};
+
+/* How a transfer finished: the numbers of Linux's enum dmaengine_tx_result. */
+enum dma330_result_code {
+    DMA330_NO_ERROR = 0,
+    DMA330_READ_FAILED = 1,  /* a burst met a mark of reading */
+    DMA330_WRITE_FAILED = 2, /* a burst met a mark of writing */
+    DMA330_ABORTED = 3       /* by dma330_terminate */
+};
+
+/* How far a cookie is; one that isn't issued yet is in progress, and one that failed or was aborted is complete. */
+enum dma330_state { DMA330_UNKNOWN = 0, DMA330_IN_PROGRESS = 1, DMA330_COMPLETE = 2 };
+
+enum dma330_mark_kind { DMA330_MARK_READING = 0, DMA330_MARK_WRITING = 1 };
+
+/* How a program that was run alone ended. */
+enum dma330_end { DMA330_END_ENDED = 1, DMA330_END_OUT_OF_TURNS = 2, DMA330_END_WAITING = 3, DMA330_END_FAULT = 4 };
+
+/* The manual's faults of a channel. */
+enum dma330_fault {
+    DMA330_UNDEF_INSTR = 1,
+    DMA330_OPERAND_INVALID = 2,
+    DMA330_MFIFO_ERR = 3,
+    DMA330_ST_DATA_UNAVAILABLE = 4,
+    DMA330_INSTR_FETCH_ERR = 5,
+    DMA330_DATA_WRITE_ERR = 6,
+    DMA330_DATA_READ_ERR = 7
+};
+
+/* What a call answers. */
+enum dma330_code {
+    DMA330_OK = 0,
+    DMA330_NOT_OPEN = -1,             /* the controller or the channel is zeroed or closed */
+    DMA330_ALREADY_OPEN = -2,         /* dma330_open or dma330_channel_open of one that is open */
+    DMA330_NO_MEMORY = -3,            /* malloc or realloc refused */
+    DMA330_BAD_EVENT = -4,            /* an event is above 31 */
+    DMA330_BAD_KIND = -5,             /* a kind of mark is neither 0 nor 1 */
+    DMA330_NO_RESULT = -6,            /* the cookie hasn't finished, was never given, or its result is forgotten */
+    DMA330_NOT_RUNNING = -7,          /* nothing runs on the channel, or there is no such channel */
+    DMA330_BUFFER_TOO_SMALL = -8,     /* what is to be written has more bytes than there is room */
+    DMA330_NO_PROGRAM = -9,           /* the channel has no program */
+    DMA330_OUT_OF_MEMORY_RANGE = -10, /* a range or a segment ends above the memory's size */
+    DMA330_BUSY = -11,                /* a running transfer is in the way */
+    DMA330_NO_CHANNEL = -12,          /* the channel's number isn't below the number of channels */
+    DMA330_COOKIES_SPENT = -13,       /* the channel has given cookie 2147483647 */
+    DMA330_STEPS_SPENT = -14,         /* an instruction is due, and the step count is 2^64 - 1 */
+    DMA330_BAD_RANGE = -15,           /* a range to be marked is empty, or ends above 2^32 */
+    DMA330_RUNNING = -16,             /* a checkpoint, and a transfer runs */
+    DMA330_BAD_CHANNELS = -20,        /* the number of channels isn't 1 to 8 */
+    DMA330_SIZE_OUT_OF_RANGE = -21,   /* the size of a memory isn't 1 to 4294963200 */
+    DMA330_BAD_REGIONS = -22,         /* more than 8 regions, or not in rising order, or two share an address, or one ends above
+                                       * 4294963200 */
+    DMA330_EMPTY_LIST = -30,          /* a list has no segment */
+    DMA330_TOO_MANY_SEGMENTS = -31,   /* a list has more than 64 segments */
+    DMA330_EMPTY_SEGMENT = -32,       /* a segment has length 0 */
+    DMA330_SEGMENT_WRAPS = -33,       /* a segment ends above 2^32 */
+    DMA330_TOTALS_DIFFER = -34,       /* the lists have different numbers of bytes */
+    DMA330_TOO_LONG = -35,            /* a list has more than 1048576 bytes */
+    DMA330_DESTINATIONS_MEET = -36,   /* two destination segments share an address */
+    DMA330_SOURCE_MEETS_DESTINATION = -37, /* a source and a destination segment share an address */
+    DMA330_PROGRAM_TOO_LONG = -40,    /* a program has more than 8192 bytes */
+    DMA330_BAD_SAVE = -42,            /* the bytes are no save of a channel */
+    DMA330_BAD_MNEMONIC = -50,        /* assembly: no instruction has this name */
+    DMA330_BAD_OPERAND = -51,         /* assembly: an operand is missing, of a wrong form, or one too many */
+    DMA330_NUMBER_OUT_OF_RANGE = -52, /* assembly: a number is outside its range */
+    DMA330_CUT_INSTRUCTION = -60,     /* disassembly: the bytes end within an instruction */
+    DMA330_UNKNOWN_INSTRUCTION = -61, /* disassembly: no instruction begins with this byte */
+    DMA330_BAD_FIELD = -62            /* disassembly: a field is outside its range */
+};
+
+/* ---- a controller and its memory ---- */
+
+/* Opens a controller over a memory of `size` zeros with so many channels: ALREADY_OPEN, BAD_CHANNELS, SIZE_OUT_OF_RANGE,
+ * NO_MEMORY. */
+int32_t dma330_open(dma330_controller *controller, uint32_t size, uint8_t channels) DMA330_NO_NULLS;
+
+/* Frees what an open controller holds, and leaves one that may be opened again; of another one it does nothing. */
+void dma330_close(dma330_controller *controller) DMA330_NO_NULLS;
+
+/* Writes bytes into the memory from an address on: OUT_OF_MEMORY_RANGE, BUSY where a running transfer reads or writes one of
+ * the addresses, NO_MEMORY. */
+int32_t dma330_write(dma330_controller *controller, uint32_t addr, const uint8_t *bytes, size_t len,
+                     dma330_conflict *conflict) DMA330_NO_NULLS;
+
+/* Reads `len` bytes of the memory from an address on: OUT_OF_MEMORY_RANGE, BUSY where a running transfer writes one of the
+ * addresses, NO_MEMORY. */
+int32_t dma330_read(dma330_controller *controller, uint32_t addr, uint8_t *out, size_t len,
+                    dma330_conflict *conflict) DMA330_NO_NULLS;
+
+/* ---- transfers ---- */
+
+/* Gives a channel a copy of the source list's bytes to the places of the destination list, perhaps with an event to wait
+ * for before it and one to signal once all is stored, and writes its cookie, 1 for the first of the channel, without
+ * starting it; each list's rule is tested over both lists before the next: EMPTY_LIST, TOO_MANY_SEGMENTS, EMPTY_SEGMENT,
+ * SEGMENT_WRAPS, TOTALS_DIFFER, TOO_LONG, DESTINATIONS_MEET, SOURCE_MEETS_DESTINATION, BAD_EVENT, NO_MEMORY, NO_CHANNEL,
+ * OUT_OF_MEMORY_RANGE, COOKIES_SPENT, NO_MEMORY. */
+int32_t dma330_submit(dma330_controller *controller, uint8_t channel, const dma330_segment *src, size_t src_count,
+                      const dma330_segment *dst, size_t dst_count, int32_t wait, int32_t signal,
+                      uint32_t *cookie) DMA330_NO_NULLS;
+
+/* Gives a channel a fill, which copies the byte at address `src` to every place of the destination list, as dma330_submit
+ * gives a copy, with its codes but for TOTALS_DIFFER. */
+int32_t dma330_submit_fill(dma330_controller *controller, uint8_t channel, uint32_t src, const dma330_segment *dst,
+                           size_t dst_count, int32_t wait, int32_t signal, uint32_t *cookie) DMA330_NO_NULLS;
+
+/* Issues all that was submitted to a channel, so that it may start, and writes how many became so: NO_CHANNEL, NO_MEMORY. */
+int32_t dma330_issue(dma330_controller *controller, uint8_t channel, uint32_t *count) DMA330_NO_NULLS;
+
+/* Holds the steps of a channel, of which one that is paused stays so: NO_CHANNEL. */
+int32_t dma330_pause(dma330_controller *controller, uint8_t channel) DMA330_NO_NULLS;
+
+/* Lets the steps of a paused channel go on: NO_CHANNEL. */
+int32_t dma330_resume(dma330_controller *controller, uint8_t channel) DMA330_NO_NULLS;
+
+/* Aborts all that is unfinished on a channel, issued or not, whose stored bytes stay stored, ends its pause and its halt,
+ * and writes how many were aborted, a transfer that failed not among them: NO_CHANNEL, NO_MEMORY. */
+int32_t dma330_terminate(dma330_controller *controller, uint8_t channel, uint32_t *count) DMA330_NO_NULLS;
+
+/* Steps a channel until `most` steps were taken or one neither starts nor moves, and answers the refusal of the first step,
+ * NO_CHANNEL, STEPS_SPENT or NO_MEMORY; where a later one is refused, those before it stand and are told with DMA330_OK, and
+ * the next call takes that step again, or answers its refusal if the cause still holds. With `most` 0 nothing is refused
+ * but a controller that isn't open. */
+int32_t dma330_step(dma330_controller *controller, uint8_t channel, uint32_t most, dma330_report *report) DMA330_NO_NULLS;
+
+/* ---- what is known of them ---- */
+
+/* Answers how far a cookie is, an enum dma330_state, or NOT_OPEN: DMA330_UNKNOWN for one that was never given, or where no
+ * such channel is. */
+int32_t dma330_status(dma330_controller *controller, uint8_t channel, uint32_t cookie) DMA330_NO_NULLS;
+
+/* Tells how a cookie finished: NO_RESULT. */
+int32_t dma330_result(dma330_controller *controller, uint8_t channel, uint32_t cookie,
+                      dma330_outcome *outcome) DMA330_NO_NULLS;
+
+/* Tells what runs on a channel: NOT_RUNNING. */
+int32_t dma330_running(dma330_controller *controller, uint8_t channel, dma330_run *running) DMA330_NO_NULLS;
+
+/* Counts the cookies of a channel that are not finished, 0 where there is no such channel. */
+int32_t dma330_unfinished(dma330_controller *controller, uint8_t channel, uint32_t *count) DMA330_NO_NULLS;
+
+/* Counts the cookies of a channel, from cookie 1 on, whose results checkpoints have forgotten, 0 where there is no such
+ * channel. */
+int32_t dma330_forgotten(dma330_controller *controller, uint8_t channel, uint32_t *count) DMA330_NO_NULLS;
+
+/* Counts the steps that moved or finished, on all channels since the controller was opened: not those that started a
+ * transfer or did nothing, which `taken` counts. */
+int32_t dma330_steps(dma330_controller *controller, uint64_t *steps) DMA330_NO_NULLS;
+
+/* Counts the entries of the history. docs/EMBEDDING.md says which calls add one. */
+int32_t dma330_history_entries(dma330_controller *controller, uint64_t *count) DMA330_NO_NULLS;
+
+/* Counts the bytes that the history keeps, of writes and of reads. It looks at each entry. */
+int32_t dma330_history_bytes(dma330_controller *controller, uint64_t *count) DMA330_NO_NULLS;
+
+/* Counts the transfers that run, on all channels. */
+int32_t dma330_running_count(dma330_controller *controller, uint32_t *count) DMA330_NO_NULLS;
+
+/* ---- marks, events, the history ---- */
+
+/* Marks a range, below the memory's size or not, in which bursts of that kind fail from then on: BAD_KIND, BAD_RANGE,
+ * NO_MEMORY. */
+int32_t dma330_mark(dma330_controller *controller, uint32_t kind, dma330_segment range) DMA330_NO_NULLS;
+
+/* Removes all marks: NO_MEMORY. */
+int32_t dma330_unmark(dma330_controller *controller) DMA330_NO_NULLS;
+
+/* Sets the flag of an event, which lets one transfer pass that waits for it: BAD_EVENT, NO_MEMORY. */
+int32_t dma330_raise(dma330_controller *controller, uint8_t event) DMA330_NO_NULLS;
+
+/* Drops the history of the calls, with the results of what has finished, and gives its memory back: RUNNING, NO_MEMORY. */
+int32_t dma330_checkpoint(dma330_controller *controller, dma330_conflict *conflict) DMA330_NO_NULLS;
+
+/* ---- a channel over the caller's memory ----
+ *
+ * A channel needs no controller. Its program's instructions read and write the caller's memory in place, which is lent for the
+ * time of a call as regions: an array that rises by address, in which the `bytes` of no region are null. Between calls memory
+ * and flags are the caller's, to read and to write. Several channels may be stepped in turn over the same memory and flags.
+ * Each call but open and close fails with NOT_OPEN where the channel isn't open; a call that fails changes nothing. An open
+ * channel keeps memory for the longest program, so that load_program, load_from and restore ask for none and don't fail with
+ * NO_MEMORY: that is tested, and not proved. */
+
+/* Opens a channel without a program and without marks, with room for the longest program: ALREADY_OPEN, NO_MEMORY. */
+int32_t dma330_channel_open(dma330_channel *channel) DMA330_NO_NULLS;
+
+/* Frees what an open channel holds, and leaves one that may be opened again; of another one it does nothing. */
+void dma330_channel_close(dma330_channel *channel) DMA330_NO_NULLS;
+
+/* Loads the program of a copy in place of what was there, with registers and counts at 0: the codes of dma330_submit up to
+ * the first NO_MEMORY. */
+int32_t dma330_channel_load_copy(dma330_channel *channel, const dma330_segment *src, size_t src_count,
+                                 const dma330_segment *dst, size_t dst_count, int32_t wait, int32_t signal) DMA330_NO_NULLS;
+
+/* Loads the program of a fill in the same way, with its codes but for TOTALS_DIFFER. */
+int32_t dma330_channel_load_fill(dma330_channel *channel, uint32_t src, const dma330_segment *dst, size_t dst_count,
+                                 int32_t wait, int32_t signal) DMA330_NO_NULLS;
+
+/* Loads a program's bytes in the same way, which are read now and not again: PROGRAM_TOO_LONG, NO_MEMORY. */
+int32_t dma330_channel_load_program(dma330_channel *channel, const uint8_t *program, size_t len) DMA330_NO_NULLS;
+
+/* Loads the program that begins at `addr` of the memory in the same way: the bytes from there up to the end of the region,
+ * 8192 at most. There are none where no region has the address, and the first step then fails with DMA330_INSTR_FETCH_ERR:
+ * BAD_REGIONS, NO_MEMORY. */
+int32_t dma330_channel_load_from(dma330_channel *channel, const dma330_region *regions, size_t region_count,
+                                 uint32_t addr) DMA330_NO_NULLS;
+
+/* Takes at most `most` steps over the regions and the flags of events 0 to 31, the bits of `*flags`, up to one that doesn't
+ * move or that sets a flag, so that the caller can raise an interrupt: BAD_REGIONS, NO_PROGRAM. Loads outside the regions
+ * fail with DMA330_DATA_READ_ERR, stores with DMA330_DATA_WRITE_ERR. */
+int32_t dma330_channel_step(dma330_channel *channel, dma330_region *regions, size_t region_count, uint32_t *flags,
+                            uint32_t most, dma330_channel_report *report) DMA330_NO_NULLS;
+
+/* Drops the program, if there is one. Registers and counts stay. */
+int32_t dma330_channel_stop(dma330_channel *channel) DMA330_NO_NULLS;
+
+/* Writes the registers and counts. */
+int32_t dma330_channel_registers(dma330_channel *channel, dma330_registers *registers) DMA330_NO_NULLS;
+
+/* Marks a range, in the memory or not, at which loads or stores of this channel fail from then on, an
+ * enum dma330_mark_kind: BAD_KIND, BAD_RANGE, NO_MEMORY. */
+int32_t dma330_channel_mark(dma330_channel *channel, uint32_t kind, dma330_segment range) DMA330_NO_NULLS;
+
+/* Removes the marks of this channel. */
+int32_t dma330_channel_unmark(dma330_channel *channel) DMA330_NO_NULLS;
+
+/* Writes all that the channel is, but for its marks, as plain bytes, and how many these are, DMA330_MAX_SAVE at most:
+ * BUFFER_TOO_SMALL. */
+int32_t dma330_channel_save(dma330_channel *channel, uint8_t *out, size_t room, size_t *len) DMA330_NO_NULLS;
+
+/* Makes the channel the one of a save, which has no marks. The marks of this channel stay: BAD_SAVE, NO_MEMORY. */
+int32_t dma330_channel_restore(dma330_channel *channel, const uint8_t *save, size_t len) DMA330_NO_NULLS;
+
+/* ---- without a controller ----
+ *
+ * Programs have the instructions that docs/EMBEDDING.md lists, those of copies from memory to memory, and a text is one of
+ * them a line, in capital letters: DMAMOV SAR 0x00001000 (eight digits), DMALP 0 16, DMASEV 3. */
+
+/* Writes DMA330_VERSION with a zero byte behind it, and its length without that: BUFFER_TOO_SMALL. */
+int32_t dma330_version(char *out, size_t room, size_t *len) DMA330_NO_NULLS;
+
+/* Runs a program's bytes alone over the caller's memory, with no marks and all flags clear, for at most `limit`
+ * instructions, and tells how it ended: SIZE_OUT_OF_RANGE, PROGRAM_TOO_LONG, NO_MEMORY. */
+int32_t dma330_run_program(const uint8_t *program, size_t len, uint8_t *memory, size_t size, uint32_t limit,
+                           dma330_run_end *end) DMA330_NO_NULLS;
+
+/* Writes the bytes of the program that a text says, and their number; the first line with a fault, which may be that it goes
+ * past 8192 bytes, is told by its code and its number from 1 in `*place`: BAD_MNEMONIC, BAD_OPERAND, NUMBER_OUT_OF_RANGE,
+ * PROGRAM_TOO_LONG; NO_MEMORY, BUFFER_TOO_SMALL. */
+int32_t dma330_assemble(const char *text, size_t text_len, uint8_t *out, size_t room, size_t *len,
+                        size_t *place) DMA330_NO_NULLS;
+
+/* Writes the text of a program, each line ended by a line feed and no zero byte behind it, and its length; of the first
+ * bytes that begin no instruction `*place` is the offset: CUT_INSTRUCTION, UNKNOWN_INSTRUCTION, BAD_FIELD; NO_MEMORY,
+ * BUFFER_TOO_SMALL. */
+int32_t dma330_disassemble(const uint8_t *program, size_t len, char *out, size_t room, size_t *text_len,
+                           size_t *place) DMA330_NO_NULLS;
+
+/* ---- what the library takes for granted of these types ---- */
+
+#define DMA330_ASSERT(name, holds) typedef char dma330_assert_##name[(holds) ? 1 : -1]
+DMA330_ASSERT(pointers, sizeof(void *) == 8 && sizeof(size_t) == 8);
+DMA330_ASSERT(controller, sizeof(dma330_controller) == 16 && offsetof(dma330_controller, is_open) == 8);
+DMA330_ASSERT(segment, sizeof(dma330_segment) == 8 && offsetof(dma330_segment, len) == 4);
+DMA330_ASSERT(outcome, sizeof(dma330_outcome) == 8 && offsetof(dma330_outcome, residue) == 4);
+DMA330_ASSERT(conflict, sizeof(dma330_conflict) == 8 && offsetof(dma330_conflict, cookie) == 4);
+DMA330_ASSERT(run, sizeof(dma330_run) == 8 && offsetof(dma330_run, stored) == 4);
+DMA330_ASSERT(report, sizeof(dma330_report) == 28 && offsetof(dma330_report, residue) == 24);
+DMA330_ASSERT(region, sizeof(dma330_region) == 24 && offsetof(dma330_region, bytes) == 8 && offsetof(dma330_region, len) == 16);
+DMA330_ASSERT(channel, sizeof(dma330_channel) == 16 && offsetof(dma330_channel, is_open) == 8);
+DMA330_ASSERT(channel_report, sizeof(dma330_channel_report) == 20 && offsetof(dma330_channel_report, pc) == 16);
+DMA330_ASSERT(registers, sizeof(dma330_registers) == 32 && offsetof(dma330_registers, is_loaded) == 18
+              && offsetof(dma330_registers, taken) == 20 && offsetof(dma330_registers, stored) == 24);
+DMA330_ASSERT(run_end, sizeof(dma330_run_end) == 20 && offsetof(dma330_run_end, pc) == 16);
+#undef DMA330_ASSERT
+
+#ifdef __cplusplus
+}
+#endif
+
+#endif

@@ -1,0 +1,71 @@
+/* The words of the lines of rows.txt and channels.txt, and those of their answers. */
+#ifndef WORDS_H
+#define WORDS_H
+
+#include "dma330.h"
+
+enum { MOST_BYTES = 16384, MOST_TEXT = 1 << 16, MOST_SEGMENTS = 80, MOST_CODES = 64 };
+
+/* A number of dma330.h and its name there, without what all of its enum begin with. */
+typedef struct named {
+    int32_t number;
+    const char *name;
+} named;
+
+#define NAMED(name) {DMA330_##name, #name}
+#define NO_MORE {0, NULL}
+
+/* All codes, and all faults. The last has no name. */
+extern const named all_codes[];
+extern const named faults[];
+
+/* The name of a number, ? where it has none. */
+const char *name_of(const named *names, uint32_t number);
+
+/* The code's name, without the DMA330_. */
+const char *code_name(int32_t code);
+
+/* The place of a code in the list of all, or -1. */
+int index_of(int32_t code);
+
+/* What a line says. */
+typedef struct arguments {
+    uint8_t channel;
+    uint32_t numbers[3];
+    dma330_segment src[MOST_SEGMENTS];
+    dma330_segment dst[MOST_SEGMENTS];
+    size_t src_count;
+    size_t dst_count;
+    int32_t wait;
+    int32_t signal;
+    uint8_t bytes[MOST_BYTES];
+    size_t len;
+    char text[MOST_TEXT];
+    size_t text_len;
+} arguments;
+
+/* Ends the program: the file is wrong. */
+void bad_line(const char *why, const char *what);
+
+/* The next word, empty at the end. */
+void next_word(const char **at, char *word, size_t room);
+
+/* Reads what the shape asks for: c a channel, k a kind of mark, n a number, b bytes, t text, s a list of sources, d the word
+ * 'to', a list of destinations, and events. */
+void read_arguments(const char *shape, const char *at, arguments *a);
+
+/* Whether a code is one of the words. */
+int has_word(const char *words, const char *code);
+
+/* An answer that is written. */
+typedef struct answer {
+    char *at;
+    size_t room;
+} answer;
+
+void say(answer *said, const char *format, ...);
+
+/* Bytes in pairs of digits, more than 16 like ones as XX*N. */
+void say_bytes(answer *said, const uint8_t *bytes, size_t len);
+
+#endif

@@ -1,0 +1,212 @@
+//! A channel alone, over memory and event flags of its caller.
+
+use crate::{event, fault_of, named, number_of, small, sys, Error, Events, Fault, MarkKind, Region, Segment};
+use std::fmt;
+
+/// What the last of some steps of a [`Channel`] did.
+#[derive(Clone, Copy, Debug, PartialEq, Eq, Hash)]
+pub enum ChannelTurn {
+    /// None was taken: none was asked for, or 4294967295 instructions were executed since the load.
+    NoStep,
+    /// An instruction was executed.
+    Moved,
+    /// The program waits for an event whose flag is clear. Nothing has changed.
+    Waiting {
+        /// The event.
+        event: u8,
+    },
+    /// It was DMAEND: the program is gone.
+    Ended,
+    /// The instruction failed. Nothing has changed.
+    Fault {
+        /// How.
+        fault: Fault,
+    },
+    /// It was DMASEV: the flag of an event is set.
+    Signalled {
+        /// The event.
+        event: u8,
+    },
+}
+
+/// What some steps of a [`Channel`] did.
+#[derive(Clone, Copy, Debug, PartialEq, Eq, Hash)]
+pub struct ChannelSteps {
+    /// How many were taken, the last one included, whatever it did.
+    pub taken: u32,
+    /// What the last one did.
+    pub last: ChannelTurn,
+    /// The offset of the next instruction in the program, which is the one that waits or failed, where it did.
+    pub pc: u32,
+}
+
+/// The registers and counts of a [`Channel`].
+#[derive(Clone, Copy, Debug, PartialEq, Eq, Hash)]
+pub struct Registers {
+    /// The offset of the next instruction in the program.
+    pub pc: u32,
+    /// The next source address.
+    pub sar: u32,
+    /// The next destination address.
+    pub dar: u32,
+    /// The control word.
+    pub ccr: u32,
+    /// Loop counter 0.
+    pub lc0: u8,
+    /// Loop counter 1.
+    pub lc1: u8,
+    /// Whether there is a program.
+    pub is_loaded: bool,
+    /// How many instructions were executed since the program was loaded, DMAEND included.
+    pub taken: u32,
+    /// How many bytes were stored since then.
+    pub stored: u64,
+}
+
+fn turn_of(report: &sys::RawChannelReport) -> ChannelTurn {
+    let event = small(report.event);
+    match report.turn {
+        4 => ChannelTurn::Fault { fault: fault_of(report.fault) },
+        5 => ChannelTurn::Signalled { event },
+        turn => named(&[ChannelTurn::NoStep, ChannelTurn::Moved, ChannelTurn::Waiting { event }, ChannelTurn::Ended], turn),
+    }
+}
+
+/// A channel that runs a program over memory of its caller, for as many steps as the caller asks for.
+///
+/// The memory is lent for the time of a call, in up to 8 regions, so an emulator steps channels over its guest's RAM. No copy of
+/// it is kept. The flags of events 0 to 31 are the bits of a number of the caller. The channel is closed when it is dropped.
+///
+/// ```
+/// use dma330::{assemble, Channel, ChannelSteps, ChannelTurn, Region};
+///
+/// let mut ram = vec![0; 0x1000];
+/// ram[0x100..0x104].copy_from_slice(&[1, 2, 3, 4]);
+/// let mut flags = 0;
+/// let text = "DMAMOV SAR 0x80000100\nDMAMOV DAR 0x80000200\nDMAMOV CCR 0x00014005\nDMALD\nDMAST\nDMASEV 3\nDMAEND";
+/// let mut channel = Channel::open()?;
+/// channel.load_program(&assemble(text)?)?;
+/// let steps = channel.step(&mut [Region::new(0x8000_0000, &mut ram)], &mut flags, 4)?;
+/// assert_eq!(steps, ChannelSteps { taken: 4, last: ChannelTurn::Moved, pc: 19 });
+/// // the program is between its load and its store
+/// ram[0x100] = 9;
+/// let steps = channel.step(&mut [Region::new(0x8000_0000, &mut ram)], &mut flags, 100)?;
+/// assert_eq!(steps.last, ChannelTurn::Signalled { event: 3 });
+/// assert_eq!((flags, &ram[0x200..0x204]), (1 << 3, &[1, 2, 3, 4][..]));
+/// # Ok::<(), dma330::Error>(())
+/// ```
+///
+/// It may go from thread to thread, as a [`Controller`](crate::Controller) may, and is not `Sync` either.
+pub struct Channel {
+    handle: sys::ChannelHandle,
+}
+
+impl Channel {
+    /// A channel without a program and without marks, with room for the longest program.
+    ///
+    /// The error is `NoMemory`.
+    pub fn open() -> Result<Channel, Error> {
+        Ok(Channel { handle: sys::ChannelHandle::open()? })
+    }
+
+    /// Loads the program of a copy in place of what was there, with registers and counts at 0.
+    ///
+    /// The error is the first that holds of `EmptyList`, `TooManySegments`, `EmptySegment`, `SegmentWraps`, `TotalsDiffer`,
+    /// `TooLong`, `DestinationsMeet`, `SourceMeetsDestination` and `BadEvent`, each tested over both lists; or it is `NoMemory`.
+    pub fn load_copy(&mut self, src: &[Segment], dst: &[Segment], events: Events) -> Result<(), Error> {
+        self.handle.load_copy(src, dst, event(events.wait), event(events.signal))
+    }
+
+    /// Loads the program of a fill in the same way: the byte at address `src` goes to every place of the destination list.
+    ///
+    /// The error is as for [`Channel::load_copy`], without `TotalsDiffer`.
+    pub fn load_fill(&mut self, src: u32, dst: &[Segment], events: Events) -> Result<(), Error> {
+        self.handle.load_fill(src, dst, event(events.wait), event(events.signal))
+    }
+
+    /// Loads a program's bytes in the same way. They need not be instructions.
+    ///
+    /// The error is `ProgramTooLong` or `NoMemory`.
+    pub fn load_program(&mut self, program: &[u8]) -> Result<(), Error> {
+        self.handle.load_program(program)
+    }
+
+    /// Loads the program that begins at an address of the memory in the same way: its bytes up to the end of the region, 8192 at
+    /// most, as they are now.
+    ///
+    /// Where no region has the address it has no bytes, and the first step fails with `InstrFetchErr`. The error is `BadRegions`
+    /// or `NoMemory`.
+    pub fn load_from(&mut self, regions: &[Region<'_>], addr: u32) -> Result<(), Error> {
+        self.handle.load_from(regions, addr)
+    }
+
+    /// Takes at most `most` steps, up to one that doesn't move or that sets a flag. Bit `n` of `flags` is the flag of event `n`.
+    ///
+    /// A load that leaves the regions fails with `DataReadErr`, a store with `DataWriteErr`. The error is `BadRegions` or
+    /// `NoProgram`.
+    pub fn step(&mut self, regions: &mut [Region<'_>], flags: &mut u32, most: u32) -> Result<ChannelSteps, Error> {
+        let report = self.handle.step(regions, flags, most)?;
+        Ok(ChannelSteps { taken: report.taken, last: turn_of(&report), pc: report.pc })
+    }
+
+    /// Drops the program, if there is one. Registers and counts stay.
+    pub fn stop(&mut self) {
+        self.handle.stop();
+    }
+
+    /// The registers and counts.
+    pub fn registers(&self) -> Registers {
+        let sys::RawRegisters { pc, sar, dar, ccr, lc0, lc1, is_loaded, taken, stored } = self.handle.registers();
+        Registers { pc, sar, dar, ccr, lc0, lc1, is_loaded: is_loaded != 0, taken, stored }
+    }
+
+    /// Marks a range, in the memory or not, at which loads or stores of this channel fail from then on.
+    ///
+    /// The error is `BadRange` or `NoMemory`.
+    pub fn mark(&mut self, kind: MarkKind, range: Segment) -> Result<(), Error> {
+        self.handle.mark(number_of(kind), range)
+    }
+
+    /// Removes the marks of this channel.
+    pub fn unmark(&mut self) {
+        self.handle.unmark();
+    }
+
+    /// All that the channel is, but for its marks, as plain bytes.
+    ///
+    /// ```
+    /// use dma330::{Channel, Error};
+    /// let mut channel = Channel::open()?;
+    /// channel.load_program(&[0x18, 0x00])?;
+    /// channel.step(&mut [], &mut 0, 1)?;
+    /// let save = channel.save();
+    /// let mut other = Channel::open()?;
+    /// other.restore(&save)?;
+    /// assert_eq!(other.registers(), channel.registers());
+    /// assert_eq!(other.restore(&save[1..]), Err(Error::BadSave));
+    /// # Ok::<(), Error>(())
+    /// ```
+    pub fn save(&self) -> Vec<u8> {
+        let mut out = vec![0; 256];
+        loop {
+            if let Some(len) = self.handle.save(&mut out) {
+                out.truncate(len);
+                return out;
+            }
+            out.resize(2 * out.len(), 0);
+        }
+    }
+
+    /// Makes the channel the one of a save. Its marks stay.
+    ///
+    /// The error is `BadSave` or `NoMemory`.
+    pub fn restore(&mut self, save: &[u8]) -> Result<(), Error> {
+        self.handle.restore(save)
+    }
+}
+
+impl fmt::Debug for Channel {
+    fn fmt(&self, f: &mut fmt::Formatter<'_>) -> fmt::Result {
+        f.debug_struct("Channel").field("registers", &self.registers()).finish_non_exhaustive()
+    }
+}

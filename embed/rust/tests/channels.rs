@@ -1,0 +1,245 @@
+//! The rows of channels.txt, which the test in C carries out too: as they are, and with each step a call of its own, before
+//! which the channel is saved and another one restored.
+
+mod words;
+
+use dma330::{assemble, Channel, ChannelSteps, ChannelTurn, Error, MarkKind, Region, Segment};
+use words::{groups, hex, name, nothing, refused, Words};
+
+const ROWS: &str = include_str!("../../channels.txt");
+
+#[derive(Clone, Copy, PartialEq)]
+enum Way {
+    Plain,
+    Saved,
+}
+
+/// A part of the caller's memory.
+struct Part {
+    addr: u32,
+    bytes: Vec<u8>,
+}
+
+/// Carries lines out.
+struct Player {
+    way: Way,
+    channel: Option<Channel>,
+    parts: Vec<Part>,
+    flags: u32,
+    marks: Vec<(MarkKind, Segment)>,
+    save: Vec<u8>,
+}
+
+fn answer_of(steps: ChannelSteps) -> String {
+    let word = name(steps.last);
+    let rest = match steps.last {
+        ChannelTurn::Waiting { event } | ChannelTurn::Signalled { event } => format!(" {event}"),
+        ChannelTurn::Fault { fault } => format!(" {}", name(fault)),
+        ChannelTurn::NoStep | ChannelTurn::Moved | ChannelTurn::Ended => String::new(),
+    };
+    format!("{} {word}{rest} at {}", steps.taken, steps.pc)
+}
+
+// The regions of these parts.
+fn regions(parts: &mut [Part]) -> Vec<Region<'_>> {
+    parts.iter_mut().map(|part| Region::new(part.addr, &mut part.bytes)).collect()
+}
+
+impl Player {
+    fn new(way: Way) -> Player {
+        Player { way, channel: None, parts: Vec::new(), flags: 0, marks: Vec::new(), save: Vec::new() }
+    }
+
+    fn channel(&mut self) -> &mut Channel {
+        self.channel.as_mut().expect("the group opened a channel")
+    }
+
+    // The bytes from an address on, up to the end of its region.
+    fn rest(&mut self, addr: u32) -> &mut [u8] {
+        let has = |part: &&mut Part| addr >= part.addr && ((addr - part.addr) as usize) < part.bytes.len();
+        let part = self.parts.iter_mut().find(has).expect("a region has the address");
+        &mut part.bytes[(addr - part.addr) as usize..]
+    }
+
+    // Another channel goes on in its place, from its save and with its marks.
+    fn go_on_in_another(&mut self) -> Result<(), Error> {
+        let mut next = Channel::open()?;
+        next.restore(&self.channel().save())?;
+        for (kind, range) in &self.marks {
+            next.mark(*kind, *range)?;
+        }
+        assert_eq!(next.registers(), self.channel().registers());
+        self.channel = Some(next);
+        Ok(())
+    }
+
+    fn step(&mut self, most: u32) -> Result<ChannelSteps, Error> {
+        let Player { channel: Some(channel), parts, flags, .. } = self else { panic!("the group opened a channel") };
+        channel.step(&mut regions(parts), flags, most)
+    }
+
+    fn single_steps(&mut self, most: u32) -> Result<ChannelSteps, Error> {
+        let mut taken = 0;
+        loop {
+            self.go_on_in_another()?;
+            let steps = self.step(most.min(1))?;
+            taken += steps.taken;
+            if steps.last == ChannelTurn::NoStep && taken > 0 {
+                return Ok(ChannelSteps { taken, last: ChannelTurn::Moved, ..steps });
+            }
+            if steps.last != ChannelTurn::Moved || taken == most {
+                return Ok(ChannelSteps { taken, ..steps });
+            }
+        }
+    }
+
+    fn registers(&mut self) -> String {
+        let r = self.channel().registers();
+        let loaded = u8::from(r.is_loaded);
+        let (pc, sar, dar, ccr) = (r.pc, r.sar, r.dar, r.ccr);
+        let counts = format!("{} {} {loaded} {} {}", r.lc0, r.lc1, r.taken, r.stored);
+        format!("{pc} 0x{sar:08X} 0x{dar:08X} 0x{ccr:08X} {counts}")
+    }
+
+    // Each beginning of the save, and the save with each byte changed. The answer is that of the last that isn't refused so.
+    fn restore_damaged(&mut self) -> Result<(), Error> {
+        let mut answer = Err(Error::BadSave);
+        for at in 0..self.save.len() {
+            let mut changed = self.save.clone();
+            changed[at] ^= 0x10;
+            for damaged in [&self.save.clone()[..at], &changed] {
+                match self.channel().restore(damaged) {
+                    Err(Error::BadSave) => {}
+                    other => answer = other,
+                }
+            }
+        }
+        answer
+    }
+
+    // A line of the caller's own; none where it is a call.
+    fn own_line(&mut self, line: &str, mut words: Words) -> Option<String> {
+        match line {
+            "regions" => {
+                let part = |segment: &Segment| Part { addr: segment.addr, bytes: vec![0; segment.len as usize] };
+                self.parts = words.list().iter().map(part).collect();
+            }
+            "poke" => {
+                let (addr, bytes) = (words.number(), words.bytes());
+                (addr..).zip(bytes).for_each(|(addr, byte)| self.rest(addr)[0] = byte);
+            }
+            "peek" => {
+                let (addr, len) = (words.number(), words.number());
+                return Some(hex(&(addr..addr + len).map(|addr| self.rest(addr)[0]).collect::<Vec<u8>>()));
+            }
+            "equal" => {
+                let (a, b, len) = (words.number(), words.number(), words.number() as usize);
+                assert!(self.rest(a)[..len].to_vec() == self.rest(b)[..len], "{a} and {b} differ");
+            }
+            "raise" => self.flags |= 1 << words.number(),
+            "saved" => return Some(hex(&self.save)),
+            "flags" => return Some(format!("0x{:08X}", self.flags)),
+            _ => return None,
+        }
+        Some(String::new())
+    }
+
+    // What a call answers, or why it fails.
+    fn call(&mut self, call: &str, mut words: Words) -> Result<String, Error> {
+        match call {
+            "open" => {
+                self.channel = Some(Channel::open()?);
+                Ok(String::new())
+            }
+            "close" => {
+                self.channel = None;
+                self.marks.clear();
+                Ok(String::new())
+            }
+            "step" if self.way == Way::Saved => self.single_steps(words.number()).map(answer_of),
+            "step" => self.step(words.number()).map(answer_of),
+            "registers" => Ok(self.registers()),
+            "mark" => {
+                let (kind, range) = (words.kind(), Segment::new(words.number(), words.number()));
+                self.channel().mark(kind, range)?;
+                self.marks.push((kind, range));
+                Ok(String::new())
+            }
+            "unmark" => {
+                self.marks.clear();
+                self.channel().unmark();
+                Ok(String::new())
+            }
+            "save" => {
+                self.save = self.channel().save();
+                Ok(String::new())
+            }
+            "stop" => {
+                self.channel().stop();
+                Ok(String::new())
+            }
+            "restore" => {
+                let save = self.save.clone();
+                self.channel().restore(&save).map(nothing)
+            }
+            "restore_bytes" => self.channel().restore(&words.bytes()).map(nothing),
+            "restore_damaged" => self.restore_damaged().map(nothing),
+            _ => self.load(call, words).map(nothing),
+        }
+    }
+
+    fn load(&mut self, call: &str, mut words: Words) -> Result<(), Error> {
+        let Player { channel: Some(channel), parts, .. } = self else { panic!("the group opened a channel") };
+        match call {
+            "load_copy" => {
+                let src = words.list();
+                assert_eq!(words.next(), "to");
+                channel.load_copy(&src, &words.list(), words.events())
+            }
+            "load_fill" => {
+                let src = words.number();
+                assert_eq!(words.next(), "to");
+                channel.load_fill(src, &words.list(), words.events())
+            }
+            "load_program" => channel.load_program(&words.bytes()),
+            "load_text" => channel.load_program(&assemble(&words.text()).expect("a program")),
+            "load_from" => channel.load_from(&regions(parts), words.number()),
+            _ => panic!("no call: {call}"),
+        }
+    }
+
+    fn carry_out(&mut self, line: &str) -> String {
+        let (word, rest) = line.split_once(' ').unwrap_or((line, ""));
+        let answer = self.own_line(word, Words(rest)).map_or_else(|| self.call(word, Words(rest)), Ok);
+        match answer {
+            Ok(more) => format!("OK {more}").trim_end().into(),
+            Err(error) => refused(error),
+        }
+    }
+}
+
+// Which rows are answered in another way than they say.
+fn wrong_rows(way: Way) -> Vec<String> {
+    let mut wrong = Vec::new();
+    for (title, rows) in groups(ROWS) {
+        let mut player = Player::new(way);
+        for (line, wanted) in rows {
+            let answer = player.carry_out(line);
+            if answer != wanted {
+                wrong.push(format!("{title}: {line}: answered {answer}, and not {wanted}"));
+            }
+        }
+    }
+    wrong
+}
+
+#[test]
+fn every_row_answers_what_it_says() {
+    assert!(groups(ROWS).len() > 15);
+    assert_eq!(wrong_rows(Way::Plain), Vec::<String>::new());
+}
+
+#[test]
+fn a_channel_that_is_saved_and_restored_at_each_step_answers_the_same() {
+    assert_eq!(wrong_rows(Way::Saved), Vec::<String>::new());
+}
