@@ -135,6 +135,7 @@ in_c() {
     make_it "$set channels.c" "$@" $wrap -o "$to/channels" c/channels.c c/heap.c c/words.c c/rows.c "$LIB" &&
         count "$set channels.c" "$last_line" "$to/channels" channels.txt
     make_it "$set totals.c" "$@" -o "$to/totals" c/totals.c "$LIB" && count "$set totals.c" "$last_line" "$to/totals"
+    make_it "$set texts.c" "$@" -o "$to/texts" c/texts.c "$LIB" && count "$set texts.c" "$last_line" "$to/texts"
 }
 
 # with_sanitizers: the same under them, where the compiler has them and what it makes can run here

@@ -43,7 +43,7 @@ extern "C" {
 #define DMA330_MAX_REGIONS 8
 #define DMA330_MAX_SAVE 8500
 
-/* Room for the text of a program of so many bytes. */
+/* Room for the text of a program of this many bytes, whatever its instructions are. */
 #define DMA330_MAX_TEXT(bytes) (9 * (bytes))
 
 #if defined(__GNUC__)
@@ -113,8 +113,8 @@ typedef struct dma330_channel_report {
     uint32_t turn;  /* what the last one did: enum dma330_channel_turn */
     uint32_t event; /* of DMA330_CHANNEL_SIGNALLED: whose flag was set; of DMA330_CHANNEL_WAITING: for which it waits */
     uint32_t fault; /* of DMA330_CHANNEL_FAULT: enum dma330_fault */
-    uint32_t pc;    /* the offset of the next instruction: of WAITING and FAULT of the one that waits or failed, of ENDED
-                     * of the DMAEND */
+    uint32_t pc;    /* the offset of the next instruction: of WAITING and FAULT that of the one that waits or failed, of
+                     * ENDED that of the DMAEND */
 } dma330_channel_report;
 
 /* A channel's registers and counts. */
@@ -348,8 +348,8 @@ int32_t dma330_channel_open(dma330_channel *channel) DMA330_NO_NULLS;
 /* Frees what an open channel holds, and leaves one that may be opened again; of another one it does nothing. */
 void dma330_channel_close(dma330_channel *channel) DMA330_NO_NULLS;
 
-/* Loads the program of a copy in place of what was there, with registers and counts at 0: the codes of dma330_submit up to
- * the first NO_MEMORY. */
+/* Loads the program of a copy in place of what was there, with registers and counts at 0 and an empty buffer: the codes of
+ * dma330_submit up to the first NO_MEMORY. */
 int32_t dma330_channel_load_copy(dma330_channel *channel, const dma330_segment *src, size_t src_count,
                                  const dma330_segment *dst, size_t dst_count, int32_t wait, int32_t signal) DMA330_NO_NULLS;
 
@@ -389,7 +389,7 @@ int32_t dma330_channel_unmark(dma330_channel *channel) DMA330_NO_NULLS;
  * BUFFER_TOO_SMALL. */
 int32_t dma330_channel_save(dma330_channel *channel, uint8_t *out, size_t room, size_t *len) DMA330_NO_NULLS;
 
-/* Makes the channel the one of a save, which has no marks. The marks of this channel stay: BAD_SAVE, NO_MEMORY. */
+/* Makes the channel the one of a save. A save holds no marks; those that this channel has stay: BAD_SAVE, NO_MEMORY. */
 int32_t dma330_channel_restore(dma330_channel *channel, const uint8_t *save, size_t len) DMA330_NO_NULLS;
 
 /* ---- without a controller ----
@@ -401,7 +401,8 @@ int32_t dma330_channel_restore(dma330_channel *channel, const uint8_t *save, siz
 int32_t dma330_version(char *out, size_t room, size_t *len) DMA330_NO_NULLS;
 
 /* Runs a program's bytes alone over the caller's memory, with no marks and all flags clear, for at most `limit`
- * instructions, and tells how it ended: SIZE_OUT_OF_RANGE, PROGRAM_TOO_LONG, NO_MEMORY. */
+ * instructions, and tells how it ended: SIZE_OUT_OF_RANGE, PROGRAM_TOO_LONG, NO_MEMORY. The program may not lie inside the
+ * memory. */
 int32_t dma330_run_program(const uint8_t *program, size_t len, uint8_t *memory, size_t size, uint32_t limit,
                            dma330_run_end *end) DMA330_NO_NULLS;
 
