@@ -1,5 +1,5 @@
 -- The images that pages show, and which of them are made.
-use Rattle.std.proofs.Common.{◌≡◌, ◌≢◌, ℕ, ◌+◌, ◌-◌, ◌*◌, ◌/◌, ◌%◌, ◌<◌, ◌≤◌, List, [], ◌∷◌, ◌++◌, length, get_or, take, drop, replicate, max, Some, None, Bool, true, false, nat_lt, ◌&&◌, refl, ap, sym, ◌∙◌, arith, inl, inr}
+use Rattle.std.proofs.Common.{◌≡◌, ◌≢◌, ℕ, ◌+◌, ◌-◌, ◌*◌, ◌/◌, ◌%◌, ◌<◌, ◌≤◌, List, [], ◌∷◌, ◌++◌, length, get_or, take, drop, replicate, max, Some, None, Bool, true, false, nat_lt, ◌&&◌, refl, ap, sym, ◌∙◌, subst, arith, inl, inr}
 use Rattle.std.specs.Prelude.{unwrap_or, nat_eq, nat_le}
 use Rattle.std.specs.List.{range_with_len, Contains, list_all}
 use Rattle.std.specs.Map.{lookup}
@@ -249,3 +249,13 @@ size_seen size pages m is = ap (λ (p : Paged). length p.image) (sym is) ∙ len
 pub read_seen : (size : ℕ) (pages : List (List ℕ)) (m : Paged) → paged size pages ≡ m → (addr n : ℕ) (buf : List ℕ) → length buf ≡ n → addr + n ≤ length m.image → ((k : ℕ) → k < length buf → get_or buf k 0 ≡ get_or (page_at pages ((addr + k) / 4096)) ((addr + k) % 4096) 0) → buf ≡ take n (drop addr m.image)
 read_seen size pages m is addr n buf long within bytes =
     read_found size pages addr n buf long (omega (arith, within, size_seen size pages m is)) bytes ∙ ap (λ (p : Paged). take n (drop addr p.image)) is
+
+-- changed pages of the same size, beside what was seen of them before
+pub image_seen : (size : ℕ) (old new : List (List ℕ)) (m : Paged) → paged size old ≡ m → ((p k : ℕ) → get_or (page_at new p) k 0 ≡ get_or (page_at old p) k 0) → image_of size new ≡ m.image
+image_seen size old new m is same = image_of-same size new old same ∙ ap (λ (m : Paged). m.image) is
+
+pub keeps_seen : (size : ℕ) (old new : List (List ℕ)) (m : Paged) → paged size old ≡ m → ((p : ℕ) → 0 < length (page_at old p) → 0 < length (page_at new p)) → Keeps m (paged size new)
+keeps_seen size old new m is kept = subst (λ (m : Paged). Keeps m (paged size new)) is (Keeps-from size old new kept)
+
+pub others_seen : (size : ℕ) (old new : List (List ℕ)) (m : Paged) (addr len : ℕ) → paged size old ≡ m → ((p : ℕ) → ((a : ℕ) → addr ≤ a → a < addr + len → a / 4096 ≢ p) → length (page_at new p) ≡ length (page_at old p)) → MakesNoOther m (paged size new) (range_with_len addr len)
+others_seen size old new m addr len is same = subst (λ (m : Paged). MakesNoOther m (paged size new) (range_with_len addr len)) is (MakesNoOther-from size old new addr len same)

@@ -5,7 +5,6 @@ use Rattle.dma_mem.specs.declared.segment.Segment.{Segment}
 use Rattle.dma_mem.specs.declared.transfer.TransferFault.TheVariants.{TooManySegments, SegmentWraps, TooLong, SourceMeetsDestination, BadEvent}
 use Rattle.dma_mem.specs.declared.transfer.TheConstants.{MAX_SEGMENTS, MAX_BYTES, LAST_EVENT}
 use Rattle.dma_mem.specs.declared.memory.TheConstants.{MAX_SIZE}
-use Rattle.dma_mem.specs.declared.pages.TheConstants.{MAX_PAGED_SIZE}
 use Rattle.dma_mem.specs.Places.{Descriptor, filling, moves, places, share, sources}
 use Rattle.dma_mem.specs.Flags.{all_clear}
 use Rattle.dma_mem.specs.Image.{is_size}
@@ -28,9 +27,6 @@ last_event = refl
 
 most_memory : MAX_SIZE ≡ 4294963200
 most_memory = refl
-
-most_pages : MAX_PAGED_SIZE ≡ 4294963200
-most_pages = refl
 
 -- ---- sizes
 

@@ -13,7 +13,7 @@ abbrev pub HasSources : List Segment → Descriptor → Type 0
 HasSources ranges t = (a : ℕ) → Contains (places ranges) a ↔ Contains (sources t) a
 
 -- Coalesced ranges: each has bytes, and ends below the first address of every later one, so that they rise and no two meet
--- or touch. A set of addresses has one such list.
+-- or touch.
 pub record IsCoalesced (ranges : List Segment) : Type 0 where
   pub filled : All (λ s. 0 < s.len) ranges
   pub apart : AllPairs (λ s t. s.addr + s.len < t.addr) ranges

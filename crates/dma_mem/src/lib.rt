@@ -6,7 +6,6 @@ pub mod lists;
 pub mod marks;
 pub mod memory;
 mod ordered;
-mod pages;
 pub mod ram;
 pub mod range_set;
 pub mod regions;

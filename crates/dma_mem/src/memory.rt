@@ -6,14 +6,14 @@ ghost use Rattle.dma_mem.specs.Places.{range_of, places, all_below};
 ghost use Rattle.dma_mem.specs.Image.{put, bytes_at, is_size};
 ghost use Rattle.dma_mem.specs.Pages.{has_page, is_made, AllMade, Keeps, MakesNoOther};
 
-use crate::pages::{MAX_PAGED_SIZE, Pages};
 use crate::segment::Segment;
+use crate::table::{PAGE_SIZE, Table};
 use std::alloc::{AllocError, Global};
 use std::marker::Model;
 use thiserror::Error;
 
 /// The most bytes that a memory has.
-pub const MAX_SIZE: u32 = MAX_PAGED_SIZE;
+pub const MAX_SIZE: u32 = 4_294_963_200;
 
 /// Why a call on a memory was refused.
 #[derive(Clone, Copy, Debug, PartialEq, Eq, Error)]
@@ -26,19 +26,27 @@ pub enum MemFault {
     NoMemory,
 }
 
-/// Bytes at the addresses from 0 up to a size of 1 to [`MAX_SIZE`] (profile), on pages that are made on first write.
-/// Contracts see its image, and which of its pages are made.
+/// Bytes at the addresses from 0 up to a size of 1 to [`MAX_SIZE`] (profile), on pages of 4,096 that are made on first
+/// write and stay. Contracts see its image, and which of its pages are made.
+///
+/// A new one holds 24 bytes for each 4 MiB of its size. A page that is made holds its 4,096 bytes and what the allocator
+/// adds; the first of a 4 MiB holds 24 KiB besides, the list of that many pages.
 #[derive(Debug, Drop)]
 pub struct Memory {
-    pages: Pages,
+    size: u32,
+    table: Table,
 }
 
 impl Model for Memory {
+    ghost use Rattle.std.specs.Prelude.{◌≤◌, ◌*◌, length};
     ghost use Rattle.dma_mem.specs.Pages.{Paged};
+    ghost use Rattle.dma_mem.specs.inner.PageTable.{paged};
 
     ghost Value = { Paged };
 
-    ghost view = { λ m. m.pages };
+    ghost view = { λ m. paged m.size m.table };
+
+    ghost invariant = { λ m. (1 ≤ m.size) × (m.size ≤ 4294963200) × (m.size ≤ 4096 * length m.table) };
 }
 
 impl Memory {
@@ -54,10 +62,10 @@ impl Memory {
         if size == 0 || size > MAX_SIZE {
             return Err(MemFault::SizeOutOfRange);
         }
-        match Pages::new(alloc, size) {
-            Ok(pages) => Ok(Memory { pages }),
-            Err(_) => Err(MemFault::NoMemory),
-        }
+        let Ok(table) = Table::new(alloc, (size as usize).div_ceil(PAGE_SIZE)) else {
+            return Err(MemFault::NoMemory);
+        };
+        Ok(Memory { size, table })
     }
 
     /// How many bytes it has.
@@ -66,19 +74,18 @@ impl Memory {
         ensures low { 1 ≤ result }
         ensures high { result ≤ 4294963200 }
     {
-        self.pages.size()
+        self.size
     }
 
     /// The byte at an address, or none at or above the size.
     pub fn byte(&self, addr: u32) -> Option<u8>
         ensures { result ≡ slice_get self.now.image addr }
     {
-        if addr >= self.pages.size() {
-            return None;
-        }
         let mut byte = [0];
-        self.pages.read_into(addr, &mut byte);
-        Some(byte[0])
+        match self.read_into(addr, &mut byte) {
+            Ok(()) => Some(byte[0]),
+            Err(_) => None,
+        }
     }
 
     /// Fills the slice with the bytes from an address on.
@@ -90,11 +97,22 @@ impl Memory {
         ensures ok { OnOk result (buf.new ≡ take (length buf.old) (drop addr self.now.image)) }
         ensures err { OnErr result (buf.new ≡ buf.old) }
     {
-        if addr as usize + buf.len() > self.pages.size() as usize {
+        if addr as usize + buf.len() > self.size as usize {
             return Err(MemFault::OutOfMemoryRange);
         }
-        self.pages.read_into(addr, buf);
+        match self.table.part(addr as usize, buf.len()) {
+            Some(part) => buf.copy_from_slice(part),
+            None => self.table.read(addr as usize, buf),
+        }
         Ok(())
+    }
+
+    /// Returns a copy of the `len` bytes from an address on.
+    pub fn to_vec(&self, alloc: Global, addr: u32, len: u32) -> Result<Vec<u8>, AllocError>
+        requires { addr + len ≤ length self.now.image }
+        ensures { IfOk result (λ list. list.items ≡ take len (drop addr self.now.image)) }
+    {
+        self.table.to_vec(alloc, addr as usize, len as usize)
     }
 
     /// Makes the pages of a segment, of zeros, where they aren't made.
@@ -111,13 +129,14 @@ impl Memory {
         ensures err { IfErr result (λ fault. fault ≡ (if nat_lt (length self.old.image) (segment.addr + segment.len) then MemFault.OutOfMemoryRange else MemFault.NoMemory)) }
         ensures refused { nat_lt (length self.old.image) (segment.addr + segment.len) ≡ true → self.new ≡ self.old }
     {
-        if segment.addr as usize + segment.len as usize > self.pages.size() as usize {
+        if segment.addr as usize + segment.len as usize > self.size as usize {
             return Err(MemFault::OutOfMemoryRange);
         }
-        match self.pages.prepare(segment) {
-            Ok(()) => Ok(()),
-            Err(_) => Err(MemFault::NoMemory),
-        }
+        let start = segment.addr as usize;
+        let Ok(()) = self.table.make(start, start + segment.len as usize) else {
+            return Err(MemFault::NoMemory);
+        };
+        Ok(())
     }
 
     /// Makes the pages of all segments of a list, one after another.
@@ -146,7 +165,12 @@ impl Memory {
     pub fn made(&self, segment: Segment) -> bool
         ensures { result ≡ list_all (is_made self.now) (range_of segment) }
     {
-        self.pages.made(segment)
+        let start = segment.addr as usize;
+        let end = start + segment.len as usize;
+        if start == end {
+            return true;
+        }
+        end <= self.size as usize && self.table.are_made(start, end)
     }
 
     /// The bytes from an address on, so many, in place, where one page has them all: a look-up and no copy.
@@ -155,7 +179,7 @@ impl Memory {
         ensures bytes { IfSome result (λ part. part.now ≡ take len (drop addr self.now.image)) }
         ensures some { addr % 4096 + len ≤ 4096 → IsSome result }
     {
-        self.pages.part(addr, len)
+        self.table.part(addr as usize, len as usize)
     }
 
     /// The bytes from an address on, as many as the block has: in place where one page has them all, else the block, filled
@@ -164,7 +188,11 @@ impl Memory {
         requires { addr + length block.old ≤ length self.now.image }
         ensures { result.now ≡ take (length block.old) (drop addr self.now.image) }
     {
-        self.pages.bytes(addr, block)
+        if let Some(part) = self.table.part(addr as usize, block.len()) {
+            return part;
+        }
+        self.table.read(addr as usize, block);
+        block
     }
 
     /// Writes the bytes of two slices, those of the second behind those of the first, from an address on, to pages that
@@ -175,7 +203,7 @@ impl Memory {
         ensures image { self.new.image ≡ put self.old.image (bytes_at addr (front.now ++ back.now)) }
         ensures made { self.new.made ≡ self.old.made }
     {
-        self.pages.write_parts(addr, front, back);
+        self.table.put_parts(addr as usize, front, back);
     }
 
     /// Copies the `len` bytes from address `from` on to the addresses from `to` on, whose pages are made. The two ranges share
@@ -188,7 +216,8 @@ impl Memory {
         ensures image { self.new.image ≡ put self.old.image (bytes_at to (take len (drop from self.old.image))) }
         ensures made { self.new.made ≡ self.old.made }
     {
-        self.pages.copy_apart(from, to, len);
+        self.table
+            .copy_apart(from as usize, to as usize, len as usize);
     }
 
     /// Sets the `len` bytes from an address on, whose pages are made, to one byte.
@@ -198,7 +227,7 @@ impl Memory {
         ensures image { self.new.image ≡ put self.old.image (bytes_at addr (replicate len byte)) }
         ensures made { self.new.made ≡ self.old.made }
     {
-        self.pages.fill(addr, len, byte);
+        self.table.fill(addr as usize, len as usize, byte);
     }
 
     /// Writes the bytes from an address on, and makes their pages first.
@@ -216,20 +245,23 @@ impl Memory {
         ensures others { MakesNoOther self.old self.new (range_with_len addr (length bytes.now)) }
         ensures refused { nat_lt (length self.old.image) (addr + length bytes.now) ≡ true → self.new ≡ self.old }
     {
-        if addr as usize + bytes.len() > self.pages.size() as usize {
+        if addr as usize + bytes.len() > self.size as usize {
             return Err(MemFault::OutOfMemoryRange);
         }
-        match self.pages.write(addr, bytes) {
-            Ok(()) => Ok(()),
-            Err(_) => Err(MemFault::NoMemory),
-        }
+        let Ok(()) = self.table.write(addr as usize, bytes) else {
+            return Err(MemFault::NoMemory);
+        };
+        Ok(())
     }
 
     /// The same memory again, in memory of its own.
     pub fn try_copy(&self) -> Result<Memory, AllocError>
         ensures { IfOk result (λ copy. copy ≡ self.now) }
     {
-        let pages = self.pages.try_copy()?;
-        Ok(Memory { pages })
+        let table = self.table.try_copy()?;
+        Ok(Memory {
+            size: self.size,
+            table,
+        })
     }
 }

@@ -397,6 +397,27 @@ impl Table {
         }
     }
 
+    /// A list of the `len` bytes from `start` on: none of them is cleared before it is copied.
+    pub(crate) fn to_vec(
+        &self,
+        alloc: Global,
+        start: usize,
+        len: usize,
+    ) -> Result<Vec<u8>, AllocError>
+        requires { start + len < 2 ^ 33 }
+        ensures { IfOk result (λ list. (length list.items ≡ len) × ((k : ℕ) → k < length list.items → slice_index list.items k ≡ slice_index (page_at self.now ((start + k) / 4096)) ((start + k) % 4096))) }
+    {
+        let mut list = Vec::with_capacity(alloc, len)?;
+        while list.len() < len {
+            let at = start + list.len();
+            let offset = at % PAGE_SIZE;
+            let count = (PAGE_SIZE - offset).min(len - list.len());
+            let page = shown(self.page(at / PAGE_SIZE));
+            list.extend_from_slice(&page[offset..offset + count])?;
+        }
+        Ok(list)
+    }
+
     /// Makes the pages of the addresses from `start` to before `end`.
     #[inline(never)]
     pub(crate) fn make(&mut self, start: usize, end: usize) -> Result<(), AllocError>

@@ -3,7 +3,7 @@ use Rattle.std.specs.List.{range_with_len}
 use Rattle.dma_mem.specs.Pages.{Paged, AllMade}
 use Rattle.dma_mem.specs.inner.PageTable.{paged}
 use Rattle.dma_mem.proofs.PageImages.{made_of-same, pages_of_all}
-use Rattle.dma_mem.proofs.pages.Pages.fill.Goals as goal
+use Rattle.dma_mem.proofs.memory.Memory.fill.Goals as goal
 
 pub fill-requires-clause-made : goal.fill-requires-clause-made
 fill-requires-clause-made c =

@@ -3,7 +3,7 @@ use Rattle.std.specs.List.{range_with_len}
 use Rattle.dma_mem.specs.Pages.{Paged, AllMade}
 use Rattle.dma_mem.specs.inner.PageTable.{paged}
 use Rattle.dma_mem.proofs.PageImages.{size_seen, made_of-same, pages_of_all}
-use Rattle.dma_mem.proofs.pages.Pages.write_parts.Goals as goal
+use Rattle.dma_mem.proofs.memory.Memory.write_parts.Goals as goal
 
 pub put_parts-requires-clause-limit : goal.put_parts-requires-clause-limit
 put_parts-requires-clause-limit c =

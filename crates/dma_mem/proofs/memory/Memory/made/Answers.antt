@@ -2,7 +2,7 @@ use Rattle.std.proofs.Common.{ap, ◌∙◌, arith}
 use Rattle.std.specs.List.{range_with_len, list_all}
 use Rattle.dma_mem.specs.Pages.{Paged, is_made}
 use Rattle.dma_mem.proofs.PageImages.{made_tested, not_made_tested}
-use Rattle.dma_mem.proofs.pages.Pages.made.Goals as goal
+use Rattle.dma_mem.proofs.memory.Memory.made.Goals as goal
 
 pub returns-then-end-self : goal.returns-then-end-self
 returns-then-end-self c =

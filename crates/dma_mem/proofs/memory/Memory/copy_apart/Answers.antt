@@ -4,7 +4,7 @@ use Rattle.dma_mem.specs.Image.{put, bytes_at}
 use Rattle.dma_mem.specs.Pages.{Paged, AllMade}
 use Rattle.dma_mem.specs.inner.PageTable.{paged}
 use Rattle.dma_mem.proofs.PageImages.{size_seen, made_of-same, pages_of_all}
-use Rattle.dma_mem.proofs.pages.Pages.copy_apart.Goals as goal
+use Rattle.dma_mem.proofs.memory.Memory.copy_apart.Goals as goal
 
 pub copy_apart-requires-clause-made : goal.copy_apart-requires-clause-made
 copy_apart-requires-clause-made c =

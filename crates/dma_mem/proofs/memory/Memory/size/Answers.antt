@@ -1,6 +1,6 @@
 use Rattle.std.proofs.Common.{sym}
 use Rattle.dma_mem.proofs.PageImages.{size_seen}
-use Rattle.dma_mem.proofs.pages.Pages.size.Goals as goal
+use Rattle.dma_mem.proofs.memory.Memory.size.Goals as goal
 
 pub returns-clause-size : goal.returns-clause-size
 returns-clause-size c =

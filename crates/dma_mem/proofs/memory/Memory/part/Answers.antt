@@ -1,6 +1,6 @@
 use Rattle.std.proofs.lemmas.Option.{IfSome_then}
 use Rattle.dma_mem.proofs.PageImages.{read_seen}
-use Rattle.dma_mem.proofs.pages.Pages.part.Goals as goal
+use Rattle.dma_mem.proofs.memory.Memory.part.Goals as goal
 
 pub returns-clause-bytes : goal.returns-clause-bytes
 returns-clause-bytes c =

@@ -1,6 +1,6 @@
 use Rattle.std.proofs.Common.{length, arith}
 use Rattle.dma_mem.proofs.PageImages.{size_seen, read_seen}
-use Rattle.dma_mem.proofs.pages.Pages.bytes.Goals as goal
+use Rattle.dma_mem.proofs.memory.Memory.bytes.Goals as goal
 
 pub part-requires : goal.part-requires
 part-requires c =
