@@ -23,7 +23,7 @@ lookup-bytes_at a [] k x h e = absurd (omega arith)
 lookup-bytes_at a (b ∷ bs) zero x h e = rw (eq-eqb x a (omega arith)) refl
 lookup-bytes_at a (b ∷ bs) (suc k) x h e = rw (ne_eqb x a (λ f. omega arith)) (lookup-bytes_at (a + 1) bs k x (omega arith) (omega arith))
 
--- bytes put from an address on stand between what was before them and after them
+-- bytes put from an address on lie between what was before them and after them
 pub put-bytes_at : (image : List ℕ) (a : ℕ) (bs : List ℕ) → a + length bs ≤ length image → put image (bytes_at a bs) ≡ take a image ++ (bs ++ drop (a + length bs) image)
 put-bytes_at image a bs h =
     let left = take a image in

@@ -52,7 +52,7 @@ length-flat_set groups g group = length-flat (set groups g group) ∙ ap (λ n. 
 pub same_pages : (pages others : List (List ℕ)) → length pages ≡ length others → ((p : ℕ) → page_at pages p ≡ page_at others p) → pages ≡ others
 same_pages pages others e h = ext_get_or [] pages others e (λ p l. h p)
 
--- a page that has bytes stands in the list
+-- a page that has bytes is in the list
 pub within_pages : (pages : List (List ℕ)) (p : ℕ) → 0 < length (page_at pages p) → p < length pages
 within_pages pages p h = elim (cases_lt p (length pages)) [
   | inl l ↦ l

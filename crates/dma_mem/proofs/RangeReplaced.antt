@@ -35,7 +35,7 @@ at_back rs first past s k d l =
     ∙ ap (λ i. get_or (s ∷ drop past rs) i d) n
     ∙ get_or-drop past rs k d
 
--- what stands at a place of them: a range from before, s, or a range from behind
+-- what is at a place of them: a range from before, s, or a range from behind
 record Before (rs : List Segment) (first past : ℕ) (s : Segment) (k : ℕ) (d : Segment) : Type 0 where
   low : k < first
   is : get_or (placed rs first past s) k d ≡ get_or rs k d

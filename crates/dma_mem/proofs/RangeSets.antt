@@ -57,7 +57,7 @@ places_in (s ∷ rs) d a i = elim (places-cons s rs a i) [
 abbrev pub nowhere : Segment
 nowhere = record { addr = 0; len = 0 }
 
--- an address of a segment that stands in another list too
+-- an address of a segment that is in another list too
 moved : (xs ys : List Segment) (d : Segment) (a : ℕ) (w : At xs d a) → Contains ys (get_or xs w.k d) → Contains (places ys) a
 moved xs ys d a w i = in_places ys i.0 (get_or xs w.k d) a i.1 (subst (λ (t : Segment). Lies t a) (sym i.2) w.lies)
 
@@ -195,7 +195,7 @@ same_tests false false f g = refl
 same_index : (i j : ℕ) → i ≤ j → j ≤ i → i ≡ j
 same_index i j l m = omega arith
 
--- so many of the ranges begin below an address: the first ones; so many end at an address or below it
+-- how many of the ranges begin below an address, which are the first ones, and how many end at an address or below it
 abbrev pub BeginBelow : ℕ → List Segment → ℕ → Type 0
 BeginBelow addr rs first = IsPartitionPoint (λ (r : Segment). r.addr < addr) (λ r. addr ≤ r.addr) rs first
 

@@ -50,11 +50,11 @@ thirty_two_flags = refl
 
 -- ---- transfers
 
--- so many segments of a byte each, every second address of those from one on
+-- a number of segments of a byte each, every second address of those from one on
 abbrev bytes_from : ℕ → ℕ → List Segment
 bytes_from addr n = map (λ k. record { addr = addr + 2 * k; len = 1 }) (range_with_len 0 n)
 
--- a transfer of so many segments of a byte each
+-- a transfer of a number of segments of a byte each
 abbrev of_segments : ℕ → Descriptor
 of_segments n = record { fill = false; src = bytes_from 0 n; dst = bytes_from 1000 n; wait = None; signal = None }
 
@@ -122,7 +122,7 @@ one_range addr n some within = record {
   within = λ k d l. let first : k ≡ 0 = omega arith in rw first within;
 }
 
--- a copy from one range to another behind it, of at most so many bytes
+-- a copy from one range to another behind it, of at most a number of bytes
 copies_range : (from to n : ℕ) → 0 < n → n ≤ 1048576 → from + n ≤ to → to + n ≤ 4294967296 → IsTransfer (of_bytes from to n None None)
 copies_range from to n some few behind within =
     let src : List Segment = record { addr = from; len = n } ∷ [] in

@@ -95,7 +95,7 @@ ranges_tested a m b n x y p q h d e = elim (cases_lt x y) [
   | inr l ↦ le-ltb x y l ∙ sym (ranges_apart a m b n (λ k i j r s. omega arith))
 ]
 
--- an answer that is the test's is true exactly where an address stands in both lists
+-- an answer that is the test's is true exactly where an address is in both lists
 pub share-iff : (xs ys : List ℕ) (r : Bool) → r ≡ share xs ys → IsTrue r ↔ ((a : ℕ) × Contains xs a × Contains ys a)
 share-iff xs ys r e = (λ h. shared_by xs ys (sym e ∙ h), λ (a, i, j). e ∙ share-true xs ys a i j)
 

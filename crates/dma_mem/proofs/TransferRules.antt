@@ -30,7 +30,7 @@ length-places [] = refl
 length-places (s ∷ rest) =
     omega (arith, length-append (range_with_len s.addr s.len) (places rest), length-range_with_len s.addr s.len, length-places rest, sum_by-cons (λ (t : Segment). t.len) s rest)
 
--- segments of two lists meet where a place stands in both
+-- segments of two lists meet where a place is in both
 pub meets_any-places : (list others : List Segment) → meets_any list others ≡ share (places list) (places others)
 meets_any-places [] others = sym (share_none [] (places others) (λ a i j. omega (arith, i.1)))
 meets_any-places (s ∷ rest) others =
@@ -62,7 +62,7 @@ once-range a n = λ i j d l m e.
     let y = get_or-range_with_len a n j d j_in in
     omega arith
 
--- each place stands once in a list of which no two segments meet
+-- each place is once in a list of which no two segments meet
 pub once-places : (list : List Segment) → some_meet list ≡ false → AllPairs (λ a b. a ≢ b) (places list)
 once-places [] h = λ i j d l m. absurd (omega arith)
 once-places (s ∷ rest) h =
@@ -71,7 +71,7 @@ once-places (s ∷ rest) h =
     let apart : Apart range (places rest) = share-false range (places rest) (sym (share_places range rest) ∙ parts.0) in
     AllPairs-append (λ x y. x ≢ y) range (places rest) (once-range s.addr s.len) (once-places rest parts.1) (λ x y i j e. apart x i (rw e j))
 
--- ---- what each test tells where it fails
+-- ---- what follows where a test fails
 
 nonempty : (n : ℕ) → (n == 0) ≡ false → 0 < n
 nonempty n h = grind (arith, nat_tests)

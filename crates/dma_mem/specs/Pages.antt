@@ -29,7 +29,7 @@ pub record Keeps (old new : Paged) : Type 0 where
 abbrev pub MakesNoOther : Paged → Paged → List ℕ → Type 0
 MakesNoOther old new addresses = (p : ℕ) → ((a : ℕ) → Contains addresses a → a / 4096 ≢ p) → has_page new p ≡ has_page old p
 
--- each page of so many bytes is made
+-- each page of `size` bytes is made
 unfoldable pub all_made : ℕ → List Bool
 all_made size = replicate ((size + 4095) / 4096) true
 

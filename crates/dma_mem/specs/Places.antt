@@ -11,11 +11,11 @@ range_of s = range_with_len s.addr s.len
 abbrev pub places : List Segment → List ℕ
 places list = flat_map (λ s. range_with_len s.addr s.len) list
 
--- no address stands in both lists
+-- no address is in both lists
 abbrev pub Apart : List ℕ → List ℕ → Type 0
 Apart xs ys = (a : ℕ) → Contains xs a → ¬ Contains ys a
 
--- whether an address stands in both lists
+-- whether an address is in both lists
 unfoldable pub share : List ℕ → List ℕ → Bool
 share xs ys = list_any (λ a. list_any (nat_eq a) ys) xs
 

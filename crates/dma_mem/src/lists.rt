@@ -1,5 +1,5 @@
 //! Lists that contracts see as their items alone. A short list is kept in the value itself and asks for no memory. A longer
-//! one is behind a pointer, so that a value is small: histories and scripts have many.
+//! one is behind a pointer, which keeps a value small: histories and scripts have many.
 
 ghost use Rattle.std.specs.Prelude.{◌≡◌, ◌∷◌, ◌++◌, ◌==◌, ◌≤◌, [], length, IfOk, OnOk, OnErr};
 ghost use Rattle.dma_mem.specs.inner.Stored.{FitsInline, bytes_in, segments_in};

@@ -20,7 +20,7 @@ pub enum MarkKind {
 
 /// Segments at which bursts fail (profile). Contracts see them as the list of what was added.
 ///
-/// Beside the list stand ranges of the marks of each kind, in which a mark is found by binary search.
+/// Beside the list it keeps the ranges of the marks of each kind, in which a mark is found by binary search.
 #[derive(Debug, Drop)]
 pub struct Marks {
     list: Vec<(MarkKind, Segment)>,

@@ -173,7 +173,7 @@ impl Memory {
         end <= self.size as usize && self.table.are_made(start, end)
     }
 
-    /// The bytes from an address on, so many, in place, where one page has them all: a look-up and no copy.
+    /// Returns the `len` bytes from an address on in place, where one page has them all: a look-up and no copy.
     pub fn part(&self, addr: u32, len: u32) -> Option<&[u8]>
         requires { addr + len ≤ length self.now.image }
         ensures bytes { IfSome result (λ part. part.now ≡ take len (drop addr self.now.image)) }

@@ -109,8 +109,8 @@ pub fn add_in_order(ranges: &mut Vec<Segment>, segment: Segment) -> Result<(), A
     replace(ranges, first, past, segment)
 }
 
-/// Whether one of the ranges has an address of the segment. It is a binary search, unless the segment lies outside them all,
-/// as most do that are asked for: that look stands where it is asked, without a call.
+/// Whether one of the ranges shares an address with the segment. A segment outside all ranges, the common case, is found by
+/// an inlined look at the first and the last range; else this searches by halves.
 pub fn meets_ordered(ranges: &[Segment], segment: Segment) -> bool
     requires { IsOrdered ranges.now }
     ensures { result ≡ share (range_of segment) (places ranges.now) }

@@ -13,7 +13,7 @@ use crate::segment::Segment;
 use std::alloc::{AllocError, Global};
 use std::marker::Model;
 
-// The ranges of a set. One of them stands in place, so that a set of one segment takes no memory.
+// The ranges of a set. A single one is kept in the value, so a set of one segment allocates nothing.
 #[derive(Debug, Drop)]
 enum Kept {
     One(Segment),
@@ -53,7 +53,7 @@ impl Model for RangeSet {
     ghost invariant = { λ set. IsCoalesced (ranges_of set.kept) };
 }
 
-// Joins segments that meet or touch, in place. They stand in the order of their first addresses, and end at 4,294,967,295 or
+// Joins segments that meet or touch, in place. They are in the order of their first addresses, and end at 4,294,967,295 or
 // below it, so that nothing saturates.
 fn coalesce(segments: &mut Vec<Segment>)
     requires filled { All (λ s. 0 < s.len) segments.old.items }
@@ -79,8 +79,8 @@ fn coalesce(segments: &mut Vec<Segment>)
 
 impl RangeSet {
     /// The set of the segments' addresses. Each segment has bytes and ends at 4,294,967,295 or below it; they may meet,
-    /// and stand in any order. `AllocError` comes where memory for one copy of the list was refused; of one segment there
-    /// is none.
+    /// and be in any order. It fails with `AllocError` where memory for one copy of the list was refused; with one
+    /// segment it never fails.
     pub fn new(alloc: Global, segments: &[Segment]) -> Result<RangeSet, AllocError>
         requires filled { All (λ s. 0 < s.len) segments.now }
         requires within { All (λ s. s.addr + s.len ≤ 4294967295) segments.now }

@@ -1,19 +1,18 @@
 //! Transfers from a list of segments to another.
 
-ghost use Rattle.std.specs.Prelude.{◌≡◌, ◌+◌, ◌<◌, ◌≤◌, ◌↔◌, All, IsTrue, false, IfOk, IfErr, MatchResult, length, slice_get, unwrap_or, OnOk};
-ghost use Rattle.dma_mem.specs.Places.{Descriptor, filling, places, sources, destinations, size_of, lies_below, all_below, share, range_of, touches, writes, is_free_of};
+ghost use Rattle.std.specs.Prelude.{◌≡◌, ◌+◌, ◌<◌, ◌≤◌, ◌↔◌, All, IsTrue, false, IfOk, IfErr, MatchResult, length, slice_get, unwrap_or};
+ghost use Rattle.dma_mem.specs.Places.{Descriptor, filling, places, sources, destinations, size_of, lies_below, all_below, touches, writes, is_free_of};
 ghost use Rattle.dma_mem.specs.Meeting.{meets, IsFree};
-ghost use Rattle.std.specs.List.{list_any};
-ghost use Rattle.std.specs.List.Sorted.{IsNonDecreasingBy};
 ghost use Rattle.dma_mem.specs.declared.segment.Segment.{Segment};
 ghost use Rattle.dma_mem.specs.Rules.{IsTransfer};
 ghost use Rattle.dma_mem.specs.inner.Origins.{segments_of, is_place};
-ghost use Rattle.dma_mem.specs.inner.Checking.{may_differ};
-ghost use Rattle.dma_mem.specs.Refusals.{refusal_of, refusal_of_fill, overlap_of, total, some_meet, meets_any, has_empty_segment, has_wrapping_segment, is_bad_event};
+ghost use Rattle.dma_mem.specs.Refusals.{refusal_of, refusal_of_fill};
+
+pub(crate) mod rules;
 
 use crate::lists::Segments;
-use crate::ordered::{any_meets_ordered, end_of, sort_by_address};
-use crate::segment::{Segment, meets};
+use crate::segment::Segment;
+use crate::transfer::rules::{Totals, checked_fill, checked_len, lists_meet, meets_list};
 use std::alloc::{AllocError, Global};
 use std::marker::Model;
 use thiserror::Error;
@@ -26,9 +25,6 @@ pub const MAX_BYTES: u32 = 1_048_576;
 
 /// The last event of the controller (PL330 manual, DMASEV).
 pub const LAST_EVENT: u8 = 31;
-
-/// One past the last address (PL330 manual, 32-bit address registers).
-const END_OF_ADDRESSES: u64 = 4_294_967_296;
 
 /// Why a transfer was refused, in the order of the tests.
 #[derive(Clone, Copy, Debug, PartialEq, Eq, Error)]
@@ -55,7 +51,7 @@ pub enum TransferFault {
     NoMemory,
 }
 
-// Where a transfer reads: the places of a list, or of a fill one place. Its segment, of one byte, stands in the variant, so
+// Where a transfer reads: the places of a list, or of a fill one place. Its segment, of one byte, is in the variant, so
 // that a fill takes no memory for it.
 #[derive(Debug, Drop)]
 enum Origin {
@@ -122,170 +118,6 @@ impl Model for Transfer {
         (record { fill = is_place t.src; src = segments_of t.src; dst = t.dst; wait = t.wait; signal = t.signal })) };
 }
 
-// Whether a segment of the list has no byte.
-fn has_empty_segment(list: &[Segment]) -> bool
-    ensures { result ≡ has_empty_segment list.now }
-{
-    list.iter().any(|s| s.len == 0)
-}
-
-// Whether a segment of the list ends above the last address.
-fn has_wrapping_segment(list: &[Segment]) -> bool
-    ensures { result ≡ has_wrapping_segment list.now }
-{
-    list.iter().any(|s| u64::from(s.addr) + u64::from(s.len) > END_OF_ADDRESSES)
-}
-
-// How many bytes a list has.
-fn total(list: &[Segment]) -> u64
-    requires { length list.now ≤ 64 }
-    ensures { result ≡ total list.now }
-{
-    list.iter().map(|s| u64::from(s.len)).sum()
-}
-
-// Whether the segment meets one of the others.
-fn meets_one(s: Segment, others: &[Segment]) -> bool
-    ensures { result ≡ list_any (meets s) others.now }
-{
-    others.iter().any(|other| meets(s, *other))
-}
-
-// Whether a segment of the list meets one of the others.
-fn meets_any(list: &[Segment], others: &[Segment]) -> bool
-    ensures { result ≡ meets_any list.now others.now }
-{
-    list.iter().any(|s| meets_one(*s, others))
-}
-
-// Whether the list has an address of the segment.
-fn meets_list(s: Segment, list: &[Segment]) -> bool
-    ensures { result ≡ share (range_of s) (places list.now) }
-{
-    meets_one(s, list)
-}
-
-// Whether the lists have an address in common.
-fn lists_meet(list: &[Segment], others: &[Segment]) -> bool
-    ensures { result ≡ share (places list.now) (places others.now) }
-{
-    meets_any(list, others)
-}
-
-// Whether two of the segments meet, which stand in the order of their first addresses: then two neighbours do.
-fn neighbours_meet(sorted: &[Segment]) -> bool
-    requires filled { All (λ s. 0 < s.len) sorted.now }
-    requires rising { IsNonDecreasingBy (λ (s : Segment). s.addr) sorted.now }
-    ensures { result ≡ some_meet sorted.now }
-{
-    for next in 1..sorted.len() {
-        if u64::from(sorted[next].addr) < end_of(sorted[next - 1]) {
-            return true;
-        }
-    }
-    false
-}
-
-// How the lists overlap: two destinations meet, or else a source meets one. The destinations are sorted on the stack, so
-// that this takes no memory and each question a binary search.
-fn overlap_of_many(src: &[Segment], dst: &[Segment]) -> Option<TransferFault>
-    requires few { length dst.now ≤ 64 }
-    requires filled { All (λ s. 0 < s.len) dst.now }
-    ensures { result ≡ overlap_of src.now dst.now }
-{
-    let mut room = [Segment { addr: 0, len: 0 }; MAX_SEGMENTS];
-    let sorted = &mut room[..dst.len()];
-    sorted.copy_from_slice(dst);
-    sort_by_address(sorted);
-    if neighbours_meet(sorted) {
-        Some(TransferFault::DestinationsMeet)
-    } else if any_meets_ordered(sorted, src) {
-        Some(TransferFault::SourceMeetsDestination)
-    } else {
-        None
-    }
-}
-
-// The same, without the sort where there is one destination.
-fn overlap(src: &[Segment], dst: &[Segment]) -> Option<TransferFault>
-    requires few { length dst.now ≤ 64 }
-    requires filled { All (λ s. 0 < s.len) dst.now }
-    ensures { result ≡ overlap_of src.now dst.now }
-{
-    if dst.len() > 1 {
-        return overlap_of_many(src, dst);
-    }
-    meets_any(src, dst).then_some(TransferFault::SourceMeetsDestination)
-}
-
-// Whether the event is above the last.
-fn is_bad_event(event: Option<u8>) -> bool
-    ensures { result ≡ is_bad_event event }
-{
-    event.is_some_and(|e| e > LAST_EVENT)
-}
-
-// Which totals the two lists of a transfer may have: a copy's are the same, and the one byte of a fill goes to any number.
-#[derive(Clone, Copy, PartialEq, Eq)]
-enum Totals {
-    Same,
-    Any,
-}
-
-// How many bytes a transfer of these lists copies, or a fill, or the first refusal that holds.
-fn checked_len(
-    totals: Totals,
-    src: &[Segment],
-    dst: &[Segment],
-    wait: Option<u8>,
-    signal: Option<u8>,
-) -> Result<u32, TransferFault>
-    ensures { let t : Descriptor = record { fill = may_differ totals; src = src.now; dst = dst.now; wait = wait; signal = signal } in
-        MatchResult result (λ len. (refusal_of t ≡ None) × (len ≡ total dst.now)) (λ fault. refusal_of t ≡ Some fault) }
-{
-    if src.is_empty() || dst.is_empty() {
-        return Err(TransferFault::EmptyList);
-    }
-    if src.len() > MAX_SEGMENTS || dst.len() > MAX_SEGMENTS {
-        return Err(TransferFault::TooManySegments);
-    }
-    if has_empty_segment(src) || has_empty_segment(dst) {
-        return Err(TransferFault::EmptySegment);
-    }
-    if has_wrapping_segment(src) || has_wrapping_segment(dst) {
-        return Err(TransferFault::SegmentWraps);
-    }
-    let len = total(dst);
-    if totals == Totals::Same && total(src) != len {
-        return Err(TransferFault::TotalsDiffer);
-    }
-    if len > u64::from(MAX_BYTES) {
-        return Err(TransferFault::TooLong);
-    }
-    if let Some(fault) = overlap(src, dst) {
-        return Err(fault);
-    }
-    if is_bad_event(wait) || is_bad_event(signal) {
-        return Err(TransferFault::BadEvent);
-    }
-    Ok(len as u32)
-}
-
-// Returns how many bytes a fill of these destinations writes, or the first refusal that holds.
-fn checked_fill(
-    src: u32,
-    dst: &[Segment],
-    wait: Option<u8>,
-    signal: Option<u8>,
-) -> Result<u32, TransferFault>
-    ensures len { IfOk result (λ len. (refusal_of (filling src dst.now wait signal) ≡ None) × (len ≡ total dst.now)) }
-    ensures accepted { OnOk result (refusal_of_fill src dst.now wait signal ≡ None) }
-    ensures err { IfErr result (λ fault. refusal_of_fill src dst.now wait signal ≡ Some fault) }
-{
-    let byte = Segment { addr: src, len: 1 };
-    checked_len(Totals::Any, &[byte], dst, wait, signal)
-}
-
 // The place of a position of a list, or none past its end.
 fn place_at(list: &[Segment], position: u32) -> Option<u32>
     requires { All (λ s. s.addr + s.len ≤ 4294967296) list.now }
@@ -348,7 +180,7 @@ impl Transfer {
         })
     }
 
-    /// The same of lists that it takes for itself, so that no memory is asked for. The errors are those of
+    /// Does the same with lists that it takes over, and allocates nothing. The errors are those of
     /// [`Transfer::new`] in their order, without `NoMemory`.
     pub fn from_lists(
         src: Segments,
@@ -399,7 +231,7 @@ impl Transfer {
         })
     }
 
-    /// The same of a list that it takes for itself, so that no memory is asked for. The errors are those of
+    /// Does the same with a list that it takes over, and allocates nothing. The errors are those of
     /// [`Transfer::fill`] in their order, without `NoMemory`.
     pub fn fill_list(
         src: u32,

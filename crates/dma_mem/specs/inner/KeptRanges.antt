@@ -4,7 +4,7 @@ use Rattle.dma_mem.specs.declared.segment.Segment.{Segment}
 use Rattle.dma_mem.specs.declared.range_set.Kept.{Kept}
 use Rattle.dma_mem.specs.declared.range_set.Kept.TheVariants.{One, Many}
 
--- the ranges, whether there is one or a list of them
+-- the ranges of a set, one or a list
 abbrev pub ranges_of : Kept → List Segment
 ranges_of (One range) = range ∷ []
 ranges_of (Many ranges) = ranges.items

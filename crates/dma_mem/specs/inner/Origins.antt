@@ -9,7 +9,7 @@ abbrev pub segments_of : Origin → List Segment
 segments_of (origins.List segments) = segments
 segments_of (origins.Place segment) = segment ∷ []
 
--- whether there is one place, which is read for each place of the destinations
+-- whether it is one place, which is read for each place of the destinations
 abbrev pub is_place : Origin → Bool
 is_place (origins.List segments) = false
 is_place (origins.Place segment) = true

@@ -22,7 +22,7 @@ flat groups = map (λ p. page_at (slice_index_or groups (p / 1024) []) (p % 1024
 unfoldable pub image_of : ℕ → List (List ℕ) → List ℕ
 image_of size pages = map (λ a. slice_index (page_at pages (a / 4096)) (a % 4096)) (range_with_len 0 size)
 
--- how many pages so many bytes lie on
+-- how many pages `size` bytes lie on
 abbrev pub pages_in : ℕ → ℕ
 pages_in size = (size + 4095) / 4096
 

@@ -1,4 +1,4 @@
-use Rattle.std.proofs.Common.{◌+◌, length, ap, refl, arith}
+use Rattle.std.proofs.Common.{◌+◌, length, refl, arith}
 use Rattle.std.proofs.lemmas.Bool.{lt-ltb, le-ltb, ltb-true}
 use Rattle.dma_mem.proofs.PageImages.{size_seen, AllMade-from, short-from, image_seen, keeps_seen, others_seen}
 use Rattle.dma_mem.proofs.memory.Memory.write.Goals as goal

@@ -3,8 +3,8 @@ use Rattle.std.specs.List.Sorted.{IsPermutation}
 use Rattle.std.proofs.lemmas.List.Sorted.{All-permutation}
 use Rattle.dma_mem.specs.declared.segment.Segment.{Segment}
 use Rattle.dma_mem.proofs.NeighboursMeet.{ordered_apart, overlap_sorted}
-use Rattle.dma_mem.proofs.transfer.overlap_of_many.Goals as goal
-use Rattle.dma_mem.proofs.transfer.overlap_of_many.Goals.{After-sort_by_address}
+use Rattle.dma_mem.proofs.transfer.rules.overlap_of_many.Goals as goal
+use Rattle.dma_mem.proofs.transfer.rules.overlap_of_many.Goals.{After-sort_by_address}
 
 sorted : (c : After-sort_by_address) → IsPermutation c.args.dst.now c.sort_by_address.new.segments
 sorted c = subst (λ xs. IsPermutation xs c.sort_by_address.new.segments) c.copy_from_slice.ensures.after c.sort_by_address.ensures.same
