@@ -1,5 +1,8 @@
 //! A box taken apart into the pointer that owns its value, and put together again: for values that code in another language
 //! keeps between calls.
+//!
+//! Proved, by hand: the value that goes in is the one that comes out, and the pointer owns its memory in between. Not proved:
+//! that a caller puts it together again. A `BoxPointer` that is taken apart and forgotten leaks.
 #![tactic(auto)]
 
 ghost use Rattle.std.specs.Prelude.{◌≡◌};
