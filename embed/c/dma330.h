@@ -1,16 +1,15 @@
 /* A verified software DMA controller (ARM DMA-330, memory to memory) for programs in C, from C89 on, and in C++.
  *
- * It is linked with libdma330.a. docs/EMBEDDING.md says what a caller owes; in short:
- * - A dma330_controller is DMA330_CONTROLLER_INIT (zeros) before its first call. Its members are never touched. While it is
- *   open it is never copied; it may be moved, and the first is then zeros before it is used again.
- * - Its calls come one after another. Threads that share one take turns by a lock.
- * - No pointer is null, not even one to no elements, and no two of a call overlap, but for lists that are only read. While a
- *   call runs nobody else writes what its pointers point to, or reads what it writes.
+ * Link it with libdma330.a. docs/EMBEDDING.md has all duties of a caller; in short:
+ * - A dma330_controller is DMA330_CONTROLLER_INIT (zeros) before its first call. Its members are the library's. An open one is
+ *   not copied; it may be moved, and its old place is zeroed before it is used again.
+ * - One call at a time uses it. Threads that share one take turns by a lock.
+ * - No pointer is null, not even one to no elements, and no two of a call overlap, except lists that are only read. While a
+ *   call runs, nobody else writes what its pointers point to, or reads what it writes.
  *
- * A call answers DMA330_OK, or a negative code: the first that applies of those that its comment names, in their order. A
- * call that is refused changes nothing and writes no output; but DMA330_NOT_OPEN comes before all others, DMA330_NO_MEMORY
- * may come in each place where it is named, `*place` is written where the code names a place, and `*conflict` where it is
- * DMA330_BUSY or DMA330_RUNNING. */
+ * A call returns DMA330_OK, or the first code that applies of those that its comment lists, in their order. A refused call
+ * changes nothing and writes no output, except `*place` where the code has a place, and `*conflict` for DMA330_BUSY and
+ * DMA330_RUNNING. DMA330_NOT_OPEN comes before all others. */
 #ifndef DMA330_H
 #define DMA330_H
 
@@ -67,31 +66,31 @@ typedef struct dma330_segment {
 /* How a transfer finished. */
 typedef struct dma330_outcome {
     uint32_t result;  /* enum dma330_result_code */
-    uint32_t residue; /* how many of its bytes were not stored */
+    uint32_t residue; /* the number of its bytes that were not stored */
 } dma330_outcome;
 
-/* The running transfer that DMA330_BUSY or DMA330_RUNNING names: of several the one on the lowest channel. */
+/* The running transfer that caused DMA330_BUSY or DMA330_RUNNING: of several the one on the lowest channel. */
 typedef struct dma330_conflict {
     uint32_t channel;
     uint32_t cookie;
 } dma330_conflict;
 
-/* What runs on a channel: a transfer, from the step that starts it to the one that finishes it or the call that terminates
- * it, also while it waits for an event. */
+/* The transfer that runs on a channel: from the step that starts it to the step that finishes it or the call that
+ * terminates it, also while it waits for an event. */
 typedef struct dma330_run {
     uint32_t cookie;
-    uint32_t stored; /* how many of its bytes are stored so far */
+    uint32_t stored; /* the number of its bytes that are stored so far */
 } dma330_run;
 
-/* What dma330_step did. A member that isn't said to be of the turn is 0. */
+/* What dma330_step did. A member is 0 unless its comment names the turn. */
 typedef struct dma330_report {
-    uint32_t taken;   /* how many steps were taken, the last one too, whatever it did */
+    uint32_t taken;   /* the number of steps, the last one included, whatever it did */
     uint32_t turn;    /* what the last one did: enum dma330_turn */
-    uint32_t channel; /* of DMA330_HELD: the channel of the transfer in the way */
-    uint32_t cookie;  /* of DMA330_STARTED and DMA330_FINISHED; of DMA330_HELD that of the transfer in the way */
+    uint32_t channel; /* of DMA330_HELD: the channel of the conflicting transfer */
+    uint32_t cookie;  /* of DMA330_STARTED and DMA330_FINISHED; of DMA330_HELD that of the conflicting transfer */
     uint32_t event;   /* of DMA330_WAITING */
-    uint32_t result;  /* of DMA330_FINISHED: enum dma330_result_code, but DMA330_ABORTED, which dma330_terminate counts */
-    uint32_t residue; /* of DMA330_FINISHED: how many of its bytes were not stored */
+    uint32_t result;  /* of DMA330_FINISHED: enum dma330_result_code, never DMA330_ABORTED */
+    uint32_t residue; /* of DMA330_FINISHED: the number of its bytes that were not stored */
 } dma330_report;
 
 /* A part of the caller's memory, whose first byte is at address `addr`. */
@@ -107,11 +106,11 @@ typedef struct dma330_channel {
     uint8_t is_open;
 } dma330_channel;
 
-/* What dma330_channel_step did. A member that isn't said to be of the turn is 0. */
+/* What dma330_channel_step did. A member is 0 unless its comment names the turn. */
 typedef struct dma330_channel_report {
-    uint32_t taken; /* how many steps were taken, the last one included, whatever it did */
+    uint32_t taken; /* the number of steps, the last one included, whatever it did */
     uint32_t turn;  /* what the last one did: enum dma330_channel_turn */
-    uint32_t event; /* of DMA330_CHANNEL_SIGNALLED: whose flag was set; of DMA330_CHANNEL_WAITING: for which it waits */
+    uint32_t event; /* of DMA330_CHANNEL_SIGNALLED: whose flag it set; of DMA330_CHANNEL_WAITING: the one it waits for */
     uint32_t fault; /* of DMA330_CHANNEL_FAULT: enum dma330_fault */
     uint32_t pc;    /* the offset of the next instruction: of WAITING and FAULT that of the one that waits or failed, of
                      * ENDED that of the DMAEND */
@@ -126,27 +125,27 @@ typedef struct dma330_registers {
     uint8_t lc0;
     uint8_t lc1;
     uint8_t is_loaded; /* 1 where it has a program, else 0 */
-    uint32_t taken;    /* how many instructions were executed since the program was loaded, DMAEND included */
-    uint64_t stored;   /* how many bytes were stored since then */
+    uint32_t taken;    /* the number of instructions executed since the program was loaded, DMAEND included */
+    uint64_t stored;   /* the number of bytes stored since then */
 } dma330_registers;
 
-/* How a program that was run alone ended. A member that isn't said to be of the end is 0. */
+/* How a program that ran alone ended. A member is 0 unless its comment names the end. */
 typedef struct dma330_run_end {
     uint32_t end;   /* enum dma330_end */
-    uint32_t turns; /* of DMA330_END_ENDED: how many instructions were executed, DMAEND too */
+    uint32_t turns; /* of DMA330_END_ENDED: the number of executed instructions, DMAEND included */
     uint32_t event; /* of DMA330_END_WAITING */
     uint32_t fault; /* of DMA330_END_FAULT: enum dma330_fault */
     uint32_t pc;    /* of DMA330_END_FAULT: the offset of the instruction */
 } dma330_run_end;
 
-/* What the last of some steps did. A halted channel is told as halted, paused or not; else a paused one as paused, whatever
- * it has to do. */
+/* What the last of some steps did. A halted channel reports DMA330_HALTED, paused or not; a paused one DMA330_PAUSED,
+ * whatever it has to do. */
 enum dma330_turn {
-    DMA330_NO_STEP = 0,  /* none was asked for */
-    DMA330_STARTED = 1,  /* the channel's next transfer runs from now on */
+    DMA330_NO_STEP = 0,  /* no step was requested */
+    DMA330_STARTED = 1,  /* the channel's next transfer began to run */
     DMA330_MOVED = 2,    /* one instruction was executed */
     DMA330_NOTHING = 3,  /* no transfer is issued and unfinished */
-    DMA330_HELD = 4,     /* the next transfer can't start: a running one conflicts, of several that on the lowest channel */
+    DMA330_HELD = 4,     /* the next transfer can't start: it conflicts with a running one, of several that on the lowest channel */
     DMA330_WAITING = 5,  /* for an event whose flag is clear */
     DMA330_PAUSED = 6,   /* until dma330_resume or dma330_terminate */
     DMA330_HALTED = 7,   /* by a transfer that failed, until dma330_terminate */
@@ -176,7 +175,7 @@ enum dma330_state { DMA330_UNKNOWN = 0, DMA330_IN_PROGRESS = 1, DMA330_COMPLETE 
 
 enum dma330_mark_kind { DMA330_MARK_READING = 0, DMA330_MARK_WRITING = 1 };
 
-/* How a program that was run alone ended. */
+/* How a program that ran alone ended. */
 enum dma330_end { DMA330_END_ENDED = 1, DMA330_END_OUT_OF_TURNS = 2, DMA330_END_WAITING = 3, DMA330_END_FAULT = 4 };
 
 /* The manual's faults of a channel. */
@@ -190,7 +189,7 @@ enum dma330_fault {
     DMA330_DATA_READ_ERR = 7
 };
 
-/* What a call answers. */
+/* What a call returns. */
 enum dma330_code {
     DMA330_OK = 0,
     DMA330_NOT_OPEN = -1,             /* the controller or the channel is zeroed or closed */
@@ -200,12 +199,12 @@ enum dma330_code {
     DMA330_BAD_KIND = -5,             /* a kind of mark is neither 0 nor 1 */
     DMA330_NO_RESULT = -6,            /* the cookie hasn't finished, was never given, or its result is forgotten */
     DMA330_NOT_RUNNING = -7,          /* nothing runs on the channel, or there is no such channel */
-    DMA330_BUFFER_TOO_SMALL = -8,     /* what is to be written has more bytes than there is room */
+    DMA330_BUFFER_TOO_SMALL = -8,     /* the output has more bytes than there is room */
     DMA330_NO_PROGRAM = -9,           /* the channel has no program */
     DMA330_OUT_OF_MEMORY_RANGE = -10, /* a range or a segment ends above the memory's size */
-    DMA330_BUSY = -11,                /* a running transfer is in the way */
+    DMA330_BUSY = -11,                /* a running transfer conflicts */
     DMA330_NO_CHANNEL = -12,          /* the channel's number isn't below the number of channels */
-    DMA330_COOKIES_SPENT = -13,       /* the channel has given cookie 2147483647 */
+    DMA330_COOKIES_SPENT = -13,       /* the channel has used cookie 2147483647 */
     DMA330_STEPS_SPENT = -14,         /* an instruction is due, and the step count is 2^64 - 1 */
     DMA330_BAD_RANGE = -15,           /* a range to be marked is empty, or ends above 2^32 */
     DMA330_RUNNING = -16,             /* a checkpoint, and a transfer runs */
@@ -233,11 +232,11 @@ enum dma330_code {
 
 /* ---- a controller and its memory ---- */
 
-/* Opens a controller over a memory of `size` zeros with so many channels: ALREADY_OPEN, BAD_CHANNELS, SIZE_OUT_OF_RANGE,
- * NO_MEMORY. */
+/* Opens a controller with a memory of `size` zeros and with `channels` channels: ALREADY_OPEN, BAD_CHANNELS,
+ * SIZE_OUT_OF_RANGE, NO_MEMORY. */
 int32_t dma330_open(dma330_controller *controller, uint32_t size, uint8_t channels) DMA330_NO_NULLS;
 
-/* Frees what an open controller holds, and leaves one that may be opened again; of another one it does nothing. */
+/* Frees what an open controller holds; it may be opened again. Does nothing if it isn't open. */
 void dma330_close(dma330_controller *controller) DMA330_NO_NULLS;
 
 /* Writes bytes into the memory from an address on: OUT_OF_MEMORY_RANGE, BUSY where a running transfer reads or writes one of
@@ -252,173 +251,170 @@ int32_t dma330_read(dma330_controller *controller, uint32_t addr, uint8_t *out, 
 
 /* ---- transfers ---- */
 
-/* Gives a channel a copy of the source list's bytes to the places of the destination list, perhaps with an event to wait
- * for before it and one to signal once all is stored, and writes its cookie, 1 for the first of the channel, without
- * starting it; each list's rule is tested over both lists before the next: EMPTY_LIST, TOO_MANY_SEGMENTS, EMPTY_SEGMENT,
- * SEGMENT_WRAPS, TOTALS_DIFFER, TOO_LONG, DESTINATIONS_MEET, SOURCE_MEETS_DESTINATION, BAD_EVENT, NO_MEMORY, NO_CHANNEL,
- * OUT_OF_MEMORY_RANGE, COOKIES_SPENT, NO_MEMORY. */
+/* Queues a copy of the source list's bytes to the places of the destination list on a channel, and writes its cookie, 1 for
+ * the first of the channel. It waits for the event `wait` before it begins, and signals `signal` once all is stored. It
+ * doesn't start before dma330_issue. Each rule is tested over both lists before the next: EMPTY_LIST, TOO_MANY_SEGMENTS,
+ * EMPTY_SEGMENT, SEGMENT_WRAPS, TOTALS_DIFFER, TOO_LONG, DESTINATIONS_MEET, SOURCE_MEETS_DESTINATION, BAD_EVENT, NO_MEMORY,
+ * NO_CHANNEL, OUT_OF_MEMORY_RANGE, COOKIES_SPENT, NO_MEMORY. */
 int32_t dma330_submit(dma330_controller *controller, uint8_t channel, const dma330_segment *src, size_t src_count,
                       const dma330_segment *dst, size_t dst_count, int32_t wait, int32_t signal,
                       uint32_t *cookie) DMA330_NO_NULLS;
 
-/* Gives a channel a fill, which copies the byte at address `src` to every place of the destination list, as dma330_submit
- * gives a copy, with its codes but for TOTALS_DIFFER. */
+/* Queues a fill, which copies the byte at address `src` to every place of the destination list, as dma330_submit queues a
+ * copy, with the same codes except TOTALS_DIFFER. */
 int32_t dma330_submit_fill(dma330_controller *controller, uint8_t channel, uint32_t src, const dma330_segment *dst,
                            size_t dst_count, int32_t wait, int32_t signal, uint32_t *cookie) DMA330_NO_NULLS;
 
-/* Issues all that was submitted to a channel, so that it may start, and writes how many became so: NO_CHANNEL, NO_MEMORY. */
+/* Allows all submitted transfers of a channel to start, and writes how many were not allowed before: NO_CHANNEL,
+ * NO_MEMORY. */
 int32_t dma330_issue(dma330_controller *controller, uint8_t channel, uint32_t *count) DMA330_NO_NULLS;
 
-/* Holds the steps of a channel, of which one that is paused stays so: NO_CHANNEL. */
+/* Pauses a channel, paused or not: its steps do nothing until dma330_resume: NO_CHANNEL. */
 int32_t dma330_pause(dma330_controller *controller, uint8_t channel) DMA330_NO_NULLS;
 
-/* Lets the steps of a paused channel go on: NO_CHANNEL. */
+/* Ends the pause of a channel: NO_CHANNEL. */
 int32_t dma330_resume(dma330_controller *controller, uint8_t channel) DMA330_NO_NULLS;
 
-/* Aborts all that is unfinished on a channel, issued or not, whose stored bytes stay stored, ends its pause and its halt,
- * and writes how many were aborted, a transfer that failed not among them: NO_CHANNEL, NO_MEMORY. */
+/* Aborts all unfinished transfers of a channel, issued or not, ends its pause and its halt, and writes the number of aborted
+ * transfers; one that failed isn't counted. Stored bytes stay stored: NO_CHANNEL, NO_MEMORY. */
 int32_t dma330_terminate(dma330_controller *controller, uint8_t channel, uint32_t *count) DMA330_NO_NULLS;
 
-/* Steps a channel until `most` steps were taken or one neither starts nor moves, and answers the refusal of the first step,
- * NO_CHANNEL, STEPS_SPENT or NO_MEMORY; where a later one is refused, those before it stand and are told with DMA330_OK, and
- * the next call takes that step again, or answers its refusal if the cause still holds. With `most` 0 nothing is refused
- * but a controller that isn't open. */
+/* Steps a channel up to `most` times, or until a step neither starts nor moves. Returns the refusal of the first step:
+ * NO_CHANNEL, STEPS_SPENT, NO_MEMORY. If a later step is refused, the report has the steps before it, with DMA330_OK, and
+ * the next call tries that step again. With `most` 0 the only refusal is NOT_OPEN. */
 int32_t dma330_step(dma330_controller *controller, uint8_t channel, uint32_t most, dma330_report *report) DMA330_NO_NULLS;
 
-/* ---- what is known of them ---- */
+/* ---- readings ---- */
 
-/* Answers how far a cookie is, an enum dma330_state, or NOT_OPEN: DMA330_UNKNOWN for one that was never given, or where no
- * such channel is. */
+/* Returns the state of a cookie, an enum dma330_state, or NOT_OPEN. A cookie that was never given, and any cookie of a
+ * channel that doesn't exist, is DMA330_UNKNOWN. */
 int32_t dma330_status(dma330_controller *controller, uint8_t channel, uint32_t cookie) DMA330_NO_NULLS;
 
-/* Tells how a cookie finished: NO_RESULT. */
+/* Writes how a cookie finished: NO_RESULT. */
 int32_t dma330_result(dma330_controller *controller, uint8_t channel, uint32_t cookie,
                       dma330_outcome *outcome) DMA330_NO_NULLS;
 
-/* Tells what runs on a channel: NOT_RUNNING. */
+/* Writes the transfer that runs on a channel: NOT_RUNNING. */
 int32_t dma330_running(dma330_controller *controller, uint8_t channel, dma330_run *running) DMA330_NO_NULLS;
 
-/* Counts the cookies of a channel that are not finished, 0 where there is no such channel. */
+/* Counts the unfinished cookies of a channel: 0 for a channel that doesn't exist. */
 int32_t dma330_unfinished(dma330_controller *controller, uint8_t channel, uint32_t *count) DMA330_NO_NULLS;
 
-/* Counts the cookies of a channel, from cookie 1 on, whose results checkpoints have forgotten, 0 where there is no such
- * channel. */
+/* Counts the cookies of a channel, from cookie 1 on, whose results checkpoints have forgotten: 0 for a channel that doesn't
+ * exist. */
 int32_t dma330_forgotten(dma330_controller *controller, uint8_t channel, uint32_t *count) DMA330_NO_NULLS;
 
-/* Counts the steps that moved or finished, on all channels since the controller was opened: not those that started a
- * transfer or did nothing, which `taken` counts. */
+/* Counts the steps that moved or finished, on all channels since the controller was opened. Steps that started a transfer or
+ * did nothing count in `taken` alone. */
 int32_t dma330_steps(dma330_controller *controller, uint64_t *steps) DMA330_NO_NULLS;
 
 /* Counts the entries of the history. docs/EMBEDDING.md says which calls add one. */
 int32_t dma330_history_entries(dma330_controller *controller, uint64_t *count) DMA330_NO_NULLS;
 
-/* Counts the bytes that the history keeps, of writes and of reads. It looks at each entry. */
+/* Counts the bytes of writes and reads that the history keeps, in time proportional to its entries. */
 int32_t dma330_history_bytes(dma330_controller *controller, uint64_t *count) DMA330_NO_NULLS;
 
-/* Counts the transfers that run, on all channels. */
+/* Counts the running transfers of all channels. */
 int32_t dma330_running_count(dma330_controller *controller, uint32_t *count) DMA330_NO_NULLS;
 
 /* ---- marks, events, the history ---- */
 
-/* Marks a range, below the memory's size or not, in which bursts of that kind fail from then on: BAD_KIND, BAD_RANGE,
- * NO_MEMORY. */
+/* Marks a range, inside the memory or not: bursts that read it or write it, by `kind`, fail from then on: BAD_KIND,
+ * BAD_RANGE, NO_MEMORY. */
 int32_t dma330_mark(dma330_controller *controller, uint32_t kind, dma330_segment range) DMA330_NO_NULLS;
 
 /* Removes all marks: NO_MEMORY. */
 int32_t dma330_unmark(dma330_controller *controller) DMA330_NO_NULLS;
 
-/* Sets the flag of an event, which lets one transfer pass that waits for it: BAD_EVENT, NO_MEMORY. */
+/* Sets the flag of an event. One transfer that waits for it takes it: BAD_EVENT, NO_MEMORY. */
 int32_t dma330_raise(dma330_controller *controller, uint8_t event) DMA330_NO_NULLS;
 
-/* Drops the history of the calls, with the results of what has finished, and gives its memory back: RUNNING, NO_MEMORY. */
+/* Drops the history and the results of finished transfers, and frees their memory: RUNNING, NO_MEMORY. */
 int32_t dma330_checkpoint(dma330_controller *controller, dma330_conflict *conflict) DMA330_NO_NULLS;
 
 /* ---- a channel over the caller's memory ----
  *
- * A channel needs no controller. Its program's instructions read and write the caller's memory in place, which is lent for the
- * time of a call as regions: an array that rises by address, in which the `bytes` of no region are null. Between calls memory
- * and flags are the caller's, to read and to write. Several channels may be stepped in turn over the same memory and flags.
- * Each call but open and close fails with NOT_OPEN where the channel isn't open; a call that fails changes nothing. An open
- * channel keeps memory for the longest program, so that load_program, load_from and restore ask for none and don't fail with
- * NO_MEMORY: that is tested, and not proved. */
+ * A channel needs no controller. Its program reads and writes the caller's memory in place, which is lent for the time of a
+ * call as regions: an array that rises by address, in which no `bytes` is null. Between calls memory and flags are the
+ * caller's to read and to write. Several channels may step in turn over the same memory and flags. Each call but open and
+ * close fails with NOT_OPEN if the channel isn't open; a call that fails changes nothing. An open channel has room for the
+ * longest program, so load_program, load_from and restore allocate nothing (tested, not proved). */
 
 /* Opens a channel without a program and without marks, with room for the longest program: ALREADY_OPEN, NO_MEMORY. */
 int32_t dma330_channel_open(dma330_channel *channel) DMA330_NO_NULLS;
 
-/* Frees what an open channel holds, and leaves one that may be opened again; of another one it does nothing. */
+/* Frees what an open channel holds; it may be opened again. Does nothing if it isn't open. */
 void dma330_channel_close(dma330_channel *channel) DMA330_NO_NULLS;
 
-/* Loads the program of a copy in place of what was there, with registers and counts at 0 and an empty buffer: the codes of
- * dma330_submit up to the first NO_MEMORY. */
+/* Loads the program of a copy in place of the one before, and sets registers and counts to 0 and empties the buffer: the
+ * codes of dma330_submit up to the first NO_MEMORY. */
 int32_t dma330_channel_load_copy(dma330_channel *channel, const dma330_segment *src, size_t src_count,
                                  const dma330_segment *dst, size_t dst_count, int32_t wait, int32_t signal) DMA330_NO_NULLS;
 
-/* Loads the program of a fill in the same way, with its codes but for TOTALS_DIFFER. */
+/* Loads the program of a fill in the same way, with the same codes except TOTALS_DIFFER. */
 int32_t dma330_channel_load_fill(dma330_channel *channel, uint32_t src, const dma330_segment *dst, size_t dst_count,
                                  int32_t wait, int32_t signal) DMA330_NO_NULLS;
 
-/* Loads a program's bytes in the same way, which are read now and not again: PROGRAM_TOO_LONG, NO_MEMORY. */
+/* Loads a program's bytes in the same way. They are copied: PROGRAM_TOO_LONG, NO_MEMORY. */
 int32_t dma330_channel_load_program(dma330_channel *channel, const uint8_t *program, size_t len) DMA330_NO_NULLS;
 
-/* Loads the program that begins at `addr` of the memory in the same way: the bytes from there up to the end of the region,
- * 8192 at most. There are none where no region has the address, and the first step then fails with DMA330_INSTR_FETCH_ERR:
- * BAD_REGIONS, NO_MEMORY. */
+/* Loads the program that begins at `addr` of the memory in the same way: the bytes from there to the end of the region, 8192
+ * at most, or none if no region has the address; the first step then fails with DMA330_INSTR_FETCH_ERR: BAD_REGIONS,
+ * NO_MEMORY. */
 int32_t dma330_channel_load_from(dma330_channel *channel, const dma330_region *regions, size_t region_count,
                                  uint32_t addr) DMA330_NO_NULLS;
 
-/* Takes at most `most` steps over the regions and the flags of events 0 to 31, the bits of `*flags`, up to one that doesn't
- * move or that sets a flag, so that the caller can raise an interrupt: BAD_REGIONS, NO_PROGRAM. Loads outside the regions
- * fail with DMA330_DATA_READ_ERR, stores with DMA330_DATA_WRITE_ERR. */
+/* Takes at most `most` steps over the regions and the flags of events 0 to 31, which are the bits of `*flags`. It ends after
+ * a step that doesn't move or that sets a flag, so that the caller can raise an interrupt: BAD_REGIONS, NO_PROGRAM. Loads
+ * outside the regions fail with DMA330_DATA_READ_ERR, stores with DMA330_DATA_WRITE_ERR. */
 int32_t dma330_channel_step(dma330_channel *channel, dma330_region *regions, size_t region_count, uint32_t *flags,
                             uint32_t most, dma330_channel_report *report) DMA330_NO_NULLS;
 
-/* Drops the program, if there is one. Registers and counts stay. */
+/* Drops the program. Registers and counts stay. */
 int32_t dma330_channel_stop(dma330_channel *channel) DMA330_NO_NULLS;
 
 /* Writes the registers and counts. */
 int32_t dma330_channel_registers(dma330_channel *channel, dma330_registers *registers) DMA330_NO_NULLS;
 
-/* Marks a range, in the memory or not, at which loads or stores of this channel fail from then on, an
- * enum dma330_mark_kind: BAD_KIND, BAD_RANGE, NO_MEMORY. */
+/* Marks a range, inside the memory or not: loads or stores of this channel there, by `kind`, fail from then on: BAD_KIND,
+ * BAD_RANGE, NO_MEMORY. */
 int32_t dma330_channel_mark(dma330_channel *channel, uint32_t kind, dma330_segment range) DMA330_NO_NULLS;
 
 /* Removes the marks of this channel. */
 int32_t dma330_channel_unmark(dma330_channel *channel) DMA330_NO_NULLS;
 
-/* Writes all that the channel is, but for its marks, as plain bytes, and how many these are, DMA330_MAX_SAVE at most:
- * BUFFER_TOO_SMALL. */
+/* Writes the whole channel, except its marks, as bytes, and their number, DMA330_MAX_SAVE at most: BUFFER_TOO_SMALL. */
 int32_t dma330_channel_save(dma330_channel *channel, uint8_t *out, size_t room, size_t *len) DMA330_NO_NULLS;
 
-/* Makes the channel the one of a save. A save holds no marks; those that this channel has stay: BAD_SAVE, NO_MEMORY. */
+/* Makes the channel the one that was saved. A save holds no marks; those of this channel stay: BAD_SAVE, NO_MEMORY. */
 int32_t dma330_channel_restore(dma330_channel *channel, const uint8_t *save, size_t len) DMA330_NO_NULLS;
 
 /* ---- without a controller ----
  *
- * Programs have the instructions that docs/EMBEDDING.md lists, those of copies from memory to memory, and a text is one of
- * them a line, in capital letters: DMAMOV SAR 0x00001000 (eight digits), DMALP 0 16, DMASEV 3. */
+ * Programs have the instructions that docs/EMBEDDING.md lists. A text has one a line, in capital letters:
+ * DMAMOV SAR 0x00001000 (eight digits), DMALP 0 16, DMASEV 3. */
 
-/* Writes DMA330_VERSION with a zero byte behind it, and its length without that: BUFFER_TOO_SMALL. */
+/* Writes DMA330_VERSION and a zero byte, and its length without that byte: BUFFER_TOO_SMALL. */
 int32_t dma330_version(char *out, size_t room, size_t *len) DMA330_NO_NULLS;
 
-/* Runs a program's bytes alone over the caller's memory, with no marks and all flags clear, for at most `limit`
- * instructions, and tells how it ended: SIZE_OUT_OF_RANGE, PROGRAM_TOO_LONG, NO_MEMORY. The program may not lie inside the
- * memory. */
+/* Runs a program alone over the caller's memory, without marks and with all flags clear, for at most `limit` instructions,
+ * and writes how it ended: SIZE_OUT_OF_RANGE, PROGRAM_TOO_LONG, NO_MEMORY. The program may not lie inside the memory. */
 int32_t dma330_run_program(const uint8_t *program, size_t len, uint8_t *memory, size_t size, uint32_t limit,
                            dma330_run_end *end) DMA330_NO_NULLS;
 
-/* Writes the bytes of the program that a text says, and their number; the first line with a fault, which may be that it goes
- * past 8192 bytes, is told by its code and its number from 1 in `*place`: BAD_MNEMONIC, BAD_OPERAND, NUMBER_OUT_OF_RANGE,
- * PROGRAM_TOO_LONG; NO_MEMORY, BUFFER_TOO_SMALL. */
+/* Assembles a text, and writes the program's bytes and their number. For a fault `*place` is its line, from 1; a line that
+ * goes past 8192 bytes is one: BAD_MNEMONIC, BAD_OPERAND, NUMBER_OUT_OF_RANGE, PROGRAM_TOO_LONG; NO_MEMORY,
+ * BUFFER_TOO_SMALL. */
 int32_t dma330_assemble(const char *text, size_t text_len, uint8_t *out, size_t room, size_t *len,
                         size_t *place) DMA330_NO_NULLS;
 
-/* Writes the text of a program, each line ended by a line feed and no zero byte behind it, and its length; of the first
- * bytes that begin no instruction `*place` is the offset: CUT_INSTRUCTION, UNKNOWN_INSTRUCTION, BAD_FIELD; NO_MEMORY,
- * BUFFER_TOO_SMALL. */
+/* Disassembles a program, and writes its text, each line ended by a line feed, without a zero byte, and its length. For a
+ * fault `*place` is the offset of the first bytes that begin no instruction: CUT_INSTRUCTION, UNKNOWN_INSTRUCTION, BAD_FIELD;
+ * NO_MEMORY, BUFFER_TOO_SMALL. */
 int32_t dma330_disassemble(const uint8_t *program, size_t len, char *out, size_t room, size_t *text_len,
                            size_t *place) DMA330_NO_NULLS;
 
-/* ---- what the library takes for granted of these types ---- */
+/* ---- the layout that the library assumes ---- */
 
 #define DMA330_ASSERT(name, holds) typedef char dma330_assert_##name[(holds) ? 1 : -1]
 DMA330_ASSERT(pointers, sizeof(void *) == 8 && sizeof(size_t) == 8);
