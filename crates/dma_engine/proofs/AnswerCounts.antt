@@ -115,7 +115,7 @@ unless-still v (Some fault) x h = same v
 by-answer : (v w : View) (call : Call) (reply : Reply) (P : View → Type 0) → P (answer v call).1 → (reply, w) ≡ answer v call → P w
 by-answer v w call reply P h is = subst P (sym (ap (λ (x : Reply × View). x.1) is)) h
 
-answered : (v w : View) (call : Call) (reply : Reply) (P : View → Type 0) → P v → P (answer v call).1 → CallAnswers v call reply w → P w
+pub answered : (v w : View) (call : Call) (reply : Reply) (P : View → Type 0) → P v → P (answer v call).1 → CallAnswers v call reply w → P w
 answered v w call Done P o h is = by-answer v w call Done P h is
 answered v w call (Bytes b) P o h is = by-answer v w call (Bytes b) P h is
 answered v w call (Cookie n) P o h is = by-answer v w call (Cookie n) P h is

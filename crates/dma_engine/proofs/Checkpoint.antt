@@ -28,7 +28,7 @@ use Rattle.dma_engine.proofs.Boards.{counted-at, counted-base, counted-object}
 use Rattle.dma_engine.proofs.Queues.{front_where, runs_front, holds-at, many-queues, get_or_any}
 use Rattle.dma_engine.proofs.QueueCalls.{shown-both}
 use Rattle.dma_engine.proofs.TransferRules.{IsGood, marked-object, ruled-object, ruled-base}
-use Rattle.dma_engine.proofs.Sizes.{flags-many, size-object, many-channels}
+use Rattle.dma_engine.proofs.Sizes.{flags-object, size-object, many-channels}
 use Rattle.dma_engine.proofs.WhatRuns.{find-none_at, running-same}
 
 -- ---- the channels of the next base
@@ -65,19 +65,19 @@ none-passed o s ch h none = elim (cases_lt ch (length o.channels)) [
 ]
 
 -- the next base is one
-pub base-next : (p : Parts) → Holds p → NothingRuns (object_of (view_of p)) (view_of p).schedule → IsBase (base_from (object_of (view_of p)))
-base-next p h none =
-    let o = object_of (view_of p) in
-    let ruled = ruled-object (length p.base.image) p.base p.history refl (ruled-base p.base h.sound.opens) h.sound.legal in
-    let same : length p.base.image ≡ length o.image = sym (size-object p.base p.history) in
+base-next : (v : View) → IsSound v → NothingRuns (object_of v) v.schedule → IsBase (base_from (object_of v))
+base-next v h none =
+    let o = object_of v in
+    let ruled = ruled-object (length v.base.image) v.base v.history refl (ruled-base v.base h.opens) h.legal in
+    let same : length v.base.image ≡ length o.image = sym (size-object v.base v.history) in
     record {
-      flags = flags-many p h;
-      marks = marked-object p.base p.history h.sound.opens.marks h.sound.legal;
+      flags = flags-object v.base v.history ∙ h.opens.flags;
+      marks = marked-object v.base v.history h.opens.marks h.legal;
       each = λ ch.
           let c = channel o ch in
           let n = length c.outcomes in
-          let counted = counted-at p h ch in
-          let rests = none-passed o (view_of p).schedule ch h.sound.fits none in
+          let counted = counted-object v.base v.history (counted-base v.base h.opens) h.legal ch in
+          let rests = none-passed o v.schedule ch h.fits none in
           rw (forgotten-at o ch) (record {
             outcomes = refl;
             rests = rests;
@@ -88,7 +88,7 @@ base-next p h none =
             );
             rules = λ k d less.
                 let within : n + k < length c.submitted = omega (arith, less, length-drop n c.submitted) in
-                let good : IsGood (length p.base.image) (slice_index_or c.submitted (n + k) d) = ruled ch (n + k) _ (slice_get-get_or c.submitted (n + k) d within) in
+                let good : IsGood (length v.base.image) (slice_index_or c.submitted (n + k) d) = ruled ch (n + k) _ (slice_get-get_or c.submitted (n + k) d within) in
                 let here : slice_index_or (drop n c.submitted) k d ≡ slice_index_or c.submitted (n + k) d = get_or-drop n c.submitted k d in
                 subst (IsGood (length o.image)) (sym here) (subst (λ m. IsGood m (slice_index_or c.submitted (n + k) d)) same good);
           });
@@ -152,6 +152,17 @@ fits-next o s h none =
           rw (nothing c i') tt;
     }
 
+-- a sound view stays sound
+pub checkpoint-sound : (v : View) → IsSound v → NothingRuns (object_of v) v.schedule → IsSound (checkpointed v)
+checkpoint-sound v h none =
+    let many : length (base_from (object_of v)).channels ≡ length (object_of v).channels = length-map (object_of v).channels forget in
+    record {
+      opens = base-next v h none;
+      makes = rw (size-object v.base v.history, many, many-channels v.base v.history) h.makes;
+      legal = tt;
+      fits = fits-next (object_of v) v.schedule h.fits none;
+    }
+
 -- nothing is taken on any channel
 nothing-taken : (o : Object) (s : List ChannelSchedule) (ch : ℕ) → Fits o s → NothingRuns o s → (slice_index_or s ch idle).taken ≡ None
 nothing-taken o s ch h none = elim (cases_lt ch (length o.channels)) [
@@ -171,12 +182,7 @@ holds-next p h none =
     ap (λ (w : View). runs (object_of w) w.schedule ch) is ∙ rest (base_from o) ch in
     let same : running o s ≡ running (base_from o) s = sym (running-same o (base_from o) s s (sym many) (λ c l. rest (base_from o) c ∙ sym (rest o c))) in
     record {
-      sound = subst IsSound (sym is) (record {
-        opens = base-next p h none;
-        makes = rw (size-object p.base p.history, many, many-channels p.base p.history) h.sound.makes;
-        legal = tt;
-        fits = fits-next o s h.sound.fits none;
-      });
+      sound = subst IsSound (sym is) (checkpoint-sound v h.sound none);
       size = h.size ∙ sym (size-object p.base p.history);
       shown = h.shown ∙ shown-both o (base_from o) s s refl same ∙ ap memory_of (sym is);
       events = h.events;

@@ -1,14 +1,13 @@
 -- What an engine keeps where a channel is terminated, or its front finishes.
-use Rattle.std.proofs.Common.{◌≡◌, ◌≢◌, ℕ, ◌+◌, ◌-◌, ◌<◌, ◌≤◌, List, [], ◌∷◌, ◌++◌, length, map, take, drop, Option, Some, None, Bool, true, false, ◌&&◌, refl, ap, sym, ◌∙◌, arith, inl, inr, zero, suc, add-one}
-use Rattle.std.specs.Prelude.{slice_index_or, slice_set, is_some, nat_lt, ◌==◌, if◌then◌else◌, unwrap_or, IsSome, MatchOption}
-use Rattle.std.proofs.lemmas.Bool.{cases_eq, true≢false, eq-eqb, ne_eqb, ltb-false, eqb-true}
+use Rattle.std.proofs.Common.{◌≡◌, ◌≢◌, ℕ, ◌+◌, ◌-◌, ◌<◌, ◌≤◌, List, [], ◌∷◌, ◌++◌, length, map, take, drop, Some, None, Bool, true, false, refl, ap, sym, ◌∙◌, arith, inl, inr, zero, suc, add-one}
+use Rattle.std.specs.Prelude.{slice_index_or, slice_set, is_some, ◌==◌, if◌then◌else◌, unwrap_or}
+use Rattle.std.proofs.lemmas.Bool.{cases_eq, eq-eqb, ne_eqb}
 use Rattle.std.proofs.lemmas.List.{ext_get_or, length-set, length-drop, length-map, get_or-drop, map_more, get_or-set_same, get_or-set_other}
 use Rattle.std.proofs.lemmas.List.Elements.{All-append}
 use Rattle.dma_mem.specs.Image.{put, after_moves, laid}
 use Rattle.dma_mem.specs.Places.{Descriptor, size_of}
 use Rattle.dma_mem.specs.Meeting.{IsFree}
 use Rattle.dma_mem.proofs.ImagePut.{length-put, get_or-put}
-use Rattle.dma_chan.specs.Compiled.{cost}
 use Rattle.dma_chan.specs.Traffic.{stored_after}
 use Rattle.dma_chan.proofs.ShapeLaws.{stored_is}
 use Rattle.dma_engine.specs.declared.entry.Entry.TheVariants.{Finished, Terminated}
@@ -16,11 +15,12 @@ use Rattle.dma_engine.specs.declared.outcome.Outcome.{Outcome}
 use Rattle.dma_engine.specs.declared.outcome.TransResult.{TransResult}
 use Rattle.dma_engine.specs.declared.outcome.TransResult.TheVariants.{Aborted}
 use Rattle.dma_engine.specs.declared.queue.Queue.{Queue}
-use Rattle.dma_engine.specs.Object.{Object, ChannelState, Allows, CanHaveStored, after, channel, empty_channel, front, issued_front, front_of, no_transfer, finished, unfinished, with_outcome, with_all_aborted, outcome_of, aborted, is_failure}
-use Rattle.dma_engine.specs.View.{View, ChannelSchedule, RunningTransfer, Agrees, runs, runs_there, memory_shown, object_of, channels}
+use Rattle.dma_engine.specs.Object.{Object, ChannelState, Allows, after, channel, empty_channel, front, front_of, no_transfer, finished, unfinished, with_outcome, with_all_aborted, outcome_of, aborted, is_failure}
+use Rattle.dma_engine.specs.View.{View, ChannelSchedule, RunningTransfer, runs, runs_there, memory_shown, object_of, channels}
 use Rattle.dma_engine.specs.Answer.{done_by, done_on, terminated}
 use Rattle.dma_engine.specs.inner.Holds.{Holds, Parts, view_of, schedule_of}
 use Rattle.dma_engine.proofs.Changes.{changed, changed_view, view-changed, holds-changed, runs-here, runs-other}
+use Rattle.dma_engine.proofs.Fronts.{stored-there}
 use Rattle.dma_engine.proofs.InTheWay.{taken-none}
 use Rattle.dma_engine.proofs.Histories.{object_after-append, IsLegal-append}
 use Rattle.dma_engine.proofs.Memory.{shown-ended}
@@ -72,54 +72,6 @@ shown-over p h ch q o x less read many others none image =
 
 -- ---- terminate
 
-still-zero : (w : Bool) (n : ℕ) → w ≡ true → (w && nat_lt 0 n) ≡ false → n ≡ 0
-still-zero true n h e = let z = ltb-false 0 n e in omega arith
-still-zero false n h e = absurd cc
-
-at-last : (s : Bool) (n m : ℕ) → (s && n == m) ≡ true → n ≡ m
-at-last true n m h = eqb-true n m h
-at-last false n m h = absurd cc
-
--- where nothing runs nothing is stored
-abbrev Fitting : ChannelState → ℕ → Option Descriptor → Type 0
-Fitting c done o =
-    MatchOption o (done ≡ 0) (λ t.
-    (done ≤ size_of t) × (c.halted ≡ true → done ≡ 0) × (IsSome t.wait → c.passed ≡ false → done ≡ 0) × (c.signalled ≡ true → done ≡ size_of t))
-
-nothing-stored : (c : ChannelState) → c.signalled ≡ false → CanHaveStored c 0
-nothing-stored c h =
-    let by : (o : Option Descriptor) → Fitting c 0 o = λ o. elim o as (λ o. Fitting c 0 o) [
-      | None ↦ refl
-      | Some t ↦ (omega arith, λ _. refl, λ _ _. refl, λ e. absurd (true≢false (sym e ∙ h)))
-    ] in
-    by (issued_front c)
-
--- how much may be stored
-can-have : (p : Parts) → Holds p → (ch : ℕ) (q : Queue) → ch < length p.queues → q ≡ slice_index_or p.queues ch q → CanHaveStored (channel (object_of (view_of p)) ch) (done_on (view_of p) ch)
-can-have p h ch q less read =
-    let v : View = view_of p in
-    let c = channel (object_of v) ch in
-    let at = holds-at p h ch q less read in
-    let by : (b : Bool) → is_some q.channel.program ≡ b → CanHaveStored c (done_on v ch) = λ b. elim b as (λ b. is_some q.channel.program ≡ b → CanHaveStored c (done_on v ch)) [
-      | true ↦ λ loaded.
-          let r = running p h ch q less read loaded in
-          let n = q.channel.taken in
-          let stores = stored_is r.transfer r.rules in
-          let done : done_on v ch ≡ stored_after r.transfer n = ap done_by r.runs_is in
-          let none : IsSome r.transfer.wait → c.passed ≡ false → stored_after r.transfer n ≡ 0 = λ w e.
-          let zero : n ≡ 0 = still-zero (is_some r.transfer.wait) n w (sym r.passed ∙ e) in ap (stored_after r.transfer) zero ∙ stores.none in
-          let whole : c.signalled ≡ true → stored_after r.transfer n ≡ size_of r.transfer = λ e.
-          let last : n ≡ cost r.transfer - 1 = at-last (is_some r.transfer.signal) n (cost r.transfer - 1) (sym r.signalled ∙ e) in ap (stored_after r.transfer) last ∙ stores.all in
-          rw (done, r.issued) (stores.at_most n, λ e. absurd (true≢false (sym e ∙ r.goes)), none, whole)
-      | false ↦ λ unloaded.
-          let none = taken-none q.channel unloaded in
-          let before : runs (object_of v) v.schedule ch ≡ None = at.runs_is ∙ ap (runs_there ch c) none in
-          let agrees : Agrees c None = rw none at at.agrees in
-          let done : done_on v ch ≡ 0 = ap done_by before in
-          rw done (nothing-stored c agrees.1)
-    ] in
-    by _ refl
-
 -- the queue after a terminate
 abbrev pub queue_terminated : Queue → ℕ → List Outcome → ℕ → Queue
 queue_terminated q spare outcomes issued =
@@ -142,7 +94,7 @@ holds-terminated p ch spare count issued q outcomes h less read all_of many numb
     let other : (d : ℕ) → d ≢ ch → channel w d ≡ channel o d = λ d k. get_or-set_other o.channels ch d (with_all_aborted c done) empty_channel k in
     let all : length w.channels ≡ length o.channels = length-set o.channels ch (with_all_aborted c done) in
     holds-changed p ch r p.memory p.events history p.steps w h less (record {
-      legal = IsLegal-append v.base p.history (e ∷ []) h.sound.legal ((at.there, number, can-have p h ch q less read), tt);
+      legal = IsLegal-append v.base p.history (e ∷ []) h.sound.legal ((at.there, number, stored-there v ch h.sound at.there), tt);
       leaves = object_after-append v.base p.history (e ∷ []);
       grows = λ k y. slice_get-push p.history e y k;
       fits = record { there = at.there; many = all; others = other; agrees = rw here (refl, refl); free = λ d l k. tt };

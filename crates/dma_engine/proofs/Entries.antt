@@ -20,7 +20,7 @@ use Rattle.dma_engine.specs.declared.entry.Signaller.TheVariants.{Host}
 use Rattle.dma_engine.specs.declared.fault.EngineFault.{EngineFault}
 use Rattle.dma_engine.specs.declared.fault.EngineFault.TheVariants.{OutOfMemoryRange}
 use Rattle.dma_engine.specs.declared.queue.Queue.{Queue}
-use Rattle.dma_engine.specs.Object.{Object, channel, front, finished, after}
+use Rattle.dma_engine.specs.Object.{Object, Allows, channel, front, finished, after}
 use Rattle.dma_engine.specs.View.{View, ChannelSchedule, RunningTransfer, running, runs, runs_there, memory_shown, object_of, size, channels}
 use Rattle.dma_engine.specs.Answer.{write_fault, read_fault, busy, cause, first_running}
 use Rattle.dma_engine.specs.inner.Holds.{Holds, Parts, view_of, taken_of}
@@ -47,7 +47,7 @@ runs_at p h ch q t less read loaded is =
 
 -- ---- a write
 
-cause-none : (b : Bool) (fault : EngineFault) (others : Option EngineFault) → cause b fault others ≡ None → (b ≡ false) × (others ≡ None)
+pub cause-none : (b : Bool) (fault : EngineFault) (others : Option EngineFault) → cause b fault others ≡ None → (b ≡ false) × (others ≡ None)
 cause-none true fault others h = absurd cc
 cause-none false fault others h = (refl, h)
 
@@ -96,6 +96,14 @@ read-allowed v addr n h =
     let parts = cause-none (nat_lt (size v) (addr + n)) OutOfMemoryRange _ h in
     (ltb-false (size v) (addr + n) parts.0, busy-none _ parts.1)
 
+-- and its entry may come
+pub read-entry : (v : View) (addr n : ℕ) (bytes : List ℕ) → read_fault v addr n ≡ None → bytes ≡ take n (drop addr (object_of v).image) → Allows (object_of v) (ReadBack addr bytes)
+read-entry v addr n bytes free is =
+    let image = (object_of v).image in
+    let may = read-allowed v addr n free in
+    let long : length bytes ≡ n = ap length is ∙ omega (arith, may.0, length-take n (drop addr image), length-drop addr image) in
+    (omega (arith, long, may.0), is ∙ ap (λ k. take k (drop addr image)) (sym long))
+
 -- the memory has there what the image has
 pub memory-read : (p : Parts) (addr n : ℕ) → Holds p → read_fault (view_of p) addr n ≡ None → take n (drop addr p.memory) ≡ take n (drop addr (object_of (view_of p)).image)
 memory-read p addr n h free =
@@ -104,12 +112,8 @@ memory-read p addr n h free =
 
 pub holds-read : (p : Parts) (addr n : ℕ) (bytes : List ℕ) → Holds p → read_fault (view_of p) addr n ≡ None → bytes ≡ take n (drop addr (object_of (view_of p)).image) → Holds (with_entry_at p (ReadBack addr bytes) p.memory p.events p.marks)
 holds-read p addr n bytes h free is =
-    let v : View = view_of p in
-    let image = (object_of v).image in
-    let may = read-allowed v addr n free in
-    let long : length bytes ≡ n = ap length is ∙ omega (arith, may.0, length-take n (drop addr image), length-drop addr image) in
     holds-entered p (ReadBack addr bytes) p.memory p.events p.marks h (record {
-      allowed = (omega (arith, long, may.0), is ∙ ap (λ k. take k (drop addr image)) (sym long));
+      allowed = read-entry (view_of p) addr n bytes free is;
       stay = refl;
       shown = h.shown;
       events = h.events;

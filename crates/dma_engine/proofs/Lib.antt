@@ -15,6 +15,7 @@ pub mod QueueCalls
 pub mod TransferRules
 pub mod Endings
 pub mod StepCases
+pub mod Fronts
 pub mod MovingSteps
 pub mod InstructionSteps
 pub mod Starts
@@ -29,3 +30,6 @@ pub mod Rows
 pub mod AnswerCounts
 pub mod CookieCounts
 pub mod IdleSteps
+pub mod JoinedCalls
+pub mod SoundViews
+pub mod StaysSound

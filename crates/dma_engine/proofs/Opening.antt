@@ -77,6 +77,15 @@ base-opening bytes n = record {
   each = λ ch. rw (new-at bytes n ch) (record { outcomes = refl; rests = (refl, refl); counts = (omega arith, omega arith, omega arith); rules = λ k d l. absurd (omega (arith, l)) });
 }
 
+-- the view of a new engine is sound
+pub new-sound : (bytes n : ℕ) → new_fault bytes n ≡ None → IsSound (new_view bytes n)
+new-sound bytes n made = record {
+  opens = base-opening bytes n;
+  makes = rw (opening-size bytes n, opening-many bytes n) made;
+  legal = tt;
+  fits = opening-fits bytes n;
+}
+
 -- the parts of a new engine
 abbrev pub new_parts : ℕ → List Bool → ℕ → Parts
 new_parts bytes made n = record { size = bytes; memory = replicate bytes 0; made = made; events = all_clear; marks = []; queues = replicate n new_queue; base = opening bytes n; history = []; steps = 0 }
@@ -92,12 +101,7 @@ holds-new bytes pages n made =
     let o = opening bytes n in
     let none : (ch : ℕ) → runs (object_of v) v.schedule ch ≡ None = λ ch. ap (λ (w : View). runs (object_of w) w.schedule ch) is ∙ none-runs bytes n ch in
     record {
-      sound = subst IsSound (sym is) (record {
-        opens = base-opening bytes n;
-        makes = rw (opening-size bytes n, opening-many bytes n) made;
-        legal = tt;
-        fits = opening-fits bytes n;
-      });
+      sound = subst IsSound (sym is) (new-sound bytes n made);
       size = sym (opening-size bytes n);
       shown = opening-shown bytes n ∙ ap memory_of (sym is);
       events = opening-events bytes n ∙ ap (λ (w : View). (object_of w).events) (sym is);

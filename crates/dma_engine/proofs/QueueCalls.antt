@@ -118,14 +118,14 @@ view-paused p ch q b h less read =
 
 -- ---- issue
 
-agrees-issued : (c : ChannelState) (taken : Option ℕ) → Agrees c taken → Agrees (record c { issued = used c }) taken
+pub agrees-issued : (c : ChannelState) (taken : Option ℕ) → Agrees c taken → Agrees (record c { issued = used c }) taken
 agrees-issued c None h = h
 agrees-issued c (Some n) h =
     let f = front_where c _ h.1 in
     let e : nat_lt (finished c) (used c) ≡ true = lt-ltb _ _ f.within in
     (h.0, rw (e, f.is) f.holds)
 
-runs-issued : (ch : ℕ) (c : ChannelState) (taken : Option ℕ) → runs_there ch (record c { issued = used c }) taken ≡ runs_there ch c taken
+pub runs-issued : (ch : ℕ) (c : ChannelState) (taken : Option ℕ) → runs_there ch (record c { issued = used c }) taken ≡ runs_there ch c taken
 runs-issued ch c None = refl
 runs-issued ch c (Some n) = refl
 
@@ -184,14 +184,14 @@ issued-below c t h =
     ] in
     by _ refl
 
-agrees-submitted : (c : ChannelState) (u : Descriptor) (taken : Option ℕ) → Agrees c taken → Agrees (with_transfer c u) taken
+pub agrees-submitted : (c : ChannelState) (u : Descriptor) (taken : Option ℕ) → Agrees c taken → Agrees (with_transfer c u) taken
 agrees-submitted c u None h = h
 agrees-submitted c u (Some n) h =
     let f = front_where c _ h.1 in
     let e : nat_lt (finished c) c.issued ≡ true = issued-below c f.transfer f.issued in
     (h.0, rw (e, front-submitted c f.transfer u f.is) f.holds)
 
-runs-submitted : (ch : ℕ) (c : ChannelState) (u : Descriptor) (taken : Option ℕ) → Agrees c taken → runs_there ch (with_transfer c u) taken ≡ runs_there ch c taken
+pub runs-submitted : (ch : ℕ) (c : ChannelState) (u : Descriptor) (taken : Option ℕ) → Agrees c taken → runs_there ch (with_transfer c u) taken ≡ runs_there ch c taken
 runs-submitted ch c u None h = refl
 runs-submitted ch c u (Some n) h =
     let f = front_where c _ h.1 in

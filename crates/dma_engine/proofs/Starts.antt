@@ -1,18 +1,14 @@
 -- What an engine keeps where a front starts, and what it may answer where one finishes.
-use Rattle.std.proofs.Common.{◌≡◌, ◌≢◌, ℕ, ◌+◌, ◌-◌, ◌<◌, ◌≤◌, List, [], ◌∷◌, ◌++◌, length, take, drop, Option, Some, None, Ok, Bool, true, false, ◌&&◌, ◌||◌, not, refl, ap, sym, ◌∙◌, subst, arith, zero, suc}
-use Rattle.std.specs.Prelude.{slice_index_or, slice_set, is_some, nat_lt, ◌==◌, unwrap_or, IfSome, IsSome, IsSomeAnd}
-use Rattle.std.specs.List.{list_any}
+use Rattle.std.proofs.Common.{◌≡◌, ◌≢◌, ℕ, ◌+◌, ◌-◌, ◌<◌, ◌≤◌, List, [], ◌∷◌, ◌++◌, length, Option, Some, None, Ok, Bool, true, false, ◌&&◌, ◌||◌, not, refl, ap, sym, ◌∙◌, subst, arith}
+use Rattle.std.specs.Prelude.{slice_index_or, slice_set, is_some, nat_lt, ◌==◌, unwrap_or, IfSome, IsSomeAnd}
 use Rattle.std.specs.Option.{option_map}
-use Rattle.std.proofs.lemmas.Bool.{eq-eqb, ne_eqb, lt-ltb, false≢true}
-use Rattle.dma_insn.specs.declared.insn.Insn.TheVariants.{Ld, St, End, Sev, Wfe}
-use Rattle.dma_mem.specs.Marking.{MarkList, meets_mark}
-use Rattle.dma_mem.specs.Places.{Descriptor, is_free_of, lies_below, size_of, sources, destinations}
+use Rattle.std.proofs.lemmas.Bool.{ne_eqb}
+use Rattle.dma_insn.specs.declared.insn.Insn.TheVariants.{Sev}
+use Rattle.dma_mem.specs.Places.{Descriptor, is_free_of, lies_below, size_of, destinations}
 use Rattle.dma_mem.specs.Rules.{IsTransfer}
-use Rattle.dma_mem.specs.declared.marks.MarkKind.{MarkKind}
-use Rattle.dma_mem.specs.declared.marks.MarkKind.TheVariants.{Reading, Writing}
 use Rattle.dma_chan.specs.Compiled.{cost}
 use Rattle.dma_chan.specs.Ready.{OnPages}
-use Rattle.dma_chan.specs.Traffic.{member, stored_after, burst}
+use Rattle.dma_chan.specs.Traffic.{member, stored_after}
 use Rattle.dma_chan.proofs.LayerLaws.{starts_at}
 use Rattle.dma_chan.proofs.ShapeLaws.{shape_is, stored_is}
 use Rattle.dma_engine.specs.declared.call.Call.TheVariants.{Step}
@@ -22,11 +18,10 @@ use Rattle.dma_engine.specs.declared.entry.Entry.TheVariants.{Finished}
 use Rattle.dma_engine.specs.declared.outcome.Outcome.{Outcome}
 use Rattle.dma_engine.specs.declared.outcome.TransResult.{TransResult}
 use Rattle.dma_engine.specs.declared.fault.EngineFault.TheVariants.{NoMemory}
-use Rattle.dma_engine.specs.declared.outcome.TransResult.TheVariants.{NoError, ReadFailed, WriteFailed, Aborted}
 use Rattle.dma_engine.specs.declared.queue.Queue.{Queue}
 use Rattle.dma_engine.specs.declared.turn.Turn.TheVariants.{Held, Started, Finished as TurnFinished}
 use Rattle.dma_engine.specs.Object.{ChannelState, Allows, channel, front, issued_front, finished, unfinished}
-use Rattle.dma_engine.specs.View.{View, ChannelSchedule, RunningTransfer, Agrees, AreFree, runs, runs_there, object_of, size}
+use Rattle.dma_engine.specs.View.{View, ChannelSchedule, RunningTransfer, Agrees, AreFree, IsSound, runs, runs_there, object_of, size}
 use Rattle.dma_engine.specs.Turn.{front_cookie, in_the_way, start_turn, turn, with_entry, with_step, with_taken}
 use Rattle.dma_engine.specs.inner.Ways.{named}
 use Rattle.dma_engine.specs.Answer.{CallAnswers, is_started, done_on, done_by}
@@ -35,14 +30,13 @@ use Rattle.dma_engine.specs.declared.ranges.Ranges.{Ranges}
 use Rattle.dma_engine.specs.inner.Ranges.{AreOfRunning, HasRangesOf}
 use Rattle.dma_engine.specs.inner.Holds.{Holds, IsPrepared, Parts, view_of, schedule_of, queue_started}
 use Rattle.dma_engine.proofs.CallCases.{starved}
-use Rattle.dma_engine.proofs.Changes.{changed, view-changed, holds-changed, runs-here, runs-other}
+use Rattle.dma_engine.proofs.Changes.{FitsStill, changed, view-changed, holds-changed, runs-here, runs-other}
 use Rattle.dma_engine.proofs.Endings.{queue_finished}
-use Rattle.dma_engine.proofs.InstructionSteps.{and-false}
+use Rattle.dma_engine.proofs.Fronts.{and-false, finish-may, front-of}
 use Rattle.dma_engine.proofs.Memory.{shown-started}
-use Rattle.dma_engine.proofs.MovingSteps.{passed-still}
 use Rattle.dma_engine.proofs.Queues.{front_known, holds-at, runs_front}
 use Rattle.dma_engine.proofs.WaysByRanges.{below-more}
-use Rattle.dma_engine.proofs.TransferRules.{Runs, good-front}
+use Rattle.dma_engine.proofs.TransferRules.{Runs, good-front, ruled-front}
 use Rattle.dma_engine.proofs.Sizes.{size-small}
 use Rattle.dma_engine.proofs.StepCases.{Due, stepped-so, start-turn, finish-turn}
 use Rattle.dma_engine.proofs.WhatRuns.{find-none_at}
@@ -78,6 +72,28 @@ free-of : (t : Descriptor) (r : RunningTransfer) (x : Option RunningTransfer) �
 free-of t r None e h = tt
 free-of t r (Some s) e h = rw e (not-free (is_free_of t s.transfer) h)
 
+-- the schedule after it fits
+pub start-fits : (v : View) (ch : ℕ) (t : Descriptor) (x : ChannelSchedule) → IsSound v → MayStart v ch → issued_front (channel (object_of v) ch) ≡ Some t → in_the_way v t ≡ None → x.taken ≡ Some 0 → FitsStill (object_of v) (object_of v) v.schedule ch x
+start-fits v ch t x h may some none begun =
+    let o = object_of v in
+    let s = v.schedule in
+    let c = channel o ch in
+    let is : front c ≡ Some t = (front_known c t some).is ∙ ap (λ u. Some u) (front_known c t some).holds in
+    let before : Agrees c None = rw may.3 at (h.fits.each ch may.0) in
+    let now : RunningTransfer = record { ch = ch; cookie = finished c + 1; transfer = t; taken = 0 } in
+    let there_is : runs_there ch c x.taken ≡ Some now = ap (runs_there ch c) begun ∙ runs_front ch c t 0 is in
+    let each : (d : ℕ) → d < length o.channels → (y : Option RunningTransfer) → runs o s d ≡ y → IfSome y (λ u. not (is_free_of t u.transfer) ≡ false) = λ d l y. elim y as (λ y. runs o s d ≡ y → IfSome y (λ u. not (is_free_of t u.transfer) ≡ false)) [
+      | None ↦ λ _. tt
+      | Some u ↦ λ e. find-none_at (λ r. not (is_free_of t r.transfer)) o s d u l none e
+    ] in
+    record {
+      there = may.0;
+      many = refl;
+      others = λ d k. refl;
+      agrees = subst (Agrees c) (sym begun) (start-agrees c t (ruled-front v ch t h is).0 may.1 some before);
+      free = λ d l k. rw there_is (free-of t now (runs o s d) refl (each d l (runs o s d) refl));
+    }
+
 -- a queue whose front has started, with the ranges that it keeps
 pub record IsStarted (q r : Queue) (t : Descriptor) : Type 0 where
   pub ranges : Ranges
@@ -110,26 +126,15 @@ holds-started p ch q t u h less read may some none pages ranges =
     let is : front c ≡ Some t = (front_known c t some).is ∙ ap (λ u. Some u) (front_known c t some).holds in
     let good = good-front p h ch t is in
     let idle_there : (schedule_of q).taken ≡ None = sym (ap (λ (y : ChannelSchedule). y.taken) at.schedule_is) ∙ may.3 in
-    let before : Agrees c None = rw idle_there at at.agrees in
     let now : RunningTransfer = record { ch = ch; cookie = finished c + 1; transfer = t; taken = 0 } in
     let there_is : runs_there ch c x.taken ≡ Some now = runs_front ch c t 0 is in
     let rested : runs o s ch ≡ None = at.runs_is ∙ ap (runs_there ch c) idle_there in
     let others : (d : ℕ) → d ≢ ch → runs o s d ≡ runs o (slice_set s ch x) d = λ d k. sym (runs-other o o s ch d x k refl) in
-    let each : (d : ℕ) → d < length o.channels → (y : Option RunningTransfer) → runs o s d ≡ y → IfSome y (λ u. not (is_free_of t u.transfer) ≡ false) = λ d l y. elim y as (λ y. runs o s d ≡ y → IfSome y (λ u. not (is_free_of t u.transfer) ≡ false)) [
-      | None ↦ λ _. tt
-      | Some u ↦ λ e. find-none_at (λ r. not (is_free_of t r.transfer)) o s d u l none e
-    ] in
     holds-changed p ch r p.memory p.events p.history p.steps o h less (record {
       legal = h.sound.legal;
       leaves = refl;
       grows = λ k e y. y;
-      fits = record {
-        there = at.there;
-        many = refl;
-        others = λ d k. refl;
-        agrees = start-agrees c t good.0 may.1 some before;
-        free = λ d l k. rw there_is (free-of t now (runs o s d) refl (each d l (runs o s d) refl));
-      };
+      fits = start-fits v ch t x h.sound may some none refl;
       shown = h.shown ∙ sym (shown-started ch o o s (slice_set s ch x) now (record { channels = refl; there = at.there; others = others }) refl rested (runs-here o s ch x within ∙ there_is) (stored_is t good.0).none);
       events = h.events;
       marks = refl;
@@ -182,71 +187,12 @@ way-clear v t h = way-none (in_the_way v t) h
 
 -- ---- a finish
 
-either : (a b c : Bool) → (b ≡ true → c ≡ true) → (a || b) ≡ true → (a || c) ≡ true
-either true b c f h = refl
-either false b c f h = f h
-
-any-longer : (p : ℕ → Bool) (xs : List ℕ) (b c : ℕ) → b ≤ c → list_any p (take b xs) ≡ true → list_any p (take c xs) ≡ true
-any-longer p xs zero c l h = absurd (false≢true h)
-any-longer p xs (suc b) zero l h = absurd (omega arith)
-any-longer p [] (suc b) (suc c) l h = h
-any-longer p (x ∷ xs) (suc b) (suc c) l h =
-    let rest : list_any p (take b xs) ≡ true → list_any p (take c xs) ≡ true = any-longer p xs b c (omega arith) in
-    either (p x) (list_any p (take b xs)) (list_any p (take c xs)) rest h
-
-pub more-marked : (kind : MarkKind) (marks : MarkList) (xs : List ℕ) (b : ℕ) → b ≤ 256 → meets_mark kind marks (take b xs) ≡ true → meets_mark kind marks (take 256 xs) ≡ true
-unfolding meets_mark
-more-marked kind marks xs b small h = any-longer _ xs b 256 small h
-
-not-signalled : (p : Parts) (ch : ℕ) (q : Queue) (r : Runs p ch q) → member r.transfer q.channel.taken ≢ End → (channel (object_of (view_of p)) ch).signalled ≡ false
-not-signalled p ch q r other =
-    let t = r.transfer in
-    let n = q.channel.taken in
-    let shape = shape_is t r.rules in
-    r.signalled ∙ ap (λ b. is_some t.signal && b) (ne_eqb n (cost t - 1) (λ z. other (ap (member t) z ∙ shape.end_last))) ∙ and-false (is_some t.signal)
-
 pub finish-allowed : (p : Parts) (ch : ℕ) (q : Queue) (how : TransResult) → Holds p → ch < length p.queues → q ≡ slice_index_or p.queues ch q → (d : Due p ch q (Finishes (view_of p) how)) → Allows (object_of (view_of p)) (Finished ch how (done_on (view_of p) ch))
-finish-allowed p ch q NoError h less read d =
-    let c = channel (object_of (view_of p)) ch in
-    let r = d.it in
-    let t = r.transfer in
+finish-allowed p ch q how h less read d =
+    let v : View = view_of p in
     let n = q.channel.taken in
-    let shape = shape_is t r.rules in
-    let is : member t n ≡ End = d.holds in
-    let last : n + 1 ≡ cost t = shape.end_only n r.within is in
-    let at_last : n ≡ cost t - 1 = omega arith in
-    let done : done_on (view_of p) ch ≡ stored_after t n = ap done_by r.runs_is in
-    let not_wfe : (k : ℕ) (i : Bool) → member t n ≢ Wfe k i = λ k i f. let g = sym is ∙ f in absurd cc in
-    let passed : IsSome t.wait → c.passed ≡ true = λ w. passed-still p ch q r not_wfe ∙ ap (λ b. b && nat_lt 0 (n + 1)) w ∙ lt-ltb 0 (n + 1) (omega arith) in
-    let signalled : IsSome t.signal → c.signalled ≡ true = λ w. r.signalled ∙ ap (λ b. b && n == cost t - 1) w ∙ eq-eqb n (cost t - 1) at_last in
-    (r.goes, rw r.issued (passed, signalled, done ∙ ap (stored_after t) at_last ∙ (stored_is t r.rules).all))
-finish-allowed p ch q ReadFailed h less read d =
-    let c = channel (object_of (view_of p)) ch in
-    let r = d.it in
-    let t = r.transfer in
-    let n = q.channel.taken in
-    let is : member t n ≡ Ld = d.holds.0 in
-    let done : done_on (view_of p) ch ≡ stored_after t n = ap done_by r.runs_is in
-    let load = (stored_is t r.rules).load n is in
-    let not_wfe : (k : ℕ) (i : Bool) → member t n ≢ Wfe k i = λ k i f. let g = sym is ∙ f in absurd cc in
-    let not_end : member t n ≢ End = λ f. let g = sym is ∙ f in absurd cc in
-    let passed : IsSome t.wait → c.passed ≡ true = λ w. passed-still p ch q r not_wfe ∙ ap (λ b. b && nat_lt 0 (n + 1)) w ∙ lt-ltb 0 (n + 1) (omega arith) in
-    let hit = more-marked Reading (object_of (view_of p)).marks (drop (stored_after t n) (sources t)) (burst t n) load.1 d.holds.1 in
-    (r.goes, rw (r.issued, done) (passed, not-signalled p ch q r not_end, omega (arith, load.0, load.2), hit))
-finish-allowed p ch q WriteFailed h less read d =
-    let c = channel (object_of (view_of p)) ch in
-    let r = d.it in
-    let t = r.transfer in
-    let n = q.channel.taken in
-    let is : member t n ≡ St = d.holds.0 in
-    let done : done_on (view_of p) ch ≡ stored_after t n = ap done_by r.runs_is in
-    let store = (stored_is t r.rules).store n is in
-    let not_wfe : (k : ℕ) (i : Bool) → member t n ≢ Wfe k i = λ k i f. let g = sym is ∙ f in absurd cc in
-    let not_end : member t n ≢ End = λ f. let g = sym is ∙ f in absurd cc in
-    let passed : IsSome t.wait → c.passed ≡ true = λ w. passed-still p ch q r not_wfe ∙ ap (λ b. b && nat_lt 0 (n + 1)) w ∙ lt-ltb 0 (n + 1) (omega arith) in
-    let hit = more-marked Writing (object_of (view_of p)).marks (drop (stored_after t n) (destinations t)) (burst t n) store.1 d.holds.1 in
-    (r.goes, rw (r.issued, done) (passed, not-signalled p ch q r not_end, omega (arith, store.0, store.2), hit))
-finish-allowed p ch q Aborted h less read d = absurd d.holds
+    let done : done_on v ch ≡ stored_after d.it.transfer n = ap done_by d.it.runs_is in
+    subst (λ k. Allows (object_of v) (Finished ch how k)) (sym done) (finish-may v ch n d.it.transfer how (front-of p ch q d.it) d.holds)
 
 pub finish-answers : (p : Parts) (ch spare cookie residue : ℕ) (how : TransResult) (q : Queue) (outcome : Outcome) (halted : Bool) (u : Descriptor) (flags : List Bool) (memory : List ℕ) → Holds p → ch < length p.queues → q ≡ slice_index_or p.queues ch q → (d : Due p ch q (Finishes (view_of p) how)) → issued_front (channel (object_of (view_of p)) ch) ≡ Some u → cookie ≡ finished (channel (object_of (view_of p)) ch) + 1 → residue ≡ size_of u - done_on (view_of p) ch → CallAnswers (view_of p) (Step ch) (Turned (TurnFinished cookie how residue)) (view_of (changed p ch (queue_finished q spare outcome halted) memory flags (p.history ++ Finished ch how (done_on (view_of p) ch) ∷ []) (p.steps + 1)))
 finish-answers p ch spare cookie residue how q outcome halted u flags memory h less read d some number rest =

@@ -1,11 +1,13 @@
--- What each answer adds to the ticks, to the step count and to the number of finished cookies.
-use Rattle.std.specs.Prelude.{◌≡◌, ℕ, ◌+◌, ◌≤◌, ◌<◌, ◌⊎◌, false, if◌then◌else◌, Result, Ok, Err, List, [], ◌∷◌, ◌++◌, length}
+-- What each answer adds to the ticks, to the step count and to the number of finished cookies; which views answers leave;
+-- and answers to calls in a row.
+use Rattle.std.specs.Prelude.{◌≡◌, ◌≢◌, ℕ, ◌+◌, ◌≤◌, ◌<◌, ◌⊎◌, false, if◌then◌else◌, None, Result, Ok, Err, List, [], ◌∷◌, ◌++◌, length, take, drop}
 use Rattle.std.specs.List.{All}
 use Rattle.dma_mem.specs.Places.{Descriptor}
+use Rattle.dma_mem.specs.Rules.{IsTransfer}
 use Rattle.dma_engine.specs.declared.call.Call.{Call}
 use Rattle.dma_engine.specs.declared.call.Call.TheVariants.{Submit, Terminate, Step, Checkpoint}
 use Rattle.dma_engine.specs.declared.call.Reply.{Reply}
-use Rattle.dma_engine.specs.declared.call.Reply.TheVariants.{Cookie, Count, Done, Turned}
+use Rattle.dma_engine.specs.declared.call.Reply.TheVariants.{Cookie, Count, Done, Turned, Refused}
 use Rattle.dma_engine.specs.declared.entry.Entry.{Entry}
 use Rattle.dma_engine.specs.declared.fault.EngineFault.{EngineFault}
 use Rattle.dma_engine.specs.declared.fault.EngineFault.TheVariants.{NoMemory}
@@ -14,9 +16,9 @@ use Rattle.dma_engine.specs.declared.turn.Turn.TheVariants.{Moved, Finished as T
 use Rattle.dma_engine.specs.Object.{channel, finished, finished_all, last_cookie, unfinished, used}
 use Rattle.dma_engine.specs.Ticks.{Tick, Submitted, Finished, board_after, board_of, counts, status_of, tick_channel, ticks_of}
 use Rattle.dma_engine.specs.Turn.{ends, turn}
-use Rattle.dma_engine.specs.Answer.{CallAnswers, AreAnswers, StepAnswers, Extends, KeepsOutcomes, answer, has_checkpoint, is_checkpoint, reply_of, status_in}
+use Rattle.dma_engine.specs.Answer.{CallAnswers, AreAnswers, StepAnswers, Extends, KeepsOutcomes, answer, answers, has_checkpoint, is_checkpoint, reply_of, status_in}
 use Rattle.dma_engine.specs.Room.{IsIdle}
-use Rattle.dma_engine.specs.View.{View, IsSound, channels, object_of}
+use Rattle.dma_engine.specs.View.{View, IsSound, channels, new_fault, new_view, object_of}
 
 -- so many steps does an answer count: one for each that moves or finishes
 abbrev pub steps_in : Result Turn EngineFault → ℕ
@@ -131,3 +133,74 @@ TicksAreFew = (es : List Entry) → length (ticks_of es) ≤ length es
 abbrev pub IdleStepsStay : Type 0
 IdleStepsStay =
     (v w : View) (ch : ℕ) (r : Result Turn EngineFault) → IsIdle r → (reply_of Turned r, w) ≡ answer v (Step ch) → w ≡ v
+
+-- ---- which views answers leave
+
+-- A call that can be made: the transfer of a submit meets its rules, as each value of the type of transfers does.
+abbrev pub IsCall : Call → Type 0
+IsCall (Submit ch t) = IsTransfer t
+IsCall call = Unit {0}
+
+-- Calls in order answer so, one reply for each, and each view on the way is sound, the first and the last too.
+abbrev pub AreSoundAnswers : View → List Call → List Reply → View → Type 0
+AreSoundAnswers old [] [] new = IsSound new × (new ≡ old)
+AreSoundAnswers old (call ∷ calls) (reply ∷ replies) new =
+    IsSound old × ((next : View) × CallAnswers old call reply next × AreSoundAnswers next calls replies new)
+AreSoundAnswers old _ _ new = ⊥
+
+-- The view of an engine that can be made is sound.
+abbrev pub NewViewsAreSound : Type 0
+NewViewsAreSound = (bytes many : ℕ) → new_fault bytes many ≡ None → IsSound (new_view bytes many)
+
+-- Whatever a call answers, a sound view stays sound.
+abbrev pub AnswersStaySound : Type 0
+AnswersStaySound =
+    (v w : View) (call : Call) (reply : Reply) → IsCall call → IsSound v → CallAnswers v call reply w → IsSound w
+
+-- Whatever calls in order answer from a sound view on, each view on the way is sound.
+abbrev pub CallsStaySound : Type 0
+CallsStaySound =
+    (v w : View) (calls : List Call) (replies : List Reply) → All IsCall calls → IsSound v → AreAnswers v calls replies w
+    → IsSound w × AreSoundAnswers v calls replies w
+
+-- ---- answers to calls in a row
+
+-- An answer to a call is one to a list of that call alone.
+abbrev pub AnswersOne : Type 0
+AnswersOne =
+    (v w : View) (call : Call) (reply : Reply) → CallAnswers v call reply w → AreAnswers v (call ∷ []) (reply ∷ []) w
+
+-- Answers to calls, followed by answers to further calls, are answers to all of them in a row.
+abbrev pub AnswersAppend : Type 0
+AnswersAppend =
+    (u v w : View) (calls more : List Call) (replies others : List Reply) → AreAnswers u calls replies v
+    → AreAnswers v more others w → AreAnswers u (calls ++ more) (replies ++ others) w
+
+-- Answers to calls in a row are answers to the first of them, followed by answers to the others.
+abbrev pub AnswersSplit : Type 0
+AnswersSplit =
+    (u w : View) (calls more : List Call) (replies : List Reply) → AreAnswers u (calls ++ more) replies w
+    → (v : View) × AreAnswers u calls (take (length calls) replies) v
+    × AreAnswers v more (drop (length calls) replies) w
+
+-- ---- answers where memory is not wanting
+
+-- What a call answers with enough memory is an answer to it.
+abbrev pub AnswerIsOne : Type 0
+AnswerIsOne = (v : View) (call : Call) → CallAnswers v call (answer v call).0 (answer v call).1
+
+-- What calls in order answer with enough memory are answers to them.
+abbrev pub AnswersAreAnswers : Type 0
+AnswersAreAnswers = (v : View) (calls : List Call) → AreAnswers v calls (answers v calls).0 (answers v calls).1
+
+-- An answer other than out of memory is the one with enough memory.
+abbrev pub AnswerDespiteMemory : Type 0
+AnswerDespiteMemory =
+    (v w : View) (call : Call) (reply : Reply) → reply ≢ Refused NoMemory → CallAnswers v call reply w
+    → (reply, w) ≡ answer v call
+
+-- Replies of which none is out of memory are those with enough memory, and so is the view that they leave.
+abbrev pub AnswersDespiteMemory : Type 0
+AnswersDespiteMemory =
+    (v w : View) (calls : List Call) (replies : List Reply) → All (λ r. r ≢ Refused NoMemory) replies
+    → AreAnswers v calls replies w → (replies, w) ≡ answers v calls

@@ -1,6 +1,6 @@
 //! Laws of the engine's answers, for the layers above. Each is the clause of a function that does nothing.
 
-ghost use Rattle.dma_engine.specs.Laws.{CallsExtend, StretchesKeep, QuietCallsKeep, CheckpointsKeep, SubmitsGive, TerminatesFinish, StepsAdd, EndsAsTold, BoardsCount, StatusByTicks, BoardsOpen, TicksAreThere, TicksAreFew, IdleStepsStay};
+ghost use Rattle.dma_engine.specs.Laws.{CallsExtend, StretchesKeep, QuietCallsKeep, CheckpointsKeep, SubmitsGive, TerminatesFinish, StepsAdd, EndsAsTold, BoardsCount, StatusByTicks, BoardsOpen, TicksAreThere, TicksAreFew, IdleStepsStay, NewViewsAreSound, AnswersStaySound, CallsStaySound, AnswersOne, AnswersAppend, AnswersSplit, AnswerIsOne, AnswersAreAnswers, AnswerDespiteMemory, AnswersDespiteMemory};
 
 /// What each call adds to the ticks, to the step count and to the number of finished cookies.
 pub fn calls_add()
@@ -26,4 +26,27 @@ pub fn ticks_add_up()
 /// A step whose answer is idle leaves the view as it was, so the next step answers the same.
 pub fn idle_steps_stay()
     ensures { IdleStepsStay }
+{}
+
+/// The view of a new engine is sound, and whatever calls answer, each view on the way is. So what a checkpoint among them
+/// drops is a legal history from the base before it.
+pub fn calls_stay_sound()
+    ensures opening { NewViewsAreSound }
+    ensures call { AnswersStaySound }
+    ensures calls { CallsStaySound }
+{}
+
+/// Answers to lists of calls that follow each other are answers to all their calls in a row, and the other way round.
+pub fn answers_add()
+    ensures one { AnswersOne }
+    ensures append { AnswersAppend }
+    ensures split { AnswersSplit }
+{}
+
+/// The answers with enough memory are answers, and they are the only ones of which none is out of memory.
+pub fn answers_with_memory()
+    ensures answer { AnswerIsOne }
+    ensures answers { AnswersAreAnswers }
+    ensures only_answer { AnswerDespiteMemory }
+    ensures only_answers { AnswersDespiteMemory }
 {}

@@ -3,6 +3,7 @@
 ghost use Rattle.std.specs.Prelude.{◌≡◌, false, ◌+◌, ◌-◌, ◌<◌, ◌≤◌, ◌++◌, ◌∷◌, [], length, take, drop, IfOk, IsOk, OnOk, OnErr, vec_capacity, vec_len};
 ghost use Rattle.dma_engine.specs.Answer.{CallAnswers, AreAnswers, Extends, KeepsOutcomes, Remembers, has_checkpoint};
 ghost use Rattle.dma_engine.specs.View.{IsSound, memory_of};
+ghost use Rattle.dma_engine.specs.Laws.{AreSoundAnswers};
 
 use crate::call::{Call, Reply};
 use crate::engine::Engine;
@@ -16,6 +17,8 @@ use std::alloc::Global;
 /// Room for all replies is taken first. The error comes where it is refused; then no call was carried out.
 pub fn run(alloc: Global, engine: &mut Engine, calls: &[Call]) -> Result<Vec<Reply>, NoMemory>
     ensures answers { IfOk result (λ replies. AreAnswers engine.old.view calls.now replies.items engine.new.view) }
+    // The view is sound before and after each call.
+    ensures views { IfOk result (λ replies. AreSoundAnswers engine.old.view calls.now replies.items engine.new.view) }
     // Where no checkpoint among the calls was accepted, the history begins with the one from before, and no outcome changes.
     ensures begins { IfOk result (λ replies. has_checkpoint calls.now replies.items ≡ false → Extends engine.old.view engine.new.view) }
     ensures kept { IfOk result (λ replies. has_checkpoint calls.now replies.items ≡ false → KeepsOutcomes engine.old.view engine.new.view) }
@@ -41,6 +44,8 @@ pub fn run_into(
     // What was in the list stays there, before what is added.
     ensures before { take (length replies.old.items) replies.new.items ≡ replies.old.items }
     ensures answers { OnOk result (AreAnswers engine.old.view calls.now (drop (length replies.old.items) replies.new.items) engine.new.view) }
+    // The view is sound before and after each call.
+    ensures views { OnOk result (AreSoundAnswers engine.old.view calls.now (drop (length replies.old.items) replies.new.items) engine.new.view) }
     // Where no checkpoint among the calls was accepted, the history begins with the one from before, and no outcome changes.
     ensures begins { OnOk result (has_checkpoint calls.now (drop (length replies.old.items) replies.new.items) ≡ false → Extends engine.old.view engine.new.view) }
     ensures kept { OnOk result (has_checkpoint calls.now (drop (length replies.old.items) replies.new.items) ≡ false → KeepsOutcomes engine.old.view engine.new.view) }
@@ -67,6 +72,7 @@ pub fn run_into(
 fn add_reply(engine: &mut Engine, call: &Call, replies: &mut Vec<Reply>)
     requires { vec_len replies.old < vec_capacity replies.old }
     ensures answered { (reply : Reply) × (replies.new.items ≡ replies.old.items ++ reply ∷ []) × CallAnswers engine.old.view call.now reply engine.new.view }
+    ensures sound { IsSound engine.new.view }
     ensures len { vec_len replies.new ≡ vec_len replies.old + 1 }
     ensures capacity { vec_capacity replies.old ≤ vec_capacity replies.new }
 {
@@ -75,6 +81,7 @@ fn add_reply(engine: &mut Engine, call: &Call, replies: &mut Vec<Reply>)
             let Ok(()) = replies.push(Reply::Turned(Turn::Moved)) else {
                 unreachable!();
             };
+            let _after = engine.history();
             return;
         }
     }
@@ -82,4 +89,6 @@ fn add_reply(engine: &mut Engine, call: &Call, replies: &mut Vec<Reply>)
     let Ok(()) = replies.push(reply) else {
         unreachable!();
     };
+    // that the view is sound is told by its reading
+    let _after = engine.history();
 }

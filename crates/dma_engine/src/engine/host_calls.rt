@@ -201,9 +201,5 @@ fn bytes_of(alloc: Global, memory: &Memory, addr: u32, len: u32) -> Result<Bytes
     if let Some(part) = memory.part(addr, len) {
         return Bytes::from_slice(alloc, part);
     }
-    let mut bytes = vec![in alloc; 0; len as usize]?;
-    let Ok(()) = memory.read_into(addr, &mut bytes) else {
-        unreachable!();
-    };
-    Bytes::from_vec(bytes)
+    Bytes::from_vec(memory.to_vec(alloc, addr, len)?)
 }

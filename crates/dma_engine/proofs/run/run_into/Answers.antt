@@ -4,6 +4,7 @@ use Rattle.std.proofs.Math.Seq.{drop-append_seam}
 use Rattle.dma_engine.proofs.CallLists.{AreAnswers-push, chain-extends}
 use Rattle.dma_engine.proofs.OutcomesStay.{kept}
 use Rattle.dma_engine.proofs.Remembered.{chain-remembers}
+use Rattle.dma_engine.proofs.SoundViews.{sound-push}
 use Rattle.dma_engine.proofs.run.run_into.Goals as goal
 
 pub loop-call-preserved : goal.loop-call-preserved
@@ -16,7 +17,8 @@ loop-call-preserved c =
     let next : take (i + 1) calls ≡ take i calls ++ call ∷ [] = take_more calls i call (omega (arith, c.loop-call-test.true)) ∙ ap (λ x. take i calls ++ x ∷ []) (sym c.call-item.is) in
     let chain = AreAnswers-push c.args.engine.now.view c.loop-call.engine.view c.add_reply.new.engine.view (take i calls) inv.0 call one.0 inv.2 one.2 in
     let items = one.1 ∙ ap (λ rs. rs ++ one.0 ∷ []) inv.1 ∙ append_assoc c.reserve.new.self.items inv.0 (one.0 ∷ []) in
-    (inv.0 ++ one.0 ∷ [], items, rw next chain, omega (arith, inv.3, c.add_reply.ensures.capacity), omega (arith, c.add_reply.ensures.len, inv.4))
+    let sound = sound-push c.args.engine.now.view c.loop-call.engine.view c.add_reply.new.engine.view (take i calls) inv.0 call one.0 inv.5 one.2 c.add_reply.ensures.sound in
+    (inv.0 ++ one.0 ∷ [], items, rw next chain, omega (arith, inv.3, c.add_reply.ensures.capacity), omega (arith, c.add_reply.ensures.len, inv.4), rw next sound)
 
 pub returns-clause-begins : goal.returns-clause-begins
 returns-clause-begins c = λ none.

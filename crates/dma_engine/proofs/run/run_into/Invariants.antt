@@ -2,6 +2,7 @@ use Rattle.std.proofs.Common.{◌≡◌, ◌+◌, ◌++◌, ◌≤◌, List, len
 use Rattle.std.specs.Vec.{vec_capacity}
 use Rattle.dma_engine.specs.declared.call.Reply.{Reply}
 use Rattle.dma_engine.specs.Answer.{AreAnswers}
+use Rattle.dma_engine.specs.Laws.{AreSoundAnswers}
 use Rattle.dma_engine.proofs.run.run_into.Given as goal
 
 abbrev pub invariant-loop-call : goal.invariant-loop-call
@@ -10,3 +11,4 @@ invariant-loop-call l =
     × AreAnswers l.initial.engine.view (take l.call-index l.calls) added l.engine.view
     × (vec_len l.initial.replies + length l.calls ≤ vec_capacity l.replies)
     × (vec_len l.replies ≡ vec_len l.initial.replies + l.call-index)
+    × AreSoundAnswers l.initial.engine.view (take l.call-index l.calls) added l.engine.view
