@@ -1,20 +1,19 @@
 -- A transfer's program over a memory that others write between its steps.
 use Rattle.std.proofs.Common.{◌≡◌, ◌≢◌, ℕ, zero, suc, ◌+◌, ◌-◌, ◌<◌, Bool, true, false, List, [], ◌∷◌, length, get_or, drop, refl, sym, ap, ◌∙◌, subst, arith, inl, inr}
-use Rattle.std.specs.Prelude.{unwrap_or, nat_eq}
-use Rattle.std.specs.List.{zip, Contains}
+use Rattle.std.specs.Prelude.{slice_index_or, unwrap_or, nat_eq}
+use Rattle.std.specs.List.{zip, AllByRecursion, Contains}
 use Rattle.std.specs.Map.{lookup}
-use Rattle.std.proofs.lemmas.Bool.{cases_lt}
-use Rattle.std.proofs.lemmas.List.{get_or_past}
+use Rattle.std.proofs.lemmas.Bool.{and_parts}
 use Rattle.std.proofs.lemmas.List.Elements.{Contains-append_right}
 use Rattle.dma_insn.specs.declared.insn.Insn.{Insn}
 use Rattle.dma_insn.specs.declared.insn.Insn.TheVariants.{Mov, Ld, St, Rmb, Wmb, Nop, End, Lp, LpEnd, Sev, Wfe}
-use Rattle.dma_mem.specs.Places.{Descriptor, sources, size_of, lies_below}
+use Rattle.dma_mem.specs.Places.{Descriptor, all_below, sources, destinations, size_of, lies_below}
 use Rattle.dma_mem.specs.Image.{put, moves_of}
 use Rattle.dma_mem.specs.Marking.{MarkList, meets_mark}
 use Rattle.dma_mem.specs.Rules.{IsTransfer}
 use Rattle.dma_mem.specs.declared.marks.MarkKind.TheVariants.{Reading, Writing}
 use Rattle.dma_mem.proofs.ImageOver.{length-after_moves}
-use Rattle.dma_mem.proofs.ImagePut.{length-put, get_or-put}
+use Rattle.dma_mem.proofs.ImagePut.{get_or-put}
 use Rattle.dma_mem.proofs.OverTransfers.{Contains-take, Contains-drop}
 use Rattle.dma_chan.specs.declared.turn.ChanTurn.TheVariants.{Moved, Fault}
 use Rattle.dma_chan.specs.declared.turn.FaultKind.TheVariants.{DataWriteErr}
@@ -26,7 +25,7 @@ use Rattle.dma_chan.specs.Layer.{Shared, effect_of, step_at, StepAgrees}
 use Rattle.dma_chan.specs.Others.{Touches, CopiesAmongOthers}
 use Rattle.dma_chan.specs.inner.At.{IsAt}
 use Rattle.dma_chan.proofs.ShapeLaws.{shape_is, stored_is, is_store}
-use Rattle.dma_chan.proofs.LayerLaws.{starts_at, step_is, survives}
+use Rattle.dma_chan.proofs.LayerLaws.{below_places, below_sources, starts_at, step_is, survives}
 use Rattle.dma_chan.proofs.CopyAlone.{laid_over, laid_over_none, laid_over_all, laid_over_more}
 
 -- ---- a step that moves, by its effect
@@ -57,13 +56,9 @@ keeps_image (LpEnd c b) reads writes marks m f = refl
 
 -- ---- images that have the same bytes at some places
 
--- the same bytes put into both leave the same byte at an address at which they had the same
-put-agrees : (x y : List ℕ) (es : List (ℕ × ℕ)) (a : ℕ) → length x ≡ length y → get_or x a 0 ≡ get_or y a 0 → get_or (put x es) a 0 ≡ get_or (put y es) a 0
-put-agrees x y es a long same =
-    elim (cases_lt a (length x)) [
-      | inl below ↦ get_or-put x es a below ∙ ap (unwrap_or (lookup (nat_eq a) es)) same ∙ sym (get_or-put y es a (omega arith))
-      | inr past ↦ get_or_past (put x es) a 0 (omega (arith, length-put x es)) ∙ sym (get_or_past (put y es) a 0 (omega (arith, length-put y es)))
-    ]
+-- the same bytes put into both leave the same byte at an address of both at which they had the same
+put-agrees : (x y : List ℕ) (es : List (ℕ × ℕ)) (a : ℕ) → a < length x → a < length y → get_or x a 0 ≡ get_or y a 0 → get_or (put x es) a 0 ≡ get_or (put y es) a 0
+put-agrees x y es a in_x in_y same = get_or-put x es a in_x ∙ ap (unwrap_or (lookup (nat_eq a) es)) same ∙ sym (get_or-put y es a in_y)
 
 read_at-agrees : (x y places : List ℕ) → ((a : ℕ) → Contains places a → get_or x a 0 ≡ get_or y a 0) → read_at x places ≡ read_at y places
 read_at-agrees x y [] h = refl
@@ -75,14 +70,29 @@ read_at-agrees x y (p ∷ rest) h =
 length-laid_over : (image : List ℕ) (t : Descriptor) (k : ℕ) → length (laid_over image t k) ≡ length image
 length-laid_over image t k = length-after_moves image (moves_of ((t, k) ∷ []))
 
+-- ---- what a transfer touches, in a memory that has its ranges
+
+below_at : (size : ℕ) (xs : List ℕ) (k a : ℕ) → AllByRecursion (λ x. x < size) xs → k < length xs → slice_index_or xs k a ≡ a → a < size
+below_at size [] k a all l e = absurd (omega arith)
+below_at size (x ∷ xs) zero a all l e = omega (arith, all.0, e)
+below_at size (x ∷ xs) (suc k) a all l e = below_at size xs k a all.1 (omega arith) e
+
+touched_below : (t : Descriptor) (size a : ℕ) → lies_below t size ≡ true → Touches t a → a < size
+touched_below t size a below touches =
+    let parts = and_parts (all_below t.src size) (all_below t.dst size) below in
+    elim touches [
+      | inl i ↦ below_at size (sources t) i.0 a (below_sources size t parts.0) i.1 i.2
+      | inr i ↦ below_at size (destinations t) i.0 a (below_places size t.dst parts.1) i.1 i.2
+    ]
+
 -- ---- along the way
 
 -- Before instruction number n: where the channel has come, and at what the transfer touches the memory is the first one with
--- the bytes stored so far laid over it.
+-- the bytes stored so far laid over it. It has the transfer's ranges.
 pub record Among (t : Descriptor) (first : List ℕ) (n : ℕ) (image : List ℕ) (c : ChannelValue) : Type 0 where
   pub at : IsAt t n image c
   pub same : (a : ℕ) → Touches t a → get_or image a 0 ≡ get_or (laid_over first t (stored_after t n)) a 0
-  pub long : length image ≡ length first
+  pub fits : lies_below t (length image) ≡ true
 
 module _ (t : Descriptor) (marks : MarkList) (first : List ℕ) (h : IsTransfer t) (below : lies_below t (length first) ≡ true) where
   -- what step number n leaves at what the transfer touches, where it moves
@@ -96,11 +106,12 @@ module _ (t : Descriptor) (marks : MarkList) (first : List ℕ) (h : IsTransfer 
             let goes : (effect_of St reads writes marks m).0 ≡ Moved = ap (λ (i : Insn). (effect_of i reads writes marks m).0) (sym e) ∙ moved in
             let in_sources : (b : ℕ) → Contains reads b → Touches t b = λ b i. inl (Contains-drop (stored_after t n) (sources t) b (Contains-take (burst t n) (drop (stored_after t n) (sources t)) b i)) in
             let bytes : read_at m.image reads ≡ read_at base reads = read_at-agrees m.image base reads (λ b i. w.same b (in_sources b i)) in
-            let long : length m.image ≡ length base = w.long ∙ sym (length-laid_over first t (stored_after t n)) in
+            let in_image : a < length m.image = touched_below t (length m.image) a w.fits touches in
+            let in_base : a < length base = omega (arith, touched_below t (length first) a below touches, length-laid_over first t (stored_after t n)) in
             ap (λ (i : Insn). get_or (effect_of i reads writes marks m).1.image a 0) e
             ∙ ap (λ (i : List ℕ). get_or i a 0) (stores_where_moved reads writes marks m goes)
             ∙ ap (λ (bs : List ℕ). get_or (put m.image (zip writes bs)) a 0) bytes
-            ∙ put-agrees m.image base (zip writes (read_at base reads)) a long (w.same a touches)
+            ∙ put-agrees m.image base (zip writes (read_at base reads)) a in_image in_base (w.same a touches)
             ∙ ap (λ (i : List ℕ). get_or i a 0) (laid_over_more first t (stored_after t n) (burst t n) h)
             ∙ ap (λ (k : ℕ). get_or (laid_over first t k) a 0) (sym ((stored_is t h).by_store n e))
         | inr ne ↦
@@ -110,20 +121,19 @@ module _ (t : Descriptor) (marks : MarkList) (first : List ℕ) (h : IsTransfer 
       ]
 
   -- one instruction, and what others do after it
-  pub next : (n : ℕ) (m : Shared) (c d : ChannelValue) (other : List ℕ) → Among t first n m.image c → (step_of marks c m.image m.flags).0 ≡ Moved → d ≡ stepped marks c m.image m.flags → ((a : ℕ) → Touches t a → get_or other a 0 ≡ get_or (step_of marks c m.image m.flags).1.image a 0) → length other ≡ length first → Among t first (n + 1) other d
-  next n m c d other w moved goes spared long =
-      let fits : lies_below t (length m.image) ≡ true = subst (λ (k : ℕ). lies_below t k ≡ true) (sym w.long) below in
-      let st : StepAgrees t n marks m c = step_is t n marks m c h fits w.at in
+  pub next : (n : ℕ) (m : Shared) (c d : ChannelValue) (other : List ℕ) → Among t first n m.image c → (step_of marks c m.image m.flags).0 ≡ Moved → d ≡ stepped marks c m.image m.flags → ((a : ℕ) → Touches t a → get_or other a 0 ≡ get_or (step_of marks c m.image m.flags).1.image a 0) → lies_below t (length other) ≡ true → Among t first (n + 1) other d
+  next n m c d other w moved goes spared fits =
+      let st : StepAgrees t n marks m c = step_is t n marks m c h w.fits w.at in
       let moves : (step_at t n marks m).0 ≡ Moved = sym st.turn ∙ moved in
       let kept : (a : ℕ) → Touches t a → get_or other a 0 ≡ get_or (step_at t n marks m).1.image a 0 = λ a touches. spared a touches ∙ ap (λ (i : List ℕ). get_or i a 0) st.image in
       record {
         at = subst (λ (e : ChannelValue). IsAt t (n + 1) other e) (sym goes) (survives t (n + 1) (step_at t n marks m).1.image other (stepped marks c m.image m.flags) (st.goes_on moves) (λ a i. kept a (inl i)));
         same = λ a touches. kept a touches ∙ left_same n m c w moves a touches;
-        long = long;
+        fits = fits;
       }
 
 pub copies_among_others : CopiesAmongOthers
-copies_among_others t marks channel image flags h below run a touches =
+copies_among_others t marks channel image flags h run a touches =
     let first = image 0 in
     let some = (shape_is t h).some in
     let last : cost t - 1 + 1 ≡ cost t = omega arith in
@@ -134,11 +144,11 @@ copies_among_others t marks channel image flags h below run a touches =
     along zero l = record {
       at = subst (λ (c : ChannelValue). IsAt t 0 (image 0) c) (sym run.begins) (starts_at t (image 0) h);
       same = λ b i. sym (ap (λ (k : ℕ). get_or (laid_over (image 0) t k) b 0) ((stored_is t h).none) ∙ ap (λ (x : List ℕ). get_or x b 0) (laid_over_none (image 0) t));
-      long = refl;
+      fits = run.below 0 l;
     }
     along (suc n) l =
         let m : Shared = record { image = image n; flags = flags n } in
         let less : n + 1 < cost t = omega arith in
         let e : n + 1 ≡ suc n = omega arith in
         subst (λ (k : ℕ). Among t (image 0) k (image k) (channel k)) e
-        (next t marks (image 0) h below n m (channel n) (channel (n + 1)) (image (n + 1)) (along n (omega arith)) (run.moves n less) (run.goes_on n less) (λ b i. run.spared n b less i) (run.size (n + 1)))
+        (next t (marks n) (image 0) h (run.below 0 (omega arith)) n m (channel n) (channel (n + 1)) (image (n + 1)) (along n (omega arith)) (run.moves n less) (run.goes_on n less) (λ b i. run.spared n b less i) (run.below (n + 1) less))

@@ -23,7 +23,7 @@ use Rattle.dma_chan.specs.Traffic.{burst, member, stored_after, read_places, wri
 use Rattle.dma_chan.specs.Layer.{Shared, step_at, StepAgrees, Tells}
 use Rattle.dma_chan.specs.Stepping.{Stand, answer_at, left_at, after_steps, goes_on_after, TakesSteps}
 use Rattle.dma_chan.proofs.SteppedOver.{stands_still, was_moved}
-use Rattle.dma_chan.specs.Others.{Misses, Touches, CallsCopyAmongOthers}
+use Rattle.dma_chan.specs.Others.{Misses, Touches, CalledAmongOthers, CallsCopyAmongOthers}
 use Rattle.dma_chan.specs.inner.At.{IsAt}
 use Rattle.dma_chan.proofs.ShapeLaws.{shape_is, stored_is}
 use Rattle.dma_chan.proofs.LayerLaws.{starts_at, step_is, survives, turn_tells}
@@ -42,40 +42,60 @@ none_met kind marks places k n none =
 
 -- ---- where calls lead
 
+-- the program goes on: so many instructions were executed
+abbrev pub Runs : Descriptor → List ℕ → Stand → Type 0
+Runs t first u = (n : ℕ) × Among t first n u.image u.channel
+
+-- the program has ended, and all bytes are copied
+pub record IsDone (t : Descriptor) (first : List ℕ) (u : Stand) : Type 0 where
+  pub dropped : u.channel.program ≡ None
+  pub all : (a : ℕ) → Touches t a → get_or u.image a 0 ≡ get_or (laid first t (size_of t)) a 0
+
+-- where a step leads, by its answer
+abbrev pub Leads : Descriptor → List ℕ → Option ChanTurn → Stand → Type 0
+Leads t first (Some Ended) w = IsDone t first w
+Leads t first turn w = Runs t first w
+
+-- a channel into which the transfer's program was just loaded, over the first memory
+pub at_first : (t : Descriptor) (first : List ℕ) (u : Stand) → IsTransfer t → lies_below t (length first) ≡ true → u.channel ≡ loaded (compiled t) → u.image ≡ first → Runs t first u
+at_first t first u h below channels images = (
+  0,
+  record {
+    at = subst (λ (c : ChannelValue). IsAt t 0 u.image c) (sym channels) (starts_at t u.image h);
+    same = λ b i. ap (λ (x : List ℕ). get_or x b 0) images ∙ sym (ap (λ (k : ℕ). get_or (laid_over first t k) b 0) ((stored_is t h).none) ∙ ap (λ (x : List ℕ). get_or x b 0) (laid_over_none first t));
+    fits = subst (λ (x : List ℕ). lies_below t (length x) ≡ true) (sym images) below;
+  },
+)
+
+-- a stand whose channel has a program goes on
+goes : (t : Descriptor) (first : List ℕ) (last : Option ChanTurn) (v : Stand) → Leads t first last v → IsSome v.channel.program → Runs t first v
+goes t first None v r some = r
+goes t first (Some Moved) v r some = r
+goes t first (Some (Waiting x)) v r some = r
+goes t first (Some (Fault kind)) v r some = r
+goes t first (Some Ended) v d some = absurd (let bad = d.dropped in let w = some in grind arith)
+
+-- what others do between two calls
+pub survived : (t : Descriptor) (first : List ℕ) (v w : Stand) → Runs t first v → w.channel ≡ v.channel → ((a : ℕ) → Touches t a → get_or w.image a 0 ≡ get_or v.image a 0) → lies_below t (length w.image) ≡ true → Runs t first w
+survived t first v w r same spared fits = (
+  r.0,
+  record {
+    at = subst (λ (c : ChannelValue). IsAt t r.0 w.image c) (sym same) (survives t r.0 v.image w.image v.channel r.1.at (λ a i. spared a (inl i)));
+    same = λ a touches. spared a touches ∙ r.1.same a touches;
+    fits = fits;
+  },
+)
+
+-- with the same marks in all steps
 module _ (t : Descriptor) (marks : MarkList) (first : List ℕ) (h : IsTransfer t) (below : lies_below t (length first) ≡ true) where
-  -- the program goes on: so many instructions were executed
-  abbrev pub Runs : Stand → Type 0
-  Runs u = (n : ℕ) × Among t first n u.image u.channel
-
-  -- the program has ended, and all bytes are copied
-  pub record IsDone (u : Stand) : Type 0 where
-    pub dropped : u.channel.program ≡ None
-    pub all : (a : ℕ) → Touches t a → get_or u.image a 0 ≡ get_or (laid first t (size_of t)) a 0
-
-  -- where a step leads, by its answer
-  abbrev pub Leads : Option ChanTurn → Stand → Type 0
-  Leads (Some Ended) w = IsDone w
-  Leads turn w = Runs w
-
-  -- a channel into which the transfer's program was just loaded, over the first memory
-  pub at_first : (u : Stand) → u.channel ≡ loaded (compiled t) → u.image ≡ first → Runs u
-  at_first u channels images = (
-    0,
-    record {
-      at = subst (λ (c : ChannelValue). IsAt t 0 u.image c) (sym channels) (starts_at t u.image h);
-      same = λ b i. ap (λ (x : List ℕ). get_or x b 0) images ∙ sym (ap (λ (k : ℕ). get_or (laid_over first t k) b 0) ((stored_is t h).none) ∙ ap (λ (x : List ℕ). get_or x b 0) (laid_over_none first t));
-      long = ap length images;
-    },
-  )
-
   pub agrees : (n : ℕ) (u : Stand) → Among t first n u.image u.channel → StepAgrees t n marks (record { image = u.image; flags = u.flags }) u.channel
-  agrees n u w = step_is t n marks (record { image = u.image; flags = u.flags }) u.channel h (subst (λ (k : ℕ). lies_below t k ≡ true) (sym w.long) below) w.at
+  agrees n u w = step_is t n marks (record { image = u.image; flags = u.flags }) u.channel h w.fits w.at
 
   moved_on : (n : ℕ) (u : Stand) → Among t first n u.image u.channel → answer_at marks u ≡ Moved → Among t first (n + 1) (left_at marks u).image (left_at marks u).channel
   moved_on n u w moved =
-      next t marks first h below n (record { image = u.image; flags = u.flags }) u.channel (stepped marks u.channel u.image u.flags) (step_of marks u.channel u.image u.flags).1.image w moved refl (λ a touches. refl) ((writes_no_other marks u.channel u.image u.flags).size ∙ w.long)
+      next t marks first h below n (record { image = u.image; flags = u.flags }) u.channel (stepped marks u.channel u.image u.flags) (step_of marks u.channel u.image u.flags).1.image w moved refl (λ a touches. refl) (subst (λ (k : ℕ). lies_below t k ≡ true) (sym (writes_no_other marks u.channel u.image u.flags).size) w.fits)
 
-  ended : (n : ℕ) (u : Stand) → Among t first n u.image u.channel → answer_at marks u ≡ Ended → IsDone (left_at marks u)
+  ended : (n : ℕ) (u : Stand) → Among t first n u.image u.channel → answer_at marks u ≡ Ended → IsDone t first (left_at marks u)
   ended n u w over =
       let m : Shared = record { image = u.image; flags = u.flags } in
       let st = agrees n u w in
@@ -93,17 +113,17 @@ module _ (t : Descriptor) (marks : MarkList) (first : List ℕ) (h : IsTransfer 
             ∙ ap (λ (i : List ℕ). get_or i a 0) (laid_over_all first t (size_of t));
       }
 
-  still : (n : ℕ) (u : Stand) → Among t first n u.image u.channel → ChangesNothing (answer_at marks u) → Runs (left_at marks u)
+  still : (n : ℕ) (u : Stand) → Among t first n u.image u.channel → ChangesNothing (answer_at marks u) → Runs t first (left_at marks u)
   still n u w nothing = (n, subst (λ (v : Stand). Among t first n v.image v.channel) (sym (stands_still marks u nothing)) w)
 
-  one : (n : ℕ) (u : Stand) (turn : ChanTurn) → Among t first n u.image u.channel → answer_at marks u ≡ turn → Leads (Some turn) (left_at marks u)
+  one : (n : ℕ) (u : Stand) (turn : ChanTurn) → Among t first n u.image u.channel → answer_at marks u ≡ turn → Leads t first (Some turn) (left_at marks u)
   one n u Moved w e = (n + 1, moved_on n u w e)
   one n u Ended w e = ended n u w e
   one n u (Waiting x) w e = still n u w (subst ChangesNothing (sym e) tt)
   one n u (Fault kind) w e = still n u w (subst ChangesNothing (sym e) tt)
 
   -- after steps of which each moved
-  pub many : (j : ℕ) (s : Stand) → Runs s → ((k : ℕ) → k < suc j → goes_on_after marks s k ≡ true) → Runs (after_steps marks s j)
+  pub many : (j : ℕ) (s : Stand) → Runs t first s → ((k : ℕ) → k < suc j → goes_on_after marks s k ≡ true) → Runs t first (after_steps marks s j)
   many zero s r moves = r
   many (suc j) s r moves =
       let u = after_steps marks s j in
@@ -111,13 +131,13 @@ module _ (t : Descriptor) (marks : MarkList) (first : List ℕ) (h : IsTransfer 
       (w.0 + 1, moved_on w.0 u w.1 (was_moved (ahead_of u.channel) (answer_at marks u) (moves (suc j) (omega arith))))
 
   -- what a call leads to
-  pub call : (s v : Stand) (most taken : ℕ) (last : Option ChanTurn) → Runs s → TakesSteps marks s most taken last v → Leads last v
+  pub call : (s v : Stand) (most taken : ℕ) (last : Option ChanTurn) → Runs t first s → TakesSteps marks s most taken last v → Leads t first last v
   call s v most zero last r steps =
-      subst (λ (o : Option ChanTurn). Leads o v) (sym steps.answer) (subst Runs (sym steps.leaves) r)
+      subst (λ (o : Option ChanTurn). Leads t first o v) (sym steps.answer) (subst (Runs t first) (sym steps.leaves) r)
   call s v most (suc p) last r steps =
       let u = after_steps marks s p in
       let w = many p s r steps.moves in
-      subst (λ (o : Option ChanTurn). Leads o v) (sym steps.answer) (subst (Leads (Some (answer_at marks u))) (sym steps.leaves) (one w.0 u (answer_at marks u) w.1 refl))
+      subst (λ (o : Option ChanTurn). Leads t first o v) (sym steps.answer) (subst (Leads t first (Some (answer_at marks u))) (sym steps.leaves) (one w.0 u (answer_at marks u) w.1 refl))
 
   -- where no mark lies at what the transfer touches, the last step of a call doesn't fail
   no_fault : (n : ℕ) (m : Shared) (kind : FaultKind) → Misses marks t → (step_at t n marks m).0 ≢ Fault kind
@@ -132,7 +152,7 @@ module _ (t : Descriptor) (marks : MarkList) (first : List ℕ) (h : IsTransfer 
       told StDataUnavailable w = w
       told InstrFetchErr w = w
 
-  pub call_fails : (s v : Stand) (most taken : ℕ) (last : Option ChanTurn) (kind : FaultKind) → Misses marks t → Runs s → TakesSteps marks s most taken last v → last ≢ Some (Fault kind)
+  pub call_fails : (s v : Stand) (most taken : ℕ) (last : Option ChanTurn) (kind : FaultKind) → Misses marks t → Runs t first s → TakesSteps marks s most taken last v → last ≢ Some (Fault kind)
   call_fails s v most zero last kind none r steps e = let bad : None ≡ Some (Fault kind) = sym steps.answer ∙ e in cc
   call_fails s v most (suc p) last kind none r steps e =
       let u = after_steps marks s p in
@@ -141,42 +161,37 @@ module _ (t : Descriptor) (marks : MarkList) (first : List ℕ) (h : IsTransfer 
       let turn : answer_at marks u ≡ Fault kind = cc in
       no_fault w.0 (record { image = u.image; flags = u.flags }) kind none (sym (agrees w.0 u w.1).turn ∙ turn)
 
-  -- a stand whose channel has a program goes on
-  goes : (last : Option ChanTurn) (v : Stand) → Leads last v → IsSome v.channel.program → Runs v
-  goes None v r some = r
-  goes (Some Moved) v r some = r
-  goes (Some (Waiting x)) v r some = r
-  goes (Some (Fault kind)) v r some = r
-  goes (Some Ended) v d some = absurd (let bad = d.dropped in let w = some in grind arith)
+-- ---- along the calls
 
-  -- what others do between two calls
-  pub survived : (v w : Stand) → Runs v → w.channel ≡ v.channel → ((a : ℕ) → Touches t a → get_or w.image a 0 ≡ get_or v.image a 0) → length w.image ≡ length v.image → Runs w
-  survived v w r same spared long = (
-    r.0,
-    record {
-      at = subst (λ (c : ChannelValue). IsAt t r.0 w.image c) (sym same) (survives t r.0 v.image w.image v.channel r.1.at (λ a i. spared a (inl i)));
-      same = λ a touches. spared a touches ∙ r.1.same a touches;
-      long = long ∙ r.1.long;
-    },
-  )
+module _ (t : Descriptor) (marks : ℕ → MarkList) (calls : ℕ) (before after : ℕ → Stand) (last : ℕ → Option ChanTurn) (h : IsTransfer t) (run : CalledAmongOthers t marks calls before after last) where
+  abbrev first : List ℕ
+  first = (before 0).image
+
+  first_below : (k : ℕ) → k < calls → lies_below t (length first) ≡ true
+  first_below k l = run.below 0 (omega arith)
+
+  leads : (k : ℕ) → k < calls → Runs t first (before k) → Leads t first (last k) (after k)
+  leads k l r = let s = run.steps k l in call t (marks k) first h (first_below k l) (before k) (after k) s.0 s.1 (last k) r s.2
+
+  along : (k : ℕ) → k < calls → Runs t first (before k)
+  along zero l = at_first t first (before 0) h (first_below 0 l) run.begins refl
+  along (suc k) l =
+      let e : k + 1 ≡ suc k = omega arith in
+      let less : k + 1 < calls = omega arith in
+      let here : k < calls = omega arith in
+      let some : IsSome (after k).channel.program = subst (λ (c : ChannelValue). IsSome c.program) (run.goes_on k less) (run.is_loaded (k + 1) less) in
+      let led = leads k here (along k here) in
+      subst (λ (j : ℕ). Runs t first (before j)) e
+      (survived t first (after k) (before (k + 1)) (goes t first (last k) (after k) led some) (run.goes_on k less) (λ a i. run.spared k a less i) (run.below (k + 1) less))
+
+  pub copied : (k a : ℕ) → k < calls → last k ≡ Some Ended → Touches t a → get_or (after k).image a 0 ≡ get_or (laid first t (size_of t)) a 0
+  copied k a l over touches = (subst (λ (o : Option ChanTurn). Leads t first o (after k)) over (leads k l (along k l))).all a touches
+
+  pub never_failed : (k : ℕ) (kind : FaultKind) → k < calls → Misses (marks k) t → last k ≢ Some (Fault kind)
+  never_failed k kind l none = let s = run.steps k l in call_fails t (marks k) first h (first_below k l) (before k) (after k) s.0 s.1 (last k) kind none (along k l) s.2
 
 pub calls_copy_among_others : CallsCopyAmongOthers
-calls_copy_among_others t marks calls before after last h below run = record {
-  copies = λ k a l over touches. (subst (λ (o : Option ChanTurn). Leads t marks (before 0).image h below o (after k)) over (leads k l)).all a touches;
-  never_fails = λ none k kind l. let s = run.steps k l in call_fails t marks (before 0).image h below (before k) (after k) s.0 s.1 (last k) kind none (along k l) s.2;
+calls_copy_among_others t marks calls before after last h run = record {
+  copies = copied t marks calls before after last h run;
+  never_fails = never_failed t marks calls before after last h run;
 }
-  where
-    along : (k : ℕ) → k < calls → Runs t marks (before 0).image h below (before k)
-    along zero l = at_first t marks (before 0).image h below (before 0) run.begins refl
-    along (suc k) l =
-        let e : k + 1 ≡ suc k = omega arith in
-        let less : k + 1 < calls = omega arith in
-        let some : IsSome (after k).channel.program = subst (λ (c : ChannelValue). IsSome c.program) (run.goes_on k less) (run.is_loaded (k + 1) less) in
-        let l' : k < calls = omega arith in
-        let s = run.steps k l' in
-        let led = call t marks (before 0).image h below (before k) (after k) s.0 s.1 (last k) (along k l') s.2 in
-        subst (λ (j : ℕ). Runs t marks (before 0).image h below (before j)) e
-        (survived t marks (before 0).image h below (after k) (before (k + 1)) (goes t marks (before 0).image h below (last k) (after k) led some) (run.goes_on k less) (λ a i. run.spared k a less i) (run.size k less))
-
-    leads : (k : ℕ) → k < calls → Leads t marks (before 0).image h below (last k) (after k)
-    leads k l = let s = run.steps k l in call t marks (before 0).image h below (before k) (after k) s.0 s.1 (last k) (along k l) s.2

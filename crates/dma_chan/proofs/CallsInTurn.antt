@@ -7,7 +7,8 @@ use Rattle.std.proofs.lemmas.Bool.{cases_eq}
 use Rattle.std.proofs.lemmas.List.Elements.{Contains-append_cases, Contains-append_left, Contains-append_right}
 use Rattle.dma_insn.specs.declared.insn.Insn.{Insn}
 use Rattle.dma_insn.specs.declared.insn.Insn.TheVariants.{St}
-use Rattle.dma_mem.specs.Places.{Descriptor, destinations, is_free_of, lies_below}
+use Rattle.dma_mem.specs.Places.{Descriptor, destinations, is_free_of, lies_below, size_of}
+use Rattle.dma_mem.specs.Image.{laid}
 use Rattle.dma_mem.specs.Marking.{MarkList, meets_mark}
 use Rattle.dma_mem.specs.Rules.{IsTransfer}
 use Rattle.dma_mem.specs.declared.marks.MarkKind.TheVariants.{Writing}
@@ -16,16 +17,16 @@ use Rattle.dma_mem.proofs.OverTransfers.{Contains-take, Contains-drop}
 use Rattle.dma_mem.proofs.SharedPlaces.{is_free_of-true}
 use Rattle.dma_chan.specs.declared.turn.ChanTurn.{ChanTurn}
 use Rattle.dma_chan.specs.declared.turn.ChanTurn.TheVariants.{Moved, Waiting, Ended, Fault}
+use Rattle.dma_chan.specs.declared.turn.FaultKind.{FaultKind}
 use Rattle.dma_chan.specs.Exec.{read_at}
 use Rattle.dma_chan.specs.Channel.{ChannelValue}
 use Rattle.dma_chan.specs.Programs.{ProgramValue}
 use Rattle.dma_chan.specs.Traffic.{member, burst, stored_after, read_places, written_places}
 use Rattle.dma_chan.specs.Layer.{Shared, effect_of}
 use Rattle.dma_chan.specs.Stepping.{Stand, left_at, after_steps, goes_on_after, TakesSteps}
-use Rattle.dma_chan.specs.Others.{Touches}
+use Rattle.dma_chan.specs.Others.{Misses, Touches}
 use Rattle.dma_chan.specs.InTurn.{AreTogether, CalledInTurn, ChannelsCopyInTurn}
 use Rattle.dma_chan.proofs.ShapeLaws.{is_store}
-use Rattle.dma_chan.proofs.SteppedOver.{steps_size}
 use Rattle.dma_chan.proofs.AmongOthers.{Among, keeps_image}
 use Rattle.dma_chan.proofs.CallsAmongOthers.{Leads, Runs, agrees, at_first, call, call_fails, many, survived}
 
@@ -61,14 +62,14 @@ module _ (t : Descriptor) (marks : MarkList) (first : List ℕ) (h : IsTransfer 
       ap (λ (x : List ℕ). get_or x a 0) (agrees t marks first h below n u w).image
       ∙ effect_spares (member t n) (read_places t n) (written_places t n) marks m a not_written
 
-  steps_spare : (j : ℕ) (s : Stand) (a : ℕ) → Runs t marks first h below s → ((k : ℕ) → k < j → goes_on_after marks s k ≡ true) → ¬ Contains (destinations t) a → get_or (after_steps marks s j).image a 0 ≡ get_or s.image a 0
+  steps_spare : (j : ℕ) (s : Stand) (a : ℕ) → Runs t first s → ((k : ℕ) → k < j → goes_on_after marks s k ≡ true) → ¬ Contains (destinations t) a → get_or (after_steps marks s j).image a 0 ≡ get_or s.image a 0
   steps_spare zero s a r moves outside = refl
   steps_spare (suc j) s a r moves outside =
       let u = after_steps marks s j in
       let w = many t marks first h below j s r moves in
       step_spares w.0 u a w.1 outside ∙ steps_spare j s a r (λ k l. moves k (omega arith)) outside
 
-  pub call_spares : (s v : Stand) (most taken : ℕ) (last : Option ChanTurn) (a : ℕ) → Runs t marks first h below s → TakesSteps marks s most taken last v → ¬ Contains (destinations t) a → get_or v.image a 0 ≡ get_or s.image a 0
+  pub call_spares : (s v : Stand) (most taken : ℕ) (last : Option ChanTurn) (a : ℕ) → Runs t first s → TakesSteps marks s most taken last v → ¬ Contains (destinations t) a → get_or v.image a 0 ≡ get_or s.image a 0
   call_spares s v most taken last a r steps outside =
       ap (λ (u : Stand). get_or u.image a 0) steps.leaves ∙ steps_spare taken s a r steps.moves outside
 
@@ -83,10 +84,13 @@ not_none o some e = let bad = e in let w = some in grind arith
 
 -- ---- along the calls
 
-module _ (transfers : ℕ → Descriptor) (count : ℕ) (marks : MarkList) (calls : ℕ) (who : ℕ → ℕ) (channels : ℕ → ℕ → ChannelValue) (before after : ℕ → Stand) (last : ℕ → Option ChanTurn) (together : AreTogether transfers count (length (before 0).image)) (run : CalledInTurn transfers count marks calls who channels before after last) where
+module _ (transfers : ℕ → Descriptor) (count : ℕ) (marks : ℕ → MarkList) (calls : ℕ) (who : ℕ → ℕ) (channels : ℕ → ℕ → ChannelValue) (before after : ℕ → Stand) (last : ℕ → Option ChanTurn) (together : AreTogether transfers count) (run : CalledInTurn transfers count marks calls who channels before after last) where
+  abbrev first : List ℕ
+  first = (before 0).image
+
   -- a channel goes on in its transfer's program
   abbrev Goes : ℕ → Stand → Type 0
-  Goes ch u = (n : ℕ) × Among (transfers ch) (before 0).image n u.image u.channel
+  Goes ch u = Runs (transfers ch) first u
 
   -- how a channel is found before a call
   abbrev found : ℕ → ℕ → Stand
@@ -96,46 +100,52 @@ module _ (transfers : ℕ → Descriptor) (count : ℕ) (marks : MarkList) (call
   abbrev Is : ℕ → ℕ → Type 0
   Is k ch = Goes ch (found k ch) ⊎ ((channels k ch).program ≡ None)
 
+  -- the transfer of a call's channel, and its ranges in the first memory
+  its_rules : (k : ℕ) → k < calls → IsTransfer (transfers (who k))
+  its_rules k l = together.rules (who k) (run.within k l)
+
+  its_below : (k : ℕ) → k < calls → lies_below (transfers (who k)) (length first) ≡ true
+  its_below k l = run.below 0 (who k) (omega arith) (run.within k l)
+
   -- the channel of a call goes on
   caller : (k : ℕ) → k < calls → Is k (who k) → Goes (who k) (before k)
-  caller k l (inl r) = (r.0, subst (λ (c : ChannelValue). Among (transfers (who k)) (before 0).image r.0 (before k).image c) (sym (run.finds k l)) r.1)
+  caller k l (inl r) = (r.0, subst (λ (c : ChannelValue). Among (transfers (who k)) first r.0 (before k).image c) (sym (run.finds k l)) r.1)
   caller k l (inr none) = absurd (not_none (before k).channel.program (run.is_loaded k l) (ap (λ (c : ChannelValue). c.program) (run.finds k l) ∙ none))
 
   -- after the call it goes on or has ended
-  either_way : (k : ℕ) (l : who k < count) (o : Option ChanTurn) (v : Stand) → Leads (transfers (who k)) marks (before 0).image (together.rules (who k) l) (together.below (who k) l) o v → Goes (who k) v ⊎ (v.channel.program ≡ None)
-  either_way k l None v r = inl r
-  either_way k l (Some Moved) v r = inl r
-  either_way k l (Some (Waiting x)) v r = inl r
-  either_way k l (Some (Fault kind)) v r = inl r
-  either_way k l (Some Ended) v d = inr d.dropped
+  either_way : (ch : ℕ) (o : Option ChanTurn) (v : Stand) → Leads (transfers ch) first o v → Goes ch v ⊎ (v.channel.program ≡ None)
+  either_way ch None v r = inl r
+  either_way ch (Some Moved) v r = inl r
+  either_way ch (Some (Waiting x)) v r = inl r
+  either_way ch (Some (Fault kind)) v r = inl r
+  either_way ch (Some Ended) v d = inr d.dropped
 
-  called : (k : ℕ) (l : k < calls) → Goes (who k) (before k) → Leads (transfers (who k)) marks (before 0).image (together.rules (who k) (run.within k l)) (together.below (who k) (run.within k l)) (last k) (after k)
+  called : (k : ℕ) → k < calls → Goes (who k) (before k) → Leads (transfers (who k)) first (last k) (after k)
   called k l r =
       let s = run.steps k l in
-      call (transfers (who k)) marks (before 0).image (together.rules (who k) (run.within k l)) (together.below (who k) (run.within k l)) (before k) (after k) s.0 s.1 (last k) r s.2
+      call (transfers (who k)) (marks k) first (its_rules k l) (its_below k l) (before k) (after k) s.0 s.1 (last k) r s.2
 
   -- the channel of the call, as the next call finds it
-  own : (k : ℕ) (l : k < calls) → k + 1 < calls → Goes (who k) (after k) ⊎ ((after k).channel.program ≡ None) → Is (k + 1) (who k)
+  own : (k : ℕ) → k < calls → k + 1 < calls → Goes (who k) (after k) ⊎ ((after k).channel.program ≡ None) → Is (k + 1) (who k)
   own k l less (inl r) =
       let w = run.within k l in
-      inl (survived (transfers (who k)) marks (before 0).image (together.rules (who k) w) (together.below (who k) w) (after k) (found (k + 1) (who k)) r (run.leaves k l) (λ a i. run.spared k (who k) a less w i) (run.size k less))
+      inl (survived (transfers (who k)) first (after k) (found (k + 1) (who k)) r (run.leaves k l) (λ a i. run.spared k (who k) a less w i) (run.below (k + 1) (who k) less w))
   own k l less (inr none) = inr (ap (λ (c : ChannelValue). c.program) (run.leaves k l) ∙ none)
 
   -- any other one
-  other : (k ch : ℕ) (l : k < calls) → k + 1 < calls → (within : ch < count) → ch ≢ who k → Goes (who k) (before k) → Is k ch → Is (k + 1) ch
+  other : (k ch : ℕ) → k < calls → k + 1 < calls → ch < count → ch ≢ who k → Goes (who k) (before k) → Is k ch → Is (k + 1) ch
   other k ch l less within ne r (inl q) =
       let w = run.within k l in
       let s = run.steps k l in
       let free = together.free (who k) ch w within (λ e. ne (sym e)) in
       let spares : (a : ℕ) → Touches (transfers ch) a → get_or (before (k + 1)).image a 0 ≡ get_or (before k).image a 0 = λ a i.
       run.spared k ch a less within i
-      ∙ call_spares (transfers (who k)) marks (before 0).image (together.rules (who k) w) (together.below (who k) w) (before k) (after k) s.0 s.1 (last k) a r s.2 (free_outside (transfers ch) (transfers (who k)) a free i) in
-      let long : length (before (k + 1)).image ≡ length (before k).image = run.size k less ∙ ap (λ (u : Stand). length u.image) s.2.leaves ∙ steps_size marks (before k) s.1 in
-      inl (survived (transfers ch) marks (before 0).image (together.rules ch within) (together.below ch within) (found k ch) (found (k + 1) ch) q (run.others k ch l ne) spares long)
+      ∙ call_spares (transfers (who k)) (marks k) first (its_rules k l) (its_below k l) (before k) (after k) s.0 s.1 (last k) a r s.2 (free_outside (transfers ch) (transfers (who k)) a free i) in
+      inl (survived (transfers ch) first (found k ch) (found (k + 1) ch) q (run.others k ch l ne) spares (run.below (k + 1) ch less within))
   other k ch l less within ne r (inr none) = inr (ap (λ (c : ChannelValue). c.program) (run.others k ch l ne) ∙ none)
 
   along : (k : ℕ) → k < calls → (ch : ℕ) → ch < count → Is k ch
-  along zero l ch within = inl (at_first (transfers ch) marks (before 0).image (together.rules ch within) (together.below ch within) (found 0 ch) (run.begins ch within) refl)
+  along zero l ch within = inl (at_first (transfers ch) first (found 0 ch) (together.rules ch within) (run.below 0 ch l within) (run.begins ch within) refl)
   along (suc k) l ch within =
       let e : k + 1 ≡ suc k = omega arith in
       let less : k + 1 < calls = omega arith in
@@ -145,24 +155,24 @@ module _ (transfers : ℕ → Descriptor) (count : ℕ) (marks : MarkList) (call
       let prior = along k here ch within in
       subst (λ (j : ℕ). Is j ch) e
       (elim (cases_eq ch (who k)) [
-        | inl same ↦ subst (λ (d : ℕ). Is (k + 1) d) (sym same) (own k here less (either_way k w (last k) (after k) (called k here r)))
+        | inl same ↦ subst (λ (d : ℕ). Is (k + 1) d) (sym same) (own k here less (either_way (who k) (last k) (after k) (called k here r)))
         | inr ne ↦ other k ch here less within ne r prior
       ])
 
-  pub calls_go : (k : ℕ) (l : k < calls) → Goes (who k) (before k)
+  calls_go : (k : ℕ) → k < calls → Goes (who k) (before k)
   calls_go k l = caller k l (along k l (who k) (run.within k l))
 
-  pub calls_lead : (k : ℕ) (l : k < calls) → Leads (transfers (who k)) marks (before 0).image (together.rules (who k) (run.within k l)) (together.below (who k) (run.within k l)) (last k) (after k)
-  calls_lead k l = called k l (calls_go k l)
+  pub calls_copy : (k a : ℕ) → k < calls → last k ≡ Some Ended → Touches (transfers (who k)) a → get_or (after k).image a 0 ≡ get_or (laid first (transfers (who k)) (size_of (transfers (who k)))) a 0
+  calls_copy k a l over touches =
+      (subst (λ (o : Option ChanTurn). Leads (transfers (who k)) first o (after k)) over (called k l (calls_go k l))).all a touches
+
+  pub calls_never_fail : (k : ℕ) (kind : FaultKind) → k < calls → Misses (marks k) (transfers (who k)) → last k ≢ Some (Fault kind)
+  calls_never_fail k kind l none =
+      let s = run.steps k l in
+      call_fails (transfers (who k)) (marks k) first (its_rules k l) (its_below k l) (before k) (after k) s.0 s.1 (last k) kind none (calls_go k l) s.2
 
 pub channels_copy_in_turn : ChannelsCopyInTurn
 channels_copy_in_turn transfers count marks calls who channels before after last together run = record {
-  copies = λ k a l over touches.
-      let t = transfers (who k) in
-      let w = run.within k l in
-      (subst (λ (o : Option ChanTurn). Leads t marks (before 0).image (together.rules (who k) w) (together.below (who k) w) o (after k)) over (calls_lead transfers count marks calls who channels before after last together run k l)).all a touches;
-  never_fails = λ k kind l none.
-      let w = run.within k l in
-      let s = run.steps k l in
-      call_fails (transfers (who k)) marks (before 0).image (together.rules (who k) w) (together.below (who k) w) (before k) (after k) s.0 s.1 (last k) kind none (calls_go transfers count marks calls who channels before after last together run k l) s.2;
+  copies = calls_copy transfers count marks calls who channels before after last together run;
+  never_fails = calls_never_fail transfers count marks calls who channels before after last together run;
 }

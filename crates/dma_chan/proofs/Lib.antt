@@ -5,6 +5,7 @@ pub mod LoopEnds
 pub mod NextFits
 pub mod WaitsAndFaults
 pub mod RunAlone
+pub mod RunPages
 pub mod CutSteps
 pub mod CutPlaces
 pub mod TreeParts

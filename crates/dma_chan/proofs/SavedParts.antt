@@ -124,6 +124,23 @@ saved_parts c save v e =
 
 -- ---- what every channel satisfies
 
+loaded_again : (b : Bool) (h : Head) (bytes : List ℕ) → length bytes ≡ h.program_len → h.program_len ≤ 8192 → LoadsWhole b h → AreBytes bytes
+    → IfSome h.cost (λ n. n < 2 ^ 32) → IfSome (cond b (Some (record { bytes = bytes; cost = h.cost })) None) (IsLoadedAt h.registers.pc)
+loaded_again true h bytes e limit l all cost = record { limit = omega (arith, e, limit); bytes = all; offset = omega (arith, e, l); cost = cost }
+loaded_again false h bytes e limit l all cost = tt
+
+-- The parts of a save with a head whose fields are in their ranges make a channel.
+pub parts_make_channel : (save : List ℕ) (h : Head) → FitsIn (length save) h → HasHeadRanges h → AreBytes (buffer_in save h) → AreBytes (program_in save h)
+    → IsChannelValue (channel_in save h)
+parts_make_channel save h f r buffer program = record {
+  registers = r.registers;
+  program = loaded_again h.is_loaded h (program_in save h) (program_len save h f) f.program f.loads program r.cost;
+  buffer_limit = omega (arith, buffer_len save h f, f.buffer);
+  buffer = buffer;
+  taken = r.taken;
+  few = f.few;
+}
+
 pub bytes_append : (xs ys : List ℕ) → AreBytes xs → AreBytes ys → AreBytes (xs ++ ys)
 bytes_append [] ys h g k = g k
 bytes_append (x ∷ xs) ys h g zero = h zero

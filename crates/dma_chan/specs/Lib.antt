@@ -15,6 +15,7 @@ pub mod Traffic
 pub mod Layer
 pub mod Ready
 pub mod Fails
+pub mod RunPages
 pub mod Others
 pub mod InTurn
 pub mod LentRegions

@@ -23,23 +23,22 @@ pub record Misses (marks : MarkList) (t : Descriptor) : Type 0 where
   pub reads : (a : ℕ) → Contains (sources t) a → is_marked Reading marks a ≡ false
   pub writes : (a : ℕ) → Contains (destinations t) a → is_marked Writing marks a ≡ false
 
--- A channel executes a transfer's program up to its DMAEND. Before instruction number n it stands so, and this is the memory
--- and these are the flags that it finds. Between two instructions others may write any byte that the transfer neither reads
--- nor writes, and do to the flags what they like.
-pub record RunsAmongOthers (t : Descriptor) (marks : MarkList) (channel : ℕ → ChannelValue) (image : ℕ → List ℕ) (flags : ℕ → List Bool) : Type 0 where
+-- A channel executes a transfer's program up to its DMAEND. Before instruction number n it is this one, and finds these marks,
+-- flags and a memory that has the transfer's ranges. Between two instructions others may write any byte that the transfer neither
+-- reads nor writes, change the memory's size, and do to the flags and the marks what they like.
+pub record RunsAmongOthers (t : Descriptor) (marks : ℕ → MarkList) (channel : ℕ → ChannelValue) (image : ℕ → List ℕ) (flags : ℕ → List Bool) : Type 0 where
   pub begins : channel 0 ≡ loaded (compiled t)
-  pub moves : (n : ℕ) → n + 1 < cost t → (step_of marks (channel n) (image n) (flags n)).0 ≡ Moved
-  pub goes_on : (n : ℕ) → n + 1 < cost t → channel (n + 1) ≡ stepped marks (channel n) (image n) (flags n)
+  pub below : (n : ℕ) → n < cost t → lies_below t (length (image n)) ≡ true
+  pub moves : (n : ℕ) → n + 1 < cost t → (step_of (marks n) (channel n) (image n) (flags n)).0 ≡ Moved
+  pub goes_on : (n : ℕ) → n + 1 < cost t → channel (n + 1) ≡ stepped (marks n) (channel n) (image n) (flags n)
   pub spared : (n a : ℕ) → n + 1 < cost t → Touches t a →
-      slice_index (image (n + 1)) a ≡ slice_index (step_of marks (channel n) (image n) (flags n)).1.image a
-  pub size : (n : ℕ) → length (image n) ≡ length (image 0)
+      slice_index (image (n + 1)) a ≡ slice_index (step_of (marks n) (channel n) (image n) (flags n)).1.image a
 
--- In a memory that has its ranges, what it touches then is what one simultaneous copy of all its bytes leaves there of the
--- memory that it began with.
+-- What it touches then is what one simultaneous copy of all its bytes leaves there of the memory that it began with.
 abbrev pub CopiesAmongOthers : Type 0
 CopiesAmongOthers =
-    (t : Descriptor) (marks : MarkList) (channel : ℕ → ChannelValue) (image : ℕ → List ℕ) (flags : ℕ → List Bool) → IsTransfer t →
-    lies_below t (length (image 0)) ≡ true → RunsAmongOthers t marks channel image flags →
+    (t : Descriptor) (marks : ℕ → MarkList) (channel : ℕ → ChannelValue) (image : ℕ → List ℕ) (flags : ℕ → List Bool) →
+    IsTransfer t → RunsAmongOthers t marks channel image flags →
     (a : ℕ) → Touches t a → slice_index (image (cost t - 1)) a ≡ slice_index (laid (image 0) t (size_of t)) a
 
 -- What an instruction leaves of a memory: as many bytes, and but for those that a DMAST writes, the same. It holds of each
@@ -55,27 +54,28 @@ WritesNoOther =
 
 -- ---- by calls, each of which takes steps in a row
 
--- Calls on a channel into which a transfer's program was loaded: each finds it loaded and takes steps, from one stand to another.
--- Between two calls others may write any byte that the transfer neither reads nor writes, and do to the flags what they like.
-pub record CalledAmongOthers (t : Descriptor) (marks : MarkList) (calls : ℕ) (before after : ℕ → Stand) (last : ℕ → Option ChanTurn) : Type 0 where
+-- Calls on a channel into which a transfer's program was loaded, each with marks of its own: each finds the program loaded and a
+-- memory that has the transfer's ranges, and takes steps, from one stand to another. Between two calls others may write any byte
+-- that the transfer neither reads nor writes, change the memory's size, and do to the flags what they like.
+pub record CalledAmongOthers (t : Descriptor) (marks : ℕ → MarkList) (calls : ℕ) (before after : ℕ → Stand) (last : ℕ → Option ChanTurn) : Type 0 where
   pub begins : (before 0).channel ≡ loaded (compiled t)
   pub is_loaded : (k : ℕ) → k < calls → IsSome (before k).channel.program
-  pub steps : (k : ℕ) → k < calls → (most : ℕ) × (taken : ℕ) × TakesSteps marks (before k) most taken (last k) (after k)
+  pub below : (k : ℕ) → k < calls → lies_below t (length (before k).image) ≡ true
+  pub steps : (k : ℕ) → k < calls →
+      (most : ℕ) × (taken : ℕ) × TakesSteps (marks k) (before k) most taken (last k) (after k)
   pub goes_on : (k : ℕ) → k + 1 < calls → (before (k + 1)).channel ≡ (after k).channel
   pub spared : (k a : ℕ) → k + 1 < calls → Touches t a →
       slice_index (before (k + 1)).image a ≡ slice_index (after k).image a
-  pub size : (k : ℕ) → k + 1 < calls → length (before (k + 1)).image ≡ length (after k).image
 
 -- What such calls come to: what the transfer touches is, after the call that ends, what one simultaneous copy of all its bytes
--- leaves there of the memory that the first call found; and where no mark lies at that, no call fails.
-pub record CallsCopy (t : Descriptor) (marks : MarkList) (calls : ℕ) (before after : ℕ → Stand) (last : ℕ → Option ChanTurn) : Type 0 where
+-- leaves there of the memory that the first call found; and a call of which no mark lies at that doesn't fail.
+pub record CallsCopy (t : Descriptor) (marks : ℕ → MarkList) (calls : ℕ) (before after : ℕ → Stand) (last : ℕ → Option ChanTurn) : Type 0 where
   pub copies : (k a : ℕ) → k < calls → last k ≡ Some Ended → Touches t a →
       slice_index (after k).image a ≡ slice_index (laid (before 0).image t (size_of t)) a
-  pub never_fails : Misses marks t → (k : ℕ) (kind : FaultKind) → k < calls → last k ≢ Some (Fault kind)
+  pub never_fails : (k : ℕ) (kind : FaultKind) → k < calls → Misses (marks k) t → last k ≢ Some (Fault kind)
 
--- Over a memory that has the transfer's ranges they do.
+-- Calls among others come to that.
 abbrev pub CallsCopyAmongOthers : Type 0
 CallsCopyAmongOthers =
-    (t : Descriptor) (marks : MarkList) (calls : ℕ) (before after : ℕ → Stand) (last : ℕ → Option ChanTurn) → IsTransfer t →
-    lies_below t (length (before 0).image) ≡ true → CalledAmongOthers t marks calls before after last →
-    CallsCopy t marks calls before after last
+    (t : Descriptor) (marks : ℕ → MarkList) (calls : ℕ) (before after : ℕ → Stand) (last : ℕ → Option ChanTurn) →
+    IsTransfer t → CalledAmongOthers t marks calls before after last → CallsCopy t marks calls before after last

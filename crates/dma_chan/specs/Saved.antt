@@ -1,5 +1,5 @@
 -- The bytes of a saved channel. Numbers of several bytes have their lowest byte first.
-use Rattle.std.specs.Prelude.{ℕ, ◌+◌, ◌*◌, ◌%◌, ◌^◌, ◌<◌, ◌≤◌, IsTrue, is_some, unwrap_or, List, [], ◌∷◌, ◌++◌, length, slice_index, Option, Some, None, IfSome}
+use Rattle.std.specs.Prelude.{◌≡◌, ℕ, ◌+◌, ◌*◌, ◌%◌, ◌^◌, ◌<◌, ◌≤◌, IsTrue, is_some, unwrap_or, List, [], ◌∷◌, ◌++◌, length, slice_index, Option, Some, None, IfSome}
 use Rattle.std.specs.Int.{w16, w32, w64, to_le_bytes}
 use Rattle.dma_insn.specs.ControlWord.{flag, is_control}
 use Rattle.dma_chan.specs.declared.exec.Registers.{Registers}
@@ -110,3 +110,7 @@ head_bytes h =
 -- checksum of all before it.
 unfoldable pub saved : ChannelValue → List ℕ
 saved c = sealed (head_bytes (head_of c) ++ c.buffer ++ code_of c)
+
+-- The bytes are the save of a channel.
+abbrev pub IsSave : List ℕ → Type 0
+IsSave save = (c : ChannelValue) × IsChannelValue c × (save ≡ saved c)

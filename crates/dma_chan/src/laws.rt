@@ -38,18 +38,18 @@ pub fn copies_alone()
 {}
 
 /// What a transfer's program leaves of a memory that others write between its steps, but for the transfer's own places: there,
-/// one simultaneous copy of all its bytes.
+/// one simultaneous copy of all its bytes. Each step may have other marks, and a memory of another size.
 pub fn copies_among_others()
     ensures { CopiesAmongOthers }
 {}
 
-/// The same by calls, each of which takes steps in a row, as `lent::step_over` does.
+/// The same by calls, each of which takes steps in a row with marks of its own, as `lent::step_over` does.
 pub fn calls_copy_among_others()
     ensures { CallsCopyAmongOthers }
 {}
 
 /// What calls on several channels leave of one memory, whose transfers are free of each other: at the places of each transfer,
-/// one simultaneous copy of all its bytes.
+/// one simultaneous copy of all its bytes. Each call has marks of its own, and so each channel may.
 pub fn channels_copy_in_turn()
     ensures { ChannelsCopyInTurn }
 {}

@@ -5,6 +5,7 @@ ghost use Rattle.dma_mem.specs.Lent.{with_gaps};
 ghost use Rattle.dma_mem.specs.Pages.{has_page};
 ghost use Rattle.dma_chan.specs.Run.{RunsOver};
 ghost use Rattle.dma_chan.specs.Fails.{RunFails};
+ghost use Rattle.dma_chan.specs.RunPages.{MakesForStores};
 
 use crate::channel::Channel;
 use crate::program::{Program, ProgramFault};
@@ -68,6 +69,8 @@ fn run_on<M: Ram>(
     ensures ok { IfOk result (λ how. RunsOver (with_gaps (M.loan memory.old) []) program.bytes (M.paged memory.old).image limit how (M.paged memory.new).image) }
     ensures err { IfErr result (λ fault. RunFails (with_gaps (M.loan memory.old) []) program.bytes (M.paged memory.old) limit fault (M.paged memory.new)) }
     ensures pages { (p : ℕ) → has_page (M.paged memory.old) p ≡ true → has_page (M.paged memory.new) p ≡ true }
+    ensures others { MakesForStores (with_gaps (M.loan memory.old) []) program.bytes limit result
+        (M.paged memory.old) (M.paged memory.new) }
     ensures loan { M.loan memory.new ≡ M.loan memory.old }
 {
     channel.load(program);
@@ -96,8 +99,7 @@ fn run_on<M: Ram>(
 }
 
 /// Runs the bytes alone on a channel of their own, with no marks but the gaps of the memory and with all flags clear, for at most
-/// `limit` instructions. The
-/// pages that a store writes are made as it comes, and those that are made stay.
+/// `limit` instructions. The pages that a store writes are made as it comes, and no others. Those that are made stay.
 ///
 /// The error is `ProgramTooLong` above [`MAX_BYTES`](crate::program::MAX_BYTES), else `NoMemory`, and nothing has run then,
 /// or `PageRefused`: memory is what the instructions before that store leave.
@@ -111,6 +113,8 @@ pub fn run_program<M: Ram>(
     ensures fits { OnOk result (length bytes.now ≤ 8192) }
     ensures err { IfErr result (λ fault. RunFails (with_gaps (M.loan memory.old) []) bytes.now (M.paged memory.old) limit fault (M.paged memory.new)) }
     ensures pages { (p : ℕ) → has_page (M.paged memory.old) p ≡ true → has_page (M.paged memory.new) p ≡ true }
+    ensures others { MakesForStores (with_gaps (M.loan memory.old) []) bytes.now limit result
+        (M.paged memory.old) (M.paged memory.new) }
     ensures loan { M.loan memory.new ≡ M.loan memory.old }
 {
     let program = program_of(alloc, bytes)?;

@@ -2,7 +2,7 @@
 
 ghost use Rattle.std.specs.Prelude.{◌≡◌, ◌≤◌, ◌++◌, length, drop, nat_le, is_some, Err, IsNone, IfSome, MatchResult, OnOk, OnErr};
 ghost use Rattle.dma_chan.specs.Channel.{ChannelValue, code_of};
-ghost use Rattle.dma_chan.specs.Saved.{head_of, saved, IsChannelValue};
+ghost use Rattle.dma_chan.specs.Saved.{head_of, saved, IsChannelValue, IsSave};
 ghost use Rattle.dma_chan.specs.inner.Saves.{channel_in, FitsIn};
 
 use crate::channel::Channel;
@@ -49,7 +49,7 @@ impl Channel {
         ensures all { (c : ChannelValue) → IsChannelValue c → save.now ≡ saved c
             → MatchResult result (λ _. self.new ≡ c) (λ fault. fault ≡ RestoreFault.NoMemory) }
         // Memory runs out only at the save of a channel.
-        ensures memory { result ≡ Err RestoreFault.NoMemory → (c : ChannelValue) × (save.now ≡ saved c) }
+        ensures memory { result ≡ Err RestoreFault.NoMemory → IsSave save.now }
         ensures unchanged { OnErr result (self.new ≡ self.old) }
     {
         let Some(head) = Head::of_save(save) else {

@@ -146,6 +146,7 @@ impl Head {
     pub fn of_save(save: &[u8]) -> Option<Head>
         ensures fits { IfSome result (λ h. FitsIn (length save.now) h) }
         ensures found { IfSome result (λ h. save.now ≡ saved (channel_in save.now h)) }
+        ensures channel { IfSome result (λ h. IsChannelValue (channel_in save.now h)) }
         ensures only { (c : ChannelValue) → IsChannelValue c → save.now ≡ saved c
             → MatchOption result ⊥ (λ h. channel_in save.now h ≡ c) }
     {

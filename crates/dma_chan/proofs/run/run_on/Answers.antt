@@ -1,8 +1,10 @@
-use Rattle.std.proofs.Common.{ℕ, List, [], refl, sym, ap, ◌∙◌, subst}
+use Rattle.std.proofs.Common.{ℕ, ◌+◌, List, [], refl, sym, ap, ◌∙◌, subst, arith}
+use Rattle.dma_chan.specs.declared.run.RunEnd.TheVariants as ends
 use Rattle.dma_chan.specs.Exec.{State}
 use Rattle.dma_chan.specs.Channel.{state_of}
 use Rattle.dma_chan.specs.Run.{opening}
 use Rattle.dma_chan.proofs.RunAlone.{HasRun, run_on, stops_unread}
+use Rattle.dma_chan.proofs.RunPages.{made_at_end, made_at_refusal, made_on}
 use Rattle.dma_mem.specs.Lent.{with_gaps}
 use Rattle.dma_chan.proofs.run.run_on.Goals as goal
 
@@ -18,6 +20,7 @@ loop-turn-preserved g c =
       run = run_on marks c.args.program.bytes s c.loop-turn.turn c.loop-turn.channel c.execute.new.self image (g.M.Ram.paged c.execute.new.memory).image c.loop-turn.events c.execute.new.events c.execute.result h (rw (c.new-marks.ensures, loan) at step.turn) c.in-Moved.is (rw (c.new-marks.ensures, loan) at step.memory) (rw (c.new-marks.ensures, loan) at step.events) (rw (c.new-marks.ensures, loan) at step.channel);
       known = rw step.pages (rw c.in-Ok-prepare.is at c.prepare.ensures.known);
       pages = λ p h. rw step.pages (c.prepare.ensures.keeps.made p (c.loop-turn.invariant.pages p h));
+      made = made_on marks c.args.program.bytes s c.loop-turn.turn c.loop-turn.channel (g.M.Ram.paged c.loop-turn.memory).image c.loop-turn.events (g.M.Ram.paged c.args.memory.now) (g.M.Ram.paged c.loop-turn.memory) (g.M.Ram.paged c.prepare.new.memory) (g.M.Ram.paged c.execute.new.memory) c.loop-turn.invariant.run c.loop-turn.invariant.made c.prepare.ensures.others step.pages;
       loan = step.loan ∙ loan;
     }
 
@@ -30,3 +33,40 @@ returns-in-Err-clause-ok g c =
     let place = c.pc-pc.ensures ∙ sym (ap (λ (s : State). s.registers.pc) run.here) in
     let unread = sym c.next.ensures ∙ c.in-Err.is in
     (state_of c.loop-turn.channel image c.loop-turn.events, (c.loop-turn.turn, place, stops_unread marks c.args.program.bytes s c.args.limit c.loop-turn.turn c.loop-turn.channel image c.loop-turn.events c.in-Err.kind run c.loop-turn-test.true unread), refl)
+
+pub returns-in-Err-clause-others : goal.returns-in-Err-clause-others
+returns-in-Err-clause-others g c =
+    let marks = with_gaps (g.M.Ram.loan c.args.memory.now) [] in
+    made_at_end marks c.args.program.bytes c.args.limit c.loop-turn.turn c.loop-turn.turn (ends.Fault c.in-Err.kind c.pc-pc.result) (g.M.Ram.paged c.args.memory.now) (g.M.Ram.paged c.loop-turn.memory) c.loop-turn.invariant.made c.loop-turn.invariant.run.goes_on (omega arith) (omega arith)
+
+pub returns-in-Err-prepare-clause-others : goal.returns-in-Err-prepare-clause-others
+returns-in-Err-prepare-clause-others g c =
+    let marks = with_gaps (g.M.Ram.loan c.args.memory.now) [] in
+    let s = opening (g.M.Ram.paged c.args.memory.now).image in
+    made_at_refusal marks c.args.program.bytes c.args.limit c.loop-turn.turn (g.M.Ram.paged c.args.memory.now) (g.M.Ram.paged c.prepare.new.memory) (made_on marks c.args.program.bytes s c.loop-turn.turn c.loop-turn.channel (g.M.Ram.paged c.loop-turn.memory).image c.loop-turn.events (g.M.Ram.paged c.args.memory.now) (g.M.Ram.paged c.loop-turn.memory) (g.M.Ram.paged c.prepare.new.memory) (g.M.Ram.paged c.prepare.new.memory) c.loop-turn.invariant.run c.loop-turn.invariant.made c.prepare.ensures.others refl)
+
+pub returns-in-Waiting-clause-others : goal.returns-in-Waiting-clause-others
+returns-in-Waiting-clause-others g c =
+    let marks = with_gaps (g.M.Ram.loan c.args.memory.now) [] in
+    let s = opening (g.M.Ram.paged c.args.memory.now).image in
+    let made = made_on marks c.args.program.bytes s c.loop-turn.turn c.loop-turn.channel (g.M.Ram.paged c.loop-turn.memory).image c.loop-turn.events (g.M.Ram.paged c.args.memory.now) (g.M.Ram.paged c.loop-turn.memory) (g.M.Ram.paged c.prepare.new.memory) (g.M.Ram.paged c.execute.new.memory) c.loop-turn.invariant.run c.loop-turn.invariant.made c.prepare.ensures.others c.execute.ensures.pages in
+    made_at_end marks c.args.program.bytes c.args.limit (c.loop-turn.turn + 1) c.loop-turn.turn (ends.Waiting c.in-Waiting.event) (g.M.Ram.paged c.args.memory.now) (g.M.Ram.paged c.execute.new.memory) made c.loop-turn.invariant.run.goes_on (omega arith) (omega arith)
+
+pub returns-in-Ended-clause-others : goal.returns-in-Ended-clause-others
+returns-in-Ended-clause-others g c =
+    let marks = with_gaps (g.M.Ram.loan c.args.memory.now) [] in
+    let s = opening (g.M.Ram.paged c.args.memory.now).image in
+    let made = made_on marks c.args.program.bytes s c.loop-turn.turn c.loop-turn.channel (g.M.Ram.paged c.loop-turn.memory).image c.loop-turn.events (g.M.Ram.paged c.args.memory.now) (g.M.Ram.paged c.loop-turn.memory) (g.M.Ram.paged c.prepare.new.memory) (g.M.Ram.paged c.execute.new.memory) c.loop-turn.invariant.run c.loop-turn.invariant.made c.prepare.ensures.others c.execute.ensures.pages in
+    made_at_end marks c.args.program.bytes c.args.limit (c.loop-turn.turn + 1) c.loop-turn.turn (ends.Ended (c.loop-turn.turn + 1)) (g.M.Ram.paged c.args.memory.now) (g.M.Ram.paged c.execute.new.memory) made c.loop-turn.invariant.run.goes_on (omega arith) (omega arith)
+
+pub returns-in-Fault-clause-others : goal.returns-in-Fault-clause-others
+returns-in-Fault-clause-others g c =
+    let marks = with_gaps (g.M.Ram.loan c.args.memory.now) [] in
+    let s = opening (g.M.Ram.paged c.args.memory.now).image in
+    let made = made_on marks c.args.program.bytes s c.loop-turn.turn c.loop-turn.channel (g.M.Ram.paged c.loop-turn.memory).image c.loop-turn.events (g.M.Ram.paged c.args.memory.now) (g.M.Ram.paged c.loop-turn.memory) (g.M.Ram.paged c.prepare.new.memory) (g.M.Ram.paged c.execute.new.memory) c.loop-turn.invariant.run c.loop-turn.invariant.made c.prepare.ensures.others c.execute.ensures.pages in
+    made_at_end marks c.args.program.bytes c.args.limit (c.loop-turn.turn + 1) c.loop-turn.turn (ends.Fault c.in-Fault.kind c.pc-pc.result) (g.M.Ram.paged c.args.memory.now) (g.M.Ram.paged c.execute.new.memory) made c.loop-turn.invariant.run.goes_on (omega arith) (omega arith)
+
+pub returns-clause-others : goal.returns-clause-others
+returns-clause-others g c =
+    let marks = with_gaps (g.M.Ram.loan c.args.memory.now) [] in
+    made_at_end marks c.args.program.bytes c.args.limit c.loop-turn.turn c.loop-turn.turn ends.OutOfTurns (g.M.Ram.paged c.args.memory.now) (g.M.Ram.paged c.loop-turn.memory) c.loop-turn.invariant.made c.loop-turn.invariant.run.goes_on (omega arith) (omega arith)

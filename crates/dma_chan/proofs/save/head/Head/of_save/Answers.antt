@@ -1,9 +1,9 @@
-use Rattle.std.proofs.Common.{◌≡◌, [], ◌++◌, true, sym, refl, ◌∙◌, arith}
+use Rattle.std.proofs.Common.{◌≡◌, [], ◌++◌, true, sym, refl, ◌∙◌, append-nil, arith}
 use Rattle.std.proofs.lemmas.Slice.Eq.{slice_eq-Decides}
 use Rattle.std.proofs.lemmas.Bool.Decides.{Decides-eqb}
 use Rattle.dma_chan.specs.Saved.{head_of, head_bytes, sealed}
 use Rattle.dma_chan.specs.inner.Saves.{buffer_in, program_in}
-use Rattle.dma_chan.proofs.SavedParts.{saved_parts, saved_rest, head_ranges, rest_of, sealed_is_saved}
+use Rattle.dma_chan.proofs.SavedParts.{parts_make_channel, saved_parts, saved_rest, head_ranges, rest_of, sealed_is_saved}
 use Rattle.dma_chan.proofs.save.head.Head.of_save.Goals as goal
 
 pub returns-then-save-lt-HEAD_LEN-clause-only : goal.returns-then-save-lt-HEAD_LEN-clause-only
@@ -32,6 +32,13 @@ returns-then-eq-clause-found c =
     rw (c.as_slice.ensures, c.write-again.ensures.bytes, c.buffer_of.ensures, c.program_of.ensures) refl in
     let same = (slice_eq-Decides Decides-eqb _ _ _ c.eq.ensures).0 c.if-eq.true in
     sym same ∙ written ∙ sealed_is_saved save head (c.fits.ensures.0 c.if-not-fits.false)
+
+pub returns-then-eq-clause-channel : goal.returns-then-eq-clause-channel
+returns-then-eq-clause-channel c =
+    let write = c.write-again.ensures in
+    let buffer = rw (c.buffer_of.ensures, append-nil) at write.buffer_bytes in
+    let program = rw c.program_of.ensures at write.program_bytes in
+    parts_make_channel c.args.save.now c.in-Some.head (c.fits.ensures.0 c.if-not-fits.false) write.ranges buffer program
 
 pub returns-then-eq-clause-only : goal.returns-then-eq-clause-only
 returns-then-eq-clause-only c d v e =
