@@ -14,7 +14,7 @@ use Rattle.dma_mem.specs.declared.transfer.TransferFault.TheVariants as transfer
 use Rattle.dma_chan.specs.Channel.{ChannelValue, unloaded, loaded}
 use Rattle.dma_chan.specs.Compiled.{compiled}
 use Rattle.dma_chan.specs.LentRegions.{segment_of}
-use Rattle.dma_chan.specs.Saved.{IsChannelValue, saved}
+use Rattle.dma_chan.specs.Saved.{IsChannelValue, IsSave, saved}
 use Rattle.dma_chan.specs.Stepping.{Stand, TakesSteps, signal_after}
 use Rattle.dma_chan.specs.declared.turn.ChanTurn.{ChanTurn}
 use Rattle.dma_chan.specs.declared.turn.ChanTurn.TheVariants.{Moved, Waiting, Ended, Fault}
@@ -148,10 +148,6 @@ unmarked m = record m { marks = [] }
 
 -- ---- saves
 
--- Whether bytes are the save of a channel.
-abbrev pub IsSave : List ℕ → Type 0
-IsSave save = (c : ChannelValue) × IsChannelValue c × (save ≡ saved c)
-
 -- The save of C's channel is written at the front of a buffer, and its length, where the buffer has room.
 abbrev pub WritesSave : Option MarkedChannel → ℤ → List ℕ → List ℕ → ℕ → ℕ → Option MarkedChannel → Type 0
 WritesSave None code buffer out len written new = (code ≡ not_open) × (out ≡ buffer) × (written ≡ len) × (new ≡ None)
@@ -160,11 +156,12 @@ WritesSave (Some m) code buffer out len written new =
     × (written ≡ where_fits (saved m.channel) buffer (length (saved m.channel)) len)
     × (length (saved m.channel) ≤ 8500) × IsChannelValue m.channel × (new ≡ Some m)
 
--- The channel becomes the one of a save, the only one that there is. It fails where the bytes are no save, else out of memory.
+-- The channel becomes the one of a save, the only one that there is. It fails as a bad save exactly where the bytes are no save,
+-- and out of memory only where they are one.
 abbrev pub Restores : List ℕ → ChannelValue → Outcome → ChannelValue → Type 0
 Restores save c (Ok u) d = (save ≡ saved d) × ((e : ChannelValue) → IsChannelValue e → save ≡ saved e → d ≡ e)
 Restores save c (Err BadSave) d = (¬ IsSave save) × (d ≡ c)
-Restores save c (Err NoMemory) d = d ≡ c
+Restores save c (Err NoMemory) d = IsSave save × (d ≡ c)
 Restores save c (Err _) d = ⊥
 
 -- ---- the caller's memory
@@ -199,7 +196,8 @@ over m regions flags = record { channel = m.channel; image = image_of (pieces_of
 abbrev pub marks_over : MarkedChannel → List Region → MarkList
 marks_over m regions = marks_at (gaps_of (pieces_of regions)) ++ m.marks
 
--- Regions stay where they are: addresses, lengths and pointers are the same, whatever the bytes are.
+-- Regions stay where they are, whatever their bytes are: addresses and lengths are the same, and each region has its bytes by the
+-- same loan as before. Pointers are not compared: what a contract sees of where a memory is lent is the names of its loans.
 pub record StayInPlace (regions left : List Region) : Type 0 where
   pub places : map segment_of left ≡ map segment_of regions
   pub names : map (λ r. r.bytes.ghost_name) left ≡ map (λ r. r.bytes.ghost_name) regions
