@@ -1,2 +1,2 @@
--- What walks over a `BoxPointer` share, also those of crates above.
+-- Lemmas that the proofs about a `BoxPointer` share, also in crates that use this one.
 pub mod Values

@@ -1,8 +1,8 @@
-//! A box taken apart into the pointer that owns its value, and put together again: for values that code in another language
-//! keeps between calls.
+//! Splits a `Box` into its allocator and the pointer that owns its value, and rebuilds it: for values that code in
+//! another language keeps between calls.
 //!
-//! Proved, by hand: the value that goes in is the one that comes out, and the pointer owns its memory in between. Not proved:
-//! that a caller puts it together again. A `BoxPointer` that is taken apart and forgotten leaks.
+//! Proved, by hand: the rebuilt box has the value of the original one, and the pointer owns the value's memory in
+//! between. Not proved: that the caller rebuilds the box. A `BoxPointer` that is taken apart and forgotten leaks.
 #![tactic(auto)]
 
 ghost use Rattle.std.specs.Prelude.{◌≡◌};
@@ -11,11 +11,11 @@ ghost use Rattle.std.specs.Box.Ownership.{box_owns};
 use std::alloc::Allocator;
 use std::marker::Model;
 
-/// A box as its pointer and its allocator. It owns what the box owned, and the memory in which that lies.
+/// The pointer and the allocator of a box. It owns the value of the box and the memory that holds it.
 pub struct BoxPointer<T, A: Allocator> {
-    /// Where the value lies.
+    /// Points to the value.
     pub at: *mut T,
-    /// What frees its memory.
+    /// The allocator that frees the value's memory.
     pub alloc: A,
     pub ghost value: { T },
 }
@@ -25,7 +25,7 @@ impl<T, A: Allocator> Model for BoxPointer<T, A> {
 }
 
 impl<T: Drop, A: Allocator> BoxPointer<T, A> {
-    /// Takes a box apart.
+    /// Splits a box into its pointer and its allocator.
     pub fn of(value: Box<T, A>) -> BoxPointer<T, A>
         ensures { result.value ≡ value.value }
     {
@@ -33,7 +33,7 @@ impl<T: Drop, A: Allocator> BoxPointer<T, A> {
         BoxPointer { at, alloc }
     }
 
-    /// Makes the box again.
+    /// Rebuilds the box from its pointer and its allocator.
     pub fn into_box(self) -> Box<T, A>
         ensures { result.value ≡ self.value }
     {

@@ -20,7 +20,7 @@ pub record Front (bytes : List ℕ) (offset : ℕ) : Type 0 where
   pub bytes_are : bytes ≡ joined insns ++ drop offset bytes
   pub offset_is : offset ≡ length (joined insns)
 
--- the same, and a text is theirs
+-- the bytes before a place are spellings joined, and a text is that of their instructions
 pub record WrittenFront (bytes : List ℕ) (offset : ℕ) (text : List ℕ) : Type 0 where
   pub insns : List Insn
   pub in_range : AllInRange insns
@@ -99,7 +99,7 @@ spelled_front : (i : Insn) (rest more : List ℕ) → HasRanges i → rest ≡ s
 spelled_front i rest more h e =
     record { in_range = h; count_is = refl; bytes_are = ap (take (length (spelling i))) e ∙ take-append_seam (spelling i) more }
 
--- No spellings joined are a longer front than those behind which no instruction stands.
+-- If no instruction begins behind a front of joined spellings, no other such front is longer.
 longest_front : (is js : List Insn) (rest more : List ℕ) → AllInRange is → AllInRange js → joined is ++ rest ≡ joined js ++ more → ((i : Insn) (n : ℕ) → IsSpelledAt rest i n → ⊥) → length (joined js) ≤ length (joined is)
 longest_front is [] rest more hi hj e none = omega arith
 longest_front [] (j ∷ js) rest more hi hj e none =
@@ -111,7 +111,7 @@ longest_front (i ∷ is) (j ∷ js) rest more hi hj e none =
     let rest_of = longest_front is js rest more hi.1 hj.1 same.1 none in
     omega (arith, length-append (spelling i) (joined is), length-append (spelling j) (joined js))
 
--- Where no instruction stands behind the front, it is the longest.
+-- If no instruction begins behind the front, it is the longest.
 pub stops : (bytes : List ℕ) (offset : ℕ) (fault : DecodeFault) → offset < length bytes → Front bytes offset → Err fault ≡ decoded (take (length bytes - offset) (drop offset bytes)) → IsRefusedFor (take (length bytes - offset) (drop offset bytes)) fault
     → ((i : Insn) (n : ℕ) → IsSpelledAt (take (length bytes - offset) (drop offset bytes)) i n → ⊥) → StopsAt bytes offset fault
 stops bytes offset fault within f fault_is refused none =
@@ -167,7 +167,7 @@ same_text_of bytes a b p q =
 pub has_text : (bytes : List ℕ) → AreSpelled bytes → (text : List ℕ) × Disassembles bytes text
 has_text bytes h = (text_of h.insns, disassembles bytes (text_of h.insns) h.insns h.in_range h.bytes_are refl)
 
--- behind spellings joined stand bytes that are read as none
+-- bytes that decode to no instruction follow joined spellings
 record BreaksOff (bytes : List ℕ) : Type 0 where
   pub insns : List Insn
   pub rest : List ℕ

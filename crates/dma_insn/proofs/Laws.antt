@@ -1,4 +1,4 @@
--- What reading and spelling have to do with each other.
+-- How decoding and encoding are related.
 use Rattle.std.proofs.Common.{◌≡◌, ℕ, ◌+◌, ◌-◌, ◌*◌, ◌/◌, ◌%◌, ◌^◌, ◌<◌, ◌≤◌, Bool, true, false, List, [], ◌∷◌, ◌++◌, length, drop, take, get_or, refl, sym, ap, ◌∙◌, subst, Ok, Err, arith, cond, eqb, ltb, suc}
 use Rattle.std.proofs.lemmas.Nat.{div-mul-add, mod-mul-add}
 use Rattle.std.proofs.lemmas.Bool.{eqb-true, eq-eqb, le-ltb, ltb-false, ltb-true, false≢true}
@@ -40,7 +40,7 @@ set_again r v rest h =
     let long : 5 ≤ length bytes = omega arith in
     rw (le-ltb (length bytes) 5 long, little_number-reads_back 4 v rest h) (elim r as (λ q. set_at (register_byte q) v ≡ Ok (Mov q v, 6)) [ Sar ↦ refl | Ccr ↦ refl | Dar ↦ refl ])
 
--- what is spelled is read, whatever follows
+-- an encoded instruction is decoded, whatever follows
 pub decoded-spelling : (i : Insn) (rest : List ℕ) → HasRanges i → decoded (spelling i ++ rest) ≡ Ok (i, length (spelling i))
 decoded-spelling End rest h = refl
 decoded-spelling Ld rest h = refl
@@ -72,7 +72,7 @@ one_front i j xs ys hi hj e =
     let same : i ≡ j = ap (λ (p : Insn × ℕ). p.0) both in
     (same, append_cancel_left (spelling i) xs ys (e ∙ ap (λ (k : Insn). spelling k ++ ys) (sym same)))
 
--- what is read at the front of these bytes is spelled there, and a fault is the first
+-- the decoded instruction is encoded at the front of these bytes, and a fault is the first that applies
 abbrev pub Right : List ℕ → Decoded → Type 0
 Right bytes read = MatchResult read (λ found. IsSpelledAt bytes found.0 found.1) (λ fault. IsRefusedFor bytes fault)
 
@@ -244,7 +244,7 @@ right_err bytes (Err e) h = h
 err_not_ok : (r : Decoded) (fault : DecodeFault) (x : Insn × ℕ) → Err fault ≡ r → r ≡ Ok x → ⊥
 err_not_ok r fault x left right = cc
 
--- where nothing is read, nothing is spelled
+-- where decoding fails, no instruction is encoded
 pub none_spelled : (bytes : List ℕ) (r : Decoded) → r ≡ decoded bytes → IfErr r (λ _. (i : Insn) (n : ℕ) → IsSpelledAt bytes i n → ⊥)
 none_spelled bytes (Ok x) e = tt
 none_spelled bytes (Err fault) e = λ i n h. err_not_ok (decoded bytes) fault (i, n) e (decoded_at bytes i n h)
@@ -262,7 +262,7 @@ spelling_some (Sev e) = omega arith
 spelling_some (Wfe e v) = omega arith
 spelling_some (Mov r v) = omega arith
 
--- What is spelled at the front is some bytes, and not more than there are.
+-- An instruction that is encoded at the front has at least one byte, and not more than there are.
 pub spelled_within : (bytes : List ℕ) (i : Insn) (n : ℕ) → IsSpelledAt bytes i n → (0 < n) × (n ≤ length bytes)
 spelled_within bytes i n h =
     let some = spelling_some i in

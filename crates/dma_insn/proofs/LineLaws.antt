@@ -1,4 +1,4 @@
--- What a line is read as, against what its words are.
+-- The result of reading a line, compared with the statement of its words.
 use Rattle.std.proofs.Common.{◌≡◌, ℕ, ◌^◌, ◌<◌, ◌≤◌, Bool, true, false, ◌&&◌, List, [], ◌∷◌, refl, sym, ap, ◌∙◌, subst, Option, Some, None, Result, Ok, Err, cond, leb, arith, inl, inr}
 use Rattle.std.specs.Prelude.{codes}
 use Rattle.std.proofs.lemmas.Bool.{ne_eqb, le-leb, lt-leb, cases_lt}
@@ -19,7 +19,7 @@ use Rattle.std.specs.List.{list_any}
 use Rattle.dma_insn.specs.LineReading.{◌>>=◌, capped, number_of, value_of, register_of, counter_at, times_at, back_at, event_at, loop_line, loop_end_line, signal_line, wait_line, set_line, bare_line, line_by, line_in}
 use Rattle.dma_insn.proofs.Numbers.{number_of_reads, number_of_decimal, value_of_reads, value_of_word}
 
--- ranges do not tell a number above 65,535 from that one
+-- the ranges treat a number above 65,535 as 65,535
 same_capped : {A : Type 0} (f : ℕ → A) → ((k : ℕ) → 65535 ≤ k → f k ≡ f 65535) → (k : ℕ) → f (capped k) ≡ f k
 same_capped f large k =
     elim (cases_lt k 65536) [
@@ -40,7 +40,7 @@ back_capped k = same_capped back_at (λ j h. rw (lt-leb j 255 (omega arith)) ref
 event_capped : (k : ℕ) → event_at (capped k) ≡ event_at k
 event_capped k = same_capped event_at (λ j h. rw (lt-leb j 31 (omega arith)) refl) k
 
--- the ranges asked one after another, and as a statement has them
+-- the ranges tested one after another, and as a statement has them
 loop_ranges : (o : Option Counter) (t : Bool) (m : ℕ) → (ok_or o Range >>= λ c. (cond t (Ok m) (Err Range) >>= λ k. Ok (Lp c k))) ≡ ok_or (option_and_then (λ c. cond t (Some (Lp c m)) None) o) Range
 loop_ranges None t m = refl
 loop_ranges (Some c) true m = refl
@@ -110,7 +110,7 @@ line_in_written words (dmawfe e false) h = ap line_in h.words_are ∙ wait_read 
 line_in_written words (dmawfe e true) h = ap line_in h.words_are ∙ wait_invalid_read h.word e h.number
 line_in_written words (dmamov r v) h = ap line_in h.words_are ∙ set_read r v h.in_range
 
--- What a line's words are told by what they are read as.
+-- What the result of reading a line's words says about them.
 abbrev pub IsTold : List (List ℕ) → Result Insn Cause → Type 0
 IsTold words (Ok i) = (s : Statement) × IsWritten words s × (insn_of s ≡ Some i)
 IsTold words (Err Mnemonic) = list_any (λ name. bytes_eq (first_of words) name) names ≡ false

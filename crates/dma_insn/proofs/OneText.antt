@@ -1,4 +1,4 @@
--- A program's text without a skipped line, each line ended, is written in one way.
+-- A program has only one text in which no line is skipped and each is ended.
 use Rattle.std.proofs.Common.{◌≡◌, ℕ, ◌^◌, ◌<◌, ◌||◌, Bool, true, false, List, [], ◌∷◌, ◌++◌, map, length, refl, sym, ap, ◌∙◌, subst, Some, None, cond, eqb, arith}
 use Rattle.std.specs.Prelude.{codes, decimal, flat_map, MatchBool}
 use Rattle.std.specs.List.{list_any}

@@ -1,4 +1,4 @@
--- What a text is read as, line after line, against what its lines write.
+-- The result of reading a text, line after line, compared with what its lines write.
 use Rattle.std.proofs.Common.{◌≡◌, ℕ, ◌+◌, ◌<◌, ◌≤◌, Bool, true, false, List, [], ◌∷◌, ◌++◌, ◌≢◌, length, refl, sym, ap, ◌∙◌, subst, Option, Some, None, Result, Ok, Err, cond, leb, arith, append_assoc, append-nil, length-append, inl, inr, ◌⊎◌}
 use Rattle.std.specs.Prelude.{MatchResult, MatchBool, IfOk, IfErr, IsOk}
 use Rattle.std.specs.Option.{ok_or}
@@ -25,7 +25,7 @@ not_operand : (o : Option Insn) → ok_or o Range ≡ Err Operand → ⊥
 not_operand None e = range_operand (Err Range) refl e
 not_operand (Some i) e = insn_err i Operand (Ok i) refl e
 
--- What is told of a line by what its words are read as.
+-- What the result of reading a line's words says about the line.
 cause_told : (line : List ℕ) (cause : Cause) → line_in (words_of line) ≡ Err cause → IsTold (words_of line) (Err cause) → IsCause line cause
 cause_told line Mnemonic e told = told
 cause_told line Operand e told = (told, λ s written. not_operand (insn_of s) (sym (line_in_written (words_of line) s written) ∙ e))
@@ -42,7 +42,7 @@ written_by line i taken e =
 writes_read : (line : List ℕ) (i : Insn) → Writes line i → line_in (words_of line) ≡ Ok i
 writes_read line i h = line_in_written (words_of line) h.statement h.words_are ∙ ap (λ (o : Option Insn). ok_or o Range) h.insn_is
 
--- A line stands among lines that follow n others and a program.
+-- The place of a line among lines that follow n others and a program.
 pub record Place (n : ℕ) (program : List ℕ) (lines : List (List ℕ)) (line : List ℕ) (m : ℕ) (insns : List Insn) : Type 0 where
   pub before : List (List ℕ)
   pub after : List (List ℕ)
@@ -340,7 +340,7 @@ fault_read text (ProgramTooLong n) other h =
     read_before text h.0 n h.1 at ∙ rw here (ap (λ (m : ℕ). Err (ProgramTooLong m)) (sym at.number))
 fault_read text NoMemory other h = absurd (other refl)
 
--- Reading takes no memory.
+-- Reading never gives `NoMemory`.
 no_memory_never : (text : List ℕ) (fault : AsmFault) → assembled text ≡ Err fault → fault ≢ NoMemory
 no_memory_never text fault e is =
     let bad : Outcome 0 [] (text_lines text) (Err NoMemory) = subst (Outcome 0 [] (text_lines text)) (e ∙ ap Err is) (outcome (text_lines text) 0 [] (omega arith)) in

@@ -30,7 +30,7 @@ words_whole : (line : List ℕ) → ((k : ℕ) → k < length line → eqb (get_
 words_whole [] none = refl
 words_whole (b ∷ rest) none = rw (none 0 (omega arith)) (ap (onto_first b) (words_whole rest (λ k h. none (suc k) (omega arith))))
 
--- a byte that has no place is nowhere
+-- a byte without a position doesn't occur
 nowhere : (b : ℕ) (bytes : List ℕ) → None ≡ position (λ x. eqb x b) bytes → (k : ℕ) → k < length bytes → eqb (get_or bytes k 0) b ≡ false
 nowhere b bytes none k within =
     let p = λ (x : ℕ). eqb x b in

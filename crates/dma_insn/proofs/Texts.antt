@@ -70,7 +70,7 @@ decimal_zeros n small z =
       | inr none ↦ let zero_n : n ≡ 0 = omega arith in rw (zero_n, decimal_digit 0 (omega arith)) refl
     ]
 
--- what is written of a number is it in decimal
+-- a number is written in decimal
 decimal_is : (n : ℕ) → n < 2 ^ 64 → IsDecimal (decimal n) n
 decimal_is n small = record {
   some = decimal_nonempty n small;
@@ -224,7 +224,7 @@ pub lines_ended : (is : List Insn) → text_of is ≡ flat_map (λ line. line ++
 lines_ended [] = refl
 lines_ended (i ∷ is) = ap (λ (more : List ℕ). (insn_text i ++ 10 ∷ []) ++ more) (lines_ended is)
 
--- What is written of spellings joined is their text.
+-- The text of the instructions of joined spellings is their disassembly.
 disassembled : (bytes : List ℕ) (is : List Insn) → AllInRange is → bytes ≡ joined is → Disassembles bytes (text_of is)
 disassembled bytes is h e = record {
   insns = is;

@@ -1,5 +1,5 @@
--- The text of channel programs (profile; the words that name instructions and registers are those of the PL330 manual). It
--- is told as a relation between lines and instructions, apart from what reads and what writes it.
+-- The text of channel programs (profile; the names of instructions and registers are those of the PL330 manual), as a
+-- relation between lines and instructions. The relation doesn't depend on how text is read or written.
 use Rattle.std.specs.Prelude.{◌≡◌, ℕ, ◌+◌, ◌/◌, ◌%◌, ◌^◌, ◌<◌, ◌≤◌, Bool, true, false, ◌==◌, ◌||◌, ◌&&◌, if◌then◌else◌, List, [], ◌∷◌, ◌++◌, length, slice_index, map, flat_map, Option, Some, None, codes, nat_le, MatchBool}
 use Rattle.std.specs.List.{list_all, list_any}
 use Rattle.std.specs.Option.{option_and_then}
@@ -18,7 +18,7 @@ use Rattle.dma_insn.specs.declared.assembler.Cause.TheVariants.{Mnemonic, Operan
 use Rattle.dma_insn.specs.declared.assembler.AsmFault.{AsmFault}
 use Rattle.dma_insn.specs.declared.assembler.AsmFault.TheVariants as faults
 
--- a byte before the first of some parts
+-- a byte put before the first of some parts; without parts, one part of that byte
 abbrev pub onto_first : ℕ → List (List ℕ) → List (List ℕ)
 onto_first b [] = (b ∷ []) ∷ []
 onto_first b (part ∷ parts) = (b ∷ part) ∷ parts
@@ -28,16 +28,16 @@ abbrev pub text_lines : List ℕ → List (List ℕ)
 text_lines [] = []
 text_lines (b ∷ rest) = if b == 10 then [] ∷ text_lines rest else onto_first b (text_lines rest)
 
--- the words of a line: what stands between its spaces
+-- the words of a line: the parts between its spaces, which may be empty
 abbrev pub words_of : List ℕ → List (List ℕ)
 words_of [] = [] ∷ []
 words_of (b ∷ rest) = if b == 32 then [] ∷ words_of rest else onto_first b (words_of rest)
 
--- a line of spaces alone, or whose first byte is #
+-- whether a line is skipped: it is empty, has only spaces, or its first byte is #
 abbrev pub is_skipped : List ℕ → Bool
 is_skipped line = list_all (λ b. b == 32) line || (slice_index line 0 == 35)
 
--- A word is a number in decimal, of any length, without leading zeros.
+-- The word is the number n in decimal digits, one or more, without leading zeros.
 pub record IsDecimal (word : List ℕ) (n : ℕ) : Type 0 where
   pub some : 0 < length word
   pub digits : all_ascii_digits word ≡ true
@@ -54,8 +54,9 @@ register_word Sar = codes "SAR"
 register_word Ccr = codes "CCR"
 register_word Dar = codes "DAR"
 
--- What a line writes, before it is asked whether its decimal numbers are in range: a loop's counter and times, a loop's
--- counter and jump, an event, an event with or without the invalid flag, a register and its value.
+-- What a line says, before its decimal numbers are tested against their ranges. `dmalp` has a loop counter and a number
+-- of times, `dmalpend` a loop counter and a jump, `dmasev` an event, `dmawfe` an event and whether the invalid flag is
+-- set, `dmamov` a register and its value.
 pub data Statement : Type 0 where
   dmaend : Statement
   dmald : Statement
@@ -69,13 +70,13 @@ pub data Statement : Type 0 where
   dmawfe : ℕ → Bool → Statement
   dmamov : Reg → ℕ → Statement
 
--- a name, a number, and these words
+-- The words are a name, the number n in decimal, and the words `more`.
 pub record HasNumber (words : List (List ℕ)) (name : List ℕ) (n : ℕ) (more : List (List ℕ)) : Type 0 where
   pub word : List ℕ
   pub words_are : words ≡ name ∷ word ∷ more
   pub number : IsDecimal word n
 
--- a name and two numbers
+-- The words are a name and the numbers m and n in decimal.
 pub record HasTwoNumbers (words : List (List ℕ)) (name : List ℕ) (m n : ℕ) : Type 0 where
   pub first : List ℕ
   pub second : List ℕ
@@ -83,12 +84,12 @@ pub record HasTwoNumbers (words : List (List ℕ)) (name : List ℕ) (m n : ℕ)
   pub first_number : IsDecimal first m
   pub second_number : IsDecimal second n
 
--- a register and its value
+-- The words are DMAMOV, the register r and the value v, which is below 2 ^ 32.
 pub record HasValue (words : List (List ℕ)) (r : Reg) (v : ℕ) : Type 0 where
   pub words_are : words ≡ codes "DMAMOV" ∷ register_word r ∷ value_word v ∷ []
   pub in_range : v < 2 ^ 32
 
--- the words of a line are those of a statement
+-- The words are those of a line with this statement.
 abbrev pub IsWritten : List (List ℕ) → Statement → Type 0
 IsWritten words dmaend = words ≡ codes "DMAEND" ∷ []
 IsWritten words dmald = words ≡ codes "DMALD" ∷ []
@@ -103,11 +104,11 @@ IsWritten words (dmawfe e false) = HasNumber words (codes "DMAWFE") e []
 IsWritten words (dmawfe e true) = HasNumber words (codes "DMAWFE") e (codes "invalid" ∷ [])
 IsWritten words (dmamov r v) = HasValue words r v
 
--- the loop counter of a number
+-- the loop counter of a number: of 0 and 1 only
 abbrev pub counter_of : ℕ → Option Counter
 counter_of c = if c == 0 then Some Lc0 else (if c == 1 then Some Lc1 else None)
 
--- the instruction of a statement, where each of its numbers is in range
+-- the instruction of a statement, if each of its decimal numbers is in range
 abbrev pub insn_of : Statement → Option Insn
 insn_of dmaend = Some End
 insn_of dmald = Some Ld
@@ -121,41 +122,42 @@ insn_of (dmasev e) = if nat_le e 31 then Some (Sev e) else None
 insn_of (dmawfe e v) = if nat_le e 31 then Some (Wfe e v) else None
 insn_of (dmamov r v) = Some (Mov r v)
 
--- A line writes an instruction.
+-- A line writes the instruction i: it is not skipped, and its words are those of a statement with the instruction i.
 pub record Writes (line : List ℕ) (i : Insn) : Type 0 where
   pub taken : is_skipped line ≡ false
   pub statement : Statement
   pub words_are : IsWritten (words_of line) statement
   pub insn_is : insn_of statement ≡ Some i
 
--- the words that a line can begin with
+-- the names of the instructions
 abbrev pub names : List (List ℕ)
 names =
     codes "DMAEND" ∷ codes "DMALD" ∷ codes "DMAST" ∷ codes "DMARMB" ∷ codes "DMAWMB" ∷ codes "DMANOP"
     ∷ codes "DMALP" ∷ codes "DMALPEND" ∷ codes "DMASEV" ∷ codes "DMAWFE" ∷ codes "DMAMOV" ∷ []
 
--- the first of some words
+-- the first word; an empty one if there are no words
 abbrev pub first_of : List (List ℕ) → List ℕ
 first_of [] = []
 first_of (word ∷ words) = word
 
--- a line whose first word is an instruction's name
+-- whether the first word of a line is the name of an instruction
 abbrev pub begins_with_name : List ℕ → Bool
 begins_with_name line = list_any (λ name. bytes_eq (first_of (words_of line)) name) names
 
--- Why a line that is not skipped writes no instruction: its first word is no name; it is one, and the words are no
--- statement's; or they are, and a number is out of range.
+-- Why the words of a line write no instruction. `Mnemonic`: the first word is not a name. `Operand`: the first word is
+-- a name, and the words are not those of a statement. `Range`: the words are those of a statement, and a number of it
+-- is out of range.
 abbrev pub IsCause : List ℕ → Cause → Type 0
 IsCause line Mnemonic = begins_with_name line ≡ false
 IsCause line Operand = (begins_with_name line ≡ true) × ((s : Statement) → IsWritten (words_of line) s → ⊥)
 IsCause line Range = (s : Statement) × IsWritten (words_of line) s × (insn_of s ≡ None)
 
--- A line that is not skipped has a cause.
+-- The line is not skipped, and the cause applies to it.
 pub record HasCause (line : List ℕ) (cause : Cause) : Type 0 where
   pub taken : is_skipped line ≡ false
   pub cause_is : IsCause line cause
 
--- A line that is not skipped writes the first of some instructions, and what follows it writes the rest.
+-- The line writes the first of the instructions, and `Rest` holds of the others.
 pub record WritesFirst (line : List ℕ) (is : List Insn) (Rest : List Insn → Type 0) : Type 0 where
   pub first : Insn
   pub rest : List Insn
@@ -163,13 +165,13 @@ pub record WritesFirst (line : List ℕ) (is : List Insn) (Rest : List Insn → 
   pub writes : Writes line first
   pub more : Rest rest
 
--- The lines of a program's text: each one is skipped, or writes one instruction.
+-- The lines write the instructions, in order: each line is skipped or writes one instruction.
 abbrev pub WriteAll : List (List ℕ) → List Insn → Type 0
 WriteAll [] is = is ≡ []
 WriteAll (line ∷ lines) is =
     MatchBool (is_skipped line) (WriteAll lines is) (WritesFirst line is (λ rest. WriteAll lines rest))
 
--- A text is the text of a program.
+-- The lines of the text write the instructions.
 abbrev pub ProgramText : List ℕ → List Insn → Type 0
 ProgramText text is = WriteAll (text_lines text) is
 
@@ -181,14 +183,14 @@ joined is = flat_map spelling is
 abbrev pub most_bytes : ℕ
 most_bytes = 8192
 
--- A text assembles to these bytes.
+-- The text assembles to the bytes: its lines write instructions with these bytes, of which there are at most 8,192.
 pub record Assembles (text bytes : List ℕ) : Type 0 where
   pub insns : List Insn
   pub text_is : ProgramText text insns
   pub bytes_are : bytes ≡ joined insns
   pub fits : length bytes ≤ most_bytes
 
--- A line stands in a text behind n - 1 others, which write a program that is not too long.
+-- The line is line n of the text, and the lines before it write the instructions, which have at most 8,192 bytes.
 pub record StandsAt (text line : List ℕ) (n : ℕ) (insns : List Insn) : Type 0 where
   pub before : List (List ℕ)
   pub after : List (List ℕ)
@@ -197,8 +199,9 @@ pub record StandsAt (text line : List ℕ) (n : ℕ) (insns : List Insn) : Type 
   pub writes : WriteAll before insns
   pub fits : length (joined insns) ≤ most_bytes
 
--- The first fault of a text: in line n, behind lines without one; the line with which the program is too long, behind
--- lines without a fault; or none, and memory was refused.
+-- The first fault of a text. `Line`: line n has the cause, and the lines before it have no fault. `ProgramTooLong`:
+-- line n writes an instruction with which the program has more than 8,192 bytes, and the lines before it have no fault.
+-- `NoMemory`: the text assembles, so it has no fault.
 abbrev pub IsFirstFault : List ℕ → AsmFault → Type 0
 IsFirstFault text (faults.Line n cause) =
     (line : List ℕ) × (insns : List Insn) × StandsAt text line n insns × HasCause line cause

@@ -42,18 +42,19 @@ beat_bytes Four = 4
 beat_bytes Eight = 8
 beat_bytes Sixteen = 16
 
--- the bytes of one burst: each of its beats moves as many
+-- the number of bytes of one burst: its beats times the bytes of a beat
 abbrev pub burst_bytes : BurstEnd → ℕ
 burst_bytes e = e.beats * beat_bytes e.size
 
--- The ranges of one end's fields, which its types keep.
+-- The ranges of one end's fields, which the types of the fields guarantee.
 pub record HasEndRanges (e : BurstEnd) : Type 0 where
   pub some : 1 ≤ e.beats
   pub beats : e.beats ≤ 16
   pub protection : e.protection < 8
   pub cache : e.cache < 8
 
--- The fields of a control word, bit by bit. A length code n means n + 1 beats; the swap field and bit 31 are 0 (profile).
+-- The fields of a control word, bit by bit. A length code n means n + 1 beats; the swap field and bit 31 are 0
+-- (profile).
 pub record HasFields (w : ℕ) (c : Control) : Type 0 where
   pub src_increments : flag c.src.increments ≡ field 0 1 w
   pub src_size : size_code c.src.size ≡ field 1 3 w
@@ -78,22 +79,23 @@ end_with k w size = record {
   cache = field (k + 11) 3 w;
 }
 
--- the same, if the size code is not reserved
+-- the fields of the end whose lowest bit is bit k, if its size code is not reserved
 unfoldable pub end_at : ℕ → ℕ → Option BurstEnd
 end_at k w = option_map (end_with k w) (size_of (field (k + 1) 3 w))
 
--- what the word with these ends is, if nothing else is refused
+-- the fields of the word w with these ends, or the first fault: an end with a reserved size, a swap that is not 0, bit
+-- 31
 abbrev pub with_ends : ℕ → Option BurstEnd → Option BurstEnd → Result Control ControlFault
 with_ends w None d = Err ReservedSize
 with_ends w (Some s) None = Err ReservedSize
 with_ends w (Some s) (Some d) =
     if field 28 3 w == 0 then (if field 31 1 w == 0 then Ok (record { src = s; dst = d }) else Err Bit31) else Err Swap
 
--- The fields of a word, or the first refusal: a reserved size, a swap that is not 0, bit 31.
+-- The fields of a word, or the first fault: a reserved size of either end, a swap that is not 0, bit 31.
 unfoldable pub control_of : ℕ → Result Control ControlFault
 control_of w = with_ends w (end_at 0 w) (end_at 14 w)
 
--- The words that are accepted: those that are refused for no reserved size, no swap and no bit 31 (profile).
+-- Whether a word is accepted: no size is reserved, the swap is 0 and bit 31 is clear (profile).
 unfoldable pub is_control : ℕ → Bool
 is_control w = is_ok (control_of w)
 

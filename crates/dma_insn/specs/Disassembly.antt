@@ -1,4 +1,4 @@
--- The text that a program's bytes are written as (profile).
+-- The text to which a program's bytes are disassembled (profile).
 use Rattle.std.specs.Prelude.{◌≡◌, ℕ, ◌<◌, ◌≤◌, true, false, ◌⊎◌, List, [], ◌∷◌, ◌++◌, length, slice_index, flat_map, codes, decimal, Err}
 use Rattle.std.specs.List.{concat, list_any}
 use Rattle.dma_insn.specs.Spelling.{HasRanges, IsSpelledAt, IsRefusedFor}
@@ -12,7 +12,7 @@ use Rattle.dma_insn.specs.declared.codec.DecodeFault.{DecodeFault}
 use Rattle.dma_insn.specs.declared.disassembler.DisFault.{DisFault}
 use Rattle.dma_insn.specs.declared.disassembler.DisFault.TheVariants.{Decode, NoMemory}
 
--- each of some instructions has its ranges
+-- All instructions have their fields in range.
 abbrev pub AllInRange : List Insn → Type 0
 AllInRange [] = Unit {0}
 AllInRange (i ∷ is) = HasRanges i × AllInRange is
@@ -41,14 +41,14 @@ insn_text (Mov r v) = concat (codes "DMAMOV " ∷ register_word r ∷ codes " " 
 abbrev pub text_of : List Insn → List ℕ
 text_of is = flat_map (λ i. insn_text i ++ 10 ∷ []) is
 
--- Bytes are the spellings of some instructions joined.
+-- The bytes are the joined encodings of some instructions in range.
 pub record AreSpelled (bytes : List ℕ) : Type 0 where
   pub insns : List Insn
   pub in_range : AllInRange insns
   pub bytes_are : bytes ≡ joined insns
 
--- Bytes of any number are the spellings of some instructions joined, and a text is the text of a program of these, without a
--- skipped line and with each line ended; the same as a function of the instructions.
+-- The bytes, of any number, are the joined encodings of some instructions in range. The lines of the text write these
+-- instructions, no line is skipped, and a line feed ends each line; the text is `text_of` these instructions.
 pub record Disassembles (bytes text : List ℕ) : Type 0 where
   pub insns : List Insn
   pub in_range : AllInRange insns
@@ -58,7 +58,8 @@ pub record Disassembles (bytes text : List ℕ) : Type 0 where
   pub all_ended : text ≡ flat_map (λ line. line ++ 10 ∷ []) (text_lines text)
   pub text_is : text ≡ text_of insns
 
--- Behind the longest front of the bytes that is spellings joined stands something else, which is refused for a fault.
+-- The first `offset` bytes are the longest front that is the joined encodings of some instructions in range. Bytes
+-- follow it, no instruction begins with them, and decoding them fails with the fault.
 pub record StopsAt (bytes : List ℕ) (offset : ℕ) (fault : DecodeFault) : Type 0 where
   pub insns : List Insn
   pub rest : List ℕ
@@ -72,20 +73,21 @@ pub record StopsAt (bytes : List ℕ) (offset : ℕ) (fault : DecodeFault) : Typ
   pub longest : (others : List Insn) (more : List ℕ) → AllInRange others → bytes ≡ joined others ++ more
       → length (joined others) ≤ offset
 
--- Why bytes have no text: they are no spellings joined; or they are, and memory was refused.
+-- Why bytes are not disassembled. `Decode`: no instruction begins at the offset, right after the longest front of
+-- encoded instructions. `NoMemory`: the bytes have a text.
 abbrev pub IsDisFault : List ℕ → DisFault → Type 0
 IsDisFault bytes (Decode offset fault) = StopsAt bytes offset fault
 IsDisFault bytes NoMemory = (text : List ℕ) × Disassembles bytes text
 
--- What a program of at most 8,192 bytes is disassembled to is the text of the same instructions, and assembles to the same
--- bytes and to no others.
+-- The disassembly of a program of at most 8,192 bytes assembles to the same bytes, and to no others.
 abbrev pub DisassemblyAssembles : Type 0
 DisassemblyAssembles =
     (bytes text : List ℕ) → length bytes ≤ most_bytes → Disassembles bytes text
     → Assembles text bytes × ((others : List ℕ) → Assembles text others → others ≡ bytes)
 
--- Each list of bytes has a text, or an offset at which no instruction stands; none has both, or two texts. A text of a
--- program's instructions that skips no line and ends each is written in one way.
+-- Each list of bytes has a text, or an offset at which no instruction begins, right after the longest front of encoded
+-- instructions; no list has both, or two texts. A text whose lines write instructions in range, with no line skipped
+-- and each ended by a line feed, is `text_of` these instructions.
 pub record DisassemblyTells : Type 0 where
   pub one : (bytes : List ℕ) → ((i : ℕ) → slice_index bytes i < 256)
       → ((text : List ℕ) × Disassembles bytes text) ⊎ ((offset : ℕ) × (fault : DecodeFault) × StopsAt bytes offset fault)

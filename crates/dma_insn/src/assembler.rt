@@ -1,4 +1,4 @@
-//! The text of a program, read into its bytes.
+//! Assembles the text of a program into its bytes.
 
 ghost use Rattle.std.specs.Prelude.{◌≡◌, ℕ, List, MatchResult, Ok, Err, IfOk, IfErr};
 ghost use Rattle.dma_insn.specs.AssemblyText.{Assembles, IsFirstFault};
@@ -10,13 +10,14 @@ use crate::line::{is_skipped, read_line, split_line};
 use std::alloc::{AllocError, Global};
 use thiserror::Error;
 
-/// Why a line of assembly text is no instruction, in the order in which the causes are tested.
+/// Why a line of assembly text is not an instruction, in the order in which the causes are tested.
 #[derive(Clone, Copy, PartialEq, Eq, Debug, Error)]
 pub enum Cause {
-    /// The first word is no instruction's name; it is empty where the line begins with a space.
+    /// The first word is not the name of an instruction. It is empty if the line begins with a space.
     #[error("no instruction has this name")]
     Mnemonic,
-    /// A wrong number of words, no register, no number in its spelling, or a third word of DMAWFE that is not `invalid`.
+    /// The number of words is wrong, a word is not a register, a word is not a number in the required form, or the
+    /// third word of DMAWFE is not `invalid`.
     #[error("an operand is missing, of a wrong form, or one too many")]
     Operand,
     /// A decimal number is outside its range.
@@ -24,12 +25,12 @@ pub enum Cause {
     Range,
 }
 
-/// Why a text was not assembled: its first fault, by the line's number from 1, or want of memory where it has none.
+/// Why a text was not assembled: its first fault, with the number of its line from 1, or `NoMemory` if it has no fault.
 #[derive(Clone, Copy, PartialEq, Eq, Debug, Error)]
 pub enum AsmFault {
     #[error("line {n}: {cause}")]
     Line { n: usize, cause: Cause },
-    /// With this line the program would pass 8,192 bytes.
+    /// With this line the program would be longer than 8,192 bytes.
     #[error("line {0}: the program is longer than 8192 bytes")]
     ProgramTooLong(usize),
     #[error("no memory")]
@@ -47,29 +48,32 @@ impl From<AllocError> for AsmFault {
     }
 }
 
-/// The bytes of the program that a text writes, or its first fault. A line that is empty or has only spaces, and one that
-/// begins with `#`, is skipped and counted; every other line is one instruction.
+/// Returns the bytes of the program that a text describes, or the text's first fault.
+///
+/// A line that is empty, has only spaces or begins with `#` is skipped, but counted. Every other line is one
+/// instruction. Fails with `NoMemory` only if the text has no fault.
 pub fn assemble(alloc: Global, text: &[u8]) -> Result<Vec<u8>, AsmFault>
-    // The text is that of a program, whose bytes these are.
+    // The text assembles to the returned bytes.
     ensures program { IfOk result (λ program. Assembles text.now program.items) }
-    // A fault stands in the line that it names, and none before it; want of memory is answered where there is none.
+    // The line that the fault names has it, and no line before has a fault. `NoMemory` means that no line has a fault.
     ensures fault { IfErr result (λ fault. IsFirstFault text.now fault) }
-    // A text that assembles is not refused, but for want of memory.
+    // A text that assembles fails only with `NoMemory`.
     ensures only { (bytes : List ℕ) → Assembles text.now bytes
         → MatchResult result (λ program. program.items ≡ bytes) (λ fault. fault ≡ NoMemory) }
-    // The same as a function of the text.
+    // The result as a function of the text, except that `NoMemory` may take the place of the bytes.
     ensures exact { AnswersAs (λ program. program.items) result (assembled text.now) }
 {
     build(alloc, text)
 }
 
-/// The law that reading a text as a function tells what the relation of texts and programs tells, for every text: its bytes
-/// exactly where it assembles to them, its first fault exactly where it has one.
+/// Law: for every text, the function `assembled` agrees with the relations `Assembles` and `IsFirstFault`. It gives
+/// bytes exactly if the text assembles to them, and a fault exactly if it is the text's first fault and is not
+/// `NoMemory`.
 pub fn reading_tells()
     ensures { ReadingTells }
 {}
 
-// The bytes as reading the text gives them, or its fault; want of memory where it has none.
+// Returns the bytes or the fault that `assembled` gives. Fails with `NoMemory` only if `assembled` gives bytes.
 fn build(alloc: Global, text: &[u8]) -> Result<Vec<u8>, AsmFault>
     ensures { AnswersAs (λ program. program.items) result (assembled text.now) }
 {
@@ -82,7 +86,7 @@ fn build(alloc: Global, text: &[u8]) -> Result<Vec<u8>, AsmFault>
     }
 }
 
-// The program of a whole text, line by line.
+// Assembles a whole text, line by line, without allocating.
 fn read_text(text: &[u8]) -> Result<CodeBuffer, AsmFault>
     ensures { result ≡ assembled text.now }
 {
@@ -98,7 +102,7 @@ fn read_text(text: &[u8]) -> Result<CodeBuffer, AsmFault>
     Ok(program)
 }
 
-// Adds what line n writes.
+// Appends the instruction of line `n`, unless the line is skipped.
 #[tactic(auto, unfolding(crate::specs::LineReading::after_line))]
 fn add_line(program: &mut CodeBuffer, n: usize, line: &[u8]) -> Result<(), AsmFault>
     ensures { MatchResult result (λ _. after_line n program.old line.now ≡ Ok program.new)

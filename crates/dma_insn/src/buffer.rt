@@ -1,5 +1,5 @@
-//! The bytes of a program while it is assembled, in a buffer of their own, so that nothing is asked of the allocator before
-//! the whole text is known to be right.
+//! A fixed buffer for the bytes of a program while it is assembled, so that nothing is allocated before the whole text
+//! is known to have no fault.
 
 ghost use Rattle.std.specs.Prelude.{◌≡◌, ◌+◌, [], ◌++◌, length, nat_le, if◌then◌else◌, IfOk};
 ghost use Rattle.dma_insn.specs.Spelling.{spelling};
@@ -12,7 +12,7 @@ use std::marker::Model;
 /// The most bytes that a program has.
 pub const PROGRAM_BYTES: usize = 8192;
 
-/// Up to 8,192 bytes. A contract sees the list of them.
+/// A list of up to 8,192 bytes. A contract sees the list.
 #[derive(Drop)]
 pub struct CodeBuffer {
     bytes: [u8; PROGRAM_BYTES],
@@ -30,7 +30,7 @@ impl Model for CodeBuffer {
 }
 
 impl CodeBuffer {
-    /// No bytes.
+    /// Returns an empty buffer.
     pub fn new() -> CodeBuffer
         ensures { result ≡ [] }
     {
@@ -40,7 +40,7 @@ impl CodeBuffer {
         }
     }
 
-    /// Adds an instruction's bytes, if there is room for them; tells whether there was.
+    /// Appends the bytes of an instruction if they fit, and returns whether they do. Otherwise the buffer is unchanged.
     pub fn push(&mut self, insn: Insn) -> bool
         ensures room { result ≡ nat_le (length self.old + length (spelling insn)) 8192 }
         ensures bytes { self.new ≡ (if result then self.old ++ spelling insn else self.old) }
@@ -55,7 +55,7 @@ impl CodeBuffer {
         true
     }
 
-    /// The bytes, in memory of their own.
+    /// Copies the bytes into a new `Vec`.
     pub fn to_vec(&self, alloc: Global) -> Result<Vec<u8>, AllocError>
         ensures { IfOk result (λ bytes. bytes.items ≡ self.now) }
     {

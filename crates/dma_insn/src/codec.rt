@@ -1,4 +1,4 @@
-//! The codes of the instructions, written and read.
+//! Encodes and decodes instructions.
 
 ghost use Rattle.std.specs.Prelude.{◌≡◌, ℕ, ◌+◌, ◌<◌, ◌≤◌, ◌∷◌, ◌++◌, length, drop, IfOk, IfErr};
 ghost use Rattle.dma_insn.specs.declared.insn.Insn.{Insn};
@@ -10,9 +10,9 @@ use crate::insn::{Counter, Event, Insn, Reg, Times};
 use byteorder::{ByteOrder, LittleEndian};
 use thiserror::Error;
 
-/// Why bytes begin no instruction, in the order in which the causes are tested: no byte at all is `Cut`, a first byte that
-/// begins no instruction is `Unknown`, too few bytes behind it are `Cut`, and a register or an event byte outside the
-/// grammar is `BadField`.
+/// Why bytes don't begin with an instruction. The causes are tested in this order: `Cut` for no bytes, `Unknown` for a
+/// first byte with which no instruction begins, `Cut` for too few bytes after it, and `BadField` for a register byte or
+/// an event byte that is not valid.
 #[derive(Clone, Copy, PartialEq, Eq, Debug, Error)]
 pub enum DecodeFault {
     #[error("the bytes end within an instruction")]
@@ -23,12 +23,13 @@ pub enum DecodeFault {
     BadField,
 }
 
-/// Writes the bytes of an instruction at the front of `out`, and answers how many they are; the others stay.
+/// Writes the bytes of an instruction to the front of `out` and returns their number. The other bytes of `out` are
+/// unchanged.
 #[inline(always)]
 pub fn encode(insn: Insn, out: &mut [u8; 6]) -> usize
     ensures count { result ≡ length (spelling insn) }
     ensures bytes { out.new ≡ spelling insn ++ drop result out.old }
-    // What the value's type keeps.
+    // The type `Insn` guarantees these ranges.
     ensures in_range { HasRanges insn }
 {
     match insn {
@@ -54,7 +55,7 @@ pub fn encode(insn: Insn, out: &mut [u8; 6]) -> usize
     }
 }
 
-// An instruction of one byte.
+// Writes an instruction of one byte.
 fn write_one(first: u8, out: &mut [u8; 6]) -> usize
     ensures count { result ≡ 1 }
     ensures bytes { out.new ≡ first ∷ drop 1 out.old }
@@ -63,7 +64,7 @@ fn write_one(first: u8, out: &mut [u8; 6]) -> usize
     1
 }
 
-// The first two bytes of an instruction.
+// Writes the first two bytes of an instruction.
 fn write_two(first: u8, second: u8, out: &mut [u8; 6]) -> usize
     ensures count { result ≡ 2 }
     ensures bytes { out.new ≡ first ∷ second ∷ drop 2 out.old }
@@ -73,7 +74,7 @@ fn write_two(first: u8, second: u8, out: &mut [u8; 6]) -> usize
     2
 }
 
-// The first byte of DMALP.
+// Returns the first byte of DMALP.
 fn loop_code(counter: Counter) -> u8
     ensures { result ≡ loop_byte counter }
 {
@@ -83,7 +84,7 @@ fn loop_code(counter: Counter) -> u8
     }
 }
 
-// The first byte of DMALPEND.
+// Returns the first byte of DMALPEND.
 fn loop_end_code(counter: Counter) -> u8
     ensures { result ≡ loop_end_byte counter }
 {
@@ -93,7 +94,7 @@ fn loop_end_code(counter: Counter) -> u8
     }
 }
 
-// The second byte of DMAMOV.
+// Returns the second byte of DMAMOV.
 fn register_code(reg: Reg) -> u8
     ensures { result ≡ register_byte reg }
 {
@@ -104,25 +105,26 @@ fn register_code(reg: Reg) -> u8
     }
 }
 
-/// Reads the instruction at the front of the bytes, and how many of them it takes. Others may follow. An immediate may have
-/// any value: whether a control word is one is not asked here.
+/// Decodes the instruction at the front of `bytes`, and returns it with its length in bytes. Other bytes may follow.
+///
+/// The immediate of DMAMOV may have any value: a control word is not checked here.
 #[inline(always)]
 pub fn decode(bytes: &[u8]) -> Result<(Insn, usize), DecodeFault>
-    // What is read is spelled so, in as many bytes.
+    // The bytes begin with the encoding of the returned instruction, which has the returned length.
     ensures found { IfOk result (λ found. IsSpelledAt bytes.now found.0 found.1) }
     ensures within { IfOk result (λ found. (0 < found.1) × (found.1 ≤ length bytes.now)) }
-    // What is spelled so is read.
+    // If the bytes begin with the encoding of an instruction, that instruction is returned.
     ensures only { (i : Insn) (n : ℕ) → IsSpelledAt bytes.now i n → result ≡ Ok (i, n) }
-    // Refused bytes begin with no instruction, and the cause is the first that holds.
+    // On an error the bytes begin with no instruction, and the fault is the first that applies.
     ensures none { IfErr result (λ _. (i : Insn) (n : ℕ) → IsSpelledAt bytes.now i n → ⊥) }
     ensures refused { IfErr result (λ fault. IsRefusedFor bytes.now fault) }
-    // The same as a function of the bytes.
+    // The result as a function of the bytes.
     ensures exact { result ≡ decoded bytes.now }
 {
     read(bytes)
 }
 
-// One instruction, by its first byte.
+// Decodes one instruction, by its first byte.
 #[inline(always)]
 fn read(bytes: &[u8]) -> Result<(Insn, usize), DecodeFault>
     ensures { result ≡ decoded bytes.now }
@@ -148,7 +150,7 @@ fn read(bytes: &[u8]) -> Result<(Insn, usize), DecodeFault>
     }
 }
 
-// DMALP from its second byte.
+// Decodes DMALP from its second byte.
 fn loop_start(counter: Counter, rest: &[u8]) -> Result<(Insn, usize), DecodeFault>
     ensures { result ≡ by_second rest.now (λ n. Ok (Lp counter (n + 1), 2)) }
 {
@@ -159,7 +161,7 @@ fn loop_start(counter: Counter, rest: &[u8]) -> Result<(Insn, usize), DecodeFaul
     Ok((Insn::Lp { counter, times }, 2))
 }
 
-// DMALPEND from its second byte.
+// Decodes DMALPEND from its second byte.
 fn loop_end(counter: Counter, rest: &[u8]) -> Result<(Insn, usize), DecodeFault>
     ensures { result ≡ by_second rest.now (λ n. Ok (LpEnd counter n, 2)) }
 {
@@ -170,7 +172,7 @@ fn loop_end(counter: Counter, rest: &[u8]) -> Result<(Insn, usize), DecodeFault>
     Ok((Insn::LpEnd { counter, back }, 2))
 }
 
-// DMASEV from its second byte.
+// Decodes DMASEV from its second byte.
 fn signal(rest: &[u8]) -> Result<(Insn, usize), DecodeFault>
     ensures { result ≡ by_second rest.now signal_at }
 {
@@ -184,7 +186,7 @@ fn signal(rest: &[u8]) -> Result<(Insn, usize), DecodeFault>
     }
 }
 
-// DMAWFE from its second byte.
+// Decodes DMAWFE from its second byte.
 fn wait(rest: &[u8]) -> Result<(Insn, usize), DecodeFault>
     ensures { result ≡ by_second rest.now wait_at }
 {
@@ -200,7 +202,7 @@ fn wait(rest: &[u8]) -> Result<(Insn, usize), DecodeFault>
     Ok((Insn::Wfe { event, invalid }, 2))
 }
 
-// DMAMOV from its second byte.
+// Decodes DMAMOV from its second byte.
 fn set_register(rest: &[u8]) -> Result<(Insn, usize), DecodeFault>
     ensures { result ≡ set_by rest.now }
 {
@@ -216,8 +218,8 @@ fn set_register(rest: &[u8]) -> Result<(Insn, usize), DecodeFault>
     }
 }
 
-/// The law that no spelling begins another: bytes that begin with an instruction begin with no other, and what follows it is
-/// one thing too. So a program's bytes are cut into instructions in one way.
+/// Law: no instruction's encoding is a prefix of another's. Bytes that begin with an instruction begin with no other,
+/// and the bytes after it are determined too, so a program's bytes are decoded in only one way.
 pub fn no_spelling_begins_another()
     ensures { NoSpellingBeginsAnother }
 {}

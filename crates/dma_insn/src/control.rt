@@ -1,5 +1,5 @@
-//! The channel control word, which DMAMOV CCR sets (PL330 manual, channel control registers): what one burst of a load, from
-//! the source, and of a store, to the destination, moves.
+//! The channel control word, which DMAMOV CCR sets (PL330 manual, channel control registers). It defines what one burst
+//! of a load moves from the source, and what one burst of a store moves to the destination.
 
 ghost use Rattle.std.specs.Prelude.{◌≡◌, ℕ, ◌+◌, ◌<◌, ◌≤◌, ◌^◌, ◌↔◌, Some, IsSome, IfSome, Ok, Err, IfOk, IfErr, IsTrue, is_ok};
 ghost use Rattle.dma_insn.specs.ControlWord.{field, size_code, size_of, beat_bytes, burst_bytes, end_at, end_bits, control_of, bits_of, is_control, HasEndRanges, HasFields};
@@ -7,7 +7,7 @@ ghost use Rattle.dma_insn.specs.ControlWord.{field, size_code, size_of, beat_byt
 use std::marker::Model;
 use thiserror::Error;
 
-/// Why a word is no control word, in the order in which the causes are tested (profile).
+/// Why a word is not a valid control word, in the order in which the causes are tested (profile).
 #[derive(Clone, Copy, PartialEq, Eq, Debug, Error)]
 pub enum ControlFault {
     /// A burst size code is 5, 6 or 7.
@@ -20,7 +20,7 @@ pub enum ControlFault {
     Bit31,
 }
 
-/// How many bytes one beat of a burst moves; the manual's burst size codes 0 to 4.
+/// The number of bytes that one beat of a burst moves: the manual's burst size codes 0 to 4.
 #[derive(Clone, Copy, PartialEq, Eq, Debug)]
 pub enum BeatSize {
     One,
@@ -31,7 +31,7 @@ pub enum BeatSize {
 }
 
 impl BeatSize {
-    /// The size of a burst size code; None for the reserved codes, 5 and above.
+    /// Returns the size of a burst size code, or `None` for a reserved code, 5 or above.
     pub fn from_code(code: u8) -> Option<BeatSize>
         ensures { result ≡ size_of code }
     {
@@ -45,7 +45,7 @@ impl BeatSize {
         }
     }
 
-    /// Its code in a control word, 0 to 4.
+    /// Returns the size's code in a control word, 0 to 4.
     pub fn code(self) -> u8
         ensures value { result ≡ size_code self }
         ensures range { result ≤ 4 }
@@ -60,7 +60,7 @@ impl BeatSize {
         }
     }
 
-    /// How many bytes a beat moves, 1 to 16.
+    /// Returns the number of bytes that a beat moves, 1 to 16.
     pub fn bytes(self) -> u32
         ensures value { result ≡ beat_bytes self }
         ensures range { (1 ≤ result) × (result ≤ 16) }
@@ -69,7 +69,7 @@ impl BeatSize {
     }
 }
 
-/// How many beats one burst has, 1 to 16. A contract sees the number.
+/// The number of beats of one burst, 1 to 16. A contract sees the number.
 #[derive(Clone, Copy, PartialEq, Eq, Debug)]
 pub struct Beats {
     count: u8,
@@ -88,7 +88,7 @@ impl Model for Beats {
 }
 
 impl Beats {
-    /// This many beats; None for 0 and above 16.
+    /// Returns this number of beats, or `None` for 0 or more than 16.
     pub fn new(count: u8) -> Option<Beats>
         ensures some { IsSome result ↔ ((1 ≤ count) × (count ≤ 16)) }
         ensures value { IfSome result (λ beats. beats ≡ count) }
@@ -100,7 +100,7 @@ impl Beats {
         }
     }
 
-    /// This many beats, where the number is known to be from 1 to 16.
+    /// Returns this number of beats, which has to be 1 to 16.
     pub fn of_number(count: u8) -> Beats
         requires low { 1 ≤ count }
         requires high { count ≤ 16 }
@@ -109,7 +109,7 @@ impl Beats {
         Beats { count }
     }
 
-    /// How many beats there are, 1 to 16.
+    /// Returns the number of beats, 1 to 16.
     pub fn number(self) -> u8
         ensures value { result ≡ self }
         ensures range { (1 ≤ self) × (self ≤ 16) }
@@ -137,7 +137,7 @@ impl Model for Protection {
 }
 
 impl Protection {
-    /// The field of this code; None above 7.
+    /// Returns the field of a code, or `None` for a code above 7.
     pub fn new(prot_ctrl: u8) -> Option<Protection>
         ensures some { IsSome result ↔ (prot_ctrl < 8) }
         ensures value { IfSome result (λ protection. protection ≡ prot_ctrl) }
@@ -149,7 +149,7 @@ impl Protection {
         }
     }
 
-    /// The field of a code that is known to be at most 7.
+    /// Returns the field of a code, which has to be at most 7.
     pub fn of_code(prot_ctrl: u8) -> Protection
         requires { prot_ctrl < 8 }
         ensures { result ≡ prot_ctrl }
@@ -157,7 +157,7 @@ impl Protection {
         Protection { prot_ctrl }
     }
 
-    /// Its code in a control word, 0 to 7.
+    /// Returns the field's code in a control word, 0 to 7.
     pub fn code(self) -> u8
         ensures value { result ≡ self }
         ensures range { self < 8 }
@@ -185,7 +185,7 @@ impl Model for Cache {
 }
 
 impl Cache {
-    /// The field of this code; None above 7.
+    /// Returns the field of a code, or `None` for a code above 7.
     pub fn new(cache_ctrl: u8) -> Option<Cache>
         ensures some { IsSome result ↔ (cache_ctrl < 8) }
         ensures value { IfSome result (λ field. field ≡ cache_ctrl) }
@@ -197,7 +197,7 @@ impl Cache {
         }
     }
 
-    /// The field of a code that is known to be at most 7.
+    /// Returns the field of a code, which has to be at most 7.
     pub fn of_code(cache_ctrl: u8) -> Cache
         requires { cache_ctrl < 8 }
         ensures { result ≡ cache_ctrl }
@@ -205,7 +205,7 @@ impl Cache {
         Cache { cache_ctrl }
     }
 
-    /// Its code in a control word, 0 to 7.
+    /// Returns the field's code in a control word, 0 to 7.
     pub fn code(self) -> u8
         ensures value { result ≡ self }
         ensures range { self < 8 }
@@ -226,14 +226,14 @@ pub struct BurstEnd {
 }
 
 impl BurstEnd {
-    /// Whether the address grows by a burst's bytes.
+    /// Returns whether the address grows by a burst's bytes.
     pub fn is_incrementing(&self) -> bool
         ensures { result ≡ self.now.increments }
     {
         self.increments
     }
 
-    /// The bytes of one beat, 1 to 16.
+    /// Returns the number of bytes of one beat, 1 to 16.
     pub fn beat_bytes(&self) -> u32
         ensures value { result ≡ beat_bytes self.now.size }
         ensures range { (1 ≤ result) × (result ≤ 16) }
@@ -241,7 +241,7 @@ impl BurstEnd {
         self.size.bytes()
     }
 
-    /// The bytes of one burst, 1 to 256.
+    /// Returns the number of bytes of one burst, 1 to 256.
     pub fn burst_bytes(&self) -> u32
         ensures value { result ≡ burst_bytes self.now }
         ensures range { (1 ≤ result) × (result ≤ 256) }
@@ -249,7 +249,7 @@ impl BurstEnd {
         u32::from(self.beats.number()) * self.beat_bytes()
     }
 
-    // The end whose lowest bit is this one; None where its size is reserved.
+    // Returns the fields of the end whose lowest bit is bit `from`, or `None` if its size code is reserved.
     #[tactic(auto, unfolding(crate::specs::ControlWord::end_at))]
     fn at(bits: u32, from: u32) -> Option<BurstEnd>
         requires { from ≤ 14 }
@@ -265,7 +265,7 @@ impl BurstEnd {
         })
     }
 
-    // The fourteen bits of one end.
+    // Returns the fourteen bits of one end.
     #[tactic(auto, unfolding(crate::specs::ControlWord::end_bits))]
     fn bits(&self) -> u32
         ensures value { result ≡ end_bits self.now }
@@ -281,7 +281,7 @@ impl BurstEnd {
     }
 }
 
-/// A control word by its fields: how a load reads the source, and how a store writes the destination.
+/// The fields of a control word: how a load reads the source, and how a store writes the destination.
 #[derive(Clone, Copy, PartialEq, Eq, Debug)]
 pub struct Control {
     pub src: BurstEnd,
@@ -289,35 +289,35 @@ pub struct Control {
 }
 
 impl Control {
-    /// The fields of a word, or the first refusal: a reserved size of either end, then a swap, then bit 31.
+    /// Returns the fields of a word. Fails with `ReservedSize` for a reserved size of either end, then with `Swap`,
+    /// then with `Bit31`.
     pub fn from_bits(bits: u32) -> Result<Control, ControlFault>
-        // The fields and the refusals, as a function of the word.
+        // The result as a function of the word.
         ensures exact { result ≡ control_of bits }
         // The fields, bit by bit.
         ensures fields { IfOk result (λ control. HasFields bits control) }
-        // The fields give the word back.
+        // The returned fields encode to the same word.
         ensures back { IfOk result (λ control. bits_of control ≡ bits) }
     {
         read(bits)
     }
 
-    /// The word of these fields.
+    /// Returns the word of these fields.
     pub fn bits(&self) -> u32
         ensures value { result ≡ bits_of self.now }
-        // What the types of the fields keep.
+        // The types of the fields guarantee these ranges.
         ensures src_in_range { HasEndRanges self.now.src }
         ensures dst_in_range { HasEndRanges self.now.dst }
         // The word has these fields.
         ensures fields { HasFields result self.now }
-        // The word gives the fields back.
+        // The returned word decodes to the same fields.
         ensures again { control_of result ≡ Ok self.now }
     {
         write(self)
     }
 }
 
-/// A control word that is accepted: no size is reserved, no swap is asked for, and bit 31 is clear. A contract sees the
-/// word.
+/// A valid control word: no size is reserved, the endian swap size is 0, and bit 31 is clear. A contract sees the word.
 #[derive(Clone, Copy, PartialEq, Eq, Debug)]
 pub struct ControlWord {
     bits: u32,
@@ -337,7 +337,7 @@ impl Model for ControlWord {
 }
 
 impl ControlWord {
-    /// The word whose bits are all 0: at both ends a burst of one byte, whose address stays.
+    /// Returns the word whose bits are all 0: at both ends a burst of one byte at a fixed address.
     #[tactic(auto, unfolding(crate::specs::ControlWord::is_control, crate::specs::ControlWord::control_of, crate::specs::ControlWord::end_at))]
     pub fn zero() -> ControlWord
         ensures { result ≡ 0 }
@@ -345,7 +345,7 @@ impl ControlWord {
         ControlWord { bits: 0 }
     }
 
-    /// The word of these bits; it is refused where `Control::from_bits` refuses them, and by the same name.
+    /// Returns the word of these bits. Fails where [`Control::from_bits`] fails, with the same fault.
     #[tactic(auto, unfolding(crate::specs::ControlWord::is_control))]
     pub fn from_bits(bits: u32) -> Result<ControlWord, ControlFault>
         ensures ok { IfOk result (λ word. word ≡ bits) }
@@ -356,7 +356,7 @@ impl ControlWord {
         Ok(ControlWord { bits })
     }
 
-    /// The word, as `from_bits` took it.
+    /// Returns the bits of the word.
     pub fn bits(self) -> u32
         ensures value { result ≡ self }
         ensures accepted { IsTrue (is_control self) }
@@ -364,7 +364,7 @@ impl ControlWord {
         self.bits
     }
 
-    /// How a load reads the source.
+    /// Returns how a load reads the source.
     #[tactic(auto, unfolding(crate::specs::ControlWord::is_control, crate::specs::ControlWord::control_of))]
     pub fn source(self) -> BurstEnd
         ensures { end_at 0 self ≡ Some result }
@@ -375,7 +375,7 @@ impl ControlWord {
         end
     }
 
-    /// How a store writes the destination.
+    /// Returns how a store writes the destination.
     #[tactic(auto, unfolding(crate::specs::ControlWord::is_control, crate::specs::ControlWord::control_of))]
     pub fn destination(self) -> BurstEnd
         ensures { end_at 14 self ≡ Some result }
@@ -412,7 +412,7 @@ fn write(control: &Control) -> u32
     control.src.bits() + (control.dst.bits() << 14)
 }
 
-// One bit of a word.
+// Returns bit `from` of a word.
 fn one_bit(bits: u32, from: u32) -> u8
     requires { from < 32 }
     ensures value { result ≡ field from 1 bits }
@@ -421,7 +421,7 @@ fn one_bit(bits: u32, from: u32) -> u8
     (bits >> from & 0x1) as u8
 }
 
-// Three bits of a word, from one on.
+// Returns three bits of a word, from bit `from` up.
 fn three_bits(bits: u32, from: u32) -> u8
     requires { from < 32 }
     ensures value { result ≡ field from 3 bits }
@@ -430,7 +430,7 @@ fn three_bits(bits: u32, from: u32) -> u8
     (bits >> from & 0x7) as u8
 }
 
-// Four bits of a word, from one on.
+// Returns four bits of a word, from bit `from` up.
 fn four_bits(bits: u32, from: u32) -> u8
     requires { from < 32 }
     ensures value { result ≡ field from 4 bits }

@@ -1,4 +1,4 @@
-//! A program's bytes, written as its text.
+//! Disassembles a program's bytes into its text.
 
 ghost use Rattle.std.specs.Prelude.{◌≡◌, ℕ, ◌++◌, ◌∷◌, [], List, MatchResult, MatchOption, IfSome, IfOk, IfErr, OnOk, ◌<◌, codes, decimal};
 ghost use Rattle.dma_insn.specs.AssemblyText.{register_word};
@@ -12,8 +12,8 @@ use dma_text::digits::{hex_digits, push_decimal};
 use std::alloc::{AllocError, Global};
 use thiserror::Error;
 
-/// Why bytes were not disassembled: the refusal of the first offset at which no instruction stands; or want of
-/// memory where each byte is an instruction's.
+/// Why bytes were not disassembled: the fault at the first offset at which no instruction begins, or `NoMemory` if all
+/// bytes are instructions.
 #[derive(Clone, Copy, PartialEq, Eq, Debug, Error)]
 pub enum DisFault {
     #[error("offset {offset}: {fault}")]
@@ -22,20 +22,25 @@ pub enum DisFault {
     NoMemory,
 }
 
-/// The text of a program: one line for each instruction, each ended by a line feed. Of no bytes it is empty.
+/// Returns the text of a program: one line for each instruction, each ended by a line feed. The text of no bytes is
+/// empty.
+///
+/// Fails with `Decode` for the first offset at which no instruction begins, and with `NoMemory` only if all bytes are
+/// instructions.
 pub fn disassemble(alloc: Global, bytes: &[u8]) -> Result<Vec<u8>, DisFault>
-    // The bytes are spellings joined, and this is the text of a program of their instructions, one line for each.
+    // The bytes are encoded instructions, and the returned text has one line for each of them.
     ensures text { IfOk result (λ text. Disassembles bytes.now text.items) }
-    // Else the fault of what stands behind the longest front that is spellings joined; want of memory where all is.
+    // `Decode` has the fault of the bytes after the longest front that is encoded instructions. `NoMemory` means that
+    // all bytes are.
     ensures fault { IfErr result (λ fault. IsDisFault bytes.now fault) }
-    // Bytes that have a text are not refused, but for want of memory.
+    // Bytes that have a text fail only with `NoMemory`.
     ensures only { (text : List ℕ) → Disassembles bytes.now text
         → MatchResult result (λ written. written.items ≡ text) (λ fault. fault ≡ NoMemory) }
 {
     match write_all(alloc, bytes) {
         Ok(text) => Ok(text),
         Err(Some((offset, fault))) => Err(DisFault::Decode { offset, fault }),
-        // Want of memory is told only where the rest has no fault.
+        // Out of memory: the fault is `NoMemory` only if all bytes are instructions.
         Err(None) => match fault_of(bytes) {
             Some((offset, fault)) => Err(DisFault::Decode { offset, fault }),
             None => Err(DisFault::NoMemory),
@@ -43,18 +48,18 @@ pub fn disassemble(alloc: Global, bytes: &[u8]) -> Result<Vec<u8>, DisFault>
     }
 }
 
-/// The law that a disassembled program assembles to itself: the text of a program of at most 8,192 bytes is that of the same
-/// instructions, and assembles to its bytes and to no others.
+/// Law: the disassembly of a program of at most 8,192 bytes assembles to the program's bytes, and to no others.
 pub fn disassembly_assembles()
     ensures { DisassemblyAssembles }
 {}
 
-/// The law that each list of bytes has a text or an offset where it stops, and not both.
+/// Law: each list of bytes has either exactly one text or an offset at which no instruction begins. Instructions have
+/// only one text in which no line is skipped and a line feed ends each line.
 pub fn disassembly_tells()
     ensures { DisassemblyTells }
 {}
 
-// The first offset at which no instruction stands, and its refusal.
+// Returns the first offset at which no instruction begins, with its fault, or `None` if all bytes are instructions.
 fn fault_of(bytes: &[u8]) -> Option<(usize, DecodeFault)>
     ensures { MatchOption result (AreSpelled bytes.now) (λ found. StopsAt bytes.now found.0 found.1) }
 {
@@ -68,8 +73,8 @@ fn fault_of(bytes: &[u8]) -> Option<(usize, DecodeFault)>
     None
 }
 
-// The text of bytes that are spellings joined, or the first offset at which none stands, with its refusal, or neither where
-// memory is refused before that is known.
+// Returns the text of bytes that are encoded instructions. Fails with the first offset at which no instruction begins
+// and its fault, or with `None` if it is out of memory before it reaches that offset.
 fn write_all(alloc: Global, bytes: &[u8]) -> Result<Vec<u8>, Option<(usize, DecodeFault)>>
     ensures text { IfOk result (λ text. Disassembles bytes.now text.items) }
     ensures stops { IfErr result (λ found. IfSome found (λ stop. StopsAt bytes.now stop.0 stop.1)) }
@@ -90,7 +95,7 @@ fn write_all(alloc: Global, bytes: &[u8]) -> Result<Vec<u8>, Option<(usize, Deco
     Ok(text)
 }
 
-// The number of a loop counter.
+// Returns the number of a loop counter.
 fn number_of(counter: Counter) -> u8
     ensures { result ≡ counter_number counter }
 {
@@ -129,7 +134,7 @@ fn push_line(text: &mut Vec<u8>, insn: Insn) -> Result<(), AllocError>
     }
 }
 
-// Adds a loop's counter and its times or its jump, and ends the line.
+// Adds a loop's counter and its number of times or its jump, and ends the line.
 fn push_pair(text: &mut Vec<u8>, counter: u8, count: u16) -> Result<(), AllocError>
     ensures { OnOk result (text.new.items ≡ text.old.items ++ (decimal counter ++ (32 ∷ (decimal count ++ 10 ∷ [])))) }
 {
@@ -152,7 +157,7 @@ fn push_wait(text: &mut Vec<u8>, event: Event, invalid: bool) -> Result<(), Allo
     }
 }
 
-// Appends what a DMAMOV line has before its digits.
+// Appends the part of a DMAMOV line before its digits.
 #[inline(always)]
 fn push_value_front(text: &mut Vec<u8>, reg: Reg) -> Result<(), AllocError>
     ensures { OnOk result (text.new.items ≡ text.old.items ++ (codes "DMAMOV " ++ (register_word reg ++ codes " 0x"))) }

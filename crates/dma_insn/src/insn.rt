@@ -1,5 +1,4 @@
-//! One channel instruction as a value. Its types keep the ranges of what it carries, so that no value is outside the
-//! grammar.
+//! A channel instruction as a value. The types of its fields enforce their ranges, so every value has an encoding.
 
 ghost use Rattle.std.specs.Prelude.{◌≡◌, ℕ, ◌<◌, ◌≤◌, ◌↔◌, IsSome, IfSome};
 
@@ -37,7 +36,7 @@ impl Model for Event {
 }
 
 impl Event {
-    /// The event of this number; None above 31.
+    /// Returns the event of a number, or `None` for a number above 31.
     pub fn new(number: u8) -> Option<Event>
         ensures some { IsSome result ↔ (number < 32) }
         ensures value { IfSome result (λ event. event ≡ number) }
@@ -49,7 +48,7 @@ impl Event {
         }
     }
 
-    /// The event of a number that is known to be at most 31.
+    /// Returns the event of a number, which has to be at most 31.
     pub fn of_number(number: u8) -> Event
         requires { number < 32 }
         ensures { result ≡ number }
@@ -57,7 +56,7 @@ impl Event {
         Event { number }
     }
 
-    /// The event, 0 to 31.
+    /// Returns the number of the event, 0 to 31.
     pub fn number(self) -> u8
         ensures value { result ≡ self }
         ensures range { self < 32 }
@@ -66,7 +65,7 @@ impl Event {
     }
 }
 
-/// How often the body of a loop is run, 1 to 256. A contract sees the number.
+/// The number of times that the body of a loop runs, 1 to 256. A contract sees the number.
 #[derive(Clone, Copy, PartialEq, Eq, Debug)]
 pub struct Times {
     count: u16,
@@ -83,7 +82,7 @@ impl Model for Times {
 }
 
 impl Times {
-    /// This many times; None for 0 and above 256.
+    /// Returns this number of times, or `None` for 0 or more than 256.
     pub fn new(count: u16) -> Option<Times>
         ensures some { IsSome result ↔ ((1 ≤ count) × (count ≤ 256)) }
         ensures value { IfSome result (λ times. times ≡ count) }
@@ -95,7 +94,7 @@ impl Times {
         }
     }
 
-    /// This many times, where the number is known to be from 1 to 256.
+    /// Returns this number of times, which has to be 1 to 256.
     pub fn of_number(count: u16) -> Times
         requires low { 1 ≤ count }
         requires high { count ≤ 256 }
@@ -104,7 +103,7 @@ impl Times {
         Times { count }
     }
 
-    /// How often, 1 to 256.
+    /// Returns the number of times, 1 to 256.
     pub fn number(self) -> u16
         ensures value { result ≡ self }
         ensures range { (1 ≤ self) × (self ≤ 256) }
@@ -113,8 +112,8 @@ impl Times {
     }
 }
 
-/// One channel instruction (PL330 manual, instruction chapter). The field `back` of a loop's end is how many bytes before
-/// its own address the loop's body begins.
+/// A channel instruction (PL330 manual, instruction chapter). The field `back` of `LpEnd` is the number of bytes from
+/// the start of the loop's body to the instruction's own address.
 #[derive(Clone, Copy, PartialEq, Eq, Debug)]
 pub enum Insn {
     /// DMAMOV

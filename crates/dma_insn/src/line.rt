@@ -1,4 +1,4 @@
-//! One line of assembly text: its words, and the instruction that they write.
+//! Parses one line of assembly text into its words and its instruction.
 
 ghost use Rattle.std.specs.Prelude.{◌≡◌, ◌+◌, ◌<◌, ◌==◌, ◌∷◌, [], length, Option, MatchOption, IfSome, Result, Ok};
 ghost use Rattle.std.specs.List.{list_all};
@@ -25,7 +25,7 @@ pub enum Name {
     Mov,
 }
 
-/// The first line of a text, without its line feed, and what follows it.
+/// Returns the first line of a text, without its line feed, and the rest of the text.
 pub fn split_line(text: &[u8]) -> (&[u8], &[u8])
     requires { 0 < length text.now }
     ensures first { text_lines text.now ≡ result.0.now ∷ text_lines result.1.now }
@@ -37,7 +37,7 @@ pub fn split_line(text: &[u8]) -> (&[u8], &[u8])
     }
 }
 
-// The first word, and what follows it, which begins with a space.
+// Returns the first word, and the rest of the line, which is empty or begins with the space after the word.
 fn split_word(text: &[u8]) -> (&[u8], &[u8])
     ensures { words_of text.now ≡ result.0.now ∷ words_after result.1.now }
 {
@@ -47,7 +47,7 @@ fn split_word(text: &[u8]) -> (&[u8], &[u8])
     }
 }
 
-// The next word, and what follows it.
+// Returns the next word and the rest of the line, or `None` if no word is left.
 fn next_word(rest: &[u8]) -> Option<(&[u8], &[u8])>
     ensures { MatchOption result (words_after rest.now ≡ []) (λ w. words_after rest.now ≡ w.0.now ∷ words_after w.1.now) }
 {
@@ -57,21 +57,21 @@ fn next_word(rest: &[u8]) -> Option<(&[u8], &[u8])>
     }
 }
 
-/// Whether a line has only spaces or begins with `#`.
+/// Returns whether a line is empty, has only spaces or begins with `#`.
 pub fn is_skipped(line: &[u8]) -> bool
     ensures { result ≡ is_skipped line.now }
 {
     is_blank(line) || line.first() == Some(&b'#')
 }
 
-// Only spaces, or nothing.
+// Returns whether a line is empty or has only spaces.
 fn is_blank(line: &[u8]) -> bool
     ensures { result ≡ list_all (λ b. b == 32) line.now }
 {
     line.iter().all(|b| *b == b' ')
 }
 
-// No word.
+// Succeeds if no word is left. Fails with `Operand` otherwise.
 fn no_more(rest: &[u8]) -> Result<(), Cause>
     ensures { result ≡ no_word (words_after rest.now) }
 {
@@ -81,7 +81,7 @@ fn no_more(rest: &[u8]) -> Result<(), Cause>
     }
 }
 
-// One word and no more.
+// Returns the one word that is left. Fails with `Operand` for none, or more than one.
 fn one(rest: &[u8]) -> Result<&[u8], Cause>
     ensures { SeenAs (λ a. a.now) result (one_word (words_after rest.now)) }
 {
@@ -94,7 +94,7 @@ fn one(rest: &[u8]) -> Result<&[u8], Cause>
     }
 }
 
-// Two words and no more.
+// Returns the two words that are left. Fails with `Operand` for fewer or more.
 fn two(rest: &[u8]) -> Result<(&[u8], &[u8]), Cause>
     ensures { SeenAs (λ w. (w.0.now, w.1.now)) result (two_words (words_after rest.now)) }
 {
@@ -110,7 +110,8 @@ fn two(rest: &[u8]) -> Result<(&[u8], &[u8]), Cause>
     }
 }
 
-// A word, and whether `invalid` stands behind it.
+// Returns the next word, and whether the word `invalid` follows it. Fails with `Operand` for no word, another second
+// word, or a third.
 fn one_or_invalid(rest: &[u8]) -> Result<(&[u8], bool), Cause>
     ensures { SeenAs (λ w. (w.0.now, w.1)) result (wait_words (words_after rest.now)) }
 {
@@ -126,7 +127,7 @@ fn one_or_invalid(rest: &[u8]) -> Result<(&[u8], bool), Cause>
     Ok((a, true))
 }
 
-// The value of a decimal digit.
+// Returns the value of a decimal digit, or `None` for any other byte.
 fn decimal_digit(byte: u8) -> Option<u16>
     ensures { result ≡ digit_of byte }
 {
@@ -136,7 +137,7 @@ fn decimal_digit(byte: u8) -> Option<u16>
     }
 }
 
-// Decimal digits, read as at most 65,535.
+// Returns the number that decimal digits spell, capped at 65,535, or `None` if a byte is not a digit.
 fn digits(word: &[u8]) -> Option<u16>
     ensures { result ≡ digits_from 0 word.now }
 {
@@ -149,7 +150,8 @@ fn digits(word: &[u8]) -> Option<u16>
     Some(value)
 }
 
-// A decimal number without leading zeros.
+// Returns the decimal number that a word spells, capped at 65,535. Fails with `Operand` for leading zeros or any other
+// word.
 fn number(word: &[u8]) -> Result<u16, Cause>
     ensures { result ≡ number_at word.now }
 {
@@ -165,7 +167,7 @@ fn number(word: &[u8]) -> Result<u16, Cause>
     }
 }
 
-// The value of a hexadecimal digit, in capitals only.
+// Returns the value of a hexadecimal digit, in capitals only, or `None` for any other byte.
 fn hex_digit(byte: u8) -> Option<u32>
     ensures value { result ≡ hex_digit_of byte }
     ensures range { IfSome result (λ d. d < 16) }
@@ -177,7 +179,7 @@ fn hex_digit(byte: u8) -> Option<u32>
     }
 }
 
-// Eight hexadecimal digits.
+// Returns the number that eight hexadecimal digits spell, or `None` if a byte is not a digit.
 fn hex_value(digits: &[u8]) -> Option<u32>
     requires { length digits.now ≡ 8 }
     ensures { result ≡ hex_from 0 digits.now }
@@ -189,7 +191,7 @@ fn hex_value(digits: &[u8]) -> Option<u32>
     Some(value)
 }
 
-// 0x and eight hexadecimal digits.
+// Returns the value of a word of `0x` and eight hexadecimal digits. Fails with `Operand` for any other word.
 fn value(word: &[u8]) -> Result<u32, Cause>
     ensures { result ≡ value_at word.now }
 {
@@ -199,7 +201,7 @@ fn value(word: &[u8]) -> Result<u32, Cause>
     }
 }
 
-// A register by its name.
+// Returns the register of a name. Fails with `Operand` for any other word.
 fn register(word: &[u8]) -> Result<Reg, Cause>
     ensures { result ≡ register_at word.now }
 {
@@ -214,7 +216,7 @@ fn register(word: &[u8]) -> Result<Reg, Cause>
     }
 }
 
-// A loop counter by its number.
+// Returns the loop counter of a number. Fails with `Range` above 1.
 fn counter(number: u16) -> Result<Counter, Cause>
     ensures { result ≡ counter_at number }
 {
@@ -225,7 +227,7 @@ fn counter(number: u16) -> Result<Counter, Cause>
     }
 }
 
-// How often a loop runs, 1 to 256.
+// Returns the number of times that a loop runs. Fails with `Range` if it is not 1 to 256.
 fn times(number: u16) -> Result<Times, Cause>
     ensures { result ≡ times_at number }
 {
@@ -236,7 +238,7 @@ fn times(number: u16) -> Result<Times, Cause>
     }
 }
 
-// A jump back over at most 255 bytes.
+// Returns the length of a jump back, in bytes. Fails with `Range` above 255.
 fn back(number: u16) -> Result<u8, Cause>
     ensures { result ≡ back_at number }
 {
@@ -247,7 +249,7 @@ fn back(number: u16) -> Result<u8, Cause>
     }
 }
 
-// An event of at most 31.
+// Returns the event of a number. Fails with `Range` above 31.
 fn event(number: u16) -> Result<Event, Cause>
     ensures { result ≡ event_at number }
 {
@@ -258,7 +260,7 @@ fn event(number: u16) -> Result<Event, Cause>
     }
 }
 
-// Two decimal numbers.
+// Returns the two decimal numbers that are left. Fails with `Operand` for any other words.
 fn numbers(rest: &[u8]) -> Result<(u16, u16), Cause>
     ensures { result ≡ two_numbers (words_after rest.now) }
 {
@@ -268,7 +270,7 @@ fn numbers(rest: &[u8]) -> Result<(u16, u16), Cause>
     Ok((a, b))
 }
 
-// The words of DMALP: a counter, and how often the loop runs.
+// Parses the words after DMALP: a counter, and the number of times that the loop runs.
 fn loop_start(rest: &[u8]) -> Result<Insn, Cause>
     ensures { result ≡ loop_line (words_after rest.now) }
 {
@@ -278,7 +280,7 @@ fn loop_start(rest: &[u8]) -> Result<Insn, Cause>
     Ok(Insn::Lp { counter, times })
 }
 
-// The words of DMALPEND: a counter and a jump.
+// Parses the words after DMALPEND: a counter and a jump.
 fn loop_end(rest: &[u8]) -> Result<Insn, Cause>
     ensures { result ≡ loop_end_line (words_after rest.now) }
 {
@@ -288,7 +290,7 @@ fn loop_end(rest: &[u8]) -> Result<Insn, Cause>
     Ok(Insn::LpEnd { counter, back })
 }
 
-// The word of DMASEV: an event.
+// Parses the word after DMASEV: an event.
 fn signal(rest: &[u8]) -> Result<Insn, Cause>
     ensures { result ≡ signal_line (words_after rest.now) }
 {
@@ -297,7 +299,7 @@ fn signal(rest: &[u8]) -> Result<Insn, Cause>
     Ok(Insn::Sev(event(number)?))
 }
 
-// The words of DMAWFE: an event, and maybe `invalid`.
+// Parses the words after DMAWFE: an event, and optionally `invalid`.
 fn wait(rest: &[u8]) -> Result<Insn, Cause>
     ensures { result ≡ wait_line (words_after rest.now) }
 {
@@ -307,7 +309,7 @@ fn wait(rest: &[u8]) -> Result<Insn, Cause>
     Ok(Insn::Wfe { event, invalid })
 }
 
-// The words of DMAMOV: a register and its value.
+// Parses the words after DMAMOV: a register and its value.
 fn set_register(rest: &[u8]) -> Result<Insn, Cause>
     ensures { result ≡ set_line (words_after rest.now) }
 {
@@ -317,7 +319,7 @@ fn set_register(rest: &[u8]) -> Result<Insn, Cause>
     Ok(Insn::Mov(register, value))
 }
 
-// An instruction without words.
+// Returns an instruction that takes no words. Fails with `Operand` if a word is left.
 fn bare(insn: Insn, rest: &[u8]) -> Result<Insn, Cause>
     ensures { result ≡ bare_line insn (words_after rest.now) }
 {
@@ -325,7 +327,7 @@ fn bare(insn: Insn, rest: &[u8]) -> Result<Insn, Cause>
     Ok(insn)
 }
 
-// The name that a word is.
+// Returns the instruction name that a word spells, or `None` for any other word.
 fn name_in(word: &[u8]) -> Option<Name>
     ensures { result ≡ name_of word.now }
 {
@@ -356,7 +358,7 @@ fn name_in(word: &[u8]) -> Option<Name>
     }
 }
 
-// The instruction of a name and the words behind it, or the first cause that holds.
+// Returns the instruction of a name and the words after it, or the first cause that applies.
 fn by_name(name: Name, rest: &[u8]) -> Result<Insn, Cause>
     ensures { result ≡ line_by name (words_after rest.now) }
 {
@@ -375,7 +377,7 @@ fn by_name(name: Name, rest: &[u8]) -> Result<Insn, Cause>
     }
 }
 
-/// The instruction that a line writes, or the first cause that holds.
+/// Returns the instruction of a line, or the first cause that applies.
 #[tactic(auto, unfolding(crate::specs::LineReading::line_in))]
 pub fn read_line(line: &[u8]) -> Result<Insn, Cause>
     ensures { result ≡ line_in (words_of line.now) }

@@ -9,7 +9,7 @@ use Rattle.dma_script.specs.declared.fault.LineError.TheVariants.{NoMemory, Faul
 use Rattle.dma_script.specs.declared.statements.Statement.{Statement}
 use Rattle.dma_script.specs.declared.statements.RunScript.{RunScript}
 
--- What a line adds at the end of a list, it adds to whatever holds that list.
+-- A line added to a list is also added to any value that holds the list.
 added_to : {S : Type 0} (of : List Statement → S) (r : Result (Unit {0}) LineError) (before after : List Statement) (line : Result Statement Cause) → LineGives r after (added before line) → LineGives r (of after) (line >>= (λ statement. Ok (of (before ++ statement ∷ []))))
 added_to of (Ok done) before after (Ok statement) gives = let same : before ++ statement ∷ [] ≡ after = cc in ap (λ (l : List Statement). Ok (of l)) same
 added_to of (Ok done) before after (Err cause) gives = absurd (let bad : Err cause ≡ Ok after = gives in cc)

@@ -1,4 +1,4 @@
--- That each reader tells the first cause of the table, line by line.
+-- Each reader reports the first cause of the table, line by line.
 use Rattle.std.proofs.Common.{◌≡◌, ℕ, Bool, true, false, not, ◌&&◌, ◌||◌, ◌==◌, nat_le, nat_lt, if◌then◌else◌, List, [], ◌∷◌, ◌++◌, length, map, refl, ap, arith, ◌∙◌, sym, Option, Some, None, Result, Ok, Err, is_some, unwrap_or, codes}
 use Rattle.std.proofs.lemmas.Bool.Decides.{nat_tests}
 use Rattle.std.specs.List.{list_all}
@@ -38,7 +38,7 @@ number_test read = where_not (is_some read) causes.Number
 abbrev byte_test : Option ℕ → Option Cause
 byte_test read = where_not (nat_le (unwrap_or read 0) 255) causes.Range
 
--- A value that is made of what was read tells what that tells.
+-- A value made from a result has the cause of that result.
 map_told : {A B : Type 0} (r : Result A Cause) (f : A → B) → cause_told (r >>= (λ a. Ok (f a))) ≡ cause_told r
 map_told (Ok a) f = refl
 map_told (Err cause) f = refl
@@ -132,12 +132,12 @@ address_then (Some addr) r forms ranges sizes channel_counts f same no_range no_
 
 -- ---- transfers
 
--- the words of an event, where there is one
+-- the words of an optional event
 abbrev event_operands : Option (List ℕ) → List Operand → List Operand
 event_operands None rest = rest
 event_operands (Some word) rest = record { form = byte; word = word } ∷ rest
 
--- what the source of a transfer has to be, by whether it is a fill
+-- the form of a transfer's source, by whether it is a fill
 abbrev source_form : Bool → Form
 source_form fill = if fill then number else list
 
@@ -145,14 +145,14 @@ source_form fill = if fill then number else list
 abbrev transfer_operands : WordsOfTransfer → List Operand
 transfer_operands p = record { form = source_form p.fill; word = p.src } ∷ record { form = list; word = p.dst } ∷ event_operands p.wait (event_operands p.signal [])
 
--- Words are read where they have their forms, and else their number is wrong.
+-- Words that have their forms are read; any others fail with `Words`.
 abbrev FitsWords : {X : Type 0} → (X → List Operand) → Result X Cause → Option (List Operand) → Type 0
 FitsWords view (Ok x) (Some operands) = operands ≡ view x
 FitsWords view (Err cause) None = cause ≡ causes.Words
 FitsWords view (Ok x) None = ⊥
 FitsWords view (Err cause) (Some operands) = ⊥
 
--- a line whose two events were looked for one after the other
+-- the end of a line after its two events were searched for, one after the other
 ended : Option (List ℕ) → Option (List ℕ) × List (List ℕ) → Result (Option (List ℕ) × Option (List ℕ)) Cause
 ended wait signal = if length signal.1 == 0 then Ok (wait, signal.0) else Err causes.Words
 
@@ -247,12 +247,12 @@ transfer_fits (word ∷ words) = fill_fits (bytes_eq word (codes "fill")) word w
 
 -- ---- what is read of a transfer's words
 
--- an event's number, where there is one
+-- the number of an optional event
 abbrev event_read : Option (Option ℕ) → Result (Option ℕ) Cause
 event_read None = Ok None
 event_read (Some read) = ok_or read causes.Number >>= (λ n. Ok (Some n))
 
--- what is told of it
+-- its cause
 abbrev event_forms : Option (Option ℕ) → List (Option Cause) → List (Option Cause)
 event_forms None rest = rest
 event_forms (Some read) rest = number_test read ∷ rest
@@ -266,12 +266,12 @@ abbrev event_ranges : Option ℕ → List (Option Cause) → List (Option Cause)
 event_ranges None rest = rest
 event_ranges (Some n) rest = where_not (nat_le n 255) causes.Range ∷ rest
 
--- What is read of a word tells whether it is in its form.
+-- Reading a word reports whether it is in its form.
 form_told : {A B : Type 0} (read : Option A) (f : A → B) → cause_told (ok_or read causes.Number >>= (λ a. Ok (f a))) ≡ number_test read
 form_told None f = refl
 form_told (Some a) f = refl
 
--- What is read of a source tells whether its word is in its form.
+-- Reading a source reports whether its word is in its form.
 source_told : (fill : Bool) (word : List ℕ) → cause_told (source_at fill word) ≡ form_cause (source_form fill) word
 source_told true word = form_told (number_of word) (λ addr. origins.Place addr)
 source_told false word = form_told (list_of word) (λ l. origins.List l)
@@ -313,7 +313,7 @@ source_range : (fill : Bool) (word : List ℕ) → range_cause (source_form fill
 source_range true word = refl
 source_range false word = refl
 
--- a list and events behind a source, behind which something else is read of the numbers
+-- a list and events after a source, and then a step that reads the numbers
 events_then : {B : Type 0} (source : Result Origin Cause) (dst : List ℕ) (wait signal : Option (List ℕ)) (k : TransferNumbers → Result B Cause) (front : Option Cause) → ((n : TransferNumbers) → cause_told (k n) ≡ option_or front (cause_told (transfer_of n)))
     → cause_told ((source >>= (λ src. list_at dst >>= (λ dst. number_where wait >>= (λ wait. number_where signal >>= (λ signal. let n : TransferNumbers = record { src = src; dst = dst; wait = wait; signal = signal } in Ok n))))) >>= k)
     ≡ option_or (option_or (cause_told source) (first_over form_cause (record { form = list; word = dst } ∷ event_operands wait (event_operands signal [])))) (option_or front (first_over range_cause (event_operands wait (event_operands signal []))))
@@ -327,7 +327,7 @@ source_first : (read form range forms ranges front : Option Cause) → read ≡ 
     → option_or (option_or read forms) (option_or front ranges) ≡ option_or (option_or form forms) (option_or front (option_or range ranges))
 source_first read form range forms ranges front same none = rw (same, none) refl
 
--- the words of a transfer, behind which something else is read of the numbers
+-- the words of a transfer, and then a step that reads the numbers
 transfer_then : {B : Type 0} (p : WordsOfTransfer) (k : TransferNumbers → Result B Cause) (front : Option Cause) → ((n : TransferNumbers) → cause_told (k n) ≡ option_or front (cause_told (transfer_of n)))
     → cause_told (transfer_numbers p >>= k) ≡ option_or (first_over form_cause (transfer_operands p)) (option_or front (first_over range_cause (transfer_operands p)))
 transfer_then p k front same =
@@ -335,9 +335,9 @@ transfer_then p k front same =
     events_then (source_at p.fill p.src) p.dst p.wait p.signal k front same
     ∙ source_first (cause_told (source_at p.fill p.src)) (form_cause (source_form p.fill) p.src) (range_cause (source_form p.fill) p.src) (first_over form_cause (record { form = list; word = p.dst } ∷ behind)) (first_over range_cause behind) front (source_told p.fill p.src) (source_range p.fill p.src)
 
--- ---- the words behind a command
+-- ---- the words after a command
 
--- the tests of these words, once the command is known and stands where it may
+-- the tests of these words, once the command is known and allowed there
 abbrev word_tests : Option (List Operand) → Bool → List (Option Cause)
 word_tests found in_range =
     let operands = unwrap_or found [] in
@@ -363,7 +363,7 @@ events_channels (Some e) (Some f) = refl
 transfer_channels : (p : WordsOfTransfer) → first_over channels_cause (transfer_operands p) ≡ None
 transfer_channels p = elim p.fill as (λ fill. first_over channels_cause (transfer_operands (record p { fill = fill })) ≡ None) [ true ↦ events_channels p.wait p.signal | false ↦ events_channels p.wait p.signal ]
 
--- two tests, and two that tell nothing
+-- two tests, and two without a cause
 four_tests : (forms ranges sizes channel_counts : Option Cause) → sizes ≡ None → channel_counts ≡ None → option_or forms ranges ≡ first_told (forms ∷ ranges ∷ None ∷ sizes ∷ channel_counts ∷ [])
 four_tests forms ranges sizes channel_counts no_size no_channels = rw (no_size, no_channels) (ap (option_or forms) (sym (or_none ranges)))
 
@@ -592,6 +592,6 @@ race_words read (word ∷ words) = race_found read (race_keyword_of word) words
 pub race_line : (read : RaceRead) (line : List ℕ) → cause_told (after_line race_step read line) ≡ line_told (race_asks (side_of read)) line
 race_line read line = whole_line (is_skipped (words_of line)) (list_all is_plain line) read (race_step read (words_of line)) (after_bytes (race_asks (side_of read) (words_of line))) (race_words read (words_of line))
 
--- Each reader tells the first cause of the table.
+-- Each reader reports the first cause of the table.
 pub first_causes_are_told : FirstCausesAreTold
 first_causes_are_told = record { run = run_line; race = race_line; plan = plan_line }

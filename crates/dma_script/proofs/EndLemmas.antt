@@ -17,9 +17,9 @@ printed_within_long printed input long =
     let above : nat_lt longest_input (length input) ≡ true = lt-ltb _ _ long in
     rw above refl
 
--- ---- what the input settles
+-- ---- where the output is a function of the input
 
--- What may be printed for an input of any length is what is.
+-- If one output may be printed for each input, it is the one for an input of any length.
 settled_within : (printed : List ℕ → Printed) (input : List ℕ) (p : Printed) → may_print_within (λ input p. p ≡ printed input) input p → p ≡ printed_within printed input
 settled_within printed input p (inl long) = long.1 ∙ sym (printed_within_long printed input long.0)
 settled_within printed input p (inr short) = short.1 ∙ sym (printed_within_short printed input short.0)
@@ -67,7 +67,7 @@ long_input (Some input) reader writer may old new result long kept (inl wrote) =
 long_input (Some input) reader writer may old new result long kept (inr unwritten) =
     record { printed = refusal (codes "line 0: InputTooLong"); allowed = inl (long, refl); ends = output_fault unwritten.1 unwritten.0 }
 
--- Memory was refused before anything was read.
+-- Out of memory before the input was read.
 pub refused_at_once : (known : Option (List ℕ)) (reader writer : Failures) (may : List ℕ → Printed → Type 0) (old : Option (List ℕ)) → ((input : List ℕ) → MayAppend (may input) [] []) → Unfailed reader → Unfailed writer → IfSome known (λ input. MayEnd reader writer (may_print_within may input) old old 3)
 refused_at_once None reader writer may old some kept_reader kept_writer = tt
 refused_at_once (Some input) reader writer may old some kept_reader kept_writer =
@@ -78,7 +78,7 @@ refused_at_once (Some input) reader writer may old some kept_reader kept_writer 
       ends = out_of_memory kept_reader kept_writer one.first.count one.first.some_left (subst (Appends old old) one.first.whole (Appends-nil old)) refl;
     }
 
--- A call that has no input to carry out.
+-- A call that has no input to run.
 pub unread : (known : Option (List ℕ)) (reader writer : Failures) (may : List ℕ → Printed → Type 0) (old new : Option (List ℕ)) (status : ℕ) → ((input : List ℕ) → MayAppend (may input) [] []) → EndsUnread known reader writer old new status → IfSome known (λ input. MayEnd reader writer (may_print_within may input) old new status)
 unread known reader writer may old new status some (reader_failed after wrote) = failed_input known reader writer may old new status some after wrote
 unread known reader writer may old new status some (too_long long kept wrote) = long_input known reader writer may old new status long kept wrote
@@ -86,7 +86,7 @@ unread known reader writer may old new status some (no_memory kept_reader kept_w
     subst (λ n. IfSome known (λ input. MayEnd reader writer (may_print_within may input) old n status)) (sym same)
     (subst (λ n. IfSome known (λ input. MayEnd reader writer (may_print_within may input) old old n)) (sym three) (refused_at_once known reader writer may old some kept_reader kept_writer))
 
--- Memory was refused after the first groups were built.
+-- Out of memory after the first groups were built.
 pub refused_after : (known : Option (List ℕ)) (reader writer : Failures) (may : List ℕ → Printed → Type 0) (old new : Option (List ℕ)) (input before built sent : List ℕ) (result : ℕ) → IfSome known (λ all. input ≡ all) → length input ≤ longest_input → before ≡ [] → MayAppend (may input) before built → sent ≡ built → Unfailed reader → Wrote writer old new sent 3 result → IfSome known (λ all. MayEnd reader writer (may_print_within may all) old new result)
 refused_after None reader writer may old new input before built sent result e short none built_is same kept wrote = tt
 refused_after (Some all) reader writer may old new input before built sent result e short none built_is same kept wrote =

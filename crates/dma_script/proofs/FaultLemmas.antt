@@ -1,4 +1,4 @@
--- That of a whole script the fault of the first faulty line is told.
+-- Each reader reports the fault of the first faulty line of a whole script.
 use Rattle.std.proofs.Common.{◌≡◌, ℕ, ◌+◌, Bool, true, false, not, ◌&&◌, ◌||◌, nat_lt, if◌then◌else◌, List, [], ◌∷◌, ◌++◌, length, refl, ap, subst, arith, length-append, ◌∙◌, sym, Option, Some, None, Result, Ok, Err, is_some}
 use Rattle.std.specs.List.{list_all, list_any}
 use Rattle.std.specs.Option.{ok_or, option_map, option_or}
@@ -24,13 +24,13 @@ use Rattle.dma_script.specs.declared.race.RaceKeyword.TheVariants as race_keywor
 use Rattle.dma_script.specs.declared.race.RaceScript.{RaceScript}
 use Rattle.dma_script.proofs.CauseLemmas.{run_line, race_line, plan_line}
 
--- one line, of which a fault is told or not, and what follows it
+-- one line, for which a fault is reported or not, and what follows it
 one_line : {S : Type 0} (n : ℕ) (r : Result S Cause) (f : S → Result S Fault) (test : Option Cause) (rest : Option Fault) → cause_told r ≡ test → ((next : S) → r ≡ Ok next → fault_told (f next) ≡ rest)
     → fault_told (at_line n r >>= f) ≡ option_or (option_map (λ cause. let fault : Fault = record { line = n; cause = cause } in fault) test) rest
 one_line n (Ok next) f test rest same more = more next refl ∙ ap (λ t. option_or (option_map (λ cause. let fault : Fault = record { line = n; cause = cause } in fault) t) rest) same
 one_line n (Err cause) f test rest same more = ap (λ t. option_or (option_map (λ cause. let fault : Fault = record { line = n; cause = cause } in fault) t) rest) same
 
--- The fault of some lines, for any reader whose lines tell by how far the script is.
+-- The fault of some lines, for any reader whose report on a line depends on the position in the script.
 lines_told : {S K : Type 0} (step : S → List (List ℕ) → Result S Cause) (side : S → K) (test : K → List ℕ → Option Cause) (after : K → List ℕ → K)
     → ((read : S) (line : List ℕ) → cause_told (after_line step read line) ≡ test (side read) line)
     → ((read : S) (line : List ℕ) (next : S) → after_line step read line ≡ Ok next → side next ≡ after (side read) line)
@@ -48,7 +48,7 @@ or_true : (b : Bool) → true ≡ (b || true)
 or_true true = refl
 or_true false = refl
 
--- What is read of a line that is taken, behind a reader that then has something.
+-- A reader that has read a line that is not skipped has read something.
 goes_behind : {A : Type 0} (skipped plain : Bool) (read next : Option A) (stepped : Result (Option A) Cause) → (stepped ≡ Ok next → is_some next ≡ true)
     → (if skipped then Ok read else (if plain then stepped else Err causes.Byte)) ≡ Ok next → is_some next ≡ (is_some read || not skipped)
 goes_behind true plain read next stepped some is = let same : read ≡ next = cc in ap (λ r. is_some r) (sym same) ∙ or_false (is_some read)
@@ -73,7 +73,7 @@ plan_some : (read : Option TransferLine) (words : List (List ℕ)) (next : Optio
 plan_some None words next is = some_made (transfer_line words) (λ line. line) next is
 plan_some (Some line) words next is = absurd (let bad : Err causes.Words ≡ Ok next = is in cc)
 
--- how far a script is behind some lines
+-- the position in a script after some lines
 reached : {K : Type 0} → (K → List ℕ → K) → K → List (List ℕ) → K
 reached after side [] = side
 reached after side (line ∷ rest) = reached after (after side line) rest
@@ -83,7 +83,7 @@ one_read : {S P : Type 0} (n : ℕ) (r : Result S Cause) (f : S → Result S Fau
 one_read n (Ok next) f final is then_ = then_ next refl is
 one_read n (Err cause) f final is then_ = absurd (let fault : Fault = record { line = n; cause = cause } in let bad : Err fault ≡ Ok final = is in cc)
 
--- How far a reader is that has read some lines.
+-- The position of a reader that has read some lines.
 lines_reach : {S K : Type 0} (step : S → List (List ℕ) → Result S Cause) (side : S → K) (after : K → List ℕ → K)
     → ((read : S) (line : List ℕ) (next : S) → after_line step read line ≡ Ok next → side next ≡ after (side read) line)
     → (n : ℕ) (read : S) (rest : List (List ℕ)) (final : S) → after_lines step n read rest ≡ Ok final → side final ≡ reached after (side read) rest
@@ -97,13 +97,13 @@ or_assoc : (a b c : Bool) → ((a || b) || c) ≡ (a || (b || c))
 or_assoc true b c = refl
 or_assoc false b c = refl
 
--- A script is behind its first line where some line was taken.
+-- A script is after its first line if some line was not skipped.
 behind_all : (behind : Bool) (rest : List (List ℕ)) → reached behind_after behind rest ≡ (behind || list_any is_taken rest)
 unfolding reached
 behind_all behind [] = or_false behind
 behind_all behind (line ∷ rest) = behind_all (behind || is_taken line) rest ∙ or_assoc behind (is_taken line) (list_any is_taken rest)
 
--- What is told of a whole script, of whose lines a fault is told or not.
+-- The fault reported for a whole script, for whose lines a fault is reported or not.
 whole_told : {A B : Type 0} (r : Result (Option A) Fault) (end : Option A → Result B Fault) (fault : Fault) (of_lines : Option Fault) (some : Bool) → fault_told (end None) ≡ Some fault → ((a : A) → fault_told (end (Some a)) ≡ None)
     → fault_told r ≡ of_lines → ((final : Option A) → r ≡ Ok final → is_some final ≡ some) → fault_told (r >>= end) ≡ option_or of_lines (if some then None else Some fault)
 whole_told (Ok None) end fault of_lines some none_told some_told same final = let e : false ≡ some = final None refl in rw (← same, ← e) none_told
@@ -130,11 +130,11 @@ plan_faults input =
 
 -- ---- race scripts
 
--- Lines after `go` stand behind a memory line.
+-- Lines after `go` come after a memory line.
 abbrev IsSound : RaceRead → Type 0
 IsSound read = is_some read.after ≡ true → is_some read.before ≡ true
 
--- What a line with a command leaves.
+-- The state after a line with a command.
 abbrev Moves : RaceRead → Option RaceKeyword → RaceRead → Type 0
 Moves read found next = (side_of next ≡ after_command (side_of read) found) × (IsSound read → IsSound next)
 
@@ -262,6 +262,6 @@ race_faults input =
     let sound = lines_keep race_step IsSound (λ read line next is. (race_both read line next is).1) 0 nothing_read (lines input) final (λ after. after) is in
     (sound_behind (is_some final.before) (is_some final.after) sound ∙ ap (λ (s : RaceSide). s.behind) side ∙ race_behind at_start (lines input), ap (λ (s : RaceSide). s.after_go) side ∙ race_gone at_start (lines input)))
 
--- Of each kind of script the fault of the first faulty line is told.
+-- For each kind of script, the fault of the first faulty line is reported.
 pub first_faults_are_told : FirstFaultsAreTold
 first_faults_are_told = record { run = run_faults; race = race_faults; plan = plan_faults }

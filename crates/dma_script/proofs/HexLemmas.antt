@@ -69,7 +69,7 @@ digit_is_no_blank b digit is = false_from_ne_true (is_blank b) (λ blank. absurd
 pair_word : (a b blank high low : ℕ) (rest : List ℕ) → hex_digit_of a ≡ Some high → hex_digit_of b ≡ Some low → is_blank blank ≡ true → words_of (a ∷ b ∷ blank ∷ rest) ≡ (a ∷ b ∷ []) ∷ words_of rest
 pair_word a b blank high low rest at_a at_b at_blank = rw (digit_is_no_blank a high at_a, digit_is_no_blank b low at_b, at_blank) refl
 
--- A word that is two digits, behind other bytes.
+-- A word that is two digits, after other bytes.
 pair_after : (a b blank byte : ℕ) (before rest : List ℕ) (high low : Option ℕ) → hex_digit_of a ≡ high → hex_digit_of b ≡ low → is_blank blank ≡ true → option_and_then (λ h. option_map (λ l. 16 * h + l) low) high ≡ Some byte → bytes_after (before ++ byte ∷ []) (words_of rest) ≡ bytes_after before (words_of (a ∷ b ∷ blank ∷ rest))
 pair_after a b blank byte before rest None low at_a at_b at_blank is = absurd (let bad : None ≡ Some byte = is in cc)
 pair_after a b blank byte before rest (Some h) None at_a at_b at_blank is = absurd (let bad : None ≡ Some byte = is in cc)
@@ -78,7 +78,7 @@ pair_after a b blank byte before rest (Some h) (Some l) at_a at_b at_blank is =
     let read : hex_after before (a ∷ b ∷ []) ≡ Ok (before ++ byte ∷ []) = rw (at_a, at_b, same) refl in
     bytes_after_more before (before ++ byte ∷ []) (a ∷ b ∷ []) (words_of rest) (words_of (a ∷ b ∷ blank ∷ rest)) (pair_word a b blank h l rest at_a at_b at_blank) read
 
--- One more word of two digits, with a blank behind it.
+-- One more word of two digits, with a blank after it.
 pub bytes_after_pair : (before rest : List ℕ) (byte : ℕ) → 3 ≤ length rest → hex_pair_of (get_or rest 0 0) (get_or rest 1 0) ≡ Some byte → is_blank (get_or rest 2 0) ≡ true → bytes_after (before ++ byte ∷ []) (words_of (drop 3 rest)) ≡ bytes_after before (words_of rest)
 bytes_after_pair before [] byte three is blank = absurd (omega arith)
 bytes_after_pair before (a ∷ []) byte three is blank = absurd (omega arith)

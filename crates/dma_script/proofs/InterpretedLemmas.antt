@@ -1,4 +1,4 @@
--- Lines that are carried out one after another.
+-- Lines that run one after another.
 use Rattle.std.proofs.Common.{◌≡◌, ℕ, List, [], ◌∷◌, ◌++◌, ◌+◌, ◌<◌, length, map, add-one, take, drop, get_or, refl, ap, sym, ◌∙◌, subst, append_assoc}
 use Rattle.std.proofs.lemmas.List.{append-nil, map-id, take-append-drop}
 use Rattle.std.proofs.Math.Seq.{drop-cons}
@@ -15,14 +15,14 @@ text_after old mid new groups lines before more =
     more ∙ ap (λ o. o ++ text_of lines) before ∙ append_assoc old (printed_text groups) (text_of lines)
     ∙ ap (λ t. old ++ (printed_text groups ++ t)) (sym (append-nil (text_of lines))) ∙ ap (λ t. old ++ t) (sym (printed_text-append groups (lines ∷ [])))
 
--- one line more is carried out
+-- one more line runs
 acts-more : {S L : Type 0} (acts : S → L → List (List ℕ) → S → Type 0) (lines : List L) (line : L) (found between left : S) (groups : List (List (List ℕ))) (group : List (List ℕ)) → ActsInTurn acts lines found groups between → acts between line group left → ActsInTurn acts (lines ++ line ∷ []) found (groups ++ group ∷ []) left
 acts-more acts [] line found between left [] group done act = (left, subst (λ s. acts s line group left) done act, refl)
 acts-more acts [] line found between left (g ∷ groups) group done act = absurd done
 acts-more acts (l ∷ lines) line found between left [] group done act = absurd done
 acts-more acts (l ∷ lines) line found between left (g ∷ groups) group done act = (done.0, done.1, acts-more acts lines line done.0 between left groups group done.2 act)
 
--- no line was carried out yet
+-- no line has run yet
 pub prints-none : {S L : Type 0} (acts : S → L → List (List ℕ) → S → Type 0) (found : S) (old : List ℕ) → PrintsLines {L = L} acts found [] found old old
 prints-none acts found old = record { groups = []; acted = refl; text = sym (append-nil old) }
 
@@ -34,7 +34,7 @@ prints-more acts lines line found between left old mid new before one = record {
   text = text_after old mid new before.groups one.group before.text one.text;
 }
 
--- The line at a place stands between those before it and those behind it.
+-- The line at a place is between those before it and those after it.
 pub split_at : {L : Type 0} (lines before : List L) (line : L) → map (λ l. l) before ≡ take (length before) lines → length before < length lines → line ≡ get_or lines (length before) line → lines ≡ before ++ line ∷ drop (length before + 1) lines
 split_at lines before line front within at =
     let n = length before in

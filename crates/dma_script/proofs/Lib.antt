@@ -1,5 +1,5 @@
--- Lemmas on how a command ends, on lines, their words, and which are skipped, on the causes of faulty lines, on lines that are
--- carried out in turn, on numbers, hexadecimal words and lists of segments; worked scripts.
+-- Lemmas on how a command ends, on lines, their words, and which are skipped, on the causes of faulty lines, on lines
+-- that run one after another, on numbers, hexadecimal words and lists of segments; worked scripts.
 pub mod AddedLines
 pub mod CauseLemmas
 pub mod EndLemmas

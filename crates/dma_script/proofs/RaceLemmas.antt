@@ -1,4 +1,4 @@
--- What is known of the lines before `go`.
+-- What holds of the lines before `go`.
 use Rattle.std.proofs.Common.{◌≡◌, ℕ, true, List, [], ◌∷◌, ◌++◌, sym, subst, Option, Some, None, IfSome, Result, Ok, Err, IfOk, OnErr, ◌&&◌, nat_le}
 use Rattle.std.specs.List.{All}
 use Rattle.std.proofs.lemmas.List.Elements.{All-push, All-nil}
@@ -14,11 +14,11 @@ use Rattle.dma_script.specs.declared.statements.Keyword.{Keyword}
 use Rattle.dma_script.specs.declared.statements.Keyword.TheVariants as keywords
 use Rattle.dma_script.specs.declared.statements.RunScript.{RunScript}
 
--- each statement so far may stand before `go`
+-- each statement so far is allowed before `go`
 abbrev pub AreEarly : RunScript → Type 0
 AreEarly script = All IsEarly script.statements
 
--- What holds of the end of what follows, whatever that finds, holds of the end of both.
+-- A property of each result of the second step holds of the result of both.
 after_bind : {A B E : Type 0} (P : B → Type 0) (r : Result A E) (f : A → Result B E) → ((a : A) → IfOk (f a) P) → IfOk (r >>= f) P
 after_bind P (Ok a) f h = h a
 after_bind P (Err e) f h = tt
@@ -34,7 +34,7 @@ submit_early words =
     after_bind IsEarly (first_and_rest words) _ (λ w. after_bind IsEarly (transfer_words w.1) _ (λ parts. after_bind IsEarly (number_at w.0) _ (λ number.
     after_bind IsEarly (transfer_numbers parts) _ (λ numbers. after_bind IsEarly (byte_of number) _ (λ ch. after_bind IsEarly (transfer_of numbers) _ (λ transfer. tt))))))
 
--- A line whose keyword may stand before `go` is a statement that may.
+-- A line whose keyword is allowed before `go` is a statement that is allowed there.
 later_early : (keyword : Keyword) (words : List (List ℕ)) → is_early keyword ≡ true → IfOk (later_line keyword words) IsEarly
 later_early keywords.Memory words early = tt
 later_early keywords.Write words early = write_early words
@@ -86,7 +86,7 @@ first_early keywords.Totals words = tt
 abbrev pub ReadEarly : Option RunScript → Type 0
 ReadEarly script = IfSome script AreEarly
 
--- What follows may use what holds of the first end.
+-- The same, given a property of the result of the first step.
 then_bind : {A B E : Type 0} (Q : A → Type 0) (P : B → Type 0) (r : Result A E) (f : A → Result B E) → IfOk r Q → ((a : A) → Q a → IfOk (f a) P) → IfOk (r >>= f) P
 then_bind Q P (Ok a) f q h = h a q
 then_bind Q P (Err e) f q h = tt
@@ -98,7 +98,7 @@ next_early keyword words None early before =
 next_early keyword words (Some script) early before =
     then_bind IsEarly ReadEarly (later_line keyword words) (λ statement. Ok (Some (record script { statements = script.statements ++ statement ∷ [] }))) (later_early keyword words early) (λ statement is. All-push IsEarly script.statements statement before is)
 
--- A line that was taken, or refused and left as it was.
+-- A line was read, or it was refused and changed nothing.
 pub early_taken : (keyword : Keyword) (words : List (List ℕ)) (old new : Option RunScript) (result : Result (Unit {0}) LineError) → is_early keyword ≡ true → ReadEarly old → LineGives result new (next_line old keyword words) → OnErr result (new ≡ old) → ReadEarly new
 early_taken keyword words old new (Ok done) early before line err = IfOk-at_ok ReadEarly line (next_early keyword words old early before)
 early_taken keyword words old new (Err e) early before line err = subst ReadEarly (sym err) before

@@ -26,7 +26,7 @@ first_row all chunk rest parts size =
           sym (ap (take 16) parts ∙ ap (λ n. take n (chunk ++ rest)) whole ∙ take-append_seam chunk rest)
     ]
 
--- What is left after it.
+-- The rest after it.
 pub rest_after : (bytes chunk rest : List ℕ) (count : ℕ) → drop (16 * count) bytes ≡ chunk ++ rest → length chunk ≡ min 16 (length (drop (16 * count) bytes)) → rest ≡ drop (16 * (count + 1)) bytes
 rest_after bytes chunk rest count parts size =
     let all = drop (16 * count) bytes in

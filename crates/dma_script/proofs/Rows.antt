@@ -223,7 +223,7 @@ largest_segment = refl
 last_channel_of_a_job : race_script_of (after_memory (codes "job 7 8 0" ++ 10 ∷ codes "go")) ≡ Err (record { line = 2; cause = Range })
 last_channel_of_a_job = refl
 
--- so many lines of jobs
+-- the given number of lines of jobs
 jobs : ℕ → List ℕ
 jobs count = flat_map (λ _. codes "job 0 7 1" ++ 10 ∷ []) (range_with_len 0 count)
 

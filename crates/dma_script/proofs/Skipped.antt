@@ -10,7 +10,7 @@ skips line = is_skipped (words_of line)
 blank_first : (b : ℕ) (line : List ℕ) → is_blank b ≡ true → skips (b ∷ line) ≡ skips line
 blank_first b line blank = rw blank refl
 
--- The line from a place on, where a byte stands there.
+-- The line from the place of a byte on.
 from_place : (line : List ℕ) (i : ℕ) (d : ℕ) → i < length line → drop i line ≡ get_or line i d ∷ drop (i + 1) line
 from_place line i d within = rw (add-one, drop-cons line i d within) refl
 

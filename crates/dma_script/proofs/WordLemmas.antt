@@ -32,7 +32,7 @@ no_blank_in : (line : List ℕ) (start end : ℕ) (part : List ℕ) → length p
 no_blank_in line start end part size same none k d h =
     ap is_blank (get_or_default_zero part k d h ∙ same k (omega arith)) ∙ none (start + k) (omega arith) (omega arith)
 
--- The line from a place on is what stands before a later place, the byte there, and the line behind it.
+-- The line from a place on is the part before a later place, the byte there, and the line after it.
 cut_at : (line : List ℕ) (start end : ℕ) → start ≤ end → end < length line → drop start line ≡ take (end - start) (drop start line) ++ get_or line end 0 ∷ drop (end + 1) line
 cut_at line start end after within =
     let place : start + (end - start) ≡ end = omega arith in
@@ -40,7 +40,7 @@ cut_at line start end after within =
     let first : drop end line ≡ get_or line end 0 ∷ drop (end + 1) line = rw (add-one, drop-cons line end 0 within) refl in
     sym (take-append-drop (end - start) (drop start line)) ∙ ap (λ (rest : List ℕ). take (end - start) (drop start line) ++ rest) (behind ∙ first)
 
--- What ends at a blank, with no blank before that, is a part, and the words behind the blank follow.
+-- A part that ends at the first blank, and the words after the blank.
 words_at : (line : List ℕ) (start end : ℕ) → start ≤ end → end < length line → NoBlank line start end → is_blank (get_or line end 0) ≡ true → words_of (drop start line) ≡ kept_part (take (end - start) (drop start line)) ++ words_of (drop (end + 1) line)
 words_at line start end after within none blank =
     let part = take (end - start) (drop start line) in
@@ -48,7 +48,7 @@ words_at line start end after within none blank =
     let split = slice_split_at is_blank part (get_or line end 0) (drop (end + 1) line) (λ k d h. no_blank_in line start end part size (λ j less. get_or-take (end - start) (drop start line) j 0 less ∙ get_or-drop start line j 0) none k d h) blank in
     ap words_of (cut_at line start end after within) ∙ ap (filter (λ word. not (length word == 0))) split ∙ kept_first part (slice_split is_blank (drop (end + 1) line))
 
--- Where no blank is left, the rest is the last part.
+-- If no blank is left, the rest is the last part.
 words_last : (line : List ℕ) (start : ℕ) → NoBlank line start (length line) → words_of (drop start line) ≡ kept_part (drop start line)
 words_last line start none = ap (filter (λ word. not (length word == 0))) (slice_split_none is_blank (drop start line) (λ k d h. no_blank_in line start (length line) (drop start line) (length-drop start line) (λ j less. get_or-drop start line j 0) none k d h))
 
@@ -62,7 +62,7 @@ kept_some : (part : List ℕ) → 0 < length part → kept_part part ≡ part �
 kept_some [] some = absurd (omega arith)
 kept_some (b ∷ part) some = let full : (length (b ∷ part) == 0) ≡ false = ne_eqb (length (b ∷ part)) 0 (λ z. omega arith) in rw full refl
 
--- The first byte is a blank and is none.
+-- A byte can't be a blank and not be one.
 not_both : (b : ℕ) → is_blank b ≡ true → is_blank b ≡ false → ⊥
 not_both b blank other = false≢true (sym other ∙ blank)
 

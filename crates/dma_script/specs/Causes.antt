@@ -1,6 +1,7 @@
--- What is told of a faulty line (profile): the first cause that holds, each tested over all words of the line, from the
--- left, before the next. It stands here as a table of causes, apart from how a line is read; that the readers of run, race
--- and plan scripts tell the same is the law `FirstCausesAreTold` for every line, `FirstFaultsAreTold` for every script.
+-- The cause that is reported for a faulty line (profile): the first that applies, where each cause is tested over all
+-- words of the line, from the left, before the next one. This table of causes doesn't depend on how a line is read.
+-- That the readers of run, race and plan scripts report the same is the law `FirstCausesAreTold` for every line, and
+-- `FirstFaultsAreTold` for every script.
 use Rattle.std.specs.Prelude.{◌≡◌, ℕ, ◌+◌, Bool, true, false, not, ◌&&◌, ◌||◌, nat_le, nat_lt, if◌then◌else◌, List, [], ◌∷◌, length, map, Option, Some, None, Result, Ok, Err, is_some, unwrap_or, codes}
 use Rattle.std.specs.List.{list_all, list_any}
 use Rattle.std.specs.Option.{option_map, option_or}
@@ -21,19 +22,19 @@ use Rattle.dma_script.specs.declared.statements.RunScript.{RunScript}
 use Rattle.dma_script.specs.declared.race.RaceKeyword.{RaceKeyword}
 use Rattle.dma_script.specs.declared.race.RaceKeyword.TheVariants as race_keywords
 
--- a cause where a test fails
+-- no cause if a test holds, else this cause
 abbrev pub where_not : Bool → Cause → Option Cause
 where_not holds cause = if holds then None else Some cause
 
--- the first cause of some tests, each of which tells a cause or none
+-- the first cause of a list of tests, each of which gives a cause or none
 abbrev pub first_told : List (Option Cause) → Option Cause
 first_told [] = None
 first_told (test ∷ tests) = option_or test (first_told tests)
 
 -- ---- one word
 
--- What a word has to be: any number; a number as those of channels and events are; a number of steps; the size of a memory;
--- how many channels it has; a segment; a list of segments; bytes in hexadecimal digits.
+-- What a word has to be: any number; a number of a channel or an event; a number of steps; the size of a memory; the
+-- number of its channels; a segment; a list of segments; bytes in hexadecimal digits.
 pub data Form : Type 0 where
   number : Form
   byte : Form
@@ -49,42 +50,43 @@ pub record Operand : Type 0 where
   pub form : Form
   pub word : List ℕ
 
--- the number that a word spells
+-- the number that a word spells, or 0 if it spells none
 abbrev pub number_or_zero : List ℕ → ℕ
 number_or_zero word = unwrap_or (number_of word) 0
 
--- a word that is not in its form
+-- `Number`, or `Hex` for hexadecimal digits, if a word is not in its form
 abbrev pub form_cause : Form → List ℕ → Option Cause
 form_cause segment word = where_not (is_some (segment_of word)) causes.Number
 form_cause list word = where_not (is_some (list_of word)) causes.Number
 form_cause hex word = where_not (is_some (bytes_in word)) causes.Hex
 form_cause _ word = where_not (is_some (number_of word)) causes.Number
 
--- a channel or an event above 255, or a number of steps that is 0 or above 1,000,000
+-- `Range` for a channel or an event above 255, or a number of steps that is 0 or above 1,000,000
 abbrev pub range_cause : Form → List ℕ → Option Cause
 range_cause byte word = where_not (nat_le (number_or_zero word) 255) causes.Range
 range_cause steps word = where_not (nat_le 1 (number_or_zero word) && nat_le (number_or_zero word) 1000000) causes.Range
 range_cause _ word = None
 
--- a memory without a byte, or with more than 4,294,963,200
+-- `SizeOutOfRange` for a size of 0 or above 4,294,963,200
 abbrev pub size_cause : Form → List ℕ → Option Cause
 size_cause size word = where_not (nat_le 1 (number_or_zero word) && nat_le (number_or_zero word) 4294963200) causes.SizeOutOfRange
 size_cause _ word = None
 
--- no channel, or more than 8
+-- `BadChannels` for 0 or more than 8 channels
 abbrev pub channels_cause : Form → List ℕ → Option Cause
 channels_cause channels word = where_not (nat_le 1 (number_or_zero word) && nat_le (number_or_zero word) 8) causes.BadChannels
 channels_cause _ word = None
 
--- one test over all words, from the left
+-- the first cause of one test over all words, from the left
 abbrev pub first_over : (Form → List ℕ → Option Cause) → List Operand → Option Cause
 first_over test operands = first_told (map (λ operand. test operand.form operand.word) operands)
 
 -- ---- one line
 
--- What a kind of script asks of a line: its first word is a command that may stand there; it is the memory line exactly
--- where that has to stand; its other words but the fixed ones, each with its form, or none where a word is missing, one is
--- too many or a fixed one is wrong; and what else its numbers have to meet.
+-- What a kind of script requires of a line. `command`: its first word is a command that is allowed there, or the script
+-- has no commands. `first`: it is the memory line exactly if that is required there. `operands`: its words except the
+-- command and the fixed ones, each with its form; `None` if a word is missing, one is too many, or a fixed one is
+-- wrong. `in_range`: the other conditions of the cause `Range` hold.
 pub record Asked : Type 0 where
   pub command : Bool
   pub first : Bool
@@ -106,23 +108,23 @@ tests line asked =
     ∷ first_over channels_cause operands
     ∷ []
 
--- What is told of a line, given what is asked of its words: nothing of a line that is skipped.
+-- The cause that is reported for a line, given what is required of its words; none for a line that is skipped.
 abbrev pub line_told : (List (List ℕ) → Asked) → List ℕ → Option Cause
 line_told asks line = if is_skipped (words_of line) then None else first_told (tests line (asks (words_of line)))
 
--- ---- the words behind the first
+-- ---- the words after the first
 
--- no word
+-- no operands; `None` if there is a word
 abbrev pub bare : List (List ℕ) → Option (List Operand)
 bare [] = Some []
 bare _ = None
 
--- one word of a form
+-- one word of a form; `None` if there is not exactly one
 abbrev pub one : Form → List (List ℕ) → Option (List Operand)
 one form (a ∷ []) = Some (record { form = form; word = a } ∷ [])
 one form _ = None
 
--- two words, each of its form
+-- two words, each of its form; `None` if there are not exactly two
 abbrev pub two : Form → Form → List (List ℕ) → Option (List Operand)
 two first second (a ∷ b ∷ []) = Some (record { form = first; word = a } ∷ record { form = second; word = b } ∷ [])
 two first second _ = None
@@ -133,7 +135,7 @@ address_and_bytes (addr ∷ word ∷ more) =
     Some (record { form = number; word = addr } ∷ map (λ w. record { form = hex; word = w }) (word ∷ more))
 address_and_bytes _ = None
 
--- a word of a form, and then `to LIST`
+-- a word of a form, and then `to LIST`; `None` for any other words
 abbrev pub one_to_list : Form → List (List ℕ) → Option (List Operand)
 one_to_list form (src ∷ to ∷ dst ∷ []) =
     if bytes_eq to (codes "to")
@@ -151,7 +153,7 @@ events (wait ∷ e ∷ signal ∷ f ∷ []) =
     then Some (record { form = byte; word = e } ∷ record { form = byte; word = f } ∷ []) else None
 events _ = None
 
--- a word of a form, and then `to LIST [wait E] [signal E]`
+-- a word of a form, and then `to LIST [wait E] [signal E]`; `None` for any other words
 abbrev pub one_to_list_and_events : Form → List (List ℕ) → Option (List Operand)
 one_to_list_and_events form (src ∷ to ∷ dst ∷ more) =
     if bytes_eq to (codes "to")
@@ -189,7 +191,7 @@ three_numbers (a ∷ b ∷ c ∷ []) =
     Some (record { form = number; word = a } ∷ record { form = number; word = b } ∷ record { form = number; word = c } ∷ [])
 three_numbers _ = None
 
--- the words behind each command of a run script
+-- the words after each command of a run script
 abbrev pub operands_of : Keyword → List (List ℕ) → Option (List Operand)
 operands_of keywords.Memory words = two size channels words
 operands_of keywords.Write words = address_and_bytes words
@@ -210,18 +212,19 @@ operands_of keywords.Raise words = one byte words
 operands_of keywords.Checkpoint words = bare words
 operands_of keywords.Totals words = bare words
 
--- ---- what each kind of script asks
+-- ---- what each kind of script requires
 
--- the first word is no command that may stand there
+-- the requirements of a line whose first word is not a command: `command` fails
 abbrev pub no_command : Asked
 no_command = record { command = false; first = true; operands = None; in_range = true }
 
--- the memory line
+-- whether a keyword begins a memory line
 abbrev pub is_memory : Keyword → Bool
 is_memory keywords.Memory = true
 is_memory _ = false
 
--- a line with this command, behind a memory line or not: the first line is the memory line, and no other is
+-- what a run script requires of a line with this command, after a memory line or not: the first line is the memory
+-- line, and no other is
 abbrev pub run_asked : Bool → Keyword → List (List ℕ) → Asked
 run_asked behind keyword words =
     record {
@@ -231,29 +234,30 @@ run_asked behind keyword words =
       in_range = true;
     }
 
--- what a run script asks, behind its memory line or not
+-- what a run script requires of a line, after its memory line or not
 abbrev pub run_asks : Bool → List (List ℕ) → Asked
 run_asks behind [] = no_command
 run_asks behind (word ∷ words) = elim (keyword_of word) [ None ↦ no_command | Some keyword ↦ run_asked behind keyword words ]
 
--- what a plan script asks, whose lines have no command: one line and no more
+-- what a plan script requires of a line, after its first line or not: it has only one line, which has no command
 abbrev pub plan_asks : Bool → List (List ℕ) → Asked
 plan_asks behind words =
     record { command = true; first = true; operands = if behind then None else transfer words; in_range = true }
 
--- FIRST is at most LAST, and LAST at most 7
+-- whether FIRST is at most LAST, and LAST at most 7; true if there are not three words
 abbrev pub job_in_range : List (List ℕ) → Bool
 job_in_range (first ∷ last ∷ turns ∷ []) = nat_le (number_or_zero first) (number_or_zero last) && nat_le (number_or_zero last) 7
 job_in_range _ = true
 
--- how far a race script is: behind its memory line, behind `go`, and behind so many jobs
+-- the position in a race script: whether it is after the memory line, whether it is after `go`, and the number of jobs
+-- before
 pub record RaceSide : Type 0 where
   pub behind : Bool
   pub after_go : Bool
   pub jobs : ℕ
 
--- a line with this command on its side of `go`: before it the lines that may stand there, jobs and `go` itself; after it all
--- lines of a run script. Each stands behind the memory line.
+-- what a race script requires of a line with this command. Before `go`, the commands are those of lines allowed there,
+-- `job` and `go`; after it, those of a run script. The first line is the memory line, and no other is.
 abbrev pub race_asked : RaceSide → RaceKeyword → List (List ℕ) → Asked
 race_asked side (race_keywords.Line keyword) words =
     record (run_asked (side.behind || side.after_go) keyword words) { command = side.after_go || is_early keyword }
@@ -267,26 +271,26 @@ race_asked side race_keywords.Job words =
 race_asked side race_keywords.Go words =
     record { command = not side.after_go; first = side.behind; operands = bare words; in_range = true }
 
--- what a race script asks
+-- what a race script requires of a line
 abbrev pub race_asks : RaceSide → List (List ℕ) → Asked
 race_asks side [] = no_command
 race_asks side (word ∷ words) =
     elim (race_keyword_of word) [ None ↦ no_command | Some keyword ↦ race_asked side keyword words ]
 
--- how far a race script is, of which so much was read
+-- the position in a race script after what was read
 abbrev pub side_of : RaceRead → RaceSide
 side_of read =
     record { behind = is_some read.before || is_some read.after; after_go = is_some read.after; jobs = length read.jobs }
 
 -- ---- the law
 
--- the cause that a reading tells, and none where it has read
+-- the cause of a result, or none if it is `Ok`
 abbrev pub cause_told : {A : Type 0} → Result A Cause → Option Cause
 cause_told (Ok read) = None
 cause_told (Err cause) = Some cause
 
--- Each reader tells of each line, behind whatever it has read, the first cause of the table that holds, and reads it exactly
--- where none holds.
+-- Each reader, whatever it has read before, reports for each line the first cause of the table that applies, and reads
+-- the line exactly if none applies.
 pub record FirstCausesAreTold : Type 0 where
   pub run : (read : Option RunScript) (line : List ℕ)
       → cause_told (after_line run_step read line) ≡ line_told (run_asks (is_some read)) line
@@ -297,47 +301,47 @@ pub record FirstCausesAreTold : Type 0 where
 
 -- ---- a whole script
 
--- a line that is not skipped
+-- whether a line is not skipped
 abbrev pub is_taken : List ℕ → Bool
 is_taken line = not (is_skipped (words_of line))
 
--- The first fault of some lines behind n others, given what is told of a line and what a line leaves of how far the script
--- is.
+-- The first fault of the lines that follow line n, given the cause of a line at a position in the script, and the
+-- position after a line.
 abbrev pub first_fault : {S : Type 0} → (S → List ℕ → Option Cause) → (S → List ℕ → S) → S → ℕ → List (List ℕ) → Option Fault
 first_fault test after side n [] = None
 first_fault test after side n (line ∷ rest) =
     option_or (option_map (λ cause. record { line = n + 1; cause = cause }) (test side line))
     (first_fault test after (after side line) (n + 1) rest)
 
--- a script is behind its first line from the first line on that is not skipped
+-- whether a script is after its first line that is not skipped, once one more line was read
 abbrev pub behind_after : Bool → List ℕ → Bool
 behind_after behind line = behind || is_taken line
 
--- the fault of a script without a line
+-- the fault of a script whose lines are all skipped: `First` in line 0
 abbrev pub no_line_fault : List ℕ → Option Fault
 no_line_fault input = if list_any is_taken (lines input) then None else Some (record { line = 0; cause = causes.First })
 
--- the fault that reading a script tells, and none where it is read
+-- the fault of a result, or none if it is `Ok`
 abbrev pub fault_told : {A : Type 0} → Result A Fault → Option Fault
 fault_told (Ok script) = None
 fault_told (Err fault) = Some fault
 
--- the command of a line's words, where they begin with one
+-- the command that the first of a line's words spells
 abbrev pub race_command_of : List (List ℕ) → Option RaceKeyword
 race_command_of [] = None
 race_command_of (word ∷ words) = race_keyword_of word
 
--- `go`
+-- whether a command is `go`
 abbrev pub is_go : Option RaceKeyword → Bool
 is_go (Some race_keywords.Go) = true
 is_go _ = false
 
--- `job`
+-- whether a command is `job`
 abbrev pub is_job : Option RaceKeyword → Bool
 is_job (Some race_keywords.Job) = true
 is_job _ = false
 
--- how far a race script is after a line that is taken, by its command
+-- the position in a race script after a line that is not skipped, by its command
 abbrev pub after_command : RaceSide → Option RaceKeyword → RaceSide
 after_command side command =
     record {
@@ -346,22 +350,22 @@ after_command side command =
       jobs = if is_job command then side.jobs + 1 else side.jobs;
     }
 
--- how far a race script is after a line
+-- the position in a race script after a line
 abbrev pub race_after : RaceSide → List ℕ → RaceSide
 race_after side line = if is_taken line then after_command side (race_command_of (words_of line)) else side
 
--- how far a race script is before its first line
+-- the position in a race script before its first line
 abbrev pub at_start : RaceSide
 at_start = record { behind = false; after_go = false; jobs = 0 }
 
--- the fault of a race script without `go`
+-- the fault of a race script without `go`: `Go` in line 0
 abbrev pub no_go_fault : List ℕ → Option Fault
 no_go_fault input =
     if list_any (λ line. is_taken line && is_go (race_command_of (words_of line))) (lines input) then None
     else Some (record { line = 0; cause = causes.Go })
 
--- Of a whole script the fault of the first faulty line is told; where there is none, that there is no line, and of a race
--- script then that there is no `go`.
+-- Each reader reports for a whole script the fault of the first faulty line. If no line has a fault, it reports that
+-- there is no line, or else, for a race script, that there is no `go`.
 pub record FirstFaultsAreTold : Type 0 where
   pub run : (input : List ℕ) → fault_told (run_script_of input)
       ≡ option_or (first_fault (λ behind line. line_told (run_asks behind) line) behind_after false 0 (lines input))

@@ -2,13 +2,13 @@
 use Rattle.std.specs.Prelude.{◌≡◌, ◌<◌, ◌≤◌, ◌⊎◌, ℕ, List, [], ◌∷◌, ◌++◌, flat_map, take, length, codes, nat_lt, if◌then◌else◌, Option, IfSome}
 use Rattle.std.specs.Io.KnownBytes.{Appends}
 
--- What a command prints: for each input line the lines that it prints, without their line feeds, and the exit status.
--- A command that prints all or nothing has one group, be it empty.
+-- What a command prints: for each input line the lines that it prints, without their line feeds, and the exit status. A
+-- command that prints all or nothing has one group, maybe an empty one.
 pub record Printed : Type 0 where
   pub groups : List (List (List ℕ))
   pub status : ℕ
 
--- each line with its line feed
+-- the text of lines, with a line feed after each
 abbrev pub text_of : List (List ℕ) → List ℕ
 text_of lines = flat_map (λ line. line ++ 10 ∷ []) lines
 
@@ -16,26 +16,27 @@ text_of lines = flat_map (λ line. line ++ 10 ∷ []) lines
 abbrev pub printed_text : List (List (List ℕ)) → List ℕ
 printed_text groups = flat_map text_of groups
 
--- the longest input that is carried out, in bytes (profile)
+-- the length of the longest input that is accepted, in bytes (profile)
 abbrev pub longest_input : ℕ
 longest_input = 4194304
 
--- one line, and status 1
+-- the output of one line and status 1
 abbrev pub refusal : List ℕ → Printed
 refusal line = record { groups = (line ∷ []) ∷ []; status = 1 }
 
--- What is printed for an input of any length, given what is printed for one that is not too long (profile).
+-- What is printed for an input of any length, given what is printed for one that is not too long (profile). For an
+-- input that is too long it is the line `line 0: InputTooLong`, with status 1.
 abbrev pub printed_within : (List ℕ → Printed) → List ℕ → Printed
 printed_within printed input =
     if nat_lt longest_input (length input) then refusal (codes "line 0: InputTooLong") else printed input
 
--- the new bytes are the old ones and then the text of the first groups, at least one group being left out
+-- The new bytes are the old ones and then the text of the first groups, with at least one group missing.
 pub record AppendsGroups (groups : List (List (List ℕ))) (old new : List ℕ) : Type 0 where
   pub count : ℕ
   pub some_left : count < length groups
   pub whole : new ≡ old ++ printed_text (take count groups)
 
--- What a stream tells of its failures: that a call of it had failed before, and that one has failed by now.
+-- The failures of a stream: whether a call of it had failed before, and whether one has failed by now.
 pub record Failures : Type 1 where
   pub before : Type 0
   pub after : Type 0
@@ -44,14 +45,15 @@ pub record Failures : Type 1 where
 abbrev pub failures : {S : Type 0} → (S → Type 0) → S → S → Failures
 failures has_failed old new = record { before = has_failed old; after = has_failed new }
 
--- No call of the stream failed meanwhile.
+-- No call of the stream failed in between: if one has failed by now, one had failed before.
 abbrev pub Unfailed : Failures → Type 0
 Unfailed stream = stream.after → stream.before
 
--- How a call of a command ends (profile). old and new are the bytes that the writer held before and holds now, where they
--- are known. Either all is printed; or memory was refused, and exactly the first groups stand there; or the reader failed,
--- and one line says so; or the writer failed. Where no stream is named, no call of a stream failed: a failure is never
--- tried again and hidden.
+-- How a call of a command ends (profile). `old` and `new` are the bytes that the writer held before and holds now, if
+-- they are known. `complete`: the whole output was printed, with its status. `out_of_memory`: exactly the first groups
+-- were printed, with at least one group missing, and the status is 3. `input_fault`: a read has failed, the line
+-- `input failed` was printed, and the status is 1. `output_fault`: a write has failed, and the status is 1. In the
+-- first two no call of a stream failed, and in the third no call of the writer: a failure is never retried and hidden.
 pub data Ends (reader writer : Failures) (printed : Printed) (old new : Option (List ℕ)) (status : ℕ) : Type 0 where
   complete : Unfailed reader → Unfailed writer → Appends old new (printed_text printed.groups) → status ≡ printed.status
       → Ends reader writer printed old new status
@@ -61,12 +63,15 @@ pub data Ends (reader writer : Failures) (printed : Printed) (old new : Option (
       → Ends reader writer printed old new status
   output_fault : writer.after → status ≡ 1 → Ends reader writer printed old new status
 
--- How a text was written, and the status that came of it.
+-- The text was written, no write failed, and the exit status is `status`; or a write has failed, and it is 1.
 abbrev pub Wrote : Failures → Option (List ℕ) → Option (List ℕ) → List ℕ → ℕ → ℕ → Type 0
 Wrote writer old new text status result =
     ((result ≡ status) × Appends old new text × Unfailed writer) ⊎ ((result ≡ 1) × writer.after)
 
--- How a call ends that has no input to carry out.
+-- How a call ends that has no input to run. `reader_failed`: a read has failed, and `Wrote` holds for the line
+-- `input failed` and status 1. `too_long`: the input, if it is known, is longer than `longest_input`, no read failed,
+-- and `Wrote` holds for the line `line 0: InputTooLong` and status 1. `no_memory`: no call of a stream failed, nothing
+-- was written, and the status is 3.
 pub data EndsUnread
     (input : Option (List ℕ)) (reader writer : Failures) (old new : Option (List ℕ)) (status : ℕ) : Type 0 where
   reader_failed : reader.after → Wrote writer old new (text_of (codes "input failed" ∷ [])) 1 status
@@ -76,28 +81,28 @@ pub data EndsUnread
       → EndsUnread input reader writer old new status
   no_memory : Unfailed reader → Unfailed writer → new ≡ old → status ≡ 3 → EndsUnread input reader writer old new status
 
--- ---- where the input alone doesn't settle what is printed
+-- ---- where the output is not a function of the input
 
--- What may be printed for an input of any length, given what may be for one that is not too long (profile).
+-- What may be printed for an input of any length, given what may be printed for one that is not too long (profile).
 abbrev pub may_print_within : (List ℕ → Printed → Type 0) → List ℕ → Printed → Type 0
 may_print_within may input printed =
     ((longest_input < length input) × (printed ≡ refusal (codes "line 0: InputTooLong")))
     ⊎ ((length input ≤ longest_input) × may input printed)
 
--- All of something that may be printed was appended, with its status.
+-- The whole text of an output that may be printed was appended, and the status is that of this output.
 pub record MayComplete (may : Printed → Type 0) (status : ℕ) (old new : List ℕ) : Type 0 where
   pub printed : Printed
   pub allowed : may printed
   pub ends : status ≡ printed.status
   pub whole : new ≡ old ++ printed_text printed.groups
 
--- The first groups of something that may be printed were appended, at least one group being left out.
+-- The text of the first groups of an output that may be printed was appended, with at least one group missing.
 pub record MayAppend (may : Printed → Type 0) (old new : List ℕ) : Type 0 where
   pub printed : Printed
   pub allowed : may printed
   pub first : AppendsGroups printed.groups old new
 
--- The call ends as one of a command that prints something that may be printed.
+-- The call ends as `Ends` says for an output that may be printed.
 pub record MayEnd (reader writer : Failures) (may : Printed → Type 0) (old new : Option (List ℕ)) (status : ℕ) : Type 0 where
   pub printed : Printed
   pub allowed : may printed

@@ -17,7 +17,7 @@ use Rattle.dma_script.specs.declared.plan.TransferNumbers.{TransferNumbers}
 use Rattle.dma_script.specs.declared.plan.TransferLine.{TransferLine}
 use Rattle.dma_script.specs.declared.plan.PlanLine.{PlanLine}
 
--- the words of a transfer: whether it is a fill, its source and its list, and its events where there are any
+-- the words of a transfer: whether it is a fill, its source, its destination list, and its optional events
 pub record WordsOfTransfer : Type 0 where
   pub fill : Bool
   pub src : List ℕ
@@ -25,7 +25,7 @@ pub record WordsOfTransfer : Type 0 where
   pub wait : Option (List ℕ)
   pub signal : Option (List ℕ)
 
--- whether the word of a source has to spell a fill's address
+-- whether the word of a source is the address of a fill
 abbrev pub is_place : OriginWord → Bool
 is_place (origin_words.List word) = false
 is_place (origin_words.Place word) = true
@@ -45,24 +45,25 @@ seen_words words = record {
   signal = option_map (λ word. word.now) words.signal;
 }
 
--- the word after a fixed one, where that stands first, and the words that follow
+-- the second word and the words after it, if the first of two or more words is `fixed`; else `None` and all words
 abbrev pub after_fixed : List ℕ → List (List ℕ) → Option (List ℕ) × List (List ℕ)
 after_fixed fixed (a ∷ b ∷ rest) = if bytes_eq a fixed then (Some b, rest) else (None, a ∷ b ∷ rest)
 after_fixed fixed words = (None, words)
 
--- `[wait E] [signal E]`: the words of the two events, and no word more
+-- the words of the events in `[wait E] [signal E]`; `Words` for any other words
 abbrev pub events_of : List (List ℕ) → Result (Option (List ℕ) × Option (List ℕ)) Cause
 events_of words =
     let wait = after_fixed (codes "wait") words in
     let signal = after_fixed (codes "signal") wait.1 in
     if length signal.1 == 0 then Ok (wait.0, signal.0) else Err causes.Words
 
--- whether a transfer is a fill, and the words that follow
+-- whether the first word is `fill`, and the words after it, or all words if it is not
 abbrev pub after_fill : List (List ℕ) → Bool × List (List ℕ)
 after_fill (a ∷ rest) = if bytes_eq a (codes "fill") then (true, rest) else (false, a ∷ rest)
 after_fill [] = (false, [])
 
--- the words of a transfer that is a fill or not: its source, `to LIST [wait E] [signal E]`
+-- the words of a transfer, given whether it is a fill: its source, then `to LIST [wait E] [signal E]`; `Words` for any
+-- other words
 abbrev pub words_after : Bool → List (List ℕ) → Result WordsOfTransfer Cause
 words_after fill (src ∷ to ∷ dst ∷ more) = do
   fixed ← where_holds (bytes_eq to (codes "to")) causes.Words
@@ -70,11 +71,12 @@ words_after fill (src ∷ to ∷ dst ∷ more) = do
   Ok (record { fill = fill; src = src; dst = dst; wait = events.0; signal = events.1 })
 words_after fill words = Err causes.Words
 
--- `LIST to LIST [wait E] [signal E]` or `fill ADDR to LIST [wait E] [signal E]`, of which the words are counted
+-- the words of `LIST to LIST [wait E] [signal E]` or `fill ADDR to LIST [wait E] [signal E]`; `Words` if one is
+-- missing, one is too many, or a fixed one is wrong
 abbrev pub transfer_words : List (List ℕ) → Result WordsOfTransfer Cause
 transfer_words words = let rest = after_fill words in words_after rest.0 rest.1
 
--- the source that a word spells: of a fill an address, else a list
+-- the source that a word spells: an address for a fill, else a list; `Number` for any other word
 abbrev pub source_at : Bool → List ℕ → Result Origin Cause
 source_at true word = do
   addr ← number_at word
@@ -83,7 +85,7 @@ source_at false word = do
   list ← list_at word
   Ok (origins.List list)
 
--- the segments and numbers that the words spell
+-- the segments and numbers that the words spell; `Number` if one of them spells none
 abbrev pub transfer_numbers : WordsOfTransfer → Result TransferNumbers Cause
 transfer_numbers words = do
   src ← source_at words.fill words.src
@@ -92,28 +94,29 @@ transfer_numbers words = do
   signal ← number_where words.signal
   Ok (record { src = src; dst = dst; wait = wait; signal = signal })
 
--- the transfer, where the numbers of its events are in their range
+-- the transfer; `Range` if the number of an event is above 255
 abbrev pub transfer_of : TransferNumbers → Result TransferLine Cause
 transfer_of numbers = do
   wait ← byte_where numbers.wait
   signal ← byte_where numbers.signal
   Ok (record { src = numbers.src; dst = numbers.dst; wait = wait; signal = signal })
 
--- `LIST to LIST [wait E] [signal E]` or `fill ADDR to LIST [wait E] [signal E]`
+-- the transfer of a line `LIST to LIST [wait E] [signal E]` or `fill ADDR to LIST [wait E] [signal E]`
 abbrev pub transfer_line : List (List ℕ) → Result TransferLine Cause
 transfer_line words = do
   parts ← transfer_words words
   numbers ← transfer_numbers parts
   transfer_of numbers
 
--- The next line of a plan script, which has one line and no more.
+-- The next line of a plan script, which has only one: a second line fails with `Words`.
 abbrev pub plan_step : Option TransferLine → List (List ℕ) → Result (Option TransferLine) Cause
 plan_step None words = do
   line ← transfer_line words
   Ok (Some line)
 plan_step (Some line) words = Err causes.Words
 
--- What a whole plan script says, with the number of its line, or its first fault. A script with no line has no first line.
+-- A whole plan script, with the number of its line, or its first fault. A script without a line fails with `First` in
+-- line 0.
 abbrev pub plan_of : List ℕ → Result PlanLine Fault
 plan_of input = do
   read ← after_script plan_step None input

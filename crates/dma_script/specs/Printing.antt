@@ -20,7 +20,7 @@ cause_name SizeOutOfRange = codes "SizeOutOfRange"
 cause_name BadChannels = codes "BadChannels"
 cause_name Go = codes "Go"
 
--- the line that a fault of a script prints
+-- the printed line of a fault of a script
 abbrev pub fault_line : Fault → List ℕ
 fault_line fault = concat (codes "line " ∷ decimal fault.line ∷ codes ": " ∷ cause_name fault.cause ∷ [])
 
@@ -32,7 +32,7 @@ hex_byte_of b = hex_pair b
 abbrev pub spaced_bytes : List ℕ → List ℕ
 spaced_bytes bytes = flat_map (λ b. 32 ∷ hex_byte_of b) bytes
 
--- an address in eight digits
+-- an address in eight hexadecimal digits
 abbrev pub hex_address : ℕ → List ℕ
 hex_address addr = hex_digits addr
 
@@ -40,7 +40,7 @@ hex_address addr = hex_digits addr
 abbrev pub row_at : List ℕ → ℕ → List ℕ
 row_at bytes row = take 16 (drop (16 * row) bytes)
 
--- the rows of the bytes, the last one shorter where they are no multiple of sixteen; no row for no bytes
+-- the rows of the bytes: the last one is shorter if their number is not a multiple of sixteen, and no bytes have no row
 abbrev pub rows : List ℕ → List (List ℕ)
 rows bytes = map (row_at bytes) (range_with_len 0 ((length bytes + 15) / 16))
 
@@ -48,6 +48,6 @@ rows bytes = map (row_at bytes) (range_with_len 0 ((length bytes + 15) / 16))
 abbrev pub row_line : List ℕ → List ℕ
 row_line row = drop 1 (spaced_bytes row)
 
--- the lines that a program prints
+-- the printed lines of a program
 abbrev pub program_lines : List ℕ → List (List ℕ)
 program_lines bytes = map row_line (rows bytes)

@@ -1,5 +1,5 @@
--- The lines of a race script (profile): those before `go`, with jobs among them, and those after it. A line is tested for
--- its side of `go` before it is tested for being the first.
+-- The lines of a race script (profile): those before `go`, with jobs among them, and those after it. The test for the
+-- side of `go` comes before the test for the first line.
 use Rattle.std.specs.Prelude.{ℕ, ◌≤◌, ◌&&◌, Bool, true, false, nat_le, nat_lt, if◌then◌else◌, List, [], ◌∷◌, ◌++◌, length, Option, Some, None, IfSome, Result, Ok, Err, codes}
 use Rattle.std.specs.List.{All}
 use Rattle.std.specs.Option.{ok_or, option_map}
@@ -20,13 +20,13 @@ use Rattle.dma_script.specs.declared.race.RaceKeyword.{RaceKeyword}
 use Rattle.dma_script.specs.declared.race.RaceKeyword.TheVariants.{Line, Job, Go}
 use Rattle.dma_script.specs.declared.race.RaceScript.{RaceScript}
 
--- the word that begins a line: `job`, `go`, or one that a run script has too
+-- the command that a word spells: `job`, `go`, or a command of a run script
 abbrev pub race_keyword_of : List ℕ → Option RaceKeyword
 race_keyword_of word =
     if bytes_eq word (codes "job") then Some Job else (
     if bytes_eq word (codes "go") then Some Go else option_map (λ keyword. Line keyword) (keyword_of word))
 
--- which lines of a run script may stand before `go`
+-- whether a line of a run script is allowed before `go`
 abbrev pub is_early : Keyword → Bool
 is_early Memory = true
 is_early Write = true
@@ -38,7 +38,7 @@ is_early Status = true
 is_early Outcome = true
 is_early _ = false
 
--- `job FIRST LAST TURNS`: the channels from the first to the last, which is at most 7
+-- the job of the words after `job`, `FIRST LAST TURNS`; `Range` if FIRST is above LAST, or LAST above 7
 abbrev pub job_line : List (List ℕ) → Result JobLine Cause
 job_line words = do
   w ← three_of words
@@ -48,8 +48,8 @@ job_line words = do
   in_range ← where_holds (nat_le first last && nat_le last 7) causes.Range
   Ok (record { first = first; last = last; turns = turns })
 
--- What was read of a race script so far: the memory line with the lines before `go`, the jobs, and the lines after `go` once
--- that was read.
+-- The part of a race script that was read so far: the memory line with the lines before `go`, the jobs, and, once `go`
+-- was read, the lines after it.
 pub record RaceRead : Type 0 where
   pub before : Option RunScript
   pub jobs : List JobLine
@@ -59,18 +59,18 @@ pub record RaceRead : Type 0 where
 abbrev pub nothing_read : RaceRead
 nothing_read = record { before = None; jobs = []; after = None }
 
--- only the first line is the memory line, and there is one
+-- succeeds if the memory line was read, else fails with `First`
 abbrev pub behind_memory : Option RunScript → Result (Unit {0}) Cause
 behind_memory None = Err causes.First
 behind_memory (Some script) = Ok tt
 
--- before `go`: a line that a run script has too, where it may stand there
+-- before `go`: a line of a run script, or `Command` if it is not allowed there
 abbrev pub early_line : RaceRead → Keyword → List (List ℕ) → Result RaceRead Cause
 early_line read keyword words = if is_early keyword then (do
   before ← next_line read.before keyword words
   Ok (record read { before = before })) else Err causes.Command
 
--- before `go`: a job, of which there are at most sixteen
+-- before `go` and after the memory line: a job, or `Range` if there are sixteen already
 abbrev pub job_taken : RaceRead → List (List ℕ) → Result RaceRead Cause
 job_taken read words = do
   behind ← behind_memory read.before
@@ -78,7 +78,7 @@ job_taken read words = do
   few ← where_holds (nat_lt (length read.jobs) 16) causes.Range
   Ok (record read { jobs = read.jobs ++ job ∷ [] })
 
--- `go` itself, which begins the lines after it
+-- `go`, after the memory line and without further words: the list of the lines after it is empty
 abbrev pub go_taken : RaceRead → List (List ℕ) → Result RaceRead Cause
 go_taken read words = do
   behind ← behind_memory read.before
@@ -91,13 +91,14 @@ line_before_go read (Line keyword) words = early_line read keyword words
 line_before_go read Job words = job_taken read words
 line_before_go read Go words = go_taken read words
 
--- a line after `go`: any later line of a run script
+-- a line after `go`: any line of a run script after its first; `Command` for `job` and `go`
 abbrev pub line_after_go : RaceKeyword → List (List ℕ) → Result Statement Cause
 line_after_go (Line keyword) words = later_line keyword words
 line_after_go Job words = Err causes.Command
 line_after_go Go words = Err causes.Command
 
--- a line on its side of `go`, with the lines after `go` so far
+-- the next line, given the lines after `go` so far: without such a list a line before `go`, or `go`; else a line after
+-- `go`
 abbrev pub line_beside_go : Option (List Statement) → RaceRead → RaceKeyword → List (List ℕ) → Result RaceRead Cause
 line_beside_go None read keyword words = line_before_go read keyword words
 line_beside_go (Some after) read keyword words = do
@@ -108,15 +109,15 @@ line_beside_go (Some after) read keyword words = do
 abbrev pub next_race_line : RaceRead → RaceKeyword → List (List ℕ) → Result RaceRead Cause
 next_race_line read keyword words = line_beside_go read.after read keyword words
 
--- the next line by its words
+-- the next line of a race script, by its words
 abbrev pub race_step : RaceRead → List (List ℕ) → Result RaceRead Cause
 race_step read [] = Err causes.Command
 race_step read (word ∷ words) = do
   keyword ← ok_or (race_keyword_of word) causes.Command
   next_race_line read keyword words
 
--- What a whole race script says, or its first fault. A script with no line has no first line; that there is no `go` is told
--- after the faults of all lines.
+-- A whole race script, or its first fault. If no line has a fault, a script without a line fails with `First` in line
+-- 0, and one without `go` with `Go` in line 0.
 abbrev pub race_script_of : List ℕ → Result RaceScript Fault
 race_script_of input = do
   read ← after_script race_step nothing_read input
@@ -124,11 +125,11 @@ race_script_of input = do
   after ← ok_or read.after (record { line = 0; cause = causes.Go })
   Ok (record { before = before; jobs = read.jobs; after = after })
 
--- a job's channels, the first at most the last, and that at most 7
+-- A job is in range: its first channel is at most its last, and that at most 7.
 abbrev pub IsJob : JobLine → Type 0
 IsJob job = (job.first ≤ job.last) × (job.last ≤ 7)
 
--- a line that may stand before `go`
+-- a statement that is allowed before `go`
 abbrev pub IsEarly : Statement → Type 0
 IsEarly (statements.Write addr bytes) = Unit {0}
 IsEarly (statements.Read segment) = Unit {0}
@@ -139,13 +140,15 @@ IsEarly (statements.Status ch cookie) = Unit {0}
 IsEarly (statements.Result ch cookie) = Unit {0}
 IsEarly _ = ⊥
 
--- What is known of what was read so far.
+-- The invariant of what was read so far: each statement read before `go` is allowed there, each job is in range, and
+-- there are at most 16 jobs.
 pub record IsRead (read : RaceRead) : Type 0 where
   pub early : IfSome read.before (λ script. All IsEarly script.statements)
   pub jobs : All IsJob read.jobs
   pub few : length read.jobs ≤ 16
 
--- What is known of a race script that was read.
+-- What holds of a race script that was read: its memory line is in range, each statement before `go` is allowed there,
+-- each job is in range, and there are at most 16 jobs.
 pub record IsRace (script : RaceScript) : Type 0 where
   pub memory : IsWithin script.before
   pub early : All IsEarly script.before.statements

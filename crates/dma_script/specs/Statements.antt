@@ -1,5 +1,5 @@
--- The lines of a run script (profile). Of a line, all words are counted before any is read, and all are read, from the left,
--- before any is tested against a range.
+-- The lines of a run script (profile). Of a line, all words are counted before any is read, and all are read, from the
+-- left, before any is tested against a range.
 use Rattle.std.specs.Prelude.{ℕ, ◌&&◌, nat_le, ◌≤◌, if◌then◌else◌, List, [], ◌∷◌, ◌++◌, Option, Some, None, Result, Ok, Err, codes}
 use Rattle.std.specs.Option.{ok_or}
 use Rattle.std.specs.Str.{bytes_eq}
@@ -17,7 +17,7 @@ use Rattle.dma_script.specs.declared.statements.Statement.{Statement}
 use Rattle.dma_script.specs.declared.statements.Statement.TheVariants as statements
 use Rattle.dma_script.specs.declared.statements.RunScript.{RunScript}
 
--- the word that begins a line
+-- the command that a word spells
 abbrev pub keyword_of : List ℕ → Option Keyword
 keyword_of word =
     if bytes_eq word (codes "memory") then Some keywords.Memory else (
@@ -97,7 +97,7 @@ submit_line words = do
   transfer ← transfer_of numbers
   Ok (statements.Submit ch transfer)
 
--- the count of a step line: 1 to 1,000,000, and 1 where it is left out
+-- the number of steps of a step line: 1 if it has none; `Range` if it is not 1 to 1,000,000
 abbrev pub count_of : Option ℕ → Result ℕ Cause
 count_of None = Ok 1
 count_of (Some n) = if nat_le 1 n && nat_le n 1000000 then Ok n else Err causes.Range
@@ -133,7 +133,7 @@ result_line words = do
   w ← channel_and_cookie words
   Ok (statements.Result w.0 w.1)
 
--- what a mark makes fail
+-- the kind of a mark: loads fail at a `read` mark, stores at a `write` mark
 abbrev pub mark_kind_of : List ℕ → Option MarkKind
 mark_kind_of word =
     if bytes_eq word (codes "read") then Some Reading else
@@ -147,18 +147,18 @@ mark_line words = do
   segment ← segment_at w.1
   Ok (statements.Mark kind segment)
 
--- The first line, by its keyword and the words after that: it is the memory line.
+-- The first line, by its keyword and the words after it: the memory line, or `First` for any other.
 abbrev pub first_line : Keyword → List (List ℕ) → Result RunScript Cause
 first_line keywords.Memory words = memory_line words
 first_line _ words = Err causes.First
 
--- a line that is its keyword alone
+-- a line that has no words after its keyword
 abbrev pub bare_line : Statement → List (List ℕ) → Result Statement Cause
 bare_line line words = do
   none ← no_word words
   Ok line
 
--- A later line, by its keyword and the words after that: it is not the memory line.
+-- A line after the first, by its keyword and the words after it: `First` for the memory line.
 abbrev pub later_line : Keyword → List (List ℕ) → Result Statement Cause
 later_line keywords.Memory words = Err causes.First
 later_line keywords.Write words = write_line words
@@ -189,7 +189,7 @@ later_line keywords.Raise words = do
 later_line keywords.Checkpoint words = bare_line statements.Checkpoint words
 later_line keywords.Totals words = bare_line statements.Totals words
 
--- The next line of a run script, of which nothing is read before the memory line.
+-- The next line of a run script: its first line, if nothing was read before, or else a line after that.
 abbrev pub next_line : Option RunScript → Keyword → List (List ℕ) → Result (Option RunScript) Cause
 next_line None keyword words = do
   script ← first_line keyword words
@@ -198,14 +198,14 @@ next_line (Some script) keyword words = do
   statement ← later_line keyword words
   Ok (Some (record script { statements = script.statements ++ statement ∷ [] }))
 
--- the next line by its words
+-- the next line of a run script, by its words
 abbrev pub run_step : Option RunScript → List (List ℕ) → Result (Option RunScript) Cause
 run_step before [] = Err causes.Command
 run_step before (word ∷ words) = do
   keyword ← ok_or (keyword_of word) causes.Command
   next_line before keyword words
 
--- What a whole run script says, or its first fault. A script with no line has no first line.
+-- A whole run script, or its first fault. A script without a line fails with `First` in line 0.
 abbrev pub run_script_of : List ℕ → Result RunScript Fault
 run_script_of input = do
   script ← after_script run_step None input

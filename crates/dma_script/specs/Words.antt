@@ -10,43 +10,43 @@ use Rattle.dma_mem.specs.declared.segment.Segment.{Segment}
 abbrev pub parts_at : ℕ → List ℕ → List (List ℕ)
 parts_at separator bytes = slice_split (λ b. b == separator) bytes
 
--- a space or a tab
+-- whether a byte is a space or a tab
 abbrev pub is_blank : ℕ → Bool
 is_blank b = b == 32 || b == 9
 
--- printable ASCII, a space or a tab
+-- whether a byte is printable ASCII, a space or a tab
 abbrev pub is_plain : ℕ → Bool
 is_plain b = b == 9 || (nat_le 32 b && nat_le b 126)
 
--- what stands between the blanks
+-- the words of a line: the parts between its blanks, without the empty ones
 abbrev pub words_of : List ℕ → List (List ℕ)
 words_of line = filter (λ word. not (length word == 0)) (slice_split is_blank line)
 
--- the number that one or more digits of a base spell, where it is below 2 ^ 32
+-- the number that one or more digits of a base spell, if it is below 2 ^ 32
 abbrev pub number_in : ℕ → List ℕ → Option ℕ
 number_in base digits =
     if not (length digits == 0) && list_all (λ c. nat_lt (digit_value c) base) digits
     && nat_lt (digits_value base digits) (2 ^ 32)
     then Some (digits_value base digits) else None
 
--- 0x and hexadecimal digits in either case, or decimal digits
+-- the number that a word spells: 0x and hexadecimal digits in either case, or decimal digits
 abbrev pub number_of : List ℕ → Option ℕ
 number_of word = if starts_with nat_eq word (codes "0x") then number_in 16 (drop 2 word) else number_in 10 word
 
--- ADDR+LEN: a number before the first plus, and a number after it
+-- the segment that a word `ADDR+LEN` spells: a number before the first plus, and a number after it
 abbrev pub segment_of : List ℕ → Option Segment
 segment_of word =
     option_and_then (λ plus.
     option_and_then (λ addr. option_map (λ len. record { addr = addr; len = len }) (number_of (drop (plus + 1) word)))
     (number_of (take plus word))) (position (λ b. b == 43) word)
 
--- what each part is, where each is something
+-- the values of all items, if each item has one
 abbrev pub each_of : {A : Type 0} → List (Option A) → Option (List A)
 each_of [] = Some []
 each_of (None ∷ rest) = None
 each_of (Some a ∷ rest) = option_map (λ more. a ∷ more) (each_of rest)
 
--- one or more segments with commas between
+-- the segments that a word spells: one or more, with commas between
 abbrev pub list_of : List ℕ → Option (List Segment)
 list_of word = each_of (map segment_of (parts_at 44 word))
 

@@ -1,4 +1,4 @@
--- Definitions by which lines are read, and which no public clause cites.
+-- Definitions about reading lines that no public clause cites.
 pub mod Adding
 pub mod Joining
 pub mod Plain

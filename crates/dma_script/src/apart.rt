@@ -1,10 +1,11 @@
-//! Parts of lines that are kept apart from them.
+//! Parts of lines in memory of their own.
 ghost use Rattle.std.specs.Prelude.{◌≡◌, IfOk};
 
 use std::alloc::{AllocError, Global};
 use std::marker::Model;
 
-/// A part of a line in memory of its own, so that a script of many short lines takes little. Contracts see the part alone.
+/// A part of a line in an allocation of its own, so that a script of many short lines takes little memory. Contracts
+/// see only the part.
 #[derive(Debug, Drop)]
 pub struct Apart<T> {
     part: Box<T>,
@@ -17,7 +18,7 @@ impl<T> Model for Apart<T> {
 }
 
 impl<T: Drop> Apart<T> {
-    /// Puts a part in memory of its own.
+    /// Moves a part into an allocation of its own.
     pub(crate) fn new(alloc: Global, part: T) -> Result<Apart<T>, AllocError>
         ensures { IfOk result (λ a. a ≡ part) }
     {
@@ -25,14 +26,14 @@ impl<T: Drop> Apart<T> {
         Ok(Apart { part })
     }
 
-    /// The part.
+    /// Returns the part.
     pub fn get(&self) -> &T
         ensures { result.now ≡ self.now }
     {
         &self.part
     }
 
-    /// The part, without the memory that it was in.
+    /// Returns the part and frees its allocation.
     pub fn into_inner(self) -> T
         ensures { result ≡ self }
     {

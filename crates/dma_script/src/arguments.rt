@@ -1,4 +1,4 @@
-//! What the words after the first of a line say.
+//! Parses the words after the first of a line.
 ghost use Rattle.std.specs.Prelude.{◌≡◌, ◌==◌, ◌∷◌, [], IfOk, OnErr};
 ghost use Rattle.std.specs.Option.{option_map};
 ghost use Rattle.dma_script.specs.Words.{hex_pair_of, words_of};
@@ -14,7 +14,7 @@ use dma_text::digits::digit_value;
 use std::alloc::{AllocError, Global};
 use std::mem;
 
-/// No word.
+/// Succeeds if the line has no words. Fails with `Words` otherwise.
 pub(crate) fn no_word(line: &[u8]) -> Result<(), Cause>
     ensures { result ≡ no_word (words_of line.now) }
 {
@@ -24,7 +24,7 @@ pub(crate) fn no_word(line: &[u8]) -> Result<(), Cause>
     }
 }
 
-/// A word and what follows it.
+/// Returns the first word and the rest of the line. Fails with `Words` if the line has no words.
 #[inline(always)]
 pub(crate) fn first_and_rest(line: &[u8]) -> Result<(&[u8], &[u8]), Cause>
     ensures given { seen_by (λ w. (w.0.now, words_of w.1.now)) result ≡ first_and_rest (words_of line.now) }
@@ -34,7 +34,7 @@ pub(crate) fn first_and_rest(line: &[u8]) -> Result<(&[u8], &[u8]), Cause>
     next_word(line).ok_or(Cause::Words)
 }
 
-/// One word and no more.
+/// Returns the only word of a line. Fails with `Words` for none, or more than one.
 #[inline(always)]
 pub(crate) fn one_of(line: &[u8]) -> Result<&[u8], Cause>
     ensures { seen_by (λ a. a.now) result ≡ one_of (words_of line.now) }
@@ -44,7 +44,7 @@ pub(crate) fn one_of(line: &[u8]) -> Result<&[u8], Cause>
     Ok(a)
 }
 
-/// Two words and no more.
+/// Returns the only two words of a line. Fails with `Words` for fewer or more.
 pub(crate) fn two_of(line: &[u8]) -> Result<(&[u8], &[u8]), Cause>
     ensures { seen_by (λ w. (w.0.now, w.1.now)) result ≡ two_of (words_of line.now) }
 {
@@ -54,7 +54,7 @@ pub(crate) fn two_of(line: &[u8]) -> Result<(&[u8], &[u8]), Cause>
     Ok((a, b))
 }
 
-/// Three words and no more.
+/// Returns the only three words of a line. Fails with `Words` for fewer or more.
 pub(crate) fn three_of(line: &[u8]) -> Result<(&[u8], &[u8], &[u8]), Cause>
     ensures { seen_by (λ w. (w.0.now, w.1.now, w.2.now)) result ≡ three_of (words_of line.now) }
 {
@@ -67,7 +67,7 @@ pub(crate) fn three_of(line: &[u8]) -> Result<(&[u8], &[u8], &[u8]), Cause>
     }
 }
 
-/// A word, one more where there is one, and no more.
+/// Returns the one or two words of a line. Fails with `Words` for none, or more than two.
 #[inline(always)]
 pub(crate) fn one_or_two(line: &[u8]) -> Result<(&[u8], Option<&[u8]>), Cause>
     ensures { seen_by (λ w. (w.0.now, option_map (λ word. word.now) w.1)) result ≡ one_or_two (words_of line.now) }
@@ -80,7 +80,8 @@ pub(crate) fn one_or_two(line: &[u8]) -> Result<(&[u8], Option<&[u8]>), Cause>
     Ok((a, Some(b)))
 }
 
-/// A word and what follows it, which has one or more words.
+/// Returns the first word and the rest of the line, which has at least one word. Fails with `Words` for fewer than two
+/// words.
 pub(crate) fn one_and_more(line: &[u8]) -> Result<(&[u8], &[u8]), Cause>
     ensures { seen_by (λ w. (w.0.now, words_of w.1.now)) result ≡ one_and_more (words_of line.now) }
 {
@@ -91,7 +92,7 @@ pub(crate) fn one_and_more(line: &[u8]) -> Result<(&[u8], &[u8]), Cause>
     }
 }
 
-/// The number that a word spells.
+/// Returns the number that a word spells. Fails with `Number` for any other word.
 #[inline(always)]
 pub(crate) fn number_at(word: &[u8]) -> Result<u32, Cause>
     ensures { result ≡ number_at word.now }
@@ -99,7 +100,7 @@ pub(crate) fn number_at(word: &[u8]) -> Result<u32, Cause>
     number(word).ok_or(Cause::Number)
 }
 
-/// The number that a word spells, where there is a word.
+/// Returns the number that an optional word spells, or `None` without a word. Fails with `Number` for any other word.
 pub(crate) fn number_where(word: Option<&[u8]>) -> Result<Option<u32>, Cause>
     ensures { result ≡ number_where (option_map (λ word. word.now) word.entry) }
 {
@@ -109,7 +110,7 @@ pub(crate) fn number_where(word: Option<&[u8]>) -> Result<Option<u32>, Cause>
     }
 }
 
-/// A number that is at most 255, as those of channels and events are.
+/// Returns a number, such as that of a channel or an event, as a byte. Fails with `Range` above 255.
 pub(crate) fn byte_of(number: u32) -> Result<u8, Cause>
     ensures { result ≡ byte_of number }
 {
@@ -119,7 +120,7 @@ pub(crate) fn byte_of(number: u32) -> Result<u8, Cause>
     }
 }
 
-/// A number that is at most 255, where there is one.
+/// Returns an optional number as a byte. Fails with `Range` above 255.
 pub(crate) fn byte_where(number: Option<u32>) -> Result<Option<u8>, Cause>
     ensures { result ≡ byte_where number }
 {
@@ -129,7 +130,8 @@ pub(crate) fn byte_where(number: Option<u32>) -> Result<Option<u8>, Cause>
     }
 }
 
-/// A number of at most 255, alone.
+/// Returns the number of at most 255 that is the only word of a line. Fails with `Words`, `Number` or `Range`, in this
+/// order.
 pub(crate) fn byte_alone(line: &[u8]) -> Result<u8, Cause>
     ensures { result ≡ byte_alone (words_of line.now) }
 {
@@ -138,21 +140,21 @@ pub(crate) fn byte_alone(line: &[u8]) -> Result<u8, Cause>
     byte_of(number)
 }
 
-/// The segment that a word spells.
+/// Returns the segment that a word spells. Fails with `Number` for any other word.
 pub(crate) fn segment_at(word: &[u8]) -> Result<Segment, Cause>
     ensures { result ≡ segment_at word.now }
 {
     segment_in(word).ok_or(Cause::Number)
 }
 
-/// What separates the segments of a list.
+/// Returns whether a byte separates the segments of a list.
 fn is_comma(byte: u8) -> bool
     ensures { result ≡ (byte == 44) }
 {
     byte == b','
 }
 
-/// The segments that a word spells.
+/// Returns the segments that a word spells. Fails with `Number` for any other word, or with `NoMemory`.
 pub(crate) fn list_at(alloc: Global, word: &[u8]) -> Result<Segments, LineError>
     ensures { Gives (λ list. list) result (list_at word.now) }
 {
@@ -163,7 +165,7 @@ pub(crate) fn list_at(alloc: Global, word: &[u8]) -> Result<Segments, LineError>
     Ok(list)
 }
 
-/// The byte that two hexadecimal digits spell.
+/// Returns the byte that two hexadecimal digits spell, or `None` if one of them is not a digit.
 pub(crate) fn byte_in(high: u8, low: u8) -> Option<u8>
     ensures { result ≡ hex_pair_of high low }
 {
@@ -201,15 +203,15 @@ fn push_hex(bytes: &mut Vec<u8>, word: &[u8]) -> Result<(), LineError>
     }
 }
 
-/// Reads words of two digits with one blank between two, as most lines have them. Appends their bytes to `empty`, and returns
-/// that list and the rest of the line.
+/// Reads words of two digits with one blank between two, from the front of a line: most lines have only these. Appends
+/// their bytes to `empty`, and returns that list and the rest of the line.
 #[tactic(auto, using(crate::proofs::HexLemmas::bytes_after_pair, crate::proofs::HexLemmas::bytes_after_none, crate::proofs::HexLemmas::bytes_after_end))]
 fn pairs_at(empty: Vec<u8>, line: &[u8]) -> Result<(Vec<u8>, &[u8]), AllocError>
     requires { empty.items ≡ [] }
     ensures { IfOk result (λ read. bytes_after read.0.items (words_of read.1.now) ≡ bytes_at (words_of line.now)) }
 {
     let mut bytes = empty;
-    // Room for as many such words as the line can have, so that no byte asks for memory.
+    // Reserves room for as many such words as the line can have, so that no byte allocates.
     bytes.reserve(line.len() / 3 + 1)?;
     let mut rest = line;
     while let [high, low, blank, after @ ..] = rest {
@@ -231,8 +233,8 @@ fn pairs_at(empty: Vec<u8>, line: &[u8]) -> Result<(Vec<u8>, &[u8]), AllocError>
     Ok((bytes, rest))
 }
 
-/// Returns the joined bytes of a line's words of hexadecimal digits. They are read into `kept` and copied from there: a
-/// caller keeps that list from line to line, so that a short line asks for no memory.
+/// Returns the joined bytes of a line's words of hexadecimal digits. Reads them into `kept` and copies them from there.
+/// The caller passes the same list for each line, so that a short line allocates nothing.
 #[tactic(auto, using(crate::proofs::HexLemmas::bytes_after_last))]
 pub(crate) fn bytes_at(alloc: Global, kept: &mut Vec<u8>, line: &[u8]) -> Result<Bytes, LineError>
     ensures { Gives (λ bytes. bytes) result (bytes_at (words_of line.now)) }

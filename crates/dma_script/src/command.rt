@@ -1,4 +1,4 @@
-//! A command: what it prints for an input, and how it is run over a reader and a writer.
+//! Commands: what one prints for an input, and how it runs on a reader and a writer.
 ghost use Rattle.std.specs.Prelude.{◌≡◌, ◌++◌, ◌+◌, ◌≤◌, ◌<◌, ◌⊎◌, [], List, ℕ, IfErr, IfOk, OnErr, OnOk, IfSome, length, vec_len};
 ghost use Rattle.std.specs.Io.KnownBytes.{Appends};
 ghost use Rattle.std.specs.Thread.{IsSync};
@@ -10,32 +10,32 @@ use std::alloc::{AllocError, Global};
 use std::sync::Wait;
 use std::thread::Threads;
 
-/// The exit status of a call that printed what its input asks for.
+/// The exit status of a call that succeeded.
 pub const SUCCESS: u8 = 0;
 
-/// The exit status where the input has a fault, or a stream failed.
+/// The exit status of a call whose input has a fault, or for which a read or a write failed.
 pub const FAULT: u8 = 1;
 
-/// The exit status where memory was refused.
+/// The exit status of a call that is out of memory.
 pub const OUT_OF_MEMORY: u8 = 3;
 
-/// A command, by what it prints for an input that is not too long.
+/// A command whose output is a function of its input, if that is not too long.
 pub trait Command {
     ghost printed: { List ℕ → Printed };
 
-    /// Appends the printed text, and gives the status. Where memory is refused, exactly the text of the first groups is
-    /// appended, at least one group being left out.
+    /// Appends the printed text and returns the exit status. If it is out of memory, appends exactly the text of the
+    /// first groups, with at least one group missing.
     fn answer(&self, alloc: Global, input: &[u8], out: &mut Vec<u8>) -> Result<u8, AllocError>
         requires { length input.now ≤ longest_input }
         ensures text { OnOk result (out.new.items ≡ out.old.items ++ printed_text (printed input.now).groups) }
         ensures status { IfOk result (λ status. status ≡ (printed input.now).status) }
         ensures refused { OnErr result (AppendsGroups (printed input.now).groups out.old.items out.new.items) };
 
-    // There is a group, be it empty, so that want of memory always leaves one out.
+    // There is at least one group, maybe an empty one, so that one can be missing if the command is out of memory.
     ghost some_group: { (input : List ℕ) → 0 < length (printed input).groups };
 }
 
-/// Writes the text and gives the status, or the status of a fault where a write fails.
+/// Writes the text and returns `status`, or `FAULT` if a write fails.
 fn finish<W: Sink>(writer: &mut W, text: &[u8], status: u8) -> u8
     ensures { ((result ≡ status) × Appends (W.contents writer.old) (W.contents writer.new) text.now
         × (W.has_failed writer.new → W.has_failed writer.old))
@@ -47,7 +47,8 @@ fn finish<W: Sink>(writer: &mut W, text: &[u8], status: u8) -> u8
     }
 }
 
-/// The whole input; or what a call says that has none was written, and the status comes.
+/// Returns the whole input. If it can't be read, writes the line that reports this, except if it is out of memory, and
+/// fails with the exit status.
 fn input_of<R: Source, W: Sink>(
     alloc: Global,
     reader: &mut R,
@@ -70,8 +71,9 @@ fn input_of<R: Source, W: Sink>(
     }
 }
 
-/// Reads all there is, at most one read more than the longest input has bytes, writes what the command prints for it and
-/// nothing else, and gives the exit status. A read or a write that fails is never tried again.
+/// Reads the whole input, writes what the command prints for it and nothing else, and returns the exit status.
+///
+/// Makes at most [`LONGEST_INPUT`] + 1 reads. Never retries a read or a write that failed.
 pub fn serve<C: Command, R: Source, W: Sink>(
     command: &C,
     alloc: Global,
@@ -94,13 +96,13 @@ pub fn serve<C: Command, R: Source, W: Sink>(
     }
 }
 
-/// A command whose text the input alone does not settle: it starts threads, which take their turns in any order.
+/// A command whose text is not a function of its input: it starts threads, which take their turns in any order.
 pub trait OpenCommand {
     // What it may print for an input that is not too long.
     ghost may_print: { List ℕ → Printed → Type 0 };
 
-    /// Appends a text that may be printed, and gives its status. Where memory is refused, exactly the text of the first
-    /// groups of such a text is appended, at least one group being left out.
+    /// Appends a text that may be printed and returns its exit status. If it is out of memory, appends exactly the text
+    /// of the first groups of such a text, with at least one group missing.
     fn answer<H: Threads + Wait + Sync>(
         &self,
         rt: &H,
@@ -113,11 +115,12 @@ pub trait OpenCommand {
         ensures complete { IfOk result (λ status. MayComplete (may_print input.now) status out.old.items out.new.items) }
         ensures refused { OnErr result (MayAppend (may_print input.now) out.old.items out.new.items) };
 
-    // Something may be printed, which has a group, be it empty, so that want of memory always leaves one out.
+    // For each input a text may be printed that has at least one group, maybe an empty one, so that one can be missing
+    // if the command is out of memory.
     ghost some_print: { (input : List ℕ) → MayAppend (may_print input) [] [] };
 }
 
-/// As [`serve`], of a command that may print this or that.
+/// Runs a command whose text is not a function of its input, as [`serve`] runs one whose text is.
 pub fn serve_open<H: Threads + Wait + Sync, C: OpenCommand, R: Source, W: Sink>(
     rt: &H,
     command: &C,

@@ -5,29 +5,29 @@ use std::alloc::{AllocError, AllocFailed};
 use std::error::Error;
 use std::fmt;
 
-/// Why a line is refused (profile), in the order in which the causes are tested: each over all words of the line, from the
-/// left, before the next. `Number` and `Hex` are one stage.
+/// Why a line is refused (profile), in the order in which the causes are tested. Each cause is tested over all words of
+/// the line, from the left, before the next one. `Number` and `Hex` are tested together.
 #[derive(Clone, Copy, Debug, PartialEq, Eq, Drop)]
 pub enum Cause {
-    /// A byte that is not printable ASCII, a space or a tab.
+    /// A byte is not printable ASCII, a space or a tab.
     Byte,
-    /// There is no such line, or not on this side of `go`.
+    /// The first word is not a command, or not one that is allowed on this side of `go`.
     Command,
     /// The first line is not the memory line, or a later one is.
     First,
-    /// A word too few, one too many, or a wrong fixed word.
+    /// A word is missing, one is too many, or a fixed word is wrong.
     Words,
-    /// A word that is no number, no segment or no list in its form, or a number above 4,294,967,295.
+    /// A word is not a number, a segment or a list in the required form, or a number is above 4,294,967,295.
     Number,
-    /// A word that is not an even number of hexadecimal digits.
+    /// A word is not an even number of hexadecimal digits.
     Hex,
-    /// A number outside what its word allows.
+    /// A number is outside its range.
     Range,
-    /// The memory has no byte, or more than it may have.
+    /// The size of the memory is 0 or above the limit.
     SizeOutOfRange,
-    /// There is no channel, or more than there may be.
+    /// The number of channels is 0 or above the limit.
     BadChannels,
-    /// A race script has no `go`, which is told after all lines.
+    /// A race script has no `go`. It is reported only if no line has a fault.
     Go,
 }
 
@@ -58,7 +58,7 @@ impl fmt::Display for Cause {
 /// The first fault of a script.
 #[derive(Clone, Copy, Debug, PartialEq, Eq, Drop)]
 pub struct Fault {
-    /// The number of the line, from 1; 0 where the script has no line, or a race script no `go`.
+    /// The number of the line, from 1; 0 if the script has no line, or a race script has no `go`.
     pub line: usize,
     /// The first cause that the line has.
     pub cause: Cause,
@@ -85,7 +85,7 @@ impl Error for Fault {}
 pub enum LineError {
     /// The line is refused.
     Fault(Cause),
-    /// Memory was refused.
+    /// Out of memory.
     NoMemory,
 }
 
@@ -124,6 +124,6 @@ impl<T: Drop> From<AllocFailed<T>> for LineError {
 pub enum ScriptError {
     /// The script is refused.
     Fault(Fault),
-    /// Memory was refused.
+    /// Out of memory.
     NoMemory,
 }

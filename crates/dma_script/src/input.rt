@@ -1,4 +1,4 @@
-//! Reading a whole input.
+//! Reads a whole input.
 ghost use Rattle.std.specs.Prelude.{◌≡◌, ◌≢◌, ◌<◌, ◌≤◌, ◌+◌, length, Err, IfOk, OnOk, OnErr, IfSome, IsErrOf, vec_len};
 ghost use Rattle.std.specs.Io.KnownBytes.{ReadConsumes};
 ghost use Rattle.std.specs.Io.{ReadsAtMost};
@@ -8,23 +8,23 @@ use std::alloc::Global;
 use std::io;
 use std::io::{Read, Stdin};
 
-/// The longest input that is carried out, in bytes (profile).
+/// The length of the longest input that is accepted, in bytes (profile).
 pub const LONGEST_INPUT: usize = 4_194_304;
 
-/// The bytes asked for by one read.
+/// The most bytes of one read.
 const READ_SIZE: usize = 65_536;
 
-/// A reader that can tell whether a read of it has failed.
+/// A reader whose contract says whether a read of it has failed.
 pub trait Source: Read {
     ghost use Rattle.std.specs.Prelude.{ℕ};
 
-    // A read has failed, now or before. A reader that does not tell may have failed at any time.
+    // A read has failed, now or before. The default always holds: such a reader may have failed at any time.
     ghost has_failed: { Self → Type 0 } = { λ _. Unit {0} };
 
-    // How many reads were made of it, where it counts them.
+    // The number of reads so far, if the reader counts them.
     ghost reads: { Self → ℕ } = { λ _. 0 };
 
-    /// One plain read.
+    /// Reads bytes to the front of `buf` by one plain read, and returns their number.
     fn fetch(&mut self, buf: &mut [u8]) -> io::Result<usize>
         ensures bound { ReadsAtMost result buf.new }
         ensures bytes { ReadConsumes (Self.remaining self.old) (Self.remaining self.new) result buf.new }
@@ -42,26 +42,29 @@ impl Source for &[u8] {
     }
 }
 
-// What standard input gives is not known, so it may have failed at any time.
+// Contracts don't know what standard input returns, so it may have failed at any time.
 impl Source for Stdin {
     fn fetch(&mut self, buf: &mut [u8]) -> io::Result<usize> {
         self.read(buf)
     }
 }
 
-/// Why there is no input.
+/// Why the input was not read.
 #[derive(Clone, Copy, Debug, PartialEq, Eq, Drop)]
 pub enum InputError {
     /// A read failed.
     Failed,
     /// The input has more than `LONGEST_INPUT` bytes.
     TooLong,
-    /// Memory was refused.
+    /// Out of memory.
     NoMemory,
 }
 
-/// Reads to the end by plain reads, at most one more than the longest input has bytes. A read that gives no byte is the
-/// end, and a read fault of any kind is a failing input, told at once: it's the only end with a failed read.
+/// Reads to the end of the input by plain reads, and returns all of its bytes.
+///
+/// A read that returns no byte is the end. Makes at most [`LONGEST_INPUT`] + 1 reads. Fails with `Failed` at the first
+/// read that fails; with `TooLong` for an input of more than [`LONGEST_INPUT`] bytes; or with `NoMemory`. Unless it
+/// fails with `Failed`, no read has failed.
 pub fn read_input<R: Source>(alloc: Global, reader: &mut R) -> Result<Vec<u8>, InputError>
     ensures input { IfOk result (λ v. IfSome (R.remaining reader.old) (λ input. v.items ≡ input)) }
     ensures within { IfOk result (λ v. vec_len v ≤ longest_input) }

@@ -1,30 +1,31 @@
-//! Lines that are carried out one after another, whoever carries them out, and what stands there where memory is refused.
+//! Runs lines one after another with any interpreter, and defines what is printed when a line is out of memory.
 ghost use Rattle.std.specs.Prelude.{◌≡◌, OnErr, OnOk};
 ghost use Rattle.std.specs.List.{All};
 ghost use Rattle.dma_script.specs.Interpreted.{PrintsLine, PrintsLines, StopsAtALine};
 
 use std::alloc::AllocError;
 
-/// What carries out the lines of a script.
+/// An interpreter of the lines of a script.
 pub trait Interpreter {
     ghost use Rattle.std.specs.Prelude.{ℕ, List};
 
     /// A line, as it was read.
     type Line: Drop;
 
-    // Which lines it takes.
+    // Which lines it accepts.
     ghost takes: { Self.Line → Type 0 } = { λ _. Unit {0} };
 
-    // What holds of it between two lines.
+    // Its invariant between two lines.
     ghost is_ready: { Self → Type 0 } = { λ _. Unit {0} };
 
-    // How a line can be carried out: what it finds, the lines that it prints, and what it leaves.
+    // How a line can run: the state before, the line, the lines that it prints, and the state after.
     ghost acts: { Self → Self.Line → List (List ℕ) → Self → Type 0 };
 
-    // That a line was refused memory: what it found, and what it leaves. One that can't tell may be refused at any time.
+    // How a line can be out of memory: the state before, the line, and the state after. The default always holds: such
+    // an interpreter may be out of memory at any time.
     ghost is_refused: { Self → Self.Line → Self → Type 0 } = { λ _ _ _. Unit {0} };
 
-    /// Carries out a line, and appends what it prints or nothing.
+    /// Runs a line and appends what it prints. Appends nothing if it is out of memory.
     fn interpret(&mut self, line: Self::Line, out: &mut Vec<u8>) -> Result<(), AllocError>
         requires taken { takes line }
         requires ready { is_ready self.old }
@@ -34,8 +35,10 @@ pub trait Interpreter {
         ensures err { OnErr result (out.new.items ≡ out.old.items) };
 }
 
-/// Carries out lines one after another, each of which is done with then. Where one is refused memory, what those before it
-/// printed stands there, whole, and no line behind it is tried. So no text is given up, and none without such a refusal.
+/// Runs lines one after another, and drops each after its run.
+///
+/// If a line is out of memory, fails without running the lines after it. The complete text of the lines before it has
+/// been appended, so no printed text is lost, and text is missing only after such a failure.
 pub fn interpret_lines<I: Interpreter>(
     interpreter: &mut I,
     lines: Vec<I::Line>,

@@ -2,13 +2,14 @@
 
 ghost use Rattle.dma_script.specs.Causes.{FirstCausesAreTold, FirstFaultsAreTold};
 
-/// Of a faulty line the first cause is told that holds, each tested over all words of the line before the next.
+/// Law: for a faulty line, each reader reports the first cause that applies. Each cause is tested over all words of the
+/// line before the next one.
 pub fn first_causes_are_told()
     ensures { FirstCausesAreTold }
 {}
 
-/// Of a script the fault of its first faulty line is told; where there is none, that it has no line, or a race script no
-/// `go`.
+/// Law: for a script, each reader reports the fault of the first faulty line. If no line has a fault, it reports that
+/// the script has no line, or that a race script has no `go`.
 pub fn first_faults_are_told()
     ensures { FirstFaultsAreTold }
 {}

@@ -1,4 +1,4 @@
-//! Reading a script line by line, up to its first fault.
+//! Reads a script line by line, up to its first fault.
 ghost use Rattle.std.specs.Prelude.{◌≡◌, true};
 ghost use Rattle.std.specs.List.{list_all};
 ghost use Rattle.dma_script.specs.Lines.{LineGives, ScriptGives, after_line, after_script, first_number, is_skipped};
@@ -8,7 +8,7 @@ use crate::fault::{Cause, Fault, LineError, ScriptError};
 use crate::words::{is_blank, is_plain_line, is_plain_text, split_line};
 use std::alloc::Global;
 
-/// A kind of script, as what was read of it so far.
+/// A kind of script: the part of it that was read so far.
 pub trait Script {
     ghost use Rattle.std.specs.Prelude.{List, ℕ, Result};
     ghost use Rattle.dma_script.specs.declared.fault.Cause.{Cause};
@@ -21,13 +21,13 @@ pub trait Script {
 
     ghost step: { View → List (List ℕ) → Result View Cause };
 
-    /// Takes the words of the next line that is not skipped.
+    /// Reads the words of the next line that is not skipped.
     fn take_line(&mut self, alloc: Global, words: &[u8]) -> Result<(), LineError>
         ensures { LineGives result (view self.new) (step (view self.old) (words_of words.now)) };
 }
 
-/// Whether a line is skipped and only counted: it has no words, or is a comment. Only its first byte that is no blank is
-/// looked at.
+/// Returns whether a line is skipped, and only counted: it has no words or is a comment. Tests only the first byte that
+/// is not a blank.
 fn is_skipped(line: &[u8]) -> bool
     ensures { result ≡ is_skipped (words_of line.now) }
 {
@@ -39,7 +39,8 @@ fn is_skipped(line: &[u8]) -> bool
     true
 }
 
-/// Whether each byte of a line is plain. It is known where the whole input was found to be plain.
+/// Returns whether each byte of a line is plain. `known` means that the whole input was found to be plain, and saves
+/// the test.
 fn is_line_plain(known: bool, line: &[u8]) -> bool
     requires { known ≡ true → list_all is_plain line.now ≡ true }
     ensures { result ≡ list_all is_plain line.now }
@@ -50,7 +51,7 @@ fn is_line_plain(known: bool, line: &[u8]) -> bool
     is_plain_line(line)
 }
 
-/// Reads one line, which is known to be plain where the whole input is.
+/// Reads one line. `plain` means that the whole input was found to be plain.
 fn read_line<S: Script>(
     script: &mut S,
     alloc: Global,
@@ -69,7 +70,7 @@ fn read_line<S: Script>(
     script.take_line(alloc, line)
 }
 
-/// Reads a whole script, up to its first fault. After an `Err` nothing is known of what was read.
+/// Reads a whole script, or fails with its first fault or `NoMemory`. After an error nothing is known of `script`.
 #[tactic(auto, using(crate::proofs::PlainLines::lines_plain, crate::proofs::PlainLines::first_plain, crate::proofs::PlainLines::rest_plain))]
 pub fn read_script<S: Script>(
     script: &mut S,
@@ -98,7 +99,8 @@ pub fn read_script<S: Script>(
     Ok(())
 }
 
-/// The number of the first line that is not skipped, from 1; one more than the number of lines where all are skipped.
+/// Returns the number of the first line that is not skipped, from 1, or one more than the number of lines if all are
+/// skipped.
 pub fn first_number(input: &[u8]) -> usize
     ensures { result ≡ first_number input.now }
 {

@@ -1,4 +1,4 @@
-//! Writing a whole output.
+//! Writes a whole output.
 ghost use Rattle.std.specs.Prelude.{◌≡◌, ◌<◌, length, IfOk, OnOk, OnErr};
 ghost use Rattle.std.specs.Io.KnownBytes.{WriteAppends, Appends};
 ghost use Rattle.std.specs.Io.{WritesAtMost};
@@ -6,12 +6,14 @@ ghost use Rattle.std.specs.Io.{WritesAtMost};
 use std::io;
 use std::io::{Stdout, Write};
 
-/// A writer that can tell whether a write of it has failed or taken no byte.
+/// A writer whose contract says whether a write of it has failed or taken no byte.
 pub trait Sink: Write {
-    // A write has failed or taken no byte, now or before. A writer that does not tell may have failed at any time.
+    // A write has failed or taken no byte, now or before. The default always holds: such a writer may have failed at
+    // any time.
     ghost has_failed: { Self → Type 0 } = { λ _. Unit {0} };
 
-    /// One plain write of at least one byte. A write that takes no byte is a fault.
+    /// Writes from the front of `buf`, which has at least one byte, by one plain write, and returns the number of bytes
+    /// that it took. A write that takes no byte counts as a failure.
     fn put(&mut self, buf: &[u8]) -> io::Result<usize>
         requires { 0 < length buf.now }
         ensures bound { WritesAtMost result buf.now }
@@ -22,7 +24,7 @@ pub trait Sink: Write {
         ensures lasting { has_failed self.old → has_failed self.new };
 }
 
-// What standard output takes is not known, so it may have failed at any time.
+// Contracts don't know what standard output takes, so it may have failed at any time.
 impl Sink for Stdout {
     fn put(&mut self, buf: &[u8]) -> io::Result<usize> {
         self.write(buf)
@@ -33,7 +35,8 @@ impl Sink for Stdout {
 #[derive(Clone, Copy, Debug, PartialEq, Eq, Drop)]
 pub struct OutputFailed;
 
-/// Writes all of the text by plain writes. A write fault of any kind, or a write that takes no byte, ends it at once.
+/// Writes all of the text by plain writes. Fails at the first write that fails or takes no byte, and makes no further
+/// write.
 pub fn write_output<W: Sink>(writer: &mut W, text: &[u8]) -> Result<(), OutputFailed>
     ensures ok { OnOk result (Appends (W.contents writer.old) (W.contents writer.new) text.now) }
     ensures unfailed { OnOk result (W.has_failed writer.new → W.has_failed writer.old) }

@@ -11,9 +11,9 @@ use std::alloc::{AllocError, AllocFailed, Global};
 /// Why pairs of digits were not read.
 #[derive(Clone, Copy, Debug, PartialEq, Eq, Drop)]
 pub enum PairsError {
-    /// The number of the line, from 1, of the first byte that is wrong there, or of the lone digit of half a pair.
+    /// The number of the line, from 1, of the first byte that is wrong, or of the lone digit of half a pair.
     Line(usize),
-    /// Memory was refused.
+    /// Out of memory.
     NoMemory,
 }
 
@@ -37,14 +37,14 @@ impl<T: Drop> From<AllocFailed<T>> for PairsError {
     }
 }
 
-/// What may stand between pairs.
+/// Returns whether a byte may separate pairs.
 fn is_gap(byte: u8) -> bool
     ensures { result ≡ is_gap byte }
 {
     matches!(byte, b' ' | b'\t' | b'\r' | b'\n')
 }
 
-/// What follows a space, which mostly stands behind a pair; else all.
+/// Returns the input without a space at its front. Most pairs have a space after them.
 fn past_space(rest: &[u8]) -> &[u8]
     ensures same { (line : ℕ) → pairs_from line result.now ≡ pairs_from line rest.now }
     ensures within { length result.now ≤ length rest.now }
@@ -55,12 +55,14 @@ fn past_space(rest: &[u8]) -> &[u8]
     }
 }
 
-/// Reads the bytes that pairs of hexadecimal digits in either case spell, with spaces, tabs, carriage returns and line
-/// feeds between pairs, or the line of the first fault. There is no limit to their number.
+/// Returns the bytes that pairs of hexadecimal digits in either case spell, with spaces, tabs, carriage returns and
+/// line feeds between pairs. There is no limit to their number.
+///
+/// Fails with the line of the first fault, or with `NoMemory`.
 pub fn read_pairs(alloc: Global, input: &[u8]) -> Result<Vec<u8>, PairsError>
     ensures { PairsGives (λ bytes. bytes.items) result (pairs_of input.now) }
 {
-    // A pair takes two bytes of the input at least, so there is room for all from the start.
+    // A pair takes at least two bytes of the input, so this is room for all pairs.
     let mut bytes = Vec::with_capacity(alloc, input.len() / 2)?;
     let mut line = 1usize;
     let mut rest = input;
@@ -83,7 +85,7 @@ pub fn read_pairs(alloc: Global, input: &[u8]) -> Result<Vec<u8>, PairsError>
     }
 }
 
-/// Appends the line of a fault of the pairs, or nothing.
+/// Appends the line that reports a fault of the pairs. Appends nothing if it is out of memory.
 pub fn push_pairs_fault(alloc: Global, out: &mut Vec<u8>, line: usize) -> Result<(), AllocError>
     ensures ok { OnOk result (out.new.items ≡ out.old.items ++ text_of (pairs_fault_line line ∷ [])) }
     ensures err { OnErr result (out.new.items ≡ out.old.items) }

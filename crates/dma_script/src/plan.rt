@@ -1,4 +1,4 @@
-//! The words of a transfer with its events, and the line of a plan script.
+//! Parses the words of a transfer with its events, and the line of a plan script.
 ghost use Rattle.std.specs.Prelude.{◌≡◌};
 ghost use Rattle.std.specs.Option.{option_map};
 ghost use Rattle.dma_script.specs.Lines.{Gives, ScriptGives, seen_by};
@@ -18,24 +18,24 @@ use std::alloc::Global;
 pub enum Origin {
     /// The places of a list, one byte each.
     List(Segments),
-    /// The address of a fill's byte, which goes to every place of the destinations.
+    /// The address of a fill's byte, which is copied to every place of the destinations.
     Place(u32),
 }
 
-/// What a line `LIST to LIST [wait E] [signal E]` or `fill ADDR to LIST [wait E] [signal E]` says.
+/// The line `LIST to LIST [wait E] [signal E]` or `fill ADDR to LIST [wait E] [signal E]`.
 #[derive(Debug, Drop)]
 pub struct TransferLine {
     /// Where the bytes come from.
     pub src: Origin,
     /// Where they go.
     pub dst: Segments,
-    /// The event that is waited for first.
+    /// The event for which the transfer waits first.
     pub wait: Option<u8>,
-    /// The event that is signalled last.
+    /// The event that the transfer signals last.
     pub signal: Option<u8>,
 }
 
-/// The word of a transfer's source, by what it has to spell.
+/// The word of a transfer's source: a list for a copy, an address for a fill.
 #[derive(Clone, Copy)]
 pub(crate) enum OriginWord<'a> {
     /// The list of a copy.
@@ -44,7 +44,7 @@ pub(crate) enum OriginWord<'a> {
     Place(&'a [u8]),
 }
 
-/// The words of a transfer: its source and its list, and its events where there are any.
+/// The words of a transfer: its source, its destination list and its optional events.
 #[derive(Clone, Copy)]
 pub(crate) struct TransferWords<'a> {
     src: OriginWord<'a>,
@@ -53,7 +53,7 @@ pub(crate) struct TransferWords<'a> {
     signal: Option<&'a [u8]>,
 }
 
-/// The segments and numbers of a transfer, whose events are not yet tested against their range.
+/// The segments and numbers of a transfer. The numbers of its events are not yet tested against their range.
 #[derive(Drop)]
 pub(crate) struct TransferNumbers {
     src: Origin,
@@ -62,16 +62,17 @@ pub(crate) struct TransferNumbers {
     signal: Option<u32>,
 }
 
-/// A plan script: its one line.
+/// A plan script, which is one line.
 #[derive(Debug, Drop)]
 pub struct PlanLine {
     /// The number of the line, from 1.
     pub line: usize,
-    /// What it says.
+    /// The transfer of the line.
     pub transfer: TransferLine,
 }
 
-/// The word after a fixed one, where that stands first, and the words that follow.
+/// Returns the second word and the words after it, if the first of two or more words is `fixed`. Otherwise returns
+/// `None` and all words.
 fn after_fixed<'a>(fixed: &[u8], words: &'a [u8]) -> (Option<&'a [u8]>, &'a [u8])
     ensures word { option_map (λ word. word.now) result.0 ≡ (after_fixed fixed.now (words_of words.now)).0 }
     ensures rest { words_of result.1.now ≡ (after_fixed fixed.now (words_of words.now)).1 }
@@ -89,7 +90,7 @@ fn after_fixed<'a>(fixed: &[u8], words: &'a [u8]) -> (Option<&'a [u8]>, &'a [u8]
     }
 }
 
-/// `[wait E] [signal E]`
+/// Returns the words of the events in `[wait E] [signal E]`. Fails with `Words` for any other words.
 fn events_of(words: &[u8]) -> Result<(Option<&[u8]>, Option<&[u8]>), Cause>
     ensures { seen_by (λ e. (option_map (λ word. word.now) e.0, option_map (λ word. word.now) e.1)) result ≡ events_of (words_of words.now) }
 {
@@ -99,7 +100,7 @@ fn events_of(words: &[u8]) -> Result<(Option<&[u8]>, Option<&[u8]>), Cause>
     Ok((wait, signal))
 }
 
-/// Whether a transfer is a fill, and the words that follow.
+/// Returns whether the first word is `fill`, and the words after it, or all words if it is not.
 fn after_fill(words: &[u8]) -> (bool, &[u8])
     ensures fill { result.0 ≡ (after_fill (words_of words.now)).0 }
     ensures rest { words_of result.1.now ≡ (after_fill (words_of words.now)).1 }
@@ -114,7 +115,8 @@ fn after_fill(words: &[u8]) -> (bool, &[u8])
     }
 }
 
-/// `LIST to LIST [wait E] [signal E]` or `fill ADDR to LIST [wait E] [signal E]`, of which the words are counted.
+/// Returns the words of `LIST to LIST [wait E] [signal E]` or `fill ADDR to LIST [wait E] [signal E]`. Fails with
+/// `Words` if a word is missing, one is too many, or a fixed word is wrong.
 pub(crate) fn transfer_words(words: &[u8]) -> Result<TransferWords<'_>, Cause>
     ensures { seen_by seen_words result ≡ transfer_words (words_of words.now) }
 {
@@ -139,7 +141,7 @@ pub(crate) fn transfer_words(words: &[u8]) -> Result<TransferWords<'_>, Cause>
     })
 }
 
-/// The source that a word spells: of a fill an address, else a list.
+/// Returns the source that a word spells: an address for a fill, otherwise a list.
 fn source_at(alloc: Global, word: OriginWord<'_>) -> Result<Origin, LineError>
     ensures { Gives (λ source. source) result (source_at (is_place word.entry) (spelling word.entry)) }
 {
@@ -155,7 +157,7 @@ fn source_at(alloc: Global, word: OriginWord<'_>) -> Result<Origin, LineError>
     }
 }
 
-/// The segments and numbers that the words spell.
+/// Returns the segments and numbers that the words spell. Fails with `Number`, or with `NoMemory`.
 pub(crate) fn transfer_numbers(
     alloc: Global,
     words: TransferWords<'_>,
@@ -174,7 +176,7 @@ pub(crate) fn transfer_numbers(
     })
 }
 
-/// The transfer, where the numbers of its events are in their range.
+/// Returns the transfer. Fails with `Range` if the number of an event is above 255.
 pub(crate) fn transfer_of(numbers: TransferNumbers) -> Result<TransferLine, Cause>
     ensures { result ≡ transfer_of numbers }
 {
@@ -188,7 +190,7 @@ pub(crate) fn transfer_of(numbers: TransferNumbers) -> Result<TransferLine, Caus
     })
 }
 
-/// `LIST to LIST [wait E] [signal E]` or `fill ADDR to LIST [wait E] [signal E]`
+/// Parses `LIST to LIST [wait E] [signal E]` or `fill ADDR to LIST [wait E] [signal E]`.
 fn transfer_line(alloc: Global, words: &[u8]) -> Result<TransferLine, LineError>
     ensures { Gives (λ line. line) result (transfer_line (words_of words.now)) }
 {
@@ -198,7 +200,7 @@ fn transfer_line(alloc: Global, words: &[u8]) -> Result<TransferLine, LineError>
     Ok(line)
 }
 
-/// What was read of a plan script so far.
+/// The part of a plan script that was read so far.
 #[derive(Drop)]
 struct PlanSoFar {
     line: Option<TransferLine>,
@@ -224,7 +226,7 @@ impl Script for PlanSoFar {
     }
 }
 
-/// Reads a whole plan script, or its first fault. The transfer is not built.
+/// Reads a whole plan script, or fails with its first fault or `NoMemory`. Does not build the transfer.
 pub fn read_plan(alloc: Global, input: &[u8]) -> Result<PlanLine, ScriptError>
     ensures { ScriptGives (λ p. p) result (plan_of input.now) }
 {

@@ -1,5 +1,5 @@
-//! The lines that are printed, and their parts. A line is appended whole or not at all; what is said of a part is said of
-//! Ok.
+//! Appends printed lines and their parts. Each public function appends all of its text, or nothing if it is out of
+//! memory.
 ghost use Rattle.std.specs.Prelude.{◌≡◌, ◌++◌, ◌∷◌, [], IfOk, OnErr, OnOk};
 ghost use Rattle.dma_script.specs.Command.{text_of};
 ghost use Rattle.dma_script.specs.Printing.{fault_line, hex_address, hex_byte_of, program_lines, row_line, spaced_bytes};
@@ -34,7 +34,7 @@ pub fn push_fault(alloc: Global, out: &mut Vec<u8>, fault: Fault) -> Result<(), 
     push_line(out, line.as_bytes())
 }
 
-/// Appends a byte in two capital digits, or nothing.
+/// Appends a byte in two hexadecimal digits, in capitals, or nothing.
 pub fn push_byte(line: &mut Vec<u8>, byte: u8) -> Result<(), AllocError>
     ensures ok { OnOk result (line.new.items ≡ line.old.items ++ hex_byte_of byte) }
     ensures err { OnErr result (line.new.items ≡ line.old.items) }
@@ -51,7 +51,7 @@ pub fn push_bytes(line: &mut Vec<u8>, bytes: &[u8]) -> Result<(), AllocError>
         return Err(AllocError);
     };
     line.reserve(room)?;
-    // Taken out of its place, the list is a local, whose length can stay in a register.
+    // As a local variable, the list can have its length in a register.
     let empty = Vec::new(*line.allocator());
     let mut text = mem::replace(line, empty);
     for byte in bytes {
@@ -72,7 +72,7 @@ pub fn push_address(line: &mut Vec<u8>, addr: u32) -> Result<(), AllocError>
     line.extend_from_slice(&hex_digits(addr))
 }
 
-/// The bytes of a row with a space between two, at the end.
+/// Appends the line of a row: its bytes with a space between two.
 fn push_row(text: &mut Vec<u8>, row: &[u8]) -> Result<(), AllocError>
     ensures { OnOk result (text.new.items ≡ text.old.items ++ text_of (row_line row.now ∷ [])) }
 {
@@ -84,7 +84,7 @@ fn push_row(text: &mut Vec<u8>, row: &[u8]) -> Result<(), AllocError>
     Ok(())
 }
 
-/// The lines of a program.
+/// Returns the text of a program's lines.
 fn program_text(alloc: Global, bytes: &[u8]) -> Result<Vec<u8>, AllocError>
     ensures { IfOk result (λ text. text.items ≡ text_of (program_lines bytes.now)) }
 {
@@ -95,7 +95,7 @@ fn program_text(alloc: Global, bytes: &[u8]) -> Result<Vec<u8>, AllocError>
     Ok(text)
 }
 
-/// Appends the lines of a program, 16 bytes to a line, or nothing. No bytes have no line.
+/// Appends the lines of a program, 16 bytes to a line, or nothing. A program without bytes has no lines.
 pub fn push_program(alloc: Global, out: &mut Vec<u8>, bytes: &[u8]) -> Result<(), AllocError>
     ensures ok { OnOk result (out.new.items ≡ out.old.items ++ text_of (program_lines bytes.now)) }
     ensures err { OnErr result (out.new.items ≡ out.old.items) }

@@ -1,4 +1,4 @@
-//! The lines of a race script: those that come before `go` and the jobs among them, and those that come after it.
+//! Reads the lines of a race script: the lines before `go`, with the jobs among them, and the lines after it.
 ghost use Rattle.std.specs.Prelude.{◌≡◌, ◌++◌, ◌∷◌, [], IfOk, OnErr, OnOk};
 ghost use Rattle.dma_script.specs.Lines.{LineGives, ScriptGives};
 ghost use Rattle.dma_script.specs.inner.Adding.{AddsLine};
@@ -28,11 +28,11 @@ pub struct JobLine {
     pub first: u8,
     /// The highest, at least `first` and at most [`LAST_CHANNEL`].
     pub last: u8,
-    /// How many turns it takes, maybe none.
+    /// The number of turns that it takes, which may be 0.
     pub turns: u32,
 }
 
-/// A list of jobs, which contracts see as its items alone.
+/// A list of jobs. Contracts see only its items.
 #[derive(Debug, Drop)]
 pub struct Jobs {
     items: Vec<JobLine>,
@@ -48,7 +48,7 @@ impl Model for Jobs {
 }
 
 impl Jobs {
-    /// A list without jobs, which takes no memory.
+    /// Returns a list without jobs, which takes no memory.
     fn new(alloc: Global) -> Jobs
         ensures { result ≡ [] }
     {
@@ -57,14 +57,14 @@ impl Jobs {
         }
     }
 
-    /// The jobs, in the order of their lines.
+    /// Returns the jobs, in the order of their lines.
     pub fn as_slice(&self) -> &[JobLine]
         ensures { result.now ≡ self.now }
     {
         self.items.as_slice()
     }
 
-    /// Adds a job at the end. Without memory for it the list stays as it was.
+    /// Adds a job at the end. If it is out of memory, the list is unchanged.
     fn push(&mut self, job: JobLine) -> Result<(), AllocError>
         ensures ok { OnOk result (self.new ≡ self.old ++ job ∷ []) }
         ensures err { OnErr result (self.new ≡ self.old) }
@@ -77,7 +77,7 @@ impl Jobs {
 /// A race script.
 #[derive(Debug, Drop)]
 pub struct RaceScript {
-    /// The memory line, and the lines after it and before `go`, but for the jobs.
+    /// The memory line, and the lines between it and `go` except the jobs.
     pub before: RunScript,
     /// The jobs, at most [`MAX_JOBS`].
     pub jobs: Jobs,
@@ -88,7 +88,7 @@ pub struct RaceScript {
 /// The word that begins a line of a race script.
 #[derive(Clone, Copy, Debug, PartialEq, Eq, Drop)]
 pub(crate) enum RaceKeyword {
-    /// One that a run script has too.
+    /// The first word of a line of a run script.
     Line(Keyword),
     /// `job FIRST LAST TURNS`
     Job,
@@ -96,7 +96,7 @@ pub(crate) enum RaceKeyword {
     Go,
 }
 
-/// The command that a word is, of those of a race script.
+/// Returns the command of a race script that a word spells, or `None` for any other word.
 fn race_keyword_in(word: &[u8]) -> Option<RaceKeyword>
     ensures { result ≡ race_keyword_of word.now }
 {
@@ -110,7 +110,7 @@ fn race_keyword_in(word: &[u8]) -> Option<RaceKeyword>
     }
 }
 
-/// Whether a line that a run script has too may stand before `go`.
+/// Returns whether a line of a run script is allowed before `go`.
 fn is_early(keyword: Keyword) -> bool
     ensures { result ≡ is_early keyword }
 {
@@ -127,7 +127,7 @@ fn is_early(keyword: Keyword) -> bool
     )
 }
 
-/// `job FIRST LAST TURNS`
+/// Parses the words of `job FIRST LAST TURNS`. Fails with `Range` if FIRST is above LAST, or LAST above 7.
 fn job_line(words: &[u8]) -> Result<JobLine, Cause>
     ensures line { result ≡ job_line (words_of words.now) }
     ensures within { IfOk result IsJob }
@@ -161,7 +161,8 @@ fn add_after_go(
     }
 }
 
-/// What was read of a race script so far: nothing before its memory line, and no list of later lines before its `go`.
+/// The part of a race script that was read so far: nothing before the memory line, and no list of later lines before
+/// `go`.
 #[derive(Drop)]
 struct RaceSoFar {
     before: ReadSoFar,
@@ -182,7 +183,7 @@ impl Model for RaceSoFar {
 impl RaceSoFar {
     ghost use Rattle.dma_script.specs.Race.{behind_memory, early_line, go_taken, job_taken, line_before_go, next_race_line, nothing_read};
 
-    /// Nothing yet.
+    /// Returns the state before any line is read.
     fn new(alloc: Global) -> RaceSoFar
         ensures { result ≡ nothing_read }
     {
@@ -193,7 +194,7 @@ impl RaceSoFar {
         }
     }
 
-    /// Takes a line that a run script has too.
+    /// Reads a line of a run script before `go`. Fails with `Command` if it is not allowed there.
     fn take_early(&mut self, alloc: Global, keyword: Keyword, words: &[u8]) -> Result<(), LineError>
         ensures { LineGives result self.new (early_line self.old keyword (words_of words.now)) }
     {
@@ -203,7 +204,7 @@ impl RaceSoFar {
         self.before.take(alloc, keyword, words)
     }
 
-    /// The memory line was read.
+    /// Succeeds if the memory line was read. Fails with `First` otherwise.
     fn behind_memory(&self) -> Result<(), Cause>
         ensures { result ≡ behind_memory self.now.before }
     {
@@ -214,7 +215,7 @@ impl RaceSoFar {
         }
     }
 
-    /// Takes `job FIRST LAST TURNS` by the words after the first.
+    /// Reads `job FIRST LAST TURNS` by the words after the first.
     fn take_job(&mut self, words: &[u8]) -> Result<(), LineError>
         ensures { LineGives result self.new (job_taken self.old (words_of words.now)) }
     {
@@ -227,7 +228,7 @@ impl RaceSoFar {
         Ok(())
     }
 
-    /// Takes `go` by the words after it.
+    /// Reads `go` by the words after it.
     fn take_go(&mut self, alloc: Global, words: &[u8]) -> Result<(), LineError>
         ensures { LineGives result self.new (go_taken self.old (words_of words.now)) }
     {
@@ -237,7 +238,7 @@ impl RaceSoFar {
         Ok(())
     }
 
-    /// Takes a line, where `go` was not read yet.
+    /// Reads a line if `go` was not read yet.
     fn take_before_go(
         &mut self,
         alloc: Global,
@@ -253,7 +254,7 @@ impl RaceSoFar {
         }
     }
 
-    /// Takes a line by its keyword and the words after that.
+    /// Reads a line by its keyword and the words after it.
     fn take(&mut self, alloc: Global, keyword: RaceKeyword, words: &[u8]) -> Result<(), LineError>
         ensures { LineGives result self.new (next_race_line self.old keyword (words_of words.now)) }
     {
@@ -284,14 +285,14 @@ impl Script for RaceSoFar {
     }
 }
 
-/// The fault of a script that lacks a line.
+/// Returns the fault of a script in which a line is missing.
 fn lacking(cause: Cause) -> ScriptError
     ensures { result ≡ ScriptError.Fault (record { line = 0; cause = cause }) }
 {
     ScriptError::Fault(Fault { line: 0, cause })
 }
 
-/// Reads a whole race script, or its first fault. Nothing of it is carried out.
+/// Reads a whole race script, or fails with its first fault or `NoMemory`. Runs none of it.
 pub fn read_race_script(alloc: Global, input: &[u8]) -> Result<RaceScript, ScriptError>
     ensures script { ScriptGives (λ script. script) result (race_script_of input.now) }
     ensures within { IfOk result IsRace }

@@ -1,5 +1,5 @@
-//! The lines of a run script. Each kind of line is read by a function that also adds it to the list: a `Statement` that was
-//! returned would be copied.
+//! Reads the lines of a run script. The function for each kind of line also adds it to the list, since a returned
+//! `Statement` would be copied.
 ghost use Rattle.std.specs.Prelude.{◌≡◌, ◌++◌, ◌∷◌, [], IfOk, Ok, OnErr};
 ghost use Rattle.dma_script.specs.Lines.{LineGives};
 ghost use Rattle.dma_script.specs.Words.{words_of};
@@ -21,7 +21,7 @@ use dma_mem::memory::MAX_SIZE;
 use dma_text::bytes::is_text;
 use std::alloc::Global;
 
-/// `memory SIZE CHANNELS`
+/// Parses the words of `memory SIZE CHANNELS`.
 fn memory_line(alloc: Global, words: &[u8]) -> Result<RunScript, Cause>
     ensures line { result ≡ memory_line (words_of words.now) }
     ensures within { IfOk result IsWithin }
@@ -51,7 +51,7 @@ fn add(statements: &mut Statements, line: Statement) -> Result<(), LineError>
     Ok(())
 }
 
-/// Adds a line that is its keyword alone.
+/// Adds a line that has no words after its keyword.
 #[inline(always)]
 fn add_bare(statements: &mut Statements, words: &[u8], line: Statement) -> Result<(), LineError>
     ensures { AddsLine result statements.old statements.new (bare_line line (words_of words.now)) }
@@ -60,7 +60,7 @@ fn add_bare(statements: &mut Statements, words: &[u8], line: Statement) -> Resul
     add(statements, line)
 }
 
-/// `write ADDR HEX`
+/// Adds the line `write ADDR HEX`.
 #[inline(never)]
 fn add_write(statements: &mut Statements, alloc: Global, words: &[u8]) -> Result<(), LineError>
     ensures { AddsLine result statements.old statements.new (write_line (words_of words.now)) }
@@ -71,7 +71,7 @@ fn add_write(statements: &mut Statements, alloc: Global, words: &[u8]) -> Result
     add(statements, Statement::Write { addr, bytes })
 }
 
-/// `read SEG`
+/// Adds the line `read SEG`.
 #[inline(never)]
 fn add_read(statements: &mut Statements, words: &[u8]) -> Result<(), LineError>
     ensures { AddsLine result statements.old statements.new (read_line (words_of words.now)) }
@@ -80,7 +80,7 @@ fn add_read(statements: &mut Statements, words: &[u8]) -> Result<(), LineError>
     add(statements, Statement::Read(segment))
 }
 
-/// `copy LIST to LIST`
+/// Adds the line `copy LIST to LIST`.
 #[inline(never)]
 fn add_copy(statements: &mut Statements, alloc: Global, words: &[u8]) -> Result<(), LineError>
     ensures { AddsLine result statements.old statements.new (copy_line (words_of words.now)) }
@@ -97,7 +97,7 @@ fn add_copy(statements: &mut Statements, alloc: Global, words: &[u8]) -> Result<
     )
 }
 
-/// `fill ADDR to LIST`
+/// Adds the line `fill ADDR to LIST`.
 #[inline(never)]
 fn add_fill(statements: &mut Statements, alloc: Global, words: &[u8]) -> Result<(), LineError>
     ensures { AddsLine result statements.old statements.new (fill_line (words_of words.now)) }
@@ -111,7 +111,7 @@ fn add_fill(statements: &mut Statements, alloc: Global, words: &[u8]) -> Result<
     add(statements, Statement::Fill { src, dst })
 }
 
-/// `submit CH LIST to LIST [wait E] [signal E]` or `submit CH fill ADDR to LIST [wait E] [signal E]`
+/// Adds the line `submit CH LIST to LIST [wait E] [signal E]` or `submit CH fill ADDR to LIST [wait E] [signal E]`.
 #[inline(never)]
 fn add_submit(statements: &mut Statements, alloc: Global, words: &[u8]) -> Result<(), LineError>
     ensures { AddsLine result statements.old statements.new (submit_line (words_of words.now)) }
@@ -125,7 +125,7 @@ fn add_submit(statements: &mut Statements, alloc: Global, words: &[u8]) -> Resul
     add(statements, Statement::Submit { ch, transfer })
 }
 
-/// The count of a step line.
+/// Returns the number of steps of a step line, 1 if it has no number. Fails with `Range` for 0 or above [`MAX_STEPS`].
 fn count_of(count: Option<u32>) -> Result<u32, Cause>
     ensures { result ≡ count_of count }
 {
@@ -141,7 +141,7 @@ fn count_of(count: Option<u32>) -> Result<u32, Cause>
     }
 }
 
-/// `step CH [N]`
+/// Adds the line `step CH [N]`.
 #[inline(never)]
 fn add_step(statements: &mut Statements, words: &[u8]) -> Result<(), LineError>
     ensures { AddsLine result statements.old statements.new (step_line (words_of words.now)) }
@@ -154,7 +154,7 @@ fn add_step(statements: &mut Statements, words: &[u8]) -> Result<(), LineError>
     add(statements, Statement::Step { ch, count })
 }
 
-/// `CH COOKIE`
+/// Parses the words `CH COOKIE`.
 fn channel_and_cookie(words: &[u8]) -> Result<(u8, u32), Cause>
     ensures { result ≡ channel_and_cookie (words_of words.now) }
 {
@@ -165,7 +165,7 @@ fn channel_and_cookie(words: &[u8]) -> Result<(u8, u32), Cause>
     Ok((ch, cookie))
 }
 
-/// `status CH COOKIE`
+/// Adds the line `status CH COOKIE`.
 #[inline(never)]
 fn add_status(statements: &mut Statements, words: &[u8]) -> Result<(), LineError>
     ensures { AddsLine result statements.old statements.new (status_line (words_of words.now)) }
@@ -174,7 +174,7 @@ fn add_status(statements: &mut Statements, words: &[u8]) -> Result<(), LineError
     add(statements, Statement::Status { ch, cookie })
 }
 
-/// `result CH COOKIE`
+/// Adds the line `result CH COOKIE`.
 #[inline(never)]
 fn add_result(statements: &mut Statements, words: &[u8]) -> Result<(), LineError>
     ensures { AddsLine result statements.old statements.new (result_line (words_of words.now)) }
@@ -183,7 +183,8 @@ fn add_result(statements: &mut Statements, words: &[u8]) -> Result<(), LineError
     add(statements, Statement::Result { ch, cookie })
 }
 
-/// What a mark makes fail.
+/// Returns the kind of a mark: loads fail at a `read` mark, stores at a `write` mark. Returns `None` for any other
+/// word.
 fn mark_kind_in(word: &[u8]) -> Option<MarkKind>
     ensures { result ≡ mark_kind_of word.now }
 {
@@ -196,7 +197,7 @@ fn mark_kind_in(word: &[u8]) -> Option<MarkKind>
     }
 }
 
-/// `mark read SEG` or `mark write SEG`
+/// Adds the line `mark read SEG` or `mark write SEG`.
 #[inline(never)]
 fn add_mark(statements: &mut Statements, words: &[u8]) -> Result<(), LineError>
     ensures { AddsLine result statements.old statements.new (mark_line (words_of words.now)) }
@@ -207,7 +208,7 @@ fn add_mark(statements: &mut Statements, words: &[u8]) -> Result<(), LineError>
     add(statements, Statement::Mark { kind, segment })
 }
 
-/// The first line, by its keyword and the words after that.
+/// Parses the first line by its keyword and the words after it. Fails with `First` if it is not the memory line.
 pub(crate) fn first_line(alloc: Global, keyword: Keyword, words: &[u8]) -> Result<RunScript, Cause>
     ensures line { result ≡ first_line keyword (words_of words.now) }
     ensures within { IfOk result IsWithin }
@@ -218,7 +219,7 @@ pub(crate) fn first_line(alloc: Global, keyword: Keyword, words: &[u8]) -> Resul
     }
 }
 
-/// Adds a later line, by its keyword and the words after that.
+/// Adds a line after the first, by its keyword and the words after it. Fails with `First` if it is a memory line.
 pub(crate) fn add_later_line(
     statements: &mut Statements,
     alloc: Global,

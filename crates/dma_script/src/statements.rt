@@ -15,10 +15,10 @@ use dma_text::bytes::is_text;
 use std::alloc::{AllocError, Global};
 use std::marker::Model;
 
-/// The most channels that a script may ask for (profile).
+/// The most channels of a script (profile).
 pub const MAX_CHANNELS: u32 = 8;
 
-/// The most steps that a line may ask for (profile).
+/// The most steps of a line (profile).
 pub const MAX_STEPS: u32 = 1_000_000;
 
 /// The word that begins a line.
@@ -109,12 +109,12 @@ pub enum Statement {
         /// The channel.
         ch: u8,
     },
-    /// Lets a paused channel go on.
+    /// Resumes a paused channel.
     Resume {
         /// The channel.
         ch: u8,
     },
-    /// Ends all that is unfinished on a channel.
+    /// Ends all unfinished transfers of a channel.
     Terminate {
         /// The channel.
         ch: u8,
@@ -123,26 +123,26 @@ pub enum Statement {
     Step {
         /// The channel.
         ch: u8,
-        /// How often, 1 to [`MAX_STEPS`]; 1 where it was left out.
+        /// The number of steps, 1 to [`MAX_STEPS`]; 1 if the line has no number.
         count: u32,
     },
-    /// Asks how far a transfer is.
+    /// Prints the status of a transfer.
     Status {
         /// The channel.
         ch: u8,
         /// The number that its submit line printed.
         cookie: u32,
     },
-    /// Asks how a transfer ended.
+    /// Prints the result of a transfer.
     Result {
         /// The channel.
         ch: u8,
         /// The number that its submit line printed.
         cookie: u32,
     },
-    /// Marks a segment, at which loads or stores fail.
+    /// Marks a segment. Loads or stores fail at it.
     Mark {
-        /// Which of them.
+        /// Whether loads or stores fail.
         kind: MarkKind,
         /// The segment.
         segment: Segment,
@@ -154,17 +154,17 @@ pub enum Statement {
         /// The event.
         event: u8,
     },
-    /// Makes the present state the base from which the history begins.
+    /// Makes the current state the base of the history.
     Checkpoint,
-    /// Asks for the counts of the whole run.
+    /// Prints the counts of the whole run.
     Totals,
 }
 
-/// A list of statements, which contracts see as its items alone.
+/// A list of statements. Contracts see only its items.
 #[derive(Debug, Drop)]
 pub struct Statements {
     items: Vec<Statement>,
-    // The list that the bytes of a `write` line are read into. Its room is used again for the next line.
+    // The list into which the bytes of a `write` line are read. The next line reuses its memory.
     bytes: Vec<u8>,
 }
 
@@ -182,7 +182,7 @@ impl Statements {
     ghost use Rattle.dma_script.specs.Lines.{Gives};
     ghost use Rattle.dma_script.specs.Words.{words_of};
 
-    /// A list without statements, which takes no memory.
+    /// Returns a list without statements, which takes no memory.
     pub(crate) fn new(alloc: Global) -> Statements
         ensures { result ≡ [] }
     {
@@ -192,14 +192,14 @@ impl Statements {
         }
     }
 
-    /// The statements.
+    /// Returns the statements.
     pub fn as_slice(&self) -> &[Statement]
         ensures { result.now ≡ self.now }
     {
         self.items.as_slice()
     }
 
-    /// The statements, for one who is done with the list.
+    /// Returns the statements as a `Vec`.
     pub fn into_vec(self) -> Vec<Statement>
         ensures { result.items ≡ self }
     {
@@ -215,7 +215,7 @@ impl Statements {
         bytes_at(alloc, &mut self.bytes, words)
     }
 
-    /// Adds a statement at the end. Without memory for it the list stays as it was.
+    /// Adds a statement at the end. If it is out of memory, the list is unchanged.
     #[inline(always)]
     pub(crate) fn push(&mut self, statement: Statement) -> Result<(), AllocError>
         ensures ok { OnOk result (self.new ≡ self.old ++ statement ∷ []) }
@@ -243,7 +243,7 @@ ghost use Rattle.dma_script.specs.Lines.{LineGives, ScriptGives};
 ghost use Rattle.dma_script.specs.Words.{words_of};
 ghost use Rattle.dma_script.specs.Statements.{IsWithin, keyword_of, next_line, run_script_of};
 
-/// The command that a word is.
+/// Returns the command that a word spells, or `None` for any other word.
 pub(crate) fn keyword_in(word: &[u8]) -> Option<Keyword>
     ensures { result ≡ keyword_of word.now }
 {
@@ -270,7 +270,7 @@ pub(crate) fn keyword_in(word: &[u8]) -> Option<Keyword>
     }
 }
 
-/// What was read of a run script so far: nothing before its memory line.
+/// The part of a run script that was read so far: `None` before the memory line.
 #[derive(Drop)]
 pub(crate) struct ReadSoFar {
     pub(crate) script: Option<RunScript>,
@@ -278,14 +278,14 @@ pub(crate) struct ReadSoFar {
 }
 
 impl ReadSoFar {
-    /// Nothing yet.
+    /// Returns the state before any line is read.
     pub(crate) fn new() -> ReadSoFar
         ensures { result.script ≡ None }
     {
         ReadSoFar { script: None }
     }
 
-    /// Takes a line by its keyword and the words after that.
+    /// Reads a line by its keyword and the words after it. After an error the script is unchanged.
     #[inline(always)]
     pub(crate) fn take(
         &mut self,
@@ -328,7 +328,7 @@ impl Script for ReadSoFar {
     }
 }
 
-/// Reads a whole run script, or its first fault. Nothing of it is carried out.
+/// Reads a whole run script, or fails with its first fault or `NoMemory`. Runs none of it.
 pub fn read_run_script(alloc: Global, input: &[u8]) -> Result<RunScript, ScriptError>
     ensures script { ScriptGives (λ script. script) result (run_script_of input.now) }
     ensures within { IfOk result IsWithin }

@@ -9,7 +9,7 @@ use dma_mem::segment::Segment;
 use dma_text::bytes::position_of;
 use dma_text::digits::digit_value;
 
-/// The line less a carriage return at its end.
+/// Returns the line without a carriage return at its end.
 fn without_return(line: &[u8]) -> &[u8]
     ensures { result.now ≡ strip_carriage_return line.now }
 {
@@ -19,8 +19,8 @@ fn without_return(line: &[u8]) -> &[u8]
     }
 }
 
-/// The first line, without its line feed and a carriage return before that, and what follows it. A last line without a
-/// line feed keeps its carriage return.
+/// Returns the first line, without its line feed and a carriage return before that, and the rest of the input. A last
+/// line without a line feed keeps its carriage return.
 pub fn split_line(input: &[u8]) -> (&[u8], &[u8])
     requires { 0 < length input.now }
     ensures first { lines input.now ≡ result.0.now ∷ lines result.1.now }
@@ -32,7 +32,7 @@ pub fn split_line(input: &[u8]) -> (&[u8], &[u8])
     }
 }
 
-/// A space or a tab.
+/// Returns whether a byte is a space or a tab.
 pub(crate) fn is_blank(byte: u8) -> bool
     ensures { result ≡ is_blank byte }
 {
@@ -54,7 +54,7 @@ fn without_blanks(line: &[u8]) -> &[u8]
     rest
 }
 
-/// Returns the word that a line begins with, and what follows the blank behind it.
+/// Returns the word at the front of a line, and the rest of the line after the blank that ends the word.
 fn cut_word(line: &[u8]) -> (&[u8], &[u8])
     requires some { 0 < length line.now }
     requires first { is_blank (slice_index line.now 0) ≡ false }
@@ -68,7 +68,7 @@ fn cut_word(line: &[u8]) -> (&[u8], &[u8])
     (line, &[])
 }
 
-/// Returns the first word of a line and the rest of the line, or `None` where there is no word.
+/// Returns the first word of a line and the rest of the line, or `None` if there is no word.
 pub(crate) fn next_word(line: &[u8]) -> Option<(&[u8], &[u8])>
     ensures { MatchOption result (words_of line.now ≡ []) (λ w. words_of line.now ≡ w.0.now ∷ words_of w.1.now) }
 {
@@ -79,18 +79,18 @@ pub(crate) fn next_word(line: &[u8]) -> Option<(&[u8], &[u8])>
     Some(cut_word(rest))
 }
 
-/// A printable ASCII character, a space or a tab.
+/// Returns whether a byte is a printable ASCII character, a space or a tab.
 fn is_plain(byte: u8) -> bool
     ensures { result ≡ is_plain byte }
 {
     byte == b'\t' || (b' '..=b'~').contains(&byte)
 }
 
-/// Whether each byte is printable ASCII, a space or a tab.
+/// Returns whether each byte is printable ASCII, a space or a tab.
 pub fn is_plain_line(line: &[u8]) -> bool
     ensures { result ≡ list_all is_plain line.now }
 {
-    // No early end: so the loop looks at many bytes at once.
+    // No early return, so that the loop tests many bytes at once.
     let mut plain = true;
     for b in line {
         plain &= is_plain(*b);
@@ -98,18 +98,18 @@ pub fn is_plain_line(line: &[u8]) -> bool
     plain
 }
 
-/// A plain byte or a line feed.
+/// Returns whether a byte is plain or a line feed.
 fn is_plain_or_feed(byte: u8) -> bool
     ensures { result ≡ is_plain_or_feed byte }
 {
     is_plain(byte) || byte == b'\n'
 }
 
-/// Whether each byte of a text is plain or a line feed: then each of its lines is plain.
+/// Returns whether each byte of a text is plain or a line feed. Then each of its lines is plain.
 pub(crate) fn is_plain_text(text: &[u8]) -> bool
     ensures { result ≡ list_all is_plain_or_feed text.now }
 {
-    // No early end, as for a line.
+    // No early return, as in `is_plain_line`.
     let mut plain = true;
     for b in text {
         plain &= is_plain_or_feed(*b);
@@ -117,7 +117,8 @@ pub(crate) fn is_plain_text(text: &[u8]) -> bool
     plain
 }
 
-/// The number that one or more digits of a base spell, where it is at most 4,294,967,295.
+/// Returns the number that one or more digits of a base spell, or `None` for any other bytes or a number above
+/// 4,294,967,295.
 fn number_in(digits: &[u8], radix: u32) -> Option<u32>
     requires low { 2 ≤ radix }
     requires high { radix ≤ 16 }
@@ -137,7 +138,8 @@ fn number_in(digits: &[u8], radix: u32) -> Option<u32>
     Some(value)
 }
 
-/// A number of at most 4,294,967,295, decimal or behind `0x` hexadecimal, leading zeros allowed.
+/// Returns the number that a word spells, in decimal or, after `0x`, in hexadecimal digits. Leading zeros are allowed.
+/// Returns `None` for any other word or a number above 4,294,967,295.
 pub fn number(word: &[u8]) -> Option<u32>
     ensures { result ≡ number_of word.now }
 {
@@ -154,7 +156,7 @@ fn plus_in(word: &[u8]) -> Option<usize>
     word.iter().position(|b| *b == b'+')
 }
 
-/// A segment: two numbers with a plus between.
+/// Returns the segment that a word spells: an address, a plus and a length.
 pub fn segment_in(word: &[u8]) -> Option<Segment>
     ensures { result ≡ segment_of word.now }
 {

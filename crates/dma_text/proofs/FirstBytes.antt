@@ -1,4 +1,4 @@
--- The first place of a byte, as a search finds it and as a definition counts it.
+-- The first position of a byte: the one that a search finds is the one that the definition counts.
 use Rattle.std.proofs.Common.{◌≡◌, ℕ, zero, suc, ◌<◌, Bool, true, false, List, [], ◌∷◌, length, Option, Some, None, refl, arith}
 use Rattle.std.specs.Prelude.{◌==◌, position, slice_index, nat_lt}
 use Rattle.std.specs.List.{position_or_len}
@@ -20,7 +20,7 @@ first_counted p (x ∷ xs) (suc k) less here before = elim (p x) as (λ b. p x �
   | false ↦ λ e. rw e (omega (arith, first_counted p xs k (omega arith) here (λ j l. before (suc j) (omega arith))))
 ] refl
 
--- the place that a search finds is the one that is counted
+-- the position that a search finds is the one that `position` counts
 pub first_place : (byte : ℕ) (xs : List ℕ) (r : Option ℕ) → IsFirstByte (is_byte byte) xs r → r ≡ position (λ b. b == byte) xs
 first_place byte xs None h =
     let counted = none_counted (λ b. b == byte) xs (λ k l. h k (omega arith) l) in

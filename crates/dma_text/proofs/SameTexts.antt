@@ -13,6 +13,6 @@ other_length word text other = false_from_ne_true (bytes_eq word text) (λ e. ot
 pub other_byte : (word text : List ℕ) (i : ℕ) → get_or word i 0 ≢ get_or text i 0 → bytes_eq word text ≡ false
 other_byte word text i other = false_from_ne_true (bytes_eq word text) (λ e. other (ap (λ (l : List ℕ). get_or l i 0) ((bytes_eq-Decides word text).0 e)))
 
--- texts that don't
+-- texts of one length that differ in no byte
 pub same_bytes : (word text : List ℕ) → length word ≡ length text → ((k : ℕ) → k < length text → get_or word k 0 ≡ get_or text k 0) → bytes_eq word text ≡ true
 same_bytes word text size same = (bytes_eq-Decides word text).1 (same_number_lists word text size (λ k below. same k (omega arith)))

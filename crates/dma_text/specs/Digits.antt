@@ -2,11 +2,11 @@
 use Rattle.std.specs.Prelude.{ℕ, ◌/◌, ◌%◌, true, List, [], ◌∷◌, map}
 use Rattle.std.specs.Fmt.{digit_glyph}
 
--- a byte in two hexadecimal digits, of 0 to 9 and A to F
+-- the two hexadecimal digits of a byte, 0 to 9 and A to F
 abbrev pub hex_pair : ℕ → List ℕ
 hex_pair b = digit_glyph true (b / 16) ∷ digit_glyph true (b % 16) ∷ []
 
--- the eight hexadecimal digits of a number below 2 ^ 32, of 0 to 9 and A to F
+-- the eight hexadecimal digits of a number below 2 ^ 32, 0 to 9 and A to F
 abbrev pub hex_digits : ℕ → List ℕ
 hex_digits v =
     map (λ weight. digit_glyph true (v / weight % 16))

@@ -1,4 +1,4 @@
-//! Digits that are read, and numbers and digits that are written.
+//! Reads digits, and writes numbers in decimal and hexadecimal digits.
 ghost use Rattle.std.specs.Prelude.{◌≡◌, ◌++◌, OnErr, OnOk, decimal};
 ghost use Rattle.std.specs.Char.{digit_value};
 ghost use Rattle.dma_text.specs.Digits.{hex_digits, hex_pair};
@@ -6,7 +6,7 @@ ghost use Rattle.dma_text.specs.Digits.{hex_digits, hex_pair};
 use itoa::Buffer;
 use std::alloc::AllocError;
 
-/// Appends a number in decimal digits, or nothing.
+/// Appends a number in decimal digits. Appends nothing if it is out of memory.
 #[inline(always)]
 #[tactic(auto, using(std::proofs::lemmas::Fmt::decimal_digit))]
 pub fn push_decimal(line: &mut Vec<u8>, number: u64) -> Result<(), AllocError>
@@ -21,7 +21,7 @@ pub fn push_decimal(line: &mut Vec<u8>, number: u64) -> Result<(), AllocError>
     push_digits(line, number)
 }
 
-/// The same for a number of any size. The digits are made on the stack.
+/// Appends a number of any size, as [`push_decimal`] does. Makes the digits on the stack.
 #[inline(never)]
 fn push_digits(line: &mut Vec<u8>, number: u64) -> Result<(), AllocError>
     ensures ok { OnOk result (line.new.items ≡ line.old.items ++ decimal number) }
@@ -62,11 +62,11 @@ pub fn hex_digits(value: u32) -> [u8; 8]
     [a, b, c, d, e, f, g, h]
 }
 
-/// The table's value for a byte that is no digit.
+/// The table's value for a byte that is not a digit.
 const NONE: u8 = 36;
 
-/// The value of each byte as a digit, 16 bytes to a row. It's a table, since a branch on digits is often guessed wrong, and
-/// arithmetic without a branch takes many steps.
+/// The value of each byte as a digit, 16 bytes to a row. It's a table, since branches on digits are often mispredicted,
+/// and arithmetic without branches takes many instructions.
 const DIGIT_VALUES: [u8; 256] = [
     NONE, NONE, NONE, NONE, NONE, NONE, NONE, NONE, NONE, NONE, NONE, NONE, NONE, NONE, NONE, NONE, // 0x00
     NONE, NONE, NONE, NONE, NONE, NONE, NONE, NONE, NONE, NONE, NONE, NONE, NONE, NONE, NONE, NONE, // 0x10
@@ -86,7 +86,7 @@ const DIGIT_VALUES: [u8; 256] = [
     NONE, NONE, NONE, NONE, NONE, NONE, NONE, NONE, NONE, NONE, NONE, NONE, NONE, NONE, NONE, NONE, // 0xf0
 ];
 
-/// The value of a digit of a base of at most 36, in either case, and 36 for any other byte.
+/// Returns the value of a digit in a base of at most 36, in either case, or 36 for any other byte.
 pub fn digit_value(byte: u8) -> u8
     ensures { result ≡ digit_value byte }
 {

@@ -1,4 +1,4 @@
--- Reading the rest, behind the program so far, is reading the whole text.
+-- Reading the rest after the program so far gives the result of reading the whole text.
 use Rattle.std.proofs.Common.{◌≡◌, ◌+◌, ◌≤◌, length}
 use Rattle.dma_insn.specs.AssemblyText.{text_lines}
 use Rattle.dma_insn.specs.LineReading.{after_lines, assembled}

@@ -1,4 +1,4 @@
--- The digits that are left, behind the value so far, read as all of them do.
+-- Continuing the value so far by the remaining digits gives the value of all digits.
 use Rattle.std.proofs.Common.{◌≡◌, drop}
 use Rattle.dma_insn.specs.LineReading.{digits_from}
 use Rattle.dma_insn.proofs.line.digits.Given as goal

@@ -2,7 +2,7 @@ use Rattle.std.proofs.Common.{ℕ, ◌<◌, ◌≤◌, ◌+◌, ◌*◌, ◌^◌
 use Rattle.std.proofs.Math.Nat.{pow-le-pow_right}
 use Rattle.dma_insn.proofs.line.hex_value.Goals as goal
 
--- one more digit behind at most seven
+-- one more digit after at most seven
 digit_fits : (value place : ℕ) → place < 8 → value < 16 ^ place → value * 16 + 16 ≤ 2 ^ 32
 digit_fits value place few small =
     let most : 16 ^ place ≤ 16 ^ 7 = pow-le-pow_right {n = 16} (omega arith) {i = place} {j = 7} (omega arith) in

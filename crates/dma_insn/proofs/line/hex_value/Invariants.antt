@@ -1,4 +1,5 @@
--- The digits that are left, behind the value so far, read as all of them do; the value has as many digits.
+-- Continuing the value so far by the remaining digits gives the value of all digits; the value has as many digits as
+-- were read.
 use Rattle.std.proofs.Common.{◌≡◌, ◌<◌, ◌^◌, drop, length}
 use Rattle.dma_insn.specs.LineReading.{hex_from}
 use Rattle.dma_insn.proofs.line.hex_value.Given as goal

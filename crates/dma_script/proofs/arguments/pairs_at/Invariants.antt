@@ -1,4 +1,5 @@
--- Reading the words from here on behind the bytes so far is reading all words, and there is room for a byte for each three.
+-- Reading the words from here on after the bytes so far is reading all words, and there is room for a byte for each
+-- three.
 use Rattle.std.proofs.Common.{◌≡◌, ◌≤◌, ◌+◌, ◌*◌, ◌/◌, length}
 use Rattle.dma_script.specs.Words.{words_of}
 use Rattle.dma_script.specs.Arguments.{bytes_at}

@@ -1,5 +1,5 @@
--- What was read is the front of what the reader had, each turn so far read a byte at least, and made one read at most, which did
--- not fail.
+-- The bytes read so far are the front of the reader's bytes. Each turn so far read at least one byte, and made at most
+-- one read, which did not fail.
 use Rattle.std.proofs.Common.{◌≤◌, ◌+◌, vec_len}
 use Rattle.std.specs.Io.KnownBytes.{Consumes}
 use Rattle.dma_script.proofs.input.read_input.Given as goal

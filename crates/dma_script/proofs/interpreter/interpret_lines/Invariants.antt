@@ -1,4 +1,4 @@
--- The lines so far were carried out, with what they printed appended.
+-- The lines so far ran, and what they printed is appended.
 use Rattle.dma_script.specs.Interpreted.{PrintsLines}
 use Rattle.dma_script.proofs.interpreter.interpret_lines.Given as goal
 

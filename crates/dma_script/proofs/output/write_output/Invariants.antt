@@ -1,4 +1,4 @@
--- What is gone from `rest` was appended, by writes that did not fail.
+-- The bytes that are no longer in `rest` were appended, by writes that did not fail.
 use Rattle.std.proofs.Common.{◌≡◌, ℕ, List, ◌++◌, length}
 use Rattle.std.specs.Io.KnownBytes.{Appends}
 use Rattle.dma_script.proofs.output.write_output.Given as goal

@@ -1,4 +1,4 @@
--- The text has the lines of the first rows, and what is left begins where they end.
+-- The text has the lines of the first rows, and the remaining bytes begin where they end.
 use Rattle.std.proofs.Common.{◌≡◌, ℕ, ◌≤◌, ◌+◌, ◌*◌, map, drop, length}
 use Rattle.std.specs.List.{range_with_len}
 use Rattle.std.specs.Slice.Iter.{chunks_rest, chunks_size}

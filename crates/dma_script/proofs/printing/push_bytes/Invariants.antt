@@ -1,4 +1,4 @@
--- The bytes so far stand behind what stood there, and there is room for the others.
+-- The text of the bytes so far follows the old text, and there is room for the others.
 use Rattle.std.proofs.Common.{◌≡◌, ◌≤◌, ◌+◌, ◌-◌, ◌*◌, ◌++◌, length, take}
 use Rattle.dma_script.specs.Printing.{spaced_bytes}
 use Rattle.dma_script.proofs.printing.push_bytes.Given as goal
