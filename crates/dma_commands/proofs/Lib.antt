@@ -9,3 +9,8 @@ pub mod DisLemmas
 pub mod PlanLemmas
 pub mod AsmLemmas
 pub mod Rows
+pub mod ScriptCalls
+pub mod ScriptSubmits
+pub mod ScriptsWithin
+pub mod ScriptReplies
+pub mod ScriptCopies

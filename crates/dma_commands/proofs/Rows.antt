@@ -1,15 +1,24 @@
 -- Small scripts, and what each of their lines prints, computed from the definitions.
 use Rattle.std.proofs.Common.{◌≡◌, ℕ, List, [], ◌∷◌, ◌++◌, refl}
-use Rattle.std.specs.Prelude.{codes, decimal}
+use Rattle.std.specs.Prelude.{Result, Ok, Err, codes, decimal}
 use Rattle.dma_mem.specs.Image.{put, after_moves}
-use Rattle.dma_mem.specs.Places.{share}
+use Rattle.dma_mem.specs.Places.{Descriptor, share}
 use Rattle.dma_engine.specs.Object.{opening}
 use Rattle.dma_engine.specs.View.{running}
 use Rattle.dma_script.specs.Printing.{fault_line}
 use Rattle.dma_script.specs.declared.fault.Cause.TheVariants.{First, SizeOutOfRange}
-use Rattle.dma_engine.specs.declared.fault.EngineFault.TheVariants.{Busy}
+use Rattle.dma_engine.specs.declared.call.Call.{Call}
+use Rattle.dma_engine.specs.declared.call.Call.TheVariants as calls
+use Rattle.dma_engine.specs.declared.call.Reply.{Reply}
+use Rattle.dma_engine.specs.declared.call.Reply.TheVariants as replies
+use Rattle.dma_engine.specs.declared.fault.EngineFault.TheVariants.{Busy, OutOfMemoryRange}
+use Rattle.dma_engine.specs.declared.turn.Turn.TheVariants.{Started, Moved}
+use Rattle.dma_script.specs.Statements.{run_script_of}
+use Rattle.dma_script.specs.declared.fault.Fault.{Fault}
+use Rattle.dma_script.specs.declared.statements.RunScript.{RunScript}
+use Rattle.dma_commands.specs.Laws.{printed_from, script_calls}
 use Rattle.dma_commands.specs.Printed.{fault_text, refused_line}
-use Rattle.dma_commands.specs.Run.{printed, step_line, totals_line}
+use Rattle.dma_commands.specs.Run.{plain_copy, printed, step_line, totals_line}
 
 -- lines, each ended by a line feed
 abbrev script : List (List ℕ) → List ℕ
@@ -54,3 +63,30 @@ queues = refl
 pauses : (printed (script (codes "memory 8 1" ∷ codes "submit 0 0+2 to 2+2" ∷ codes "issue 0" ∷ codes "pause 0" ∷ codes "step 0 3" ∷ codes "resume 0" ∷ codes "step 0" ∷ codes "write 0 AA" ∷ codes "read 4+1" ∷ []))).groups ≡ [] ∷ one_each (numbered (codes "cookie ") 1 ∷ numbered (codes "issued ") 1 ∷ codes "ok" ∷ step_line 0 (codes "paused", 3) ∷ codes "ok" ∷ step_line 0 (numbered (codes "started ") 1, 1) ∷ refused_line (fault_text (Busy 0 1)) ∷ codes "read 0x00000004 00" ∷ [])
 unfolding put after_moves opening share running
 pauses = refl
+
+-- ---- the calls of a script, and what their replies print
+
+-- the calls of what is read, none where that is a fault
+abbrev calls_read : Result RunScript Fault → List Call
+calls_read (Ok script) = script_calls script
+calls_read (Err fault) = []
+
+-- what these replies print, to the calls of what is read
+abbrev groups_read : Result RunScript Fault → List Reply → List (List (List ℕ))
+groups_read (Ok script) told = (printed_from script told).groups
+groups_read (Err fault) told = []
+
+-- One copy is submitted, and then channel 0 is in use.
+abbrev some_lines : List ℕ
+some_lines = script (codes "memory 8 1" ∷ codes "write 1 AA" ∷ codes "copy 0+0 to 4+0" ∷ codes "copy 0+2 to 7+2" ∷ codes "submit 0 0+2 to 2+2" ∷ codes "fill 0 to 1+1" ∷ codes "issue 0" ∷ codes "totals" ∷ codes "step 0 3" ∷ codes "status 0 1" ∷ [])
+
+abbrev from_to : ℕ → ℕ → Descriptor
+from_to a b = plain_copy (record { addr = a; len = 2 } ∷ []) (record { addr = b; len = 2 } ∷ [])
+
+calls_in_order : calls_read (run_script_of some_lines) ≡ calls.Write 1 (170 ∷ []) ∷ calls.Submit 0 (from_to 0 7) ∷ calls.Submit 0 (from_to 0 2) ∷ calls.Issue 0 ∷ calls.Step 0 ∷ calls.Step 0 ∷ calls.Step 0 ∷ calls.Status 0 1 ∷ []
+unfolding put after_moves opening share running
+calls_in_order = refl
+
+replies_in_order : groups_read (run_script_of some_lines) (replies.Done ∷ replies.Refused OutOfMemoryRange ∷ replies.Cookie 5 ∷ replies.Count 6 ∷ replies.Turned (Started 7) ∷ replies.Turned Moved ∷ replies.Turned Moved ∷ replies.Cookie 8 ∷ []) ≡ [] ∷ one_each (codes "ok" ∷ codes "refused EmptySegment" ∷ codes "refused OutOfMemoryRange" ∷ numbered (codes "cookie ") 5 ∷ codes "refused ChannelInUse" ∷ numbered (codes "issued ") 6 ∷ totals_line 3 0 0 ∷ []) ++ (step_line 0 (numbered (codes "started ") 7, 1) ∷ step_line 0 (codes "moved", 2) ∷ []) ∷ one_each (numbered (codes "status ") 8 ∷ [])
+unfolding put after_moves opening share running
+replies_in_order = refl

@@ -5,4 +5,5 @@ pub mod Run
 pub mod Assembled
 pub mod Disassembled
 pub mod Planned
+pub mod Laws
 pub mod inner

@@ -3,6 +3,7 @@
 
 pub mod asm;
 pub mod dis;
+pub mod laws;
 pub mod plan;
 pub mod printing;
 pub mod run;

@@ -1,5 +1,5 @@
 -- What calls from C are to the engine.
-use Rattle.std.specs.Prelude.{◌≡◌, ℤ, Option, None, Some, IsSomeAnd, List, [], ◌∷◌, ◌++◌, replicate}
+use Rattle.std.specs.Prelude.{◌≡◌, ℕ, ℤ, Option, None, Some, IsSomeAnd, List, [], ◌∷◌, ◌++◌, flat_map, replicate}
 use Rattle.dma_mem.specs.declared.marks.MarkKind.{MarkKind}
 use Rattle.dma_mem.specs.declared.segment.Segment.{Segment}
 use Rattle.dma_mem.specs.Places.{filling}
@@ -7,10 +7,10 @@ use Rattle.dma_engine.specs.declared.call.Call.{Call}
 use Rattle.dma_engine.specs.declared.call.Call.TheVariants.{Submit, Step, Mark}
 use Rattle.dma_engine.specs.declared.call.Reply.{Reply}
 use Rattle.dma_engine.specs.declared.call.Reply.TheVariants.{Turned}
-use Rattle.dma_engine.specs.View.{EngineState}
+use Rattle.dma_engine.specs.View.{EngineState, View, new_view}
 use Rattle.dma_engine.specs.Answer.{AreAnswers}
 use Rattle.dma_ffi.specs.Codes.{mark_kind}
-use Rattle.dma_ffi.specs.Told.{Answer, Answers, Asked, IsWritten, Told, Written, code_of, ask_call, ask_mark, ask_copy, ask_fill, ask_steps, replied, stepped}
+use Rattle.dma_ffi.specs.Told.{Answer, Answers, Asked, IsWritten, Told, ToldNew, Written, code_of, ask_call, ask_mark, ask_copy, ask_fill, ask_steps, replied, stepped}
 
 -- a mark of this kind, if there is one
 abbrev pub marking : Option MarkKind → Segment → List Call
@@ -44,3 +44,69 @@ CallsAreTheEngines =
     → IsSomeAnd new (λ e'. (answer : Answer) × Answers e.view asked answer e'.view × (code ≡ code_of answer)
     × IsWritten answer written
     × ((replies : List Reply) × AreReplies answer replies × AreAnswers e.view (calls_made asked answer) replies e'.view))
+
+-- ---- calls from C, one after another
+
+-- A call from C as C sees it: what it asks, the code that it returns, and what it writes.
+pub record Exchange : Type 0 where
+  pub asked : Asked
+  pub code : ℤ
+  pub written : Written
+
+-- Calls from C on one controller, one after another: the first finds this engine in it, or none, and the last leaves that.
+-- (An open of a controller that is open is refused and changes nothing: `ToldNew`.)
+abbrev pub AreExchanges : Option EngineState → List Exchange → Option EngineState → Type 0
+AreExchanges found [] left = left ≡ found
+AreExchanges found (call ∷ later) left =
+    (next : Option EngineState) × Told found call.asked call.code call.written next × AreExchanges next later left
+
+-- What the engine does for a call from C: its answer, and its replies to the engine's calls that are made of it.
+pub record Service : Type 0 where
+  pub answer : Answer
+  pub replies : List Reply
+
+-- An engine with this view does this for a call from C, and has that view then. The code and what is written are the answer's,
+-- and the answer is that of the replies, or of a reading of the view.
+pub record Serves (v : View) (call : Exchange) (service : Service) (w : View) : Type 0 where
+  pub answers : Answers v call.asked service.answer w
+  pub code : call.code ≡ code_of service.answer
+  pub written : IsWritten service.answer call.written
+  pub replies : AreReplies service.answer service.replies
+  pub made : AreAnswers v (calls_made call.asked service.answer) service.replies w
+
+-- It does these, one for each call from C, each with the view that the one before leaves.
+abbrev pub ServesAll : View → List Exchange → List Service → View → Type 0
+ServesAll v [] [] w = w ≡ v
+ServesAll v (call ∷ later) (service ∷ services) w =
+    (next : View) × Serves v call service next × ServesAll next later services w
+ServesAll v _ _ w = ⊥
+
+-- the engine's calls that are made of all calls from C, in order
+abbrev pub all_calls : List Exchange → List Service → List Call
+all_calls (call ∷ later) (service ∷ services) = calls_made call.asked service.answer ++ all_calls later services
+all_calls _ _ = []
+
+-- and the replies to them
+abbrev pub all_replies : List Service → List Reply
+all_replies services = flat_map (λ service. service.replies) services
+
+-- Calls from C, however many, are one list of the engine's calls, made one after another. What each of them returns and writes
+-- is made of its replies in that list.
+abbrev pub AreOneList : View → List Exchange → View → Type 0
+AreOneList v calls w =
+    (services : List Service) × ServesAll v calls services w
+    × AreAnswers v (all_calls calls services) (all_replies services) w
+
+-- This holds of all calls from C on an open controller, one after another. None of them closes it.
+abbrev pub ExchangesAreTheEngines : Type 0
+ExchangesAreTheEngines =
+    (e : EngineState) (calls : List Exchange) (left : Option EngineState) → AreExchanges (Some e) calls left
+    → IsSomeAnd left (λ e'. AreOneList e.view calls e'.view)
+
+-- After an open that makes an engine, the list begins with a new engine of that size and number of channels. So what holds of
+-- all lists of a new engine's calls holds of all that C does with a controller between an open and a close.
+abbrev pub SessionsAreTheEngines : Type 0
+SessionsAreTheEngines =
+    (size channels : ℕ) (code : ℤ) (e : EngineState) (calls : List Exchange) (left : Option EngineState)
+    → ToldNew None size channels code (Some e) → AreExchanges (Some e) calls left
+    → IsSomeAnd left (λ e'. AreOneList (new_view size channels) calls e'.view)

@@ -1,0 +1,143 @@
+-- What a line prints is made of the replies to its calls.
+use Rattle.std.proofs.Common.{◌≡◌, ℕ, zero, suc, Bool, true, false, if◌then◌else◌, List, [], ◌∷◌, ◌++◌, length, take, drop, codes, Option, Some, None, refl, ap, sym, ◌∙◌}
+use Rattle.std.specs.Prelude.{replicate}
+use Rattle.std.proofs.Math.Seq.{take-append_seam, drop-append_seam}
+use Rattle.dma_mem.specs.Places.{Descriptor}
+use Rattle.dma_mem.specs.Refusals.{refusal_of}
+use Rattle.dma_mem.specs.declared.transfer.TransferFault.{TransferFault}
+use Rattle.dma_engine.specs.declared.call.Call.{Call}
+use Rattle.dma_engine.specs.declared.call.Call.TheVariants as calls
+use Rattle.dma_engine.specs.declared.call.Reply.{Reply}
+use Rattle.dma_engine.specs.View.{View}
+use Rattle.dma_engine.specs.Answer.{answer, answers}
+use Rattle.dma_script.specs.declared.statements.Statement.{Statement}
+use Rattle.dma_script.specs.declared.statements.Statement.TheVariants.{Write, Read, Copy, Fill, Submit, Issue, Pause, Resume, Terminate, Step, Status, Result as Outcome, Mark, Unmark, Raise, Checkpoint, Totals}
+use Rattle.dma_commands.specs.Printed.{refused_line, reply_text}
+use Rattle.dma_commands.specs.Run.{Answered, call_answer, carried_through, copied, copied_after, goes_on, is_in_use, is_refused, line_answer, lines_answered, most_steps, plain_copy, plain_fill, stepped_through, through_line, told, unless_unfit}
+use Rattle.dma_commands.specs.Transfers.{transfer_of}
+use Rattle.dma_commands.specs.Laws.{call_lines, calls_after, calls_in, calls_of, carrying_calls, groups_from, if_fit, last_of, lines_from, rule_or, steps_taken, through_calls, through_lines, view_after}
+use Rattle.dma_commands.proofs.Served.{answers-append}
+
+-- ---- a copy's steps
+
+-- the steps that a copy takes, all answered
+abbrev step_replies : ℕ → View → List Reply × View
+step_replies n v = answers v (replicate n (calls.Step 0))
+
+-- what the steps after a first answer make of it, by whether the copy goes on
+step_more : (n : ℕ) (first : Reply × View) (b : Bool) → stepped_through n first.1 ≡ (let q = step_replies (steps_taken n first.1) first.1 in (last_of first.0 q.0, q.1)) → (if b then stepped_through n first.1 else first) ≡ (let q = answers first.1 (replicate (if b then steps_taken n first.1 else 0) (calls.Step 0)) in (last_of first.0 q.0, q.1))
+step_more n first true more = more
+step_more n first false more = refl
+
+pub one-more : (n : ℕ) (w : View) (b : Bool) → (if b then suc (steps_taken n w) else 1) ≡ suc (if b then steps_taken n w else 0)
+one-more n w true = refl
+one-more n w false = refl
+
+-- the last of a copy's steps is where it ends
+pub steps_end : (n : ℕ) (v : View) (before : Reply) → stepped_through n v ≡ (let q = step_replies (steps_taken n v) v in (last_of before q.0, q.1))
+unfolding stepped_through steps_taken
+steps_end zero v before = refl
+steps_end (suc n) v before =
+    let first = answer v (calls.Step 0) in
+    let b = goes_on first.0 in
+    step_more n first b (steps_end n first.1 first.0)
+    ∙ ap (λ (k : ℕ). let q = step_replies k v in (last_of before q.0, q.1)) (sym (one-more n first.1 b))
+
+-- ---- a copy's line
+
+-- what a copy prints of its replies, and the view that they leave
+abbrev through_made : List ℕ → List Reply × View → Answered
+through_made start a = (through_lines start a.0, a.1)
+
+abbrev with_first : Reply → List Reply × View → List Reply × View
+with_first reply rest = (reply ∷ rest.0, rest.1)
+
+-- an issue and its steps
+carried_is : (start : List ℕ) (v : View) (submitted : Reply) → carried_through start v ≡ through_made start (with_first submitted (answers v (carrying_calls v)))
+carried_is start v submitted =
+    let issued = answer v (calls.Issue 0) in
+    ap (λ (last : Reply × View). told (through_line start last.0) last.1) (steps_end most_steps issued.1 issued.0)
+
+after_is : (start : List ℕ) (s : Reply × View) (b : Bool) → (if b then told (reply_text s.0) s.1 else carried_through start s.1) ≡ through_made start (with_first s.0 (answers s.1 (if b then [] else carrying_calls s.1)))
+after_is start s true = refl
+after_is start s false = carried_is start s.1 s.0
+
+copied_is : (start : List ℕ) (v : View) (t : Descriptor) (b : Bool) → (if b then told (refused_line (codes "ChannelInUse")) v else copied_after start (answer v (calls.Submit 0 t))) ≡ through_made start (answers v (if b then [] else calls.Submit 0 t ∷ calls_after (answer v (calls.Submit 0 t))))
+copied_is start v t true = refl
+copied_is start v t false =
+    let s = answer v (calls.Submit 0 t) in after_is start s (is_refused s.0)
+
+-- what is made of the replies to the calls of a transfer's line, which breaks this rule or none
+abbrev rule_made : Option TransferFault → (List Reply → List (List ℕ)) → List Reply × View → Answered
+rule_made fault lines a = (rule_or fault (lines a.0), a.1)
+
+through_is : (start : List ℕ) (v : View) (t : Descriptor) (fault : Option TransferFault) → unless_unfit fault v (copied start v t) ≡ rule_made fault (through_lines start) (answers v (if_fit fault (through_calls v t)))
+through_is start v t None = copied_is start v t (is_in_use v)
+through_is start v t (Some fault) = refl
+
+submit_is : (v : View) (ch : ℕ) (t : Descriptor) (fault : Option TransferFault) → unless_unfit fault v (call_answer v (calls.Submit ch t)) ≡ rule_made fault (call_lines (calls.Submit ch t ∷ [])) (answers v (if_fit fault (calls.Submit ch t ∷ [])))
+submit_is v ch t None = refl
+submit_is v ch t (Some fault) = refl
+
+-- ---- a line
+
+-- what is made of the replies to a line's calls
+abbrev pub line_made : View → Statement → List Reply × View → Answered
+line_made v line a = (lines_from v line a.0, a.1)
+
+pub line_is : (v : View) (line : Statement) → line_answer v line ≡ line_made v line (answers v (calls_of v line))
+line_is v (Write addr bytes) = refl
+line_is v (Read segment) = refl
+line_is v (Copy lists) =
+    let t = plain_copy lists.src lists.dst in through_is (codes "copy ") v t (refusal_of t)
+line_is v (Fill src dst) =
+    let t = plain_fill src dst in through_is (codes "fill ") v t (refusal_of t)
+line_is v (Submit ch line) =
+    let t = transfer_of line in submit_is v ch t (refusal_of t)
+line_is v (Issue ch) = refl
+line_is v (Pause ch) = refl
+line_is v (Resume ch) = refl
+line_is v (Terminate ch) = refl
+line_is v (Step ch count) = refl
+line_is v (Status ch cookie) = refl
+line_is v (Outcome ch cookie) = refl
+line_is v (Mark kind segment) = refl
+line_is v Unmark = refl
+line_is v (Raise event) = refl
+line_is v Checkpoint = refl
+line_is v Totals = refl
+
+-- ---- the lines of a script
+
+length-answers : (v : View) (cs : List Call) → length (answers v cs).0 ≡ length cs
+length-answers v [] = refl
+length-answers v (call ∷ cs) = ap suc (length-answers (answer v call).1 cs)
+
+-- the replies to a line's own calls, and those to the calls of the lines behind it
+pub first-replies : (v : View) (line : Statement) (rest : List Statement) → take (length (calls_of v line)) (answers v (calls_in v (line ∷ rest))).0 ≡ (answers v (calls_of v line)).0
+first-replies v line rest =
+    let own = calls_of v line in
+    let a = answers v own in
+    let b = answers a.1 (calls_in a.1 rest) in
+    ap (λ (x : List Reply × View). take (length own) x.0) (answers-append v own (calls_in a.1 rest))
+    ∙ ap (λ (k : ℕ). take k (a.0 ++ b.0)) (sym (length-answers v own)) ∙ take-append_seam a.0 b.0
+
+pub later-replies : (v : View) (line : Statement) (rest : List Statement) → drop (length (calls_of v line)) (answers v (calls_in v (line ∷ rest))).0 ≡ (answers (view_after v line) (calls_in (view_after v line) rest)).0
+later-replies v line rest =
+    let own = calls_of v line in
+    let a = answers v own in
+    let b = answers a.1 (calls_in a.1 rest) in
+    ap (λ (x : List Reply × View). drop (length own) x.0) (answers-append v own (calls_in a.1 rest))
+    ∙ ap (λ (k : ℕ). drop k (a.0 ++ b.0)) (sym (length-answers v own)) ∙ drop-append_seam a.0 b.0
+
+pub groups_are : (v : View) (lines : List Statement) → lines_answered v lines ≡ groups_from v lines (answers v (calls_in v lines)).0
+groups_are v [] = refl
+groups_are v (line ∷ rest) =
+    let w = view_after v line in
+    let n = length (calls_of v line) in
+    let all = (answers v (calls_in v (line ∷ rest))).0 in
+    let own = (answers v (calls_of v line)).0 in
+    ap (λ (x : Answered). x.0 ∷ lines_answered x.1 rest) (line_is v line)
+    ∙ ap (λ (g : List (List (List ℕ))). lines_from v line own ∷ g) (groups_are w rest)
+    ∙ sym (ap (λ (r : List Reply). lines_from v line r ∷ groups_from w rest (drop n all)) (first-replies v line rest)
+    ∙ ap (λ (r : List Reply). lines_from v line own ∷ groups_from w rest r) (later-replies v line rest))

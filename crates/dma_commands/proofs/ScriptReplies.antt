@@ -1,0 +1,105 @@
+-- Scripts are carried out by calls of the engine, and print its replies.
+use Rattle.std.proofs.Common.{◌≡◌, ◌≢◌, ℕ, zero, suc, Bool, true, false, ◌||◌, List, [], ◌∷◌, length, Option, Some, None, refl, ap, sym, subst, ◌∙◌, arith}
+use Rattle.std.specs.Prelude.{nat_lt, is_none, Ok}
+use Rattle.std.proofs.lemmas.Bool.{false≢true}
+use Rattle.dma_engine.specs.declared.call.Call.{Call}
+use Rattle.dma_engine.specs.declared.call.Call.TheVariants.{Write, Read, Submit, Issue, Pause, Resume, Terminate, Step, Status, Result as ResultOf, Mark, Unmark, Raise, Checkpoint}
+use Rattle.dma_engine.specs.declared.call.Reply.{Reply}
+use Rattle.dma_engine.specs.declared.call.Reply.TheVariants.{Done, Refused}
+use Rattle.dma_engine.specs.declared.fault.EngineFault.{EngineFault}
+use Rattle.dma_engine.specs.declared.fault.EngineFault.TheVariants.{NoMemory}
+use Rattle.dma_engine.specs.View.{View}
+use Rattle.dma_engine.specs.Answer.{AreAnswers, CallAnswers, answer, answers, checkpoint_fault, checkpointed, is_started, stores_base, takes_memory, unless}
+use Rattle.dma_engine.proofs.JoinedCalls.{answer_is_one, answers_are_answers, answers_despite_memory}
+use Rattle.dma_script.specs.Statements.{run_script_of}
+use Rattle.dma_script.specs.declared.statements.RunScript.{RunScript}
+use Rattle.dma_commands.specs.Run.{Answered, printed, printed_of}
+use Rattle.dma_commands.specs.Laws.{HaveMemory, LinesPrintAnswers, ScriptsPrintAnswers, ScriptsPrintReplies, calls_of, opening_of, printed_from, script_calls}
+use Rattle.dma_commands.proofs.ScriptCalls.{groups_are, line_is}
+use Rattle.dma_commands.proofs.ScriptSubmits.{calls-made}
+use Rattle.dma_commands.proofs.ScriptsWithin.{can-be-made, script_within}
+
+-- ---- an answer with enough memory is no want of it
+
+-- a checkpoint that stores a base is answered that it is done
+stored-done : (v : View) (fault : Option EngineFault) → is_none fault ≡ true → (unless fault v (Done, checkpointed v)).0 ≡ Done
+stored-done v None is = refl
+stored-done v (Some fault) is = absurd (false≢true is)
+
+no-base : (v : View) (call : Call) → (answer v call).0 ≡ Refused NoMemory → stores_base v call ≡ false
+no-base v Checkpoint is =
+    let by : (b : Bool) → is_none (checkpoint_fault v) ≡ b → b ≡ false = λ b. elim b as (λ b. is_none (checkpoint_fault v) ≡ b → b ≡ false) [
+      | true ↦ λ none. absurd (let bad : Done ≡ Refused NoMemory = sym (stored-done v (checkpoint_fault v) none) ∙ is in cc)
+      | false ↦ λ _. refl
+    ] in
+    by _ refl
+no-base v (Write addr bytes) is = refl
+no-base v (Read addr len) is = refl
+no-base v (Submit ch t) is = refl
+no-base v (Issue ch) is = refl
+no-base v (Pause ch) is = refl
+no-base v (Resume ch) is = refl
+no-base v (Terminate ch) is = refl
+no-base v (Step ch) is = refl
+no-base v (Status ch cookie) is = refl
+no-base v (ResultOf ch cookie) is = refl
+no-base v (Mark kind segment) is = refl
+no-base v Unmark is = refl
+no-base v (Raise event) is = refl
+
+-- a number isn't below itself
+not-below : (n : ℕ) → nat_lt n n ≡ false
+not-below n = grind arith
+
+answer-served : (v : View) (call : Call) → (answer v call).0 ≢ Refused NoMemory
+answer-served v call is =
+    let w = (answer v call).1 in
+    let starved : CallAnswers v call (Refused NoMemory) w = subst (λ (r : Reply). CallAnswers v call r w) is (answer_is_one v call) in
+    let same : w ≡ v = starved.1 in
+    let none : takes_memory v call ≡ false =
+    ap (λ b. b || (is_started (answer v call).0 || nat_lt (length v.history) (length w.history))) (no-base v call is)
+    ∙ ap (λ (r : Reply). is_started r || nat_lt (length v.history) (length w.history)) is
+    ∙ ap (λ (u : View). nat_lt (length v.history) (length u.history)) same ∙ not-below (length v.history) in
+    false≢true (sym none ∙ starved.0)
+
+-- and so of calls in order
+have_memory : (v : View) (cs : List Call) → HaveMemory (answers v cs).0
+have_memory v [] k d less = absurd (omega (arith, less))
+have_memory v (call ∷ cs) zero d less = answer-served v call
+have_memory v (call ∷ cs) (suc k) d less = have_memory (answer v call).1 cs k d (omega (arith, less))
+
+-- ---- lines and scripts
+
+pub lines_print_answers : LinesPrintAnswers
+lines_print_answers v line =
+    let own = calls_of v line in
+    let a = answers v own in
+    let is = line_is v line in (
+      a.0,
+      have_memory v own,
+      subst (λ (w : View). AreAnswers v own a.0 w) (sym (ap (λ (x : Answered). x.1) is)) (answers_are_answers v own),
+      ap (λ (x : Answered). x.0) is,
+    )
+
+-- what is printed, by the answers with enough memory
+printed-is : (input : List ℕ) (script : RunScript) → run_script_of input ≡ Ok script → printed input ≡ printed_from script (answers (opening_of script) (script_calls script)).0
+printed-is input script read =
+    ap printed_of read
+    ∙ ap (λ (g : List (List (List ℕ))). record { groups = [] ∷ g; status = 0 }) (groups_are (opening_of script) script.statements)
+
+pub scripts_print_answers : ScriptsPrintAnswers
+scripts_print_answers input script read =
+    let v = opening_of script in
+    let cs = script_calls script in
+    let a = answers v cs in (
+      can-be-made script (script_within input script read),
+      calls-made v script.statements,
+      (a.0, a.1, have_memory v cs, answers_are_answers v cs, printed-is input script read),
+    )
+
+pub scripts_print_replies : ScriptsPrintReplies
+scripts_print_replies input script replies left read served made =
+    let v = opening_of script in
+    let cs = script_calls script in
+    printed-is input script read
+    ∙ ap (λ (x : List Reply × View). printed_from script x.0) (sym (answers_despite_memory v left cs replies served made))
