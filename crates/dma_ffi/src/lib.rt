@@ -1,12 +1,14 @@
-//! The engine for programs in C and other languages: a controller that the caller keeps, and one function for each call.
+//! The library for C: a controller and channels that the caller keeps, one function for each call of `dma330.h`.
 //!
-//! C declares `#include "dma330.h"`. Each call on a controller tells C what the engine answers: `Told` says so of all of them.
-//! Duties of the caller, which no proof can see (docs/EMBEDDING.md has them all): a controller is zeros before its first call,
-//! is not copied while it is open, and its members are neither read nor written; one call at a time has it, in an order that
-//! threads keep by a lock, by a start or a join, or by a sequentially consistent atomic; pointers are not null, aligned as
-//! their types, and good for as many elements as is said; what they point to doesn't overlap, but for lists that are only
-//! read, and nobody else writes it, or reads what the call writes, while the call runs; allocation is by one allocator, which
-//! aligns as C demands; no call comes from a signal handler, or from the forked child of a process with threads.
+//! Proved: each call returns the code of the engine's answer and writes it (`Told`); the calls between an open and a close are
+//! the engine's (`laws::exchanges_are_the_engines`); a channel's call is the chain of its single steps over the caller's
+//! memory and flags, each code has its cause, and a refused call changes nothing (`specs/Channels.antt`).
+//!
+//! The proofs assume what a caller owes (docs/EMBEDDING.md): controllers and channels are zeros before their first call, are
+//! not copied, and are used by one call at a time, ordered by a lock, a start, a join or a sequentially consistent atomic;
+//! pointers are not null, aligned, good for their counts, and don't overlap except for lists that are only read; nobody else
+//! writes what a call reads or reads what it writes; no call comes from a signal handler or the child of a fork of a process
+//! with threads. Not proved: that a close frees everything.
 #![tactic(auto)]
 
 ghost use Rattle.std.specs.Prelude.{◌≡◌, length, None};
