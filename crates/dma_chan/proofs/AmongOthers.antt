@@ -85,17 +85,17 @@ touched_below t size a below touches =
       | inr i ↦ below_at size (destinations t) i.0 a (below_places size t.dst parts.1) i.1 i.2
     ]
 
--- ---- along the way
+-- ---- instruction by instruction
 
--- Before instruction number n: where the channel has come, and at what the transfer touches the memory is the first one with
--- the bytes stored so far laid over it. It has the transfer's ranges.
+-- Before instruction number n: how far the channel is in the program, and at every address that the transfer touches
+-- the memory is the first one with the bytes stored so far laid over it. It contains the transfer's ranges.
 pub record Among (t : Descriptor) (first : List ℕ) (n : ℕ) (image : List ℕ) (c : ChannelValue) : Type 0 where
   pub at : IsAt t n image c
   pub same : (a : ℕ) → Touches t a → get_or image a 0 ≡ get_or (laid_over first t (stored_after t n)) a 0
   pub fits : lies_below t (length image) ≡ true
 
 module _ (t : Descriptor) (marks : MarkList) (first : List ℕ) (h : IsTransfer t) (below : lies_below t (length first) ≡ true) where
-  -- what step number n leaves at what the transfer touches, where it moves
+  -- the memory after step number n at what the transfer touches, if the step moves
   left_same : (n : ℕ) (m : Shared) (c : ChannelValue) → Among t first n m.image c → (step_at t n marks m).0 ≡ Moved → (a : ℕ) → Touches t a → get_or (step_at t n marks m).1.image a 0 ≡ get_or (laid_over first t (stored_after t (n + 1))) a 0
   left_same n m c w moved a touches =
       let reads = read_places t n in

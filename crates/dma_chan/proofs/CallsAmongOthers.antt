@@ -40,9 +40,9 @@ none_met kind marks places k n none =
     let at = Contains-drop k places w.1 (Contains-take n (drop k places) w.1 (w.0, w.2, w.3)) in
     false≢true (sym (none w.1 at) ∙ w.4))
 
--- ---- where calls lead
+-- ---- the state after calls
 
--- the program goes on: so many instructions were executed
+-- the program is not finished: n instructions were executed
 abbrev pub Runs : Descriptor → List ℕ → Stand → Type 0
 Runs t first u = (n : ℕ) × Among t first n u.image u.channel
 
@@ -51,7 +51,7 @@ pub record IsDone (t : Descriptor) (first : List ℕ) (u : Stand) : Type 0 where
   pub dropped : u.channel.program ≡ None
   pub all : (a : ℕ) → Touches t a → get_or u.image a 0 ≡ get_or (laid first t (size_of t)) a 0
 
--- where a step leads, by its answer
+-- the state after a step, by its answer
 abbrev pub Leads : Descriptor → List ℕ → Option ChanTurn → Stand → Type 0
 Leads t first (Some Ended) w = IsDone t first w
 Leads t first turn w = Runs t first w
@@ -67,7 +67,7 @@ at_first t first u h below channels images = (
   },
 )
 
--- a stand whose channel has a program goes on
+-- a channel that still has a program is not finished
 goes : (t : Descriptor) (first : List ℕ) (last : Option ChanTurn) (v : Stand) → Leads t first last v → IsSome v.channel.program → Runs t first v
 goes t first None v r some = r
 goes t first (Some Moved) v r some = r

@@ -30,7 +30,7 @@ use Rattle.dma_chan.proofs.ShapeLaws.{is_store}
 use Rattle.dma_chan.proofs.AmongOthers.{Among, keeps_image}
 use Rattle.dma_chan.proofs.CallsAmongOthers.{Leads, Runs, agrees, at_first, call, call_fails, many, survived}
 
--- ---- what a step of a transfer's program leaves where the transfer doesn't write
+-- ---- a step of a transfer's program changes nothing where the transfer doesn't write
 
 zip-keys : (ds bs : List ℕ) (a : ℕ) → Contains (keys_of (zip ds bs)) a → Contains ds a
 zip-keys [] bs a h = absurd (omega (arith, h.1))
@@ -88,15 +88,15 @@ module _ (transfers : ℕ → Descriptor) (count : ℕ) (marks : ℕ → MarkLis
   abbrev first : List ℕ
   first = (before 0).image
 
-  -- a channel goes on in its transfer's program
+  -- a channel is not finished with its transfer's program
   abbrev Goes : ℕ → Stand → Type 0
   Goes ch u = Runs (transfers ch) first u
 
-  -- how a channel is found before a call
+  -- a channel before a call
   abbrev found : ℕ → ℕ → Stand
   found k ch = record { channel = channels k ch; image = (before k).image; flags = (before k).flags }
 
-  -- it goes on, or it has ended
+  -- it is not finished, or it has ended
   abbrev Is : ℕ → ℕ → Type 0
   Is k ch = Goes ch (found k ch) ⊎ ((channels k ch).program ≡ None)
 
@@ -107,12 +107,12 @@ module _ (transfers : ℕ → Descriptor) (count : ℕ) (marks : ℕ → MarkLis
   its_below : (k : ℕ) → k < calls → lies_below (transfers (who k)) (length first) ≡ true
   its_below k l = run.below 0 (who k) (omega arith) (run.within k l)
 
-  -- the channel of a call goes on
+  -- the channel of a call is not finished
   caller : (k : ℕ) → k < calls → Is k (who k) → Goes (who k) (before k)
   caller k l (inl r) = (r.0, subst (λ (c : ChannelValue). Among (transfers (who k)) first r.0 (before k).image c) (sym (run.finds k l)) r.1)
   caller k l (inr none) = absurd (not_none (before k).channel.program (run.is_loaded k l) (ap (λ (c : ChannelValue). c.program) (run.finds k l) ∙ none))
 
-  -- after the call it goes on or has ended
+  -- after the call it is not finished, or it has ended
   either_way : (ch : ℕ) (o : Option ChanTurn) (v : Stand) → Leads (transfers ch) first o v → Goes ch v ⊎ (v.channel.program ≡ None)
   either_way ch None v r = inl r
   either_way ch (Some Moved) v r = inl r

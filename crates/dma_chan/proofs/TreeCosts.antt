@@ -64,7 +64,7 @@ bursts_counted q =
     let both = sum_two (counted (where_some (q / 256) nested)) (counted (where_some (q % 256) rest)) (1 + 1282 * (q / 256)) (1 + 5 * (q % 256)) (some_counted (q / 256) (1 + 1282 * (q / 256)) nested many) (some_counted (q % 256) (1 + 5 * (q % 256)) rest few) in
     omega (arith, both)
 
--- so many beats of at least one byte
+-- q bursts of 16 beats, each of at least one byte
 bursts_below : (q b : ℕ) → 1 ≤ b → 16 * q ≤ q * (16 * b)
 bursts_below zero b low = omega arith
 bursts_below (suc q) b low = omega (arith, bursts_below q b low)

@@ -13,7 +13,7 @@ use Rattle.dma_chan.specs.Programs.{ProgramValue}
 
 -- ---- pieces
 
--- One source segment of n bytes from an address, cut at the ends of the destinations; and the destinations that it leaves.
+-- The pieces of n source bytes from address a, cut at the ends of the destinations; and the rest of the destinations.
 abbrev pub cut_one : ℕ → ℕ → List Segment → List Piece × List Segment
 cut_one a n [] = ([], [])
 cut_one a n (d ∷ ds) =
@@ -25,21 +25,21 @@ cut_one a n (d ∷ ds) =
     (record { src = a; dst = d.addr; len = d.len; fill = false } ∷ rest.0, rest.1))
     else (record { src = a; dst = d.addr; len = n; fill = false } ∷ [], ds))
 
--- Two lists of as many bytes, cut at every end of a segment of either.
+-- The pieces of two lists with equally many bytes, cut at every end of a segment of either list.
 abbrev pub pieces : List Segment → List Segment → List Piece
 pieces [] ds = []
 pieces (s ∷ ss) ds = let cut = cut_one s.addr s.len ds in cut.0 ++ pieces ss cut.1
 
--- A destination segment, with the byte of a fill for each of its places.
+-- The piece of a destination segment that is filled with the byte at address a.
 abbrev pub fill_piece : ℕ → Segment → Piece
 fill_piece a d = record { src = a; dst = d.addr; len = d.len; fill = true }
 
--- For the source segment of a fill, of which there is one, each destination segment.
+-- For each source segment, one piece for each destination segment. A fill has one source segment.
 abbrev pub fill_pieces : List Segment → List Segment → List Piece
 fill_pieces src dst = flat_map (λ s. map (fill_piece s.addr) dst) src
 
--- The pieces of a transfer: the parts of it that lie together at both ends, and of a fill one for each destination segment
--- (profile).
+-- The pieces of a transfer: its bytes cut at every segment end of either list, so that each piece is contiguous at both
+-- ends, or in a fill one piece for each destination segment (profile).
 abbrev pub pieces_of : Descriptor → List Piece
 pieces_of t = if t.fill then fill_pieces t.src t.dst else pieces t.src t.dst
 
@@ -49,7 +49,7 @@ pieces_of t = if t.fill then fill_pieces t.src t.dst else pieces t.src t.dst
 abbrev pub fits : ℕ → Piece → Bool
 fits b p = p.src % b == 0 && p.dst % b == 0 && nat_le b p.len
 
--- the bytes a beat of a piece: the largest of 16, 8, 4, 2, 1 that fits, and of a fill 1
+-- the bytes of a beat of a piece: the largest of 16, 8, 4, 2, 1 that fits, and in a fill 1
 unfoldable pub beat_of : Piece → ℕ
 beat_of p =
     if p.fill then 1 else (
@@ -59,35 +59,35 @@ beat_of p =
 abbrev pub size_code : ℕ → ℕ
 size_code b = if b == 16 then 4 else (if b == 8 then 3 else (if b == 4 then 2 else (if b == 2 then 1 else 0)))
 
--- The control word of bursts of k beats of b bytes at both ends, with both increments, or of a fill with that of the
--- destination alone: source increment in bit 0, source size from bit 1 and length from bit 4, destination increment in bit
--- 14, size from bit 15 and length from bit 18.
+-- The control word of bursts of k beats of b bytes at both ends. Both addresses increment, or in a fill the destination
+-- alone: source increment in bit 0, source size from bit 1 and length from bit 4, destination increment in bit 14, size
+-- from bit 15 and length from bit 18.
 abbrev pub control_word : Bool → ℕ → ℕ → ℕ
 control_word fill b k =
     (if fill then 0 else 1) + 2 * size_code b + 2 ^ 4 * (k - 1) + 2 ^ 14 + 2 ^ 15 * size_code b + 2 ^ 18 * (k - 1)
 
--- One burst read and written, each with its barrier.
+-- The instructions that read and write one burst, each followed by its barrier.
 abbrev pub body : Tree
 body = in_order (One Ld ∷ One Rmb ∷ One St ∷ One Wmb ∷ [])
 
--- a tree, where a number isn't 0
+-- the tree if the number isn't 0, else nothing
 abbrev pub where_some : ℕ → Tree → Tree
 where_some zero t = Nothing
 where_some (suc n) t = t
 
--- q bursts: whole turns of 256 by both counters, and the rest by one
+-- q bursts: the full rounds of 256 as two nested loops, and the rest as one loop
 abbrev pub bursts : ℕ → Tree
 bursts q =
     in_order (
     where_some (q / 256) (Repeat Lc0 (q / 256) (Repeat Lc1 256 body))
     ∷ where_some (q % 256) (Repeat Lc1 (q % 256) body) ∷ [])
 
--- a tree under a control word
+-- a tree after the DMAMOV that sets the control word
 abbrev pub under : ℕ → Tree → Tree
 under w t = Then (One (Mov Ccr w)) t
 
--- n bytes from where the registers point: bursts of 16 beats of b bytes, one burst of the whole beats left, and one of
--- the bytes left
+-- n bytes starting at the addresses in the registers: bursts of 16 beats of b bytes, then one burst of the full beats
+-- left, then one of the bytes left
 unfoldable pub parts : Bool → ℕ → ℕ → Tree
 parts fill b n =
     let q = n / (16 * b) in
@@ -98,20 +98,20 @@ parts fill b n =
     ∷ where_some m (under (control_word fill b m) body)
     ∷ where_some t (under (control_word fill 1 t) body) ∷ [])
 
--- the code of a piece by beats of b bytes: both addresses, and then its bytes
+-- the code of a piece with beats of b bytes: it sets both addresses and then moves the bytes
 abbrev pub piece_code : ℕ → Piece → Tree
 piece_code b p = Then (One (Mov Sar p.src)) (Then (One (Mov Dar p.dst)) (parts p.fill b p.len))
 
--- The code of a piece.
+-- The code of a piece with the beats of `beat_of`.
 abbrev pub piece_tree : Piece → Tree
 piece_tree p = piece_code (beat_of p) p
 
--- waiting for the event first, without the invalid flag
+-- the DMAWFE of an event, with the invalid flag clear, or nothing without an event
 abbrev pub wait_tree : Option ℕ → Tree
 wait_tree None = Nothing
 wait_tree (Some e) = One (Wfe e false)
 
--- signalling the event last
+-- the DMASEV of an event, or nothing without an event
 abbrev pub signal_tree : Option ℕ → Tree
 signal_tree None = Nothing
 signal_tree (Some e) = One (Sev e)
@@ -120,11 +120,11 @@ signal_tree (Some e) = One (Sev e)
 abbrev pub tree_of : Descriptor → Tree
 tree_of t = in_order (wait_tree t.wait ∷ in_order (map piece_tree (pieces_of t)) ∷ signal_tree t.signal ∷ One End ∷ [])
 
--- the instructions that its program executes
+-- the instructions that a transfer's program executes, in order
 unfoldable pub members : Descriptor → List Insn
 members t = unrolled (tree_of t)
 
--- how many they are
+-- how many instructions a transfer's program executes
 unfoldable pub cost : Descriptor → ℕ
 cost t = length (members t)
 

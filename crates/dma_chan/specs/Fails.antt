@@ -1,4 +1,4 @@
--- A program that is run alone and not to its end, for want of memory or since it is too long.
+-- A program that is run alone and not to its end, because it is too long or memory runs out.
 use Rattle.std.specs.Prelude.{◌≡◌, ℕ, ◌<◌, ◌≤◌, false, List, length}
 use Rattle.dma_mem.specs.Marking.{MarkList}
 use Rattle.dma_mem.specs.Pages.{Paged}
@@ -8,16 +8,17 @@ use Rattle.dma_chan.specs.Exec.{State}
 use Rattle.dma_chan.specs.Run.{state_after, opening, GoesOnFor}
 use Rattle.dma_chan.specs.Ready.{next_finds}
 
--- The first instructions of a program, fewer than the limit, have run from a state; the memory is what they leave, and the
--- next one is a store that still lacks a page of it.
+-- The first `turns` instructions of a program, fewer than the limit, were executed from a state. The memory has the
+-- image after them, and the next instruction doesn't find all the pages that it writes.
 pub record WantsPage (marks : MarkList) (program : List ℕ) (s : State) (limit turns : ℕ) (left : Paged) : Type 0 where
   pub below_limit : turns < limit
   pub goes_on : GoesOnFor marks program s turns
   pub leaves : (state_after marks program s turns).image ≡ left.image
   pub wants : next_finds program (state_after marks program s turns) left ≡ false
 
--- Why a program isn't run to its end with these marks, and the memory before and after. It is too long or memory was refused before anything
--- has run, and nothing has changed, no page either; or a page was refused to the store after so many instructions.
+-- Why a program isn't run to its end with these marks, and the memory before and after. Either it is too long, or
+-- memory ran out before any instruction was executed; then nothing has changed, including the pages. Or a page of the
+-- store after `turns` instructions could not be allocated.
 abbrev pub RunFails : MarkList → List ℕ → Paged → ℕ → RunFault → Paged → Type 0
 RunFails marks program old limit ProgramTooLong new = (8192 < length program) × (new ≡ old)
 RunFails marks program old limit (PageRefused turns) new =

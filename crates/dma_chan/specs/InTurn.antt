@@ -12,10 +12,10 @@ use Rattle.dma_chan.specs.Compiled.{compiled}
 use Rattle.dma_chan.specs.Stepping.{Stand, TakesSteps}
 use Rattle.dma_chan.specs.Others.{Misses, Touches}
 
--- Calls on `count` channels, into each of which the program of its own transfer was loaded. Call number k has marks of its own
--- and finds a memory that has the ranges of all transfers. It takes steps of the channel `who k`, which has a program still, and
--- leaves the other channels as they are. Between two calls others may write any byte that none of the transfers reads or writes,
--- change the memory's size, and do to the flags what they like.
+-- Calls on `count` channels, each of which starts with the program of its own transfer. Call number k has its own
+-- marks, and its memory contains the ranges of all transfers. It executes steps of the channel `who k`, whose program
+-- is still loaded, and does not change the other channels. Between two calls others may write any byte that no transfer
+-- reads or writes, change the memory's size, and change the flags in any way.
 pub record CalledInTurn (transfers : ℕ → Descriptor) (count : ℕ) (marks : ℕ → MarkList) (calls : ℕ) (who : ℕ → ℕ) (channels : ℕ → ℕ → ChannelValue) (before after : ℕ → Stand) (last : ℕ → Option ChanTurn) : Type 0 where
   pub begins : (ch : ℕ) → ch < count → channels 0 ch ≡ loaded (compiled (transfers ch))
   pub within : (k : ℕ) → k < calls → who k < count
@@ -29,19 +29,20 @@ pub record CalledInTurn (transfers : ℕ → Descriptor) (count : ℕ) (marks : 
   pub spared : (k ch a : ℕ) → k + 1 < calls → ch < count → Touches (transfers ch) a →
       slice_index (before (k + 1)).image a ≡ slice_index (after k).image a
 
--- Transfers that can be copied together: each is one, and is free of each other.
+-- Transfers that can be copied together: each meets the rules of transfers, and any two are free of each other.
 pub record AreTogether (transfers : ℕ → Descriptor) (count : ℕ) : Type 0 where
   pub rules : (ch : ℕ) → ch < count → IsTransfer (transfers ch)
   pub free : (ch other : ℕ) → ch < count → other < count → ch ≢ other → is_free_of (transfers ch) (transfers other) ≡ true
 
--- What such calls come to. After a call that ends, what the transfer of its channel touches is what one simultaneous copy of all
--- its bytes leaves there of the memory that the first call found; and a call of which no mark lies at that doesn't fail.
+-- The result of such calls. After a call that ends, the places that its channel's transfer touches have the bytes of
+-- one simultaneous copy of all its bytes, made in the memory before the first call. And a call doesn't fail if none of
+-- its marks lies at a place that its channel's transfer touches.
 pub record CopiesInTurn (transfers : ℕ → Descriptor) (marks : ℕ → MarkList) (calls : ℕ) (who : ℕ → ℕ) (before after : ℕ → Stand) (last : ℕ → Option ChanTurn) : Type 0 where
   pub copies : (k a : ℕ) → k < calls → last k ≡ Some Ended → Touches (transfers (who k)) a →
       slice_index (after k).image a ≡ slice_index (laid (before 0).image (transfers (who k)) (size_of (transfers (who k)))) a
   pub never_fails : (k : ℕ) (kind : FaultKind) → k < calls → Misses (marks k) (transfers (who k)) → last k ≢ Some (Fault kind)
 
--- Where the transfers can be copied together, they do.
+-- Calls in turn on transfers that can be copied together have this result.
 abbrev pub ChannelsCopyInTurn : Type 0
 ChannelsCopyInTurn =
     (transfers : ℕ → Descriptor) (count : ℕ) (marks : ℕ → MarkList) (calls : ℕ) (who : ℕ → ℕ) (channels : ℕ → ℕ → ChannelValue)

@@ -1,4 +1,4 @@
--- Channels that are stepped over a memory that others write between the steps.
+-- Channels that execute steps over a memory that others write between the steps.
 use Rattle.std.specs.Prelude.{◌≡◌, ◌≢◌, ℕ, ◌+◌, ◌-◌, ◌<◌, ◌⊎◌, Bool, true, false, List, length, slice_index, Option, Some, IsSome}
 use Rattle.std.specs.List.{Contains}
 use Rattle.dma_mem.specs.Places.{Descriptor, sources, destinations, size_of, lies_below}
@@ -18,14 +18,16 @@ use Rattle.dma_chan.specs.NextWrites.{written_next}
 abbrev pub Touches : Descriptor → ℕ → Type 0
 Touches t a = Contains (sources t) a ⊎ Contains (destinations t) a
 
--- No mark lies at what a transfer touches: no address that it reads is marked for loads, and none that it writes for stores.
+-- No mark lies at what a transfer touches: no address that it reads is marked for loads, and no address that it writes
+-- is marked for stores.
 pub record Misses (marks : MarkList) (t : Descriptor) : Type 0 where
   pub reads : (a : ℕ) → Contains (sources t) a → is_marked Reading marks a ≡ false
   pub writes : (a : ℕ) → Contains (destinations t) a → is_marked Writing marks a ≡ false
 
--- A channel executes a transfer's program up to its DMAEND. Before instruction number n it is this one, and finds these marks,
--- flags and a memory that has the transfer's ranges. Between two instructions others may write any byte that the transfer neither
--- reads nor writes, change the memory's size, and do to the flags and the marks what they like.
+-- A channel executes a transfer's program up to its DMAEND. `channel n` is the channel before instruction number n,
+-- which is executed with these marks and flags and with a memory that contains the transfer's ranges. Between two
+-- instructions others may write any byte that the transfer neither reads nor writes, change the memory's size, and
+-- change the flags and the marks in any way.
 pub record RunsAmongOthers (t : Descriptor) (marks : ℕ → MarkList) (channel : ℕ → ChannelValue) (image : ℕ → List ℕ) (flags : ℕ → List Bool) : Type 0 where
   pub begins : channel 0 ≡ loaded (compiled t)
   pub below : (n : ℕ) → n < cost t → lies_below t (length (image n)) ≡ true
@@ -34,29 +36,30 @@ pub record RunsAmongOthers (t : Descriptor) (marks : ℕ → MarkList) (channel 
   pub spared : (n a : ℕ) → n + 1 < cost t → Touches t a →
       slice_index (image (n + 1)) a ≡ slice_index (step_of (marks n) (channel n) (image n) (flags n)).1.image a
 
--- What it touches then is what one simultaneous copy of all its bytes leaves there of the memory that it began with.
+-- Before DMAEND, every address that the transfer touches has the byte that one simultaneous copy of all its bytes, made
+-- in the memory at the start, leaves there.
 abbrev pub CopiesAmongOthers : Type 0
 CopiesAmongOthers =
     (t : Descriptor) (marks : ℕ → MarkList) (channel : ℕ → ChannelValue) (image : ℕ → List ℕ) (flags : ℕ → List Bool) →
     IsTransfer t → RunsAmongOthers t marks channel image flags →
     (a : ℕ) → Touches t a → slice_index (image (cost t - 1)) a ≡ slice_index (laid (image 0) t (size_of t)) a
 
--- What an instruction leaves of a memory: as many bytes, and but for those that a DMAST writes, the same. It holds of each
--- program, also of one that was not compiled.
+-- After an instruction, the memory has the same size, and all bytes are the same except those that the channel's next
+-- instruction writes. This applies to every program, including one that was not compiled.
 pub record KeepsOthers (before after : List ℕ) (c : ChannelValue) : Type 0 where
   pub size : length after ≡ length before
   pub bytes : (a : ℕ) → ¬ Contains (written_next c) a → slice_index after a ≡ slice_index before a
 
--- Each instruction does.
+-- Each instruction keeps the other bytes.
 abbrev pub WritesNoOther : Type 0
 WritesNoOther =
     (marks : MarkList) (c : ChannelValue) (image : List ℕ) (flags : List Bool) → KeepsOthers image (step_of marks c image flags).1.image c
 
--- ---- by calls, each of which takes steps in a row
+-- ---- by calls, each of which executes several steps
 
--- Calls on a channel into which a transfer's program was loaded, each with marks of its own: each finds the program loaded and a
--- memory that has the transfer's ranges, and takes steps, from one stand to another. Between two calls others may write any byte
--- that the transfer neither reads nor writes, change the memory's size, and do to the flags what they like.
+-- Calls on a channel that starts with a transfer's program. Each call has its own marks, its program is loaded, and its
+-- memory contains the transfer's ranges. It executes steps from `before` to `after`. Between two calls others may write
+-- any byte that the transfer neither reads nor writes, change the memory's size, and change the flags in any way.
 pub record CalledAmongOthers (t : Descriptor) (marks : ℕ → MarkList) (calls : ℕ) (before after : ℕ → Stand) (last : ℕ → Option ChanTurn) : Type 0 where
   pub begins : (before 0).channel ≡ loaded (compiled t)
   pub is_loaded : (k : ℕ) → k < calls → IsSome (before k).channel.program
@@ -67,14 +70,15 @@ pub record CalledAmongOthers (t : Descriptor) (marks : ℕ → MarkList) (calls 
   pub spared : (k a : ℕ) → k + 1 < calls → Touches t a →
       slice_index (before (k + 1)).image a ≡ slice_index (after k).image a
 
--- What such calls come to: what the transfer touches is, after the call that ends, what one simultaneous copy of all its bytes
--- leaves there of the memory that the first call found; and a call of which no mark lies at that doesn't fail.
+-- The result of such calls. After a call that ends, every address that the transfer touches has the byte that one
+-- simultaneous copy of all its bytes, made in the memory before the first call, leaves there. And a call doesn't fail
+-- if none of its marks lies at what the transfer touches.
 pub record CallsCopy (t : Descriptor) (marks : ℕ → MarkList) (calls : ℕ) (before after : ℕ → Stand) (last : ℕ → Option ChanTurn) : Type 0 where
   pub copies : (k a : ℕ) → k < calls → last k ≡ Some Ended → Touches t a →
       slice_index (after k).image a ≡ slice_index (laid (before 0).image t (size_of t)) a
   pub never_fails : (k : ℕ) (kind : FaultKind) → k < calls → Misses (marks k) t → last k ≢ Some (Fault kind)
 
--- Calls among others come to that.
+-- Calls among others have this result.
 abbrev pub CallsCopyAmongOthers : Type 0
 CallsCopyAmongOthers =
     (t : Descriptor) (marks : ℕ → MarkList) (calls : ℕ) (before after : ℕ → Stand) (last : ℕ → Option ChanTurn) →

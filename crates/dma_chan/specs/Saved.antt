@@ -1,4 +1,4 @@
--- The bytes of a saved channel. Numbers of several bytes have their lowest byte first.
+-- The bytes of a saved channel. Numbers of several bytes are little-endian.
 use Rattle.std.specs.Prelude.{◌≡◌, ℕ, ◌+◌, ◌*◌, ◌%◌, ◌^◌, ◌<◌, ◌≤◌, IsTrue, is_some, unwrap_or, List, [], ◌∷◌, ◌++◌, length, slice_index, Option, Some, None, IfSome}
 use Rattle.std.specs.Int.{w16, w32, w64, to_le_bytes}
 use Rattle.dma_insn.specs.ControlWord.{flag, is_control}
@@ -13,7 +13,7 @@ use Rattle.dma_chan.specs.Channel.{ChannelValue, code_of}
 abbrev pub AreBytes : List ℕ → Type 0
 AreBytes bytes = (k : ℕ) → slice_index bytes k < 256
 
--- The registers have their numbers of bits, and the control word is one that is accepted.
+-- The registers fit their numbers of bits, and the control word is accepted.
 pub record HasRegisterRanges (r : Registers) : Type 0 where
   pub pc : r.pc < 2 ^ 32
   pub sar : r.sar < 2 ^ 32
@@ -23,16 +23,16 @@ pub record HasRegisterRanges (r : Registers) : Type 0 where
   pub lc0 : r.lc0 < 256
   pub lc1 : r.lc1 < 256
 
--- A program has at most 8,192 bytes, the offset of the next instruction is in it or at its end, and its cost is a number of
--- 32 bits.
+-- A program has at most 8,192 bytes, each of them a byte value. The offset of the next instruction is in it or at its
+-- end, and its cost fits 32 bits.
 pub record IsLoadedAt (pc : ℕ) (p : ProgramValue) : Type 0 where
   pub limit : length p.bytes ≤ 8192
   pub bytes : AreBytes p.bytes
   pub offset : pc ≤ length p.bytes
   pub cost : IfSome p.cost (λ n. n < 2 ^ 32)
 
--- What every channel satisfies: its numbers are in their ranges, its buffer has at most 256 bytes, and each instruction stored
--- at most 256 bytes.
+-- What every channel satisfies: its numbers are in their ranges, its buffer has at most 256 bytes, and the bytes stored
+-- are at most 256 for each instruction executed.
 pub record IsChannelValue (c : ChannelValue) : Type 0 where
   pub registers : HasRegisterRanges c.registers
   pub program : IfSome c.program (IsLoadedAt c.registers.pc)
@@ -43,7 +43,8 @@ pub record IsChannelValue (c : ChannelValue) : Type 0 where
 
 -- ---- the checksum
 
--- Adler-32 (RFC 1950), going on from two sums modulo 65,521: the first adds up the bytes, the second the first sums.
+-- Adler-32 (RFC 1950), continued from two sums modulo 65,521: `low` is the sum of the bytes, and `high` is the sum of
+-- all values of `low`.
 unfoldable pub adler : ℕ → ℕ → List ℕ → ℕ
 adler low high [] = high * 65536 + low
 adler low high (b ∷ bs) = let next = (low + b) % 65521 in adler next ((high + next) % 65521) bs
@@ -52,7 +53,7 @@ adler low high (b ∷ bs) = let next = (low + b) % 65521 in adler next ((high + 
 unfoldable pub checksum : List ℕ → ℕ
 checksum bytes = adler 1 0 bytes
 
--- bytes, and behind them their checksum in four bytes
+-- bytes followed by their checksum in four bytes
 unfoldable pub sealed : List ℕ → List ℕ
 sealed bytes = bytes ++ to_le_bytes w32 (checksum bytes)
 
@@ -62,16 +63,16 @@ sealed bytes = bytes ++ to_le_bytes w32 (checksum bytes)
 abbrev pub magic : List ℕ
 magic = 100 ∷ 109 ∷ 97 ∷ 51 ∷ 51 ∷ 48 ∷ 0 ∷ 1 ∷ []
 
--- a cost: a byte that is 1 where there is one, else 0, and the cost in four bytes, 0 where there is none
+-- a cost: a byte that is 1 if there is a cost, else 0, and the cost in four bytes, or 0 without one
 abbrev pub cost_bytes : Option ℕ → List ℕ
 cost_bytes cost = flag (is_some cost) ∷ to_le_bytes w32 (unwrap_or cost 0)
 
--- the cost of a program, if one is loaded that was compiled
+-- the cost of a program, or None if no compiled program is loaded
 abbrev pub cost_of : Option ProgramValue → Option ℕ
 cost_of None = None
 cost_of (Some p) = p.cost
 
--- what the head of a save says of the channel
+-- the values in the head of a channel's save
 abbrev pub head_of : ChannelValue → Head
 head_of c = record {
   registers = c.registers;
@@ -92,9 +93,9 @@ register_bytes r =
     ++ to_le_bytes w32 r.ccr
     ++ (r.lc0 ∷ r.lc1 ∷ [])
 
--- The head of a save, 48 bytes: the beginning; the registers; how many instructions were executed since the load, in four
--- bytes, and how many bytes were stored, in eight; a byte that is 1 where a program is loaded, else 0; its cost; how many
--- bytes are in the buffer, and how many the program has, in two bytes each.
+-- The head of a save, 48 bytes: the magic; the registers; how many instructions were executed since the load, in four
+-- bytes, and how many bytes were stored, in eight; a byte that is 1 if a program is loaded, else 0; its cost; how many
+-- bytes are in the buffer, and how many are in the program, in two bytes each.
 unfoldable pub head_bytes : Head → List ℕ
 head_bytes h =
     magic
@@ -106,8 +107,8 @@ head_bytes h =
     ++ to_le_bytes w16 h.buffer_len
     ++ to_le_bytes w16 h.program_len
 
--- A save: the head, the bytes in the buffer, the oldest first, the bytes of the program, none where none is loaded, and the
--- checksum of all before it.
+-- A save: the head, the bytes in the buffer with the oldest first, the bytes of the program, or none if none is loaded,
+-- and the checksum of everything before it.
 unfoldable pub saved : ChannelValue → List ℕ
 saved c = sealed (head_bytes (head_of c) ++ c.buffer ++ code_of c)
 

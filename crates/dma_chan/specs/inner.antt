@@ -1,5 +1,5 @@
--- What no reader of a public law has to believe: how a channel keeps its value, where it has come in a transfer's
--- program, and what the contracts of private functions speak of.
+-- Definitions that no reader of a public law has to trust: how a channel stores its value, how far it is in a
+-- transfer's program, and what the contracts of private functions use.
 pub mod Fields
 pub mod Rooms
 pub mod Saves

@@ -24,16 +24,18 @@ use dma_mem::memory::MemFault;
 use dma_mem::ram::Ram;
 use dma_mem::segment::Segment;
 
-/// The most bytes that a channel's buffer holds (profile), and the most of one burst (PL330 manual: 16 beats of 16 bytes).
+/// The most bytes that a channel's buffer holds (profile), and the most bytes of one burst (PL330 manual: 16 beats of
+/// 16 bytes).
 pub const BUFFER_SIZE: usize = 256;
 
 // The most beats of a burst (PL330 manual, CCR).
 const MAX_BEATS: usize = 16;
 
-// How many bytes a page of a memory has.
+// The number of bytes in a page of a memory.
 const PAGE_SIZE: u32 = 4096;
 
-/// One burst: where it begins, whether its addresses rise from beat to beat, the bytes of a beat, and the number of beats.
+/// One burst: its first address, whether its addresses rise from beat to beat, the bytes of a beat, and the number of
+/// beats.
 #[derive(Clone, Copy, PartialEq, Eq, Debug)]
 pub struct Burst {
     pub addr: u32,
@@ -43,7 +45,7 @@ pub struct Burst {
 }
 
 impl Burst {
-    // The burst of one end of a control word, from this address on.
+    // Returns the burst that begins at this address, with the fields of one end of a control word.
     fn of(addr: u32, end: BurstEnd) -> Burst
         ensures value { result ≡ record { addr = addr; increments = end.increments; size = beat_bytes end.size; beats = end.beats } }
         ensures some { (1 ≤ result.size) × (1 ≤ result.beats) }
@@ -57,7 +59,7 @@ impl Burst {
         }
     }
 
-    // How many bytes it moves.
+    // Returns how many bytes the burst moves.
     pub(crate) fn len(self) -> u32
         requires { (self.size ≤ 16) × (self.beats ≤ 16) }
         ensures value { result ≡ burst_len self }
@@ -66,7 +68,7 @@ impl Burst {
         self.beats * self.size
     }
 
-    // The addresses that it touches, each once.
+    // Returns the range of addresses that the burst touches. It contains each address once.
     fn span(self) -> Segment
         requires { (self.size ≤ 16) × (self.beats ≤ 16) }
         ensures addr { result.addr ≡ self.addr }
@@ -83,7 +85,7 @@ impl Burst {
         }
     }
 
-    // How often it touches them.
+    // Returns how often the burst touches each address of its span.
     fn rounds(self) -> u32
         requires { (self.size ≤ 16) × (self.beats ≤ 16) }
         ensures value { result ≡ rounds_of self }
@@ -93,7 +95,7 @@ impl Burst {
         if self.increments { 1 } else { self.beats }
     }
 
-    // How far it moves its address.
+    // Returns how far the burst moves its address.
     fn advance(self) -> u32
         requires { (self.size ≤ 16) × (self.beats ≤ 16) }
         ensures value { result ≡ advance self }
@@ -103,7 +105,7 @@ impl Burst {
     }
 }
 
-// The burst of a load.
+// Returns the burst of a load.
 #[tactic(auto, using(crate::proofs::BurstEnds::burst_of_end))]
 pub(crate) fn source_burst(registers: &Registers) -> Burst
     ensures value { result ≡ source_of registers.now }
@@ -114,7 +116,7 @@ pub(crate) fn source_burst(registers: &Registers) -> Burst
     Burst::of(registers.sar, registers.ccr.source())
 }
 
-// The burst of a store.
+// Returns the burst of a store.
 #[tactic(auto, using(crate::proofs::BurstEnds::burst_of_end))]
 pub(crate) fn destination_burst(registers: &Registers) -> Burst
     ensures value { result ≡ destination_of registers.now }
@@ -125,7 +127,8 @@ pub(crate) fn destination_burst(registers: &Registers) -> Burst
     Burst::of(registers.dar, registers.ccr.destination())
 }
 
-// Whether a burst may touch its addresses: they lie in the memory, in none of its gaps and in no mark of the kind.
+// Returns whether a burst may touch its addresses: all of them lie in the memory, and none lies in a gap or in a mark
+// of the kind.
 #[tactic(auto, using(crate::proofs::BurstReach::reaches_clear))]
 fn may_touch<M: Ram>(kind: MarkKind, marks: &Marks, memory: &M, burst: Burst) -> bool
     requires some { (1 ≤ burst.size) × (1 ≤ burst.beats) }
@@ -143,7 +146,7 @@ fn may_touch<M: Ram>(kind: MarkKind, marks: &Marks, memory: &M, burst: Burst) ->
     end <= u64::from(memory.size()) && !marks.hits(kind, span)
 }
 
-// Puts a byte into the buffer so often, as one run.
+// Appends a byte to the buffer `count` times, as one run.
 fn put_run(buffer: &mut HeapCircularBuffer<u8>, byte: u8, count: u32)
     requires few { count ≤ 16 }
     requires room { length buffer.old.items + count ≤ buffer.old.capacity }
@@ -153,7 +156,7 @@ fn put_run(buffer: &mut HeapCircularBuffer<u8>, byte: u8, count: u32)
     buffer.fill_from_slice(&run[..count as usize]);
 }
 
-// Puts the bytes into the buffer so often: a single one, as the source of a fill has, as a run.
+// Appends the bytes to the buffer `rounds` times. A single byte, as in the source of a fill, is appended as one run.
 fn put_rounds(buffer: &mut HeapCircularBuffer<u8>, bytes: &[u8], rounds: u32)
     requires few { rounds ≤ 16 }
     requires room { length buffer.old.items + rounds * length bytes.now ≤ buffer.old.capacity }
@@ -168,7 +171,8 @@ fn put_rounds(buffer: &mut HeapCircularBuffer<u8>, bytes: &[u8], rounds: u32)
     }
 }
 
-// Loads the bytes of a burst into the buffer: those of one page in place, and by the block those that lie on two pages.
+// Loads the bytes of a burst into the buffer. Bytes on one page are read in place, and bytes on two pages through the
+// block.
 #[tactic(auto, using(crate::proofs::BurstRounds::read_touched))]
 fn load_span<M: Ram>(
     burst: Burst,
@@ -188,7 +192,8 @@ fn load_span<M: Ram>(
     put_rounds(buffer, bytes, burst.rounds());
 }
 
-// The fault that DMALD answers. Without one there is room for its bytes, and it may touch its addresses.
+// Returns the fault of DMALD, or `None` if it moves. Without a fault the buffer has room for its bytes, and it may
+// touch its addresses.
 pub(crate) fn load_fault<M: Ram>(
     marks: &Marks,
     registers: &Registers,
@@ -239,7 +244,7 @@ pub(crate) fn load_burst<M: Ram>(
     ChanTurn::Moved
 }
 
-// Stores the oldest bytes of the buffer as a burst. What it would overwrite itself isn't written.
+// Stores the oldest bytes of the buffer as a burst. Bytes that the burst would itself overwrite are not written.
 fn store_span<M: Ram>(burst: Burst, buffer: &mut HeapCircularBuffer<u8>, memory: &mut M)
     requires some { (1 ≤ burst.size) × (1 ≤ burst.beats) }
     requires limit { (burst.size ≤ 16) × (burst.beats ≤ 16) }
@@ -260,7 +265,8 @@ fn store_span<M: Ram>(burst: Burst, buffer: &mut HeapCircularBuffer<u8>, memory:
     buffer.truncate_front(buffer.len() - len);
 }
 
-// The fault that DMAST answers. Without one the buffer has its bytes, and it may touch its addresses.
+// Returns the fault of DMAST, or `None` if it moves. Without a fault the buffer has enough bytes, and it may touch its
+// addresses.
 pub(crate) fn store_fault<M: Ram>(
     marks: &Marks,
     registers: &Registers,
@@ -311,7 +317,7 @@ pub(crate) fn store_burst<M: Ram>(
     ChanTurn::Moved
 }
 
-// The part of a burst's span that lies below the memory's size, empty where none of it does.
+// Returns the part of a burst's span below the memory's size. It is empty if the whole span is at or above the size.
 fn part_below<M: Ram>(span: Segment, memory: &M) -> Segment
     ensures addr { result.addr ≡ min span.addr (length (M.paged memory.now).image) }
     ensures len { result.len ≡ min span.len (length (M.paged memory.now).image - span.addr) }
@@ -323,7 +329,7 @@ fn part_below<M: Ram>(span: Segment, memory: &M) -> Segment
     }
 }
 
-// Whether a store finds the pages that it writes.
+// Returns whether a store finds the pages that it writes.
 pub(crate) fn store_finds_pages<M: Ram>(registers: &Registers, memory: &M) -> bool
     ensures { result ≡ none_missing (M.paged memory.now) (touched (destination_of registers.now)) }
 {
@@ -331,7 +337,7 @@ pub(crate) fn store_finds_pages<M: Ram>(registers: &Registers, memory: &M) -> bo
     memory.made(part)
 }
 
-// Whether a segment lies whole on the page of this number.
+// Returns whether the whole segment lies on the page with this number.
 fn is_on_page(span: Segment, page: u32) -> bool
     requires { span.len ≤ 256 }
     ensures page { result ≡ true → (a : ℕ) → span.addr ≤ a → a < span.addr + span.len → a / 4096 ≡ page }
@@ -340,7 +346,7 @@ fn is_on_page(span: Segment, page: u32) -> bool
     span.addr / PAGE_SIZE == page && span.addr % PAGE_SIZE + span.len <= PAGE_SIZE
 }
 
-// The page of a segment's first address, none where the segment is empty.
+// Returns the page of a segment's first address, or `None` if the segment is empty.
 fn first_page(segment: Segment) -> Option<u32>
     ensures made { (m : Paged) → AllMade m (range_of segment) → IfSome result (λ p. has_page m p ≡ true) }
     ensures some { 0 < segment.len → result ≡ Some (segment.addr / 4096) }
@@ -351,9 +357,11 @@ fn first_page(segment: Segment) -> Option<u32>
     Some(segment.addr / PAGE_SIZE)
 }
 
-// Makes the pages that a store writes, and asks the memory nothing where it lies on a page that is known to be made, if
-// one is. It tells such a page again, mostly that of the store, since the next store mostly lies there too. The error is
-// `NoMemory`, and some pages may have been made.
+// Makes the pages that a store writes, and returns a page that is known to be made, if any. If the store lies on the
+// page `known`, the memory isn't asked. The page returned is usually that of the store, because the next store usually
+// lies on the same page.
+//
+// The error is `NoMemory`. Some pages may have been made then.
 pub(crate) fn prepare_store<M: Ram>(
     registers: &Registers,
     memory: &mut M,
@@ -381,7 +389,7 @@ pub(crate) fn prepare_store<M: Ram>(
     }
 }
 
-// How many bytes a store moves now.
+// Returns how many bytes a store with these registers moves.
 pub(crate) fn stored_len(registers: &Registers) -> u32
     ensures value { result ≡ burst_len (destination_of registers.now) }
     ensures limit { result ≤ 256 }

@@ -1,4 +1,4 @@
-//! The compiler: a transfer as the program that copies it.
+//! The compiler: turns a transfer into the program that copies it.
 
 ghost use Rattle.std.specs.Prelude.{ℕ, ◌≡◌, ◌+◌, ◌-◌, ◌*◌, ◌≤◌, ◌<◌, ◌^◌, ◌++◌, length, IfOk, IfSome, OnOk, map, All, not};
 ghost use Rattle.dma_insn.specs.Spelling.{spelling};
@@ -17,39 +17,40 @@ use dma_mem::transfer::Transfer;
 use std::alloc::{AllocError, Global};
 use thiserror::Error;
 
-/// The most bytes that the program of a transfer has: 58 for each of at most 127 pieces, and the wait, the signal and the
-/// end.
+/// The most bytes that the program of a transfer has: 58 for each of at most 127 pieces, plus the wait, the signal and
+/// the end.
 pub const MAX_COMPILED: usize = 7371;
 
 // The most bytes of a piece's code.
 const PIECE_BYTES: usize = 58;
 
-// The bytes of a wait, a signal and the end.
+// The number of bytes of a wait, a signal and the end together.
 const OTHER_BYTES: usize = 5;
 
-// A beat of a piece: how many bytes it moves, and whether the source address rises past them, as it doesn't in a fill.
+// A beat of a piece: its size in bytes, and whether the source address rises past them. In a fill it doesn't.
 #[derive(Clone, Copy)]
 struct Beat {
     size: BeatSize,
     source_rises: bool,
 }
 
-/// Memory was refused.
+/// The allocator is out of memory.
 #[derive(Clone, Copy, PartialEq, Eq, Debug, Error)]
 #[error("out of memory")]
 pub struct NoMemory;
 
 impl From<AllocError> for NoMemory {
-    // The same error, whichever call met it.
+    // Converts the error of any allocation.
     fn from(_refused: AllocError) -> NoMemory {
         NoMemory
     }
 }
 
-/// The program that copies a transfer's sources to its destinations, piece by piece, after its wait and before its signal. A
-/// fill has a piece for each destination segment, with beats of one byte and a source address that stays.
+/// Returns the program that copies a transfer's sources to its destinations, piece by piece, after its wait and before
+/// its signal. A fill has one piece for each destination segment, with beats of one byte and a source address that
+/// doesn't rise.
 ///
-/// The work is in proportion to the number of pieces. The error comes where memory is refused.
+/// It takes time in proportion to the number of pieces. The error is `NoMemory` if an allocation fails.
 #[tactic(auto, unfolding(crate::specs::Compiled::compiled))]
 pub fn compile(alloc: Global, transfer: &Transfer) -> Result<Program, NoMemory>
     ensures program { IfOk result (λ program. program ≡ compiled transfer.now) }
@@ -62,7 +63,7 @@ pub fn compile(alloc: Global, transfer: &Transfer) -> Result<Program, NoMemory>
     Ok(Program::of_compiled(code, cost))
 }
 
-// The bytes of a transfer's code, by its pieces. Room for all of them is taken first.
+// Returns the bytes of a transfer's code, from its pieces. Room for all bytes is allocated first.
 fn code_of(alloc: Global, transfer: &Transfer, pieces: &[Piece]) -> Result<Vec<u8>, AllocError>
     requires rules { IsTransfer transfer.now }
     requires pieces { pieces.now ≡ pieces_of transfer.now }
@@ -76,7 +77,7 @@ fn code_of(alloc: Global, transfer: &Transfer, pieces: &[Piece]) -> Result<Vec<u
     Ok(code)
 }
 
-// How many instructions a transfer's code executes, by its pieces.
+// Returns how many instructions a transfer's code executes, from its pieces.
 #[tactic(auto, using(crate::proofs::TreeCosts::cost_of_tree, crate::proofs::TreeCosts::cost_counted))]
 fn cost_of(transfer: &Transfer, pieces: &[Piece]) -> u32
     requires rules { IsTransfer transfer.now }
@@ -86,7 +87,7 @@ fn cost_of(transfer: &Transfer, pieces: &[Piece]) -> u32
     event_cost(transfer.wait()) + pieces_cost(pieces) + event_cost(transfer.signal()) + 1
 }
 
-// How many instructions a wait or a signal executes, where there is one.
+// Returns how many instructions a wait or a signal executes: 1, or 0 if the transfer has none.
 #[tactic(auto, using(crate::proofs::TreeCosts::cost_counted))]
 fn event_cost(event: Option<u8>) -> u32
     ensures wait { result ≡ cost_of (wait_tree event) }
@@ -99,7 +100,7 @@ fn event_cost(event: Option<u8>) -> u32
     }
 }
 
-// Appends the wait, where the transfer has one.
+// Appends the wait, if the transfer has one.
 fn push_wait(code: &mut Vec<u8>, wait: Option<u8>) -> Result<(), AllocError>
     requires { IfSome wait (λ event. event ≤ 31) }
     ensures ok { OnOk result (code.new.items ≡ code.old.items ++ bytes_of (wait_tree wait)) }
@@ -117,7 +118,7 @@ fn push_wait(code: &mut Vec<u8>, wait: Option<u8>) -> Result<(), AllocError>
     )
 }
 
-// Appends the signal, where the transfer has one.
+// Appends the signal, if the transfer has one.
 fn push_signal(code: &mut Vec<u8>, signal: Option<u8>) -> Result<(), AllocError>
     requires { IfSome signal (λ event. event ≤ 31) }
     ensures ok { OnOk result (code.new.items ≡ code.old.items ++ bytes_of (signal_tree signal)) }
@@ -128,7 +129,7 @@ fn push_signal(code: &mut Vec<u8>, signal: Option<u8>) -> Result<(), AllocError>
     push(code, Insn::Sev(Event::of_number(number)))
 }
 
-// Appends pieces in order.
+// Appends the code of the pieces, in order.
 fn push_pieces(code: &mut Vec<u8>, pieces: &[Piece]) -> Result<(), AllocError>
     requires { All (λ p. p.len ≤ 2 ^ 20) pieces.now }
     ensures ok { OnOk result (code.new.items ≡ code.old.items ++ bytes_of (in_order (map piece_tree pieces.now))) }
@@ -139,7 +140,7 @@ fn push_pieces(code: &mut Vec<u8>, pieces: &[Piece]) -> Result<(), AllocError>
     Ok(())
 }
 
-// Appends a piece.
+// Appends the code of a piece.
 fn push_piece(code: &mut Vec<u8>, piece: Piece) -> Result<(), AllocError>
     requires { piece.len ≤ 2 ^ 20 }
     ensures ok { OnOk result (code.new.items ≡ code.old.items ++ bytes_of (piece_tree piece)) }
@@ -154,7 +155,7 @@ fn push_piece(code: &mut Vec<u8>, piece: Piece) -> Result<(), AllocError>
     Ok(())
 }
 
-// Appends what copies so many bytes from where the registers point, or fills them.
+// Appends the bursts that copy or fill `len` bytes, starting at the addresses in the registers.
 #[tactic(auto, unfolding(crate::specs::Compiled::parts))]
 fn push_parts(code: &mut Vec<u8>, beat: Beat, len: u32) -> Result<(), AllocError>
     requires { len ≤ 2 ^ 20 }
@@ -173,7 +174,7 @@ fn push_parts(code: &mut Vec<u8>, beat: Beat, len: u32) -> Result<(), AllocError
     Ok(())
 }
 
-// Appends bursts of 16 beats, where there are any.
+// Appends `count` bursts of 16 beats under their control word, or nothing if `count` is 0.
 #[tactic(auto, using(crate::proofs::TreeParts::where_some_there, crate::proofs::TreeParts::where_some_none))]
 fn push_whole_bursts(code: &mut Vec<u8>, beat: Beat, count: u32) -> Result<(), AllocError>
     requires { count ≤ 65536 }
@@ -186,7 +187,7 @@ fn push_whole_bursts(code: &mut Vec<u8>, beat: Beat, count: u32) -> Result<(), A
     push_bursts(code, count)
 }
 
-// Appends so many bursts.
+// Appends `count` bursts.
 fn push_bursts(code: &mut Vec<u8>, count: u32) -> Result<(), AllocError>
     requires { count ≤ 65536 }
     ensures ok { OnOk result (code.new.items ≡ code.old.items ++ bytes_of (bursts count)) }
@@ -196,7 +197,7 @@ fn push_bursts(code: &mut Vec<u8>, count: u32) -> Result<(), AllocError>
     Ok(())
 }
 
-// Appends whole turns of 256 bursts, where there are any.
+// Appends `turns` rounds of 256 bursts as nested loops, or nothing if `turns` is 0.
 #[tactic(auto, using(crate::proofs::TreeParts::where_some_there, crate::proofs::TreeParts::where_some_none))]
 fn push_nested_loop(code: &mut Vec<u8>, turns: u16) -> Result<(), AllocError>
     requires { turns ≤ 256 }
@@ -224,7 +225,7 @@ fn push_nested_loop(code: &mut Vec<u8>, turns: u16) -> Result<(), AllocError>
     Ok(())
 }
 
-// Appends fewer bursts than 256, where there are any.
+// Appends a loop of `rest` bursts, or nothing if `rest` is 0.
 #[tactic(auto, using(crate::proofs::TreeParts::where_some_there, crate::proofs::TreeParts::where_some_none))]
 fn push_rest(code: &mut Vec<u8>, rest: u16) -> Result<(), AllocError>
     requires { rest ≤ 256 }
@@ -236,7 +237,7 @@ fn push_rest(code: &mut Vec<u8>, rest: u16) -> Result<(), AllocError>
     push_loop(code, rest)
 }
 
-// Appends a loop round one burst.
+// Appends a loop around one burst.
 fn push_loop(code: &mut Vec<u8>, turns: u16) -> Result<(), AllocError>
     requires low { 1 ≤ turns }
     requires high { turns ≤ 256 }
@@ -261,7 +262,7 @@ fn push_loop(code: &mut Vec<u8>, turns: u16) -> Result<(), AllocError>
     Ok(())
 }
 
-// Appends one burst of so many beats, where there are any.
+// Appends one burst of this number of beats under its control word, or nothing if the number is 0.
 #[tactic(auto, using(crate::proofs::TreeParts::where_some_there, crate::proofs::TreeParts::where_some_none))]
 fn push_burst(code: &mut Vec<u8>, beat: Beat, beats: u32) -> Result<(), AllocError>
     requires { beats ≤ 16 }
@@ -274,7 +275,7 @@ fn push_burst(code: &mut Vec<u8>, beat: Beat, beats: u32) -> Result<(), AllocErr
     push_body(code)
 }
 
-// Appends one burst read and written.
+// Appends the instructions that read and write one burst.
 fn push_body(code: &mut Vec<u8>) -> Result<(), AllocError>
     ensures ok { OnOk result (code.new.items ≡ code.old.items ++ bytes_of body) }
 {
@@ -296,7 +297,7 @@ fn push(code: &mut Vec<u8>, insn: Insn) -> Result<(), AllocError>
     Ok(())
 }
 
-// Whether beats of a size fit a piece.
+// Returns whether beats of this size fit a piece.
 fn fits(size: BeatSize, piece: Piece) -> bool
     ensures { result ≡ fits (beat_bytes size) piece }
 {
@@ -304,7 +305,7 @@ fn fits(size: BeatSize, piece: Piece) -> bool
     piece.src % beat == 0 && piece.dst % beat == 0 && beat <= piece.len
 }
 
-// The size of a piece's beats: a byte where it is filled.
+// Returns the size of a piece's beats: one byte in a fill, else the largest size that fits.
 #[tactic(auto, unfolding(crate::specs::Compiled::beat_of))]
 fn beat_of(piece: Piece) -> BeatSize
     ensures { beat_bytes result ≡ beat_of piece }
@@ -324,7 +325,8 @@ fn beat_of(piece: Piece) -> BeatSize
     }
 }
 
-// The control word of bursts of so many beats, with the increment of the destination, and that of the source where it rises.
+// Returns the control word of bursts with this number of beats. The destination increments. The source increments
+// unless the piece is a fill.
 #[tactic(auto, using(crate::proofs::ControlWords::both_ends))]
 fn control_word(beat: Beat, beats: u32) -> u32
     requires low { 1 ≤ beats }
@@ -345,7 +347,7 @@ fn control_word(beat: Beat, beats: u32) -> u32
     Control { src, dst }.bits()
 }
 
-// How many instructions the code of pieces executes.
+// Returns how many instructions the code of the pieces executes.
 #[tactic(auto, using(crate::proofs::PieceCode::cost_done))]
 fn pieces_cost(pieces: &[Piece]) -> u32
     requires lens { All (λ p. p.len ≤ 2 ^ 20) pieces.now }
@@ -360,7 +362,7 @@ fn pieces_cost(pieces: &[Piece]) -> u32
     cost
 }
 
-// How many instructions a piece's code executes.
+// Returns how many instructions a piece's code executes.
 #[tactic(auto, unfolding(crate::specs::Compiled::parts), using(crate::proofs::TreeCosts::cost_counted))]
 fn piece_cost(piece: Piece) -> u32
     requires { piece.len ≤ 2 ^ 20 }
@@ -373,7 +375,7 @@ fn piece_cost(piece: Piece) -> u32
     2 + whole_bursts_cost(piece.len / whole) + burst_cost(left / beat) + burst_cost(left % beat)
 }
 
-// How many instructions bursts of 16 beats execute, with their control word, where there are any.
+// Returns how many instructions `count` bursts of 16 beats execute, including their control word: 0 if there are none.
 #[tactic(auto, using(crate::proofs::TreeCosts::cost_counted))]
 fn whole_bursts_cost(count: u32) -> u32
     requires { count ≤ 65536 }
@@ -390,7 +392,7 @@ fn whole_bursts_cost(count: u32) -> u32
     1 + nested + single
 }
 
-// How many instructions one burst executes, with its control word, where it has any beats.
+// Returns how many instructions one burst executes, including its control word: 0 if it has no beats.
 #[tactic(auto, using(crate::proofs::TreeCosts::cost_counted))]
 fn burst_cost(beats: u32) -> u32
     ensures value { (w : ℕ) → result ≡ cost_of (where_some beats (under w body)) }

@@ -1,4 +1,4 @@
-//! The registers of a channel, and one instruction, executed.
+//! The registers of a channel, and the execution of one instruction.
 
 ghost use Rattle.std.specs.Prelude.{◌≡◌, ℕ, ◌+◌, ◌-◌, ◌≤◌, ◌<◌, Bool, IsTrue, IfSome, IsNone, List, length, Ok};
 ghost use Rattle.dma_insn.specs.Spelling.{spelling};
@@ -18,8 +18,8 @@ use dma_mem::events::Events;
 use dma_mem::marks::Marks;
 use dma_mem::ram::Ram;
 
-/// What instructions move: the offset of the next instruction in the program, the source and destination addresses, the
-/// control word, and the two loop counters, the manual's SAR, DAR, CCR, LC0 and LC1.
+/// The registers that instructions read and change: the offset of the next instruction in the program, the source and
+/// destination addresses, the control word, and the two loop counters, the manual's SAR, DAR, CCR, LC0 and LC1.
 #[derive(Clone, Copy, PartialEq, Eq, Debug)]
 pub struct Registers {
     pub pc: u32,
@@ -33,7 +33,7 @@ pub struct Registers {
 impl Registers {
     ghost use Rattle.dma_chan.specs.Exec.{start};
 
-    // All registers at 0.
+    // Returns registers that are all 0.
     pub(crate) fn start() -> Registers
         ensures { result ≡ start }
     {
@@ -48,7 +48,7 @@ impl Registers {
     }
 }
 
-// The fault that DMAMOV answers: at a control word that isn't accepted.
+// Returns the fault of DMAMOV: `OperandInvalid` for a control word that isn't accepted, else `None`.
 fn set_fault(reg: Reg, value: u32) -> Option<FaultKind>
     ensures { (marks : MarkList) (r : Registers) (buffer image : List ℕ) (flags : List Bool) → result ≡ fault_in (act marks (Mov reg value) (state r buffer image flags)).0 }
 {
@@ -64,7 +64,7 @@ fn set_fault(reg: Reg, value: u32) -> Option<FaultKind>
     }
 }
 
-// Executes DMAMOV, which takes so many bytes of the program.
+// Executes DMAMOV, whose encoding has `len` bytes.
 fn set_register(reg: Reg, value: u32, len: u32, registers: &mut Registers) -> ChanTurn
     requires len { len ≡ length (spelling (Mov reg value)) }
     requires pc { registers.old.pc + len ≤ 8192 }
@@ -100,7 +100,7 @@ fn begin_loop(counter: Counter, times: Times, registers: &mut Registers) -> Chan
     ChanTurn::Moved
 }
 
-// What a loop counter holds.
+// Returns the value of a loop counter.
 fn counter_of(counter: Counter, registers: &Registers) -> u8
     ensures { result ≡ counter_of counter registers.now }
 {
@@ -110,7 +110,7 @@ fn counter_of(counter: Counter, registers: &Registers) -> u8
     }
 }
 
-// The fault that DMALPEND answers: where it jumps, to before the program's start.
+// Returns the fault of DMALPEND: `InstrFetchErr` if it jumps to before the program's start, else `None`.
 fn jump_fault(counter: Counter, back: u8, registers: &Registers) -> Option<FaultKind>
     ensures told { (marks : MarkList) (buffer image : List ℕ) (flags : List Bool) → result ≡ fault_in (act marks (LpEnd counter back) (state registers.now buffer image flags)).0 }
     ensures still { IfSome result (λ kind. (marks : MarkList) (buffer image : List ℕ) (flags : List Bool) → act marks (LpEnd counter back) (state registers.now buffer image flags) ≡ faults kind (state registers.now buffer image flags)) }
@@ -172,7 +172,7 @@ fn wait(event: Event, invalid: bool, registers: &mut Registers, events: &mut Eve
     ChanTurn::Moved
 }
 
-// Executes an instruction that only goes on.
+// Executes an instruction whose only effect is to advance `pc`.
 fn go_on(registers: &mut Registers) -> ChanTurn
     requires { registers.old.pc + 1 ≤ 8192 }
     ensures turn { result ≡ ChanTurn.Moved }
@@ -182,7 +182,7 @@ fn go_on(registers: &mut Registers) -> ChanTurn
     ChanTurn::Moved
 }
 
-// Executes an instruction that takes so many bytes of the program.
+// Executes an instruction whose encoding has `len` bytes.
 pub(crate) fn execute<M: Ram>(
     insn: Insn,
     len: u32,
@@ -219,7 +219,7 @@ pub(crate) fn execute<M: Ram>(
     }
 }
 
-// The fault that an instruction would answer. Nothing is executed.
+// Returns the fault that an instruction would return, or `None`. Nothing is executed.
 pub(crate) fn fault_of<M: Ram>(
     insn: Insn,
     registers: &Registers,

@@ -1,4 +1,4 @@
-//! What stands at an offset of a program.
+//! The instruction at an offset of a program.
 
 ghost use Rattle.std.specs.Prelude.{◌≡◌, ◌≤◌, length};
 ghost use Rattle.dma_insn.specs.Spelling.{spelling};
@@ -9,7 +9,7 @@ use dma_insn::codec::{DecodeFault, decode};
 use dma_insn::insn::Insn;
 use std::marker::Model;
 
-/// An instruction, and how many bytes of a program it takes. Contracts see the instruction.
+/// An instruction and the length of its encoding in bytes. Contracts see the instruction.
 #[derive(Clone, Copy, PartialEq, Eq, Debug)]
 pub struct Next {
     insn: Insn,
@@ -33,7 +33,7 @@ impl Model for Next {
     ghost inverse_ok = { λ n h. ap (λ k. record { insn = n.insn; len = k }) (sym h) };
 }
 
-// The fault that a channel answers where the decoder refuses.
+// Returns the fault of a channel for an error of the decoder.
 fn fetch_fault(fault: DecodeFault) -> FaultKind
     ensures { result ≡ fetch_fault fault }
 {
@@ -45,7 +45,7 @@ fn fetch_fault(fault: DecodeFault) -> FaultKind
 }
 
 impl Next {
-    // What stands at an offset of a program, or the fault of fetching it.
+    // Returns the instruction at an offset of a program, or the fault of fetching it.
     #[inline(always)]
     pub(crate) fn at(program: &[u8], pc: u32) -> Result<Next, FaultKind>
         requires offset { pc ≤ length program.now }
@@ -61,14 +61,14 @@ impl Next {
         }
     }
 
-    /// The instruction.
+    /// Returns the instruction.
     pub fn insn(self) -> Insn
         ensures { result ≡ self }
     {
         self.insn
     }
 
-    // How many bytes of the program it takes.
+    // Returns the length of the encoding in bytes.
     pub(crate) fn len(self) -> u32
         ensures { result ≡ length (spelling self) }
     {

@@ -1,4 +1,4 @@
-//! A transfer's lists, cut into pieces, each of bytes that are moved together.
+//! Cuts a transfer's lists into pieces, each of bytes that are moved together.
 
 ghost use Rattle.std.specs.Prelude.{◌≡◌, ◌∷◌, ◌++◌, OnOk, IfOk, map};
 ghost use Rattle.std.specs.List.{AllByRecursion};
@@ -10,20 +10,20 @@ use dma_mem::segment::Segment;
 use dma_mem::transfer::Transfer;
 use std::alloc::{AllocError, Global};
 
-/// Bytes that lie together at both ends, or of a fill at the destination alone.
+/// Bytes that are contiguous at both ends, or in a fill at the destination alone.
 #[derive(Clone, Copy, PartialEq, Eq, Debug)]
 pub struct Piece {
-    /// The first source address, or that of a fill's byte.
+    /// The first source address. In a fill it is the address of the byte.
     pub src: u32,
     /// The first destination address.
     pub dst: u32,
     /// The number of bytes.
     pub len: u32,
-    /// Whether the byte at the source address is read for each of them.
+    /// Whether the piece is a fill, which reads the byte at the source address for each of its bytes.
     pub fill: bool,
 }
 
-// The pieces of a transfer, in order.
+// Returns the pieces of a transfer, in order.
 pub(crate) fn pieces_of(alloc: Global, transfer: &Transfer) -> Result<Vec<Piece>, AllocError>
     ensures value { IfOk result (λ v. v.items ≡ pieces_of transfer.now) }
     ensures rules { IsTransfer transfer.now }
@@ -35,7 +35,7 @@ pub(crate) fn pieces_of(alloc: Global, transfer: &Transfer) -> Result<Vec<Piece>
     }
 }
 
-// Each destination segment, filled from one address. Room for all of them is taken first.
+// Returns one piece for each destination segment, filled from one address. Room for all pieces is allocated first.
 #[tactic(auto, using(crate::proofs::PieceCode::fill_more))]
 fn filled(alloc: Global, from: u32, destinations: &[Segment]) -> Result<Vec<Piece>, AllocError>
     ensures { IfOk result (λ v. v.items ≡ map (fill_piece from) destinations.now) }
@@ -52,7 +52,7 @@ fn filled(alloc: Global, from: u32, destinations: &[Segment]) -> Result<Vec<Piec
     Ok(out)
 }
 
-// Two lists of as many bytes, cut at every end of a segment of either.
+// Cuts two lists with equally many bytes at every end of a segment of either list, and returns the pieces.
 fn cut(
     alloc: Global,
     sources: &[Segment],
@@ -73,7 +73,7 @@ fn cut(
     Ok(out)
 }
 
-// The same for two lists that each have a first segment, which may be what is left of one.
+// Appends the pieces of two lists, each with a separate first segment. The first segment may be the rest of a cut one.
 #[tactic(auto, using(crate::proofs::CutSteps::pieces_less, crate::proofs::CutSteps::pieces_more, crate::proofs::CutSteps::pieces_same))]
 fn cut_from(
     out: &mut Vec<Piece>,

@@ -9,7 +9,7 @@ use thiserror::Error;
 /// The most bytes that a program has (profile).
 pub const MAX_BYTES: usize = 8192;
 
-/// Why bytes were no program.
+/// Why bytes aren't accepted as a program.
 #[derive(Clone, Copy, Debug, PartialEq, Eq, Error)]
 pub enum ProgramFault {
     #[error("the program has more than {} bytes", MAX_BYTES)]
@@ -18,12 +18,12 @@ pub enum ProgramFault {
     NoMemory,
 }
 
-/// The bytes of a program, at most [`MAX_BYTES`], and of a compiled one how many instructions it executes.
+/// The bytes of a program, at most [`MAX_BYTES`], and for a compiled program how many instructions it executes.
 #[derive(Drop)]
 pub struct Program {
     bytes: Vec<u8>,
     cost: Option<u32>,
-    // Whether the bytes are in a channel's room, which has the capacity for each program.
+    // Whether the bytes are in a channel's room, whose capacity is enough for every program.
     in_room: bool,
 }
 
@@ -39,7 +39,7 @@ impl Model for Program {
 }
 
 impl Program {
-    /// The program of these bytes, which need not be instructions. It has no cost.
+    /// Returns the program of these bytes, which need not be instructions. It has no cost.
     ///
     /// The error is `ProgramTooLong` above [`MAX_BYTES`], else `NoMemory`.
     pub fn from_bytes(alloc: Global, bytes: &[u8]) -> Result<Program, ProgramFault>
@@ -58,7 +58,7 @@ impl Program {
         })
     }
 
-    // Returns the program of these bytes, which has no cost, in a channel's room.
+    // Returns the program of these bytes, stored in a channel's room. It has no cost.
     pub(crate) fn in_room(mut room: Vec<u8>, bytes: &[u8]) -> Program
         requires room { 8192 ≤ vec_capacity room }
         requires fits { length bytes.now ≤ 8192 }
@@ -75,7 +75,7 @@ impl Program {
         }
     }
 
-    // Takes the program out of a channel's room. The error is the program, where it is in none.
+    // Returns the channel's room that holds the program. The error is the program, if it is in no room.
     pub(crate) fn into_room(self) -> Result<Vec<u8>, Program>
         ensures room { IfOk result (λ room. 8192 ≤ vec_capacity room) }
         ensures none { IfErr result (λ program. program ≡ self) }
@@ -98,7 +98,7 @@ impl Program {
         }
     }
 
-    // What the compiler made.
+    // Returns the program that the compiler made, with its cost.
     pub(crate) fn of_compiled(bytes: Vec<u8>, cost: u32) -> Program
         requires { length bytes.items ≤ 8192 }
         ensures { result ≡ record { bytes = bytes.items; cost = Some cost } }
@@ -110,7 +110,7 @@ impl Program {
         }
     }
 
-    /// The bytes.
+    /// Returns the bytes of the program.
     pub fn bytes(&self) -> &[u8]
         ensures value { result.now ≡ self.now.bytes }
         ensures limit { length result.now ≤ 8192 }
@@ -118,7 +118,7 @@ impl Program {
         self.bytes.as_slice()
     }
 
-    /// How many instructions it executes, if it was compiled.
+    /// Returns how many instructions the program executes, if it was compiled.
     pub fn cost(&self) -> Option<u32>
         ensures { result ≡ self.now.cost }
     {

@@ -1,4 +1,4 @@
-//! Programs run alone.
+//! Runs a program alone.
 
 ghost use Rattle.std.specs.Prelude.{◌≡◌, ◌≤◌, ℕ, [], length, nat_lt, if◌then◌else◌, true, IfOk, IfErr, OnOk};
 ghost use Rattle.dma_mem.specs.Lent.{with_gaps};
@@ -20,13 +20,13 @@ use thiserror::Error;
 /// How a program that was run alone ended.
 #[derive(Clone, Copy, PartialEq, Eq, Debug)]
 pub enum RunEnd {
-    /// By DMAEND, after so many instructions, DMAEND counted.
+    /// It executed DMAEND. `turns` is the number of instructions, including DMAEND.
     Ended { turns: u32 },
-    /// As many instructions as the limit were executed, and none was DMAEND.
+    /// It executed as many instructions as the limit, and none was DMAEND.
     OutOfTurns,
-    /// At a wait for this event, whose flag was clear.
+    /// It waits for this event, whose flag was clear.
     Waiting(Event),
-    /// At a fault of the instruction at this offset.
+    /// The instruction at this offset failed.
     Fault { kind: FaultKind, pc: u32 },
 }
 
@@ -35,16 +35,16 @@ pub enum RunEnd {
 pub enum RunFault {
     #[error("the program has more than {} bytes", crate::program::MAX_BYTES)]
     ProgramTooLong,
-    /// So many instructions have run, and memory is what they leave. The next is a store, and a page that it writes was
-    /// refused.
+    /// A page that the next instruction, a store, writes could not be allocated. `turns` instructions were executed
+    /// before it, and their stores stay in memory.
     #[error("out of memory for a page, after {turns} instructions")]
     PageRefused { turns: u32 },
-    /// Nothing of it has run.
+    /// An allocation failed before any instruction was executed.
     #[error("out of memory")]
     NoMemory,
 }
 
-// The program of these bytes.
+// Returns the program of these bytes.
 fn program_of(alloc: Global, bytes: &[u8]) -> Result<Program, RunFault>
     ensures ok { IfOk result (λ program. program.bytes ≡ bytes.now) }
     ensures fits { OnOk result (length bytes.now ≤ 8192) }
@@ -57,7 +57,7 @@ fn program_of(alloc: Global, bytes: &[u8]) -> Result<Program, RunFault>
     }
 }
 
-// Runs a program on a channel, with no marks but the memory's gaps, and all flags clear.
+// Runs a program on a channel, with no marks except the memory's gaps and with all flags clear.
 fn run_on<M: Ram>(
     mut channel: Channel,
     program: Program,
@@ -76,7 +76,8 @@ fn run_on<M: Ram>(
     channel.load(program);
     let mut events = Events::new();
     let marks = Marks::new(alloc);
-    // A page that is made: most stores lie on that of the one before, and memory isn't asked then.
+    // A page that is known to be made. Most stores lie on the page of the store before, and then the memory isn't
+    // asked.
     let mut known = None;
     for turn in 0..limit {
         let pc = channel.pc();
@@ -98,11 +99,12 @@ fn run_on<M: Ram>(
     Ok(RunEnd::OutOfTurns)
 }
 
-/// Runs the bytes alone on a channel of their own, with no marks but the gaps of the memory and with all flags clear, for at most
-/// `limit` instructions. The pages that a store writes are made as it comes, and no others. Those that are made stay.
+/// Runs the bytes alone on a channel of their own, with no marks except the gaps of the memory and with all flags
+/// clear, for at most `limit` instructions. The pages that a store writes are made just before it is executed, and no
+/// others. They stay made.
 ///
-/// The error is `ProgramTooLong` above [`MAX_BYTES`](crate::program::MAX_BYTES), else `NoMemory`, and nothing has run then,
-/// or `PageRefused`: memory is what the instructions before that store leave.
+/// The error is `ProgramTooLong` above [`MAX_BYTES`](crate::program::MAX_BYTES), else `NoMemory`; nothing has run in
+/// either case. Or it is `PageRefused`: then memory contains the stores of the instructions before the one that failed.
 pub fn run_program<M: Ram>(
     alloc: Global,
     bytes: &[u8],

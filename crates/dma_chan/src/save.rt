@@ -8,10 +8,10 @@ use thiserror::Error;
 pub(crate) mod head;
 pub(crate) mod writing;
 
-/// The most bytes that a save has.
+/// The most bytes of a save.
 pub const MAX_SAVE: usize = 8500;
 
-/// Why a channel was not restored.
+/// Why a channel wasn't restored.
 #[derive(Clone, Copy, Debug, PartialEq, Eq, Error)]
 pub enum RestoreFault {
     /// The bytes are not the save of any channel.

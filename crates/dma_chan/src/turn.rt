@@ -1,36 +1,36 @@
-//! What one step of a channel answers.
+//! The result of one step of a channel.
 
 use dma_insn::insn::Event;
 
-/// The fault of an instruction. The names are the manual's, there in lower case with underscores (PL330 manual, fault type
-/// register).
+/// The fault of an instruction. The names are the manual's, which writes them in lower case with underscores (PL330
+/// manual, fault type register).
 #[derive(Clone, Copy, PartialEq, Eq, Debug)]
 pub enum FaultKind {
-    /// A first byte that begins no instruction.
+    /// The first byte begins no instruction.
     UndefInstr,
-    /// A field outside its range, or a refused control word.
+    /// A field is outside its range, or the control word isn't accepted.
     OperandInvalid,
-    /// A load for which the buffer has no room.
+    /// The buffer has too little room for a load.
     MfifoErr,
-    /// A store for which the buffer has too few bytes.
+    /// The buffer has too few bytes for a store.
     StDataUnavailable,
-    /// No whole instruction at this offset, or a jump to before the program's start.
+    /// The offset has no whole instruction, or a jump goes to before the program's start.
     InstrFetchErr,
-    /// A store that touches an address at or above the memory's size, in one of its gaps, or in a mark.
+    /// A store touches an address at or above the memory's size, in one of its gaps, or in a mark.
     DataWriteErr,
-    /// A load that touches an address at or above the memory's size, in one of its gaps, or in a mark.
+    /// A load touches an address at or above the memory's size, in one of its gaps, or in a mark.
     DataReadErr,
 }
 
-/// The answer of a step.
+/// The result of a step.
 #[derive(Clone, Copy, PartialEq, Eq, Debug)]
 pub enum ChanTurn {
     /// The instruction was executed.
     Moved,
-    /// It waits for this event, whose flag is clear. Nothing has changed.
+    /// The instruction waits for this event, whose flag is clear. Nothing has changed.
     Waiting(Event),
-    /// It was DMAEND: the program is unloaded.
+    /// The instruction was DMAEND, and the program is unloaded.
     Ended,
-    /// It failed. Nothing has changed.
+    /// The instruction failed. Nothing has changed.
     Fault(FaultKind),
 }

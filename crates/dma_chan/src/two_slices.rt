@@ -1,8 +1,8 @@
-//! Two slices, of which the second follows the first.
+//! Two slices, the second of which continues the first.
 
 ghost use Rattle.std.specs.Prelude.{◌≡◌, ◌+◌, ◌≤◌, ◌++◌, length, take, drop};
 
-// The first bytes of two slices that follow each other.
+// Returns the first `count` bytes of two slices, as two slices.
 pub(crate) fn first_of<'a>(front: &'a [u8], back: &'a [u8], count: usize) -> (&'a [u8], &'a [u8])
     requires { count ≤ length (front.now ++ back.now) }
     ensures bytes { result.0.now ++ result.1.now ≡ take count (front.now ++ back.now) }
@@ -12,7 +12,7 @@ pub(crate) fn first_of<'a>(front: &'a [u8], back: &'a [u8], count: usize) -> (&'
     (&front[..of_front], &back[..count - of_front])
 }
 
-// What follows the first bytes of two slices that follow each other.
+// Returns what follows the first `count` bytes of two slices, as two slices.
 pub(crate) fn past<'a>(front: &'a [u8], back: &'a [u8], count: usize) -> (&'a [u8], &'a [u8])
     requires { count ≤ length (front.now ++ back.now) }
     ensures bytes { result.0.now ++ result.1.now ≡ drop count (front.now ++ back.now) }

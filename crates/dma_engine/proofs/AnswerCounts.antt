@@ -110,7 +110,7 @@ unless-still : (v : View) (f : Option EngineFault) (x : Reply × View) → Still
 unless-still v None x h = h
 unless-still v (Some fault) x h = same v
 
--- ---- a fact of an answer, from the one that is given where memory is not wanting
+-- ---- a fact of an answer, from the answer with enough memory
 
 by-answer : (v w : View) (call : Call) (reply : Reply) (P : View → Type 0) → P (answer v call).1 → (reply, w) ≡ answer v call → P w
 by-answer v w call reply P h is = subst P (sym (ap (λ (x : Reply × View). x.1) is)) h
@@ -156,7 +156,8 @@ quiet_calls_keep v w call reply q h = answered v w call reply (Still v) (same v)
 
 -- ---- a step
 
--- what a step's answer leaves: a finish is one tick more, one step more and one more finished; a move one step more
+-- what a step's answer adds: a finish is one more tick, one more step and one more finished cookie; a move is one more
+-- step
 abbrev Deed : View → ℕ → Stepped → Type 0
 Deed v ch (Ok (FinishedTurn cookie result residue), w) =
     (ticks_of w.history ≡ ticks_of v.history ++ Finished ch 1 ∷ []) × (w.steps ≡ v.steps + 1)
@@ -234,7 +235,7 @@ by-turn v w ch reply x is inv =
     let second : (turn v ch).1 ≡ w = sym (ap (λ (y : Reply × View). y.1) is) in
     ap (λ y. (y, (turn v ch).1)) first ∙ ap (λ u. (x, u)) second
 
--- it is the turn's, or memory was wanting and nothing changed
+-- it is the turn's, or memory ran out and nothing changed
 stepped : (v w : View) (ch : ℕ) (r : Result Turn EngineFault) → StepAnswers v ch r w → ((r ≡ Err NoMemory) × (w ≡ v)) ⊎ (turn v ch ≡ (r, w))
 stepped v w ch (Ok t) h = inr (by-turn v w ch (Turned t) (Ok t) h (λ e. told-ok (turn v ch).0 t e))
 stepped v w ch (Err NoMemory) h = inl (refl, h.1)
@@ -286,7 +287,7 @@ ends_as_told v w ch r h = elim (stepped v w ch r h) [
 
 -- ---- a submit and a terminate
 
--- where nothing refuses it, a submit that answers a cookie is one tick more
+-- if nothing refuses it, a submit that returns a cookie is one more tick
 pub submitted : (v w : View) (ch k : ℕ) (t : Descriptor) → submit_fault v ch t ≡ None → CallAnswers v (Submit ch t) (Cookie k) w → (ticks_of w.history ≡ ticks_of v.history ++ Submitted ch ∷ []) × (w.steps ≡ v.steps) × (finished_all (object_of w) ≡ finished_all (object_of v))
 submitted v w ch k t none h =
     let e = SubmittedEntry ch t (used (channel (object_of v) ch) + 1) in
@@ -298,7 +299,7 @@ submitted v w ch k t none h =
       ap (λ (u : View). finished_all (object_of u)) is ∙ one,
     )
 
--- the channel is there, a terminate that answers a count is one tick more
+-- if the channel exists, a terminate that returns a count is one more tick
 pub closed : (v w : View) (ch n : ℕ) → channel_fault v ch ≡ None → ch < channels v → CallAnswers v (Terminate ch) (Count n) w → (n ≡ unfinished (channel (object_of v) ch)) × (ticks_of w.history ≡ ticks_of v.history ++ Finished ch n ∷ []) × (w.steps ≡ v.steps) × (finished_all (object_of w) ≡ finished_all (object_of v) + n)
 closed v w ch n none less h =
     let o = object_of v in

@@ -1,4 +1,4 @@
--- From what a call found to its answer.
+-- From the checks of a call to its answer.
 use Rattle.std.proofs.Common.{◌≡◌, ℕ, ◌+◌, ◌-◌, ◌<◌, ◌≤◌, List, [], ◌∷◌, ◌++◌, length, take, drop, Option, Some, None, Bool, true, false, refl, ap, sym, ◌∙◌, subst, arith, ◌||◌, not}
 use Rattle.std.specs.Option.{option_map}
 use Rattle.std.specs.Prelude.{IsErrAnd, Result, nat_lt, nat_le, unwrap_or, Ok, Err, if◌then◌else◌}
@@ -38,7 +38,7 @@ pub refusal : {T : Type 0} (told : T → Reply) (v w : View) (call : Call) (faul
 refusal told v w call fault (Ok x) h a = absurd h
 refusal told v w call fault (Err e) h a = rw h a
 
--- ---- a running transfer in the way
+-- ---- a running transfer that conflicts
 
 busy-known : (x : Option RunningTransfer) (ch cookie : ℕ) → Some (ch, cookie) ≡ named x → busy x ≡ Some (Busy ch cookie)
 busy-known None ch cookie h = absurd cc
@@ -150,7 +150,7 @@ not-false : (b : Bool) → not b ≡ false → b ≡ true
 not-false true h = refl
 not-false false h = absurd cc
 
--- what holds where nothing refuses a submit
+-- what holds if nothing refuses a submit
 pub submit-open : (v : View) (ch : ℕ) (t : Descriptor) → submit_fault v ch t ≡ None → (ch < channels v) × (lies_below t (size v) ≡ true) × (used (channel (object_of v) ch) < last_cookie)
 submit-open v ch t none =
     let first = no-cause (nat_le (channels v) ch) NoChannel _ none in
@@ -183,7 +183,7 @@ checked-some : (x : Option EngineFault) (n : ℕ) (fault : EngineFault) → Err 
 checked-some None n fault h = absurd cc
 checked-some (Some f) n fault h = let e : f ≡ fault = cc in ap (λ y. Some y) e
 
--- a fault that a check names is no want of memory
+-- a fault that a check names is not `NoMemory`
 abbrev IsNamed : EngineFault → Type 0
 IsNamed NoMemory = ⊥
 IsNamed f = Unit {0}

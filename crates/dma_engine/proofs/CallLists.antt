@@ -102,7 +102,7 @@ refused-still : (v : View) (f : Option EngineFault) (x : Reply × View) (reply :
 refused-still v None x reply w is h = absurd (h refl)
 refused-still v (Some fault) x reply w is h = extends-same v w (ap (λ (y : Reply × View). y.1) is)
 
--- a checkpoint with another reply than Done was refused
+-- a checkpoint with a reply other than Done was not accepted
 checkpoint-extends : (v w : View) (reply : Reply) → (reply, w) ≡ answer v Checkpoint → is_checkpoint Checkpoint reply ≡ false → Extends v w
 checkpoint-extends v w reply is other =
     refused-still v (checkpoint_fault v) (Done, checkpointed v) reply w is (λ e.

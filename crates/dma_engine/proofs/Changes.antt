@@ -191,7 +191,7 @@ view-changed p ch q memory events history steps =
     let s = map-set schedule_of p.queues ch q in
     rw s refl
 
--- what has to be so, with the object that the new history leaves
+-- the conditions for the object after the new history
 pub record ChangesTo (p : Parts) (ch : ℕ) (q : Queue) (memory : List ℕ) (flags : List Bool) (history : List Entry) (o : Object) : Type 0 where
   pub legal : IsLegal (view_of p).base history
   pub leaves : object_after (view_of p).base history ≡ o

@@ -233,7 +233,7 @@ no-room-next [] ch = refl
 no-room-next (q ∷ qs) zero = refl
 no-room-next (q ∷ qs) (suc ch) = no-room-next qs ch
 
--- ---- a checkpoint leaves the board
+-- ---- a checkpoint keeps the board
 
 pub counts-next : (c : ChannelState) → finished c ≤ used c → counts_of (forget c) ≡ counts_of c
 counts-next c h =

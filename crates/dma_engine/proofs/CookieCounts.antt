@@ -1,4 +1,4 @@
--- What a submit and a terminate leave on their channel, and the counts that the ticks of a history add up to.
+-- The state of a channel after a submit and a terminate on it, and the counts that the ticks of a history sum up to.
 use Rattle.std.proofs.Common.{◌≡◌, ℕ, ◌+◌, ◌<◌, ◌≤◌, List, [], ◌∷◌, length, drop, Bool, true, false, refl, ap, sym, ◌∙◌, arith, inl, inr}
 use Rattle.std.specs.List.{All}
 use Rattle.std.specs.Prelude.{nat_le, Option, Some, None}
@@ -37,7 +37,7 @@ no-refusal (Some fault) v w x reply told h = absurd (told fault (ap (λ (y : Rep
 
 -- ---- a submit
 
--- the cookie that it answers is the last one given, on a channel that is there
+-- the cookie that it returns is the last one given, on a channel that exists
 given : (v w : View) (ch k : ℕ) (t : Descriptor) → submit_fault v ch t ≡ None → CallAnswers v (Submit ch t) (Cookie k) w → (k ≡ used (channel (object_of v) ch) + 1) × (used (channel (object_of w) ch) ≡ used (channel (object_of v) ch) + 1) × (ch < channels w)
 given v w ch k t none h =
     let c = channel (object_of v) ch in
@@ -126,7 +126,7 @@ boards_open v h =
           (omega (arith, ap (λ (x : Counts). x.used) at, c.give), omega (arith, ap (λ (x : Counts). x.finished) at, c.finish, c.give))),
     )
 
--- a front stands on a channel that is there
+-- a channel with a front exists
 front-there : (o : Object) (ch : ℕ) (P : Descriptor → Type 0) → FrontIs (channel o ch) P → ch < length o.channels
 front-there o ch P h = elim (cases_lt ch (length o.channels)) [
   | inl less ↦ less

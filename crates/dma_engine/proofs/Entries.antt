@@ -127,7 +127,7 @@ shown-same : (o p : Object) (s : List ChannelSchedule) → o.image ≡ p.image �
 unfolding running
 shown-same o p s image channels = rw (image, channels) refl
 
--- what shows of the memory hangs on the image and the channels alone
+-- the memory that is shown depends only on the image and the channels
 pub holds-marked : (p : Parts) (kind : MarkKind) (s : Segment) → Holds p → s.len ≢ 0 → s.addr + s.len ≤ 4294967296 → Holds (with_entry_at p (Marked kind s) p.memory p.events (p.marks ++ (kind, s) ∷ []))
 holds-marked p kind s h some within =
     holds-entered p (Marked kind s) p.memory p.events (p.marks ++ (kind, s) ∷ []) h (record {

@@ -164,7 +164,7 @@ finish-may v ch n t WriteFailed f is =
     (f.goes, rw f.issued (passed, not-signalled c t n f not_end, omega (arith, store.0, store.2), hit))
 finish-may v ch n t Aborted f is = absurd is
 
--- so much may be stored where it is terminated
+-- this many bytes may be stored when it is terminated
 pub stored-may : (c : ChannelState) (t : Descriptor) (n : ℕ) → IsFront c t n → CanHaveStored c (stored_after t n)
 stored-may c t n f =
     let stores = stored_is t f.rules in
@@ -174,7 +174,7 @@ stored-may c t n f =
     let last : n ≡ cost t - 1 = at-last (is_some t.signal) n (cost t - 1) (sym f.signalled ∙ e) in ap (stored_after t) last ∙ stores.all in
     rw f.issued (stores.at_most n, λ e. absurd (true≢false (sym e ∙ f.goes)), none, whole)
 
--- where nothing runs nothing is stored
+-- if nothing runs, nothing is stored
 abbrev Fitting : ChannelState → ℕ → Option Descriptor → Type 0
 Fitting c done o =
     MatchOption o (done ≡ 0) (λ t.
@@ -188,7 +188,7 @@ nothing-stored c h =
     ] in
     by (issued_front c)
 
--- what is stored of the front where its channel is terminated
+-- how many bytes of the front are stored when its channel is terminated
 pub stored-there : (v : View) (ch : ℕ) → IsSound v → ch < channels v → CanHaveStored (channel (object_of v) ch) (done_on v ch)
 stored-there v ch h less =
     let c = channel (object_of v) ch in

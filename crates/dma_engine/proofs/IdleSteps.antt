@@ -1,4 +1,4 @@
--- A step whose answer is idle leaves the view as it was.
+-- A step whose answer is idle does not change the view.
 use Rattle.std.proofs.Common.{◌≡◌, ℕ, Bool, true, false, refl, ap, sym, ◌∙◌}
 use Rattle.std.specs.Prelude.{if◌then◌else◌, ◌==◌, nat_le, Option, Some, None, Result, Ok, Err}
 use Rattle.dma_insn.specs.declared.insn.Insn.{Insn}
@@ -22,7 +22,7 @@ use Rattle.dma_engine.specs.Room.{IsIdle}
 use Rattle.dma_engine.specs.View.{View, RunningTransfer, object_of, channels, schedule_at}
 use Rattle.dma_engine.specs.Turn.{Stepped, finishes, front_turn, in_the_way, insn_turn, last_step, moves_on, start_turn, turn, with_entry}
 
--- ---- an idle answer, told of its reply
+-- ---- an idle answer, by its reply
 
 abbrev is_idle : Reply → Bool
 is_idle (Turned (Started cookie)) = false

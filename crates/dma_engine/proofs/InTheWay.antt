@@ -1,4 +1,4 @@
--- The fronts that are found by their entries, and the first running transfer that is in the way.
+-- The fronts that are found by their entries, and the first running transfer that conflicts.
 use Rattle.std.proofs.Common.{◌≡◌, ℕ, ◌+◌, ◌-◌, ◌<◌, ◌≤◌, List, [], ◌∷◌, length, Option, Some, None, Bool, true, false, cond, refl, ap, sym, ◌∙◌, arith, suc, zero}
 use Rattle.std.specs.Prelude.{find, slice_get, slice_index_or, unwrap_or, is_some, nat_lt}
 use Rattle.std.specs.Option.{option_map, option_to_list}
@@ -27,7 +27,7 @@ some_within [] k h = absurd (omega arith)
 some_within (x ∷ xs) zero h = (x, refl)
 some_within (x ∷ xs) (suc k) h = some_within xs k (omega arith)
 
--- where fewer are finished than issued there is an issued front
+-- if fewer are finished than issued, there is an issued front
 pub front_queued : (p : Parts) → Holds p → (ch : ℕ) (q : Queue) → ch < length p.queues → q ≡ slice_index_or p.queues ch q → q.forgotten + length q.outcomes.items < q.issued → Front (channel (object_of (view_of p)) ch) (λ t. Unit {0})
 front_queued p h ch q less read open_one =
     let c = channel (object_of (view_of p)) ch in
@@ -95,7 +95,7 @@ runs_none p h ch q less read unloaded =
     let at = holds-at p h ch q less read in
     sym (at.runs_is ∙ ap (runs_there ch (channel (object_of (view_of p)) ch)) (taken-none q.channel unloaded))
 
--- ---- the first in the way
+-- ---- the first transfer that conflicts
 
 -- a running transfer is named by its channel and the cookie of the front
 runs-named : (ch : ℕ) (c : ChannelState) (taken : Option ℕ) (r : RunningTransfer) → runs_there ch c taken ≡ Some r → (r.ch ≡ ch) × (r.cookie ≡ finished c + 1)
@@ -107,7 +107,7 @@ runs-named ch c (Some n) r h =
     ] in
     by (front c) h
 
--- the first that is in the way is the one with these ranges
+-- the first transfer that conflicts is the one with these ranges
 pub way-here : (q : Descriptor → Bool) (o : Object) (s : List ChannelSchedule) (ch cookie : ℕ) (r : Ranges) → ch < length o.channels → find (λ x. q x.transfer) (below o s ch) ≡ None → AreOfRunning (Some r) (runs o s ch) → cookie ≡ finished (channel o ch) + 1 → ((t : Descriptor) → HasRangesOf r t → true ≡ q t) → Some (ch, cookie) ≡ named (find (λ x. q x.transfer) (running o s))
 way-here q o s ch cookie r less none kept number passes =
     let k = kept-ranges r (runs o s ch) kept in
@@ -117,7 +117,7 @@ way-here q o s ch cookie r less none kept number passes =
     let pair : Some (x.ch, x.cookie) ≡ Some (ch, cookie) = ap (λ n. Some (n, x.cookie)) names.0 ∙ ap (λ n. Some (ch, n)) (names.1 ∙ sym number) in
     sym (ap named first ∙ pair)
 
--- one that is not in the way is passed over
+-- a transfer that doesn't conflict is passed over
 pub passed-over : (q : Descriptor → Bool) (x : Option RunningTransfer) (r : Ranges) → AreOfRunning (Some r) x → ((t : Descriptor) → HasRangesOf r t → false ≡ q t) → find (λ y. q y.transfer) (option_to_list x) ≡ None
 passed-over q x r kept fails =
     let k = kept-ranges r x kept in

@@ -1,4 +1,4 @@
--- Answers to calls in a row, and answers where memory is not wanting.
+-- Answers to consecutive calls, and answers when memory doesn't run out.
 use Rattle.std.proofs.Common.{◌≡◌, ◌≢◌, ℕ, ◌+◌, List, [], ◌∷◌, length, take, drop, Option, Some, None, Bool, true, false, refl, ap, ◌∙◌, subst}
 use Rattle.std.specs.Prelude.{if◌then◌else◌, ◌==◌, ◌||◌, nat_le, nat_lt, not, Ok, Err}
 use Rattle.std.specs.Option.{option_map}
@@ -69,7 +69,7 @@ by-answer v w call (Refused StepsSpent) o is = is
 by-answer v w call (Refused BadEvent) o is = is
 by-answer v w call (Refused BadRange) o is = is
 
--- no cause of a refusal is that memory is wanting
+-- no cause of a refusal is `NoMemory`
 abbrev IsCause : Option EngineFault → Type 0
 IsCause None = Unit {0}
 IsCause (Some fault) = IsOther (Refused fault)
@@ -170,7 +170,7 @@ pub answers_are_answers : AnswersAreAnswers
 answers_are_answers v [] = refl
 answers_are_answers v (c ∷ cs) = ((answer v c).1, answer_is_one v c, answers_are_answers (answer v c).1 cs)
 
--- ---- the only answers where none is out of memory
+-- ---- the only answers without an out of memory
 
 pub answer_despite_memory : AnswerDespiteMemory
 answer_despite_memory v w call Done n h = h

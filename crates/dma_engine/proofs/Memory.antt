@@ -17,7 +17,7 @@ use Rattle.dma_chan.specs.Traffic.{stored_after}
 use Rattle.dma_engine.specs.View.{RunningTransfer, ChannelSchedule, runs, running, with_stored, memory_shown}
 use Rattle.dma_engine.proofs.WhatRuns.{All-find, running-split, below, above, below-same, above-same}
 
--- the running transfers are those of the channels, which a change of the image alone leaves
+-- the running transfers depend on the channels, so a change of only the image keeps them
 pub running-image : (o : Object) (schedule : List ChannelSchedule) (image : List ℕ) → running (record o { image = image }) schedule ≡ running o schedule
 unfolding running
 running-image o schedule image = refl

@@ -28,7 +28,7 @@ use Rattle.dma_engine.proofs.WhatRuns.{running-same}
 pub shown-both : (o p : Object) (s t : List ChannelSchedule) → o.image ≡ p.image → running o s ≡ running p t → memory_shown o s ≡ memory_shown p t
 shown-both o p s t image runs_same = ap (λ l. over o.image (map with_stored l)) runs_same ∙ ap (λ m. over m (map with_stored (running p t))) image
 
--- ---- a change that leaves what runs
+-- ---- a change that keeps what runs
 
 pub record StaysAt (p : Parts) (ch : ℕ) (q r : Queue) (flags : List Bool) (history : List Entry) (o : Object) : Type 0 where
   pub legal : IsLegal (view_of p).base history

@@ -115,7 +115,7 @@ transfer_found ch kept history memory q c n tied less = elim (cases_lt n (length
 
 -- ---- lists with one more item
 
--- an entry stands where it stood when more are added
+-- an entry keeps its index when more are added
 pub slice_get-push : {X : Type 0} (xs : List X) (y x : X) (k : ℕ) → slice_get xs k ≡ Some x → slice_get (xs ++ y ∷ []) k ≡ Some x
 slice_get-push [] y x k h = absurd cc
 slice_get-push (z ∷ xs) y x zero h = h

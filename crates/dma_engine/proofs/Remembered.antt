@@ -13,7 +13,7 @@ use Rattle.dma_engine.proofs.CallLists.{answers-extend}
 use Rattle.dma_engine.proofs.Checkpoint.{accepted, forgotten-at}
 use Rattle.dma_engine.proofs.OutcomesStay.{extends-forgotten, kept}
 
--- What a call leaves: it remembers each outcome or forgets it, and what was forgotten stays so.
+-- After a call, each outcome is remembered or forgotten, and what was forgotten stays forgotten.
 record Leaves (v w : View) : Type 0 where
   remembers : Remembers v w
   rises : (ch : ℕ) → (channel (object_of v) ch).forgotten ≤ (channel (object_of w) ch).forgotten

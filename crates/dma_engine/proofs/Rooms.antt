@@ -1,4 +1,4 @@
--- The room that is made before it is needed, transfers found in a history, and which steps end.
+-- The room that is allocated before it is needed, transfers found in a history, and which steps end.
 use Rattle.std.proofs.Common.{◌≡◌, ◌≢◌, ℕ, ◌+◌, ◌-◌, ◌<◌, ◌≤◌, List, [], ◌∷◌, ◌++◌, length, map, take, drop, Option, Some, None, Bool, true, false, refl, ap, sym, ◌∙◌, subst, arith, zero, suc, inl, inr}
 use Rattle.std.specs.Prelude.{slice_get, slice_index, slice_index_or, slice_set, is_some, nat_lt, unwrap_or, if◌then◌else◌}
 use Rattle.std.proofs.lemmas.Bool.{cases_eq, cases_lt, le-ltb, lt-ltb}
@@ -57,7 +57,7 @@ room-set queues ch q less =
     ap (λ l. slice_index_or l ch no_room) (map-set queue_room queues ch q)
     ∙ get_or-set_same (map queue_room queues) ch (queue_room q) no_room (omega (arith, less, length-map queues queue_room))
 
--- room stays where the object does and no list's room falls
+-- room stays if the object does and no list's room falls
 pub room-grows : (e f : EngineState) → object_of f.view ≡ object_of e.view → e.room.entries ≤ f.room.entries → ((ch : ℕ) → ((room_on e.room ch).indices ≤ (room_on f.room ch).indices) × ((room_on e.room ch).outcomes ≤ (room_on f.room ch).outcomes)) → KeepsRoom e f
 room-grows e f object entries queues ch h = record {
   entry = omega (arith, entries, h.entry);
@@ -65,7 +65,7 @@ room-grows e f object entries queues ch h = record {
   outcomes = subst (λ (o : Object). unfinished (channel o ch) ≤ (room_on f.room ch).outcomes) (sym object) (omega (arith, (queues ch).1, h.outcomes));
 }
 
--- a queue in whose place one with no less room stands
+-- a queue that is replaced by one with no less room
 pub queues-grow : (queues : List Queue) (i : ℕ) (q r : Queue) → i < length queues → q ≡ slice_index_or queues i q → q.indices.spare ≤ r.indices.spare → q.outcomes.spare ≤ r.outcomes.spare → (ch : ℕ) → ((slice_index_or (map queue_room queues) ch no_room).indices ≤ (slice_index_or (map queue_room (slice_set queues i r)) ch no_room).indices) × ((slice_index_or (map queue_room queues) ch no_room).outcomes ≤ (slice_index_or (map queue_room (slice_set queues i r)) ch no_room).outcomes)
 queues-grow queues i q r less read indices outcomes ch =
     elim (cases_eq ch i) [

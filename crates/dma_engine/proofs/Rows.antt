@@ -28,7 +28,7 @@ use Rattle.dma_engine.specs.History.{object_after, IsLegal}
 use Rattle.dma_engine.specs.View.{View, channels, new_fault, new_view, object_of, running, size}
 use Rattle.dma_engine.specs.Answer.{answer, answers}
 
--- a transfer of so many bytes from one range to another, and one of a byte with events
+-- a transfer of n bytes from one range to another, and one of a byte with events
 abbrev copy : ℕ → ℕ → ℕ → Descriptor
 copy from to n =
     record { fill = false; src = record { addr = from; len = n } ∷ []; dst = record { addr = to; len = n } ∷ []; wait = None; signal = None }
@@ -36,7 +36,7 @@ copy from to n =
 abbrev byte : ℕ → ℕ → Option ℕ → Option ℕ → Descriptor
 byte from to wait signal = record (copy from to 1) { wait = wait; signal = signal }
 
--- the replies to calls on a new engine of so many bytes and channels
+-- the replies to calls on a new engine with this size and number of channels
 abbrev replies : ℕ → ℕ → List Call → List Reply
 replies size channels calls = (answers (new_view size channels) calls).0
 
@@ -208,7 +208,7 @@ not_beyond_256_bytes : Allows (long_copy 256) (Finished 0 ReadFailed 0) → ⊥
 unfolding opening meets_mark
 not_beyond_256_bytes allowed = eqb-false 0 0 (sym allowed.1.3) refl
 
--- a view on which a byte's copy runs, with so many steps counted
+-- a view on which a byte's copy runs, at this step count
 abbrev after_steps : ℕ → View
 after_steps n = record ((answers (new_view 16 1) (Submit 0 (copy 0 4 1) ∷ Issue 0 ∷ Step 0 ∷ [])).1) { steps = n }
 
@@ -234,7 +234,8 @@ no_cookie_after_it v t many below given = rw (many, below, given) refl
 no_count_above_32_bits : added_up 4294967294 1 ∷ added_up 4294967295 1 ∷ [] ≡ 4294967295 ∷ 4294967295 ∷ []
 no_count_above_32_bits = refl
 
--- a checkpoint forgets how two cookies ended, and keeps the third, which has not run; it is refused while that runs
+-- a checkpoint forgets how two cookies ended, and keeps the third, which has not run; it fails with `Running` while
+-- that runs
 what_a_checkpoint_forgets : replies 16 1 (Submit 0 (copy 0 4 2) ∷ Submit 0 (copy 0 8 2) ∷ Terminate 0 ∷ Submit 0 (copy 0 4 2) ∷ Checkpoint ∷ ResultOf 0 2 ∷ Status 0 2 ∷ Status 0 3 ∷ Status 0 4 ∷ Issue 0 ∷ Submit 0 (copy 0 8 2) ∷ Step 0 ∷ Checkpoint ∷ [])
     ≡ Cookie 1 ∷ Cookie 2 ∷ Count 2 ∷ Cookie 3 ∷ Done ∷ Told None ∷ State Complete ∷ State InProgress ∷ State Unknown ∷ Count 1 ∷ Cookie 4 ∷ Turned (Started 3) ∷ Refused (Running 0 3) ∷ []
 unfolding opening put after_moves share running

@@ -21,7 +21,7 @@ use Rattle.dma_engine.proofs.Queues.{runs_front}
 
 -- ---- an entry more
 
--- an entry that may come and leaves an object that the schedule fits
+-- an entry that is allowed, after which the schedule fits the object
 entry-sound : (v : View) (e : Entry) → IsSound v → Allows (object_of v) e → Fits (after (object_of v) e) v.schedule → IsSound (with_entry v e)
 entry-sound v e h allowed fits = record {
   opens = h.opens;
@@ -30,7 +30,7 @@ entry-sound v e h allowed fits = record {
   fits = subst (λ (o : Object). Fits o v.schedule) (sym (object-one v e)) fits;
 }
 
--- one that changes no channel
+-- an entry that changes no channel
 pub entered-sound : (v : View) (e : Entry) → IsSound v → Allows (object_of v) e → (object_of v).channels ≡ (after (object_of v) e).channels → IsSound (with_entry v e)
 entered-sound v e h allowed same =
     entry-sound v e h allowed (fits-channels (object_of v) (after (object_of v) e) v.schedule same h.fits)

@@ -1,4 +1,4 @@
--- What an engine keeps where a front starts, and what it may answer where one finishes.
+-- What an engine keeps when a front starts, and the possible answers when one finishes.
 use Rattle.std.proofs.Common.{◌≡◌, ◌≢◌, ℕ, ◌+◌, ◌-◌, ◌<◌, ◌≤◌, List, [], ◌∷◌, ◌++◌, length, Option, Some, None, Ok, Bool, true, false, ◌&&◌, ◌||◌, not, refl, ap, sym, ◌∙◌, subst, arith}
 use Rattle.std.specs.Prelude.{slice_index_or, slice_set, is_some, nat_lt, ◌==◌, unwrap_or, IfSome, IsSomeAnd}
 use Rattle.std.specs.Option.{option_map}
@@ -163,7 +163,7 @@ start-answers p ch cookie q t u h less read may some none number =
     ∙ ap (λ k. (Turned (Started k), with_taken v ch (Some 0))) number
     ∙ stepped-so v _ ch (Started (front_cookie v ch)) (start-turn v ch t may some ∙ ap (start_turn v ch) none)
 
--- a start that is refused memory
+-- a start that is out of memory
 pub start-starved : (v w : View) (ch : ℕ) (t : Descriptor) → MayStart v ch → issued_front (channel (object_of v) ch) ≡ Some t → in_the_way v t ≡ None → w ≡ v → CallAnswers v (Step ch) (Refused NoMemory) w
 start-starved v w ch t may some none same =
     let is = stepped-so v _ ch (Started (front_cookie v ch)) (start-turn v ch t may some ∙ ap (start_turn v ch) none) in
@@ -210,7 +210,7 @@ finish-answers p ch spare cookie residue how q outcome halted u flags memory h l
     ∙ ap (λ k. (Turned (TurnFinished (front_cookie v ch) how k), with_step (with_taken (with_entry v (Finished ch how (stored_after t n))) ch None))) left
     ∙ stepped-so v _ ch (TurnFinished (front_cookie v ch) how (size_of t - stored_after t n)) (d.turn_is ∙ finish-turn v ch n t how d.holds)
 
--- a finish that is refused memory leaves the view
+-- a finish that is out of memory keeps the view
 pub finish-starved : (p : Parts) (w : View) (ch : ℕ) (how : TransResult) (q : Queue) → (d : Due p ch q (Finishes (view_of p) how)) → w ≡ view_of p → CallAnswers (view_of p) (Step ch) (Refused NoMemory) w
 finish-starved p w ch how q d same =
     let v : View = view_of p in

@@ -1,4 +1,4 @@
--- What holds of each submitted transfer, and of one that runs.
+-- Facts of each submitted transfer, and of a running one.
 use Rattle.std.proofs.Common.{◌≡◌, ◌≢◌, ℕ, ◌+◌, ◌-◌, ◌<◌, List, [], ◌∷◌, ◌++◌, length, Option, Some, None, true, false, ◌&&◌, refl, ap, sym, ◌∙◌, subst, arith, inl, inr, ◌⊎◌, zero, suc}
 use Rattle.std.specs.Prelude.{slice_get, slice_index_or, is_some, nat_lt, ◌==◌, IfSome, IsSomeAnd}
 use Rattle.std.specs.List.{All}

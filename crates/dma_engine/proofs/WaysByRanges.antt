@@ -1,4 +1,4 @@
--- The ranges of what runs, and what is in the way by them.
+-- The ranges of what runs, and which running transfers conflict by them.
 use Rattle.std.proofs.Common.{◌≡◌, ℕ, ◌+◌, ◌≤◌, Option, Some, None, Bool, true, false, ◌||◌, not, refl, ap, sym, ◌∙◌, subst, arith, List}
 use Rattle.std.specs.Prelude.{nat_le}
 use Rattle.std.proofs.lemmas.Bool.{and_parts, le-leb}
@@ -25,7 +25,7 @@ below-more t n m l h =
     let dst = all-below-more t.dst n m l parts.1 in
     rw (src, dst) refl
 
--- ---- what is in the way
+-- ---- what conflicts
 
 pub or-first : (a x y : Bool) → a ≡ x → a ≡ true → a ≡ (x || y)
 or-first a x y is h = h ∙ ap (λ b. b || y) (sym h ∙ is)
@@ -53,7 +53,7 @@ start-way r t other b h is =
 
 -- ---- ranges that are kept
 
--- what runs where ranges are kept
+-- what runs if ranges are kept
 pub record Kept (r : Ranges) (x : Option RunningTransfer) : Type 0 where
   pub it : RunningTransfer
   pub is : x ≡ Some it
@@ -63,7 +63,7 @@ pub kept-ranges : (r : Ranges) (x : Option RunningTransfer) → AreOfRunning (So
 kept-ranges r None h = absurd h
 kept-ranges r (Some y) h = record { it = y; is = refl; ranges = h }
 
--- nothing runs where none are
+-- nothing runs if none are kept
 pub no-ranges : (x : Option RunningTransfer) → AreOfRunning None x → x ≡ None
 no-ranges None h = refl
 no-ranges (Some y) h = absurd h

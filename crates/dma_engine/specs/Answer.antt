@@ -1,4 +1,4 @@
--- What each call answers.
+-- The answer to each call.
 use Rattle.std.specs.Prelude.{◌≡◌, ◌≤◌, ◌⊎◌, ℕ, ◌+◌, ◌-◌, if◌then◌else◌, ◌==◌, ◌||◌, Bool, true, false, nat_lt, nat_le, not, is_none, Option, Some, None, Result, Ok, Err, List, [], ◌∷◌, ◌++◌, length, take, drop, slice_get, slice_set, find}
 use Rattle.std.specs.Option.{option_map}
 use Rattle.dma_mem.specs.Places.{Descriptor, touches, writes, lies_below}
@@ -25,118 +25,119 @@ use Rattle.dma_engine.specs.Turn.{with_entry, turn}
 
 -- ---- the first cause of a refusal, if there is one
 
--- a cause, if it holds; else the others
+-- this cause if it holds, else the others
 abbrev pub cause : Bool → EngineFault → Option EngineFault → Option EngineFault
 cause holds fault others = if holds then Some fault else others
 
--- a running transfer in the way is named by its channel and cookie
+-- the fault that names a running transfer by its channel and cookie, if there is one
 abbrev pub busy : Option RunningTransfer → Option EngineFault
 busy None = None
 busy (Some r) = Some (Busy r.ch r.cookie)
 
--- the first running transfer, on the lowest channel, of which a test holds
+-- the first running transfer, from the lowest channel on, that satisfies a test
 abbrev pub first_running : View → (Descriptor → Bool) → Option RunningTransfer
 first_running v test = find (λ r. test r.transfer) (running (object_of v) v.schedule)
 
--- a range ends above the memory, or a running transfer of which the test holds is in the way
+-- why a call on a range is refused: the range ends above the memory, or a running transfer satisfies the test
 abbrev pub range_fault : View → ℕ → ℕ → (Segment → Descriptor → Bool) → Option EngineFault
 range_fault v addr n test =
     cause (nat_lt (size v) (addr + n)) OutOfMemoryRange (busy (first_running v (test (record { addr = addr; len = n }))))
 
--- a write is in the way of a running transfer that writes or reads a byte of its range
+-- why a write is refused: its range ends above the memory, or a running transfer reads or writes a byte of it
 abbrev pub write_fault : View → ℕ → ℕ → Option EngineFault
 write_fault v addr n = range_fault v addr n (λ s t. touches t s)
 
--- a read is in the way of a running transfer that writes a byte of its range
+-- why a read is refused: its range ends above the memory, or a running transfer writes a byte of it
 abbrev pub read_fault : View → ℕ → ℕ → Option EngineFault
 read_fault v addr n = range_fault v addr n (λ s t. writes t s)
 
--- there is no such channel
+-- why a call on a channel is refused: there is no such channel
 abbrev pub channel_fault : View → ℕ → Option EngineFault
 channel_fault v ch = cause (nat_le (channels v) ch) NoChannel None
 
--- there is no such channel, a segment ends above the memory, or the channel has given its last cookie
+-- why a submit is refused: there is no such channel, a segment ends above the memory, or the channel has given its last
+-- cookie
 abbrev pub submit_fault : View → ℕ → Descriptor → Option EngineFault
 submit_fault v ch t =
     cause (nat_le (channels v) ch) NoChannel (
     cause (not (lies_below t (size v))) OutOfMemoryRange (
     cause (nat_le last_cookie (used (channel (object_of v) ch))) CookiesSpent None))
 
--- what is answered of a cookie, or the first cause
+-- the cookie, or the first cause
 abbrev pub checked : Option EngineFault → ℕ → Result ℕ EngineFault
 checked None cookie = Ok cookie
 checked (Some fault) cookie = Err fault
 
--- a marked range isn't empty and ends at 2 ^ 32 at most (PL330 manual, 32-bit addresses)
+-- why a mark is refused: the range is empty or ends above 2 ^ 32 (PL330 manual, 32-bit addresses)
 abbrev pub mark_fault : Segment → Option EngineFault
 mark_fault s = cause (s.len == 0 || nat_lt 4294967296 (s.addr + s.len)) BadRange None
 
--- there are 32 events (PL330 manual, DMASEV and DMAWFE)
+-- why a raise is refused: the event is above 31 (PL330 manual, DMASEV and DMAWFE)
 abbrev pub raise_fault : ℕ → Option EngineFault
 raise_fault event = cause (nat_lt 31 event) BadEvent None
 
--- a checkpoint is refused while a transfer runs, of which the first is named
+-- why a checkpoint is refused: a transfer runs, and the first one is named
 abbrev pub checkpoint_fault : View → Option EngineFault
 checkpoint_fault v = option_map (λ r. Running r.ch r.cookie) (first_running v (λ _. true))
 
--- ---- what a call does where nothing refuses it
+-- ---- what a call does if nothing refuses it
 
--- the present object becomes the base, and the history begins anew
+-- the view after a checkpoint: the present object is the base, and the history is empty
 abbrev pub checkpointed : View → View
 checkpointed v = record v { base = base_from (object_of v); history = [] }
 
--- a channel whose schedule is changed
+-- the view with a channel's pause set or ended
 abbrev pub with_pause : View → ℕ → Bool → View
 with_pause v ch paused =
     record v { schedule = slice_set v.schedule ch (record (schedule_at v ch) { paused = paused }) }
 
--- the bytes that a channel's front has stored, 0 where nothing runs
+-- how many bytes a running transfer has stored, or 0 if nothing runs
 abbrev pub done_by : Option RunningTransfer → ℕ
 done_by None = 0
 done_by (Some r) = stored_after r.transfer r.taken
 
--- the same by the number of the channel
+-- how many bytes the front of a channel has stored, or 0 if nothing runs on it
 abbrev pub done_on : View → ℕ → ℕ
 done_on v ch = done_by (runs (object_of v) v.schedule ch)
 
--- all unfinished cookies are aborted; the channel then neither runs nor is paused
+-- the view after a terminate: all unfinished cookies are aborted, and the channel neither runs nor is paused
 abbrev pub terminated : View → ℕ → View
 terminated v ch =
     record (with_entry v (Terminated ch (done_on v ch) (unfinished (channel (object_of v) ch)))) {
       schedule = slice_set v.schedule ch idle;
     }
 
--- How far a cookie is (profile): unknown where it is 0 or above those that its channel has given, complete where it is among
--- the finished ones, else in progress.
+-- The status of a cookie (profile): Unknown if it is 0 or above the cookies that its channel has given, Complete if it
+-- is finished, else InProgress.
 abbrev pub status_in : View → ℕ → ℕ → EngineStatus
 status_in v ch cookie =
     let c = channel (object_of v) ch in
     if cookie == 0 || nat_lt (used c) cookie then Unknown
     else (if nat_le cookie (finished c) then Complete else InProgress)
 
--- how a cookie finished, if it did and isn't forgotten
+-- how a cookie finished, or None if it hasn't finished or is forgotten
 abbrev pub result_of : Object → ℕ → ℕ → Option Outcome
 result_of o ch cookie =
     let c = channel o ch in
     if nat_le cookie c.forgotten then None else slice_get c.outcomes (cookie - c.forgotten - 1)
 
--- the reply of a call that answers a result
+-- the reply to a call that returns a result: `told` of the value, or Refused
 abbrev pub reply_of : {T : Type 0} → (T → Reply) → Result T EngineFault → Reply
 reply_of told (Ok x) = told x
 reply_of told (Err fault) = Refused fault
 
--- the reply of a submit
+-- the reply to a submit
 abbrev pub submit_reply : Result ℕ SubmitFault → Reply
 submit_reply (Ok cookie) = Cookie cookie
 submit_reply (Err refused) = Refused refused.fault
 
--- a refusal leaves the view as it was
+-- the answer to a call with this fault, if any: a refusal leaves the view unchanged
 abbrev pub unless : Option EngineFault → View → Reply × View → Reply × View
 unless (Some fault) v accepted = (Refused fault, v)
 unless None v accepted = accepted
 
--- What a call answers, and the view after it, where memory is not wanting. An accepted call adds its entry at the end of the
--- history, or none; a checkpoint drops the history.
+-- The answer to a call when memory doesn't run out, and the view after it. An accepted call adds its entry to the end
+-- of the history, or none; a checkpoint empties the history.
 abbrev pub answer : View → Call → Reply × View
 answer v (Write addr bytes) = unless (write_fault v addr (length bytes)) v (Done, with_entry v (Wrote addr bytes))
 answer v (Read addr len) =
@@ -160,43 +161,43 @@ answer v Unmark = (Done, with_entry v Unmarked)
 answer v (Raise event) = unless (raise_fault event) v (Done, with_entry v (Signalled Host event))
 answer v Checkpoint = unless (checkpoint_fault v) v (Done, checkpointed v)
 
--- ---- want of memory
+-- ---- when memory runs out
 
 -- whether a reply says that a transfer started
 abbrev pub is_started : Reply → Bool
 is_started (Turned (Started cookie)) = true
 is_started _ = false
 
--- whether a call stores a base: a checkpoint that nothing refuses
+-- whether a call stores a base: it is a checkpoint that nothing refuses
 abbrev pub stores_base : View → Call → Bool
 stores_base v Checkpoint = is_none (checkpoint_fault v)
 stores_base v _ = false
 
--- A call takes memory where it adds an entry, starts a transfer or stores a base. No other call does.
+-- Whether a call allocates memory: it adds an entry, starts a transfer or stores a base.
 abbrev pub takes_memory : View → Call → Bool
 takes_memory v call =
     stores_base v call || (is_started (answer v call).0 || nat_lt (length v.history) (length (answer v call).1.history))
 
--- A call answers so, and leaves such a view. A call that takes memory may also be refused it, after every other cause, and
--- then leaves the view as it was.
+-- A call has this reply and leaves this view. A call that allocates memory may instead be out of memory; no other cause
+-- applies then, and the view is unchanged.
 abbrev pub CallAnswers : View → Call → Reply → View → Type 0
 CallAnswers old call (Refused NoMemory) new = (takes_memory old call ≡ true) × (new ≡ old)
 CallAnswers old call reply new = (reply, new) ≡ answer old call
 
--- the same of the answer of one step
+-- the same for the result of one step
 abbrev pub StepAnswers : View → ℕ → Result Turn EngineFault → View → Type 0
 StepAnswers old ch result new = CallAnswers old (Step ch) (reply_of Turned result) new
 
 -- ---- lists of calls
 
--- Calls in order answer so, one reply for each, and leave such a view.
+-- Calls in order have these replies, one for each call, and leave this view.
 abbrev pub AreAnswers : View → List Call → List Reply → View → Type 0
 AreAnswers old [] [] new = new ≡ old
 AreAnswers old (call ∷ calls) (reply ∷ replies) new =
     (next : View) × CallAnswers old call reply next × AreAnswers next calls replies new
 AreAnswers old _ _ new = ⊥
 
--- whether a call was a checkpoint that was accepted
+-- whether a call is a checkpoint that was accepted
 abbrev pub is_checkpoint : Call → Reply → Bool
 is_checkpoint Checkpoint Done = true
 is_checkpoint _ _ = false
@@ -210,19 +211,19 @@ has_checkpoint _ _ = false
 abbrev pub Extends : View → View → Type 0
 Extends old new = (new.base ≡ old.base) × ((more : List Entry) × (new.history ≡ old.history ++ more))
 
--- Outcome number k is that of cookie k after the forgotten ones, and never changes.
+-- Every outcome that is known before is known after, and is the same.
 abbrev pub KeepsOutcomes : View → View → Type 0
 KeepsOutcomes old new =
     (ch cookie : ℕ) (x : Outcome) → result_of (object_of old) ch cookie ≡ Some x
     → result_of (object_of new) ch cookie ≡ Some x
 
--- An outcome never changes; a checkpoint may forget it.
+-- Every outcome that is known before is the same after, unless its cookie is then forgotten.
 abbrev pub Remembers : View → View → Type 0
 Remembers old new =
     (ch cookie : ℕ) (x : Outcome) → result_of (object_of old) ch cookie ≡ Some x
     → (result_of (object_of new) ch cookie ≡ Some x) ⊎ (cookie ≤ (channel (object_of new) ch).forgotten)
 
--- the replies to calls in order, where memory is not wanting
+-- the replies to calls in order, and the view after them, when memory doesn't run out
 abbrev pub answers : View → List Call → List Reply × View
 answers v [] = ([], v)
 answers v (call ∷ calls) =

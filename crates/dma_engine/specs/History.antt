@@ -1,16 +1,16 @@
--- Histories: lists of entries, in the order in which they were added.
+-- Histories: lists of entries in the order in which they were added.
 use Rattle.std.specs.Prelude.{ℕ, List, [], ◌∷◌, length}
 use Rattle.std.specs.List.{sum_by}
 use Rattle.dma_engine.specs.declared.entry.Entry.{Entry}
 use Rattle.dma_engine.specs.declared.entry.Entry.TheVariants.{Wrote, ReadBack}
 use Rattle.dma_engine.specs.Object.{Object, Allows, after}
 
--- The object that these entries leave, from this one on.
+-- The object after these entries, starting from this object.
 abbrev pub object_after : Object → List Entry → Object
 object_after o [] = o
 object_after o (e ∷ es) = object_after (after o e) es
 
--- A history is legal where each entry is allowed where it stands, from this object on.
+-- Whether a history is legal from an object: each entry is allowed for the object before it.
 abbrev pub IsLegal : Object → List Entry → Type 0
 IsLegal o [] = Unit {0}
 IsLegal o (e ∷ es) = Allows o e × IsLegal (after o e) es

@@ -1,5 +1,5 @@
--- What each answer adds to the ticks, to the step count and to the number of finished cookies; which views answers leave;
--- and answers to calls in a row.
+-- What each answer adds to the ticks, to the step count and to the number of finished cookies; which views answers
+-- leave; and answers to consecutive calls.
 use Rattle.std.specs.Prelude.{◌≡◌, ◌≢◌, ℕ, ◌+◌, ◌≤◌, ◌<◌, ◌⊎◌, false, if◌then◌else◌, None, Result, Ok, Err, List, [], ◌∷◌, ◌++◌, length, take, drop}
 use Rattle.std.specs.List.{All}
 use Rattle.dma_mem.specs.Places.{Descriptor}
@@ -20,33 +20,33 @@ use Rattle.dma_engine.specs.Answer.{CallAnswers, AreAnswers, StepAnswers, Extend
 use Rattle.dma_engine.specs.Room.{IsIdle}
 use Rattle.dma_engine.specs.View.{View, IsSound, channels, new_fault, new_view, object_of}
 
--- so many steps does an answer count: one for each that moves or finishes
+-- how many steps an answer counts: one if it moved or finished, else none
 abbrev pub steps_in : Result Turn EngineFault → ℕ
 steps_in (Ok Moved) = 1
 steps_in (Ok (TurnFinished cookie result residue)) = 1
 steps_in _ = 0
 
--- so many cookies does an answer finish
+-- how many cookies a step's answer finishes: one or none
 abbrev pub finishes_in : Result Turn EngineFault → ℕ
 finishes_in r = if ends r then 1 else 0
 
--- the tick of an answer, where it finishes a cookie
+-- the tick of a step's answer: one if it finishes a cookie, else none
 abbrev pub ticks_in : ℕ → Result Turn EngineFault → List Tick
 ticks_in ch r = if ends r then Finished ch 1 ∷ [] else []
 
--- The later view has these ticks more, so many steps and so many finished cookies.
+-- The new view has these additional ticks, this many more steps and this many more finished cookies.
 pub record Adds (old new : View) (more : List Tick) (moves finishes : ℕ) : Type 0 where
   pub ticks : ticks_of new.history ≡ ticks_of old.history ++ more
   pub steps : new.steps ≡ old.steps + moves
   pub finished : finished_all (object_of new) ≡ finished_all (object_of old) + finishes
 
--- Ticks, step count and finished cookies stay.
+-- The ticks, the step count and the number of finished cookies are the same.
 pub record Still (old new : View) : Type 0 where
   pub ticks : ticks_of new.history ≡ ticks_of old.history
   pub steps : new.steps ≡ old.steps
   pub finished : finished_all (object_of new) ≡ finished_all (object_of old)
 
--- a call that gives no cookie, finishes none and stores no base
+-- a call that is not a submit, a terminate, a step or a checkpoint
 abbrev pub IsQuiet : Call → Type 0
 IsQuiet (Submit ch t) = ⊥
 IsQuiet (Terminate ch) = ⊥
@@ -54,66 +54,68 @@ IsQuiet (Step ch) = ⊥
 IsQuiet Checkpoint = ⊥
 IsQuiet _ = Unit {0}
 
--- Whatever a call answers that is no accepted checkpoint, the history begins with the one from before, from the same base.
+-- After any call that is not an accepted checkpoint, the history begins with the one from before, from the same base.
 abbrev pub CallsExtend : Type 0
 CallsExtend =
     (v w : View) (call : Call) (reply : Reply) → is_checkpoint call reply ≡ false → CallAnswers v call reply w → Extends v w
 
--- Whatever a quiet call answers, ticks, step count and finished cookies stay.
+-- After a quiet call, whatever its reply, the ticks, the step count and the number of finished cookies are the same.
 abbrev pub QuietCallsKeep : Type 0
 QuietCallsKeep = (v w : View) (call : Call) (reply : Reply) → IsQuiet call → CallAnswers v call reply w → Still v w
 
--- An accepted submit adds its tick, and its cookie is then the last one given on a channel that is there.
+-- An accepted submit adds its tick and no step or finished cookie. Its channel exists, and its cookie, which is above
+-- 0, is the last one that the channel has given.
 abbrev pub SubmitsGive : Type 0
 SubmitsGive =
     (v w : View) (ch cookie : ℕ) (t : Descriptor) → CallAnswers v (Submit ch t) (Cookie cookie) w
     → Adds v w (Submitted ch ∷ []) 0 0 × (ch < channels w) × (0 < cookie) × (cookie ≡ used (channel (object_of w) ch))
 
--- An accepted terminate adds its tick, and all cookies of its channel are then finished.
+-- An accepted terminate adds its tick. It finishes as many cookies as were unfinished, and then all cookies of the
+-- channel, which exists, are finished.
 abbrev pub TerminatesFinish : Type 0
 TerminatesFinish =
     (v w : View) (ch count : ℕ) → CallAnswers v (Terminate ch) (Count count) w
     → Adds v w (Finished ch count ∷ []) 0 count × (ch < channels w) × (count ≡ unfinished (channel (object_of v) ch))
     × (used (channel (object_of w) ch) ≤ finished (channel (object_of w) ch))
 
--- A step adds what its answer says.
+-- A step adds the tick, the step and the finished cookie of its answer.
 abbrev pub StepsAdd : Type 0
 StepsAdd =
     (v w : View) (ch : ℕ) (r : Result Turn EngineFault) → StepAnswers v ch r w
     → Adds v w (ticks_in ch r) (steps_in r) (finishes_in r)
 
--- A step finishes a cookie where the turn does, unless it is refused memory.
+-- A step's answer finishes a cookie exactly if its turn does, unless it is out of memory.
 abbrev pub EndsAsTold : Type 0
 EndsAsTold =
     (v w : View) (ch : ℕ) (r : Result Turn EngineFault) → StepAnswers v ch r w
     → (r ≡ Err NoMemory) ⊎ (ends r ≡ ends (turn v ch).0)
 
--- After an accepted checkpoint the history is empty, and its base has the counts that the channels had; step count and
--- finished cookies stay.
+-- After an accepted checkpoint of a sound view the history is empty, the base has the counts that the channels had, and
+-- the step count and the number of finished cookies are the same.
 abbrev pub CheckpointsKeep : Type 0
 CheckpointsKeep =
     (v w : View) → IsSound v → CallAnswers v Checkpoint Done w
     → (w.history ≡ []) × (board_of w.base ≡ board_of (object_of v)) × (w.steps ≡ v.steps)
     × (finished_all (object_of w) ≡ finished_all (object_of v))
 
--- Over calls without an accepted checkpoint the history begins with the one from before, from the same base, and no outcome
--- changes. What stands between two checkpoints of a longer list is such a list of its own.
+-- Over calls without an accepted checkpoint the history begins with the one from before, from the same base, and no
+-- known outcome changes. The calls between two checkpoints of a longer list are such a list.
 abbrev pub StretchesKeep : Type 0
 StretchesKeep =
     (v w : View) (calls : List Call) (replies : List Reply) → has_checkpoint calls replies ≡ false
     → AreAnswers v calls replies w → Extends v w × KeepsOutcomes v w
 
--- The board of the history's ticks has the counts of the object that the history leaves.
+-- The board of a sound view's ticks has the counts of the object after its history.
 abbrev pub BoardsCount : Type 0
 BoardsCount = (v : View) → IsSound v → board_after (board_of v.base) (ticks_of v.history) ≡ board_of (object_of v)
 
--- How far a cookie is, is told by the board that the history's ticks add up to, as readers of the status know it.
+-- The board that a sound view's ticks sum up to determines the status of each cookie, as readers of the status know it.
 abbrev pub StatusByTicks : Type 0
 StatusByTicks =
     (v : View) (ch cookie : ℕ) → IsSound v
     → status_in v ch cookie ≡ status_of (board_after (board_of v.base) (ticks_of v.history)) ch cookie
 
--- A history begins with the counts of at most 8 channels, none above the last cookie.
+-- The base of a sound view has at most 8 channels, with counts for each, and no count above the last cookie.
 abbrev pub BoardsOpen : Type 0
 BoardsOpen =
     (v : View) → IsSound v
@@ -121,7 +123,7 @@ BoardsOpen =
     × ((ch : ℕ)
     → ((counts (board_of v.base) ch).used ≤ last_cookie) × ((counts (board_of v.base) ch).finished ≤ last_cookie))
 
--- Each tick of a history is of a channel that is there.
+-- Each tick of a sound view's history is that of a channel that exists.
 abbrev pub TicksAreThere : Type 0
 TicksAreThere = (v : View) → IsSound v → All (λ t. tick_channel t < channels v) (ticks_of v.history)
 
@@ -129,19 +131,20 @@ TicksAreThere = (v : View) → IsSound v → All (λ t. tick_channel t < channel
 abbrev pub TicksAreFew : Type 0
 TicksAreFew = (es : List Entry) → length (ticks_of es) ≤ length es
 
--- Where the answer to a step is idle, the view is the one before.
+-- If the answer to a step is idle, the view is unchanged.
 abbrev pub IdleStepsStay : Type 0
 IdleStepsStay =
     (v w : View) (ch : ℕ) (r : Result Turn EngineFault) → IsIdle r → (reply_of Turned r, w) ≡ answer v (Step ch) → w ≡ v
 
 -- ---- which views answers leave
 
--- A call that can be made: the transfer of a submit meets its rules, as each value of the type of transfers does.
+-- A call that can be made: the transfer of a submit meets the rules of transfers, as every value of the type does.
 abbrev pub IsCall : Call → Type 0
 IsCall (Submit ch t) = IsTransfer t
 IsCall call = Unit {0}
 
--- Calls in order answer so, one reply for each, and each view on the way is sound, the first and the last too.
+-- Calls in order have these replies, one for each call, and every view on the way is sound, including the first and the
+-- last.
 abbrev pub AreSoundAnswers : View → List Call → List Reply → View → Type 0
 AreSoundAnswers old [] [] new = IsSound new × (new ≡ old)
 AreSoundAnswers old (call ∷ calls) (reply ∷ replies) new =
@@ -152,54 +155,54 @@ AreSoundAnswers old _ _ new = ⊥
 abbrev pub NewViewsAreSound : Type 0
 NewViewsAreSound = (bytes many : ℕ) → new_fault bytes many ≡ None → IsSound (new_view bytes many)
 
--- Whatever a call answers, a sound view stays sound.
+-- A sound view stays sound after any answer to a call.
 abbrev pub AnswersStaySound : Type 0
 AnswersStaySound =
     (v w : View) (call : Call) (reply : Reply) → IsCall call → IsSound v → CallAnswers v call reply w → IsSound w
 
--- Whatever calls in order answer from a sound view on, each view on the way is sound.
+-- From a sound view, every view on the way through answers to calls in order is sound.
 abbrev pub CallsStaySound : Type 0
 CallsStaySound =
     (v w : View) (calls : List Call) (replies : List Reply) → All IsCall calls → IsSound v → AreAnswers v calls replies w
     → IsSound w × AreSoundAnswers v calls replies w
 
--- ---- answers to calls in a row
+-- ---- answers to consecutive calls
 
--- An answer to a call is one to a list of that call alone.
+-- An answer to a call is an answer to a list of only that call.
 abbrev pub AnswersOne : Type 0
 AnswersOne =
     (v w : View) (call : Call) (reply : Reply) → CallAnswers v call reply w → AreAnswers v (call ∷ []) (reply ∷ []) w
 
--- Answers to calls, followed by answers to further calls, are answers to all of them in a row.
+-- Answers to calls, followed by answers to further calls, are answers to all of them in order.
 abbrev pub AnswersAppend : Type 0
 AnswersAppend =
     (u v w : View) (calls more : List Call) (replies others : List Reply) → AreAnswers u calls replies v
     → AreAnswers v more others w → AreAnswers u (calls ++ more) (replies ++ others) w
 
--- Answers to calls in a row are answers to the first of them, followed by answers to the others.
+-- Answers to calls in order are answers to the first ones, followed by answers to the rest.
 abbrev pub AnswersSplit : Type 0
 AnswersSplit =
     (u w : View) (calls more : List Call) (replies : List Reply) → AreAnswers u (calls ++ more) replies w
     → (v : View) × AreAnswers u calls (take (length calls) replies) v
     × AreAnswers v more (drop (length calls) replies) w
 
--- ---- answers where memory is not wanting
+-- ---- answers when memory doesn't run out
 
--- What a call answers with enough memory is an answer to it.
+-- The answer to a call with enough memory is one of its answers.
 abbrev pub AnswerIsOne : Type 0
 AnswerIsOne = (v : View) (call : Call) → CallAnswers v call (answer v call).0 (answer v call).1
 
--- What calls in order answer with enough memory are answers to them.
+-- The answers to calls in order with enough memory are answers to them.
 abbrev pub AnswersAreAnswers : Type 0
 AnswersAreAnswers = (v : View) (calls : List Call) → AreAnswers v calls (answers v calls).0 (answers v calls).1
 
--- An answer other than out of memory is the one with enough memory.
+-- A reply other than out of memory, and its view, are those with enough memory.
 abbrev pub AnswerDespiteMemory : Type 0
 AnswerDespiteMemory =
     (v w : View) (call : Call) (reply : Reply) → reply ≢ Refused NoMemory → CallAnswers v call reply w
     → (reply, w) ≡ answer v call
 
--- Replies of which none is out of memory are those with enough memory, and so is the view that they leave.
+-- Replies without an out of memory are those with enough memory, and so is the view after them.
 abbrev pub AnswersDespiteMemory : Type 0
 AnswersDespiteMemory =
     (v w : View) (calls : List Call) (replies : List Reply) → All (λ r. r ≢ Refused NoMemory) replies

@@ -1,4 +1,5 @@
--- The object of one thread, and what each entry of a history does to it; how an engine is seen, and what each call answers.
+-- The single-threaded object, and what each entry of a history does to it; what contracts see of an engine, and the
+-- answer to each call.
 pub mod Object
 pub mod History
 pub mod Ticks

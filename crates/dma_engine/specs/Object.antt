@@ -1,4 +1,5 @@
--- The object that a DMA controller is for one thread, and what each entry of its history needs of it and does to it.
+-- The single-threaded object that a DMA controller is, and for each entry of its history what it requires of the object
+-- and how it changes it.
 use Rattle.std.specs.Prelude.{◌≡◌, ℕ, ◌+◌, ◌-◌, ◌<◌, ◌≤◌, if◌then◌else◌, Bool, true, false, nat_lt, Option, Some, None, IsSome, IsSomeAnd, MatchOption, unwrap_or, List, [], ◌∷◌, ◌++◌, length, map, take, drop, replicate, slice_get, slice_index_or, slice_set}
 use Rattle.std.specs.List.{All, sum_by}
 use Rattle.dma_mem.specs.Places.{Descriptor, lies_below, size_of, sources, destinations}
@@ -17,10 +18,10 @@ use Rattle.dma_engine.specs.declared.outcome.TransResult.TheVariants.{NoError, R
 
 -- ---- the object
 
--- What is known of a channel: how many of its cookies are forgotten, which are the first ones, had finished before the
--- history begins, and are known by number alone; the transfers submitted to it after those, in the order of their cookies;
--- how many of its cookies are issued; the outcomes of those that are finished and not forgotten; whether the front has
--- passed the event that it waits for and signalled the one that it signals, and whether a failure has halted the channel.
+-- The state of a channel: how many of its first cookies are forgotten, which means that they finished before the
+-- history begins and are only counted; the transfers submitted after those, in the order of their cookies; how many of
+-- its cookies are issued; the outcomes of the cookies that are finished and not forgotten; whether the front has passed
+-- the event that it waits for; whether it has signalled its event; and whether a failure has halted the channel.
 -- (Queue, cookies and issue: dmaengine client documentation; events, halting and what is forgotten: profile.)
 pub record ChannelState : Type 0 where
   pub forgotten : ℕ
@@ -31,7 +32,7 @@ pub record ChannelState : Type 0 where
   pub signalled : Bool
   pub halted : Bool
 
--- The object of one thread: an image of the memory, the flag of each event, the marked ranges, and its channels.
+-- The single-threaded object: an image of the memory, the flag of each event, the marked ranges, and its channels.
 pub record Object : Type 0 where
   pub image : List ℕ
   pub events : List Bool
@@ -43,13 +44,13 @@ abbrev pub empty_channel : ChannelState
 empty_channel =
     record { forgotten = 0; submitted = []; issued = 0; outcomes = []; passed = false; signalled = false; halted = false }
 
--- The opening object: a memory of zeros, 32 clear flags (PL330 manual, DMASEV and DMAWFE), no marks, and channels to which
--- nothing was submitted.
+-- The opening object: a memory of zeros, 32 clear flags (PL330 manual, DMASEV and DMAWFE), no marks, and channels to
+-- which nothing was submitted.
 unfoldable pub opening : ℕ → ℕ → Object
 opening size channels =
     record { image = replicate size 0; events = replicate 32 false; marks = []; channels = replicate channels empty_channel }
 
--- the channel of that number; where there is none, one to which nothing was submitted
+-- the channel with this number, or one to which nothing was submitted if there is none
 abbrev pub channel : Object → ℕ → ChannelState
 channel o ch = slice_index_or o.channels ch empty_channel
 
@@ -69,11 +70,11 @@ with_flag o event flag = record o { events = slice_set o.events event flag }
 abbrev pub used : ChannelState → ℕ
 used c = c.forgotten + length c.submitted
 
--- how many of them are finished
+-- how many cookies of a channel are finished
 abbrev pub finished : ChannelState → ℕ
 finished c = c.forgotten + length c.outcomes
 
--- how many of them aren't finished
+-- how many cookies of a channel aren't finished
 abbrev pub unfinished : ChannelState → ℕ
 unfinished c = used c - finished c
 
@@ -85,21 +86,21 @@ finished_all o = sum_by finished o.channels
 abbrev pub front : ChannelState → Option Descriptor
 front c = slice_get c.submitted (length c.outcomes)
 
--- the front, where it is issued
+-- the front if it is issued
 abbrev pub issued_front : ChannelState → Option Descriptor
 issued_front c = if nat_lt (finished c) c.issued then front c else None
 
--- ---- what an entry needs
+-- ---- what an entry requires
 
--- the channel isn't halted, and its front is issued and so
+-- the channel isn't halted, and its front is issued and satisfies P
 abbrev pub FrontIs : ChannelState → (Descriptor → Type 0) → Type 0
 FrontIs c P = (c.halted ≡ false) × IsSomeAnd (issued_front c) P
 
--- the front has passed if it waits
+-- the front has passed its event, if it waits for one
 abbrev pub HasPassed : ChannelState → Descriptor → Type 0
 HasPassed c t = IsSome t.wait → c.passed ≡ true
 
--- the front has signalled if it signals
+-- the front has signalled its event, if it has one
 abbrev pub HasSignalled : ChannelState → Descriptor → Type 0
 HasSignalled c t = IsSome t.signal → c.signalled ≡ true
 
@@ -107,27 +108,28 @@ HasSignalled c t = IsSome t.signal → c.signalled ≡ true
 abbrev pub last_cookie : ℕ
 last_cookie = 2147483647
 
--- The front can fail with so many bytes stored: it has passed and not signalled, not all is stored, and of the places that
--- come next, as many as a burst has at most (256, the channel's buffer, profile), one lies in a mark of that kind.
+-- The front can fail after `done` bytes: it is issued, its channel isn't halted, it has passed its event if it waits
+-- for one and has not signalled, fewer bytes than its size are stored, and one of the next 256 places lies in a mark of
+-- that kind. A burst has at most 256 bytes, the size of the channel's buffer (profile).
 abbrev pub CanFail : Object → ChannelState → MarkKind → (Descriptor → List ℕ) → ℕ → Type 0
 CanFail o c kind side done =
     FrontIs c (λ t.
     HasPassed c t × (c.signalled ≡ false) × (done < size_of t)
     × (meets_mark kind o.marks (take 256 (drop done (side t))) ≡ true))
 
--- So much of the front can be stored when its channel is terminated: nothing where no front is issued, the channel is
--- halted, or the front waits and hasn't passed; all where it has signalled.
+-- How many bytes of the front can be stored when its channel is terminated: at most its size; 0 if no front is issued,
+-- if the channel is halted, or if the front waits and hasn't passed its event; all bytes if it has signalled.
 abbrev pub CanHaveStored : ChannelState → ℕ → Type 0
 CanHaveStored c done =
     MatchOption (issued_front c) (done ≡ 0) (λ t.
     (done ≤ size_of t) × (c.halted ≡ true → done ≡ 0) × (IsSome t.wait → c.passed ≡ false → done ≡ 0)
     × (c.signalled ≡ true → done ≡ size_of t))
 
--- a range that can be marked: it isn't empty, and ends at most behind the last address
+-- a range that can be marked: it isn't empty, and ends at 2 ^ 32 or below
 abbrev pub IsMark : Segment → Type 0
 IsMark s = (0 < s.len) × (s.addr + s.len ≤ 4294967296)
 
--- What an entry needs of the object that it acts on.
+-- What an entry requires of the object that it changes.
 abbrev pub Allows : Object → Entry → Type 0
 Allows o (Wrote addr bytes) = addr + length bytes ≤ length o.image
 Allows o (ReadBack addr bytes) =
@@ -153,9 +155,9 @@ Allows o (Terminated ch done count) =
 Allows o (Marked kind segment) = IsMark segment
 Allows o Unmarked = Unit {0}
 
--- ---- what an entry leaves
+-- ---- the object after an entry
 
--- in place of a front that isn't there
+-- a transfer of nothing, for a channel without a front
 abbrev pub no_transfer : Descriptor
 no_transfer = record { fill = false; src = []; dst = []; wait = None; signal = None }
 
@@ -163,30 +165,30 @@ no_transfer = record { fill = false; src = []; dst = []; wait = None; signal = N
 abbrev pub front_of : ChannelState → Descriptor
 front_of c = unwrap_or (front c) no_transfer
 
--- The outcome of a transfer of which so many bytes were stored.
+-- The outcome of a transfer with `done` bytes stored.
 abbrev pub outcome_of : TransResult → Descriptor → ℕ → Outcome
 outcome_of result t done = record { result = result; residue = size_of t - done }
 
--- the outcomes of transfers that are all aborted, the first with so many bytes stored
+-- the outcomes of transfers that are all aborted, with `done` bytes of the first one stored
 abbrev pub aborted : ℕ → List Descriptor → List Outcome
 aborted done [] = []
 aborted done (t ∷ ts) = outcome_of Aborted t done ∷ map (λ u. outcome_of Aborted u 0) ts
 
--- a failure halts the channel (profile)
+-- whether a result is a failure, which halts the channel (profile)
 abbrev pub is_failure : TransResult → Bool
 is_failure ReadFailed = true
 is_failure WriteFailed = true
 is_failure _ = false
 
--- an image after one simultaneous copy of the front's first bytes
+-- the object whose image is the one after a simultaneous copy of the front's first bytes
 abbrev pub with_front_laid : Object → ℕ → ℕ → Object
 with_front_laid o ch done = record o { image = laid o.image (front_of (channel o ch)) done }
 
--- a channel with one more transfer
+-- the channel with one more transfer
 abbrev pub with_transfer : ChannelState → Descriptor → ChannelState
 with_transfer c t = record c { submitted = c.submitted ++ t ∷ [] }
 
--- a channel whose front has finished
+-- the channel after its front has finished, with this result and `done` bytes stored
 abbrev pub with_outcome : ChannelState → TransResult → ℕ → ChannelState
 with_outcome c result done =
     record c {
@@ -196,7 +198,7 @@ with_outcome c result done =
       halted = is_failure result;
     }
 
--- a channel that was terminated
+-- the channel after a terminate, with `done` bytes of the front stored
 abbrev pub with_all_aborted : ChannelState → ℕ → ChannelState
 with_all_aborted c done =
     record c {
@@ -207,7 +209,7 @@ with_all_aborted c done =
       halted = false;
     }
 
--- The object after an entry. What isn't named stays.
+-- The object after an entry. Everything that isn't mentioned stays the same.
 abbrev pub after : Object → Entry → Object
 after o (Wrote addr bytes) = record o { image = put o.image (bytes_at addr bytes) }
 after o (ReadBack addr bytes) = o
@@ -226,24 +228,25 @@ after o Unmarked = record o { marks = [] }
 
 -- ---- a base
 
--- A channel in a base: its finished cookies are forgotten.
+-- The base of a channel: its finished cookies are forgotten.
 abbrev pub forget : ChannelState → ChannelState
 forget c = record c { forgotten = finished c; submitted = drop (length c.outcomes) c.submitted; outcomes = [] }
 
--- The base that an object becomes, from which a history begins anew.
+-- The base of an object, from which a history begins.
 abbrev pub base_from : Object → Object
 base_from o = record o { channels = map forget o.channels }
 
--- A channel that can stand in a base: no outcome is known, the front has neither passed nor signalled, all finished cookies
--- are issued, no more are issued than given, none is above the last one, and the unfinished transfers meet the rules and lie
--- below the memory's size.
+-- A channel that can be in a base: no outcome is known, the front has neither passed nor signalled, all finished
+-- cookies are issued, all issued cookies are given, no cookie is above the last one, and the unfinished transfers meet
+-- the rules and lie below the memory's size.
 pub record IsBaseChannel (size : ℕ) (c : ChannelState) : Type 0 where
   pub outcomes : c.outcomes ≡ []
   pub rests : (c.passed ≡ false) × (c.signalled ≡ false)
   pub counts : (finished c ≤ c.issued) × (c.issued ≤ used c) × (used c ≤ last_cookie)
   pub rules : All (λ t. IsTransfer t × (lies_below t size ≡ true)) c.submitted
 
--- An object that can be a base: it has 32 flags, its marks are ranges that can be marked, and each channel can stand in one.
+-- An object that can be a base: it has 32 flags, its marks are ranges that can be marked, and each channel can be in a
+-- base.
 pub record IsBase (o : Object) : Type 0 where
   pub flags : length o.events ≡ 32
   pub marks : All (λ m. IsMark m.1) o.marks

@@ -1,4 +1,4 @@
--- Room that is made before it is needed.
+-- Room that is allocated before it is needed.
 use Rattle.std.specs.Prelude.{◌≡◌, ℕ, ◌<◌, ◌≤◌, Result, Ok, slice_index_or}
 use Rattle.dma_engine.specs.declared.fault.EngineFault.{EngineFault}
 use Rattle.dma_engine.specs.declared.turn.Turn.{Turn}
@@ -6,7 +6,7 @@ use Rattle.dma_engine.specs.declared.turn.Turn.TheVariants.{Started, Moved, Fini
 use Rattle.dma_engine.specs.Object.{channel, unfinished}
 use Rattle.dma_engine.specs.View.{EngineState, QueueRoom, Room, object_of}
 
--- where there is no such channel
+-- the room of a channel that doesn't exist
 abbrev pub no_room : QueueRoom
 no_room = record { indices = 0; outcomes = 0 }
 
@@ -14,23 +14,24 @@ no_room = record { indices = 0; outcomes = 0 }
 abbrev pub room_on : Room → ℕ → QueueRoom
 room_on r ch = slice_index_or r.queues ch no_room
 
--- There is room for one more entry, for one more cookie of the channel, and for the outcomes of all its unfinished cookies.
+-- There is room for one more entry, for one more cookie of the channel, and for the outcomes of all its unfinished
+-- cookies.
 pub record HasRoom (e : EngineState) (ch : ℕ) : Type 0 where
   pub entry : 0 < e.room.entries
   pub cookie : 0 < (room_on e.room ch).indices
   pub outcomes : unfinished (channel (object_of e.view) ch) ≤ (room_on e.room ch).outcomes
 
--- The lists of entries, of indices and of outcomes have no room: what they don't need was given back.
+-- The lists of entries, of indices and of outcomes have no room: what they don't need was freed.
 abbrev pub HasGivenBack : EngineState → Type 0
 HasGivenBack e = (e.room.entries ≡ 0) × ((ch : ℕ) → room_on e.room ch ≡ no_room)
 
--- An answer to a step that changed nothing: a refusal, or a turn that neither starts, moves nor finishes.
+-- The result of a step that changed nothing: a refusal, or a turn that neither starts, moves nor finishes.
 abbrev pub IsIdle : Result Turn EngineFault → Type 0
 IsIdle (Ok (Started cookie)) = ⊥
 IsIdle (Ok Moved) = ⊥
 IsIdle (Ok (Finished cookie result residue)) = ⊥
 IsIdle _ = Unit {0}
 
--- Where one had room on a channel, the other has.
+-- Every channel that had room still has it.
 abbrev pub KeepsRoom : EngineState → EngineState → Type 0
 KeepsRoom old new = (ch : ℕ) → HasRoom old ch → HasRoom new ch

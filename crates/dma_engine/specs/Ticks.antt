@@ -1,4 +1,4 @@
--- What readers of the status are told.
+-- The changes that readers of the status see.
 use Rattle.std.specs.Prelude.{ℕ, ◌+◌, if◌then◌else◌, ◌==◌, ◌||◌, nat_lt, nat_le, min, List, [], ◌∷◌, map, slice_index_or, slice_set}
 use Rattle.dma_engine.specs.declared.entry.Entry.{Entry}
 use Rattle.dma_engine.specs.declared.entry.Entry.TheVariants.{Submitted as EntrySubmitted, Finished as EntryFinished, Terminated}
@@ -6,7 +6,7 @@ use Rattle.dma_engine.specs.declared.turn.Status.{Status}
 use Rattle.dma_engine.specs.declared.turn.Status.TheVariants.{Unknown, InProgress, Complete}
 use Rattle.dma_engine.specs.Object.{Object, ChannelState, used, finished}
 
--- A channel gave a cookie, or so many of its cookies finished.
+-- A channel gave a cookie, or `count` of its cookies finished.
 pub data Tick : Type 0 where
   Submitted : (ch : ℕ) → Tick
   Finished : (ch count : ℕ) → Tick
@@ -29,11 +29,11 @@ pub record Counts : Type 0 where
   pub used : ℕ
   pub finished : ℕ
 
--- A board has the counts of each channel.
+-- The counts of each channel, in order.
 abbrev pub Board : Type 0
 Board = List Counts
 
--- of a channel that is not there
+-- the counts of a channel that doesn't exist
 abbrev pub no_counts : Counts
 no_counts = record { used = 0; finished = 0 }
 
@@ -41,7 +41,7 @@ no_counts = record { used = 0; finished = 0 }
 abbrev pub counts : Board → ℕ → Counts
 counts board ch = slice_index_or board ch no_counts
 
--- a count stops at the largest number of 32 bits, which no legal history reaches
+-- a sum, limited to the largest number of 32 bits, which no legal history reaches
 abbrev pub added_up : ℕ → ℕ → ℕ
 added_up n by = min (n + by) 4294967295
 
@@ -57,7 +57,7 @@ abbrev pub board_after : Board → List Tick → Board
 board_after board [] = board
 board_after board (t ∷ ts) = board_after (ticked board t) ts
 
--- the counts of a channel, as the object knows it
+-- the counts of a channel's state
 abbrev pub counts_of : ChannelState → Counts
 counts_of c = record { used = used c; finished = finished c }
 
@@ -65,7 +65,7 @@ counts_of c = record { used = used c; finished = finished c }
 abbrev pub board_of : Object → Board
 board_of o = map counts_of o.channels
 
--- How far a cookie is (profile).
+-- The status of a cookie (profile).
 abbrev pub status_of : Board → ℕ → ℕ → Status
 status_of board ch cookie =
     if cookie == 0 || nat_lt (counts board ch).used cookie then Unknown

@@ -1,5 +1,5 @@
--- What the engine keeps and how its parts work: what its own proofs need, and no public clause of a call, a step or a law
--- cites.
+-- How the engine stores its state and how its parts work. Only its own proofs need this. No public clause of a call, a
+-- step or a law uses it.
 pub mod Lists
 pub mod Stored
 pub mod Ranges

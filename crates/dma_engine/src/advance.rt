@@ -1,4 +1,4 @@
-//! Steps of one channel in a row.
+//! Executes consecutive steps of one channel.
 
 ghost use Rattle.std.specs.Prelude.{◌≡◌, ◌≢◌, ◌<◌, IsTrue, IsNone, None, IfSome, IfErr, Ok, false};
 ghost use Rattle.dma_engine.specs.Advance.{IsAdvance};
@@ -10,16 +10,16 @@ use crate::engine::Engine;
 use crate::fault::EngineFault;
 use crate::turn::Turn;
 
-/// What steps of one channel in a row answered.
+/// The result of consecutive steps of one channel.
 #[derive(Clone, Copy, Debug, PartialEq, Eq)]
 pub struct Advanced {
-    /// How many answered [`Turn::Moved`]: they come first.
+    /// How many steps returned [`Turn::Moved`]. They come first.
     pub moved: u32,
-    /// The answer of the step after them, which is the last, or none where as many were taken as were asked for.
+    /// The result of the step after them, which is the last one. It is `None` if all steps moved.
     pub last: Option<Result<Turn, EngineFault>>,
 }
 
-// Whether a step answered that it moved.
+// Returns whether a step moved.
 fn has_moved(turn: Result<Turn, EngineFault>) -> bool
     ensures moved { IsTrue result → turn ≡ Ok Turn.Moved }
     ensures other { result ≡ false → turn ≢ Ok Turn.Moved }
@@ -27,9 +27,9 @@ fn has_moved(turn: Result<Turn, EngineFault>) -> bool
     matches!(turn, Ok(Turn::Moved))
 }
 
-/// Steps a channel until an answer is not [`Turn::Moved`], at most `most` times. Each is a step as [`Engine::step`] takes
-/// it. It takes time in proportion to the steps and the bytes that they move, and no memory of its own: no list of replies
-/// is made.
+/// Steps a channel at most `most` times, until the result is not [`Turn::Moved`]. Each step is one of [`Engine::step`].
+/// It takes time in proportion to the steps and the bytes that they move. It allocates no memory of its own, because it
+/// makes no list of replies.
 pub fn advance(engine: &mut Engine, ch: u8, most: u32) -> Advanced
     ensures answers { IsAdvance engine.old.view ch result engine.new.view }
     ensures all { IsNone result.last → result.moved ≡ most }
@@ -38,17 +38,17 @@ pub fn advance(engine: &mut Engine, ch: u8, most: u32) -> Advanced
     ensures outcomes { KeepsOutcomes engine.old.view engine.new.view }
     ensures sound { IsSound engine.new.view }
     ensures memory { engine.new.memory ≡ memory_of engine.new.view }
-    // With room made, the first step is refused memory only where nothing runs, as a step alone is.
+    // With room made, the first step is out of memory only if nothing runs, like a single step.
     ensures room { HasRoom engine.old ch → result.moved ≡ 0 → IfSome result.last (λ last. IfErr last (λ fault. fault ≡ EngineFault.NoMemory → (schedule_at engine.old.view ch).taken ≡ None)) }
     ensures kept { result.moved ≡ 0 → IfSome result.last (λ last. IsIdle last) → KeepsRoom engine.old engine.new }
 {
     let advanced = take_steps(engine, ch, most);
-    // That the history is legal is told by its reading.
+    // The contract of `history` says that the history is legal.
     let _history = engine.history();
     advanced
 }
 
-// Takes one step. Returns its answer, or `None` where that is `Moved`.
+// Takes one step. Returns its result, or `None` if that is `Moved`.
 #[inline(always)]
 fn step_unless_moved(engine: &mut Engine, ch: u8) -> Option<Result<Turn, EngineFault>>
     ensures moved { IsNone result → StepAnswers engine.old.view ch (Ok Turn.Moved) engine.new.view }
@@ -64,8 +64,8 @@ fn step_unless_moved(engine: &mut Engine, ch: u8) -> Option<Result<Turn, EngineF
     if has_moved(turn) { None } else { Some(turn) }
 }
 
-// Does the work of `advance`, and promises what follows from the contracts of the steps alone. It executes loop bodies as one
-// block where it can, and all else step by step.
+// Does the work of `advance`. Its contract has only what follows from the contracts of the steps. It executes loop
+// bodies as one block where it can, and everything else step by step.
 fn take_steps(engine: &mut Engine, ch: u8, most: u32) -> Advanced
     ensures answers { IsAdvance engine.old.view ch result engine.new.view }
     ensures all { IsNone result.last → result.moved ≡ most }

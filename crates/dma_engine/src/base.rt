@@ -10,7 +10,7 @@ use dma_mem::transfer::Transfer;
 use std::alloc::{AllocError, Global};
 use std::marker::Model;
 
-/// What a base has of a channel.
+/// The state of a channel in a base.
 #[derive(Drop)]
 pub struct BaseChannel {
     // how many cookies are finished
@@ -41,7 +41,8 @@ impl Model for BaseChannel {
 }
 
 impl BaseChannel {
-    /// A channel on which so many cookies are finished and so many issued, with these unfinished transfers.
+    /// Returns a channel with this number of finished cookies and of issued cookies, and with these unfinished
+    /// transfers.
     pub fn of(forgotten: u32, issued: u32, halted: bool, unfinished: Vec<Transfer>) -> BaseChannel
         ensures { result ≡ record {
           forgotten = forgotten;
@@ -61,7 +62,7 @@ impl BaseChannel {
         }
     }
 
-    /// A channel to which nothing was submitted. It takes no memory.
+    /// Returns a channel to which nothing was submitted. It allocates no memory.
     pub fn new(alloc: Global) -> BaseChannel
         ensures { result ≡ empty_channel }
     {
@@ -74,8 +75,8 @@ impl BaseChannel {
     }
 }
 
-/// The object from which a history begins. Its image is one of zeros where none is stored, so that an engine without a
-/// checkpoint holds one memory.
+/// The object from which a history begins. Without a stored image, its image is all zeros, so that an engine without a
+/// checkpoint holds only one memory.
 #[derive(Drop)]
 pub struct Base {
     size: u32,
@@ -101,7 +102,7 @@ impl Model for Base {
 }
 
 impl Base {
-    /// The opening object of an engine of that size and number of channels.
+    /// Returns the opening object of an engine with this size and number of channels.
     pub fn opening(alloc: Global, size: u32, channels: u8) -> Result<Base, AllocError>
         ensures { IfOk result (λ base. base ≡ opening size channels) }
     {
@@ -115,7 +116,7 @@ impl Base {
         })
     }
 
-    /// A base of these parts.
+    /// Returns a base of these parts.
     pub fn of(image: Memory, events: Events, marks: Marks, channels: Vec<BaseChannel>) -> Base
         ensures { result ≡ record { image = image.image; events = events; marks = marks; channels = channels.items } }
     {
@@ -128,7 +129,7 @@ impl Base {
         }
     }
 
-    /// How many cookies a channel has given; 0 where there is no such channel.
+    /// Returns how many cookies a channel has given, or 0 if there is no such channel.
     pub fn used(&self, index: usize) -> u32
         requires { used (slice_index_or self.now.channels index empty_channel) ≤ 4294967295 }
         ensures { result ≡ used (slice_index_or self.now.channels index empty_channel) }
@@ -139,7 +140,7 @@ impl Base {
         }
     }
 
-    /// The unfinished transfers of a channel, in the order of their cookies.
+    /// Returns the unfinished transfers of a channel, in the order of their cookies.
     pub fn kept(&self, index: usize) -> &[Transfer]
         requires { index < length self.now.channels }
         ensures { result.now ≡ (slice_index_or self.now.channels index empty_channel).submitted }
@@ -148,7 +149,7 @@ impl Base {
     }
 }
 
-// Channels to which nothing was submitted.
+// Returns channels to which nothing was submitted.
 fn new_channels(alloc: Global, count: u8) -> Result<Vec<BaseChannel>, AllocError>
     ensures { IfOk result (λ channels. channels.items ≡ replicate count empty_channel) }
 {

@@ -1,4 +1,4 @@
-//! Calls on an engine, and what they answer.
+//! Calls on an engine, and their replies.
 
 use crate::fault::EngineFault;
 use crate::outcome::Outcome;
@@ -8,7 +8,7 @@ use dma_mem::marks::MarkKind;
 use dma_mem::segment::Segment;
 use dma_mem::transfer::Transfer;
 
-/// A call on an engine. Each is the method of that name.
+/// A call on an engine. Each variant calls the method of the same name.
 #[derive(Drop)]
 pub enum Call {
     /// `write`
@@ -41,22 +41,22 @@ pub enum Call {
     Checkpoint,
 }
 
-/// What a call answers.
+/// The reply to a call.
 #[derive(Drop)]
 pub enum Reply {
-    /// A write, a mark, an unmark, a raise, a pause, a resume or a checkpoint was done.
+    /// The call was a write, a mark, an unmark, a raise, a pause, a resume or a checkpoint, and it was done.
     Done,
-    /// What was read.
+    /// The bytes that were read.
     Bytes(Bytes),
-    /// The cookie of what was submitted.
+    /// The cookie of the submitted transfer.
     Cookie(u32),
     /// How many cookies were issued, or aborted.
     Count(u32),
-    /// What a step did.
+    /// The result of a step.
     Turned(Turn),
-    /// How far a cookie is.
+    /// The status of a cookie.
     State(Status),
-    /// How a cookie finished, if it did.
+    /// How a cookie finished, if it has finished and isn't forgotten.
     Result(Option<Outcome>),
     /// The call was refused.
     Refused(EngineFault),

@@ -1,4 +1,4 @@
-//! The engine: the type, what it keeps, and its readings. Its calls and steps are in the files below.
+//! The engine: the type, what it keeps, and its readings. Its calls and steps are in the files of `engine/`.
 
 ghost use Rattle.std.specs.Prelude.{◌≡◌, ◌<◌, ◌≤◌, IfOk, IfErr, OnOk, None, unwrap_or, replicate};
 ghost use Rattle.std.specs.Option.{option_map};
@@ -31,11 +31,11 @@ mod queue_calls;
 mod steps;
 mod totals;
 
-/// The most channels that an engine has (PL330 manual, the number of channel threads is configured).
+/// The most channels that an engine has (PL330 manual, the number of channel threads is configurable).
 pub const MAX_CHANNELS: u8 = 8;
 
-/// Queues of transfers on channels over one memory. Contracts see its base, its history, its step count, its schedule and its
-/// memory's bytes; which pages of the memory are made is no part of that.
+/// Queues of transfers on channels over one memory. Contracts see its base, its history, its step count, its schedule
+/// and its memory's bytes. They do not see which pages of the memory are made.
 #[derive(Drop)]
 pub struct Engine {
     alloc: Global,
@@ -63,10 +63,10 @@ impl Model for Engine {
 }
 
 impl Engine {
-    /// An engine over a memory of zeros, with nothing submitted to any channel.
+    /// Returns an engine over a memory of zeros, with nothing submitted to any channel.
     ///
-    /// The error is the first that holds of `BadChannels` for 0 channels or more than [`MAX_CHANNELS`], `SizeOutOfRange` for
-    /// a size that a memory can't have, and `NoMemory`.
+    /// The error is the first that applies of `BadChannels` for 0 channels or more than [`MAX_CHANNELS`],
+    /// `SizeOutOfRange` for a size that a memory can't have, and `NoMemory`.
     pub fn new(alloc: Global, size: u32, channels: u8) -> Result<Engine, NewFault>
         ensures ok { IfOk result (λ engine. engine.view ≡ new_view size channels) }
         ensures made { OnOk result (new_fault size channels ≡ None) }
@@ -99,21 +99,21 @@ impl Engine {
         })
     }
 
-    /// How many bytes the memory has.
+    /// Returns how many bytes the memory has.
     pub fn size(&self) -> u32
         ensures { result ≡ size self.now.view }
     {
         self.size
     }
 
-    /// How many channels there are.
+    /// Returns how many channels there are.
     pub fn channels(&self) -> u8
         ensures { result ≡ channels self.now.view }
     {
         self.queues.len() as u8
     }
 
-    /// The step count: one for each [`Turn::Moved`] and [`Turn::Finished`].
+    /// Returns the step count, which rises by one for each [`Turn::Moved`] and [`Turn::Finished`].
     pub fn steps(&self) -> u64
         ensures { result ≡ self.now.view.steps }
     {
@@ -130,7 +130,7 @@ impl Engine {
         self.history.as_slice()
     }
 
-    /// How many cookies a channel has given; 0 where there is no such channel.
+    /// Returns how many cookies a channel has given, or 0 if there is no such channel.
     pub fn used(&self, ch: u8) -> u32
         ensures { result ≡ used (channel (object_of self.now.view) ch) }
     {
@@ -140,7 +140,7 @@ impl Engine {
         }
     }
 
-    /// How many cookies of a channel are finished; 0 where there is no such channel.
+    /// Returns how many cookies of a channel are finished, or 0 if there is no such channel.
     pub fn finished(&self, ch: u8) -> u32
         ensures { result ≡ finished (channel (object_of self.now.view) ch) }
     {
@@ -150,8 +150,8 @@ impl Engine {
         }
     }
 
-    /// How many cookies of a channel finished before the last checkpoint, which forgot how; 0 before the first checkpoint,
-    /// and where there is no such channel.
+    /// Returns how many cookies of a channel finished before the last checkpoint, which forgot their outcomes. It is 0
+    /// before the first checkpoint, and if there is no such channel.
     pub fn forgotten(&self, ch: u8) -> u32
         ensures known { result ≡ (channel (object_of self.now.view) ch).forgotten }
         ensures base { result ≡ (counts (board_of self.now.view.base) ch).finished }
@@ -162,23 +162,24 @@ impl Engine {
         }
     }
 
-    /// How many cookies a channel had given at the last checkpoint; 0 where there was none, or is no such channel.
+    /// Returns how many cookies a channel had given at the last checkpoint. It is 0 if there was none, or no such
+    /// channel.
     pub fn used_at_base(&self, ch: u8) -> u32
         ensures { result ≡ (counts (board_of self.now.view.base) ch).used }
     {
         self.base.used(usize::from(ch))
     }
 
-    /// How many cookies of a channel are not finished; 0 where there is no such channel.
+    /// Returns how many cookies of a channel are not finished, or 0 if there is no such channel.
     pub fn unfinished(&self, ch: u8) -> u32
         ensures { result ≡ unfinished (channel (object_of self.now.view) ch) }
     {
-        // opens what the type keeps to the proof: no more are finished than given
+        // gives the proof access to the invariant: no more cookies are finished than given
         let _ = &self.size;
         self.used(ch) - self.finished(ch)
     }
 
-    /// How many cookies are finished, on all channels together.
+    /// Returns how many cookies are finished on all channels together.
     pub fn finished_all(&self) -> u64
         ensures { result ≡ finished_all (object_of self.now.view) }
     {
@@ -191,7 +192,7 @@ impl Engine {
         all
     }
 
-    /// Whether a channel is paused; false where there is no such channel.
+    /// Returns whether a channel is paused, or false if there is no such channel.
     pub fn paused(&self, ch: u8) -> bool
         ensures { result ≡ (schedule_at self.now.view ch).paused }
     {
@@ -201,7 +202,7 @@ impl Engine {
         }
     }
 
-    /// Whether a failure has halted a channel; false where there is no such channel.
+    /// Returns whether a failure has halted a channel, or false if there is no such channel.
     pub fn halted(&self, ch: u8) -> bool
         ensures { result ≡ (channel (object_of self.now.view) ch).halted }
     {
@@ -211,7 +212,8 @@ impl Engine {
         }
     }
 
-    /// How far a cookie is: `Unknown` where the channel is not there, or the cookie is 0 or above the last one given.
+    /// Returns the status of a cookie: `Unknown` if there is no such channel, or if the cookie is 0 or above the last
+    /// one given.
     pub fn status(&self, ch: u8, cookie: u32) -> Status
         ensures { result ≡ status_in self.now.view ch cookie }
     {
@@ -230,7 +232,7 @@ impl Engine {
         }
     }
 
-    /// How a cookie finished, exactly where it has and isn't forgotten.
+    /// Returns how a cookie finished. It is `Some` exactly if the cookie has finished and isn't forgotten.
     pub fn result(&self, ch: u8, cookie: u32) -> Option<Outcome>
         ensures { result ≡ result_of (object_of self.now.view) ch cookie }
     {
@@ -247,7 +249,7 @@ impl Engine {
         }
     }
 
-    /// What runs on a channel: its cookie, and how many of its bytes are stored.
+    /// Returns what runs on a channel: its cookie, and how many of its bytes are stored.
     pub fn running(&self, ch: u8) -> Option<Running>
         ensures { result ≡ running_on self.now.view ch }
     {
@@ -264,7 +266,7 @@ impl Engine {
         Some(Running { cookie, stored })
     }
 
-    // Where the queue of a channel stands. The error is `NoChannel`.
+    // Returns the index of a channel's queue. The error is `NoChannel`.
     fn index_of(&self, ch: u8) -> Result<usize, EngineFault>
         ensures there { IfOk result (λ index. (index ≡ ch) × (ch < channels self.now.view)) }
         ensures none { IfErr result (λ fault. (fault ≡ EngineFault.NoChannel) × (channels self.now.view ≤ ch)) }
@@ -276,7 +278,7 @@ impl Engine {
         Ok(index)
     }
 
-    // The bytes that a channel's front has stored, 0 where nothing runs.
+    // Returns how many bytes a channel's front has stored, or 0 if nothing runs.
     fn done(&self, index: usize) -> u32
         requires { index < channels self.now.view }
         ensures { result ≡ done_on self.now.view index }
@@ -289,7 +291,7 @@ impl Engine {
         }
     }
 
-    // The issued front of a channel, with its cookie.
+    // Returns the issued front of a channel, with its cookie.
     fn front(&self, index: usize) -> Option<(&Transfer, u32)>
         requires { index < channels self.now.view }
         ensures { option_map (λ p. (p.0.now, p.1)) result ≡ front_told (channel (object_of self.now.view) index) }
@@ -302,7 +304,7 @@ impl Engine {
         Some((transfer, cookie))
     }
 
-    // The channel and the cookie of the first running transfer that is in the way.
+    // Returns the channel and the cookie of the first running transfer that conflicts with `way`.
     fn first_in_the_way(&self, way: &Way) -> Option<(u8, u32)>
         ensures { result ≡ named (first_running self.now.view (is_in_the_way way.now)) }
     {
@@ -319,7 +321,7 @@ impl Engine {
     }
 }
 
-// Queues to which nothing was submitted.
+// Returns queues to which nothing was submitted.
 fn new_queues(alloc: Global, count: u8) -> Result<Vec<Queue>, AllocError>
     ensures { IfOk result (λ queues. queues.items ≡ replicate count new_queue) }
 {

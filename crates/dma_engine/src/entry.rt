@@ -15,30 +15,30 @@ pub enum Signaller {
     Host,
 }
 
-/// What an accepted call adds to the history. Each entry stands for the moment at which it was added.
+/// An entry that an accepted call adds to the history. Each entry represents the moment at which it was added.
 #[derive(Drop)]
 pub enum Entry {
-    /// The host wrote these bytes from an address on.
+    /// The host wrote these bytes, starting at an address.
     Wrote {
         /// The first address.
         addr: u32,
-        /// What was written.
+        /// The bytes written.
         bytes: Bytes,
     },
-    /// The host read these bytes from an address on.
+    /// The host read these bytes, starting at an address.
     ReadBack {
         /// The first address.
         addr: u32,
-        /// What was read.
+        /// The bytes read.
         bytes: Bytes,
     },
-    /// A channel was given a transfer.
+    /// A transfer was submitted to a channel.
     Submitted {
         /// The channel.
         ch: u8,
-        /// What to copy.
+        /// The transfer.
         transfer: Transfer,
-        /// The cookie answered, 1 for the first of the channel.
+        /// The cookie that was returned, 1 for the first of the channel.
         cookie: u32,
     },
     /// All submitted cookies of a channel were issued.
@@ -46,21 +46,21 @@ pub enum Entry {
         /// The channel.
         ch: u8,
     },
-    /// The front of a channel went on past the event that it waits for.
+    /// The front of a channel moved past the event that it waits for.
     Passed {
         /// The channel.
         ch: u8,
-        /// The event, whose flag is clear from then on.
+        /// The event, whose flag is clear after this.
         event: u8,
     },
     /// The flag of an event was set.
     Signalled {
-        /// By whom.
+        /// Who set the flag.
         by: Signaller,
         /// The event.
         event: u8,
     },
-    /// The front of a channel finished by itself.
+    /// The front of a channel finished, without a call to `terminate`.
     Finished {
         /// The channel.
         ch: u8,
@@ -73,12 +73,12 @@ pub enum Entry {
     Terminated {
         /// The channel.
         ch: u8,
-        /// How many bytes its front had stored, 0 where none was running.
+        /// How many bytes its front had stored, or 0 if none was running.
         done: u32,
         /// How many cookies were aborted.
         count: u32,
     },
-    /// A range was marked: from then on bursts of channels fail there.
+    /// A range was marked. Bursts of channels fail there after this.
     Marked {
         /// Which bursts fail.
         kind: MarkKind,

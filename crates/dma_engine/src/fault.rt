@@ -7,14 +7,14 @@ use dma_mem::transfer::Transfer;
 use std::alloc::AllocError;
 use thiserror::Error;
 
-/// Why a call was refused. Each call names those that it may answer, in the order in which it tests them. A refused call
-/// changes nothing.
+/// Why a call was refused. The documentation of each call lists the faults that it returns, in the order of its checks.
+/// A refused call changes nothing.
 #[derive(Clone, Copy, Debug, PartialEq, Eq, Error)]
 pub enum EngineFault {
     /// A range ends above the memory's size.
     #[error("a range ends above the memory's size")]
     OutOfMemoryRange,
-    /// A running transfer is in the way: the one on the lowest such channel.
+    /// A running transfer conflicts with the call. The fields name the one on the lowest such channel.
     #[error("a running transfer is in the way")]
     Busy {
         /// Its channel.
@@ -22,7 +22,7 @@ pub enum EngineFault {
         /// Its cookie.
         cookie: u32,
     },
-    /// A transfer runs: the one on the lowest such channel.
+    /// A transfer runs. The fields name the one on the lowest such channel.
     #[error("a transfer is running")]
     Running {
         /// Its channel.
@@ -30,7 +30,7 @@ pub enum EngineFault {
         /// Its cookie.
         cookie: u32,
     },
-    /// The channel's number is not below the number of channels.
+    /// The channel's number isn't below the number of channels.
     #[error("there is no such channel")]
     NoChannel,
     /// The channel has given its last cookie.
@@ -45,7 +45,7 @@ pub enum EngineFault {
     /// A range to be marked is empty, or ends above the last address.
     #[error("the range is empty or ends above the last address")]
     BadRange,
-    /// Memory was wanting. This is always the last refusal.
+    /// Memory ran out. This is always the last reason to refuse a call.
     #[error("out of memory")]
     NoMemory,
 }
@@ -61,7 +61,7 @@ impl From<AllocError> for EngineFault {
     }
 }
 
-/// Why no engine was made, in the order of the tests.
+/// Why no engine was made, in the order of the checks.
 #[derive(Clone, Copy, Debug, PartialEq, Eq, Error)]
 pub enum NewFault {
     /// The number of channels is 0 or above 8.
@@ -70,7 +70,7 @@ pub enum NewFault {
     /// The size is 0 or above 4,294,963,200 bytes.
     #[error("the size is not 1 to 4294963200 bytes")]
     SizeOutOfRange,
-    /// Memory was wanting.
+    /// Memory ran out.
     #[error("out of memory")]
     NoMemory,
 }
@@ -97,17 +97,17 @@ impl From<AllocError> for NewFault {
     }
 }
 
-/// Why a transfer was not taken, with the transfer.
+/// Why a transfer was not submitted, with the transfer.
 #[derive(Drop)]
 pub struct SubmitFault {
-    /// Why.
+    /// The reason.
     pub fault: EngineFault,
-    /// What was to be submitted.
+    /// The transfer that was not submitted.
     pub transfer: Transfer,
 }
 
 impl SubmitFault {
-    /// A transfer that was not taken for want of memory.
+    /// Returns the fault of a transfer that was not submitted because memory ran out.
     pub(crate) fn no_memory(transfer: Transfer) -> SubmitFault
         ensures { result ≡ record { fault = EngineFault.NoMemory; transfer = transfer } }
     {

@@ -1,4 +1,4 @@
-//! Laws of the engine's answers, for the layers above. Each is the clause of a function that does nothing.
+//! Laws of the engine's answers, for the layers above. Each law is the postcondition of a function that does nothing.
 
 ghost use Rattle.dma_engine.specs.Laws.{CallsExtend, StretchesKeep, QuietCallsKeep, CheckpointsKeep, SubmitsGive, TerminatesFinish, StepsAdd, EndsAsTold, BoardsCount, StatusByTicks, BoardsOpen, TicksAreThere, TicksAreFew, IdleStepsStay, NewViewsAreSound, AnswersStaySound, CallsStaySound, AnswersOne, AnswersAppend, AnswersSplit, AnswerIsOne, AnswersAreAnswers, AnswerDespiteMemory, AnswersDespiteMemory};
 
@@ -14,7 +14,7 @@ pub fn calls_add()
     ensures ends { EndsAsTold }
 {}
 
-/// What the ticks of a history add up to.
+/// What the ticks of a history sum up to.
 pub fn ticks_add_up()
     ensures board { BoardsCount }
     ensures status { StatusByTicks }
@@ -23,27 +23,27 @@ pub fn ticks_add_up()
     ensures few { TicksAreFew }
 {}
 
-/// A step whose answer is idle leaves the view as it was, so the next step answers the same.
+/// A step whose answer is idle leaves the view unchanged, so the next step gives the same answer.
 pub fn idle_steps_stay()
     ensures { IdleStepsStay }
 {}
 
-/// The view of a new engine is sound, and whatever calls answer, each view on the way is. So what a checkpoint among them
-/// drops is a legal history from the base before it.
+/// The view of a new engine is sound, and all calls preserve this, whatever their answers. So the history that a
+/// checkpoint among them drops is legal from the base before it.
 pub fn calls_stay_sound()
     ensures opening { NewViewsAreSound }
     ensures call { AnswersStaySound }
     ensures calls { CallsStaySound }
 {}
 
-/// Answers to lists of calls that follow each other are answers to all their calls in a row, and the other way round.
+/// Answers to consecutive lists of calls are answers to all their calls, and the other way round.
 pub fn answers_add()
     ensures one { AnswersOne }
     ensures append { AnswersAppend }
     ensures split { AnswersSplit }
 {}
 
-/// The answers with enough memory are answers, and they are the only ones of which none is out of memory.
+/// The answers with enough memory are answers. All other answers contain one that is out of memory.
 pub fn answers_with_memory()
     ensures answer { AnswerIsOne }
     ensures answers { AnswersAreAnswers }

@@ -1,14 +1,14 @@
-//! The engine: queues of transfers on channels over one memory, run in steps of one instruction, and the history of what was
-//! done. For one thread.
+//! The engine: queues of transfers on channels over one memory, run in steps of one instruction, and the history of
+//! what was done. It is for one thread.
 //!
-//! Contracts see an [`engine::Engine`] as its view (base, history, step count, schedule), the bytes of its memory, and the
-//! room of its lists.
+//! Contracts see an [`engine::Engine`] as its view (base, history, step count, schedule), the bytes of its memory, and
+//! the room of its lists.
 //!
-//! Proved: for every list of calls and single steps ([`run::run`]) each reply is that of a single-threaded object at its
-//! place in the stored history (`answers`); the history is legal (`sound`, `views`) and, up to a checkpoint, begins with the
-//! one before (`begins`); an outcome never changes (`kept`), though a checkpoint may forget it (`remembers`); memory is the
-//! history's image with the bytes of running transfers laid over it (`memory`). Each method has the same contract for its
-//! call, and `advance` for many steps. [`laws`] has what follows for lists of calls.
+//! Proved: for every list of calls and single steps ([`run::run`]) each reply is that of a single-threaded object at
+//! its place in the stored history (`answers`). The history is legal (`sound`, `views`) and, up to a checkpoint, begins
+//! with the one before (`begins`). An outcome never changes (`kept`), but a checkpoint may forget it (`remembers`). The
+//! memory is the history's image with the bytes that running transfers have stored laid over it (`memory`). Each method
+//! has the same contract for its call, and `advance` for many steps. [`laws`] lists what follows for lists of calls.
 //!
 //! Not proved: that an allocation succeeds; which pages are made beyond those that are needed.
 #![tactic(auto)]

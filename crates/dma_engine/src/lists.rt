@@ -1,4 +1,4 @@
-//! Lists that contracts see as their items and the room for more.
+//! Lists that contracts see as their items and the room for more items.
 
 ghost use Rattle.std.specs.Prelude.{◌≡◌, ◌+◌, ◌<◌, ◌≤◌, ◌++◌, ◌∷◌, [], length, slice_index, slice_get, IsOk, OnOk, OnErr};
 
@@ -22,7 +22,7 @@ impl Model for Indices {
 }
 
 impl Indices {
-    /// No indices, which takes no memory.
+    /// Returns an empty list. It allocates no memory.
     pub fn new(alloc: Global) -> Indices
         ensures { result ≡ record { items = []; spare = 0 } }
     {
@@ -31,14 +31,14 @@ impl Indices {
         }
     }
 
-    /// How many there are.
+    /// Returns the number of indices.
     pub fn len(&self) -> usize
         ensures { result ≡ length self.now.items }
     {
         self.items.len()
     }
 
-    /// The one with this number in the list, from 0.
+    /// Returns the index at a position of the list, counted from 0.
     pub fn at(&self, index: usize) -> usize
         requires { index < length self.now.items }
         ensures { result ≡ slice_index self.now.items index }
@@ -46,7 +46,7 @@ impl Indices {
         self.items[index]
     }
 
-    /// Makes room for one more.
+    /// Makes room for one more index.
     pub fn make_room(&mut self) -> Result<(), AllocError>
         ensures items { self.new.items ≡ self.old.items }
         ensures room { OnOk result (0 < self.new.spare) }
@@ -84,7 +84,7 @@ impl Model for Outcomes {
 }
 
 impl Outcomes {
-    /// No outcomes, which takes no memory.
+    /// Returns an empty list. It allocates no memory.
     pub fn new(alloc: Global) -> Outcomes
         ensures { result ≡ record { items = []; spare = 0 } }
     {
@@ -93,21 +93,21 @@ impl Outcomes {
         }
     }
 
-    /// How many there are.
+    /// Returns the number of outcomes.
     pub fn len(&self) -> usize
         ensures { result ≡ length self.now.items }
     {
         self.items.len()
     }
 
-    /// The outcome at an index, if there is one.
+    /// Returns the outcome at an index, if there is one.
     pub fn get(&self, index: usize) -> Option<Outcome>
         ensures { result ≡ slice_get self.now.items index }
     {
         self.items.get(index).copied()
     }
 
-    /// Makes room for so many more. Without memory nothing changes.
+    /// Makes room for this number of further outcomes. Nothing changes when out of memory.
     pub fn make_room(&mut self, more: usize) -> Result<(), AllocError>
         ensures items { self.new.items ≡ self.old.items }
         ensures room { OnOk result (more ≤ self.new.spare) }
@@ -118,7 +118,7 @@ impl Outcomes {
         self.items.reserve(more)
     }
 
-    /// Adds an outcome at the end, where there is room for one.
+    /// Adds an outcome at the end. There must be room for it.
     pub fn add(&mut self, outcome: Outcome)
         requires { 0 < self.old.spare }
         ensures items { self.new.items ≡ self.old.items ++ outcome ∷ [] }

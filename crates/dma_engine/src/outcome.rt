@@ -18,6 +18,6 @@ pub enum TransResult {
 pub struct Outcome {
     /// How it finished.
     pub result: TransResult,
-    /// The length of its transfer less the bytes stored (profile).
+    /// The length of its transfer minus the bytes stored (profile).
     pub residue: u32,
 }

@@ -1,4 +1,4 @@
-//! The addresses of what runs.
+//! The addresses of running transfers.
 
 ghost use Rattle.std.specs.Prelude.{◌≡◌, true, IfOk};
 ghost use Rattle.dma_mem.specs.Places.{lies_below};
@@ -16,8 +16,8 @@ pub struct Ranges {
 }
 
 impl Ranges {
-    /// The addresses of a transfer whose segments end at 4,294,967,295 or below it. `AllocError` comes where memory for a
-    /// copy of one of its lists was refused.
+    /// Returns the addresses of a transfer whose segments end at 4,294,967,295 or below. The error is `AllocError` if a
+    /// copy of one of its lists can't be allocated.
     pub fn of(alloc: Global, transfer: &Transfer) -> Result<Ranges, AllocError>
         requires { lies_below transfer.now 4294967295 ≡ true }
         ensures { IfOk result (λ ranges. HasRangesOf ranges transfer.now) }

@@ -1,4 +1,4 @@
-//! Calls carried out in order.
+//! Executes calls in order.
 
 ghost use Rattle.std.specs.Prelude.{◌≡◌, false, ◌+◌, ◌-◌, ◌<◌, ◌≤◌, ◌++◌, ◌∷◌, [], length, take, drop, IfOk, IsOk, OnOk, OnErr, vec_capacity, vec_len};
 ghost use Rattle.dma_engine.specs.Answer.{CallAnswers, AreAnswers, Extends, KeepsOutcomes, Remembers, has_checkpoint};
@@ -11,15 +11,16 @@ use crate::turn::Turn;
 use dma_chan::compile::NoMemory;
 use std::alloc::Global;
 
-/// Carries the calls out in order, and answers one reply for each: that of an object of one thread at its place in the
-/// history.
+/// Executes the calls in order, and returns one reply for each. Each reply is that of a single-threaded object at its
+/// place in the history.
 ///
-/// Room for all replies is taken first. The error comes where it is refused; then no call was carried out.
+/// Room for all replies is allocated first. The error is `NoMemory` if this fails; then no call was executed.
 pub fn run(alloc: Global, engine: &mut Engine, calls: &[Call]) -> Result<Vec<Reply>, NoMemory>
     ensures answers { IfOk result (λ replies. AreAnswers engine.old.view calls.now replies.items engine.new.view) }
     // The view is sound before and after each call.
     ensures views { IfOk result (λ replies. AreSoundAnswers engine.old.view calls.now replies.items engine.new.view) }
-    // Where no checkpoint among the calls was accepted, the history begins with the one from before, and no outcome changes.
+    // If no checkpoint among the calls was accepted, the history begins with the one from before, and no outcome
+    // changes.
     ensures begins { IfOk result (λ replies. has_checkpoint calls.now replies.items ≡ false → Extends engine.old.view engine.new.view) }
     ensures kept { IfOk result (λ replies. has_checkpoint calls.now replies.items ≡ false → KeepsOutcomes engine.old.view engine.new.view) }
     ensures remembers { Remembers engine.old.view engine.new.view }
@@ -32,21 +33,22 @@ pub fn run(alloc: Global, engine: &mut Engine, calls: &[Call]) -> Result<Vec<Rep
     Ok(replies)
 }
 
-/// The same, with the replies added at the end of a list that is there.
+/// Executes the calls in order like [`run`], and adds the replies at the end of `replies`.
 ///
-/// Room for all replies is taken first. The error comes where it is refused; then no call was carried out, and none is
-/// added.
+/// Room for all replies is allocated first. The error is `NoMemory` if this fails; then no call was executed and no
+/// reply is added.
 pub fn run_into(
     engine: &mut Engine,
     calls: &[Call],
     replies: &mut Vec<Reply>,
 ) -> Result<(), NoMemory>
-    // What was in the list stays there, before what is added.
+    // What was in the list stays there, before the new replies.
     ensures before { take (length replies.old.items) replies.new.items ≡ replies.old.items }
     ensures answers { OnOk result (AreAnswers engine.old.view calls.now (drop (length replies.old.items) replies.new.items) engine.new.view) }
     // The view is sound before and after each call.
     ensures views { OnOk result (AreSoundAnswers engine.old.view calls.now (drop (length replies.old.items) replies.new.items) engine.new.view) }
-    // Where no checkpoint among the calls was accepted, the history begins with the one from before, and no outcome changes.
+    // If no checkpoint among the calls was accepted, the history begins with the one from before, and no outcome
+    // changes.
     ensures begins { OnOk result (has_checkpoint calls.now (drop (length replies.old.items) replies.new.items) ≡ false → Extends engine.old.view engine.new.view) }
     ensures kept { OnOk result (has_checkpoint calls.now (drop (length replies.old.items) replies.new.items) ≡ false → KeepsOutcomes engine.old.view engine.new.view) }
     ensures remembers { Remembers engine.old.view engine.new.view }
@@ -56,19 +58,19 @@ pub fn run_into(
     ensures none { OnErr result (replies.new.items ≡ replies.old.items) }
     ensures room { length calls.now ≤ vec_capacity replies.old - vec_len replies.old → IsOk result }
 {
-    // That the history is legal is told by its reading.
+    // The contract of `history` says that the history is legal.
     let _before = engine.history();
     replies.reserve(calls.len())?;
     for call in calls {
         add_reply(engine, call, replies);
     }
-    // and so is what it is afterwards
+    // So is the history after the calls.
     let _after = engine.history();
     Ok(())
 }
 
-// Carries a call out, and adds its reply. A step that moves is by far the most frequent call, and its reply is made where it
-// is put, so that none is handed on.
+// Executes a call, and adds its reply. A step that moves is by far the most frequent call. Its reply is made at the
+// place where it is stored, so that no copy is needed.
 fn add_reply(engine: &mut Engine, call: &Call, replies: &mut Vec<Reply>)
     requires { vec_len replies.old < vec_capacity replies.old }
     ensures answered { (reply : Reply) × (replies.new.items ≡ replies.old.items ++ reply ∷ []) × CallAnswers engine.old.view call.now reply engine.new.view }
@@ -89,6 +91,6 @@ fn add_reply(engine: &mut Engine, call: &Call, replies: &mut Vec<Reply>)
     let Ok(()) = replies.push(reply) else {
         unreachable!();
     };
-    // that the view is sound is told by its reading
+    // The contract of `history` says that the view is sound.
     let _after = engine.history();
 }

@@ -1,20 +1,21 @@
-//! What a step of a channel did, and how far a cookie is.
+//! The result of a step of a channel, and the status of a cookie.
 
 use crate::outcome::TransResult;
 
-/// What one step of a channel did.
+/// The result of one step of a channel.
 #[derive(Clone, Copy, Debug, PartialEq, Eq)]
 pub enum Turn {
-    /// There is nothing to do: no transfer is issued and unfinished.
+    /// No transfer is issued and unfinished.
     Nothing,
-    /// The front can't start, since it isn't free of a running transfer: the one on the lowest such channel.
+    /// The front can't start, because it isn't free of a running transfer. The fields name the one on the lowest such
+    /// channel.
     Held {
-        /// The channel in the way.
+        /// The channel of the running transfer.
         ch: u8,
-        /// The cookie that runs there.
+        /// The cookie of the running transfer.
         cookie: u32,
     },
-    /// The front with this cookie runs from now on. No instruction was executed.
+    /// The front with this cookie runs now. No instruction was executed.
     Started(u32),
     /// One instruction was executed.
     Moved,
@@ -35,7 +36,7 @@ pub enum Turn {
     },
 }
 
-/// How far a cookie is.
+/// The status of a cookie.
 #[derive(Clone, Copy, Debug, PartialEq, Eq)]
 pub enum Status {
     /// No such cookie was given (profile).

@@ -1,4 +1,4 @@
-//! What a running transfer may be in the way of.
+//! What a call or a start can conflict with.
 
 ghost use Rattle.std.specs.Prelude.{◌≡◌};
 ghost use Rattle.dma_mem.specs.Places.{Descriptor};
@@ -9,21 +9,21 @@ use crate::ranges::Ranges;
 use dma_mem::segment::Segment;
 use dma_mem::transfer::Transfer;
 
-/// What waits for running transfers that are in its way.
+/// What must not conflict with running transfers.
 #[derive(Clone, Copy)]
 pub enum Way<'a> {
-    /// A write of the host to this range: transfers that read or write one of its addresses are in the way.
+    /// A write of the host to this range. It conflicts with transfers that read or write one of its addresses.
     Write(Segment),
-    /// A read of the host from this range: transfers that write one of its addresses are in the way.
+    /// A read of the host from this range. It conflicts with transfers that write one of its addresses.
     Read(Segment),
-    /// A checkpoint: each running transfer is in the way.
+    /// A checkpoint. It conflicts with every running transfer.
     Checkpoint,
-    /// The start of this transfer: transfers that it isn't free of are in the way.
+    /// The start of this transfer. It conflicts with transfers that it isn't free of.
     Start(&'a Transfer),
 }
 
 impl Way<'_> {
-    /// Whether a running transfer that has these ranges is in the way.
+    /// Returns whether a running transfer with these ranges conflicts with `self`.
     pub fn has(&self, ranges: &Ranges) -> bool
         ensures { (t : Descriptor) → HasRangesOf ranges.now t → result ≡ is_in_the_way self.now t }
     {

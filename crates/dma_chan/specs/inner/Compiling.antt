@@ -1,4 +1,4 @@
--- What the contracts of the compiler's parts speak of.
+-- Definitions for the contracts of the compiler's parts.
 use Rattle.std.specs.Prelude.{ℕ, ◌+◌, ◌^◌, ◌<◌, ◌≤◌, List, [], ◌∷◌, length}
 use Rattle.dma_mem.specs.declared.segment.Segment.{Segment}
 use Rattle.dma_chan.specs.Tree.{Tree, unrolled}
@@ -8,7 +8,7 @@ abbrev pub byte_count : List Segment → ℕ
 byte_count [] = 0
 byte_count (s ∷ ss) = s.len + byte_count ss
 
--- at least one byte, and none above 2 ^ 32
+-- A segment has at least one byte, and all its addresses are below 2 ^ 32.
 abbrev pub IsRange : Segment → Type 0
 IsRange s = (0 < s.len) × (s.addr + s.len ≤ 2 ^ 32)
 

@@ -1,4 +1,4 @@
--- The parts of a save, by its head.
+-- The parts of a save, found by its head.
 use Rattle.std.specs.Prelude.{◌≡◌, ℕ, ◌+◌, ◌*◌, ◌^◌, ◌<◌, ◌≤◌, Bool, true, false, if◌then◌else◌, List, take, drop, Some, None, IfSome}
 use Rattle.dma_chan.specs.declared.save.head.Head.{Head}
 use Rattle.dma_chan.specs.Channel.{ChannelValue}
@@ -8,7 +8,7 @@ use Rattle.dma_chan.specs.Saved.{HasRegisterRanges}
 abbrev pub buffer_in : List ℕ → Head → List ℕ
 buffer_in save h = take h.buffer_len (drop 48 save)
 
--- the bytes of its program
+-- the bytes of the program in a save with this head
 abbrev pub program_in : List ℕ → Head → List ℕ
 program_in save h = take h.program_len (drop (48 + h.buffer_len) save)
 
@@ -22,7 +22,7 @@ channel_in save h = record {
   stored = h.stored;
 }
 
--- The fields of a head have their numbers of bits.
+-- The fields of a head fit their numbers of bits, and its control word is accepted.
 pub record HasHeadRanges (h : Head) : Type 0 where
   pub registers : HasRegisterRanges h.registers
   pub taken : h.taken < 2 ^ 32
@@ -31,12 +31,15 @@ pub record HasHeadRanges (h : Head) : Type 0 where
   pub buffer_len : h.buffer_len < 2 ^ 16
   pub program_len : h.program_len < 2 ^ 16
 
--- Where no program is loaded, none has a cost or bytes.
+-- If a program is loaded, the offset of its next instruction is in it or at its end; if none is loaded, there is no
+-- cost and no byte of a program.
 abbrev pub LoadsWhole : Bool → Head → Type 0
 LoadsWhole true h = h.registers.pc ≤ h.program_len
 LoadsWhole false h = (h.cost ≡ None) × (h.program_len ≡ 0)
 
--- A head is that of a channel, in a save of this length.
+-- A head is within the limits of a channel: at most 256 bytes in the buffer, at most 8,192 bytes in the program, which
+-- is loaded whole or not at all, and at most 256 bytes stored for each instruction executed. A save with this head has
+-- n bytes.
 pub record FitsIn (n : ℕ) (h : Head) : Type 0 where
   pub buffer : h.buffer_len ≤ 256
   pub program : h.program_len ≤ 8192

@@ -7,7 +7,7 @@ use crate::channel::Channel;
 use crate::program::{MAX_BYTES, Program, ProgramFault};
 use std::alloc::{AllocError, Global};
 
-// Unloads a program. Where it was in the room, the room is kept.
+// Unloads a program. If its bytes were in the room, the room is kept.
 pub(super) fn put_away(program: &mut Option<Program>, room: &mut Option<Vec<u8>>)
     requires { IfSome room.old (λ room. 8192 ≤ vec_capacity room) }
     ensures program { program.new ≡ None }
@@ -21,8 +21,8 @@ pub(super) fn put_away(program: &mut Option<Program>, room: &mut Option<Vec<u8>>
 }
 
 impl Channel {
-    /// A channel without a program, as [`Channel::new`] makes it, that also has memory for the longest program. It keeps this
-    /// memory, so that [`Channel::load_bytes`] takes none from then on.
+    /// Returns a channel without a program, like [`Channel::new`], that also has memory for the longest program. The
+    /// channel keeps this memory, so [`Channel::load_bytes`] allocates none later.
     pub fn with_room(alloc: Global) -> Result<Channel, AllocError>
         ensures { IfOk result (λ channel. channel ≡ unloaded) }
     {
@@ -31,10 +31,10 @@ impl Channel {
         Ok(channel)
     }
 
-    /// Loads the program of these bytes, which need not be instructions, in place of what was there, as [`Channel::load`]
-    /// does. It has no cost. A channel that [`Channel::with_room`] made asks for no memory here.
+    /// Loads the program of these bytes in place of the one before, like [`Channel::load`]. The bytes need not be
+    /// instructions. The program has no cost. A channel made by [`Channel::with_room`] allocates no memory here.
     ///
-    /// The error is `ProgramTooLong` above [`MAX_BYTES`], else `NoMemory`. Then nothing changes.
+    /// The error is `ProgramTooLong` above [`MAX_BYTES`], else `NoMemory`. Nothing changes on an error.
     pub fn load_bytes(&mut self, alloc: Global, bytes: &[u8]) -> Result<(), ProgramFault>
         ensures ok { OnOk result (self.new ≡ loaded (record { bytes = bytes.now; cost = None })) }
         ensures fits { OnOk result (length bytes.now ≤ 8192) }
@@ -46,7 +46,8 @@ impl Channel {
         Ok(())
     }
 
-    // Makes the program of these bytes, in the room where there is one: then no program is loaded any more.
+    // Returns the program of these bytes, in the room if the channel has one. The loaded program is unloaded if it was
+    // in the room.
     pub(super) fn program_of(
         &mut self,
         alloc: Global,
@@ -66,7 +67,8 @@ impl Channel {
         }
     }
 
-    // Takes the room, also out of the loaded program, which is unloaded then.
+    // Returns the room, if there is one, and removes it from the channel. If the loaded program is in the room, it is
+    // unloaded.
     fn take_room(&mut self) -> Option<Vec<u8>>
         ensures room { IfSome result (λ room. 8192 ≤ vec_capacity room) }
         ensures none { IsNone result → self.new ≡ self.old }

@@ -12,7 +12,7 @@ use crate::save::writing::{SaveBytes, write};
 use std::alloc::{AllocError, Global};
 
 impl Channel {
-    /// How many bytes the channel's save has, at most [`MAX_SAVE`](crate::save::MAX_SAVE).
+    /// Returns the length of the channel's save in bytes, at most [`MAX_SAVE`](crate::save::MAX_SAVE).
     pub fn save_len(&self) -> usize
         ensures len { result ≡ length (saved self.now) }
         ensures limit { result ≤ 8500 }
@@ -20,8 +20,8 @@ impl Channel {
         HEAD_LEN + self.buffer.len() + self.program_bytes().len() + CHECKSUM_LEN
     }
 
-    /// Writes the channel's save to the front of `out`, and returns how many bytes it has. Where `out` has fewer, it returns
-    /// `None` and writes nothing.
+    /// Writes the channel's save to the front of `out`, and returns its length in bytes. If `out` is shorter, it
+    /// returns `None` and writes nothing.
     pub fn save(&self, out: &mut [u8]) -> Option<usize>
         ensures bytes { IfSome result (λ n. out.new ≡ saved self.now ++ drop n out.old) }
         ensures len { IfSome result (λ n. n ≡ length (saved self.now)) }
@@ -39,16 +39,16 @@ impl Channel {
         Some(len)
     }
 
-    /// Makes the channel the one of this save. A channel that [`Channel::with_room`] made asks for no memory here.
+    /// Replaces the channel with the saved one. A channel made by [`Channel::with_room`] allocates no memory here.
     ///
-    /// The error is `BadSave` where the bytes are the save of no channel, else `NoMemory`. Then nothing changes.
+    /// The error is `BadSave` if the bytes aren't the save of a channel, else `NoMemory`. Nothing changes on an error.
     pub fn restore(&mut self, alloc: Global, save: &[u8]) -> Result<(), RestoreFault>
-        // What is restored is the channel whose save the bytes are.
+        // The bytes are the save of the restored channel.
         ensures ok { OnOk result (save.now ≡ saved self.new) }
-        // Each channel's save restores that channel, unless memory runs out.
+        // The save of any channel restores that channel, unless memory runs out.
         ensures all { (c : ChannelValue) → IsChannelValue c → save.now ≡ saved c
             → MatchResult result (λ _. self.new ≡ c) (λ fault. fault ≡ RestoreFault.NoMemory) }
-        // Memory runs out only at the save of a channel.
+        // `NoMemory` is returned only for the save of a channel.
         ensures memory { result ≡ Err RestoreFault.NoMemory → IsSave save.now }
         ensures unchanged { OnErr result (self.new ≡ self.old) }
     {
@@ -66,7 +66,7 @@ impl Channel {
         Ok(())
     }
 
-    // Returns the bytes of the program, none where none is loaded.
+    // Returns the bytes of the program. Without a program there are none.
     fn program_bytes(&self) -> &[u8]
         ensures value { result.now ≡ code_of self.now }
         ensures limit { length result.now ≤ 8192 }

@@ -14,16 +14,16 @@ use crate::program::MAX_BYTES;
 use crate::save::writing::write;
 use dma_insn::control::ControlWord;
 
-// How many bytes a head has.
+// The length of a head in bytes.
 pub const HEAD_LEN: usize = 48;
 
-// How many bytes the checksum has.
+// The length of the checksum in bytes.
 pub const CHECKSUM_LEN: usize = 4;
 
-// The bytes that a save begins with. The last is the version.
+// The bytes at the start of every save. The last one is the version.
 pub const MAGIC: [u8; 8] = [100, 109, 97, 51, 51, 48, 0, 1];
 
-/// What the first bytes of a save say of the channel.
+/// The values in the first bytes of a save that describe the channel.
 #[derive(Clone, Copy, PartialEq, Eq, Debug)]
 pub struct Head {
     pub registers: Registers,
@@ -35,7 +35,7 @@ pub struct Head {
     pub program_len: u16,
 }
 
-// Returns the number of two bytes at an offset.
+// Returns the two-byte number at an offset.
 fn u16_at(save: &[u8], at: usize) -> u16
     requires { at + 2 ≤ length save.now }
     ensures { result ≡ from_le_bytes w16 (drop at save.now) }
@@ -43,7 +43,7 @@ fn u16_at(save: &[u8], at: usize) -> u16
     u16::from_le_bytes([save[at], save[at + 1]])
 }
 
-// Returns the number of four bytes at an offset.
+// Returns the four-byte number at an offset.
 fn u32_at(save: &[u8], at: usize) -> u32
     requires { at + 4 ≤ length save.now }
     ensures { result ≡ from_le_bytes w32 (drop at save.now) }
@@ -51,7 +51,7 @@ fn u32_at(save: &[u8], at: usize) -> u32
     u32::from_le_bytes([save[at], save[at + 1], save[at + 2], save[at + 3]])
 }
 
-// Returns the number of eight bytes at an offset.
+// Returns the eight-byte number at an offset.
 fn u64_at(save: &[u8], at: usize) -> u64
     requires { at + 8 ≤ length save.now }
     ensures { result ≡ from_le_bytes w64 (drop at save.now) }
@@ -61,14 +61,14 @@ fn u64_at(save: &[u8], at: usize) -> u64
     u64::from(high) << 32 | u64::from(low)
 }
 
-// Returns the cost that these two fields mean.
+// Returns the cost that these two fields encode.
 fn cost_of(flag_byte: u8, number: u32) -> Option<u32>
     ensures { (cost : Option ℕ) → flag_byte ≡ flag (is_some cost) → number ≡ unwrap_or cost 0 → result ≡ cost }
 {
     if flag_byte != 0 { Some(number) } else { None }
 }
 
-// Returns the registers in a head, or `None` where the control word isn't accepted.
+// Returns the registers in a head, or `None` if the control word isn't accepted.
 fn registers_in(save: &[u8]) -> Option<Registers>
     requires { 48 ≤ length save.now }
     ensures { (h : Head) (rest : List ℕ) → HasHeadRanges h → save.now ≡ head_bytes h ++ rest
@@ -88,7 +88,7 @@ fn registers_in(save: &[u8]) -> Option<Registers>
 }
 
 impl Head {
-    // Returns the head that the bytes have if they are a save. What is no head may be read as one.
+    // Returns the head of these bytes if they are a save. For other bytes the result may be a head too.
     fn read(save: &[u8]) -> Option<Head>
         requires { 48 ≤ length save.now }
         ensures { (h : Head) (rest : List ℕ) → HasHeadRanges h → save.now ≡ head_bytes h ++ rest → result ≡ Some h }
@@ -132,7 +132,7 @@ impl Head {
         &save[HEAD_LEN..HEAD_LEN + usize::from(self.buffer_len)]
     }
 
-    // Returns the bytes of the program.
+    // Returns the bytes of the program in a save with this head.
     pub fn program_of<'a>(&self, save: &'a [u8]) -> &'a [u8]
         requires { FitsIn (length save.now) self.now }
         ensures { result.now ≡ program_in save.now self.now }
@@ -141,8 +141,8 @@ impl Head {
         &save[start..start + usize::from(self.program_len)]
     }
 
-    // Returns the head of a save, or `None` where the bytes are no save. What may be a head is written again, and so the
-    // bytes are a save exactly where they are the same.
+    // Returns the head of a save, or `None` if the bytes aren't a save. The function writes the candidate again: the
+    // bytes are a save exactly if the result equals them.
     pub fn of_save(save: &[u8]) -> Option<Head>
         ensures fits { IfSome result (λ h. FitsIn (length save.now) h) }
         ensures found { IfSome result (λ h. save.now ≡ saved (channel_in save.now h)) }

@@ -1,4 +1,4 @@
-//! A save, written.
+//! Writes a save.
 
 ghost use Rattle.std.specs.Prelude.{◌≡◌, ◌+◌, ◌^◌, ◌<◌, ◌≤◌, [], ◌∷◌, ◌++◌, length, IfSome};
 ghost use Rattle.std.specs.Int.{w16, w32, w64, to_le_bytes};
@@ -11,7 +11,7 @@ use crate::save::MAX_SAVE;
 use crate::save::head::{Head, MAGIC};
 use std::marker::Model;
 
-// Up to `MAX_SAVE` bytes. A contract sees the list of them.
+// Up to `MAX_SAVE` bytes. Contracts see the list of them.
 #[derive(Drop)]
 pub struct SaveBytes {
     bytes: [u8; MAX_SAVE],
@@ -29,7 +29,7 @@ impl Model for SaveBytes {
 }
 
 impl SaveBytes {
-    // No bytes.
+    // Returns an empty list of bytes.
     fn new() -> SaveBytes
         ensures { result ≡ [] }
     {
@@ -39,7 +39,7 @@ impl SaveBytes {
         }
     }
 
-    // Adds bytes, for which there is room.
+    // Appends bytes. There must be room for them.
     fn push(&mut self, bytes: &[u8])
         requires { length self.old + length bytes.now ≤ 8500 }
         ensures bytes { self.new ≡ self.old ++ bytes.now }
@@ -50,7 +50,7 @@ impl SaveBytes {
         self.len = end;
     }
 
-    // Adds one byte.
+    // Appends one byte.
     fn push_u8(&mut self, number: u8)
         requires { length self.old + 1 ≤ 8500 }
         ensures bytes { self.new ≡ self.old ++ number ∷ [] }
@@ -60,7 +60,7 @@ impl SaveBytes {
         self.push(&[number]);
     }
 
-    // Adds a number of two bytes.
+    // Appends a two-byte number.
     fn push_u16(&mut self, number: u16)
         requires { length self.old + 2 ≤ 8500 }
         ensures bytes { self.new ≡ self.old ++ to_le_bytes w16 number }
@@ -70,7 +70,7 @@ impl SaveBytes {
         self.push(&number.to_le_bytes());
     }
 
-    // Adds a number of four bytes.
+    // Appends a four-byte number.
     fn push_u32(&mut self, number: u32)
         requires { length self.old + 4 ≤ 8500 }
         ensures bytes { self.new ≡ self.old ++ to_le_bytes w32 number }
@@ -80,7 +80,7 @@ impl SaveBytes {
         self.push(&number.to_le_bytes());
     }
 
-    // Adds a number of eight bytes.
+    // Appends an eight-byte number.
     fn push_u64(&mut self, number: u64)
         requires { length self.old + 8 ≤ 8500 }
         ensures bytes { self.new ≡ self.old ++ to_le_bytes w64 number }
@@ -90,7 +90,7 @@ impl SaveBytes {
         self.push(&number.to_le_bytes());
     }
 
-    // The bytes.
+    // Returns the bytes.
     pub fn as_slice(&self) -> &[u8]
         ensures { result.now ≡ self.now }
     {
@@ -118,7 +118,7 @@ fn flag_of(value: bool) -> u8
     if value { 1 } else { 0 }
 }
 
-// Adds the registers.
+// Appends the registers.
 fn push_registers(out: &mut SaveBytes, registers: &Registers)
     requires { length out.old ≤ 48 }
     ensures bytes { out.new ≡ out.old ++ register_bytes registers.now }
@@ -133,7 +133,7 @@ fn push_registers(out: &mut SaveBytes, registers: &Registers)
     out.push_u8(registers.lc1);
 }
 
-// Adds a cost.
+// Appends a cost.
 fn push_cost(out: &mut SaveBytes, cost: Option<u32>)
     requires { length out.old ≤ 48 }
     ensures bytes { out.new ≡ out.old ++ cost_bytes cost }
@@ -170,7 +170,7 @@ fn write_head(head: &Head) -> SaveBytes
     out
 }
 
-// Returns a save of these parts, with the buffer's bytes in two slices.
+// Returns the save of these parts. The buffer's bytes are in two slices.
 pub fn write(head: &Head, front: &[u8], back: &[u8], program: &[u8]) -> SaveBytes
     requires buffer { length front.now + length back.now ≤ 256 }
     requires program { length program.now ≤ 8192 }

@@ -1,4 +1,4 @@
--- Transfers found in a base and in a history.
+-- Transfers in a base and in a history.
 use Rattle.std.specs.Prelude.{ℕ, ◌-◌, if◌then◌else◌, nat_lt, Option, Some, None, List, ◌++◌, length, map, slice_get, slice_index}
 use Rattle.dma_mem.specs.Places.{Descriptor}
 use Rattle.dma_engine.specs.declared.entry.Entry.{Entry}
@@ -6,26 +6,26 @@ use Rattle.dma_engine.specs.declared.entry.Entry.TheVariants.{Submitted}
 use Rattle.dma_engine.specs.declared.queue.Queue.{Queue}
 use Rattle.dma_engine.specs.Object.{no_transfer}
 
--- the transfer that an entry gives to a channel; where it gives none, a transfer of nothing
+-- the transfer that an entry gives to a channel, or a transfer of nothing
 abbrev pub transfer_of : Option Entry → Descriptor
 transfer_of (Some (Submitted ch t cookie)) = t
 transfer_of _ = no_transfer
 
--- the transfer whose entry stands at an index of the history
+-- the transfer of the history's entry at this index
 abbrev pub transfer_in : List Entry → ℕ → Descriptor
 transfer_in history index = transfer_of (slice_get history index)
 
--- the transfers of all cookies that aren't forgotten: those that the base has of the channel, and those whose entries stand
--- at these indices of the history
+-- the transfers of all cookies that aren't forgotten: those that the base has of the channel, followed by those of the
+-- history's entries at these indices
 abbrev pub transfers_in : List Descriptor → List Entry → List ℕ → List Descriptor
 transfers_in kept history indices = kept ++ map (transfer_in history) indices
 
--- the transfer that an entry gives to a channel, if it gives one
+-- the transfer that an entry gives to a channel, if any
 abbrev pub given_by : Option Entry → Option Descriptor
 given_by (Some (Submitted ch t cookie)) = Some t
 given_by _ = None
 
--- the transfer of a cookie that isn't forgotten, counted from 0
+-- the transfer of a cookie, counted from 0 after the forgotten ones
 abbrev pub transfer_at : List Descriptor → List Entry → List ℕ → ℕ → Option Descriptor
 transfer_at kept history indices n =
     if nat_lt n (length kept) then slice_get kept n else given_by (slice_get history (slice_index indices (n - length kept)))

@@ -1,4 +1,4 @@
--- What an engine keeps: its parts are what its view says.
+-- The invariant of an engine: its parts match its view.
 use Rattle.std.specs.Prelude.{◌≡◌, ℕ, ◌+◌, ◌<◌, Bool, false, Option, Some, None, List, [], length, map, take, slice_get, slice_index, slice_index_or, IfSome, IsSomeAnd}
 use Rattle.std.specs.Option.{option_map}
 use Rattle.dma_chan.specs.Channel.{ChannelValue, loaded, unloaded as no_program}
@@ -15,7 +15,7 @@ use Rattle.dma_engine.specs.Object.{Object, ChannelState, channel, front, no_tra
 use Rattle.dma_engine.specs.inner.Ranges.{AreOfRunning}
 use Rattle.dma_engine.specs.View.{View, ChannelSchedule, RunningTransfer, IsSound, object_of, memory_of, runs}
 
--- the parts of an engine: of its memory the image, and which of its pages are made
+-- the parts of an engine; of its memory, the image and which pages are made
 pub record Parts : Type 0 where
   pub size : ℕ
   pub memory : List ℕ
@@ -27,7 +27,7 @@ pub record Parts : Type 0 where
   pub history : List Entry
   pub steps : ℕ
 
--- the instructions that a channel's machine has executed, where a program is loaded
+-- how many instructions a channel's machine has executed, if a program is loaded
 abbrev pub taken_of : ChannelValue → Option ℕ
 taken_of m = option_map (λ _. m.taken) m.program
 
@@ -35,7 +35,7 @@ taken_of m = option_map (λ _. m.taken) m.program
 abbrev pub schedule_of : Queue → ChannelSchedule
 schedule_of q = record { paused = q.paused; taken = taken_of q.channel }
 
--- the view of an engine of these parts
+-- the view of an engine with these parts
 abbrev pub view_of : Parts → View
 view_of p =
     record {
@@ -60,11 +60,12 @@ new_queue =
       ranges = None;
     }
 
--- a queue whose front, which this is and has these ranges, starts
+-- a queue whose front starts; the front is this transfer and has these ranges
 abbrev pub queue_started : Queue → Descriptor → Ranges → Queue
 queue_started q t r = record q { channel = loaded (compiled t); ranges = Some r }
 
--- where a program is loaded, it is that of the channel's front
+-- the loaded program, if any, is that of the channel's front, and the machine has executed `taken` instructions of it
+-- over this memory
 abbrev pub IsRun : List ℕ → ChannelValue → ChannelState → Type 0
 IsRun memory m c = IfSome m.program (λ _. IsSomeAnd (front c) (λ t. IsAt t m.taken memory m))
 
@@ -77,8 +78,8 @@ queue_forgotten q =
       outcomes = record { items = []; spare = 0 };
     }
 
--- A queue is what the object knows of its channel: first come the transfers that the base has of it; the indices are those
--- of the Submitted entries of the others.
+-- A queue matches the state of its channel. First come the transfers that the base has of it; the indices are those of
+-- the Submitted entries of the others.
 pub record IsQueue (ch : ℕ) (kept : List Descriptor) (history : List Entry) (memory : List ℕ) (q : Queue) (c : ChannelState) : Type 0 where
   pub forgotten : q.forgotten ≡ c.forgotten
   pub given : q.given ≡ used c
@@ -92,12 +93,12 @@ pub record IsQueue (ch : ℕ) (kept : List Descriptor) (history : List Entry) (m
   pub halted : q.halted ≡ c.halted
   pub machine : IsRun memory q.channel c
 
--- What runs, if something does, finds its pages: each of its destinations lies on one that is made.
+-- The running transfer, if any, finds its pages: each of its destinations lies on a made page.
 abbrev pub IsPrepared : List Bool → Option RunningTransfer → Type 0
 IsPrepared made x = IfSome x (λ r. OnPages made (destinations r.transfer))
 
--- The view is sound, the memory is what it shows, flags and marks are the object's, each queue is its channel's, what runs
--- finds its pages, and each queue keeps the ranges of what runs on its channel.
+-- The view is sound; the memory is the one that it shows; the flags and marks are the object's; each queue matches its
+-- channel; running transfers find their pages; and each queue keeps the ranges of what runs on its channel.
 pub record Holds (p : Parts) : Type 0 where
   pub sound : IsSound (view_of p)
   pub size : p.size ≡ length p.base.image

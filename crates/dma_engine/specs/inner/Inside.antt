@@ -1,11 +1,11 @@
--- The parts of an engine, and its room, from its fields.
+-- The parts of an engine and its room, from its fields.
 use Rattle.std.specs.Prelude.{◌-◌, map, vec_capacity, vec_len}
 use Rattle.dma_engine.specs.declared.queue.Queue.{Queue}
 use Rattle.dma_engine.specs.View.{QueueRoom, Room}
 use Rattle.dma_engine.specs.declared.engine.Engine.TheInside.{Inside}
 use Rattle.dma_engine.specs.inner.Holds.{Parts}
 
--- the parts of an engine, by its fields
+-- the parts of an engine
 abbrev pub parts_of : Inside → Parts
 parts_of e =
     record {
@@ -24,6 +24,6 @@ parts_of e =
 abbrev pub queue_room : Queue → QueueRoom
 queue_room q = record { indices = q.indices.spare; outcomes = q.outcomes.spare }
 
--- the room of an engine, by its fields
+-- the room of an engine
 abbrev pub room_of : Inside → Room
 room_of e = record { entries = vec_capacity e.history - vec_len e.history; queues = map queue_room e.queues.items }

@@ -1,8 +1,8 @@
--- Lists with the room that is made for more.
+-- Lists with the room for more items.
 use Rattle.std.specs.Prelude.{ℕ, List}
 use Rattle.dma_engine.specs.declared.outcome.Outcome.{Outcome}
 
--- indices of a history, and the room for more
+-- indices into a history, and the room for more
 pub record IndexList : Type 0 where
   pub items : List ℕ
   pub spare : ℕ

@@ -1,16 +1,16 @@
--- The addresses of what runs, as ranges.
+-- The addresses of running transfers, as ranges.
 use Rattle.std.specs.Prelude.{Option, Some, None}
 use Rattle.dma_mem.specs.Places.{Descriptor}
 use Rattle.dma_mem.specs.Ranges.{HasSources, SameAddresses}
 use Rattle.dma_engine.specs.declared.ranges.Ranges.{Ranges}
 use Rattle.dma_engine.specs.View.{RunningTransfer}
 
--- The ranges have a transfer's addresses: those that it reads, and those that it writes.
+-- The ranges have exactly the addresses that a transfer reads, and exactly those that it writes.
 pub record HasRangesOf (r : Ranges) (t : Descriptor) : Type 0 where
   pub sources : HasSources r.sources t
   pub destinations : SameAddresses r.destinations t.dst
 
--- There are ranges exactly where something runs, and they have its addresses.
+-- There are ranges exactly if something runs, and they have its addresses.
 abbrev pub AreOfRunning : Option Ranges → Option RunningTransfer → Type 0
 AreOfRunning None None = Unit {0}
 AreOfRunning (Some r) (Some x) = HasRangesOf r x.transfer

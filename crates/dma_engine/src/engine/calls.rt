@@ -1,4 +1,4 @@
-//! A call as a value, and its reply.
+//! Executes a call that is given as a value, and returns its reply.
 
 ghost use Rattle.std.specs.Prelude.{◌≡◌};
 ghost use Rattle.dma_engine.specs.Answer.{CallAnswers, reply_of};
@@ -10,7 +10,7 @@ use crate::turn::Status;
 use dma_mem::lists::Bytes;
 
 impl Engine {
-    /// Carries a call out: the method of its name.
+    /// Executes a call by the method of the same name, and returns its reply.
     #[inline(never)]
     pub fn carry_out(&mut self, call: &Call) -> Reply
         ensures { CallAnswers self.old.view call.now result self.new.view }
@@ -40,7 +40,7 @@ impl Engine {
     }
 }
 
-// The reply of a call that answers nothing but that it was done.
+// Returns the reply to a call whose only result is that it was done.
 fn done_or_refused(outcome: Result<(), EngineFault>) -> Reply
     ensures { result ≡ reply_of (λ _. Reply.Done) outcome }
 {
@@ -50,7 +50,7 @@ fn done_or_refused(outcome: Result<(), EngineFault>) -> Reply
     }
 }
 
-// The reply of a call that answers a count.
+// Returns the reply to a call that returns a count.
 fn counted_or_refused(outcome: Result<u32, EngineFault>) -> Reply
     ensures { result ≡ reply_of (λ count. Reply.Count count) outcome }
 {

@@ -1,4 +1,4 @@
-//! A checkpoint: the present becomes the base from which the history begins.
+//! A checkpoint makes the present state the base from which the history begins.
 
 ghost use Rattle.std.specs.Prelude.{◌≡◌, ◌+◌, ◌<◌, ◌≤◌, None, IfOk, OnErr, drop, length, map, slice_index_or, true};
 ghost use Rattle.std.specs.List.{All};
@@ -18,15 +18,15 @@ use dma_mem::transfer::Transfer;
 use std::alloc::{AllocError, Global};
 
 impl Engine {
-    /// Makes the present state the base from which the history begins, and drops the history: it is empty then. Of the
-    /// cookies that are finished only their number stays. Memory, pauses, the step count, what is used, finished and
-    /// running, and how far each cookie is, are as before.
+    /// Makes the present state the base from which the history begins, and empties the history. Of the finished cookies
+    /// only their number is kept. Memory, pauses and the step count do not change, nor do the used, finished and
+    /// running cookies and the status of each cookie.
     ///
-    /// It copies the pages of the memory that are made, the marks and the unfinished transfers, and gives back what the
-    /// history took.
+    /// It copies the made pages of the memory, the marks and the unfinished transfers, and frees the memory of the
+    /// history.
     ///
-    /// The error is the first that holds of `Running` where a transfer runs, the one on the lowest such channel, and
-    /// `NoMemory`; nothing changes in either case.
+    /// The error is the first that applies of `Running` if a transfer runs, naming the one on the lowest such channel,
+    /// and `NoMemory`. Nothing changes on an error.
     pub fn checkpoint(&mut self) -> Result<(), EngineFault>
         ensures answer { CallAnswers self.old.view Call.Checkpoint (reply_of (λ _. Reply.Done) result) self.new.view }
         ensures memory { self.new.memory ≡ self.old.memory }
@@ -43,7 +43,7 @@ impl Engine {
         Ok(())
     }
 
-    // The base that a checkpoint stores.
+    // Returns the base that a checkpoint stores.
     fn next_base(&self) -> Result<Base, AllocError>
         requires { first_running self.now.view (λ _. true) ≡ None }
         ensures { IfOk result (λ base. base ≡ base_from (object_of self.now.view)) }
@@ -54,7 +54,7 @@ impl Engine {
         Ok(Base::of(image, self.events.copy(), marks, channels))
     }
 
-    // What the next base has of all channels.
+    // Returns the next base's state of all channels.
     fn next_channels(&self) -> Result<Vec<BaseChannel>, AllocError>
         requires { first_running self.now.view (λ _. true) ≡ None }
         ensures { IfOk result (λ list. list.items ≡ map forget (object_of self.now.view).channels) }
@@ -66,7 +66,7 @@ impl Engine {
         Ok(list)
     }
 
-    // What the next base has of a channel.
+    // Returns the next base's state of a channel.
     fn next_channel(&self, index: usize) -> Result<BaseChannel, AllocError>
         requires there { index < channels self.now.view }
         requires rests { (schedule_at self.now.view index).taken ≡ None }
@@ -82,7 +82,7 @@ impl Engine {
         ))
     }
 
-    // Copies of the unfinished transfers of a channel, in the order of their cookies.
+    // Returns copies of the unfinished transfers of a channel, in the order of their cookies.
     fn unfinished_copies(&self, index: usize) -> Result<Vec<Transfer>, AllocError>
         requires { index < channels self.now.view }
         ensures { let c = channel (object_of self.now.view) index in
@@ -97,7 +97,7 @@ impl Engine {
         Ok(list)
     }
 
-    // The transfer of a cookie that isn't forgotten, counted from 0.
+    // Returns the transfer of cookie number `n` among those that aren't forgotten, counted from 0.
     fn transfer(&self, index: usize, n: usize) -> &Transfer
         requires there { index < channels self.now.view }
         requires given { n < length (channel (object_of self.now.view) index).submitted }
@@ -112,7 +112,7 @@ impl Engine {
     }
 }
 
-// Forgets what all queues have of finished cookies and of the history.
+// Removes from all queues the outcomes of finished cookies and the indices into the history.
 fn forget_all(queues: &mut [Queue], alloc: Global)
     requires { All (λ q. q.forgotten + length q.outcomes.items ≤ 4294967295) queues.old }
     ensures { queues.new ≡ map queue_forgotten queues.old }

@@ -21,10 +21,10 @@ use std::alloc::{AllocError, Global};
 const END_OF_ADDRESSES: u64 = 4_294_967_296;
 
 impl Engine {
-    /// Writes bytes from an address on.
+    /// Writes bytes to consecutive addresses, starting at `addr`.
     ///
-    /// The error is the first that holds of `OutOfMemoryRange`, `Busy` where a running transfer reads or writes an address
-    /// of the range, and `NoMemory`.
+    /// The error is the first that applies of `OutOfMemoryRange`, `Busy` if a running transfer reads or writes an
+    /// address of the range, and `NoMemory`.
     pub fn write(&mut self, addr: u32, bytes: &[u8]) -> Result<(), EngineFault>
         ensures answer { CallAnswers self.old.view (Call.Write addr bytes.now) (reply_of (λ _. Reply.Done) result) self.new.view }
         ensures kept { OnErr result (KeepsRoom self.old self.new) }
@@ -34,8 +34,7 @@ impl Engine {
         self.write_checked(addr, kept)
     }
 
-    /// Writes bytes from an address on, as `write` does, but moves them into the history, without a copy. After an `Err` they
-    /// are gone.
+    /// Writes bytes like `write`, but moves them into the history without a copy. On an error the bytes are dropped.
     pub fn write_owned(&mut self, addr: u32, bytes: Bytes) -> Result<(), EngineFault>
         ensures answer { CallAnswers self.old.view (Call.Write addr bytes) (reply_of (λ _. Reply.Done) result) self.new.view }
         ensures kept { OnErr result (KeepsRoom self.old self.new) }
@@ -44,7 +43,7 @@ impl Engine {
         self.write_checked(addr, bytes)
     }
 
-    // Fails where a write is refused for another reason than memory.
+    // Fails if a write is refused for any reason other than memory.
     fn check_write(&self, addr: u32, bytes: &[u8]) -> Result<(), EngineFault>
         ensures free { OnOk result (write_fault self.now.view addr (length bytes.now) ≡ None) }
         ensures err { IfErr result (λ fault. CallAnswers self.now.view (Call.Write addr bytes.now) (Reply.Refused fault) self.now.view) }
@@ -62,7 +61,7 @@ impl Engine {
         }
     }
 
-    // Carries out a write that was checked: it fails only when out of memory.
+    // Executes a write that was checked. It fails only when out of memory.
     fn write_checked(&mut self, addr: u32, bytes: Bytes) -> Result<(), EngineFault>
         requires { write_fault self.old.view addr (length bytes) ≡ None }
         ensures answer { CallAnswers self.old.view (Call.Write addr bytes) (reply_of (λ _. Reply.Done) result) self.new.view }
@@ -76,9 +75,9 @@ impl Engine {
         Ok(())
     }
 
-    /// Reads bytes from an address on.
+    /// Reads bytes from consecutive addresses, starting at `addr`.
     ///
-    /// The error is the first that holds of `OutOfMemoryRange`, `Busy` where a running transfer writes an address of the
+    /// The error is the first that applies of `OutOfMemoryRange`, `Busy` if a running transfer writes an address of the
     /// range, and `NoMemory`.
     pub fn read(&mut self, addr: u32, len: u32) -> Result<Bytes, EngineFault>
         ensures answer { CallAnswers self.old.view (Call.Read addr len) (reply_of (λ bytes. Reply.Bytes bytes) result) self.new.view }
@@ -93,7 +92,7 @@ impl Engine {
         Ok(answer)
     }
 
-    /// Reads bytes from an address on, as `read` does, but returns no copy of them: they are in the history's last entry.
+    /// Reads bytes like `read`, but returns no copy of them. They are in the history's last entry.
     pub fn read_back(&mut self, addr: u32, len: u32) -> Result<(), EngineFault>
         ensures answer { CallAnswers self.old.view (Call.Read addr len) (reply_of (λ _. Reply.Bytes (take len (drop addr (object_of self.old.view).image))) result) self.new.view }
         ensures kept { OnErr result (KeepsRoom self.old self.new) }
@@ -105,7 +104,7 @@ impl Engine {
         Ok(())
     }
 
-    /// Reads bytes from an address on, as `read` does, into `out`: as many as it has. After an error `out` is as it was.
+    /// Reads bytes like `read`, into all of `out`. On an error `out` is unchanged.
     pub fn read_into(&mut self, addr: u32, out: &mut [u8]) -> Result<(), EngineFault>
         ensures answer { CallAnswers self.old.view (Call.Read addr (length out.old)) (reply_of (λ _. Reply.Bytes out.new) result) self.new.view }
         ensures same { OnErr result (out.new ≡ out.old) }
@@ -123,7 +122,7 @@ impl Engine {
         Ok(())
     }
 
-    // Fails where a read is refused for another reason than memory.
+    // Fails if a read is refused for any reason other than memory.
     fn check_read(&self, addr: u32, len: u32) -> Result<(), EngineFault>
         ensures free { OnOk result (read_fault self.now.view addr len ≡ None) }
         ensures within { OnOk result (addr + len ≤ size self.now.view) }
@@ -139,10 +138,10 @@ impl Engine {
         }
     }
 
-    /// Marks a range, which need not lie below the memory's size: from then on bursts of that kind fail there, and nothing
-    /// else.
+    /// Marks a range, so that bursts of that kind fail there from then on. Nothing else fails there. The range need not
+    /// lie below the memory's size.
     ///
-    /// The error is `BadRange` where the range is empty or ends above the last address, else `NoMemory`.
+    /// The error is `BadRange` if the range is empty or ends above the last address, else `NoMemory`.
     pub fn mark(&mut self, kind: MarkKind, segment: Segment) -> Result<(), EngineFault>
         ensures answer { CallAnswers self.old.view (Call.Mark kind segment) (reply_of (λ _. Reply.Done) result) self.new.view }
         ensures kept { OnErr result (KeepsRoom self.old self.new) }
@@ -174,7 +173,7 @@ impl Engine {
 
     /// Sets the flag of an event.
     ///
-    /// The error is `BadEvent` above 31, else `NoMemory`.
+    /// The error is `BadEvent` if the event is above 31, else `NoMemory`.
     pub fn raise(&mut self, event: u8) -> Result<(), EngineFault>
         ensures answer { CallAnswers self.old.view (Call.Raise event) (reply_of (λ _. Reply.Done) result) self.new.view }
         ensures room { (ch : ℕ) → HasRoom self.old ch → IfErr result (λ fault. fault ≢ EngineFault.NoMemory) }

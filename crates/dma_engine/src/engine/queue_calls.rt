@@ -1,4 +1,4 @@
-//! The calls on the queue of a channel: submit, issue, pause, resume, terminate, and room for what is to come.
+//! The calls on the queue of a channel: submit, issue, pause, resume, terminate, and make room.
 
 ghost use Rattle.std.specs.Prelude.{◌≡◌, ◌≢◌, ◌+◌, Ok, IfOk, IfErr, OnOk, OnErr, None, unwrap_or, if◌then◌else◌};
 ghost use Rattle.dma_mem.specs.Rules.{IsTransfer};
@@ -17,7 +17,8 @@ use dma_mem::transfer::Transfer;
 const LAST_COOKIE: u32 = 2_147_483_647;
 
 impl Engine {
-    /// The cookie that `submit` would answer, or the fault that it would name before `NoMemory`. Nothing changes.
+    /// Returns the cookie that `submit` would return, or the fault that `submit` would report before `NoMemory`.
+    /// Nothing changes.
     pub fn check_submit(&self, ch: u8, transfer: &Transfer) -> Result<u32, EngineFault>
         ensures told { result ≡ checked (submit_fault self.now.view ch transfer.now) (used (channel (object_of self.now.view) ch) + 1) }
         ensures rules { OnOk result (IsTransfer transfer.now) }
@@ -33,10 +34,11 @@ impl Engine {
         Ok(given + 1)
     }
 
-    /// Gives a transfer to a channel, and answers its cookie, 1 for the first of the channel. It starts nothing.
+    /// Submits a transfer to a channel, and returns its cookie, which is 1 for the first of the channel. The transfer
+    /// does not start.
     ///
-    /// The fault is the first that holds of `NoChannel`, `OutOfMemoryRange` where a segment ends above the memory's size,
-    /// `CookiesSpent` and `NoMemory`; the transfer is handed back with it.
+    /// The fault is the first that applies of `NoChannel`, `OutOfMemoryRange` if a segment ends above the memory's
+    /// size, `CookiesSpent` and `NoMemory`. The error returns the transfer.
     pub fn submit(&mut self, ch: u8, transfer: Transfer) -> Result<u32, SubmitFault>
         ensures answer { CallAnswers self.old.view (Call.Submit ch transfer) (submit_reply result) self.new.view }
         ensures back { IfErr result (λ refused. refused.transfer ≡ transfer) }
@@ -49,7 +51,7 @@ impl Engine {
         }
     }
 
-    // The same where nothing but want of memory can refuse it, with the cookie that is next.
+    // Submits a transfer that was checked, with its cookie. It fails only when out of memory.
     fn submit_here(&mut self, ch: u8, transfer: Transfer, cookie: u32) -> Result<u32, SubmitFault>
         requires told { Ok cookie ≡ checked (submit_fault self.old.view ch transfer) (used (channel (object_of self.old.view) ch) + 1) }
         requires rules { IsTransfer transfer }
@@ -85,7 +87,7 @@ impl Engine {
         }
     }
 
-    // The same where nothing but want of memory can refuse it, with the cookie that is next.
+    // Submits a copy of a transfer that was checked, with its cookie. It fails only when out of memory.
     fn submit_checked(&mut self, ch: u8, transfer: &Transfer, cookie: u32) -> Reply
         requires told { Ok cookie ≡ checked (submit_fault self.old.view ch transfer.now) (used (channel (object_of self.old.view) ch) + 1) }
         requires rules { IsTransfer transfer.now }
@@ -100,7 +102,7 @@ impl Engine {
         }
     }
 
-    /// Issues all submitted cookies of a channel, and answers how many became so.
+    /// Issues all submitted cookies of a channel, and returns how many of them were not issued before.
     ///
     /// The error is `NoChannel`, else `NoMemory`.
     pub fn issue(&mut self, ch: u8) -> Result<u32, EngineFault>
@@ -118,7 +120,8 @@ impl Engine {
         Ok(after - before)
     }
 
-    /// Pauses a channel, so that its steps execute nothing; a paused one stays so. It adds no entry and takes no memory.
+    /// Pauses a channel, so that its steps execute nothing. A paused channel stays paused. It adds no entry and
+    /// allocates no memory.
     ///
     /// The error is `NoChannel`.
     pub fn pause(&mut self, ch: u8) -> Result<(), EngineFault>
@@ -128,7 +131,8 @@ impl Engine {
         self.set_paused(ch, true)
     }
 
-    /// Ends the pause of a channel; one that isn't paused stays so. It adds no entry and takes no memory.
+    /// Ends the pause of a channel. It has no effect on a channel that isn't paused. It adds no entry and allocates no
+    /// memory.
     ///
     /// The error is `NoChannel`.
     pub fn resume(&mut self, ch: u8) -> Result<(), EngineFault>
@@ -138,7 +142,7 @@ impl Engine {
         self.set_paused(ch, false)
     }
 
-    // What `pause` and `resume` do.
+    // Sets whether a channel is paused.
     fn set_paused(&mut self, ch: u8, paused: bool) -> Result<(), EngineFault>
         ensures answer { CallAnswers self.old.view (if paused then Call.Pause ch else Call.Resume ch) (reply_of (λ _. Reply.Done) result) self.new.view }
         ensures kept { KeepsRoom self.old self.new }
@@ -149,8 +153,9 @@ impl Engine {
         Ok(())
     }
 
-    /// Ends all unfinished cookies of a channel, issued or not, as aborted, and answers their number. What a running front
-    /// has stored stays stored. The channel is then neither paused nor halted, and all its cookies count as issued.
+    /// Aborts all unfinished cookies of a channel, issued or not, and returns how many there were. Bytes that a running
+    /// front has stored stay stored. Afterwards the channel is neither paused nor halted, and all its cookies count as
+    /// issued.
     ///
     /// The error is `NoChannel`, else `NoMemory`.
     pub fn terminate(&mut self, ch: u8) -> Result<u32, EngineFault>
@@ -169,9 +174,9 @@ impl Engine {
         Ok(count)
     }
 
-    /// Makes room on a channel: until a call changes the engine, `submit`, `issue` and `terminate` there, `raise`, and each
-    /// `step` there of a transfer that runs take no memory. Refused calls, steps that neither start, move nor finish, pauses
-    /// and resumes keep the room. Nothing else changes.
+    /// Makes room on a channel. Until a call changes the engine, `submit`, `issue` and `terminate` on the channel,
+    /// `raise`, and each `step` of a running transfer on it allocate no memory. Refused calls, pauses, resumes, and
+    /// steps that neither start, move nor finish keep the room. Nothing else changes.
     ///
     /// The error is `NoChannel`, else `NoMemory`.
     pub fn make_room(&mut self, ch: u8) -> Result<(), EngineFault>

@@ -19,7 +19,7 @@ fn kept_by(entry: &Entry) -> usize
     }
 }
 
-// Returns how many bytes these entries keep, or `u64::MAX` where they are more.
+// Returns how many bytes these entries keep, or `u64::MAX` if there are more.
 fn kept_in(history: &[Entry]) -> u64
     ensures { result ≡ min (kept_bytes history.now) 18446744073709551615 }
 {
@@ -31,8 +31,8 @@ fn kept_in(history: &[Entry]) -> u64
 }
 
 impl Engine {
-    /// Returns how many bytes the history keeps, of writes and of reads, or `u64::MAX` where they are more. It looks at each
-    /// entry.
+    /// Returns how many bytes the history keeps for writes and reads, or `u64::MAX` if there are more. It looks at
+    /// every entry.
     pub fn history_bytes(&self) -> u64
         ensures { result ≡ min (kept_bytes self.now.view.history) 18446744073709551615 }
     {
