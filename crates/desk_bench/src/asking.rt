@@ -1,4 +1,4 @@
-//! Statuses, asked off the lock while copies are made.
+//! Measures requests for statuses, which take no lock, while copies run.
 
 ghost use Rattle.dma_work.specs.Desk.{Names};
 
@@ -14,10 +14,11 @@ use std::thread;
 use std::thread::Threads;
 use std::time::{CpuClock, Duration, Instant};
 
-// Copying that no reader stops ends by itself, after so many rounds.
+// The maximum number of rounds of copies, in case the asking never ends.
 const MOST_ROUNDS: u32 = 100_000;
 
-// Asks so often how far cookie 1 of channel 0 is. Answers this thread's processor time, where all was answered.
+// Asks `times` times for the status of cookie 1 on channel 0. Returns the processor time of this thread, or `None` if
+// a request had no answer.
 fn ask<R: CpuClock>(rt: &R, mut reader: StatusReader, times: u32) -> Option<Duration> {
     let start = rt.thread_cpu_time();
     let mut answered = true;
@@ -32,7 +33,8 @@ fn ask<R: CpuClock>(rt: &R, mut reader: StatusReader, times: u32) -> Option<Dura
     }
 }
 
-// Asks as often with each of one or two readers, each in a thread of its own. Answers these threads' processor time.
+// Asks `times` times with each of one or two readers, each in its own thread. Returns the total processor time of
+// these threads.
 fn ask_each<R: Threads + CpuClock + Sync>(
     rt: &R,
     mut readers: Vec<StatusReader>,
@@ -50,7 +52,7 @@ fn ask_each<R: Threads + CpuClock + Sync>(
     one?.checked_add(other?)
 }
 
-// How long it takes to ask, where all was answered. Says then that the asking has ended.
+// Returns how long the asking takes, or `None` if a request had no answer. Sets `ended` afterwards.
 fn timed_asking<R: Threads + Clock + CpuClock + Sync>(
     rt: &R,
     readers: Vec<StatusReader>,
@@ -67,7 +69,7 @@ fn timed_asking<R: Threads + Clock + CpuClock + Sync>(
     })
 }
 
-// Submits so many copies on channel 0, and issues them.
+// Submits `count` copies on channel 0, and issues them.
 fn submit_some<N: DeskName, R: Wait>(
     rt: &R,
     alloc: Global,
@@ -88,7 +90,7 @@ fn submit_some<N: DeskName, R: Wait>(
     MutexGuard::unlock(desk);
 }
 
-// Submits copies and steps them, round after round, until the asking has ended.
+// Submits copies and steps them, round after round, until `ended` is set.
 fn work_on<N: DeskName, R: Wait>(
     rt: &R,
     alloc: Global,
@@ -108,7 +110,7 @@ fn work_on<N: DeskName, R: Wait>(
     tallies
 }
 
-// Makes long copies by an engine of its own until the asking has ended.
+// Runs long copies on an engine of its own until `ended` is set.
 fn copy_apart(alloc: Global, ended: &AtomicBool) {
     let Some(mut engine) = loaded(alloc, Copies::Long, 1, 0) else {
         return;
@@ -122,7 +124,7 @@ fn copy_apart(alloc: Global, ended: &AtomicBool) {
     }
 }
 
-/// How long it takes to ask so often with each of one or two readers, while that is done.
+/// Returns how long it takes to ask `times` times with each of one or two readers, while `meanwhile` runs.
 pub fn time_statuses<N: DeskName + Send + Sync, R: Threads + Wait + Clock + CpuClock + Sync>(
     rt: &R,
     alloc: Global,
@@ -150,7 +152,7 @@ pub fn time_statuses<N: DeskName + Send + Sync, R: Threads + Wait + Clock + CpuC
     })
 }
 
-// Does it until the asking has ended, and answers the tallies of the worker, where there is one.
+// Runs `meanwhile` until `ended` is set, and returns the worker's tallies, if there is a worker.
 fn copy_meanwhile<N: DeskName, R: Wait>(
     rt: &R,
     alloc: Global,

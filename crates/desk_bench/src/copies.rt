@@ -1,4 +1,4 @@
-//! The copies that are stepped.
+//! The copies that the measurements step.
 
 ghost use Rattle.std.specs.Prelude.{◌≤◌};
 
@@ -16,17 +16,17 @@ const CHANNEL: u32 = 0x20_0000;
 // for two channels
 const MEMORY: u32 = 0x40_0000;
 
-/// How long the copies are.
+/// The length of the copies.
 #[derive(Clone, Copy, Debug)]
 pub enum Copies {
-    /// 1 MiB, by bursts of 16 beats of 16 bytes.
+    /// 1 MiB, in bursts of 16 beats of 16 bytes.
     Long,
     /// 4 bytes.
     Short,
 }
 
 impl Copies {
-    /// How many bytes a copy has.
+    /// Returns the number of bytes of a copy.
     fn len(self) -> u32
         ensures { result ≤ 1048576 }
     {
@@ -36,7 +36,7 @@ impl Copies {
         }
     }
 
-    /// How many turns a copy takes, from its start to its end.
+    /// Returns the number of turns that a copy takes, from its start to its end.
     fn turns(self) -> u64
         ensures { result ≤ 1048576 }
     {
@@ -46,7 +46,7 @@ impl Copies {
         }
     }
 
-    /// How many copies a worker submits before it steps them.
+    /// Returns the number of copies that a worker submits before it steps them.
     pub fn in_a_round(self) -> u32 {
         match self {
             Copies::Long => 1,
@@ -54,12 +54,12 @@ impl Copies {
         }
     }
 
-    /// How many turns so many copies take.
+    /// Returns the number of turns that `count` copies take.
     pub fn turns_of(self, count: u32) -> u64 {
         self.turns() * u64::from(count)
     }
 
-    /// A copy on a channel. Copies on different channels are free of each other.
+    /// Returns a copy for a channel. Copies for different channels don't conflict.
     pub fn transfer(self, alloc: Global, ch: u8) -> Option<Transfer> {
         let addr = u32::from(ch) * CHANNEL;
         let len = self.len();
@@ -72,7 +72,7 @@ impl Copies {
     }
 }
 
-/// An engine with so many copies issued on each of its channels, of which there are at most two.
+/// Returns an engine with `count` copies issued on each of its channels, which are at most two.
 pub fn loaded(alloc: Global, copies: Copies, channels: u8, count: u32) -> Option<Engine> {
     let mut engine = Engine::new(alloc, MEMORY, channels).ok()?;
     for ch in 0..channels {
@@ -81,7 +81,7 @@ pub fn loaded(alloc: Global, copies: Copies, channels: u8, count: u32) -> Option
     Some(engine)
 }
 
-/// Issues so many copies on a channel.
+/// Submits and issues `count` copies on a channel.
 pub fn load(alloc: Global, engine: &mut Engine, ch: u8, copies: Copies, count: u32) -> Option<()> {
     for _ in 0..count {
         engine.submit(ch, copies.transfer(alloc, ch)?).ok()?;

@@ -1,5 +1,5 @@
-//! Times statuses that are asked off the lock, and steps through a desk. It does nothing unless it is told what to measure
-//! and how often.
+//! Measures requests for statuses without the lock, and steps through a desk. It does nothing unless its arguments say
+//! what to measure and how often.
 #![tactic(auto)]
 
 mod asking;
@@ -56,7 +56,7 @@ fn measure<R: Threads + Wait + Clock + CpuClock + Sync>(
     }
 }
 
-// So many statuses for each reader.
+// Measures `count` statuses for each reader.
 fn statuses<R: Threads + Wait + Clock + CpuClock + Sync>(
     rt: &R,
     alloc: Global,
@@ -70,7 +70,7 @@ fn statuses<R: Threads + Wait + Clock + CpuClock + Sync>(
     time_statuses::<Brand, _>(rt, alloc, parts, readers, count, meanwhile)
 }
 
-// The steps of so many copies.
+// Measures the steps of `count` copies.
 fn steps<R: Threads + Wait + Clock + CpuClock + Sync>(
     rt: &R,
     alloc: Global,

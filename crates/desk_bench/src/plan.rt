@@ -1,4 +1,4 @@
-//! What can be measured, and what a measurement finds.
+//! What can be measured, and the result of a measurement.
 
 use crate::copies::Copies;
 use std::io;
@@ -8,29 +8,29 @@ use std::time::{Duration, Instant};
 /// Who steps an engine.
 #[derive(Clone, Copy, Debug)]
 pub enum Steppers {
-    /// Nobody but the caller; there is no desk.
+    /// The caller itself, without a desk.
     Engine,
     /// One worker, through the desk.
     OneWorker,
-    /// Two workers through one desk, each on a channel of its own.
+    /// Two workers through one desk, each on its own channel.
     TwoWorkers,
 }
 
-/// What is done while statuses are asked.
+/// What runs while statuses are requested.
 #[derive(Clone, Copy, Debug)]
 pub enum Meanwhile {
     /// Nothing.
     Nothing,
-    /// One thread makes long copies by an engine of its own, which has no desk.
+    /// One thread runs long copies on its own engine, without a desk.
     Apart,
-    /// One worker makes such copies through the desk.
+    /// One worker runs these copies through the desk.
     Through(Copies),
 }
 
 /// What to measure.
 #[derive(Clone, Copy, Debug)]
 pub enum Plan {
-    /// Statuses that one or two readers ask.
+    /// Statuses that one or two readers request.
     Statuses {
         readers: usize,
         meanwhile: Meanwhile,
@@ -43,7 +43,7 @@ pub enum Plan {
 }
 
 impl Plan {
-    /// The plan of this name.
+    /// Returns the plan with this name.
     pub fn named(word: &str) -> Option<Plan> {
         let plan = match word {
             "one-reader" => Plan::asking(1, Meanwhile::Nothing),
@@ -74,29 +74,30 @@ impl Plan {
     }
 }
 
-/// How long something took.
+/// How long a measurement took.
 #[derive(Clone, Copy, Debug)]
 pub struct Times {
-    /// By the clock.
+    /// The elapsed time of the clock.
     pub took: Duration,
-    /// The processor time of the threads that did it, added up.
+    /// The total processor time of its threads.
     pub busy: Duration,
 }
 
-/// What was done, and in what time.
+/// What was done, and how long it took.
 #[derive(Clone, Copy, Debug)]
 pub struct Measured {
-    /// How many statuses were answered.
+    /// The number of answered statuses.
     pub answers: u64,
-    /// How many steps executed an instruction or finished a cookie: by the tallies, or by the engine where there is no desk.
+    /// The number of steps that executed an instruction or finished a cookie: from the tallies, or from the engine if
+    /// there is no desk.
     pub steps: u64,
-    /// How many cookies these steps finished.
+    /// The number of cookies that these steps finished.
     pub finished: u64,
-    /// How long the answers took, or the steps where none was asked.
+    /// How long the answers took, or the steps if no status was requested.
     pub times: Times,
 }
 
-/// The time since the start, where the clock could be read.
+/// Returns the time since `start`, or `None` if the clock couldn't be read.
 pub fn since<R: Clock>(rt: &R, start: io::Result<Instant>) -> Option<Duration> {
     start.ok()?.elapsed(rt).ok()
 }

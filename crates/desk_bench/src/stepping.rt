@@ -1,4 +1,4 @@
-//! Steps, alone and through a desk.
+//! Measures steps, with and without a desk.
 
 ghost use Rattle.std.specs.Prelude.{◌<◌, length};
 ghost use Rattle.dma_work.specs.Desk.{Names};
@@ -15,7 +15,7 @@ use std::sync::Wait;
 use std::thread::Threads;
 use std::time::{CpuClock, Duration, Instant};
 
-// When something started, by the clock and by the processor time of the whole program.
+// The start of a measurement: the time of the clock, and the processor time of the whole program.
 #[derive(Drop)]
 struct Watch {
     clock: io::Result<Instant>,
@@ -40,14 +40,14 @@ impl Watch {
     }
 }
 
-/// Takes so many steps of channel 0.
+/// Takes `turns` steps of channel 0.
 pub fn step_often(engine: &mut Engine, turns: u64) {
     for _ in 0..turns {
         let _ = engine.step(0);
     }
 }
 
-/// How long so many steps of channel 0 take with no desk.
+/// Returns how long `turns` steps of channel 0 take without a desk.
 pub fn time_engine<R: Clock + CpuClock>(
     rt: &R,
     mut engine: Engine,
@@ -64,7 +64,7 @@ pub fn time_engine<R: Clock + CpuClock>(
     })
 }
 
-/// How long the workers take for these jobs.
+/// Returns how long the workers take for these jobs.
 pub fn time_workers<N: DeskName + Send + Sync, R: Threads + Wait + Clock + CpuClock + Sync>(
     rt: &R,
     alloc: Global,
@@ -87,7 +87,7 @@ pub fn time_workers<N: DeskName + Send + Sync, R: Threads + Wait + Clock + CpuCl
     })
 }
 
-/// Ends the desk: the totals, where the tallies add up.
+/// Ends the desk. Returns the totals, or `None` if the tallies don't add up.
 pub fn settled<N: DeskName, R: Wait>(
     rt: &R,
     shared: Shared<N>,

@@ -31,7 +31,7 @@ once-or-same : (A B C : Type 0) → (B → C) → A ⊎ B → A ⊎ C
 once-or-same A B C f (inl a) = inl a
 once-or-same A B C f (inr b) = inr (f b)
 
--- the last answer, so many times
+-- the last answer, repeated
 last-steps : (v w : View) (ch : ℕ) (reply : Reply) (many : ℕ) → (reply, w) ≡ answer v (Step ch) → (many ≡ 1) ⊎ (w ≡ v) → answers v (replicate many (Step ch)) ≡ (replicate many reply, w)
 last-steps v w ch reply many is (inl one) =
     ap (λ (n : ℕ). answers v (replicate n (Step ch))) one ∙ ap (λ (a : Reply × View). (a.0 ∷ [], a.1)) (sym is)
@@ -79,7 +79,7 @@ last-answer v w ch told last reply h some is =
     let answer-is : CallAnswers u (Step ch) reply w = subst (λ (r : Reply). CallAnswers u (Step ch) r w) (sym is.0) (subst (λ (x : View). CallAnswers u (Step ch) (reply_of Turned last) x) (sym one.2) one.1) in
     (u, parts.1, served-one u (Step ch) reply w is.1 answer-is)
 
--- and the answers of all, where the last comes so many times
+-- the answers of all steps, with the last one repeated
 pub moved-then : (v w : View) (ch : ℕ) (told : Advanced) (many : ℕ) (last : Result Turn EngineFault) (reply : Reply) → IsAdvance v ch told w → told.last ≡ Some last → (reply ≡ reply_of Turned last) × (reply ≢ Refused NoMemory) → (many ≡ 1) ⊎ IsIdle last → (replicate told.moved (Turned Moved) ++ replicate many reply, w) ≡ answers v (replicate (told.moved + many) (Step ch))
 moved-then v w ch told many last reply h some is times =
     let n = told.moved in

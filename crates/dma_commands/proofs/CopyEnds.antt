@@ -1,4 +1,4 @@
--- A copy ends by itself: each step that goes on leaves one instruction less.
+-- The steps of a copy end: after each step that goes on, one instruction less remains.
 use Rattle.std.proofs.Common.{◌≡◌, ◌≢◌, ◌⊎◌, ℕ, ◌+◌, ◌-◌, ◌<◌, ◌≤◌, Bool, true, false, if◌then◌else◌, List, [], ◌∷◌, ◌++◌, length, Option, Some, None, refl, ap, sym, subst, ◌∙◌, inl, inr, zero, suc, arith}
 use Rattle.std.specs.Prelude.{slice_get, slice_index_or, nat_le, nat_lt, not, ◌==◌, ◌||◌}
 use Rattle.std.proofs.lemmas.Bool.{cases_lt, false≢true, leb-false, lt-leb, ltb-false}
@@ -58,7 +58,7 @@ moved-on u t k there front less = λ _. (
   },
 )
 
--- ---- what an entry leaves of the front
+-- ---- the front after an entry
 
 entry-is : (v : View) (e : Entry) → object_of (with_entry v e) ≡ after (object_of v) e
 entry-is v e = object_after-append v.base v.history (e ∷ [])
@@ -203,7 +203,7 @@ front-ends n v t rules there front left =
 
 -- ---- from the submission
 
--- what stands at the end of a list, or behind it
+-- an index at or past the end of the first list finds the appended element, or none
 pushed-at : (xs : List Descriptor) (t : Descriptor) (f : ℕ) → length xs ≤ f → (slice_get (xs ++ t ∷ []) f ≡ Some t) ⊎ (slice_get (xs ++ t ∷ []) f ≡ None)
 pushed-at [] t zero h = inl refl
 pushed-at [] t (suc f) h = inr refl

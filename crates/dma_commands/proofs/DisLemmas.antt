@@ -52,7 +52,7 @@ lines_from-joined offset (i ∷ is) h =
     lines_from-spelling offset i (joined is) (joined (i ∷ is)) refl (decoded-spelling i (joined is) h.0)
     ∙ ap (with_line (insn_text i)) (lines_from-joined (offset + length (spelling i)) is h.1)
 
--- behind spellings joined stands what is no instruction
+-- joined spellings, followed by bytes that aren't an instruction
 pub lines_from-stops : (offset : ℕ) (is : List Insn) (rest : List ℕ) (fault : DecodeFault) → AllInRange is → 0 < length rest → decoded rest ≡ Err fault → lines_from offset 0 (joined is ++ rest) ≡ Err (offset + length (joined is), fault)
 lines_from-stops offset [] [] fault h some refused = absurd (omega arith)
 lines_from-stops offset [] (x ∷ xs) fault h some refused =

@@ -1,4 +1,4 @@
--- What the lines of a script print and leave.
+-- What the lines of a script print, and the view after them.
 use Rattle.std.proofs.Common.{◌≡◌, ◌≢◌, ℕ, ◌+◌, ◌≤◌, Bool, true, false, if◌then◌else◌, codes, zero, List, [], ◌∷◌, ◌++◌, length, Option, Some, None, refl, ap, sym, subst, ◌∙◌, take, drop, suc, add-one, append_assoc, arith}
 use Rattle.std.proofs.lemmas.List.{length-append}
 use Rattle.std.specs.Prelude.{is_some}
@@ -36,7 +36,7 @@ unless_unfit-none fault v answered none = rw none refl
 pub unfit : (v : View) (out out' : List ℕ) (fault : Option TransferFault) (e : TransferFault) (answered : Answered) → fault ≡ Some e → (e ≢ transfers.NoMemory) × (out' ≡ out ++ text_of (refused_line (transfer_fault_name e) ∷ [])) → AnswersLine (unless_unfit fault v answered) v out out'
 unfit v out out' fault e answered is prints = rw is (record { acts = refl; prints = prints.1 })
 
--- what a read that was answered left in the history
+-- the entry of an answered read in the history
 kept_read : (v w : View) (addr : ℕ) (b bytes : List ℕ) (fault : Option EngineFault) → (Bytes b, w) ≡ unless fault v (Bytes bytes, with_entry v (ReadBack addr bytes)) → read_at w.history (length v.history) ≡ b
 kept_read v w addr b bytes (Some f) is = absurd (let bad : Bytes b ≡ Refused f = ap (λ (x : Reply × View). x.0) is in cc)
 kept_read v w addr b bytes None is =
@@ -76,7 +76,7 @@ at-most-one : (b : Bool) → (if b then 1 else 0) ≤ 1
 at-most-one true = omega arith
 at-most-one false = omega arith
 
--- one more where there is something
+-- the length grows by one if `f n` has a value
 pub counted : {X : Type 0} (f : ℕ → Option X) (n : ℕ) (b : Bool) → is_some (f n) ≡ b → length (filter_map f (range_with_len 0 (n + 1))) ≡ length (filter_map f (range_with_len 0 n)) + (if b then 1 else 0)
 counted f n b is =
     ap length (filter_map-more f n) ∙ length-append (filter_map f (range_with_len 0 n)) (filter_map f (n ∷ []))
@@ -95,12 +95,12 @@ pub running-is : (o : Object) (schedule : List ChannelSchedule) → running o sc
 unfolding running
 running-is o schedule = refl
 
--- what is told of a running transfer, where there is one
+-- a mapped option has a value exactly if the option has one
 pub is_some-told : {X Y : Type 0} (f : X → Y) (x : Option X) → is_some (option_map f x) ≡ is_some x
 is_some-told f None = refl
 is_some-told f (Some x) = refl
 
--- two parts more, which are one
+-- two parts appended one after another are one part
 pub two-more : (line first word number : List ℕ) → line ++ first ++ (word ++ number) ≡ line ++ (first ++ word ++ number)
 two-more line first word number =
     append_assoc line first (word ++ number) ∙ ap (λ l. line ++ l) (sym (append_assoc first word number))
@@ -111,11 +111,11 @@ pub length-lines_answered : (v : View) (lines : List Statement) → length (line
 length-lines_answered v [] = refl
 length-lines_answered v (line ∷ rest) = ap (λ n. suc n) (length-lines_answered (line_answer v line).1 rest)
 
--- an interpreter of which so much is seen carries a line out as `run` does
+-- an interpreter with this view executes a line as `run` does
 abbrev pub AnswersSeen : {S : Type 0} → (S → View) → S → Statement → List (List ℕ) → S → Type 0
 AnswersSeen seen found line group left = line_answer (seen found) line ≡ (group, seen left)
 
--- what lines print that are carried out in turn
+-- what lines print that are executed one after another
 answered-in_turn : {S : Type 0} (seen : S → View) (lines : List Statement) (found left : S) (groups : List (List (List ℕ))) → ActsInTurn (AnswersSeen seen) lines found groups left → groups ≡ lines_answered (seen found) lines
 answered-in_turn seen [] found left [] done = refl
 answered-in_turn seen [] found left (g ∷ groups) done = absurd done
@@ -125,16 +125,16 @@ answered-in_turn seen (line ∷ lines) found left (g ∷ groups) (next, acts, re
     let a = line_answer (seen found) line in
     ap (λ (b : Answered). b.0 ∷ groups) (sym acts) ∙ ap (λ l. a.0 ∷ l) (more ∙ ap (λ (b : Answered). lines_answered b.1 lines) (sym acts))
 
--- the first of some lines print what they print alone
+-- the first lines print the same without the others
 answered-first : (v : View) (before behind : List Statement) → take (length before) (lines_answered v (before ++ behind)) ≡ lines_answered v before
 answered-first v [] behind = refl
 answered-first v (line ∷ before) behind = ap (λ l. (line_answer v line).0 ∷ l) (answered-first (line_answer v line).1 before behind)
 
--- all lines were carried out
+-- all lines were executed
 pub answered-all : {S : Type 0} (seen : S → View) (found left : S) (lines : List Statement) (old new : List ℕ) → PrintsLines (AnswersSeen seen) found lines left old new → new ≡ old ++ printed_text (lines_answered (seen found) lines)
 answered-all seen found left lines old new done = done.text ∙ ap (λ g. old ++ printed_text g) (answered-in_turn seen lines found left done.groups done.acted)
 
--- a line was refused memory
+-- a line was out of memory
 pub answered-some : {S : Type 0} (seen : S → View) (is_refused : S → Statement → S → Type 0) (found left : S) (lines : List Statement) (old new : List ℕ) → StopsAtALine (AnswersSeen seen) is_refused found lines left old new → AppendsGroups (lines_answered (seen found) lines) old new
 answered-some seen is_refused found left lines old new stop =
     let v = seen found in

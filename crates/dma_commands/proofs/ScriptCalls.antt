@@ -1,4 +1,4 @@
--- What a line prints is made of the replies to its calls.
+-- What a line prints is computed from the replies to its calls.
 use Rattle.std.proofs.Common.{◌≡◌, ℕ, zero, suc, Bool, true, false, if◌then◌else◌, List, [], ◌∷◌, ◌++◌, length, take, drop, codes, Option, Some, None, refl, ap, sym, ◌∙◌}
 use Rattle.std.specs.Prelude.{replicate}
 use Rattle.std.proofs.Math.Seq.{take-append_seam, drop-append_seam}
@@ -45,7 +45,7 @@ steps_end (suc n) v before =
 
 -- ---- a copy's line
 
--- what a copy prints of its replies, and the view that they leave
+-- what a copy prints for its replies, and the view after them
 abbrev through_made : List ℕ → List Reply × View → Answered
 through_made start a = (through_lines start a.0, a.1)
 

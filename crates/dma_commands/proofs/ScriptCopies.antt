@@ -49,7 +49,7 @@ steps-end (suc n) v ends =
 
 -- ---- a copy
 
--- what a submit answers that this refuses, or nothing
+-- the replies of a copy are whole, whether its submit is refused or not
 submitted-whole : CopiesEnd → (v : View) (t : Descriptor) (fault : Option EngineFault) → IsSound v → IsTransfer t → is_in_use v ≡ false → submit_fault v 0 t ≡ fault → (let s = unless fault v (Cookie (used (channel (object_of v) 0) + 1), with_entry v (Submitted 0 t (used (channel (object_of v) 0) + 1))) in IsWholeCopy (s.0 ∷ (answers s.1 (calls_after s)).0))
 submitted-whole ends v t (Some fault) sound rules free is = tt
 submitted-whole ends v t None sound rules free is =

@@ -1,4 +1,4 @@
--- Scripts are carried out by calls of the engine, and print its replies.
+-- Scripts make calls of the engine and print its replies.
 use Rattle.std.proofs.Common.{◌≡◌, ◌≢◌, ℕ, zero, suc, Bool, true, false, ◌||◌, List, [], ◌∷◌, length, Option, Some, None, refl, ap, sym, subst, ◌∙◌, arith}
 use Rattle.std.specs.Prelude.{nat_lt, is_none, Ok}
 use Rattle.std.proofs.lemmas.Bool.{false≢true}
@@ -19,9 +19,9 @@ use Rattle.dma_commands.proofs.ScriptCalls.{groups_are, line_is}
 use Rattle.dma_commands.proofs.ScriptSubmits.{calls-made}
 use Rattle.dma_commands.proofs.ScriptsWithin.{can-be-made, script_within}
 
--- ---- an answer with enough memory is no want of it
+-- ---- an answer with enough memory isn't out of memory
 
--- a checkpoint that stores a base is answered that it is done
+-- a checkpoint that stores a base answers `Done`
 stored-done : (v : View) (fault : Option EngineFault) → is_none fault ≡ true → (unless fault v (Done, checkpointed v)).0 ≡ Done
 stored-done v None is = refl
 stored-done v (Some fault) is = absurd (false≢true is)

@@ -1,4 +1,4 @@
--- A script that is read asks for an engine that can be made.
+-- The engine of a parsed script's memory line can be made.
 use Rattle.std.proofs.Common.{◌≡◌, ℕ, ◌+◌, Bool, true, false, ◌&&◌, ◌||◌, if◌then◌else◌, not, nat_lt, nat_le, ◌==◌, List, [], ◌∷◌, Option, Some, None, Result, Ok, Err, refl, ap, subst, ◌∙◌, arith}
 use Rattle.std.specs.Prelude.{IfOk, ok_or}
 use Rattle.std.specs.List.{list_all}

@@ -1,4 +1,4 @@
--- Calls in order, none of which was refused memory.
+-- Calls in order, none of which is out of memory.
 use Rattle.std.proofs.Common.{◌≡◌, ◌≢◌, List, [], ◌∷◌, ◌++◌, refl, ap, ◌∙◌}
 use Rattle.dma_engine.specs.declared.call.Call.{Call}
 use Rattle.dma_engine.specs.declared.call.Reply.{Reply}
@@ -8,12 +8,12 @@ use Rattle.dma_engine.specs.declared.fault.EngineFault.TheVariants.{OutOfMemoryR
 use Rattle.dma_engine.specs.View.{View}
 use Rattle.dma_engine.specs.Answer.{CallAnswers, AreAnswers, answer, answers}
 
--- no reply is want of memory
+-- no reply is out of memory
 abbrev pub AreServed : List Reply → Type 0
 AreServed [] = Unit {0}
 AreServed (reply ∷ rest) = (reply ≢ Refused NoMemory) × AreServed rest
 
--- a reply that isn't want of memory is the answer
+-- a reply that isn't out of memory is the answer
 pub served-one : (v : View) (call : Call) (reply : Reply) (w : View) → reply ≢ Refused NoMemory → CallAnswers v call reply w → (reply, w) ≡ answer v call
 served-one v call Done w served is = is
 served-one v call (Bytes bytes) w served is = is
@@ -55,6 +55,6 @@ abbrev fault-of : Reply → EngineFault
 fault-of (Refused fault) = fault
 fault-of _ = NoMemory
 
--- a refusal of a call that isn't want of memory
+-- a refusal of a call that isn't out of memory
 pub refused-served : (fault : EngineFault) → fault ≢ NoMemory → Refused fault ≢ Refused NoMemory
 refused-served fault other = λ is. other (ap fault-of is)

@@ -87,7 +87,7 @@ ended ch lines lines' last (suc n) none line =
 
 -- ---- steps in rows
 
--- after so many steps, and then more
+-- after these steps, and then more
 pub steps-more : (v : View) (step : Call) (m n k : ℕ) → m + n ≡ k → answers v (replicate k step) ≡ (let a = answers v (replicate m step) in let b = answers a.1 (replicate n step) in (a.0 ++ b.0, b.1))
 steps-more v step m n k sum =
     ap (λ (c : ℕ). answers v (replicate c step)) (sym sum)

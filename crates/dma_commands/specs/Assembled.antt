@@ -16,13 +16,13 @@ cause_name Mnemonic = codes "mnemonic"
 cause_name Operand = codes "operand"
 cause_name Range = codes "range"
 
--- the line of a fault; want of memory has none that is printed
+-- the line of a fault; `NoMemory` has none, so this is the empty list
 abbrev pub fault_line : AsmFault → List ℕ
 fault_line (Line n cause) = concat (codes "line " ∷ decimal n ∷ codes ": " ∷ cause_name cause ∷ [])
 fault_line (ProgramTooLong n) = concat (codes "line " ∷ decimal n ∷ codes ": ProgramTooLong" ∷ [])
 fault_line NoMemory = []
 
--- A text that assembles prints its program's bytes, and another its first fault.
+-- What is printed for an assembled text: the bytes of its program, with status 0, or its first fault, as a refusal.
 abbrev pub asm_printed_of : Result (List ℕ) AsmFault → Printed
 asm_printed_of (Ok program) = record { groups = program_lines program ∷ []; status = 0 }
 asm_printed_of (Err fault) = refusal (fault_line fault)
@@ -31,8 +31,9 @@ asm_printed_of (Err fault) = refusal (fault_line fault)
 abbrev pub asm_printed : List ℕ → Printed
 asm_printed input = asm_printed_of (assembled input)
 
--- What is printed, told by the relation of texts and programs alone: each input assembles to a program, whose bytes are
--- printed, or has a first fault, whose line is.
+-- What is printed, stated with the relations between texts and programs alone. Each input either assembles to a
+-- program, whose bytes are printed with status 0, or has a first fault other than `NoMemory`, whose line is printed as
+-- a refusal.
 pub record AsmPrints : Type 0 where
   pub one : (input : List ℕ)
       → ((program : List ℕ) × Assembles input program) ⊎ ((fault : AsmFault) × (fault ≢ NoMemory) × IsFirstFault input fault)

@@ -9,19 +9,21 @@ use Rattle.dma_script.specs.Command.{Printed, refusal, text_of}
 use Rattle.dma_script.specs.Printing.{hex_byte_of}
 use Rattle.dma_script.specs.Pairs.{pairs_of, pairs_fault_line}
 
--- a line before others, where there is no fault
+-- the lines with this line before them; a fault stays as it is
 abbrev pub with_line : List ℕ → Result (List (List ℕ)) (ℕ × DecodeFault) → Result (List (List ℕ)) (ℕ × DecodeFault)
 with_line line (Ok lines) = Ok (line ∷ lines)
 with_line line (Err fault) = Err fault
 
--- the line of an instruction of so many bytes and what follows it, or its fault at its offset
+-- the line of the decoded instruction, followed by the lines that `more` gives for its number of bytes; or the
+-- decoding fault with its offset
 abbrev pub first_line :
     ℕ → Decoded → (ℕ → Result (List (List ℕ)) (ℕ × DecodeFault)) → Result (List (List ℕ)) (ℕ × DecodeFault)
 first_line offset (Ok found) more = with_line (insn_text found.0) (more found.1)
 first_line offset (Err fault) more = Err (offset, fault)
 
--- The lines of the instructions that these bytes spell one after another, or the first place where none stands, by its
--- offset. The first bytes, so many, belong to the instruction before.
+-- The lines of the instructions that these bytes encode one after another, or the first decoding fault with its
+-- offset. `offset` is the offset of the first byte. The first `skipped` bytes belong to the previous instruction and
+-- are not decoded.
 abbrev pub lines_from : ℕ → ℕ → List ℕ → Result (List (List ℕ)) (ℕ × DecodeFault)
 lines_from offset skipped [] = Ok []
 lines_from offset (suc skipped) (byte ∷ rest) = lines_from (offset + 1) skipped rest
@@ -35,13 +37,13 @@ decode_fault_line offset (Unknown byte) =
     concat (codes "offset " ∷ decimal offset ∷ codes ": Unknown " ∷ []) ++ hex_byte_of byte
 decode_fault_line offset BadField = concat (codes "offset " ∷ decimal offset ∷ codes ": BadField" ∷ [])
 
--- what is printed for the bytes
+-- what is printed for these lines, with status 0, or for a fault, as a refusal
 abbrev pub lines_printed : Result (List (List ℕ)) (ℕ × DecodeFault) → Printed
 lines_printed (Ok lines) = record { groups = lines ∷ []; status = 0 }
 lines_printed (Err fault) = refusal (decode_fault_line fault.0 fault.1)
 
--- Pairs of digits print the text of the bytes that they spell, or their first fault; another input prints the line of its
--- first wrong byte.
+-- What is printed for the bytes that the pairs of digits spell: their disassembled lines or their first decoding
+-- fault. An input that isn't pairs of digits prints the fault with the line of its first wrong byte.
 abbrev pub dis_printed_of : Result (List ℕ) ℕ → Printed
 dis_printed_of (Ok bytes) = lines_printed (lines_from 0 0 bytes)
 dis_printed_of (Err line) = refusal (pairs_fault_line line)
@@ -50,8 +52,9 @@ dis_printed_of (Err line) = refusal (pairs_fault_line line)
 abbrev pub dis_printed : List ℕ → Printed
 dis_printed input = dis_printed_of (pairs_of input)
 
--- What is printed for pairs of digits, told by the relation of bytes and texts alone: the bytes that they spell have a text,
--- which is printed, or a first place where no instruction stands, whose line is.
+-- What is printed for pairs of digits, stated with the relations between bytes and texts alone. The bytes either have
+-- a text, which is printed with status 0, or decoding stops at an offset with a fault, whose line is printed as a
+-- refusal.
 pub record DisPrints : Type 0 where
   pub one : (input bytes : List ℕ) → pairs_of input ≡ Ok bytes
       → ((text : List ℕ) × Disassembles bytes text) ⊎ ((offset : ℕ) × (fault : DecodeFault) × StopsAt bytes offset fault)

@@ -1,4 +1,4 @@
--- Which calls of the engine a script makes, and how what is printed is made of their replies.
+-- Which engine calls a script makes, and how its output is computed from their replies.
 use Rattle.std.specs.Prelude.{◌≡◌, ◌≢◌, ℕ, zero, suc, ◌++◌, ◌∷◌, [], true, false, if◌then◌else◌, Option, Some, None, Ok, List, length, map, take, drop, replicate, codes}
 use Rattle.std.specs.List.{All}
 use Rattle.dma_mem.specs.Places.{Descriptor}
@@ -23,7 +23,8 @@ use Rattle.dma_commands.specs.Transfers.{transfer_of}
 
 -- ---- the calls of a line
 
--- the call of a line that is one call and nothing else
+-- the call of a line that makes exactly one call on every view; no call for `copy`, `fill`, `submit`, `step` and
+-- `totals`
 abbrev pub call_of : Statement → List Call
 call_of (Write addr bytes) = calls.Write addr bytes ∷ []
 call_of (Read segment) = calls.Read segment.addr segment.len ∷ []
@@ -39,31 +40,33 @@ call_of (Raise event) = calls.Raise event ∷ []
 call_of Checkpoint = calls.Checkpoint ∷ []
 call_of _ = []
 
--- A transfer that breaks a rule makes no call.
+-- These calls for a transfer that breaks no rule; no call for one that does.
 abbrev pub if_fit : Option TransferFault → List Call → List Call
 if_fit None calls = calls
 if_fit (Some fault) calls = []
 
--- How many steps of channel 0 a copy or a fill takes: up to the first whose answer is neither Started nor Moved.
+-- How many steps of channel 0 a copy or a fill takes: up to the first whose answer is neither Started nor Moved, and
+-- at most n + 1 for the argument n.
 unfoldable pub steps_taken : ℕ → View → ℕ
 steps_taken zero v = 1
 steps_taken (suc n) v =
     let first = answer v (calls.Step 0) in
     if goes_on first.0 then suc (steps_taken n first.1) else 1
 
--- What was submitted to channel 0 is issued and then stepped.
+-- The calls that issue channel 0 and then step it.
 abbrev pub carrying_calls : View → List Call
 carrying_calls v = calls.Issue 0 ∷ replicate (steps_taken most_steps (answer v (calls.Issue 0)).1) (calls.Step 0)
 
--- A refused submit ends a copy or a fill.
+-- The calls of a copy or a fill after its submit: none if the submit is refused, else the issue and the steps.
 abbrev pub calls_after : Reply × View → List Call
 calls_after submitted = if is_refused submitted.0 then [] else carrying_calls submitted.1
 
--- A copy or a fill makes no call where channel 0 is in use. Else its transfer is submitted there, issued and stepped.
+-- The calls of a copy or a fill whose transfer meets its rules: none if channel 0 is in use, else the submit to
+-- channel 0 and the calls after it.
 abbrev pub through_calls : View → Descriptor → List Call
 through_calls v t = if is_in_use v then [] else calls.Submit 0 t ∷ calls_after (answer v (calls.Submit 0 t))
 
--- The calls of a line, in order, on an engine with this view. Only a copy and a fill look at the view.
+-- The calls of a line, in order, on an engine with this view. Only those of a copy and a fill depend on the view.
 abbrev pub calls_of : View → Statement → List Call
 calls_of v (Copy lists) =
     let t = plain_copy lists.src lists.dst in
@@ -77,7 +80,7 @@ calls_of v (Submit ch line) =
 calls_of v (Step ch count) = replicate count (calls.Step ch)
 calls_of v line = call_of line
 
--- the view that the calls of a line leave
+-- the view after the calls of a line
 abbrev pub view_after : View → Statement → View
 view_after v line = (answers v (calls_of v line)).1
 
@@ -93,24 +96,24 @@ abbrev pub call_lines : List Call → List Reply → List (List ℕ)
 call_lines (call ∷ calls) (reply ∷ replies) = call_line call reply ∷ call_lines calls replies
 call_lines _ _ = []
 
--- The line of a transfer that breaks a rule; else these lines.
+-- The refusal line if the transfer breaks a rule, else these lines.
 abbrev pub rule_or : Option TransferFault → List (List ℕ) → List (List ℕ)
 rule_or (Some fault) lines = refused_line (transfer_fault_name fault) ∷ []
 rule_or None lines = lines
 
--- the last of some replies
+-- the last of these replies
 abbrev pub last_of : Reply → List Reply → Reply
 last_of reply [] = reply
 last_of reply (next ∷ rest) = last_of next rest
 
--- What a copy or a fill prints, by how its line starts: that channel 0 is in use, where no call is made; the refusal of its
--- submit, where no other call is made; else the last answer of its steps.
+-- What a copy or a fill whose transfer meets its rules prints, by the replies to its calls: `refused ChannelInUse`
+-- without any reply, the submit's reply if it is the only one, else `start` followed by the last reply.
 abbrev pub through_lines : List ℕ → List Reply → List (List ℕ)
 through_lines start [] = refused_line (codes "ChannelInUse") ∷ []
 through_lines start (submitted ∷ []) = reply_text submitted ∷ []
 through_lines start (submitted ∷ issued ∷ steps) = through_line start (last_of issued steps) ∷ []
 
--- What a line prints, by the replies to its calls alone.
+-- What a line prints, computed from the replies to its calls alone.
 abbrev pub reply_lines : Statement → List Reply → List (List ℕ)
 reply_lines (Copy lists) replies =
     rule_or (refusal_of (plain_copy lists.src lists.dst)) (through_lines (codes "copy ") replies)
@@ -121,12 +124,13 @@ reply_lines (Submit ch line) replies =
 reply_lines (Step ch count) replies = step_lines ch (map reply_text replies)
 reply_lines line replies = call_lines (call_of line) replies
 
--- The same of every line: `totals`, which makes no call, prints the counts of the view that it finds.
+-- What any line prints, computed from the replies to its calls. `totals` makes no call and prints the counts of the
+-- view.
 abbrev pub lines_from : View → Statement → List Reply → List (List ℕ)
 lines_from v Totals replies = totals_of v ∷ []
 lines_from v line replies = reply_lines line replies
 
--- what each line prints, by the replies to its own calls
+-- what each line prints, computed from the replies to its own calls
 abbrev pub groups_from : View → List Statement → List Reply → List (List (List ℕ))
 groups_from v [] replies = []
 groups_from v (line ∷ rest) replies =
@@ -143,25 +147,28 @@ opening_of script = new_view script.size script.channels
 abbrev pub script_calls : RunScript → List Call
 script_calls script = calls_in (opening_of script) script.statements
 
--- What a script prints, by the replies to its calls: nothing for its memory line, then what its lines print.
+-- What a script prints, computed from the replies to its calls: nothing for its memory line, then what its lines
+-- print, with status 0.
 abbrev pub printed_from : RunScript → List Reply → Printed
 printed_from script replies =
     record { groups = [] ∷ groups_from (opening_of script) script.statements replies; status = 0 }
 
--- no reply is out of memory
+-- no reply is a refusal with `NoMemory`
 abbrev pub HaveMemory : List Reply → Type 0
 HaveMemory replies = All (λ reply. reply ≢ Refused NoMemory) replies
 
--- An engine of any view answers the calls of a line by replies of which what the line prints is made, and then has the view
--- that the line leaves.
+-- For every view and every line there are replies, none of them out of memory, such that an engine with this view may
+-- answer the line's calls with them and then has the view after the line. The line prints what `lines_from` computes
+-- from these replies.
 abbrev pub LinesPrintAnswers : Type 0
 LinesPrintAnswers =
     (v : View) (line : Statement) → (replies : List Reply) × HaveMemory replies
     × AreAnswers v (calls_of v line) replies (line_answer v line).1
     × ((line_answer v line).0 ≡ lines_from v line replies)
 
--- For a script without a fault an engine can be made, all calls of the script can be made, and a new engine answers them by
--- replies of which what is printed is made.
+-- For a script without a fault, the engine of its memory line can be made (`new_fault` is `None`), each call of the
+-- script satisfies `IsCall`, and there are replies, none of them out of memory, that a new engine may give to these
+-- calls and from which `printed_from` computes what is printed.
 abbrev pub ScriptsPrintAnswers : Type 0
 ScriptsPrintAnswers =
     (input : List ℕ) (script : RunScript) → run_script_of input ≡ Ok script
@@ -170,7 +177,8 @@ ScriptsPrintAnswers =
     × AreAnswers (opening_of script) (script_calls script) replies left
     × (printed input ≡ printed_from script replies))
 
--- However a new engine answers the calls of a script, what is printed is made of its replies, if none is out of memory.
+-- Whatever replies a new engine gives to the calls of a script: if none is out of memory, `printed_from` computes what
+-- is printed from them.
 abbrev pub ScriptsPrintReplies : Type 0
 ScriptsPrintReplies =
     (input : List ℕ) (script : RunScript) (replies : List Reply) (left : View) → run_script_of input ≡ Ok script
@@ -179,33 +187,35 @@ ScriptsPrintReplies =
 
 -- ---- copies and fills
 
--- the steps of a copy or a fill that isn't cut off: it goes on after each answer but the last
+-- the replies to the steps of a copy or a fill that isn't cut off: there is at least one, the last is neither Started
+-- nor Moved, and all others are Started or Moved
 abbrev pub StepsEnd : List Reply → Type 0
 StepsEnd [] = ⊥
 StepsEnd (last ∷ []) = goes_on last ≡ false
 StepsEnd (reply ∷ rest) = (goes_on reply ≡ true) × StepsEnd rest
 
--- The replies to the calls of a copy or a fill: none; a refusal of its submit; or those to its submit, issue and steps.
+-- The replies to the calls of a whole copy or fill: none; or only a refusal of its submit; or a cookie, the reply to
+-- the issue, and replies to steps that end (`StepsEnd`).
 abbrev pub IsWholeCopy : List Reply → Type 0
 IsWholeCopy [] = Unit {0}
 IsWholeCopy (Refused fault ∷ []) = Unit {0}
 IsWholeCopy (Cookie cookie ∷ issued ∷ steps) = StepsEnd steps
 IsWholeCopy _ = ⊥
 
--- what holds of the replies to the calls of a line, where it is a copy or a fill
+-- the replies to the calls of a copy or a fill satisfy `IsWholeCopy`; nothing is required of other lines
 abbrev pub IsWhole : Statement → List Reply → Type 0
 IsWhole (Copy lists) replies = IsWholeCopy replies
 IsWhole (Fill src dst) replies = IsWholeCopy replies
 IsWhole _ replies = Unit {0}
 
--- the same of the replies to the calls of lines, one line after another
+-- `IsWhole` holds for each of these lines, one after another, with the replies to its own calls
 abbrev pub AreWhole : View → List Statement → List Reply → Type 0
 AreWhole v [] replies = Unit {0}
 AreWhole v (line ∷ rest) replies =
     let own = length (calls_of v line) in
     IsWhole line (take own replies) × AreWhole (view_after v line) rest (drop own replies)
 
--- However a new engine answers the calls of a script, no copy or fill is cut off, if no reply is out of memory.
+-- Whatever replies a new engine gives to the calls of a script: if none is out of memory, no copy or fill is cut off.
 abbrev pub CopiesAreWhole : Type 0
 CopiesAreWhole =
     (input : List ℕ) (script : RunScript) (replies : List Reply) (left : View) → run_script_of input ≡ Ok script

@@ -17,7 +17,7 @@ use Rattle.dma_commands.specs.Transfers.{transfer_of}
 abbrev pub unfit_line : ℕ → TransferFault → List ℕ
 unfit_line line fault = concat (codes "line " ∷ decimal line ∷ codes ": " ∷ transfer_fault_name fault ∷ [])
 
--- `cost N`, for a program that has one
+-- `cost N` for a program with a cost, else no line
 abbrev pub cost_lines : Option ℕ → List (List ℕ)
 cost_lines None = []
 cost_lines (Some cost) = concat (codes "cost " ∷ decimal cost ∷ []) ∷ []
@@ -27,12 +27,12 @@ abbrev pub program_printed : ProgramValue → List (List ℕ)
 program_printed program =
     program_lines program.bytes ++ concat (codes "bytes " ∷ decimal (length program.bytes) ∷ []) ∷ cost_lines program.cost
 
--- A transfer that meets its rules prints its program, another the first rule that it breaks.
+-- What is printed for a transfer: its program, with status 0, or the first rule that it breaks, as a refusal.
 abbrev pub transfer_printed : PlanLine → Option TransferFault → Printed
 transfer_printed line None = record { groups = program_printed (compiled (transfer_of line.transfer)) ∷ []; status = 0 }
 transfer_printed line (Some fault) = refusal (unfit_line line.line fault)
 
--- What is printed for a line that is read, and for an input that has a fault.
+-- What is printed for a parsed line, or for an input with a fault.
 abbrev pub plan_printed_of : Result PlanLine Fault → Printed
 plan_printed_of (Ok line) = transfer_printed line (refusal_of (transfer_of line.transfer))
 plan_printed_of (Err fault) = refusal (fault_line fault)

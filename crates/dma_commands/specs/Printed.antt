@@ -1,4 +1,4 @@
--- What is printed of refusals, calls and replies, without line feeds (profile).
+-- The printed text of refusals, calls and replies, without line feeds (profile).
 use Rattle.std.specs.Prelude.{◌≡◌, ℕ, ◌++◌, List, [], Option, Some, None, codes, decimal, length, take}
 use Rattle.dma_mem.specs.declared.transfer.TransferFault.{TransferFault}
 use Rattle.dma_mem.specs.declared.transfer.TransferFault.TheVariants as transfers
@@ -21,7 +21,7 @@ use Rattle.dma_script.specs.Printing.{hex_address, spaced_bytes}
 pub record Begins (whole front : List ℕ) : Type 0 where
   pub front_is : take (length front) whole ≡ front
 
--- the name of a refusal of a transfer's rules
+-- the name of a broken transfer rule, or `NoMemory`
 abbrev pub transfer_fault_name : TransferFault → List ℕ
 transfer_fault_name transfers.EmptyList = codes "EmptyList"
 transfer_fault_name transfers.TooManySegments = codes "TooManySegments"
@@ -34,7 +34,7 @@ transfer_fault_name transfers.SourceMeetsDestination = codes "SourceMeetsDestina
 transfer_fault_name transfers.BadEvent = codes "BadEvent"
 transfer_fault_name transfers.NoMemory = codes "NoMemory"
 
--- a refusal of a call: its name, and what it names
+-- the text of a call's refusal: its name, then the channel and the cookie for `Busy` and `Running`
 abbrev pub fault_text : EngineFault → List ℕ
 fault_text faults.OutOfMemoryRange = codes "OutOfMemoryRange"
 fault_text (faults.Busy ch cookie) = codes "Busy " ++ decimal ch ++ codes " " ++ decimal cookie
@@ -61,12 +61,12 @@ result_name Aborted = codes "Aborted"
 abbrev pub residue_text : TransResult → ℕ → List ℕ
 residue_text result residue = result_name result ++ codes " residue " ++ decimal residue
 
--- how a cookie finished, if it did
+-- the outcome of a cookie, or `none`
 abbrev pub outcome_text : Option Outcome → List ℕ
 outcome_text None = codes "none"
 outcome_text (Some x) = residue_text x.result x.residue
 
--- how far a cookie is
+-- the name of a cookie's status
 abbrev pub status_name : Status → List ℕ
 status_name Unknown = codes "Unknown"
 status_name InProgress = codes "InProgress"
@@ -83,7 +83,7 @@ turn_text Paused = codes "paused"
 turn_text Halted = codes "halted"
 turn_text (Finished cookie result residue) = codes "finished " ++ decimal cookie ++ codes " " ++ residue_text result residue
 
--- what is printed of a reply
+-- the text of a reply
 abbrev pub reply_text : Reply → List ℕ
 reply_text replies.Done = codes "ok"
 reply_text (replies.Bytes bytes) = spaced_bytes bytes
@@ -94,7 +94,7 @@ reply_text (replies.State status) = status_name status
 reply_text (replies.Result outcome) = outcome_text outcome
 reply_text (replies.Refused fault) = refused_line (fault_text fault)
 
--- what is printed of a call before its reply
+-- the words that are printed before the reply to a call
 abbrev pub call_words : Call → List ℕ
 call_words (calls.Read addr len) = codes "read 0x" ++ hex_address addr
 call_words (calls.Submit ch transfer) = codes "cookie "
@@ -104,7 +104,7 @@ call_words (calls.Status ch cookie) = codes "status "
 call_words (calls.Result ch cookie) = codes "result "
 call_words _ = []
 
--- the line that a call prints, by its reply; a refusal stands alone
+-- the line of a call and its reply; a refusal is printed without the words of the call
 abbrev pub call_line : Call → Reply → List ℕ
 call_line call (replies.Refused fault) = refused_line (fault_text fault)
 call_line call reply = call_words call ++ reply_text reply

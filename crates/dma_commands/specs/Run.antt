@@ -33,29 +33,30 @@ Answered = List (List ℕ) × View
 abbrev pub told : List ℕ → View → Answered
 told line v = (line ∷ [], v)
 
--- a line that is one call
+-- a script line that makes one call
 abbrev pub call_answer : View → Call → Answered
 call_answer v call = told (call_line call (answer v call).0) (answer v call).1
 
--- a transfer's own rules are tested before anything else; a refusal changes nothing
+-- prints the rule that the transfer breaks and doesn't change the view; if it breaks none, this answer
 abbrev pub unless_unfit : Option TransferFault → View → Answered → Answered
 unless_unfit (Some fault) v answered = told (refused_line (transfer_fault_name fault)) v
 unless_unfit None v answered = answered
 
--- a submit line: its transfer's own rules first, then the call
+-- a submit line: checks the transfer's own rules, then makes the call
 abbrev pub submit_answer : View → ℕ → TransferLine → Answered
 submit_answer v ch line =
     unless_unfit (refusal_of (transfer_of line)) v (call_answer v (calls.Submit ch (transfer_of line)))
 
 -- ---- step lines
 
--- one text more before the runs of those that follow it
+-- the runs with one more text in front: it is counted in the first run if the texts are equal, else it is a run of its
+-- own
 abbrev pub joined : List ℕ → List (List ℕ × ℕ) → List (List ℕ × ℕ)
 joined text [] = (text, 1) ∷ []
 joined text ((next, count) ∷ rest) =
     if bytes_eq text next then (text, count + 1) ∷ rest else (text, 1) ∷ (next, count) ∷ rest
 
--- each run of equal texts that follow each other, and how many they are
+-- the runs of equal consecutive texts, each with its length
 abbrev pub runs_of : List (List ℕ) → List (List ℕ × ℕ)
 runs_of [] = []
 runs_of (text ∷ rest) = joined text (runs_of rest)
@@ -64,11 +65,11 @@ runs_of (text ∷ rest) = joined text (runs_of rest)
 abbrev pub step_line : ℕ → List ℕ × ℕ → List ℕ
 step_line ch run = codes "step " ++ decimal ch ++ codes " " ++ run.0 ++ codes " x" ++ decimal run.1
 
--- the lines that answers of steps of a channel print
+-- the lines that are printed for the answers to steps of a channel
 abbrev pub step_lines : ℕ → List (List ℕ) → List (List ℕ)
 step_lines ch texts = map (step_line ch) (runs_of texts)
 
--- a step line: as many steps of the channel, one after another
+-- a step line: `count` steps of the channel, one after another
 abbrev pub step_answer : View → ℕ → ℕ → Answered
 step_answer v ch count =
     let after = answers v (replicate count (calls.Step ch)) in
@@ -81,44 +82,45 @@ abbrev pub is_in_use : View → Bool
 is_in_use v =
     nat_lt 0 (unfinished (channel (object_of v) 0)) || ((schedule_at v 0).paused || (channel (object_of v) 0).halted)
 
--- an answer after which a copy or a fill goes on
+-- whether a copy or a fill continues after this answer: it is Started or Moved
 abbrev pub goes_on : Reply → Bool
 goes_on (Turned (Started cookie)) = true
 goes_on (Turned Moved) = true
 goes_on _ = false
 
--- Steps of channel 0 until an answer is neither Started nor Moved, or after so many that were: the last answer, and the view
--- after it.
+-- Steps channel 0 until an answer is neither Started nor Moved, and at most n + 1 times for the argument n. The result
+-- is the last answer and the view after it.
 unfoldable pub stepped_through : ℕ → View → Reply × View
 stepped_through zero v = answer v (calls.Step 0)
 stepped_through (suc n) v =
     let first = answer v (calls.Step 0) in
     if goes_on first.0 then stepped_through n first.1 else first
 
--- `copy ANSWER` or `fill ANSWER`, by how the line starts: `copy ` or `fill `
+-- `copy ANSWER` or `fill ANSWER`, where `start` is `copy ` or `fill `
 abbrev pub through_line : List ℕ → Reply → List ℕ
 through_line start reply = start ++ reply_text reply
 
--- more steps than any copy or fill takes (`CopiesEnd`)
+-- the limit for `stepped_through` in a copy or a fill; it cuts none of them off (`CopiesEnd`)
 abbrev pub most_steps : ℕ
 most_steps = 524288
 
--- What was submitted to channel 0 is issued and stepped through.
+-- Issues channel 0, steps it with `stepped_through`, and prints the last answer.
 abbrev pub carried_through : List ℕ → View → Answered
 carried_through start v =
     let last = stepped_through most_steps (answer v (calls.Issue 0)).1 in told (through_line start last.0) last.1
 
--- a reply that is a refusal
+-- whether a reply is a refusal
 abbrev pub is_refused : Reply → Bool
 is_refused (Refused fault) = true
 is_refused _ = false
 
--- what follows a transfer's submission
+-- a copy or a fill after its submit: prints a refusal of the submit, else issues channel 0 and steps it
 abbrev pub copied_after : List ℕ → Reply × View → Answered
 copied_after start after =
     if is_refused after.0 then told (reply_text after.0) after.1 else carried_through start after.1
 
--- a copy or a fill whose transfer meets its rules is carried out, unless channel 0 is in use
+-- a copy or a fill whose transfer meets its rules: prints `refused ChannelInUse` and changes nothing if channel 0 is
+-- in use, else submits the transfer to channel 0 and continues with `copied_after`
 abbrev pub copied : List ℕ → View → Descriptor → Answered
 copied start v t =
     if is_in_use v then told (refused_line (codes "ChannelInUse")) v else copied_after start (answer v (calls.Submit 0 t))
@@ -127,11 +129,11 @@ copied start v t =
 abbrev pub plain_copy : List Segment → List Segment → Descriptor
 plain_copy src dst = record { fill = false; src = src; dst = dst; wait = None; signal = None }
 
--- that of a fill line
+-- the transfer of a fill line, which neither waits nor signals
 abbrev pub plain_fill : ℕ → List Segment → Descriptor
 plain_fill src dst = filling src dst None None
 
--- a copy or a fill line, by how it starts: its transfer's own rules first
+-- a copy or a fill line whose printed answer begins with `start`: checks the transfer's own rules first
 abbrev pub through_answer : View → List ℕ → Descriptor → Answered
 through_answer v start t = unless_unfit (refusal_of t) v (copied start v t)
 
@@ -143,8 +145,9 @@ copy_answer v src dst = through_answer v (codes "copy ") (plain_copy src dst)
 abbrev pub fill_answer : View → ℕ → List Segment → Answered
 fill_answer v src dst = through_answer v (codes "fill ") (plain_fill src dst)
 
--- The steps of a copy or a fill end by themselves: where channel 0 of a sound view isn't in use, and a transfer is submitted
--- to it and issued, the last answer of its steps is one after which neither goes on. So none is cut off by most_steps.
+-- If channel 0 of a sound view isn't in use, and a transfer that meets its rules is submitted to it with success and
+-- issued, then the last answer of `stepped_through most_steps` is neither Started nor Moved. So `most_steps` cuts off
+-- no copy or fill.
 abbrev pub CopiesEnd : Type 0
 CopiesEnd =
     (v : View) (t : Descriptor) (cookie : ℕ) (w : View) → IsSound v → IsTransfer t → is_in_use v ≡ false →
@@ -162,7 +165,7 @@ totals_line entries steps running =
 abbrev pub totals_of : View → List ℕ
 totals_of v = totals_line (length v.history) v.steps (length (running (object_of v) v.schedule))
 
--- What a line prints to the view that it finds, and the view after it.
+-- What a script line prints on an engine with this view, and the view after it.
 abbrev pub line_answer : View → Statement → Answered
 line_answer v (Write addr bytes) = call_answer v (calls.Write addr bytes)
 line_answer v (Read segment) = call_answer v (calls.Read segment.addr segment.len)
@@ -182,12 +185,13 @@ line_answer v (Raise event) = call_answer v (calls.Raise event)
 line_answer v Checkpoint = call_answer v calls.Checkpoint
 line_answer v Totals = told (totals_of v) v
 
--- what each line prints, the first of them finding this view
+-- what each line prints: the first runs on this view, each other on the view after the line before it
 abbrev pub lines_answered : View → List Statement → List (List (List ℕ))
 lines_answered v [] = []
 lines_answered v (line ∷ rest) = (line_answer v line).0 ∷ lines_answered (line_answer v line).1 rest
 
--- A script that is read prints nothing for its memory line, and then what its lines print; another prints its first fault.
+-- What is printed for a parsed script: nothing for its memory line, then what its lines print, with status 0. A script
+-- with a fault prints its first fault.
 abbrev pub printed_of : Result RunScript Fault → Printed
 printed_of (Ok script) =
     record { groups = [] ∷ lines_answered (new_view script.size script.channels) script.statements; status = 0 }

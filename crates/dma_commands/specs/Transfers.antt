@@ -1,4 +1,4 @@
--- The transfer that a line names.
+-- The transfer that a script line describes.
 use Rattle.std.specs.Prelude.{ℕ, false, List, Option}
 use Rattle.dma_mem.specs.declared.segment.Segment.{Segment}
 use Rattle.dma_mem.specs.Places.{Descriptor, filling}
@@ -6,7 +6,7 @@ use Rattle.dma_script.specs.declared.plan.Origin.{Origin}
 use Rattle.dma_script.specs.declared.plan.Origin.TheVariants as origins
 use Rattle.dma_script.specs.declared.plan.TransferLine.{TransferLine}
 
--- from the places of a list, or a fill from one place
+-- a copy from a list of segments, or a fill with the byte at one address
 abbrev pub transfer_from : Origin → List Segment → Option ℕ → Option ℕ → Descriptor
 transfer_from (origins.List src) dst wait signal =
     record { fill = false; src = src; dst = dst; wait = wait; signal = signal }

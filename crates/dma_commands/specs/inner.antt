@@ -1,3 +1,3 @@
--- What no reader of a command's contract has to believe: what clauses of the functions below it say on the way.
+-- Definitions for the clauses of helper functions. The contracts of the commands don't use them.
 pub mod RunSteps
 pub mod Counting

@@ -1,4 +1,4 @@
-//! The command `asm`: it prints the bytes of the program that a text writes.
+//! The command `asm`: prints the bytes of the program that an assembly text describes.
 ghost use Rattle.std.specs.Prelude.{◌≡◌, ◌≢◌, ◌≤◌, ◌+◌, ◌++◌, ◌∷◌, [], OnOk, OnErr, IfSome};
 ghost use Rattle.dma_script.specs.Command.{Ends, failures, longest_input, printed_within, text_of};
 ghost use Rattle.dma_commands.specs.Assembled.{AsmPrints, asm_printed, cause_name, fault_line};
@@ -10,7 +10,7 @@ use dma_script::output::Sink;
 use dma_script::printing::{push_line, push_program};
 use std::alloc::{AllocError, Global};
 
-/// The name of a cause.
+/// Returns the name of a cause.
 fn cause_name(cause: Cause) -> &'static str
     ensures { result.now ≡ cause_name cause }
 {
@@ -21,7 +21,8 @@ fn cause_name(cause: Cause) -> &'static str
     }
 }
 
-/// Appends the line of a fault, or nothing. Where memory was refused there is no such line.
+/// Appends the line of a fault. Fails with `AllocError`, and appends nothing, if memory runs out or if the fault
+/// itself is `NoMemory`, which has no line.
 fn push_asm_fault(alloc: Global, out: &mut Vec<u8>, fault: AsmFault) -> Result<(), AllocError>
     ensures ok { OnOk result ((fault ≢ AsmFault.NoMemory) × (out.new.items ≡ out.old.items ++ text_of (fault_line fault ∷ []))) }
     ensures err { OnErr result (out.new.items ≡ out.old.items) }
@@ -33,7 +34,7 @@ fn push_asm_fault(alloc: Global, out: &mut Vec<u8>, fault: AsmFault) -> Result<(
     }
 }
 
-/// Appends the line of a line's fault, or nothing.
+/// Appends the line of a fault in line `n`, or appends nothing and fails if memory runs out.
 fn push_cause(alloc: Global, out: &mut Vec<u8>, n: usize, cause: Cause) -> Result<(), AllocError>
     ensures ok { OnOk result (out.new.items ≡ out.old.items ++ text_of (fault_line (AsmFault.Line n cause) ∷ [])) }
     ensures err { OnErr result (out.new.items ≡ out.old.items) }
@@ -43,7 +44,8 @@ fn push_cause(alloc: Global, out: &mut Vec<u8>, n: usize, cause: Cause) -> Resul
     push_line(out, line.as_bytes())
 }
 
-/// Appends the line of the first line that is too much, or nothing.
+/// Appends the fault line for line `n`, the first with which the program is too long, or appends nothing and fails if
+/// memory runs out.
 fn push_too_long(alloc: Global, out: &mut Vec<u8>, n: usize) -> Result<(), AllocError>
     ensures ok { OnOk result (out.new.items ≡ out.old.items ++ text_of (fault_line (AsmFault.ProgramTooLong n) ∷ [])) }
     ensures err { OnErr result (out.new.items ≡ out.old.items) }
@@ -83,13 +85,14 @@ impl Command for Asm {
     ] };
 }
 
-/// The law that what `asm` prints is told by the relation of texts and programs alone.
+/// Law: what `asm` prints follows from the relations between texts and programs alone.
 pub fn asm_prints()
     ensures { AsmPrints }
 {}
 
-/// Reads a program's text, writes its bytes or the line of its first fault and nothing else, and gives the exit status: 0,
-/// or 1 for a fault of the text or a failing stream, or 3 for want of memory, where nothing is written.
+/// Reads an assembly text, writes the bytes of its program or the line of its first fault and nothing else, and
+/// returns the exit status: 0 on success, 1 for a fault of the text or a failing stream, 3 if out of memory, in which
+/// case nothing is written.
 pub fn asm_main<R: Source, W: Sink>(alloc: Global, reader: &mut R, writer: &mut W) -> u8
     ensures ends { IfSome (R.remaining reader.old) (λ input. Ends
         (failures R.has_failed reader.old reader.new) (failures W.has_failed writer.old writer.new)

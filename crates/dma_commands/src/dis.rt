@@ -1,4 +1,4 @@
-//! The command `dis`: it prints the text of a program's bytes.
+//! The command `dis`: prints the disassembled text of a program's bytes.
 ghost use Rattle.std.specs.Prelude.{◌≡◌, ◌≤◌, ◌+◌, ◌++◌, ◌∷◌, [], OnOk, OnErr, IfOk, IfSome};
 ghost use Rattle.dma_insn.specs.declared.codec.DecodeFault.{DecodeFault};
 ghost use Rattle.dma_script.specs.Command.{Ends, failures, longest_input, printed_text, printed_within, text_of};
@@ -13,7 +13,7 @@ use dma_script::pairs::{PairsError, push_pairs_fault, read_pairs};
 use dma_script::printing::{push_byte, push_line};
 use std::alloc::{AllocError, Global};
 
-/// The line of a fault.
+/// Returns the line of a decoding fault.
 fn decode_fault_line(
     alloc: Global,
     offset: usize,
@@ -38,7 +38,7 @@ fn decode_fault_line(
     }
 }
 
-/// Appends the line of a fault, or nothing.
+/// Appends the line of a decoding fault, or appends nothing and fails if memory runs out.
 fn push_decode_fault(
     alloc: Global,
     out: &mut Vec<u8>,
@@ -52,7 +52,8 @@ fn push_decode_fault(
     push_line(out, &line)
 }
 
-/// Appends a text, or nothing. Where nothing was there, the text itself takes the place: a long one is not copied.
+/// Appends a text, or appends nothing and fails if memory runs out. An empty output is replaced by the text, so that a
+/// long text is not copied.
 fn push_whole(out: &mut Vec<u8>, text: Vec<u8>) -> Result<(), AllocError>
     ensures ok { OnOk result (out.new.items ≡ out.old.items ++ text.items) }
     ensures err { OnErr result (out.new.items ≡ out.old.items) }
@@ -64,7 +65,8 @@ fn push_whole(out: &mut Vec<u8>, text: Vec<u8>) -> Result<(), AllocError>
     out.extend_from_slice(&text)
 }
 
-/// Appends the text of a program's bytes or the line of their first fault, and gives the status; or appends nothing.
+/// Appends the text of a program's bytes, or the line of their first fault, and returns the status. Appends nothing
+/// and fails if memory runs out.
 fn push_text(alloc: Global, out: &mut Vec<u8>, bytes: &[u8]) -> Result<u8, AllocError>
     ensures text { OnOk result (out.new.items ≡ out.old.items ++ printed_text (lines_printed (lines_from 0 0 bytes.now)).groups) }
     ensures status { IfOk result (λ status. status ≡ (lines_printed (lines_from 0 0 bytes.now)).status) }
@@ -115,14 +117,14 @@ impl Command for Dis {
     ] };
 }
 
-/// The law that what `dis` prints for pairs of digits is told by the relation of bytes and texts alone.
+/// Law: what `dis` prints for pairs of digits follows from the relations between bytes and texts alone.
 pub fn dis_prints()
     ensures { DisPrints }
 {}
 
-/// Reads pairs of hexadecimal digits, writes the text of the program that they spell or the line of the first fault and
-/// nothing else, and gives the exit status: 0, or 1 for a fault of the input or a failing stream, or 3 for want of memory,
-/// where nothing is written.
+/// Reads pairs of hexadecimal digits, writes the text of the program that they spell or the line of the first fault
+/// and nothing else, and returns the exit status: 0 on success, 1 for a fault of the input or a failing stream, 3 if
+/// out of memory, in which case nothing is written.
 pub fn dis_main<R: Source, W: Sink>(alloc: Global, reader: &mut R, writer: &mut W) -> u8
     ensures ends { IfSome (R.remaining reader.old) (λ input. Ends
         (failures R.has_failed reader.old reader.new) (failures W.has_failed writer.old writer.new)

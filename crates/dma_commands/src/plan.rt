@@ -1,4 +1,4 @@
-//! The command `plan`: it prints the program of a transfer, and what it costs.
+//! The command `plan`: prints the program of a transfer and its cost.
 ghost use Rattle.std.specs.Prelude.{◌≡◌, ◌≢◌, ◌≤◌, ◌+◌, ◌++◌, ◌∷◌, [], OnOk, OnErr, IfOk, IfSome};
 ghost use Rattle.dma_mem.specs.Refusals.{refusal_of};
 ghost use Rattle.dma_script.specs.Command.{Ends, failures, longest_input, printed_text, printed_within, text_of};
@@ -18,7 +18,8 @@ use dma_script::plan::{PlanLine, read_plan};
 use dma_script::printing::{push_fault, push_line, push_program};
 use std::alloc::{AllocError, Global};
 
-/// Appends the line of a transfer that breaks a rule, or nothing. Where memory was refused there is no such line.
+/// Appends the line for a transfer that breaks a rule. Fails with `AllocError`, and appends nothing, if memory runs
+/// out or if the fault itself is `NoMemory`, which has no line.
 fn push_rule(
     alloc: Global,
     out: &mut Vec<u8>,
@@ -33,7 +34,7 @@ fn push_rule(
     push_line(out, text.as_bytes())
 }
 
-/// The lines of a program: its bytes, their number, and its cost.
+/// Returns the printed lines of a program: its bytes, their number, and its cost if it has one.
 fn program_text(alloc: Global, program: &Program) -> Result<Vec<u8>, AllocError>
     ensures { IfOk result (λ text. text.items ≡ text_of (program_printed program.now)) }
 {
@@ -49,8 +50,8 @@ fn program_text(alloc: Global, program: &Program) -> Result<Vec<u8>, AllocError>
     Ok(text)
 }
 
-/// Appends the program of a transfer or the line of the first rule that it breaks, and gives the status; or appends
-/// nothing.
+/// Appends the program of a transfer, or the line of the first rule that it breaks, and returns the status. Appends
+/// nothing and fails if memory runs out.
 fn push_transfer(alloc: Global, out: &mut Vec<u8>, line: PlanLine) -> Result<u8, AllocError>
     ensures text { OnOk result (out.new.items ≡ out.old.items ++ printed_text (transfer_printed line (refusal_of (transfer_of line.transfer))).groups) }
     ensures status { IfOk result (λ status. status ≡ (transfer_printed line (refusal_of (transfer_of line.transfer))).status) }
@@ -110,8 +111,9 @@ impl Command for Plan {
     ] };
 }
 
-/// Reads the line of a transfer, writes its program or the line of the first fault and nothing else, and gives the exit
-/// status: 0, or 1 for a fault of the input or a failing stream, or 3 for want of memory, where nothing is written.
+/// Reads the line of a transfer, writes its program or the line of the first fault and nothing else, and returns the
+/// exit status: 0 on success, 1 for a fault of the input or a failing stream, 3 if out of memory, in which case
+/// nothing is written.
 pub fn plan_main<R: Source, W: Sink>(alloc: Global, reader: &mut R, writer: &mut W) -> u8
     ensures ends { IfSome (R.remaining reader.old) (λ input. Ends
         (failures R.has_failed reader.old reader.new) (failures W.has_failed writer.old writer.new)

@@ -1,7 +1,8 @@
-//! What is printed of refusals, calls and replies.
+//! Printing of refusals, calls and replies.
 //!
-//! The parts of a line are appended to the output one after another. Where one is refused memory, [`end_line`] removes the
-//! line again. So each function promises that the output still begins with what it was before (`begins`).
+//! The parts of a line are appended to the output one after another. If memory runs out in the middle of a line,
+//! [`end_line`] removes its parts. For this, each function guarantees that the output still begins with its former
+//! bytes, even if it fails (`begins`).
 #![tactic(auto, using(crate::proofs::Begun::begins_more, crate::proofs::Begun::begins_pushed, crate::proofs::Begun::begins_same, crate::proofs::Begun::line_ends, crate::proofs::Begun::line_gone))]
 
 ghost use Rattle.std.specs.Prelude.{◌≡◌, ◌≢◌, ◌≤◌, ◌++◌, ◌∷◌, [], IfOk, Ok, OnOk, OnErr, codes, decimal, length, take};
@@ -15,7 +16,7 @@ use dma_mem::transfer::TransferFault;
 use dma_script::printing::{push_address, push_bytes, push_decimal};
 use std::alloc::AllocError;
 
-/// The name of a refusal of a transfer's rules.
+/// Returns the name of a broken transfer rule, or `NoMemory`.
 fn transfer_fault_name(fault: TransferFault) -> &'static str
     ensures { result.now ≡ transfer_fault_name fault }
 {
@@ -33,7 +34,7 @@ fn transfer_fault_name(fault: TransferFault) -> &'static str
     }
 }
 
-/// The name of the rule that a transfer breaks. Where memory was refused there is none, and the error comes.
+/// Returns the name of the rule that a transfer breaks. Fails with `AllocError` for `NoMemory`, which is no rule.
 pub(crate) fn rule_name(fault: TransferFault) -> Result<&'static str, AllocError>
     ensures ok { IfOk result (λ name. (fault ≢ TransferFault.NoMemory) × (name.now ≡ transfer_fault_name fault)) }
     ensures err { OnErr result (fault ≡ TransferFault.NoMemory) }
@@ -44,7 +45,7 @@ pub(crate) fn rule_name(fault: TransferFault) -> Result<&'static str, AllocError
     }
 }
 
-/// The name of a result.
+/// Returns the name of a result.
 fn result_name(outcome: TransResult) -> &'static str
     ensures { result.now ≡ result_name outcome }
 {
@@ -56,7 +57,7 @@ fn result_name(outcome: TransResult) -> &'static str
     }
 }
 
-/// The name of how far a cookie is.
+/// Returns the name of a cookie's status.
 fn status_name(status: Status) -> &'static str
     ensures { result.now ≡ status_name status }
 {
@@ -67,7 +68,7 @@ fn status_name(status: Status) -> &'static str
     }
 }
 
-/// A text, at the end.
+/// Appends a text.
 #[inline(always)]
 pub(crate) fn push_text(line: &mut Vec<u8>, text: &str) -> Result<(), AllocError>
     ensures ok { OnOk result (line.new.items ≡ line.old.items ++ text.now) }
@@ -76,7 +77,7 @@ pub(crate) fn push_text(line: &mut Vec<u8>, text: &str) -> Result<(), AllocError
     line.extend_from_slice(text.as_bytes())
 }
 
-/// A word and two numbers, at the end.
+/// Appends a word and two numbers, which a space separates.
 fn push_pair(line: &mut Vec<u8>, word: &str, first: u64, second: u64) -> Result<(), AllocError>
     ensures ok { OnOk result (line.new.items ≡ line.old.items ++ (word.now ++ decimal first ++ codes " " ++ decimal second)) }
     ensures begins { Begins line.new.items line.old.items }
@@ -87,7 +88,7 @@ fn push_pair(line: &mut Vec<u8>, word: &str, first: u64, second: u64) -> Result<
     push_decimal(line, second)
 }
 
-/// A word and a number, at the end.
+/// Appends a word and a number.
 #[inline(always)]
 pub fn push_worded(line: &mut Vec<u8>, word: &str, number: u64) -> Result<(), AllocError>
     ensures ok { OnOk result (line.new.items ≡ line.old.items ++ (word.now ++ decimal number)) }
@@ -97,7 +98,7 @@ pub fn push_worded(line: &mut Vec<u8>, word: &str, number: u64) -> Result<(), Al
     push_decimal(line, number)
 }
 
-/// A refusal of a call, at the end.
+/// Appends the name of a call's refusal, with the channel and the cookie for `Busy` and `Running`.
 fn push_fault(line: &mut Vec<u8>, fault: EngineFault) -> Result<(), AllocError>
     ensures ok { OnOk result (line.new.items ≡ line.old.items ++ fault_text fault) }
     ensures begins { Begins line.new.items line.old.items }
@@ -119,7 +120,7 @@ fn push_fault(line: &mut Vec<u8>, fault: EngineFault) -> Result<(), AllocError>
     }
 }
 
-/// `NAME residue N`, at the end.
+/// Appends `NAME residue N`.
 fn push_residue(line: &mut Vec<u8>, outcome: TransResult, residue: u32) -> Result<(), AllocError>
     ensures ok { OnOk result (line.new.items ≡ line.old.items ++ residue_text outcome residue) }
     ensures begins { Begins line.new.items line.old.items }
@@ -128,7 +129,7 @@ fn push_residue(line: &mut Vec<u8>, outcome: TransResult, residue: u32) -> Resul
     push_worded(line, " residue ", u64::from(residue))
 }
 
-/// How a cookie finished, if it did, at the end.
+/// Appends the outcome of a cookie, or `none`.
 fn push_outcome(line: &mut Vec<u8>, outcome: Option<Outcome>) -> Result<(), AllocError>
     ensures ok { OnOk result (line.new.items ≡ line.old.items ++ outcome_text outcome) }
     ensures begins { Begins line.new.items line.old.items }
@@ -139,7 +140,7 @@ fn push_outcome(line: &mut Vec<u8>, outcome: Option<Outcome>) -> Result<(), Allo
     }
 }
 
-/// That a cookie finished and how, at the end.
+/// Appends `finished COOKIE` and how the cookie finished.
 fn push_finished(
     line: &mut Vec<u8>,
     cookie: u32,
@@ -154,7 +155,7 @@ fn push_finished(
     push_residue(line, outcome, residue)
 }
 
-/// What a step did, at the end.
+/// Appends what a step did.
 fn push_turn(line: &mut Vec<u8>, turn: Turn) -> Result<(), AllocError>
     ensures ok { OnOk result (line.new.items ≡ line.old.items ++ turn_text turn) }
     ensures begins { Begins line.new.items line.old.items }
@@ -175,7 +176,7 @@ fn push_turn(line: &mut Vec<u8>, turn: Turn) -> Result<(), AllocError>
     }
 }
 
-/// What stands before the name of a refusal, at the end.
+/// Appends `refused `, which begins each refusal.
 fn begin_refusal(line: &mut Vec<u8>) -> Result<(), AllocError>
     ensures ok { OnOk result (line.new.items ≡ line.old.items ++ codes "refused ") }
     ensures begins { Begins line.new.items line.old.items }
@@ -183,7 +184,7 @@ fn begin_refusal(line: &mut Vec<u8>) -> Result<(), AllocError>
     push_text(line, "refused ")
 }
 
-/// `refused NAME`, at the end.
+/// Appends `refused ` and the text of a call's refusal.
 fn push_refusal(line: &mut Vec<u8>, fault: EngineFault) -> Result<(), AllocError>
     ensures ok { OnOk result (line.new.items ≡ line.old.items ++ refused_line (fault_text fault)) }
     ensures begins { Begins line.new.items line.old.items }
@@ -201,7 +202,7 @@ fn push_refused_name(line: &mut Vec<u8>, name: &str) -> Result<(), AllocError>
     push_text(line, name)
 }
 
-/// What is printed of a reply, at the end.
+/// Appends the text of a reply.
 pub(crate) fn push_reply(line: &mut Vec<u8>, reply: &Reply) -> Result<(), AllocError>
     ensures ok { OnOk result (line.new.items ≡ line.old.items ++ reply_text reply.now) }
     ensures begins { Begins line.new.items line.old.items }
@@ -217,7 +218,7 @@ pub(crate) fn push_reply(line: &mut Vec<u8>, reply: &Reply) -> Result<(), AllocE
     }
 }
 
-/// Appends what is printed of the answer to a step.
+/// Appends the text of the answer to a step.
 #[inline(always)]
 pub(crate) fn push_turned(
     line: &mut Vec<u8>,
@@ -232,7 +233,7 @@ pub(crate) fn push_turned(
     }
 }
 
-/// What is printed of a call before its reply, at the end.
+/// Appends the words that are printed before the reply to a call.
 fn push_call(line: &mut Vec<u8>, call: &Call) -> Result<(), AllocError>
     ensures ok { OnOk result (line.new.items ≡ line.old.items ++ call_words call.now) }
     ensures begins { Begins line.new.items line.old.items }
@@ -258,7 +259,7 @@ fn push_call(line: &mut Vec<u8>, call: &Call) -> Result<(), AllocError>
     }
 }
 
-/// The line that a call prints, by its reply, at the end.
+/// Appends the line of a call and its reply, without its line feed.
 fn push_call_line(line: &mut Vec<u8>, call: &Call, reply: &Reply) -> Result<(), AllocError>
     ensures ok { OnOk result (line.new.items ≡ line.old.items ++ call_line call.now reply.now) }
     ensures begins { Begins line.new.items line.old.items }
@@ -270,7 +271,7 @@ fn push_call_line(line: &mut Vec<u8>, call: &Call, reply: &Reply) -> Result<(), 
     push_reply(line, reply)
 }
 
-/// Appends the first word of a line, and what is printed of a reply.
+/// Appends a word and the text of a reply.
 fn push_worded_reply(line: &mut Vec<u8>, word: &str, reply: &Reply) -> Result<(), AllocError>
     ensures ok { OnOk result (line.new.items ≡ line.old.items ++ (word.now ++ reply_text reply.now)) }
     ensures begins { Begins line.new.items line.old.items }
@@ -289,8 +290,8 @@ fn push_read_bytes(line: &mut Vec<u8>, addr: u32, bytes: &[u8]) -> Result<(), Al
     push_bytes(line, bytes)
 }
 
-/// Ends the line that begins after the first `start` bytes of the output. Where one of its parts or the line feed is refused
-/// memory, it removes the line and returns the error.
+/// Appends a line feed to the line that begins at byte `start` of the output. If `parts` is an error or memory for the
+/// line feed runs out, it removes the line and returns `AllocError`.
 #[inline(always)]
 pub(crate) fn end_line(
     out: &mut Vec<u8>,
@@ -308,9 +309,9 @@ pub(crate) fn end_line(
     Err(AllocError)
 }
 
-// Each function below appends a whole line, or nothing where memory is refused.
+// Each function below appends a whole line; if memory runs out it fails and appends nothing.
 
-/// Appends the line that a call prints, by its reply, or nothing.
+/// Appends the line of a call and its reply, or nothing.
 pub fn push_told(call: &Call, reply: &Reply, out: &mut Vec<u8>) -> Result<(), AllocError>
     ensures ok { OnOk result (out.new.items ≡ out.old.items ++ text_of (call_line call.now reply.now ∷ [])) }
     ensures err { OnErr result (out.new.items ≡ out.old.items) }
@@ -330,7 +331,7 @@ pub(crate) fn push_read(addr: u32, bytes: &[u8], out: &mut Vec<u8>) -> Result<()
     end_line(out, start, parts)
 }
 
-/// Appends what is printed of a reply after a word, or nothing.
+/// Appends a line of a word and the text of a reply, or nothing.
 pub(crate) fn push_after(word: &str, reply: &Reply, out: &mut Vec<u8>) -> Result<(), AllocError>
     ensures ok { OnOk result (out.new.items ≡ out.old.items ++ text_of ((word.now ++ reply_text reply.now) ∷ [])) }
     ensures err { OnErr result (out.new.items ≡ out.old.items) }
@@ -360,7 +361,8 @@ pub(crate) fn push_issued(count: u32, out: &mut Vec<u8>) -> Result<(), AllocErro
     end_line(out, start, parts)
 }
 
-/// Appends the line of a refusal, or nothing. Where memory was refused it prints nothing and the script ends.
+/// Appends the line of a call's refusal, or nothing. Fails with `AllocError` for `NoMemory` too, which prints nothing
+/// and ends the script.
 pub fn push_refused_call(fault: EngineFault, out: &mut Vec<u8>) -> Result<(), AllocError>
     ensures ok { OnOk result ((fault ≢ EngineFault.NoMemory) × (out.new.items ≡ out.old.items ++ text_of (refused_line (fault_text fault) ∷ []))) }
     ensures err { OnErr result (out.new.items ≡ out.old.items) }

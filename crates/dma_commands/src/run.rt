@@ -1,4 +1,4 @@
-//! The command `run`: it carries out a script line by line.
+//! The command `run`: executes a script line by line.
 ghost use Rattle.std.specs.Prelude.{◌≡◌, ◌≤◌, ◌+◌, ◌++◌, OnOk, OnErr, IfSome};
 ghost use Rattle.dma_script.specs.Command.{AppendsGroups, Ends, failures, longest_input, printed_text, printed_within};
 ghost use Rattle.dma_commands.specs.Run.{line_answer, lines_answered, printed};
@@ -23,7 +23,7 @@ use dma_script::printing::push_fault;
 use dma_script::statements::{Statement, Statements, read_run_script};
 use std::alloc::{AllocError, Global};
 
-/// Carries out a line, and appends what it prints or nothing.
+/// Executes a line and appends what it prints, or appends nothing and fails if memory runs out.
 fn run_statement(
     engine: &mut Engine,
     statement: Statement,
@@ -54,8 +54,8 @@ fn run_statement(
     }
 }
 
-/// Carries out a line that is one call without a list or bytes. It isn't inlined into `run_statement`, since these lines are
-/// rare and the locals of all arms of a `match` are cleared whichever arm is taken.
+/// Executes a line that makes one call without a list or bytes. Not inlined into `run_statement`, because these lines
+/// are rare and the locals of all arms of a `match` are cleared whichever arm is taken.
 #[inline(never)]
 fn answer_short(
     engine: &mut Engine,
@@ -84,7 +84,7 @@ fn answer_short(
     }
 }
 
-/// Carries out lines on an engine.
+/// Executes script lines on an engine.
 #[derive(Drop)]
 struct LinesOnEngine<'a> {
     engine: &'a mut Engine,
@@ -101,8 +101,8 @@ impl Interpreter for LinesOnEngine<'_> {
     }
 }
 
-/// Carries out the lines of a script, each of which is done with then. Where memory is refused, what the lines before
-/// printed stands there.
+/// Executes the lines of a script and drops each one afterwards. If memory runs out, the output keeps what the lines
+/// before printed.
 pub fn run_statements(
     alloc: Global,
     engine: &mut Engine,
@@ -154,8 +154,8 @@ impl Command for Run {
     ] };
 }
 
-/// Reads a script, carries it out, writes what it prints and nothing else, and gives the exit status: 0, or 1 for a fault
-/// of the script or a failing stream, or 3 for want of memory.
+/// Reads a script, executes it, writes what it prints and nothing else, and returns the exit status: 0 on success, 1
+/// for a fault of the script or a failing stream, 3 if out of memory.
 pub fn run_script<R: Source, W: Sink>(alloc: Global, reader: &mut R, writer: &mut W) -> u8
     ensures ends { IfSome (R.remaining reader.old) (λ input. Ends
         (failures R.has_failed reader.old reader.new) (failures W.has_failed writer.old writer.new)

@@ -1,4 +1,4 @@
-//! The transfer that a line names.
+//! The transfer that a script line describes.
 ghost use Rattle.std.specs.Prelude.{◌≡◌, IfErr, IfOk, None, Some};
 ghost use Rattle.dma_mem.specs.Refusals.{refusal_of};
 ghost use Rattle.dma_commands.specs.Transfers.{transfer_of};
@@ -6,7 +6,8 @@ ghost use Rattle.dma_commands.specs.Transfers.{transfer_of};
 use dma_mem::transfer::{Transfer, TransferFault};
 use dma_script::plan::{Origin, TransferLine};
 
-/// The transfer of a line, which takes the line's lists for itself, or the first rule that it breaks.
+/// Returns the transfer of a line, and moves the line's lists into it. Fails with the first rule that the transfer
+/// breaks.
 pub fn transfer_of(line: TransferLine) -> Result<Transfer, TransferFault>
     ensures ok { IfOk result (λ t. t ≡ transfer_of line) }
     ensures accepted { IfOk result (λ t. refusal_of t ≡ None) }

@@ -19,7 +19,7 @@ use Rattle.dma_ffi.specs.Codes.{mark_kind}
 use Rattle.dma_ffi.specs.Told.{Reads, Answer, Answers, AnswersMark, AnswersSteps, AnswersSubmit, Asked, InARow, Tells, Told, ask_call, ask_copy, ask_fill, ask_forgotten, ask_history_bytes, ask_history_entries, ask_mark, ask_running, ask_running_count, ask_step_count, ask_steps, ask_unfinished, closed, no_kind, numbered, replied, runs, stepped, unfit}
 use Rattle.dma_ffi.specs.Laws.{AreReplies, CallsAreTheEngines, calls_made, marking}
 
--- calls in order have replies that fit an answer, and leave such a view
+-- there are replies to calls in order that fit an answer and lead to this view
 abbrev Made : View → List Call → Answer → View → Type 0
 Made v calls answer w = (replies : List Reply) × AreReplies answer replies × AreAnswers v calls replies w
 

@@ -7,7 +7,7 @@ use Rattle.dma_ffi.specs.Told.{Told, ToldNew}
 use Rattle.dma_ffi.specs.Laws.{AreExchanges, AreOneList, Exchange, ExchangesAreTheEngines, Service, Serves, SessionsAreTheEngines, all_calls, all_replies, calls_made}
 use Rattle.dma_ffi.proofs.CallsMade.{calls_are_the_engines}
 
--- what calls from C leave is seen as one list's
+-- after these calls from C there is an engine, and the calls are one list
 abbrev Left : EngineState → List Exchange → Option EngineState → Type 0
 Left e calls left = IsSomeAnd left (λ e'. AreOneList e.view calls e'.view)
 

@@ -1,5 +1,6 @@
--- The machine values of a controller's pointer, for its walks; what C is told, from what the engine answered; which calls of
--- the engine were made, of one call from C and of many; steps in a row; lists of C; programs run alone over the caller's bytes.
+-- The machine values of a controller's pointer; what calls from C return and write, from the engine's answers; which
+-- calls of the engine one call from C makes, and which many make; steps in a row; lists of C; programs run alone over
+-- the caller's bytes.
 pub mod Values
 pub mod ChannelValues
 pub mod Tells

@@ -1,4 +1,4 @@
--- What C is told, from what the engine answered.
+-- What calls from C return and write, from the engine's answers.
 use Rattle.std.proofs.Common.{◌≡◌, ℕ, List, Option, Some, None, Result, Ok, Err, Bool, true, false, refl, sym, ap, ◌∙◌, subst, length, min}
 use Rattle.std.specs.Prelude.{◌≢◌, ℤ, pos, negsuc, OnErr, IsSome, IsSomeAnd, IfOk, IfErr, unwrap_or}
 use Rattle.std.proofs.lemmas.Bool.{true≢false}
@@ -34,7 +34,7 @@ use Rattle.dma_ffi.specs.Told.{Answer, Answers, AnswersMark, AnswersSteps, Answe
 
 -- ---- from an engine to its controller
 
--- no engine was there
+-- there was no engine
 pub told_closed : {old new : Option EngineState} {code : ℤ} (asked : Asked) (written : Written) → None ≡ old → new ≡ None → code ≡ negsuc 0 → IsWritten closed written → Told old asked code written new
 unfolding Told
 told_closed {new = new} {code = code} asked written none stays is held = subst (λ (o : Option EngineState). Told o asked code written new) none (stays, is, held)
@@ -143,7 +143,7 @@ by_reply v w ch refusal t (stepped taken last) none h = absurd h
 by_reply v w ch refusal t (runs r) none h = absurd h
 by_reply v w ch refusal t (numbered n) none h = absurd h
 
--- what is told of a transfer that was made, and what of one that wasn't
+-- the code and what is written for a transfer that was made, and for one that wasn't
 submits : (v w : View) (code : ℤ) (before after ch : ℕ) (refusal : Option TransferFault) (t : Descriptor) (made : Result Descriptor TransferFault) → IfOk made (λ x. x ≡ t) → IfOk made (λ x. refusal ≡ None) → IfErr made (λ fault. fault ≡ unwrap_or refusal transfers.NoMemory) → IfOk made (λ x. Tells v (ask_call (Submit ch x)) code (a_number before after) w) → IfErr made (λ fault. code ≡ transfer_code fault) → IfErr made (λ _. after ≡ before) → IfErr made (λ _. w ≡ v) → (a : Answer) × AnswersSubmit v ch refusal t a w × (code ≡ code_of a) × (after ≡ number_in a before)
 unfolding Tells
 submits v w code before after ch refusal t (Ok x) is none err told coded kept same =
@@ -180,12 +180,12 @@ refused BadRange = refl
 refused (RunningFront ch cookie) = refl
 refused NoMemory = refl
 
--- a code that says that it was made is told of one that was
+-- the code of a checkpoint that succeeded
 pub gives_back : {code : ℤ} (answer : Result (Unit {0}) EngineFault) (e : EngineState) → IfOk answer (λ _. HasGivenBack e) → code ≡ reply_code (reply_of (λ _. Done) answer) → code ≡ pos 0 → HasGivenBack e
 gives_back (Ok x) e given is ok = given
 gives_back (Err fault) e given is ok = absurd (true≢false (sym (refused fault) ∙ ap is_refusal (sym is ∙ ok)))
 
--- one that says that it wasn't is told of one that was refused
+-- the code of a checkpoint that was refused
 pub stays : {code : ℤ} (answer : Result (Unit {0}) EngineFault) (old new : EngineState) → OnErr answer (new ≡ old) → code ≡ reply_code (reply_of (λ _. Done) answer) → code ≢ pos 0 → new ≡ old
 stays (Ok x) old new same is other = absurd (other is)
 stays (Err fault) old new same is other = same

@@ -1,4 +1,4 @@
--- What a call from C on a channel that C keeps does, and what it answers.
+-- What a call from C on a channel does and returns.
 use Rattle.std.specs.Prelude.{◌≡◌, ℕ, ◌+◌, ◌≤◌, ◌<◌, ◌||◌, ◌==◌, ◌&&◌, nat_lt, nat_le, Bool, true, false, ℤ, Option, Some, None, IsSome, IsSomeAnd, is_some, if◌then◌else◌, Result, Ok, Err, List, [], ◌∷◌, ◌++◌, length, map, take, unwrap_or}
 use Rattle.dma_mem.specs.Flags.{flags_of}
 use Rattle.dma_mem.specs.Lent.{marks_at}
@@ -41,39 +41,42 @@ fault_code BadRange = bad_range
 fault_code BadSave = bad_save
 fault_code NoMemory = no_memory
 
--- What a call comes to: it is done, or it fails.
+-- The outcome of a call: success or a fault.
 abbrev pub Outcome : Type 0
 Outcome = Result (Unit {0}) ChannelFault
 
--- its code
+-- the code of an outcome
 abbrev pub outcome_code : Outcome → ℤ
 outcome_code (Ok u) = ok_code
 outcome_code (Err fault) = fault_code fault
 
--- A call on a channel and its marks: where C's channel isn't open it fails and nothing changes, else it does this.
+-- A call on a channel and its marks. On a channel that isn't open it returns `not_open` and changes nothing. On an
+-- open one it acts as `does` says and returns the code of the outcome, and the channel stays open.
 abbrev pub OnOpen : (MarkedChannel → Outcome → MarkedChannel → Type 0)
     → Option MarkedChannel → ℤ → Option MarkedChannel → Type 0
 OnOpen does None code new = (code ≡ not_open) × (new ≡ None)
 OnOpen does (Some m) code new =
     IsSomeAnd new (λ n. (outcome : Outcome) × does m outcome n × (code ≡ outcome_code outcome))
 
--- One that can't fail on an open channel.
+-- A call that can't fail on an open channel: it applies `change` and returns `ok_code`. On a channel that isn't open
+-- it returns `not_open` and changes nothing.
 abbrev pub Becomes : (MarkedChannel → MarkedChannel) → Option MarkedChannel → ℤ → Option MarkedChannel → Type 0
 Becomes change None code new = (code ≡ not_open) × (new ≡ None)
 Becomes change (Some m) code new = (code ≡ ok_code) × (new ≡ Some (change m))
 
--- What a call does with the channel alone: the marks stay.
+-- A call that acts on the channel alone; the marks are unchanged.
 pub record OfChannel (does : ChannelValue → Outcome → ChannelValue → Type 0)
     (m : MarkedChannel) (outcome : Outcome) (n : MarkedChannel) : Type 0 where
   pub channel : does m.channel outcome n.channel
   pub marks : n.marks ≡ m.marks
 
--- the same of C's channel
+-- `OnOpen` for a call that acts on the channel alone
 abbrev pub OnChannel : (ChannelValue → Outcome → ChannelValue → Type 0)
     → Option MarkedChannel → ℤ → Option MarkedChannel → Type 0
 OnChannel does = OnOpen (OfChannel does)
 
--- A channel is opened: one that is open stays as it is; else it has no program and no marks, or it is out of memory.
+-- Opens a channel. If it is open already: `already_open`, and nothing changes. Else `ok_code`, and the channel has no
+-- program and no marks; or `no_memory`, and it stays closed.
 abbrev pub Opens : Option MarkedChannel → ℤ → Option MarkedChannel → Type 0
 Opens (Some m) code new = (code ≡ already_open) × (new ≡ Some m)
 Opens None code None = code ≡ no_memory
@@ -81,28 +84,31 @@ Opens None code (Some m) = (code ≡ ok_code) × (m ≡ record { channel = unloa
 
 -- ---- programs
 
--- A transfer's program is loaded, in place of what was there. It fails by the first rule that the transfer breaks.
+-- Loads the program of a transfer; the channel becomes `loaded` with it. Fails with the first rule that the transfer
+-- breaks, or with `NoMemory` if it breaks none; a failed call changes nothing.
 abbrev pub LoadsTransfer : Option TransferFault → Descriptor → ChannelValue → Outcome → ChannelValue → Type 0
 LoadsTransfer refusal t c (Ok u) d = (refusal ≡ None) × (d ≡ loaded (compiled t))
 LoadsTransfer refusal t c (Err (Unfit fault)) d = (fault ≡ unwrap_or refusal transfers.NoMemory) × (d ≡ c)
 LoadsTransfer refusal t c (Err _) d = ⊥
 
--- a copy's
+-- `LoadsTransfer` for a copy
 abbrev pub LoadsCopy : Descriptor → ChannelValue → Outcome → ChannelValue → Type 0
 LoadsCopy t = LoadsTransfer (refusal_of t) t
 
--- a fill's: of the byte at an address, to these segments, with these events
+-- `LoadsTransfer` for a fill of these segments with the byte at an address, with the events that it waits for and
+-- signals
 abbrev pub LoadsFill : ℕ → List Segment → Option ℕ → Option ℕ → ChannelValue → Outcome → ChannelValue → Type 0
 LoadsFill src dst wait signal = LoadsTransfer (refusal_of_fill src dst wait signal) (filling src dst wait signal)
 
--- The program of these bytes is loaded, which needn't be instructions. It fails exactly above 8,192 bytes, else out of memory.
+-- Loads these bytes as a program; they needn't be instructions. Fails with `ProgramTooLong` exactly above 8,192 bytes,
+-- and with `NoMemory` only for at most 8,192; a failed call changes nothing.
 abbrev pub LoadsBytes : List ℕ → ChannelValue → Outcome → ChannelValue → Type 0
 LoadsBytes bytes c (Ok u) d = (length bytes ≤ 8192) × (d ≡ loaded (record { bytes = bytes; cost = None }))
 LoadsBytes bytes c (Err ProgramTooLong) d = (8192 < length bytes) × (d ≡ c)
 LoadsBytes bytes c (Err NoMemory) d = (length bytes ≤ 8192) × (d ≡ c)
 LoadsBytes bytes c (Err _) d = ⊥
 
--- a channel that has dropped its program; its marks, registers and counts stay
+-- the channel without its program; its marks, registers and counts are unchanged
 abbrev pub stopped : MarkedChannel → MarkedChannel
 stopped m = record m { channel = record (m.channel) { program = None } }
 
@@ -122,7 +128,8 @@ registers_of c = record {
   stored = c.stored;
 }
 
--- The registers of C's channel are written, where it is open. It stays as it is.
+-- Writes the registers of an open channel and returns `ok_code`. On a channel that isn't open it writes nothing and
+-- returns `not_open`. The channel is unchanged.
 abbrev pub WritesRegisters : Option MarkedChannel → ℤ → ChannelRegisters → ChannelRegisters → Option MarkedChannel → Type 0
 WritesRegisters None code before after new = (code ≡ not_open) × (after ≡ before) × (new ≡ None)
 WritesRegisters (Some m) code before after new = (code ≡ ok_code) × (after ≡ registers_of m.channel) × (new ≡ Some m)
@@ -133,7 +140,8 @@ WritesRegisters (Some m) code before after new = (code ≡ ok_code) × (after �
 abbrev pub is_bad_range : Segment → Bool
 is_bad_range range = range.len == 0 || nat_lt 4294967296 (range.addr + range.len)
 
--- A range is marked, for the kind that has this number, if one has: the causes are asked for in this order.
+-- Marks a range for this kind. Fails with `BadKind` if no kind has the number, with `BadRange` if the range can't be
+-- marked, or with `NoMemory`; the causes are checked in this order, and a failed call changes nothing.
 abbrev pub MarksRange : Option MarkKind → Segment → MarkedChannel → Outcome → MarkedChannel → Type 0
 MarksRange (Some kind) range m (Ok u) n =
     (is_bad_range range ≡ false) × (n ≡ record m { marks = m.marks ++ (kind, range) ∷ [] })
@@ -142,13 +150,16 @@ MarksRange (Some kind) range m (Err BadRange) n = (is_bad_range range ≡ true) 
 MarksRange (Some kind) range m (Err NoMemory) n = (is_bad_range range ≡ false) × (n ≡ m)
 MarksRange _ range m _ n = ⊥
 
--- a channel without marks
+-- the channel with its marks removed
 abbrev pub unmarked : MarkedChannel → MarkedChannel
 unmarked m = record m { marks = [] }
 
 -- ---- saves
 
--- The save of C's channel is written at the front of a buffer, and its length, where the buffer has room.
+-- Writes the save of an open channel to the front of a buffer, and the length of the save, if the buffer has room for
+-- it; else it writes nothing and returns `buffer_too_small`. The save has at most 8,500 bytes, and the channel
+-- satisfies `IsChannelValue`. On a channel that isn't open it writes nothing and returns `not_open`. The channel is
+-- unchanged.
 abbrev pub WritesSave : Option MarkedChannel → ℤ → List ℕ → List ℕ → ℕ → ℕ → Option MarkedChannel → Type 0
 WritesSave None code buffer out len written new = (code ≡ not_open) × (out ≡ buffer) × (written ≡ len) × (new ≡ None)
 WritesSave (Some m) code buffer out len written new =
@@ -156,8 +167,9 @@ WritesSave (Some m) code buffer out len written new =
     × (written ≡ where_fits (saved m.channel) buffer (length (saved m.channel)) len)
     × (length (saved m.channel) ≤ 8500) × IsChannelValue m.channel × (new ≡ Some m)
 
--- The channel becomes the one of a save, the only one that there is. It fails as a bad save exactly where the bytes are no save,
--- and out of memory only where they are one.
+-- Makes the channel the one of a save: these bytes are its save, and no other value that satisfies `IsChannelValue`
+-- has this save. Fails with `BadSave` exactly if the bytes aren't a save, and with `NoMemory` only if they are one; a
+-- failed call changes nothing.
 abbrev pub Restores : List ℕ → ChannelValue → Outcome → ChannelValue → Type 0
 Restores save c (Ok u) d = (save ≡ saved d) × ((e : ChannelValue) → IsChannelValue e → save ≡ saved e → d ≡ e)
 Restores save c (Err BadSave) d = (¬ IsSave save) × (d ≡ c)
@@ -166,12 +178,14 @@ Restores save c (Err _) d = ⊥
 
 -- ---- the caller's memory
 
--- whether channels are stepped over these regions: there are at most 8, they rise by address and share none
+-- whether channels can be stepped over these regions: there are at most 8, in the order of their addresses, without a
+-- shared address, and none ends above 4,294,963,200, the largest size of a memory
 abbrev pub are_usable : List Region → Bool
 are_usable regions = nat_le (length regions) 8 && in_order (pieces_of regions)
 
--- The program is loaded that begins at an address of the regions: the bytes from there up to the end of the region that has it,
--- 8,192 at most.
+-- Loads the program that begins at an address of the regions: the bytes from there to the end of the region with this
+-- address, at most 8,192, or no bytes if no region has the address. Fails with `BadRegions` exactly if the regions
+-- aren't usable, or with `NoMemory`; a failed call changes nothing.
 abbrev pub LoadsFrom : List Region → ℕ → ChannelValue → Outcome → ChannelValue → Type 0
 LoadsFrom regions addr c (Ok u) d =
     (are_usable regions ≡ true)
@@ -182,7 +196,7 @@ LoadsFrom regions addr c (Err _) d = ⊥
 
 -- ---- steps
 
--- C's channel, if it is open, and the regions and the event flags that C lends for the time of a call.
+-- C's channel, if it is open, and the regions and the event flags that C lends for the duration of a call.
 pub record Lent : Type 0 where
   pub channel : Option MarkedChannel
   pub regions : List Region
@@ -192,17 +206,20 @@ pub record Lent : Type 0 where
 abbrev pub over : MarkedChannel → List Region → ℕ → Stand
 over m regions flags = record { channel = m.channel; image = image_of (pieces_of regions); flags = flags_of flags }
 
--- the marks at which its bursts fail: the gaps between the regions, and the channel's own
+-- the marks at which the channel's bursts fail: the gaps between the regions, and the channel's own marks
 abbrev pub marks_over : MarkedChannel → List Region → MarkList
 marks_over m regions = marks_at (gaps_of (pieces_of regions)) ++ m.marks
 
--- Regions stay where they are, whatever their bytes are: addresses and lengths are the same, and each region has its bytes by the
--- same loan as before. Pointers are not compared: what a contract sees of where a memory is lent is the names of its loans.
+-- The regions keep their places, whatever their bytes are: the addresses and lengths are the same, and so are the
+-- names of the loans of their bytes. Pointers are not compared: a contract sees where memory is lent only by the names
+-- of its loans.
 pub record StayInPlace (regions left : List Region) : Type 0 where
   pub places : map segment_of left ≡ map segment_of regions
   pub names : map (λ r. r.bytes.ghost_name) left ≡ map (λ r. r.bytes.ghost_name) regions
 
--- Steps of an open channel that has a program: those that were taken, and the offset of the next instruction.
+-- Steps of an open channel with a program, over usable regions: the steps that were taken, the event whose flag the
+-- last of them set, if any, and the offset of the next instruction. The marks are unchanged, and the regions keep
+-- their places.
 pub record StepsOver (a : Lent) (most : ℕ) (steps : Stepped) (b : Lent) (m n : MarkedChannel) : Type 0 where
   pub before : a.channel ≡ Some m
   pub after : b.channel ≡ Some n
@@ -215,7 +232,8 @@ pub record StepsOver (a : Lent) (most : ℕ) (steps : Stepped) (b : Lent) (m n :
   pub place : steps.pc ≡ n.channel.registers.pc
   pub regions : StayInPlace a.regions b.regions
 
--- What steps come to: those that were taken, or the first of the causes for which none is, and then nothing has changed.
+-- The result of steps: those that were taken; or the first of the faults `NotOpen`, `BadRegions` and `NoProgram`, in
+-- this order, and then nothing changes.
 abbrev pub Steps : Lent → ℕ → Result Stepped ChannelFault → Lent → Type 0
 Steps a most (Ok steps) b = (m : MarkedChannel) × (n : MarkedChannel) × StepsOver a most steps b m n
 Steps a most (Err NotOpen) b = (a.channel ≡ None) × (b ≡ a)
@@ -229,11 +247,12 @@ abbrev pub steps_code : Result Stepped ChannelFault → ℤ
 steps_code (Ok steps) = ok_code
 steps_code (Err fault) = fault_code fault
 
--- the report of this many steps; what is no part of the last one's turn is 0
+-- a report of `taken` steps, with the offset of the next instruction and this turn number; event and fault are 0
 abbrev pub did : ℕ → ℕ → ℕ → ChannelReport
 did taken pc turn = record { taken = taken; turn = turn; event = 0; fault = 0; pc = pc }
 
--- the report of this many steps and of what the last one did, which set the flag of this event, if of one
+-- the report of `taken` steps, with the offset of the next instruction, what the last step did, and the event whose
+-- flag it set, if any; an event or fault that doesn't belong to this turn is 0
 abbrev pub report_of : ℕ → ℕ → Option ChanTurn → Option ℕ → ChannelReport
 report_of taken pc None signal = did taken pc 0
 report_of taken pc (Some Moved) None = did taken pc 1
@@ -242,12 +261,12 @@ report_of taken pc (Some (Waiting e)) signal = record (did taken pc 2) { event =
 report_of taken pc (Some Ended) signal = did taken pc 3
 report_of taken pc (Some (Fault kind)) signal = record (did taken pc 4) { fault = kind_number kind }
 
--- the report of the steps that were taken, or what was there
+-- the report of the steps that were taken, or the former report if the call failed
 abbrev pub report_in : Result Stepped ChannelFault → ChannelReport → ChannelReport
 report_in (Ok steps) before = report_of steps.taken.count steps.pc steps.taken.last steps.taken.signal
 report_in (Err fault) before = before
 
--- Steps from C: the code, and the report before and after.
+-- A call from C that takes steps: the code that it returns, and the report before and after.
 abbrev pub ReportsSteps : Lent → ℕ → ℤ → ChannelReport → ChannelReport → Lent → Type 0
 ReportsSteps a most code before report b =
     (answer : Result Stepped ChannelFault) × Steps a most answer b × (code ≡ steps_code answer)

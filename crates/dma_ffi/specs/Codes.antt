@@ -1,4 +1,4 @@
--- The numbers by which C is told something. ℤ's negsuc n is - (n + 1).
+-- The numbers that calls from C return and write. In ℤ, negsuc n is -(n + 1).
 use Rattle.std.specs.Prelude.{ℕ, ℤ, pos, negsuc, min, ◌==◌, if◌then◌else◌, Option, None, Some}
 use Rattle.dma_mem.specs.declared.marks.MarkKind.{MarkKind}
 use Rattle.dma_mem.specs.declared.marks.MarkKind.TheVariants.{Reading, Writing}
@@ -21,21 +21,21 @@ use Rattle.dma_engine.specs.declared.outcome.TransResult.TheVariants.{NoError, R
 use Rattle.dma_engine.specs.declared.turn.Status.{Status}
 use Rattle.dma_engine.specs.declared.turn.Status.TheVariants.{Unknown, InProgress, Complete}
 
--- ---- codes: 0 where a call was carried out, and a negative one for each refusal
+-- ---- codes: 0 for success, and a negative number for each refusal
 
--- the call was carried out
+-- the call succeeded
 abbrev pub ok_code : ℤ
 ok_code = pos 0
 
--- there is no engine
+-- the controller has no engine, or the channel isn't open
 abbrev pub not_open : ℤ
 not_open = negsuc 0
 
--- there is an engine already
+-- the controller has an engine already, or the channel is open already
 abbrev pub already_open : ℤ
 already_open = negsuc 1
 
--- memory was wanting
+-- out of memory
 abbrev pub no_memory : ℤ
 no_memory = negsuc 2
 
@@ -47,15 +47,15 @@ bad_event = negsuc 3
 abbrev pub bad_kind : ℤ
 bad_kind = negsuc 4
 
--- it isn't known how the cookie finished
+-- how the cookie finished isn't known
 abbrev pub no_result : ℤ
 no_result = negsuc 5
 
--- nothing runs
+-- nothing runs on the channel
 abbrev pub not_running : ℤ
 not_running = negsuc 6
 
--- what is to be written is longer than its room
+-- the buffer is too small for what is to be written
 abbrev pub buffer_too_small : ℤ
 buffer_too_small = negsuc 7
 
@@ -71,7 +71,7 @@ bad_range = negsuc 14
 abbrev pub size_out_of_range : ℤ
 size_out_of_range = negsuc 20
 
--- there are more than 8 regions, or they aren't in order
+-- there are more than 8 regions, they aren't in order, or one ends above the largest size of a memory
 abbrev pub bad_regions : ℤ
 bad_regions = negsuc 21
 
@@ -79,7 +79,7 @@ bad_regions = negsuc 21
 abbrev pub program_too_long : ℤ
 program_too_long = negsuc 39
 
--- the bytes are no save of a channel
+-- the bytes aren't a save of a channel
 abbrev pub bad_save : ℤ
 bad_save = negsuc 41
 
@@ -95,13 +95,13 @@ fault_code BadRange = bad_range
 fault_code (Running ch cookie) = negsuc 15
 fault_code NoMemory = no_memory
 
--- why no engine was made
+-- the code of a fault for which no engine is made
 abbrev pub new_code : NewFault → ℤ
 new_code engines.BadChannels = negsuc 19
 new_code engines.SizeOutOfRange = size_out_of_range
 new_code engines.NoMemory = no_memory
 
--- why no transfer was made
+-- the code of a fault for which no transfer is made
 abbrev pub transfer_code : TransferFault → ℤ
 transfer_code transfers.EmptyList = negsuc 29
 transfer_code transfers.TooManySegments = negsuc 30
@@ -114,25 +114,26 @@ transfer_code transfers.SourceMeetsDestination = negsuc 36
 transfer_code transfers.BadEvent = bad_event
 transfer_code transfers.NoMemory = no_memory
 
--- why a line is no instruction
+-- the code of the reason that a line isn't an instruction
 abbrev pub cause_code : Cause → ℤ
 cause_code Mnemonic = negsuc 49
 cause_code Operand = negsuc 50
 cause_code Range = negsuc 51
 
--- why bytes are no instruction
+-- the code of the reason that bytes aren't an instruction
 abbrev pub decode_code : DecodeFault → ℤ
 decode_code Cut = negsuc 59
 decode_code (UnknownByte byte) = negsuc 60
 decode_code BadField = negsuc 61
 
--- how far a cookie is
+-- the code of a cookie's status
 abbrev pub status_code : Status → ℤ
 status_code Unknown = pos 0
 status_code InProgress = pos 1
 status_code Complete = pos 2
 
--- The code of a reply: a status is told by it, and that it isn't known how a cookie finished.
+-- The code of a reply: the fault's code for a refusal, the status's code for a status, `no_result` for a result that
+-- isn't known, else `ok_code`.
 abbrev pub reply_code : Reply → ℤ
 reply_code (Refused fault) = fault_code fault
 reply_code (State status) = status_code status
@@ -146,18 +147,18 @@ reply_code (Turned turn) = ok_code
 
 -- ---- other numbers
 
--- the kind of mark that has this number
+-- the kind of mark with this number, if any
 abbrev pub mark_kind : ℕ → Option MarkKind
 mark_kind kind = if kind == 0 then Some Reading else (if kind == 1 then Some Writing else None)
 
--- how a cookie finished (the numbers of the kernel's enum dmaengine_tx_result)
+-- the number of how a cookie finished (from the kernel's enum dmaengine_tx_result)
 abbrev pub result_number : TransResult → ℕ
 result_number NoError = 0
 result_number ReadFailed = 1
 result_number WriteFailed = 2
 result_number Aborted = 3
 
--- the fault of an instruction
+-- the number of an instruction's fault
 abbrev pub kind_number : FaultKind → ℕ
 kind_number UndefInstr = 1
 kind_number OperandInvalid = 2
@@ -167,7 +168,8 @@ kind_number InstrFetchErr = 5
 kind_number DataWriteErr = 6
 kind_number DataReadErr = 7
 
--- The event of a number, none of a negative one. All above 31 are bad, so 255 stands for those above it.
+-- The event with this number, or none for a negative number. Numbers above 255 become 255, which is invalid like all
+-- events above 31.
 abbrev pub event_told : ℤ → Option ℕ
 event_told (negsuc n) = None
 event_told (pos n) = Some (min n 255)

@@ -1,4 +1,4 @@
--- What calls from C are to the engine.
+-- How calls from C correspond to calls of the engine.
 use Rattle.std.specs.Prelude.{◌≡◌, ℕ, ℤ, Option, None, Some, IsSomeAnd, List, [], ◌∷◌, ◌++◌, flat_map, replicate}
 use Rattle.dma_mem.specs.declared.marks.MarkKind.{MarkKind}
 use Rattle.dma_mem.specs.declared.segment.Segment.{Segment}
@@ -12,13 +12,14 @@ use Rattle.dma_engine.specs.Answer.{AreAnswers}
 use Rattle.dma_ffi.specs.Codes.{mark_kind}
 use Rattle.dma_ffi.specs.Told.{Answer, Answers, Asked, IsWritten, Told, ToldNew, Written, code_of, ask_call, ask_mark, ask_copy, ask_fill, ask_steps, replied, stepped}
 
--- a mark of this kind, if there is one
+-- the call that marks a range for this kind; no call without a kind
 abbrev pub marking : Option MarkKind → Segment → List Call
 marking None range = []
 marking (Some kind) range = Mark kind range ∷ []
 
--- The calls of the engine that were made of what C asked, by what was answered: the call; the steps that were taken, or the first
--- one, refused; none for a reading that is no call of the engine, a kind of mark that there isn't, or a transfer that wasn't made.
+-- The engine calls that a request of C makes, given its answer: the call itself; a mark whose kind exists; the submit
+-- of a transfer that was made; the steps that were taken, or the first one if it was refused; none for a request that
+-- only reads, for a kind that doesn't exist, and for a transfer that wasn't made.
 abbrev pub calls_made : Asked → Answer → List Call
 calls_made (ask_call call) answer = call ∷ []
 calls_made (ask_mark kind range) answer = marking (mark_kind kind) range
@@ -28,15 +29,18 @@ calls_made (ask_steps ch most) (replied reply) = Step ch ∷ []
 calls_made (ask_steps ch most) (stepped taken last) = replicate taken (Step ch)
 calls_made _ _ = []
 
--- The replies to the calls that were made: a call's is the answer, and the last step's is what the report tells.
+-- Whether these replies fit an answer. If the answer is the engine's reply, it is the only reply. If steps were taken,
+-- the last reply is the turn of the last step; if none was taken, there is no reply. Any replies fit another answer.
 abbrev pub AreReplies : Answer → List Reply → Type 0
 AreReplies (replied reply) replies = replies ≡ reply ∷ []
 AreReplies (stepped taken None) replies = replies ≡ []
 AreReplies (stepped taken (Some turn)) replies = (before : List Reply) × (replies ≡ before ++ Turned turn ∷ [])
 AreReplies _ replies = Unit {0}
 
--- What C is told of a call on an engine is an answer of that engine, given by a list of its own calls, made in order. So what
--- holds of all lists of the engine's calls holds of all that C does with a controller between an open and a close.
+-- What a call from C on an open controller returns and writes is an answer of the controller's engine. It is also the
+-- answer to a list of the engine's own calls, made in order: their replies fit the answer and lead to the same view.
+-- So what holds of all lists of the engine's calls holds of everything that C does with a controller between an open
+-- and a close.
 abbrev pub CallsAreTheEngines : Type 0
 CallsAreTheEngines =
     (e : EngineState) (asked : Asked) (code : ℤ) (written : Written) (new : Option EngineState)
@@ -47,26 +51,27 @@ CallsAreTheEngines =
 
 -- ---- calls from C, one after another
 
--- A call from C as C sees it: what it asks, the code that it returns, and what it writes.
+-- A call from C as C sees it: what it requests, the code that it returns, and what it writes.
 pub record Exchange : Type 0 where
   pub asked : Asked
   pub code : ℤ
   pub written : Written
 
--- Calls from C on one controller, one after another: the first finds this engine in it, or none, and the last leaves that.
--- (An open of a controller that is open is refused and changes nothing: `ToldNew`.)
+-- Calls from C on one controller, one after another. The controller has the engine `found`, or none, before the first
+-- call, and `left`, or none, after the last. (Opening an open controller is refused and changes nothing: `ToldNew`.)
 abbrev pub AreExchanges : Option EngineState → List Exchange → Option EngineState → Type 0
 AreExchanges found [] left = left ≡ found
 AreExchanges found (call ∷ later) left =
     (next : Option EngineState) × Told found call.asked call.code call.written next × AreExchanges next later left
 
--- What the engine does for a call from C: its answer, and its replies to the engine's calls that are made of it.
+-- What the engine does for a call from C: its answer, and its replies to the engine calls that the request makes.
 pub record Service : Type 0 where
   pub answer : Answer
   pub replies : List Reply
 
--- An engine with this view does this for a call from C, and has that view then. The code and what is written are the answer's,
--- and the answer is that of the replies, or of a reading of the view.
+-- An engine with the view `v` may serve a call from C like this, and then has the view `w`. The code and what is
+-- written are the answer's, the replies fit the answer, and they are replies to the engine calls that the request
+-- makes.
 pub record Serves (v : View) (call : Exchange) (service : Service) (w : View) : Type 0 where
   pub answers : Answers v call.asked service.answer w
   pub code : call.code ≡ code_of service.answer
@@ -74,37 +79,40 @@ pub record Serves (v : View) (call : Exchange) (service : Service) (w : View) : 
   pub replies : AreReplies service.answer service.replies
   pub made : AreAnswers v (calls_made call.asked service.answer) service.replies w
 
--- It does these, one for each call from C, each with the view that the one before leaves.
+-- An engine with the view `v` may serve these calls from C by these services, one for each call, each on the view
+-- after the call before, and then has the view `w`.
 abbrev pub ServesAll : View → List Exchange → List Service → View → Type 0
 ServesAll v [] [] w = w ≡ v
 ServesAll v (call ∷ later) (service ∷ services) w =
     (next : View) × Serves v call service next × ServesAll next later services w
 ServesAll v _ _ w = ⊥
 
--- the engine's calls that are made of all calls from C, in order
+-- the engine calls of all calls from C, in order
 abbrev pub all_calls : List Exchange → List Service → List Call
 all_calls (call ∷ later) (service ∷ services) = calls_made call.asked service.answer ++ all_calls later services
 all_calls _ _ = []
 
--- and the replies to them
+-- the replies to these engine calls, in order
 abbrev pub all_replies : List Service → List Reply
 all_replies services = flat_map (λ service. service.replies) services
 
--- Calls from C, however many, are one list of the engine's calls, made one after another. What each of them returns and writes
--- is made of its replies in that list.
+-- The calls from C, however many, are one list of engine calls, made one after another. What each call returns and
+-- writes is given by its replies in that list.
 abbrev pub AreOneList : View → List Exchange → View → Type 0
 AreOneList v calls w =
     (services : List Service) × ServesAll v calls services w
     × AreAnswers v (all_calls calls services) (all_replies services) w
 
--- This holds of all calls from C on an open controller, one after another. None of them closes it.
+-- For all calls from C on an open controller, one after another: none of them closes the controller, and they are one
+-- list of engine calls (`AreOneList`).
 abbrev pub ExchangesAreTheEngines : Type 0
 ExchangesAreTheEngines =
     (e : EngineState) (calls : List Exchange) (left : Option EngineState) → AreExchanges (Some e) calls left
     → IsSomeAnd left (λ e'. AreOneList e.view calls e'.view)
 
--- After an open that makes an engine, the list begins with a new engine of that size and number of channels. So what holds of
--- all lists of a new engine's calls holds of all that C does with a controller between an open and a close.
+-- After an open that makes an engine, this list begins on a new engine with that memory size and number of channels.
+-- So what holds of all lists of a new engine's calls holds of everything that C does with a controller between an open
+-- and a close.
 abbrev pub SessionsAreTheEngines : Type 0
 SessionsAreTheEngines =
     (size channels : ℕ) (code : ℤ) (e : EngineState) (calls : List Exchange) (left : Option EngineState)

@@ -1,4 +1,5 @@
--- What C is told: of a controller, of programs and texts; by which numbers and structs.
+-- What calls from C return and write: on controllers and channels, for programs and texts, and by which numbers and
+-- structs.
 pub mod Codes
 pub mod Reports
 pub mod Told

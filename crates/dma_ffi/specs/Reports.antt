@@ -1,4 +1,4 @@
--- What C is told in structs: how a cookie finished, what runs, what steps did, and how a program ended.
+-- The structs that calls from C write: how a cookie finished, what runs, what steps did, and how a program ended.
 use Rattle.std.specs.Prelude.{ℕ, Option, None, Some, List, map}
 use Rattle.dma_mem.specs.declared.segment.Segment.{Segment}
 use Rattle.dma_chan.specs.declared.run.RunEnd.{RunEnd}
@@ -14,11 +14,11 @@ use Rattle.dma_ffi.specs.declared.reports.DmaReport.{DmaReport}
 use Rattle.dma_ffi.specs.declared.reports.DmaRunEnd.{DmaRunEnd}
 use Rattle.dma_ffi.specs.Codes.{result_number, kind_number}
 
--- a range of addresses, as the engine has it
+-- a range of addresses as a segment of the engine
 abbrev pub segment_of : DmaSegment → Segment
 segment_of s = record { addr = s.addr; len = s.len }
 
--- a list of them
+-- a list of ranges as segments of the engine
 abbrev pub segments_of : List DmaSegment → List Segment
 segments_of list = map segment_of list
 
@@ -30,12 +30,12 @@ outcome_told o = record { result = result_number o.result; residue = o.residue }
 abbrev pub run_told : Running → DmaRun
 run_told r = record { cookie = r.cookie; stored = r.stored }
 
--- the report of so many steps, the last of which did what has this number; what it has no part in is 0
+-- a report of `taken` steps with this turn number; all other fields are 0
 abbrev pub did : ℕ → ℕ → DmaReport
 did taken turn =
     record { taken = taken; turn = turn; channel = 0; cookie = 0; event = 0; result = 0; residue = 0 }
 
--- the report of so many steps and of what the last one did, where one was taken
+-- the report of `taken` steps and of the turn of the last one, if any; fields that don't belong to this turn are 0
 abbrev pub report_of : ℕ → Option Turn → DmaReport
 report_of taken None = did taken 0
 report_of taken (Some (Started cookie)) = record (did taken 1) { cookie = cookie }
@@ -48,11 +48,11 @@ report_of taken (Some Halted) = did taken 7
 report_of taken (Some (Finished cookie how residue)) =
     record (did taken 8) { cookie = cookie; result = result_number how; residue = residue }
 
--- how a program ended, by a number; what that has no part in is 0
+-- an end with this number; all other fields are 0
 abbrev pub ended : ℕ → DmaRunEnd
 ended how = record { end = how; turns = 0; event = 0; fault = 0; pc = 0 }
 
--- how a program ended
+-- how a program ended; fields that don't belong to this end are 0
 abbrev pub end_of : RunEnd → DmaRunEnd
 end_of (ends.Ended turns) = record (ended 1) { turns = turns }
 end_of ends.OutOfTurns = ended 2

@@ -1,4 +1,4 @@
--- What C is told of a call: one definition for all calls on a controller.
+-- What a call from C on a controller returns and writes: one definition for all calls.
 use Rattle.std.specs.Prelude.{◌≡◌, ◌≢◌, ℕ, ◌<◌, ◌≤◌, ◌⊎◌, zero, suc, Bool, true, false, ℤ, Option, None, Some, IsSomeAnd, MatchOption, Result, Ok, Err, List, length, min, unwrap_or}
 use Rattle.dma_mem.specs.Places.{Descriptor, filling}
 use Rattle.dma_mem.specs.Refusals.{refusal_of, refusal_of_fill}
@@ -29,25 +29,26 @@ use Rattle.dma_ffi.specs.declared.reports.DmaReport.{DmaReport}
 use Rattle.dma_ffi.specs.Codes.{ok_code, not_open, already_open, bad_kind, not_running, new_code, transfer_code, reply_code, mark_kind}
 use Rattle.dma_ffi.specs.Reports.{outcome_told, run_told, report_of}
 
--- ---- what is asked, and what is answered
+-- ---- requests and answers
 
--- What C asks of a controller.
+-- What C requests from a controller.
 pub data Asked : Type 0 where
   -- a call of the engine
   ask_call : Call → Asked
   -- a mark of the kind that has this number
   ask_mark : ℕ → Segment → Asked
-  -- a transfer to be given to a channel
+  -- the submit of a copy to a channel
   ask_copy : ℕ → Descriptor → Asked
-  -- a fill, from an address, to be given to a channel
+  -- the submit of a fill to a channel: the address of its byte, its destinations, and the events that it waits for and
+  -- signals
   ask_fill : ℕ → ℕ → List Segment → Option ℕ → Option ℕ → Asked
-  -- steps of a channel, at most so many
+  -- steps of a channel, at most this many
   ask_steps : ℕ → ℕ → Asked
   -- what runs on a channel
   ask_running : ℕ → Asked
   -- how many cookies of a channel aren't finished
   ask_unfinished : ℕ → Asked
-  -- of how many cookies of a channel checkpoints have forgotten the results
+  -- the number of a channel's cookies whose results were forgotten by checkpoints
   ask_forgotten : ℕ → Asked
   -- the step count
   ask_step_count : Asked
@@ -58,38 +59,38 @@ pub data Asked : Type 0 where
   -- how many transfers run
   ask_running_count : Asked
 
--- What is answered.
+-- What the controller answers.
 pub data Answer : Type 0 where
   -- there is no engine
   closed : Answer
   -- the engine's reply to a call
   replied : Reply → Answer
-  -- there is no such transfer, or memory was wanting for it
+  -- no transfer was made, because of this broken rule or because memory ran out
   unfit : TransferFault → Answer
-  -- there is no such kind of mark
+  -- no kind of mark has this number
   no_kind : Answer
-  -- so many steps were taken, and the last one did this
+  -- this many steps were taken, and the last one did this
   stepped : ℕ → Option Turn → Answer
-  -- what runs, if something does
+  -- what runs on the channel, if anything
   runs : Option Running → Answer
   -- a number
   numbered : ℕ → Answer
 
--- a copy of these lists, with these events
+-- the copy of these sources to these destinations, with the events that it waits for and signals
 abbrev pub copying : List Segment → List Segment → Option ℕ → Option ℕ → Descriptor
 copying src dst wait signal = record { fill = false; src = src; dst = dst; wait = wait; signal = signal }
 
 -- ---- steps in a row
 
--- Whether a further step is taken: there was none before, or the last one started a transfer or moved.
+-- Whether a further step is taken: none was taken before, or the last one started a transfer or moved.
 abbrev pub goes_on : Option Turn → Bool
 goes_on None = true
 goes_on (Some (Started cookie)) = true
 goes_on (Some Moved) = true
 goes_on (Some _) = false
 
--- So many steps of a channel, one after another, each of which goes on from the one before. The last one did this, and they leave
--- such a view.
+-- The channel takes this many steps, one after another, and none is refused. Each step but the last starts a transfer
+-- or moves. `last` is what the last step did, or none without a step, and `w` is the view after the steps.
 abbrev pub InARow : View → ℕ → ℕ → Option Turn → View → Type 0
 InARow v ch zero last w = (last ≡ None) × (w ≡ v)
 InARow v ch (suc n) last w =
@@ -100,8 +101,8 @@ InARow v ch (suc n) last w =
 abbrev pub RefusesStep : View → ℕ → Type 0
 RefusesStep v ch = (fault : EngineFault) × StepAnswers v ch (Err fault) v
 
--- Steps of a channel, at most so many, of which so many were taken: up to the most, or to one after which none is taken, or, if
--- there were any, to where the next one is refused.
+-- A call takes `taken` of at most `most` steps of a channel. It stops at `most` steps; or after a step that neither
+-- started a transfer nor moved; or, after at least one step, before a step that is refused.
 pub record TakesSteps (v : View) (ch most taken : ℕ) (last : Option Turn) (w : View) : Type 0 where
   pub row : InARow v ch taken last w
   pub few : taken ≤ most
@@ -109,29 +110,30 @@ pub record TakesSteps (v : View) (ch most taken : ℕ) (last : Option Turn) (w :
 
 -- ---- how an engine answers
 
--- A mark: of no kind, or the engine's reply.
+-- The answer to a mark: `no_kind` for a number without a kind, and the view is unchanged; else the engine's reply.
 abbrev pub AnswersMark : View → Option MarkKind → Segment → Answer → View → Type 0
 AnswersMark v None range no_kind w = w ≡ v
 AnswersMark v (Some kind) range (replied reply) w = CallAnswers v (Mark kind range) reply w
 AnswersMark v _ _ _ w = ⊥
 
--- A transfer: the first of its refusals, or want of memory where it has none; else the engine's reply.
+-- The answer to a submit: `unfit` with the transfer's refusal, or with `NoMemory` if it has none, and the view is
+-- unchanged; or the engine's reply, only for a transfer without a refusal.
 abbrev pub AnswersSubmit : View → ℕ → Option TransferFault → Descriptor → Answer → View → Type 0
 AnswersSubmit v ch refusal t (unfit fault) w = (fault ≡ unwrap_or refusal transfers.NoMemory) × (w ≡ v)
 AnswersSubmit v ch refusal t (replied reply) w = (refusal ≡ None) × CallAnswers v (Submit ch t) reply w
 AnswersSubmit v ch refusal t _ w = ⊥
 
--- Steps: a refusal of the first, or those that were taken.
+-- The answer to steps: the refusal of the first step, only if `most` isn't 0; or the steps that were taken.
 abbrev pub AnswersSteps : View → ℕ → ℕ → Answer → View → Type 0
 AnswersSteps v ch most (replied (Refused fault)) w = (0 < most) × StepAnswers v ch (Err fault) w
 AnswersSteps v ch most (stepped taken last) w = TakesSteps v ch most taken last w
 AnswersSteps v ch most _ w = ⊥
 
--- A reading, which leaves the view as it is.
+-- A request that only reads: the answer is this value, and the view is unchanged.
 abbrev pub Reads : View → Answer → Answer → View → Type 0
 Reads v value answer w = (answer ≡ value) × (w ≡ v)
 
--- An engine with this view answers so, and has such a view then.
+-- An engine with the view `v` may give this answer to the request, and then has the view `w`.
 abbrev pub Answers : View → Asked → Answer → View → Type 0
 Answers v (ask_call call) (replied reply) w = CallAnswers v call reply w
 Answers v (ask_call call) _ w = ⊥
@@ -153,7 +155,7 @@ abbrev pub steps_answer : Result Taken EngineFault → Answer
 steps_answer (Ok taken) = stepped taken.count taken.last
 steps_answer (Err fault) = replied (Refused fault)
 
--- ---- what C is told
+-- ---- what a call returns and writes
 
 -- the code of an answer
 abbrev pub code_of : Answer → ℤ
@@ -166,7 +168,7 @@ code_of (runs (Some running)) = ok_code
 code_of (stepped taken last) = ok_code
 code_of (numbered number) = ok_code
 
--- What a call writes: what was there before, and what is there afterwards.
+-- What a call writes: the values of its output arguments before and after the call.
 pub data Written : Type 0 where
   nothing : Written
   a_number : ℕ → ℕ → Written
@@ -176,40 +178,40 @@ pub data Written : Type 0 where
   a_run : DmaRun → DmaRun → Written
   a_report : DmaReport → DmaReport → Written
 
--- The answer's number, or what was there where it has none.
+-- The number in the answer, or the former value if the answer has none.
 abbrev pub number_in : Answer → ℕ → ℕ
 number_in (replied (Cookie cookie)) before = cookie
 number_in (replied (Count count)) before = count
 number_in (numbered number) before = number
 number_in _ before = before
 
--- The answer's bytes, or what was there.
+-- The bytes in the answer, or the former bytes if the answer has none.
 abbrev pub bytes_in : Answer → List ℕ → List ℕ
 bytes_in (replied (Bytes bytes)) before = bytes
 bytes_in _ before = before
 
--- The transfer that the answer names as the cause of a refusal, or what was there.
+-- The transfer that a `Busy` or `Running` refusal names, or the former value for any other answer.
 abbrev pub conflict_in : Answer → DmaConflict → DmaConflict
 conflict_in (replied (Refused (Busy ch cookie))) before = record { channel = ch; cookie = cookie }
 conflict_in (replied (Refused (RunningOn ch cookie))) before = record { channel = ch; cookie = cookie }
 conflict_in _ before = before
 
--- The answer's outcome, or what was there.
+-- The outcome in the answer, or the former value if the answer has none.
 abbrev pub outcome_in : Answer → DmaOutcome → DmaOutcome
 outcome_in (replied (Resulted (Some outcome))) before = outcome_told outcome
 outcome_in _ before = before
 
--- What runs, or what was there.
+-- What runs, or the former value if nothing does.
 abbrev pub run_in : Answer → DmaRun → DmaRun
 run_in (runs (Some running)) before = run_told running
 run_in _ before = before
 
--- The report of the steps, or what was there.
+-- The report of the steps, or the former value if the answer isn't about steps that were taken.
 abbrev pub report_in : Answer → DmaReport → DmaReport
 report_in (stepped taken last) before = report_of taken last
 report_in _ before = before
 
--- What is written is the answer's, and where the answer has none of it, what was there stays.
+-- Each output argument has the answer's value for it after the call, or its former value if the answer has none.
 abbrev pub IsWritten : Answer → Written → Type 0
 IsWritten answer nothing = Unit {0}
 IsWritten answer (a_number before after) = after ≡ number_in answer before
@@ -219,13 +221,14 @@ IsWritten answer (an_outcome before after) = after ≡ outcome_in answer before
 IsWritten answer (a_run before after) = after ≡ run_in answer before
 IsWritten answer (a_report before after) = after ≡ report_in answer before
 
--- An engine with this view answers what is asked, and has such a view then; and the code and what is written are that
--- answer's.
+-- An engine with the view `v` may give some answer to the request and then has the view `w`. The code and what is
+-- written are those of this answer.
 unfoldable pub Tells : View → Asked → ℤ → Written → View → Type 0
 Tells v asked code written w = (answer : Answer) × Answers v asked answer w × (code ≡ code_of answer) × IsWritten answer written
 
--- What a call leaves of an engine besides its view. One that only tells leaves view, bytes and room as they were, and so does
--- a checkpoint that is refused. After one that is made the lists have no room to spare.
+-- What a call does to the engine's whole state, beyond its view. A request for a status, a result, what runs, or a
+-- number doesn't change the state, and neither does a refused checkpoint. After a checkpoint that succeeds the lists
+-- have no spare capacity.
 abbrev pub Leaves : Asked → ℤ → EngineState → EngineState → Type 0
 Leaves (ask_call (StatusOf ch cookie)) code e e' = e' ≡ e
 Leaves (ask_call (ResultOf ch cookie)) code e e' = e' ≡ e
@@ -239,8 +242,9 @@ Leaves ask_running_count code e e' = e' ≡ e
 Leaves (ask_call Checkpoint) code e e' = (code ≡ ok_code → HasGivenBack e') × (code ≢ ok_code → e' ≡ e)
 Leaves _ code e e' = Unit {0}
 
--- What C is told of a call on a controller, which held the first engine before and holds the second afterwards. Without an
--- engine it is told so, whatever is asked, and there is none afterwards; with one, it is told what that engine answers.
+-- What a call from C on a controller returns and writes. The controller holds the first engine before the call and the
+-- second one after it. Without an engine each request is answered by `closed`, and there is no engine afterwards. With
+-- an engine, the engine answers the request, and the controller still has an engine afterwards.
 unfoldable pub Told : Option EngineState → Asked → ℤ → Written → Option EngineState → Type 0
 Told None asked code written new = (new ≡ None) × (code ≡ code_of closed) × IsWritten closed written
 Told (Some e) asked code written new =
@@ -248,8 +252,10 @@ Told (Some e) asked code written new =
 
 -- ---- an engine made
 
--- What C is told of an engine to be made of that size and number of channels: there is one already, or the first cause for which
--- none is made, or there is a new one.
+-- What opening a controller with this memory size and number of channels returns. If the controller has an engine:
+-- `already_open`, and the engine is unchanged. Else, without an engine afterwards: the code of the first fault of
+-- these arguments, or of `NoMemory` if they have none. Else `ok_code`, only for arguments without a fault, and the
+-- controller has a new engine.
 unfoldable pub ToldNew : Option EngineState → ℕ → ℕ → ℤ → Option EngineState → Type 0
 ToldNew (Some e) size channels code new = (code ≡ already_open) × (new ≡ Some e)
 ToldNew None size channels code new =

@@ -1,4 +1,5 @@
--- What a controller's type keeps, and what carries a proof from step to step: nobody has to believe it.
+-- Definitions for what the pointers that C keeps own, and for the steps of proofs. The contracts of the calls from C
+-- don't use them.
 pub mod Owned
 pub mod OwnedChannel
 pub mod InRow

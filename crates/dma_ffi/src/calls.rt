@@ -1,4 +1,5 @@
-//! What the calls do to an engine that is there: each is the engine's own call, and tells C its answer.
+//! The calls on the engine of an open controller. Each makes the engine's own call, and returns and writes its answer
+//! for C.
 
 ghost use Rattle.std.specs.Prelude.{◌≡◌, ◌≢◌, IfErr, IfOk, length};
 ghost use Rattle.dma_engine.specs.Answer.{reply_of};
@@ -19,7 +20,7 @@ use crate::steps::take_steps;
 use dma_engine::{Call, Engine, EngineFault, Reply};
 use dma_mem::transfer::{Transfer, TransferFault};
 
-// Returns the code of a call that answers nothing more, and writes the transfer that it conflicts with, if there is one.
+// Returns the code of a call whose answer has no value, and writes the transfer that the call conflicts with, if any.
 fn done_unless(answer: Result<(), EngineFault>, conflict: &mut DmaConflict) -> i32
     ensures code { result ≡ reply_code (reply_of (λ _. Reply.Done) answer) }
     ensures conflict { conflict.new ≡ conflict_in (replied (reply_of (λ _. Reply.Done) answer)) conflict.old }
@@ -30,7 +31,7 @@ fn done_unless(answer: Result<(), EngineFault>, conflict: &mut DmaConflict) -> i
     done(answer)
 }
 
-/// Writes bytes from an address on.
+/// Writes bytes to the memory, starting at address `addr`.
 #[tactic(auto, using(crate::proofs::Tells::tells_unless))]
 pub fn write(engine: &mut Engine, addr: u32, bytes: &[u8], conflict: &mut DmaConflict) -> i32
     ensures { Tells engine.old.view (ask_call (Call.Write addr bytes.now)) result (a_conflict conflict.old conflict.new)
@@ -39,7 +40,7 @@ pub fn write(engine: &mut Engine, addr: u32, bytes: &[u8], conflict: &mut DmaCon
     done_unless(engine.write(addr, bytes), conflict)
 }
 
-/// Reads as many bytes as there is room for.
+/// Reads bytes of the memory, starting at address `addr`, until `out` is full.
 pub fn read(engine: &mut Engine, addr: u32, out: &mut [u8], conflict: &mut DmaConflict) -> i32
     ensures { Tells engine.old.view (ask_call (Call.Read addr (length out.old))) result
         (bytes_or_conflict out.old out.new conflict.old conflict.new) engine.new.view }
@@ -53,7 +54,8 @@ pub fn read(engine: &mut Engine, addr: u32, out: &mut [u8], conflict: &mut DmaCo
     }
 }
 
-/// Gives a transfer to a channel, where one was made.
+/// Submits a transfer to a channel and writes its cookie, or returns the code of the fault for which no transfer was
+/// made.
 #[tactic(auto, using(crate::proofs::Tells::tells_number))]
 pub fn submit(
     engine: &mut Engine,
@@ -72,7 +74,7 @@ pub fn submit(
     }
 }
 
-/// Issues all submitted cookies of a channel.
+/// Issues all submitted cookies of a channel, and writes their number.
 #[tactic(auto, using(crate::proofs::Tells::tells_number))]
 pub fn issue(engine: &mut Engine, ch: u8, count: &mut u32) -> i32
     ensures { Tells engine.old.view (ask_call (Call.Issue ch)) result (a_number count.old count.new) engine.new.view }
@@ -96,7 +98,7 @@ pub fn resume(engine: &mut Engine, ch: u8) -> i32
     done(engine.resume(ch))
 }
 
-/// Aborts all unfinished cookies of a channel.
+/// Aborts all unfinished cookies of a channel, and writes their number.
 #[tactic(auto, using(crate::proofs::Tells::tells_number))]
 pub fn terminate(engine: &mut Engine, ch: u8, count: &mut u32) -> i32
     ensures { Tells engine.old.view (ask_call (Call.Terminate ch)) result (a_number count.old count.new) engine.new.view }
@@ -104,7 +106,7 @@ pub fn terminate(engine: &mut Engine, ch: u8, count: &mut u32) -> i32
     counted(engine.terminate(ch), count)
 }
 
-/// Takes at most so many steps of a channel.
+/// Takes at most `most` steps of a channel, and writes their report.
 #[tactic(auto, using(crate::proofs::Tells::tells_steps))]
 pub fn step(engine: &mut Engine, ch: u8, most: u32, report: &mut DmaReport) -> i32
     ensures { Tells engine.old.view (ask_steps ch most) result (a_report report.old report.new) engine.new.view }
@@ -112,7 +114,7 @@ pub fn step(engine: &mut Engine, ch: u8, most: u32, report: &mut DmaReport) -> i
     told_steps(take_steps(engine, ch, most), report)
 }
 
-/// How far a cookie is.
+/// Returns the code of a cookie's status.
 #[tactic(auto, using(crate::proofs::Tells::tells_status))]
 pub fn status(engine: &Engine, ch: u8, cookie: u32) -> i32
     ensures { Tells engine.now.view (ask_call (Call.Status ch cookie)) result nothing engine.now.view }
@@ -120,7 +122,7 @@ pub fn status(engine: &Engine, ch: u8, cookie: u32) -> i32
     code_of_status(engine.status(ch, cookie))
 }
 
-/// How a cookie finished.
+/// Writes how a cookie finished. Fails if that isn't known.
 #[tactic(auto, using(crate::proofs::Tells::tells_outcome))]
 pub fn outcome(engine: &Engine, ch: u8, cookie: u32, outcome: &mut DmaOutcome) -> i32
     ensures { Tells engine.now.view (ask_call (Call.Result ch cookie)) result (an_outcome outcome.old outcome.new)
@@ -129,7 +131,7 @@ pub fn outcome(engine: &Engine, ch: u8, cookie: u32, outcome: &mut DmaOutcome) -
     told_outcome(engine.result(ch, cookie), outcome)
 }
 
-/// What runs on a channel.
+/// Writes what runs on a channel. Fails if nothing does.
 #[tactic(auto, using(crate::proofs::Tells::tells_run))]
 pub fn running(engine: &Engine, ch: u8, run: &mut DmaRun) -> i32
     ensures { Tells engine.now.view (ask_running ch) result (a_run run.old run.new) engine.now.view }
@@ -137,7 +139,7 @@ pub fn running(engine: &Engine, ch: u8, run: &mut DmaRun) -> i32
     told_run(engine.running(ch), run)
 }
 
-/// How many cookies of a channel aren't finished.
+/// Writes the number of unfinished cookies of a channel.
 #[tactic(auto, using(crate::proofs::Tells::tells_unfinished))]
 pub fn unfinished(engine: &Engine, ch: u8, count: &mut u32) -> i32
     ensures { Tells engine.now.view (ask_unfinished ch) result (a_number count.old count.new) engine.now.view }
@@ -146,7 +148,7 @@ pub fn unfinished(engine: &Engine, ch: u8, count: &mut u32) -> i32
     OK
 }
 
-/// Of how many cookies of a channel checkpoints have forgotten the results.
+/// Writes the number of a channel's cookies whose results were forgotten by checkpoints.
 #[tactic(auto, using(crate::proofs::Tells::tells_forgotten))]
 pub fn forgotten(engine: &Engine, ch: u8, count: &mut u32) -> i32
     ensures { Tells engine.now.view (ask_forgotten ch) result (a_number count.old count.new) engine.now.view }
@@ -155,7 +157,7 @@ pub fn forgotten(engine: &Engine, ch: u8, count: &mut u32) -> i32
     OK
 }
 
-/// The step count.
+/// Writes the step count.
 #[tactic(auto, using(crate::proofs::Tells::tells_step_count))]
 pub fn steps(engine: &Engine, steps: &mut u64) -> i32
     ensures { Tells engine.now.view ask_step_count result (a_number steps.old steps.new) engine.now.view }
@@ -164,7 +166,7 @@ pub fn steps(engine: &Engine, steps: &mut u64) -> i32
     OK
 }
 
-/// How many entries the history has.
+/// Writes the number of entries in the history.
 #[tactic(auto, using(crate::proofs::Tells::tells_history_entries))]
 pub fn history_entries(engine: &Engine, count: &mut u64) -> i32
     ensures { Tells engine.now.view ask_history_entries result (a_number count.old count.new) engine.now.view }
@@ -173,7 +175,7 @@ pub fn history_entries(engine: &Engine, count: &mut u64) -> i32
     OK
 }
 
-/// How many bytes the history keeps.
+/// Writes the number of bytes that the history keeps.
 #[tactic(auto, using(crate::proofs::Tells::tells_history_bytes))]
 pub fn history_bytes(engine: &Engine, count: &mut u64) -> i32
     ensures { Tells engine.now.view ask_history_bytes result (a_number count.old count.new) engine.now.view }
@@ -182,7 +184,7 @@ pub fn history_bytes(engine: &Engine, count: &mut u64) -> i32
     OK
 }
 
-/// How many transfers run.
+/// Writes the number of running transfers.
 #[tactic(auto, using(crate::proofs::Tells::tells_running_count))]
 pub fn running_count(engine: &Engine, count: &mut u32) -> i32
     ensures { Tells engine.now.view ask_running_count result (a_number count.old count.new) engine.now.view }
@@ -191,7 +193,7 @@ pub fn running_count(engine: &Engine, count: &mut u32) -> i32
     OK
 }
 
-/// Marks a range.
+/// Marks a range for the kind with this number. Fails if there is no such kind, or if the engine refuses the mark.
 #[tactic(auto, using(crate::proofs::Tells::tells_mark, crate::proofs::Tells::tells_no_kind))]
 pub fn mark(engine: &mut Engine, kind: u32, range: DmaSegment) -> i32
     ensures { Tells engine.old.view (ask_mark kind (segment_of range)) result nothing engine.new.view }
@@ -218,7 +220,7 @@ pub fn raise(engine: &mut Engine, event: u8) -> i32
     done(engine.raise(event))
 }
 
-/// Makes the present the base of the history.
+/// Makes the current state the base of the history.
 #[tactic(auto, using(crate::proofs::Tells::tells_unless, crate::proofs::Tells::gives_back, crate::proofs::Tells::stays))]
 pub fn checkpoint(engine: &mut Engine, conflict: &mut DmaConflict) -> i32
     ensures answer { Tells engine.old.view (ask_call Call.Checkpoint) result (a_conflict conflict.old conflict.new) engine.new.view }

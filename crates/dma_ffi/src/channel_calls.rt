@@ -1,4 +1,4 @@
-//! What the calls on an open channel do.
+//! The calls on an open channel.
 
 ghost use Rattle.std.specs.Prelude.{◌≡◌, ◌≤◌, Option, None, length, take};
 ghost use Rattle.dma_chan.specs.Saved.{IsChannelValue, saved};
@@ -23,30 +23,30 @@ use dma_mem::regions::{Region, are_in_order, bytes_from};
 use dma_mem::transfer::{Transfer, TransferFault};
 use std::alloc::Global;
 
-/// The most regions of a memory.
+/// The maximum number of regions.
 const MAX_REGIONS: usize = 8;
 
-/// The addresses of a memory end here.
+/// The end of the address space.
 const END_OF_ADDRESSES: u64 = 1 << 32;
 
-/// Why a call on a channel failed.
+/// The reason that a call on a channel failed.
 #[derive(Clone, Copy, Debug, PartialEq, Eq)]
 pub enum ChannelFault {
     /// The channel isn't open.
     NotOpen,
-    /// There are too many regions, or they aren't in order.
+    /// There are too many regions, they aren't in order, or one ends above the largest size of a memory.
     BadRegions,
     /// The channel has no program.
     NoProgram,
     /// A program is longer than 8,192 bytes.
     ProgramTooLong,
-    /// Lists are no transfer.
+    /// No transfer was made: it breaks this rule, or memory ran out.
     Unfit(TransferFault),
     /// No kind of mark has this number.
     BadKind,
-    /// A range to be marked is empty, or ends above the last address.
+    /// The range is empty or ends above the last address.
     BadRange,
-    /// Bytes are no save of a channel.
+    /// The bytes aren't a save of a channel.
     BadSave,
     /// Out of memory.
     NoMemory,
@@ -64,15 +64,15 @@ pub struct ChannelRegisters {
     pub ccr: u32,
     pub lc0: u8,
     pub lc1: u8,
-    /// 1 where there is a program, else 0. A C program may keep any byte here before the call.
+    /// 1 if the channel has a program, else 0. The caller may pass any byte here.
     pub is_loaded: u8,
-    /// How many instructions were executed since the load.
+    /// The number of instructions executed since the load.
     pub taken: u32,
-    /// How many bytes were stored since the load.
+    /// The number of bytes stored since the load.
     pub stored: u64,
 }
 
-/// The code of a call.
+/// Returns the code of an outcome.
 pub fn code_of(outcome: Result<(), ChannelFault>) -> i32
     ensures { result ≡ outcome_code outcome }
 {
@@ -82,7 +82,7 @@ pub fn code_of(outcome: Result<(), ChannelFault>) -> i32
     }
 }
 
-/// The code of a call that failed.
+/// Returns the code of a fault.
 pub fn code_of_fault(fault: ChannelFault) -> i32
     ensures { result ≡ fault_code fault }
 {
@@ -101,7 +101,7 @@ pub fn code_of_fault(fault: ChannelFault) -> i32
 
 // ---- programs
 
-/// Loads the program of these bytes.
+/// Loads these bytes as a program. Fails with `ProgramTooLong` above 8,192 bytes, or with `NoMemory`.
 pub fn load_program(alloc: Global, channel: &mut Channel, bytes: &[u8]) -> Result<(), ChannelFault>
     ensures { LoadsBytes bytes.now channel.old result channel.new }
 {
@@ -112,14 +112,14 @@ pub fn load_program(alloc: Global, channel: &mut Channel, bytes: &[u8]) -> Resul
     }
 }
 
-/// Whether channels are stepped over these regions.
+/// Returns whether channels can be stepped over these regions.
 pub fn are_usable(regions: &[Region<'_>]) -> bool
     ensures { result ≡ are_usable regions.now }
 {
     regions.len() <= MAX_REGIONS && are_in_order(regions)
 }
 
-// Returns the first bytes, as many as a program has at most.
+// Returns the first 8,192 bytes, the maximum of a program, or all bytes if there are fewer.
 fn program_at_front(bytes: &[u8]) -> &[u8]
     ensures { result.now ≡ take 8192 bytes.now }
 {
@@ -130,7 +130,7 @@ fn program_at_front(bytes: &[u8]) -> &[u8]
     }
 }
 
-/// Loads the program that begins at an address of the regions.
+/// Loads the program that begins at address `addr` of the regions. Fails with `BadRegions`, or with `NoMemory`.
 pub fn load_from(
     alloc: Global,
     channel: &mut Channel,
@@ -148,7 +148,7 @@ pub fn load_from(
     }
 }
 
-// Loads the program of a transfer.
+// Loads the program of a transfer. Fails with `NoMemory`.
 fn load_compiled(
     alloc: Global,
     channel: &mut Channel,
@@ -165,7 +165,8 @@ fn load_compiled(
     }
 }
 
-/// Loads the program of a copy. A negative event is none.
+/// Loads the program of a copy. A negative `wait` or `signal` is no event. Fails with the first rule that the copy
+/// breaks, or with `NoMemory`.
 pub fn load_copy(
     alloc: Global,
     channel: &mut Channel,
@@ -183,7 +184,8 @@ pub fn load_copy(
     }
 }
 
-/// Loads the program of a fill. A negative event is none.
+/// Loads the program of a fill with the byte at `src`. A negative `wait` or `signal` is no event. Fails with the first
+/// rule that the fill breaks, or with `NoMemory`.
 pub fn load_fill(
     alloc: Global,
     channel: &mut Channel,
@@ -202,7 +204,7 @@ pub fn load_fill(
 
 // ---- registers and marks
 
-/// The registers and counts.
+/// Returns the registers and counts of a channel.
 pub fn registers_of(channel: &Channel) -> ChannelRegisters
     ensures { result ≡ registers_of channel.now }
 {
@@ -220,7 +222,7 @@ pub fn registers_of(channel: &Channel) -> ChannelRegisters
     }
 }
 
-/// Marks a range for the kind that has this number.
+/// Marks a range for the kind with this number. Fails with `BadKind`, `BadRange` or `NoMemory`, checked in this order.
 pub fn mark(marked: &mut MarkedChannel, kind: u32, range: DmaSegment) -> Result<(), ChannelFault>
     ensures { MarksRange (mark_kind kind) (segment_of range) marked.old result marked.new }
 {
@@ -241,7 +243,8 @@ pub fn mark(marked: &mut MarkedChannel, kind: u32, range: DmaSegment) -> Result<
 
 // ---- saves
 
-/// Writes the channel's save to the front of `out`, and its length, where `out` has room. Returns the code.
+/// Writes the channel's save to the front of `out`, and the save's length to `len`, if `out` has room. Returns the
+/// code.
 pub fn save(channel: &Channel, out: &mut [u8], len: &mut usize) -> i32
     ensures code { result ≡ room_code (saved channel.now) out.old }
     ensures bytes { out.new ≡ laid_into (saved channel.now) out.old }
@@ -258,7 +261,7 @@ pub fn save(channel: &Channel, out: &mut [u8], len: &mut usize) -> i32
     }
 }
 
-/// Makes the channel the one of a save.
+/// Restores the channel from a save. Fails with `BadSave` if the bytes aren't a save, or with `NoMemory`.
 pub fn restore(alloc: Global, channel: &mut Channel, save: &[u8]) -> Result<(), ChannelFault>
     ensures { Restores save.now channel.old result channel.new }
 {

@@ -1,4 +1,4 @@
-//! A channel and its marks on the heap as the pointer that C keeps.
+//! The pointer that C keeps to a channel and its marks on the heap.
 
 ghost use Rattle.std.specs.Prelude.{◌≡◌, IsSome, Option, None, Some};
 ghost use Rattle.dma_ffi.specs.declared.marked_channel.MarkedChannel.{MarkedChannel};
@@ -9,8 +9,8 @@ use box_pointer::BoxPointer;
 use std::alloc::Global;
 use std::marker::Model;
 
-/// A channel and its marks as the pointer that owns them, or nothing. C takes no box, so the pointer is one to bytes. It has no
-/// `Drop`: one to a channel ends by [`ChannelPointer::into_pointer`], one to nothing by [`ChannelPointer::end`].
+/// The pointer that owns a channel and its marks, or nothing. C has no `Box`, so it is a pointer to bytes. It has no
+/// `Drop`: [`ChannelPointer::into_pointer`] consumes one with a channel, [`ChannelPointer::end`] one without.
 #[repr(C)]
 pub struct ChannelPointer {
     at: *mut u8,
@@ -21,11 +21,11 @@ impl Model for ChannelPointer {
     ghost also_owns = { λ p. owned p.at p.value };
 }
 
-// What it owns says the same to every thread.
+// What the pointer owns doesn't depend on the thread.
 unsafe impl Send for ChannelPointer {}
 
 impl ChannelPointer {
-    /// Nothing.
+    /// Returns a pointer that owns nothing.
     pub fn empty() -> ChannelPointer
         ensures { result.value ≡ None }
     {
@@ -34,7 +34,7 @@ impl ChannelPointer {
         }
     }
 
-    /// A channel and its marks.
+    /// Returns the pointer to this channel and its marks.
     pub fn full(channel: BoxPointer<MarkedChannel, Global>) -> ChannelPointer
         ensures { result.value ≡ Some channel.value }
     {
@@ -42,14 +42,14 @@ impl ChannelPointer {
         ChannelPointer { at: at as *mut u8 }
     }
 
-    /// Ends one to nothing.
+    /// Consumes a pointer that owns nothing.
     pub fn end(self)
         requires { self.value ≡ None }
     {
         let ChannelPointer { at: _ } = self;
     }
 
-    /// The channel that is there.
+    /// Returns the channel that the pointer owns.
     pub fn into_pointer(self, alloc: Global) -> BoxPointer<MarkedChannel, Global>
         requires { IsSome self.value }
         ensures { Some result.value ≡ self.value }

@@ -1,4 +1,4 @@
-//! Steps of a channel that C keeps, and what C learns of them.
+//! Steps of a channel that C keeps, and their reports.
 
 ghost use Rattle.std.specs.Prelude.{◌≡◌, IsTrue, IsSome, Some};
 ghost use Rattle.dma_mem.specs.Regions.{in_order, pieces_of};
@@ -16,33 +16,33 @@ use dma_mem::events::Events;
 use dma_mem::regions::Region;
 use std::alloc::Global;
 
-/// How many steps were taken, and what the last one did.
+/// The number of steps that were taken, and what the last one did.
 #[repr(C)]
 #[derive(Clone, Copy)]
 pub struct ChannelReport {
-    /// How many steps were taken, the last one included.
+    /// The number of steps that were taken, including the last one.
     pub taken: u32,
-    /// What the last one did: 0 where none was taken, else 1 moved, 2 waiting, 3 ended, 4 failed, 5 signalled. What isn't
-    /// said to be of it is 0.
+    /// What the last one did: 0 if none was taken, else 1 moved, 2 waiting, 3 ended, 4 failed, 5 signalled. `event`
+    /// and `fault` are 0 except for the turns that they name.
     pub turn: u32,
-    /// The event, of 2 and 5.
+    /// The event, for 2 and 5.
     pub event: u32,
-    /// The fault by its number, of 4.
+    /// The number of the fault, for 4.
     pub fault: u32,
-    /// The offset of the next instruction in the program: of 2 and 4 that of the one that waits or failed.
+    /// The offset of the next instruction in the program. For 2 and 4 it is the instruction that waits or failed.
     pub pc: u32,
 }
 
 /// The steps that were taken.
 #[derive(Clone, Copy, Debug, PartialEq, Eq)]
 pub struct Stepped {
-    /// How many, and what the last one did.
+    /// Their number, and what the last one did.
     pub taken: Taken,
     /// The offset of the next instruction in the program.
     pub pc: u32,
 }
 
-// Takes steps over lent regions and flags.
+// Takes at most `most` steps over lent regions and flags.
 fn step_lent(
     marked: &mut MarkedChannel,
     regions: &mut [Region<'_>],
@@ -74,7 +74,8 @@ fn step_lent(
     }
 }
 
-/// Takes steps of C's channel, if it is open.
+/// Takes at most `most` steps of C's channel. Fails with `NotOpen`, `BadRegions` or `NoProgram`, checked in this
+/// order.
 pub fn step(
     alloc: Global,
     kept: &mut KeptChannel,
@@ -99,7 +100,7 @@ pub fn step(
     answer
 }
 
-// The report of this many steps, of which the last one did what has this number.
+// Returns the report of `taken` steps with this offset and turn number, and 0 as event and fault.
 fn did(taken: u32, pc: u32, turn: u32) -> ChannelReport
     ensures { result ≡ did taken pc turn }
 {
@@ -112,7 +113,7 @@ fn did(taken: u32, pc: u32, turn: u32) -> ChannelReport
     }
 }
 
-// The report of this many steps, and of what the last one did.
+// Returns the report of `taken` steps and of what the last one did, if any.
 fn report_of(taken: u32, pc: u32, last: Option<ChanTurn>, signal: Option<Event>) -> ChannelReport
     ensures { result ≡ report_of taken pc last signal }
 {
@@ -122,7 +123,7 @@ fn report_of(taken: u32, pc: u32, last: Option<ChanTurn>, signal: Option<Event>)
     }
 }
 
-// The same where a step was taken.
+// Returns the report of `taken` steps, the last of which did `turn`.
 fn report_of_turn(taken: u32, pc: u32, turn: ChanTurn, signal: Option<Event>) -> ChannelReport
     ensures { result ≡ report_of taken pc (Some turn) signal }
 {
@@ -140,7 +141,7 @@ fn report_of_turn(taken: u32, pc: u32, turn: ChanTurn, signal: Option<Event>) ->
     }
 }
 
-// The same where it moved.
+// Returns the report of `taken` steps, the last of which moved and signalled this event, if any.
 fn report_of_move(taken: u32, pc: u32, signal: Option<Event>) -> ChannelReport
     ensures { result ≡ report_of taken pc (Some ChanTurn.Moved) signal }
 {
@@ -153,7 +154,7 @@ fn report_of_move(taken: u32, pc: u32, signal: Option<Event>) -> ChannelReport
     }
 }
 
-/// The code of steps, and their report where they were taken.
+/// Returns the code of steps, and writes their report if they were taken.
 pub fn reported(answer: Result<Stepped, ChannelFault>, report: &mut ChannelReport) -> i32
     ensures code { result ≡ steps_code answer }
     ensures written { report.new ≡ report_in answer report.old }

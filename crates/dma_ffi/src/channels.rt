@@ -1,7 +1,7 @@
-//! Channels that C keeps, each stepped over memory and event flags that C lends for the time of a call.
+//! Channels that C keeps. Each is stepped over memory and event flags that C lends for the duration of a call.
 //!
-//! The duties of the caller are those of a controller's. They include the bytes of regions: their pointers are not null, and
-//! no two of them overlap, nor do they overlap anything else that the call is given.
+//! The caller has the same duties as for a controller, and they include the bytes of the regions: their pointers are
+//! not null, and they overlap neither each other nor anything else that the call gets.
 
 ghost use Rattle.std.specs.Prelude.{◌≡◌, None};
 ghost use Rattle.dma_ffi.specs.Channels.{Becomes, LoadsBytes, LoadsCopy, LoadsFill, LoadsFrom, MarksRange, OnChannel, OnOpen, Opens, ReportsSteps, Restores, WritesRegisters, WritesSave, stopped, unmarked};
@@ -23,7 +23,7 @@ use dma_mem::marks::Marks;
 use dma_mem::regions::Region;
 use std::alloc::Global;
 
-/// Opens a channel without a program and without marks.
+/// Opens a channel without a program and without marks. Fails if it is open already, or if out of memory.
 #[unsafe(no_mangle)]
 pub extern "C" fn dma330_channel_open(alloc: Global, kept: &mut KeptChannel) -> i32
     ensures { Opens kept.old.channel.value result kept.new.channel.value }
@@ -42,7 +42,7 @@ pub extern "C" fn dma330_channel_open(alloc: Global, kept: &mut KeptChannel) -> 
     OK
 }
 
-/// Frees what an open channel holds.
+/// Closes a channel and frees its memory, if it is open.
 #[unsafe(no_mangle)]
 pub extern "C" fn dma330_channel_close(alloc: Global, kept: &mut KeptChannel)
     ensures { kept.new.channel.value ≡ None }
@@ -52,7 +52,8 @@ pub extern "C" fn dma330_channel_close(alloc: Global, kept: &mut KeptChannel)
 
 // ---- programs
 
-/// Loads the program of a copy in place of what was there. A negative event is none.
+/// Loads the program of a copy in place of the former program. A negative `wait` or `signal` is no event. Fails with
+/// the first rule that the copy breaks, or if out of memory.
 #[unsafe(no_mangle)]
 pub extern "C" fn dma330_channel_load_copy(
     alloc: Global,
@@ -73,7 +74,8 @@ pub extern "C" fn dma330_channel_load_copy(
     code_of(outcome)
 }
 
-/// Loads the program of a fill, of the byte at `src`, in place of what was there. A negative event is none.
+/// Loads the program of a fill with the byte at `src` in place of the former program. A negative `wait` or `signal` is
+/// no event. Fails with the first rule that the fill breaks, or if out of memory.
 #[unsafe(no_mangle)]
 pub extern "C" fn dma330_channel_load_fill(
     alloc: Global,
@@ -94,7 +96,8 @@ pub extern "C" fn dma330_channel_load_fill(
     code_of(outcome)
 }
 
-/// Loads the program of these bytes in place of what was there. They are read now and not again.
+/// Loads these bytes as a program in place of the former program. The bytes are copied, so later changes to them have
+/// no effect. Fails if there are more than 8,192 bytes, or if out of memory.
 #[unsafe(no_mangle)]
 pub extern "C" fn dma330_channel_load_program(
     alloc: Global,
@@ -111,7 +114,8 @@ pub extern "C" fn dma330_channel_load_program(
     code_of(outcome)
 }
 
-/// Loads the program that begins at an address of the regions, in place of what was there.
+/// Loads the program that begins at address `addr` of the regions, in place of the former program. Fails if the
+/// regions aren't usable, or if out of memory.
 #[unsafe(no_mangle)]
 pub extern "C" fn dma330_channel_load_from(
     alloc: Global,
@@ -129,7 +133,7 @@ pub extern "C" fn dma330_channel_load_from(
     code_of(outcome)
 }
 
-/// Drops the program. Registers and counts stay.
+/// Drops the program. Registers and counts are unchanged.
 #[unsafe(no_mangle)]
 pub extern "C" fn dma330_channel_stop(alloc: Global, kept: &mut KeptChannel) -> i32
     ensures { Becomes stopped kept.old.channel.value result kept.new.channel.value }
@@ -144,8 +148,10 @@ pub extern "C" fn dma330_channel_stop(alloc: Global, kept: &mut KeptChannel) -> 
 
 // ---- steps and registers
 
-/// Takes at most `most` steps over the regions and the flags, up to one that doesn't move or that sets a flag. Both are the
-/// caller's: the channel keeps no pointer to them.
+/// Takes at most `most` steps over the regions and the flags, and writes their report. It stops after the first step
+/// that doesn't move or that sets a flag, and when the channel has executed 4,294,967,295 instructions since the load.
+/// The channel keeps no pointer to the regions and the flags. Fails if the channel isn't open, the regions aren't
+/// usable, or the channel has no program.
 #[unsafe(no_mangle)]
 pub extern "C" fn dma330_channel_step(
     alloc: Global,
@@ -162,7 +168,7 @@ pub extern "C" fn dma330_channel_step(
     reported(answer, report)
 }
 
-/// Writes the registers and counts.
+/// Writes the registers and counts of the channel.
 #[unsafe(no_mangle)]
 pub extern "C" fn dma330_channel_registers(
     alloc: Global,
@@ -181,7 +187,8 @@ pub extern "C" fn dma330_channel_registers(
 
 // ---- marks
 
-/// Marks a range: kind 0 for loads of this channel, 1 for stores.
+/// Marks a range: kind 0 for loads of this channel, 1 for stores. Fails for any other kind, for a range that is empty
+/// or ends above the last address, or if out of memory.
 #[unsafe(no_mangle)]
 pub extern "C" fn dma330_channel_mark(
     alloc: Global,
@@ -214,7 +221,8 @@ pub extern "C" fn dma330_channel_unmark(alloc: Global, kept: &mut KeptChannel) -
 
 // ---- saves
 
-/// Writes all that the channel is, but for its marks, as plain bytes, and how many these are.
+/// Writes the channel's state, without its marks, as plain bytes to `out`, and their number to `len`. Fails if `out`
+/// is too small.
 #[unsafe(no_mangle)]
 pub extern "C" fn dma330_channel_save(
     alloc: Global,
@@ -232,7 +240,7 @@ pub extern "C" fn dma330_channel_save(
     code
 }
 
-/// Makes the channel the one of a save. Its marks stay.
+/// Restores the channel from a save. Its marks are unchanged. Fails if the bytes aren't a save, or if out of memory.
 #[unsafe(no_mangle)]
 pub extern "C" fn dma330_channel_restore(alloc: Global, kept: &mut KeptChannel, save: &[u8]) -> i32
     ensures { OnChannel (Restores save.now) kept.old.channel.value result kept.new.channel.value }

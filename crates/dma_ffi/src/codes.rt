@@ -1,4 +1,4 @@
-//! The numbers by which C is told something.
+//! The numbers that calls from C return and write.
 
 ghost use Rattle.std.specs.Prelude.{◌≡◌};
 ghost use Rattle.dma_engine.specs.Answer.{reply_of, submit_reply};
@@ -11,13 +11,13 @@ use dma_insn::assembler::Cause;
 use dma_insn::codec::DecodeFault;
 use dma_mem::transfer::TransferFault;
 
-/// The call was carried out.
+/// The call succeeded.
 pub const OK: i32 = 0;
-/// There is no engine.
+/// The controller has no engine, or the channel isn't open.
 pub const NOT_OPEN: i32 = -1;
-/// There is an engine already.
+/// The controller has an engine already, or the channel is open already.
 pub const ALREADY_OPEN: i32 = -2;
-/// Memory was wanting.
+/// Out of memory.
 pub const NO_MEMORY: i32 = -3;
 /// An event is above 31.
 pub const BAD_EVENT: i32 = -4;
@@ -27,22 +27,22 @@ pub const BAD_KIND: i32 = -5;
 pub const NO_RESULT: i32 = -6;
 /// Nothing runs on the channel.
 pub const NOT_RUNNING: i32 = -7;
-/// What is to be written is longer than the room for it.
+/// The buffer is too small for what is to be written.
 pub const BUFFER_TOO_SMALL: i32 = -8;
 /// The channel has no program.
 pub const NO_PROGRAM: i32 = -9;
-/// A range to be marked is empty, or ends above the last address.
+/// A range is empty or ends above the last address.
 pub const BAD_RANGE: i32 = -15;
 /// A memory can't have this size.
 pub const SIZE_OUT_OF_RANGE: i32 = -21;
-/// There are too many regions, or they aren't in order.
+/// There are more than 8 regions, they aren't in order, or one ends above the largest size of a memory.
 pub const BAD_REGIONS: i32 = -22;
 /// A program is longer than 8,192 bytes.
 pub const PROGRAM_TOO_LONG: i32 = -40;
-/// Bytes are no save of a channel.
+/// The bytes aren't a save of a channel.
 pub const BAD_SAVE: i32 = -42;
 
-/// The code of a refused call.
+/// Returns the code of a refused call.
 pub fn code_of_fault(fault: EngineFault) -> i32
     ensures { result ≡ fault_code fault }
 {
@@ -59,7 +59,7 @@ pub fn code_of_fault(fault: EngineFault) -> i32
     }
 }
 
-/// Why no engine was made.
+/// Returns the code of a fault for which no engine is made.
 pub fn code_of_new(fault: NewFault) -> i32
     ensures { result ≡ new_code fault }
 {
@@ -70,7 +70,7 @@ pub fn code_of_new(fault: NewFault) -> i32
     }
 }
 
-/// Why no transfer was made.
+/// Returns the code of a fault for which no transfer is made.
 pub fn code_of_transfer(fault: TransferFault) -> i32
     ensures { result ≡ transfer_code fault }
 {
@@ -88,7 +88,7 @@ pub fn code_of_transfer(fault: TransferFault) -> i32
     }
 }
 
-/// Why a line of assembly text is no instruction.
+/// Returns the code of the reason that a line of assembly text isn't an instruction.
 pub fn code_of_cause(cause: Cause) -> i32
     ensures { result ≡ cause_code cause }
 {
@@ -99,7 +99,7 @@ pub fn code_of_cause(cause: Cause) -> i32
     }
 }
 
-/// Why bytes are no instruction.
+/// Returns the code of the reason that bytes aren't an instruction.
 pub fn code_of_decode(fault: DecodeFault) -> i32
     ensures { result ≡ decode_code fault }
 {
@@ -110,7 +110,7 @@ pub fn code_of_decode(fault: DecodeFault) -> i32
     }
 }
 
-/// How far a cookie is.
+/// Returns the code of a cookie's status.
 pub fn code_of_status(status: Status) -> i32
     ensures { result ≡ status_code status }
 {
@@ -121,7 +121,7 @@ pub fn code_of_status(status: Status) -> i32
     }
 }
 
-/// How a cookie finished, by the numbers of the kernel's `enum dmaengine_tx_result`.
+/// Returns the number of how a cookie finished (from the kernel's `enum dmaengine_tx_result`).
 pub fn number_of_result(how: TransResult) -> u32
     ensures { result ≡ result_number how }
 {
@@ -133,7 +133,7 @@ pub fn number_of_result(how: TransResult) -> u32
     }
 }
 
-/// The fault of an instruction.
+/// Returns the number of an instruction's fault.
 pub fn number_of_kind(kind: FaultKind) -> u32
     ensures { result ≡ kind_number kind }
 {
@@ -148,7 +148,7 @@ pub fn number_of_kind(kind: FaultKind) -> u32
     }
 }
 
-/// The kind of mark that has this number.
+/// Returns the kind of mark with this number, if any.
 pub fn kind_of(kind: u32) -> Option<MarkKind>
     ensures { result ≡ mark_kind kind }
 {
@@ -161,7 +161,8 @@ pub fn kind_of(kind: u32) -> Option<MarkKind>
     None
 }
 
-/// The event of a number, none of a negative one. All above 31 are bad, so 255 stands for those above it.
+/// Returns the event with this number, or none for a negative number. Numbers above 255 become 255, which is invalid
+/// like all events above 31.
 pub fn event_of(event: i32) -> Option<u8>
     ensures { result ≡ event_told event }
 {
@@ -174,7 +175,7 @@ pub fn event_of(event: i32) -> Option<u8>
     Some(event as u8)
 }
 
-/// The code of a call that answers nothing more.
+/// Returns the code of a call whose answer has no value.
 pub fn done(answer: Result<(), EngineFault>) -> i32
     ensures { result ≡ reply_code (reply_of (λ _. Reply.Done) answer) }
 {
@@ -184,7 +185,7 @@ pub fn done(answer: Result<(), EngineFault>) -> i32
     }
 }
 
-/// The code of a call that answers a count, which is written.
+/// Returns the code of a call that answers a count, and writes the count.
 pub fn counted(answer: Result<u32, EngineFault>, count: &mut u32) -> i32
     ensures code { result ≡ reply_code (reply_of (λ n. Reply.Count n) answer) }
     ensures number { count.new ≡ number_in (replied (reply_of (λ n. Reply.Count n) answer)) count.old }
@@ -198,7 +199,7 @@ pub fn counted(answer: Result<u32, EngineFault>, count: &mut u32) -> i32
     }
 }
 
-/// The code of a submit, which writes the cookie.
+/// Returns the code of a submit, and writes the cookie.
 pub fn submitted(answer: Result<u32, SubmitFault>, cookie: &mut u32) -> i32
     ensures code { result ≡ reply_code (submit_reply answer) }
     ensures number { cookie.new ≡ number_in (replied (submit_reply answer)) cookie.old }

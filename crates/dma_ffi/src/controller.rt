@@ -1,4 +1,4 @@
-//! What C keeps between calls.
+//! The value that C keeps for an engine between calls.
 
 ghost use Rattle.std.specs.Prelude.{◌≡◌, ◌↔◌, IsTrue, IsSome, None, Some};
 ghost use Rattle.std.specs.Option.{option_map};
@@ -8,9 +8,9 @@ use box_pointer::BoxPointer;
 use dma_engine::Engine;
 use std::alloc::Global;
 
-/// An engine, or none. C sets it to zeros, which are none, before the first call, and reads and writes nothing of it. It has no
-/// `Drop`, so the compiler refuses to let one go or to write over it: one ends by [`Controller::end`], which asks that there is
-/// no engine.
+/// An engine, or none. C sets it to zeros, which mean no engine, before the first call, and doesn't read or write it
+/// otherwise. It has no `Drop`, so the compiler rejects code that drops or overwrites it: [`Controller::end`] consumes
+/// it, and requires that it has no engine.
 #[repr(C)]
 pub struct Controller {
     pub engine: EnginePointer,
@@ -19,7 +19,7 @@ pub struct Controller {
 }
 
 impl Controller {
-    /// None, as zeros are.
+    /// Returns a controller without an engine, as zeros are.
     pub fn closed() -> Controller
         ensures { result.engine.value ≡ None }
     {
@@ -38,14 +38,14 @@ impl Controller {
         }
     }
 
-    /// Whether there is an engine.
+    /// Returns whether there is an engine.
     pub fn is_open(&self) -> bool
         ensures { IsTrue result ↔ IsSome self.now.engine.value }
     {
         self.is_open
     }
 
-    /// Takes the engine out, where there is one.
+    /// Takes the engine out, if there is an engine.
     pub fn take(&mut self, alloc: Global) -> Option<Box<Engine>>
         ensures closed { self.new.engine.value ≡ None }
         ensures taken { option_map (λ engine. engine.value) result ≡ self.old.engine.value }
@@ -59,7 +59,7 @@ impl Controller {
         }
     }
 
-    /// Puts an engine in where there is none.
+    /// Puts an engine into a controller without one.
     pub fn put(&mut self, engine: Box<Engine>)
         requires { self.old.engine.value ≡ None }
         ensures { self.new.engine.value ≡ Some engine.value }
@@ -67,7 +67,7 @@ impl Controller {
         std::mem::replace(self, Controller::holding(engine)).end();
     }
 
-    /// Ends one without an engine.
+    /// Consumes a controller without an engine.
     pub fn end(self)
         requires { self.engine.value ≡ None }
     {
@@ -76,14 +76,14 @@ impl Controller {
     }
 }
 
-/// Takes what may go from one thread to another.
+/// Returns the value unchanged. It accepts only values that may be sent to another thread.
 pub(crate) fn sent<T: Send>(value: T) -> T
     ensures { result ≡ value }
 {
     value
 }
 
-/// A controller may go from one thread to another.
+/// Returns the controller unchanged. It compiles only because a controller may be sent to another thread.
 pub fn goes_to_another_thread(controller: Controller) -> Controller
     ensures { result ≡ controller }
 {

@@ -1,4 +1,4 @@
-//! An engine on the heap as the pointer that C keeps.
+//! The pointer that C keeps to an engine on the heap.
 
 ghost use Rattle.std.specs.Prelude.{◌≡◌, IsSome, Option, None, Some};
 ghost use Rattle.dma_engine.specs.View.{EngineState};
@@ -9,8 +9,8 @@ use dma_engine::Engine;
 use std::alloc::Global;
 use std::marker::Model;
 
-/// An engine as the pointer that owns it, or nothing. C can't be handed a box, so the pointer is one to bytes. It has no
-/// `Drop`: one to an engine ends by [`EnginePointer::into_pointer`], one to nothing by [`EnginePointer::end`].
+/// The pointer that owns an engine, or nothing. C has no `Box`, so it is a pointer to bytes. It has no `Drop`:
+/// [`EnginePointer::into_pointer`] consumes one with an engine, [`EnginePointer::end`] one without.
 #[repr(C)]
 pub struct EnginePointer {
     at: *mut u8,
@@ -21,11 +21,11 @@ impl Model for EnginePointer {
     ghost also_owns = { λ p. owned p.at p.value };
 }
 
-// What it owns says the same to every thread.
+// What the pointer owns doesn't depend on the thread.
 unsafe impl Send for EnginePointer {}
 
 impl EnginePointer {
-    /// Nothing.
+    /// Returns a pointer that owns nothing.
     pub fn empty() -> EnginePointer
         ensures { result.value ≡ None }
     {
@@ -34,7 +34,7 @@ impl EnginePointer {
         }
     }
 
-    /// An engine.
+    /// Returns the pointer to this engine.
     pub fn full(engine: BoxPointer<Engine, Global>) -> EnginePointer
         ensures { result.value ≡ Some engine.value }
     {
@@ -42,14 +42,14 @@ impl EnginePointer {
         EnginePointer { at: at as *mut u8 }
     }
 
-    /// Ends one to nothing.
+    /// Consumes a pointer that owns nothing.
     pub fn end(self)
         requires { self.value ≡ None }
     {
         let EnginePointer { at: _ } = self;
     }
 
-    /// The engine that is there.
+    /// Returns the engine that the pointer owns.
     pub fn into_pointer(self, alloc: Global) -> BoxPointer<Engine, Global>
         requires { IsSome self.value }
         ensures { Some result.value ≡ self.value }

@@ -1,4 +1,4 @@
-//! What C keeps of a channel between calls.
+//! The value that C keeps for a channel between calls.
 
 ghost use Rattle.std.specs.Prelude.{◌≡◌, ◌↔◌, IsTrue, IsSome, None, Some};
 ghost use Rattle.std.specs.Option.{option_map};
@@ -9,9 +9,9 @@ use crate::marked_channel::MarkedChannel;
 use box_pointer::BoxPointer;
 use std::alloc::Global;
 
-/// A channel, or none. C sets it to zeros, which are none, before the first call, and reads and writes nothing of it. It has no
-/// `Drop`, so the compiler refuses to let one go or to write over it: one ends by [`KeptChannel::end`], which asks that there
-/// is no channel.
+/// A channel, or none. C sets it to zeros, which mean no channel, before the first call, and doesn't read or write it
+/// otherwise. It has no `Drop`, so the compiler rejects code that drops or overwrites it: [`KeptChannel::end`]
+/// consumes it, and requires that it has no channel.
 #[repr(C)]
 pub struct KeptChannel {
     pub channel: ChannelPointer,
@@ -20,7 +20,7 @@ pub struct KeptChannel {
 }
 
 impl KeptChannel {
-    /// None, as zeros are.
+    /// Returns a value without a channel, as zeros are.
     pub fn closed() -> KeptChannel
         ensures { result.channel.value ≡ None }
     {
@@ -39,14 +39,14 @@ impl KeptChannel {
         }
     }
 
-    /// Whether there is a channel.
+    /// Returns whether there is a channel.
     pub fn is_open(&self) -> bool
         ensures { IsTrue result ↔ IsSome self.now.channel.value }
     {
         self.is_open
     }
 
-    /// Takes the channel out, where there is one.
+    /// Takes the channel out, if there is a channel.
     pub fn take(&mut self, alloc: Global) -> Option<Box<MarkedChannel>>
         ensures closed { self.new.channel.value ≡ None }
         ensures taken { option_map (λ channel. channel.value) result ≡ self.old.channel.value }
@@ -60,7 +60,7 @@ impl KeptChannel {
         }
     }
 
-    /// Puts a channel in where there is none.
+    /// Puts a channel into a value without one.
     pub fn put(&mut self, channel: Box<MarkedChannel>)
         requires { self.old.channel.value ≡ None }
         ensures { self.new.channel.value ≡ Some channel.value }
@@ -68,7 +68,7 @@ impl KeptChannel {
         std::mem::replace(self, KeptChannel::holding(channel)).end();
     }
 
-    /// Ends one without a channel.
+    /// Consumes a value without a channel.
     pub fn end(self)
         requires { self.channel.value ≡ None }
     {
@@ -80,7 +80,7 @@ impl KeptChannel {
     }
 }
 
-/// A channel may go from one thread to another.
+/// Returns the channel unchanged. It compiles only because a channel may be sent to another thread.
 pub fn channel_goes_to_another_thread(channel: KeptChannel) -> KeptChannel
     ensures { result ≡ channel }
 {

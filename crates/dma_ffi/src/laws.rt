@@ -1,15 +1,15 @@
-//! Laws of what C is told. Each is the clause of a function that does nothing.
+//! Laws about what calls from C return and write. Each law is the clause of a function that does nothing.
 
 ghost use Rattle.dma_ffi.specs.Laws.{CallsAreTheEngines, ExchangesAreTheEngines, SessionsAreTheEngines};
 
-/// A call from C on an open controller is answered by a list of the engine's own calls, so that what is promised of such lists
-/// holds of all that C does with a controller between an open and a close.
+/// A call from C on an open controller is answered by a list of the engine's own calls. So what is proved of such
+/// lists holds of everything that C does with a controller between an open and a close.
 #[tactic(auto, using(crate::proofs::CallsMade::calls_are_the_engines))]
 pub fn calls_are_the_engines()
     ensures { CallsAreTheEngines }
 {}
 
-/// All calls from C on an open controller, one after another, are one list of the engine's own calls, and what each of them
+/// All calls from C on an open controller, one after another, are one list of the engine's own calls. What each call
 /// returned and wrote is given by the replies to that list.
 pub fn exchanges_are_the_engines()
     ensures exchanges { ExchangesAreTheEngines }

@@ -1,14 +1,15 @@
-//! The library for C: a controller and channels that the caller keeps, one function for each call of `dma330.h`.
+//! The C library: controllers and channels that the caller keeps, with one function for each call of `dma330.h`.
 //!
-//! Proved: each call returns the code of the engine's answer and writes it (`Told`); the calls between an open and a close are
-//! the engine's (`laws::exchanges_are_the_engines`); a channel's call is the chain of its single steps over the caller's
-//! memory and flags, each code has its cause, and a refused call changes nothing (`specs/Channels.antt`).
+//! Proved: each call returns the code of the engine's answer and writes what the answer has (`Told`); the calls
+//! between an open and a close are calls of one engine (`laws::exchanges_are_the_engines`); a call that steps a
+//! channel is a sequence of single steps over the caller's memory and flags, each code has its cause, and a refused
+//! call changes nothing (`specs/Channels.antt`).
 //!
-//! The proofs assume what a caller owes (docs/EMBEDDING.md): controllers and channels are zeros before their first call, are
-//! not copied, and are used by one call at a time, ordered by a lock, a start, a join or a sequentially consistent atomic;
-//! pointers are not null, aligned, good for their counts, and don't overlap except for lists that are only read; nobody else
-//! writes what a call reads or reads what it writes; no call comes from a signal handler or the child of a fork of a process
-//! with threads. Not proved: that a close frees everything.
+//! The proofs assume that the caller meets its duties (docs/EMBEDDING.md). Controllers and channels are zeros before
+//! their first call, are not copied, and are used by one call at a time, ordered by a lock, a start, a join or a
+//! sequentially consistent atomic. Pointers are not null, aligned, valid for their counts, and don't overlap except
+//! for lists that are only read. Nobody else writes what a call reads or reads what it writes. No call comes from a
+//! signal handler or from the child of a fork of a process with threads. Not proved: that a close frees everything.
 #![tactic(auto)]
 
 ghost use Rattle.std.specs.Prelude.{◌≡◌, length, None};
@@ -39,7 +40,8 @@ use lists::{copy_of, fill_of};
 use reports::{DmaConflict, DmaOutcome, DmaReport, DmaRun, DmaSegment};
 use std::alloc::Global;
 
-/// Makes an engine over a memory of zeros.
+/// Opens a controller: makes an engine with `channels` channels over a zeroed memory of `size` bytes. Fails if the
+/// controller is open already, with the first fault of the arguments, or if out of memory.
 #[tactic(auto, using(crate::proofs::Tells::new_already, crate::proofs::Tells::new_refused, crate::proofs::Tells::new_made))]
 #[unsafe(no_mangle)]
 pub extern "C" fn dma330_open(
@@ -64,7 +66,7 @@ pub extern "C" fn dma330_open(
     OK
 }
 
-/// Frees the engine, if there is one.
+/// Closes a controller: frees its engine, if it has one.
 #[unsafe(no_mangle)]
 pub extern "C" fn dma330_close(alloc: Global, controller: &mut Controller)
     ensures { controller.new.engine.value ≡ None }
@@ -72,7 +74,8 @@ pub extern "C" fn dma330_close(alloc: Global, controller: &mut Controller)
     drop(controller.take(alloc));
 }
 
-/// Writes bytes from an address on.
+/// Writes bytes to the memory, starting at address `addr`. If the call conflicts with a transfer, it writes that
+/// transfer to `conflict`.
 #[tactic(auto, using(crate::proofs::Tells::told_closed, crate::proofs::Tells::told_open))]
 #[unsafe(no_mangle)]
 pub extern "C" fn dma330_write(
@@ -93,7 +96,8 @@ pub extern "C" fn dma330_write(
     code
 }
 
-/// Reads as many bytes as there is room for.
+/// Reads bytes of the memory, starting at address `addr`, until `out` is full. If the call conflicts with a transfer,
+/// it writes that transfer to `conflict`.
 #[tactic(auto, using(crate::proofs::Tells::told_closed, crate::proofs::Tells::told_open))]
 #[unsafe(no_mangle)]
 pub extern "C" fn dma330_read(
@@ -114,7 +118,7 @@ pub extern "C" fn dma330_read(
     code
 }
 
-/// Gives a copy to a channel. A negative event is none.
+/// Submits a copy to a channel, and writes its cookie. A negative `wait` or `signal` is no event.
 #[tactic(auto, using(crate::proofs::Tells::told_closed, crate::proofs::Tells::told_open))]
 #[unsafe(no_mangle)]
 pub extern "C" fn dma330_submit(
@@ -139,7 +143,8 @@ pub extern "C" fn dma330_submit(
     code
 }
 
-/// Gives a fill to a channel: the byte at `src` goes to every address of `dst`. A negative event is none.
+/// Submits a fill to a channel, and writes its cookie. The byte at `src` is copied to every address of `dst`. A
+/// negative `wait` or `signal` is no event.
 #[tactic(auto, using(crate::proofs::Tells::told_closed, crate::proofs::Tells::told_open))]
 #[unsafe(no_mangle)]
 pub extern "C" fn dma330_submit_fill(
@@ -164,7 +169,7 @@ pub extern "C" fn dma330_submit_fill(
     code
 }
 
-/// Issues all submitted cookies of a channel, and writes how many became so.
+/// Issues all submitted cookies of a channel, and writes their number.
 #[tactic(auto, using(crate::proofs::Tells::told_closed, crate::proofs::Tells::told_open))]
 #[unsafe(no_mangle)]
 pub extern "C" fn dma330_issue(
@@ -212,7 +217,7 @@ pub extern "C" fn dma330_resume(alloc: Global, controller: &mut Controller, ch: 
     code
 }
 
-/// Aborts all unfinished cookies of a channel, and writes how many these were.
+/// Aborts all unfinished cookies of a channel, and writes their number.
 #[tactic(auto, using(crate::proofs::Tells::told_closed, crate::proofs::Tells::told_open))]
 #[unsafe(no_mangle)]
 pub extern "C" fn dma330_terminate(
@@ -232,7 +237,8 @@ pub extern "C" fn dma330_terminate(
     code
 }
 
-/// Takes at most `most` steps of a channel, until one neither starts nor moves.
+/// Takes steps of a channel, at most `most`, up to the first that neither starts a transfer nor moves, and writes a
+/// report of them. See `steps::take_steps` for refused steps.
 #[tactic(auto, using(crate::proofs::Tells::told_closed, crate::proofs::Tells::told_open))]
 #[unsafe(no_mangle)]
 pub extern "C" fn dma330_step(
@@ -253,7 +259,7 @@ pub extern "C" fn dma330_step(
     code
 }
 
-/// How far a cookie is: the code tells it.
+/// Returns the status of a cookie as a code: 0 unknown, 1 in progress, 2 complete.
 #[tactic(auto, using(crate::proofs::Tells::told_closed, crate::proofs::Tells::told_open))]
 #[unsafe(no_mangle)]
 pub extern "C" fn dma330_status(
@@ -273,7 +279,7 @@ pub extern "C" fn dma330_status(
     code
 }
 
-/// How a cookie finished.
+/// Writes how a cookie finished. Fails if that isn't known.
 #[tactic(auto, using(crate::proofs::Tells::told_closed, crate::proofs::Tells::told_open))]
 #[unsafe(no_mangle)]
 pub extern "C" fn dma330_result(
@@ -294,7 +300,7 @@ pub extern "C" fn dma330_result(
     code
 }
 
-/// What runs on a channel.
+/// Writes what runs on a channel. Fails if nothing does.
 #[tactic(auto, using(crate::proofs::Tells::told_closed, crate::proofs::Tells::told_open))]
 #[unsafe(no_mangle)]
 pub extern "C" fn dma330_running(
@@ -313,7 +319,7 @@ pub extern "C" fn dma330_running(
     code
 }
 
-/// How many cookies of a channel aren't finished.
+/// Writes the number of unfinished cookies of a channel.
 #[tactic(auto, using(crate::proofs::Tells::told_closed, crate::proofs::Tells::told_open))]
 #[unsafe(no_mangle)]
 pub extern "C" fn dma330_unfinished(
@@ -333,7 +339,7 @@ pub extern "C" fn dma330_unfinished(
     code
 }
 
-/// Marks a range: kind 0 for reading, 1 for writing.
+/// Marks a range: kind 0 for reading, 1 for writing. Fails for any other kind, or if the engine refuses the mark.
 #[tactic(auto, using(crate::proofs::Tells::told_closed, crate::proofs::Tells::told_open))]
 #[unsafe(no_mangle)]
 pub extern "C" fn dma330_mark(
@@ -381,7 +387,8 @@ pub extern "C" fn dma330_raise(alloc: Global, controller: &mut Controller, event
     code
 }
 
-/// Makes the present the base of the history, forgets what was before, and gives back the room that the history took.
+/// Makes the current state the base of the history, forgets the history before it, and frees the memory that it used.
+/// If the call conflicts with a transfer, it writes that transfer to `conflict`.
 #[tactic(auto, using(crate::proofs::Tells::told_closed, crate::proofs::Tells::told_open))]
 #[unsafe(no_mangle)]
 pub extern "C" fn dma330_checkpoint(
@@ -400,7 +407,7 @@ pub extern "C" fn dma330_checkpoint(
     code
 }
 
-/// Of how many cookies of a channel checkpoints have forgotten the results.
+/// Writes the number of a channel's cookies whose results were forgotten by checkpoints.
 #[tactic(auto, using(crate::proofs::Tells::told_closed, crate::proofs::Tells::told_open))]
 #[unsafe(no_mangle)]
 pub extern "C" fn dma330_forgotten(
@@ -420,7 +427,7 @@ pub extern "C" fn dma330_forgotten(
     code
 }
 
-/// The step count.
+/// Writes the step count.
 #[tactic(auto, using(crate::proofs::Tells::told_closed, crate::proofs::Tells::told_open))]
 #[unsafe(no_mangle)]
 pub extern "C" fn dma330_steps(alloc: Global, controller: &mut Controller, steps: &mut u64) -> i32
@@ -435,7 +442,7 @@ pub extern "C" fn dma330_steps(alloc: Global, controller: &mut Controller, steps
     code
 }
 
-/// How many entries the history has.
+/// Writes the number of entries in the history.
 #[tactic(auto, using(crate::proofs::Tells::told_closed, crate::proofs::Tells::told_open))]
 #[unsafe(no_mangle)]
 pub extern "C" fn dma330_history_entries(
@@ -454,7 +461,7 @@ pub extern "C" fn dma330_history_entries(
     code
 }
 
-/// How many bytes the history keeps, of writes and of reads.
+/// Writes the number of bytes that the history keeps, of writes and of reads.
 #[tactic(auto, using(crate::proofs::Tells::told_closed, crate::proofs::Tells::told_open))]
 #[unsafe(no_mangle)]
 pub extern "C" fn dma330_history_bytes(
@@ -473,7 +480,7 @@ pub extern "C" fn dma330_history_bytes(
     code
 }
 
-/// How many transfers run.
+/// Writes the number of running transfers.
 #[tactic(auto, using(crate::proofs::Tells::told_closed, crate::proofs::Tells::told_open))]
 #[unsafe(no_mangle)]
 pub extern "C" fn dma330_running_count(

@@ -1,4 +1,4 @@
-//! Transfers that C describes.
+//! Transfers made from lists of C.
 
 ghost use Rattle.std.specs.Prelude.{◌≡◌, ◌≤◌, ◌<◌, ◌⊎◌, ℕ, Option, None, Some, length, IfOk, IfErr, unwrap_or};
 ghost use Rattle.dma_mem.specs.Places.{filling};
@@ -14,8 +14,8 @@ use dma_mem::transfer::{MAX_SEGMENTS, Transfer, TransferFault};
 use std::alloc::Global;
 use std::marker::Model;
 
-/// As many segments as a transfer has at most, on the stack, so that nothing is asked of the allocator before a list is known
-/// to be right. A contract sees the list.
+/// A list of at most `MAX_SEGMENTS` segments, on the stack, so that nothing is allocated before the lists are known to
+/// meet the rules. A contract sees only the list.
 #[derive(Drop)]
 struct SegmentList {
     room: [Segment; MAX_SEGMENTS],
@@ -34,7 +34,7 @@ impl Model for SegmentList {
 }
 
 impl SegmentList {
-    // The list of C's segments.
+    // Returns the list of C's segments.
     fn of(list: &[DmaSegment]) -> SegmentList
         requires { length list.now ≤ 64 }
         ensures { result ≡ segments_of list.now }
@@ -52,7 +52,7 @@ impl SegmentList {
     }
 }
 
-// Lays C's segments into a slice of as many.
+// Converts C's segments into a slice of the same length.
 fn lay_segments(list: &[DmaSegment], room: &mut [Segment])
     requires { length list.now ≡ length room.old }
     ensures { room.new ≡ segments_of list.now }
@@ -62,7 +62,8 @@ fn lay_segments(list: &[DmaSegment], room: &mut [Segment])
     }
 }
 
-// The refusal of lists of which one is longer than a transfer's: the other may be empty, which is asked first.
+// Returns the refusal of lists of which at least one is longer than a transfer allows. The other may be empty, which
+// is checked first.
 fn refusal_of_long(src: &[DmaSegment], dst: &[DmaSegment]) -> TransferFault
     requires { (64 < length src.now) ⊎ (64 < length dst.now) }
     ensures { (wait signal : Option ℕ) → refusal_of (copying (segments_of src.now) (segments_of dst.now) wait signal) ≡ Some result }
@@ -74,8 +75,8 @@ fn refusal_of_long(src: &[DmaSegment], dst: &[DmaSegment]) -> TransferFault
     }
 }
 
-/// The copy of these lists, which waits for one event first and signals one last. The refusals are those of
-/// [`Transfer::new`]; an event's number is told as [`event_of`] has it.
+/// Returns the copy of these lists, which first waits for the event `wait` and finally signals the event `signal`.
+/// Event numbers are converted by [`event_of`]. Fails like [`Transfer::new`].
 pub fn copy_of(
     alloc: Global,
     src: &[DmaSegment],
@@ -102,7 +103,8 @@ pub fn copy_of(
     )
 }
 
-/// The fill of a list with the byte at an address, with such events. The refusals are those of [`Transfer::fill`].
+/// Returns the fill of the list `dst` with the byte at `src`, with events as in [`copy_of`]. Fails like
+/// [`Transfer::fill`].
 pub fn fill_of(
     alloc: Global,
     src: u32,

@@ -1,4 +1,4 @@
-//! The calls that need no controller: the version, programs run alone, assembled and disassembled.
+//! The calls without a controller: the version, and programs that are run alone, assembled and disassembled.
 
 ghost use Rattle.std.specs.Prelude.{◌≡◌, length};
 ghost use Rattle.dma_ffi.specs.Programs.{AnswersProgram, AnswersRun, AnswersText, ToldProgram, ToldRun, ToldText, alone_code, asm_refusal, code_made, dis_refusal, end_in, fits, laid_into, len_made, out_made, place_made, room_code, version_text, where_fits};
@@ -17,30 +17,30 @@ use dma_mem::lists::Bytes;
 use dma_mem::memory::MAX_SIZE;
 use std::alloc::Global;
 
-/// The version's text, and the zero that ends it.
+/// The version's text, ended by a zero byte.
 const VERSION: &[u8] = b"dilkwafam 1.0\0";
 
-/// Why a text has no program, or bytes have no text.
+/// The reason that a text has no program, or that bytes have no text.
 #[derive(Clone, Copy, Debug, PartialEq, Eq)]
 pub struct Refusal {
     /// Its code.
     pub code: i32,
-    /// The line or the offset that it names.
+    /// The line or the offset of the fault, if any.
     pub place: Option<usize>,
 }
 
-/// Why a program wasn't run alone.
+/// The reason that a program wasn't run alone.
 #[derive(Clone, Copy, Debug, PartialEq, Eq)]
 pub enum AloneFault {
     /// A memory can't have this size.
     SizeOutOfRange,
     /// The program is longer than 8,192 bytes.
     ProgramTooLong,
-    /// Memory was wanting.
+    /// Out of memory.
     NoMemory,
 }
 
-// Copies bytes to the front of a buffer, if it has room; tells whether it had.
+// Copies bytes to the front of a buffer if it has room, and returns whether it has.
 fn copy_out(bytes: &[u8], out: &mut [u8]) -> bool
     ensures room { result ≡ fits bytes.now out.old }
     ensures bytes { out.new ≡ laid_into bytes.now out.old }
@@ -52,7 +52,8 @@ fn copy_out(bytes: &[u8], out: &mut [u8]) -> bool
     true
 }
 
-/// Writes the version's text, which a zero ends, and its length without that zero.
+/// Writes the version's text and a zero byte to `out`, and the length of the text without the zero byte to `len`.
+/// Fails if `out` is too small.
 #[unsafe(no_mangle)]
 pub extern "C" fn dma330_version(out: &mut [u8], len: &mut usize) -> i32
     ensures code { result ≡ room_code version_text out.old }
@@ -68,7 +69,7 @@ pub extern "C" fn dma330_version(out: &mut [u8], len: &mut usize) -> i32
 
 // ---- texts and programs
 
-// Why a text has no program.
+// Returns the refusal for a text's fault.
 fn asm_refusal(fault: AsmFault) -> Refusal
     ensures { result ≡ asm_refusal fault }
 {
@@ -88,7 +89,7 @@ fn asm_refusal(fault: AsmFault) -> Refusal
     }
 }
 
-// Why bytes have no text.
+// Returns the refusal for a program's fault.
 fn dis_refusal(fault: DisFault) -> Refusal
     ensures { result ≡ dis_refusal fault }
 {
@@ -104,7 +105,7 @@ fn dis_refusal(fault: DisFault) -> Refusal
     }
 }
 
-// The program of a text.
+// Returns the program of a text. Fails with the refusal of the text's first fault, or if out of memory.
 fn program_of(alloc: Global, text: &[u8]) -> Result<Bytes, Refusal>
     ensures { AnswersText text.now result }
 {
@@ -114,7 +115,7 @@ fn program_of(alloc: Global, text: &[u8]) -> Result<Bytes, Refusal>
     }
 }
 
-// The text of a program.
+// Returns the text of a program. Fails with the refusal of the program's first fault, or if out of memory.
 fn text_of(alloc: Global, program: &[u8]) -> Result<Bytes, Refusal>
     ensures { AnswersProgram program.now result }
 {
@@ -124,7 +125,7 @@ fn text_of(alloc: Global, program: &[u8]) -> Result<Bytes, Refusal>
     }
 }
 
-// Hands bytes out in a buffer, if it has room.
+// Copies bytes to the front of a buffer if it has room, and writes their number. Returns the code.
 fn hand_out(bytes: &[u8], out: &mut [u8], len: &mut usize) -> i32
     ensures code { result ≡ room_code bytes.now out.old }
     ensures bytes { out.new ≡ laid_into bytes.now out.old }
@@ -137,7 +138,7 @@ fn hand_out(bytes: &[u8], out: &mut [u8], len: &mut usize) -> i32
     OK
 }
 
-// Tells of a refusal, and writes the place that it names.
+// Returns the code of a refusal, and writes the place that it names, if any.
 fn refuse(refusal: Refusal, place: &mut usize) -> i32
     ensures code { result ≡ refusal.code }
     ensures place { place.new ≡ place_made (Err refusal) place.old }
@@ -148,7 +149,8 @@ fn refuse(refusal: Refusal, place: &mut usize) -> i32
     refusal.code
 }
 
-// Hands out what was made, or tells why it wasn't.
+// Writes the bytes that were made to `out` and their number to `len`, or writes the place of the refusal. Returns the
+// code.
 fn tell_made(
     made: Result<Bytes, Refusal>,
     out: &mut [u8],
@@ -166,7 +168,9 @@ fn tell_made(
     }
 }
 
-/// Assembles a text, and hands out the bytes of its program; or writes the line of its first fault.
+/// Assembles a text, and writes the bytes of its program to `out` and their number to `len`. If the text has a fault,
+/// it writes the line of the first fault to `place` and returns the fault's code. Fails if out of memory or if `out`
+/// is too small.
 #[unsafe(no_mangle)]
 pub extern "C" fn dma330_assemble(
     alloc: Global,
@@ -181,7 +185,9 @@ pub extern "C" fn dma330_assemble(
     tell_made(made, out, len, place)
 }
 
-/// Disassembles a program, and hands out its text; or writes the first offset at which no instruction stands.
+/// Disassembles a program, and writes its text to `out` and the text's length to `len`. If the program has a fault, it
+/// writes the first offset at which no instruction begins to `place` and returns the fault's code. Fails if out of
+/// memory or if `out` is too small.
 #[unsafe(no_mangle)]
 pub extern "C" fn dma330_disassemble(
     alloc: Global,
@@ -198,7 +204,8 @@ pub extern "C" fn dma330_disassemble(
 
 // ---- programs run alone
 
-// Runs a program alone over these bytes, in place.
+// Runs a program alone over these bytes, in place, for at most `limit` instructions. Fails with `SizeOutOfRange`,
+// `ProgramTooLong` or `NoMemory`, checked in this order.
 fn run_alone(
     alloc: Global,
     program: &[u8],
@@ -217,7 +224,7 @@ fn run_alone(
     }
 }
 
-// The code of a program run alone, and how it ended.
+// Returns the code of running a program alone, and writes how the program ended if it was run.
 fn tell_run(answer: Result<RunEnd, AloneFault>, ended: &mut DmaRunEnd) -> i32
     ensures code { result ≡ alone_code answer }
     ensures written { ended.new ≡ end_in answer ended.old }
@@ -233,7 +240,8 @@ fn tell_run(answer: Result<RunEnd, AloneFault>, ended: &mut DmaRunEnd) -> i32
     }
 }
 
-/// Runs a program alone over a memory of the caller's, in place, for at most so many instructions.
+/// Runs a program alone over the caller's memory, in place, for at most `limit` instructions, and writes how it ended.
+/// Fails if the memory has no valid size, if the program is longer than 8,192 bytes, or if out of memory.
 #[unsafe(no_mangle)]
 pub extern "C" fn dma330_run_program(
     alloc: Global,

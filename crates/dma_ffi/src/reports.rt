@@ -1,4 +1,4 @@
-//! The structs of C, and what they tell.
+//! The structs that C sees, and the functions that fill them.
 
 ghost use Rattle.std.specs.Prelude.{◌≡◌};
 ghost use Rattle.dma_ffi.specs.Codes.{reply_code};
@@ -25,9 +25,9 @@ pub struct DmaSegment {
 #[repr(C)]
 #[derive(Clone, Copy)]
 pub struct DmaOutcome {
-    /// How, by its number.
+    /// The result's number.
     pub result: u32,
-    /// How many of its bytes were not stored.
+    /// The number of its bytes that were not stored.
     pub residue: u32,
 }
 
@@ -37,7 +37,7 @@ pub struct DmaOutcome {
 pub struct DmaRun {
     /// Its cookie.
     pub cookie: u32,
-    /// How many of its bytes are stored.
+    /// The number of its bytes that are stored.
     pub stored: u32,
 }
 
@@ -51,24 +51,24 @@ pub struct DmaConflict {
     pub cookie: u32,
 }
 
-/// How many steps were taken, and what the last one did.
+/// The number of steps that were taken, and what the last one did.
 #[repr(C)]
 #[derive(Clone, Copy)]
 pub struct DmaReport {
-    /// How many steps were taken, the last one too.
+    /// The number of steps that were taken, including the last one.
     pub taken: u32,
-    /// What the last one did: 0 where none was taken, else 1 started, 2 moved, 3 nothing, 4 held, 5 waiting, 6 paused,
-    /// 7 halted, 8 finished. Of what is below, 0 is what this has no part in.
+    /// What the last one did: 0 if none was taken, else 1 started, 2 moved, 3 nothing, 4 held, 5 waiting, 6 paused, 7
+    /// halted, 8 finished. Each field below is 0 except for the turns that it names.
     pub turn: u32,
-    /// The channel in the way, of 4.
+    /// The channel of the conflicting transfer, for 4.
     pub channel: u32,
-    /// The cookie, of 1, 4 and 8.
+    /// The cookie, for 1, 4 and 8.
     pub cookie: u32,
-    /// The event, of 5.
+    /// The event, for 5.
     pub event: u32,
-    /// How it finished, of 8.
+    /// The number of how it finished, for 8.
     pub result: u32,
-    /// How many of its bytes were not stored, of 8.
+    /// The number of its bytes that were not stored, for 8.
     pub residue: u32,
 }
 
@@ -76,20 +76,21 @@ pub struct DmaReport {
 #[repr(C)]
 #[derive(Clone, Copy)]
 pub struct DmaRunEnd {
-    /// 1 by DMAEND, 2 out of turns, 3 at a wait, 4 at a fault. Of what is below, 0 is what this has no part in.
+    /// How it ended: 1 by DMAEND, 2 out of turns, 3 at a wait, 4 at a fault. Each field below is 0 except for the ends
+    /// that it names.
     pub end: u32,
-    /// How many instructions were executed, DMAEND counted, of 1.
+    /// The number of executed instructions, including DMAEND, for 1.
     pub turns: u32,
-    /// The event, of 3.
+    /// The event, for 3.
     pub event: u32,
-    /// The fault by its number, of 4.
+    /// The number of the fault, for 4.
     pub fault: u32,
-    /// Where the instruction stands, of 4.
+    /// The offset of the instruction, for 4.
     pub pc: u32,
 }
 
 impl DmaSegment {
-    /// The same, as the engine has it.
+    /// Returns the range as a segment of the engine.
     pub fn segment(self) -> Segment
         ensures { result ≡ segment_of self }
     {
@@ -100,7 +101,7 @@ impl DmaSegment {
     }
 }
 
-/// The code of how a cookie finished, which is written where it is known.
+/// Returns the code of how a cookie finished, and writes the outcome if it is known.
 pub fn told_outcome(answer: Option<Outcome>, outcome: &mut DmaOutcome) -> i32
     ensures code { result ≡ reply_code (Reply.Result answer) }
     ensures written { outcome.new ≡ outcome_in (replied (Reply.Result answer)) outcome.old }
@@ -117,7 +118,7 @@ pub fn told_outcome(answer: Option<Outcome>, outcome: &mut DmaOutcome) -> i32
     }
 }
 
-/// Writes the transfer that a refusal names, if it names one.
+/// Writes the transfer that a `Busy` or `Running` refusal names. Other refusals write nothing.
 pub fn name_conflict(fault: EngineFault, conflict: &mut DmaConflict)
     ensures { conflict.new ≡ conflict_in (replied (Reply.Refused fault)) conflict.old }
 {
@@ -132,7 +133,7 @@ pub fn name_conflict(fault: EngineFault, conflict: &mut DmaConflict)
     }
 }
 
-/// The code of what runs, which is written where something does.
+/// Returns the code of what runs on a channel, and writes it if anything does.
 pub fn told_run(answer: Option<Running>, run: &mut DmaRun) -> i32
     ensures code { result ≡ code_of (runs answer) }
     ensures written { run.new ≡ run_in (runs answer) run.old }
@@ -149,7 +150,7 @@ pub fn told_run(answer: Option<Running>, run: &mut DmaRun) -> i32
     }
 }
 
-/// The code of steps, which are written where some were taken or none was asked for.
+/// Returns the code of steps, and writes their report unless the first step was refused.
 pub fn told_steps(answer: Result<Taken, EngineFault>, report: &mut DmaReport) -> i32
     ensures code { result ≡ code_of (steps_answer answer) }
     ensures written { report.new ≡ report_in (steps_answer answer) report.old }
@@ -163,7 +164,7 @@ pub fn told_steps(answer: Result<Taken, EngineFault>, report: &mut DmaReport) ->
     }
 }
 
-// The report of so many steps, of which the last one did what has this number.
+// Returns the report of `taken` steps with this turn number and 0 in all other fields.
 fn did(taken: u32, turn: u32) -> DmaReport
     ensures { result ≡ did taken turn }
 {
@@ -178,7 +179,7 @@ fn did(taken: u32, turn: u32) -> DmaReport
     }
 }
 
-// The report of so many steps, and of what the last one did.
+// Returns the report of `taken` steps and of what the last one did, if any.
 fn report_of(taken: u32, last: Option<Turn>) -> DmaReport
     ensures { result ≡ report_of taken last }
 {
@@ -188,7 +189,7 @@ fn report_of(taken: u32, last: Option<Turn>) -> DmaReport
     }
 }
 
-// The same where a step was taken.
+// Returns the report of `taken` steps, the last of which did `turn`.
 fn report_of_turn(taken: u32, turn: Turn) -> DmaReport
     ensures { result ≡ report_of taken (Some turn) }
 {
@@ -223,7 +224,7 @@ fn report_of_turn(taken: u32, turn: Turn) -> DmaReport
     }
 }
 
-// How a program ended, by its number.
+// Returns an end with this number and 0 in all other fields.
 fn ended(end: u32) -> DmaRunEnd
     ensures { result ≡ ended end }
 {
@@ -236,7 +237,7 @@ fn ended(end: u32) -> DmaRunEnd
     }
 }
 
-/// How a program ended.
+/// Returns how a program ended.
 pub fn end_of(how: RunEnd) -> DmaRunEnd
     ensures { result ≡ end_of how }
 {

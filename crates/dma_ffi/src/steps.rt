@@ -1,4 +1,4 @@
-//! Steps of a channel in a row.
+//! Steps of a channel, one after another.
 
 ghost use Rattle.std.specs.Prelude.{◌≡◌};
 ghost use Rattle.dma_ffi.specs.Told.{AnswersSteps, goes_on, steps_answer};
@@ -10,30 +10,31 @@ use dma_engine::{Engine, EngineFault, Turn};
 /// The steps that were taken.
 #[derive(Clone, Copy, Debug, PartialEq, Eq)]
 pub struct Taken {
-    /// How many.
+    /// Their number.
     pub count: u32,
-    /// What the last one did, where there was one.
+    /// What the last one did, if any.
     pub last: Option<Turn>,
 }
 
-// Whether a further step is taken after one that did this.
+// Returns whether another step is taken after one that did `turn`.
 fn goes_on(turn: Turn) -> bool
     ensures { result ≡ goes_on (Some turn) }
 {
     matches!(turn, Turn::Started(_) | Turn::Moved)
 }
 
-// Returns the answer of the last step once `moved` more steps have moved.
+// Returns what the last step did, once `moved` more steps have moved.
 fn after_moves(moved: u32, last: Option<Turn>) -> Option<Turn>
     ensures { result ≡ after_moves moved last }
 {
     if moved == 0 { last } else { Some(Turn::Moved) }
 }
 
-/// Takes at most so many steps of a channel: up to one that neither starts nor moves, or to where one is refused.
+/// Takes at most `most` steps of a channel, up to the first that neither starts a transfer nor moves, or until a step
+/// is refused.
 ///
-/// The error is the refusal of the first step. A refusal of a later one isn't told: the steps before it are. It changed
-/// nothing, so the next call takes that step again.
+/// Fails with the refusal of the first step. A refusal of a later step isn't reported: it changed nothing, so the call
+/// returns the steps before it, and the next call takes the refused step again.
 pub fn take_steps(engine: &mut Engine, ch: u8, most: u32) -> Result<Taken, EngineFault>
     ensures { AnswersSteps engine.old.view ch most (steps_answer result) engine.new.view }
 {

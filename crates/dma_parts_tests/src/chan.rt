@@ -1,4 +1,4 @@
-//! A channel on hand-written programs, and on memory of which not all pages are made.
+//! A channel with hand-written programs, over memory in which some pages aren't allocated.
 
 use dma_chan::channel::Channel;
 use dma_chan::compile::compile;
@@ -18,7 +18,7 @@ pub fn segment(addr: u32, len: u32) -> Segment {
     Segment { addr, len }
 }
 
-// A memory of 256 bytes in which the byte at each address is the address.
+// Returns a memory of 256 bytes in which the byte at each address is the address.
 pub fn counted(alloc: Global) -> Result<Memory, MemFault> {
     let mut memory = Memory::new(alloc, 256)?;
     for address in 0..=255u8 {
@@ -27,7 +27,7 @@ pub fn counted(alloc: Global) -> Result<Memory, MemFault> {
     Ok(memory)
 }
 
-// A channel with what it works on.
+// A channel and what it works on.
 #[derive(Drop)]
 struct Machine {
     channel: Channel,
@@ -36,7 +36,7 @@ struct Machine {
     marks: Marks,
 }
 
-// Whether an instruction is read from its program once, to ask what it does and to execute it.
+// How often an instruction is decoded, to query its fault and to execute it.
 #[derive(Clone, Copy, PartialEq)]
 enum Reads {
     Once,
@@ -44,7 +44,7 @@ enum Reads {
 }
 
 impl Machine {
-    // A channel with this program, over this memory.
+    // Returns a channel with this program, over this memory.
     fn new(alloc: Global, program: Program, memory: Memory) -> Result<Machine, Fail> {
         let mut channel = Channel::new(alloc)?;
         channel.load(program);
@@ -56,7 +56,8 @@ impl Machine {
         })
     }
 
-    // The fault that the next instruction would answer, and its answer. None without a program, or where it finds no page.
+    // Returns the fault that the next instruction would report, and the answer of the step. Returns `None` without a
+    // program, or if a page is missing.
     fn step(&mut self, reads: Reads) -> Option<(Option<FaultKind>, ChanTurn)> {
         let (channel, memory) = (&mut self.channel, &mut self.memory);
         if !channel.is_loaded() || channel.taken() == u32::MAX || !channel.ready(memory) {
@@ -74,7 +75,7 @@ impl Machine {
         ))
     }
 
-    // Whether this many instructions are executed.
+    // Returns whether this many instructions are executed.
     fn moves(&mut self, count: u32, reads: Reads) -> bool {
         for _ in 0..count {
             if self.step(reads) != Some((None, ChanTurn::Moved)) {
@@ -92,13 +93,14 @@ impl Machine {
         self.channel.run_bodies(most, &mut self.memory, &self.marks)
     }
 
-    // Whether the next instruction fails by this.
+    // Returns whether the next instruction fails with this fault.
     fn fails(&mut self, kind: FaultKind) -> bool {
         let failed = Some((Some(kind), ChanTurn::Fault(kind)));
         self.step(Reads::Once) == failed && self.step(Reads::Twice) == failed
     }
 
-    // Whether this comes next at this offset, with these counts of executed instructions and stored bytes.
+    // Returns whether this is the next instruction, at this offset, with these counts of executed instructions and
+    // stored bytes.
     fn is_at(&self, next: Insn, pc: u32, taken: u32, stored: u64) -> bool {
         let channel = &self.channel;
         channel.is_loaded()
@@ -106,7 +108,7 @@ impl Machine {
             && (channel.pc(), channel.taken(), channel.stored()) == (pc, taken, stored)
     }
 
-    // Whether the bytes at `to` up to `to + last` are those that `counted` has at `from` and on.
+    // Returns whether the bytes at `to` up to `to + last` are those of `counted` from `from` on.
     fn has(&self, from: u8, to: u8, last: u8) -> bool {
         for place in 0..=last {
             let byte = self.memory.byte(u32::from(to.wrapping_add(place)));
@@ -118,12 +120,12 @@ impl Machine {
     }
 }
 
-// A channel with a program of these bytes, over this memory.
+// Returns a channel with a program of these bytes, over this memory.
 fn machine_of(alloc: Global, bytes: &[u8], memory: Memory) -> Result<Machine, Fail> {
     Machine::new(alloc, Program::from_bytes(alloc, bytes)?, memory)
 }
 
-// Loads 32 bytes from 0x40 and 32 from 0x10, and stores them to 0x80 and on.
+// Loads 32 bytes from 0x40 and 32 from 0x10, and stores them from 0x80 on.
 static TWO_LOADS: &[u8] =
     b"\xbc\0\x40\0\0\0\xbc\x02\x80\0\0\0\xbc\x01\x19\x40\x06\0\x04\xbc\0\x10\0\0\0\x04\x08\x08\0";
 
@@ -183,8 +185,8 @@ static LOOP: &[u8] =
 static NEST: &[u8] =
     b"\xbc\0\x11\0\0\0\xbc\x02\x11\x08\0\0\xbc\x01\x01\x40\0\0\x20\x01\x22\xff\x04\x12\x08\x13\x3c\x04\x38\x08\0";
 
-// A row has the steps before the block, the most instructions that the block may have, how many it has, and how many bytes
-// are stored after it.
+// A row has the number of steps before the block, the maximum number of instructions in the block, the number that it
+// executes, and the number of stored bytes after it.
 #[test]
 fn a_block_has_as_many_bodies_as_it_may(rt: HostRuntime) -> Result<(), Fail> {
     for (steps, most, ran, stored) in &[
@@ -247,14 +249,14 @@ fn a_loop_of_loops_is_one_block(rt: HostRuntime) -> Result<(), Fail> {
 pub static ACROSS: &[u8] =
     b"\xbc\0\xf8\x1f\0\0\xbc\x02\xfc\x3f\0\0\xbc\x01\xf1\x40\x3c\0\x04\x08\0";
 
-// A memory of this size that has eight bytes before 0x2000, and no page but theirs.
+// Returns a memory of this size with eight bytes before 0x2000, and no page but theirs.
 pub fn eight_bytes(alloc: Global, size: u32) -> Result<Memory, MemFault> {
     let mut memory = Memory::new(alloc, size)?;
     memory.write(0x1ff8, &[1, 2, 3, 4, 5, 6, 7, 8])?;
     Ok(memory)
 }
 
-// A memory has those bytes from 0x3FFC on, and the pages of 16 bytes there.
+// Checks that a memory has those bytes from 0x3FFC on, and the pages of 16 bytes there.
 pub fn assert_stored(rt: &impl Abort, memory: &Memory) -> Result<(), Fail> {
     let mut bytes = [9; 18];
     memory.read_into(0x3ffb, &mut bytes)?;
@@ -277,7 +279,7 @@ fn a_store_across_two_pages_needs_both(rt: HostRuntime) -> Result<(), Fail> {
     assert_stored(&rt, &machine.memory)
 }
 
-// Of a store that overhangs the size the pages are needed that lie below it; of one that lies above it none is.
+// A store across the end of the memory needs the pages below the end; a store above the end needs none.
 #[test]
 fn a_store_that_overhangs_needs_what_lies_below(rt: HostRuntime) -> Result<(), Fail> {
     let mut machine = machine_of(rt.alloc(), ACROSS, eight_bytes(rt.alloc(), 0x3ffe)?)?;

@@ -1,4 +1,4 @@
-//! Every pair of first bytes of a program: how it ends, by the tables of codes and of what instructions do.
+//! Every pair of first bytes of a program: how the program ends, by the tables of codes and of what instructions do.
 
 use crate::chan_runs::{ended, fault};
 use dma_chan::run::{RunEnd, run_program};
@@ -8,7 +8,7 @@ use dma_mem::memory::Memory;
 use std::alloc::Global;
 use std::test::Fail;
 
-// How a pair ends that five zeros follow, each of which is an operand or DMAEND.
+// Returns how a pair ends that is followed by five zeros, each of which is an operand or DMAEND.
 fn end_of_pair(first: u8, second: u8) -> RunEnd {
     match first {
         // DMAEND
@@ -31,7 +31,7 @@ fn end_of_pair(first: u8, second: u8) -> RunEnd {
     }
 }
 
-// The same where the second byte begins an instruction of its own, whose operands are zeros.
+// Returns how it ends where the second byte begins an instruction of its own, whose operands are zeros.
 fn end_of_second(is_loaded: bool, second: u8) -> RunEnd {
     match second {
         // DMAEND
@@ -48,8 +48,8 @@ fn end_of_second(is_loaded: bool, second: u8) -> RunEnd {
     }
 }
 
-// How many pairs end in which way, by `slot_of`. Of the 256 first bytes 243 begin no instruction; each is counted with its 256
-// second bytes. Behind the four instructions of one byte that go on, each second byte is counted once.
+// How many pairs end in which way, by `slot_of`. Of the 256 first bytes 243 begin no instruction; each is counted with
+// its 256 second bytes. After the four one-byte instructions that go on, each second byte is counted once.
 const ALL_PAIRS: [u32; 7] = [
     // DMAEND, two DMALP and two DMALPEND with any second byte; DMASEV of 32 events; DMAMOV of 3 registers; behind each of the
     // four DMAEND and nine others that go on to one, and a store behind DMALD: 5 * 256 + 32 + 3 + 4 * 10 + 1
@@ -68,7 +68,7 @@ const ALL_PAIRS: [u32; 7] = [
     0,
 ];
 
-// Where an end is counted.
+// Returns the index at which an end is counted.
 fn slot_of(end: &RunEnd) -> usize {
     match end {
         RunEnd::Ended { .. } => 0,
@@ -84,7 +84,7 @@ fn slot_of(end: &RunEnd) -> usize {
     }
 }
 
-// How a pair ends that five zeros follow, which is counted.
+// Returns how a pair ends that is followed by five zeros, and counts the end.
 fn run_pair(
     alloc: Global,
     memory: &mut Memory,

@@ -1,5 +1,6 @@
-//! Programs whose memory is refused, and which are then made or run once more. `tests/refuse_calls` refuses each request of
-//! these tests in turn, and wants each row to meet a refusal; with ample memory none does.
+//! Programs that run out of memory while they are made or run, and are then made or run once more.
+//! `tests/refuse_calls` refuses each allocation of these tests in turn, and requires that each row meets a refusal;
+//! with ample memory none does.
 
 use crate::chan::segment;
 use crate::chan_runs::ended;
@@ -11,7 +12,7 @@ use std::alloc::Global;
 use std::process::Abort;
 use std::test::Fail;
 
-// The program of four bytes from 0x1000 to 0x2000, which waits for event 3 and signals event 5.
+// The program that copies four bytes from 0x1000 to 0x2000, waits for event 3 and signals event 5.
 static COPY_OF_FOUR: [u8; 27] = [
     0x36, 0x18, 0xbc, 0x00, 0x00, 0x10, 0x00, 0x00, 0xbc, 0x02, 0x00, 0x20, 0x00, 0x00, 0xbc, 0x01,
     0x05, 0x40, 0x01, 0x00, 0x04, 0x12, 0x08, 0x13, 0x34, 0x28, 0x00,
@@ -34,31 +35,32 @@ fn a_transfer_is_compiled_when_asked_again(rt: HostRuntime) -> Result<(), Fail> 
     Ok(())
 }
 
-// Copies eight bytes from 0x100 to 0x1FF8 and the next eight to 0x2000, each with one beat: three instructions set the
-// registers, then come a load and a store, a load and a store, and the end. Each store is the first on its page.
+// Copies eight bytes from 0x100 to 0x1FF8 and the next eight to 0x2000, each with one beat. Three instructions set the
+// registers; then follow a load and a store, a load and a store, and the end. Each store is the first on its page.
 static TWO_STORES: &[u8] =
     b"\xbc\0\0\x01\0\0\xbc\x02\xf8\x1f\0\0\xbc\x01\x07\xc0\x01\0\x04\x08\x04\x08\0";
 
 static SIXTEEN: [u8; 16] = [1, 2, 3, 4, 5, 6, 7, 8, 9, 10, 11, 12, 13, 14, 15, 16];
 
-// What is stored there once the first of the stores was executed.
+// The stored bytes after the first of the two stores.
 static FIRST_EIGHT: [u8; 16] = [1, 2, 3, 4, 5, 6, 7, 8, 0, 0, 0, 0, 0, 0, 0, 0];
 
-// A memory with the bytes that are copied.
+// Returns a memory with the bytes to copy.
 fn with_sixteen(alloc: Global) -> Result<Memory, MemFault> {
     let mut memory = Memory::new(alloc, 0x4000)?;
     memory.write(0x100, &SIXTEEN)?;
     Ok(memory)
 }
 
-// What a memory has where the program stores.
+// Returns the bytes of a memory where the program stores.
 fn stored(memory: &Memory) -> Result<[u8; 16], MemFault> {
     let mut bytes = [9; 16];
     memory.read_into(0x1ff8, &mut bytes)?;
     Ok(bytes)
 }
 
-// Runs the program, twice where the first run is refused: it has then stored what the instructions before that store leave.
+// Runs the program, and runs it again if the first run is out of memory, which has then stored only the bytes of the
+// instructions before the failing store.
 fn run_again(
     rt: &(impl Abort + Print),
     alloc: Global,

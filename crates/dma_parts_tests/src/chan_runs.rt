@@ -20,7 +20,7 @@ pub fn fault(kind: FaultKind, pc: u32) -> RunEnd {
     RunEnd::Fault { kind, pc }
 }
 
-// How these bytes end, run over 512 zero bytes.
+// Returns how a program of these bytes ends, run over 512 zero bytes.
 fn end_of(alloc: Global, bytes: &[u8], limit: u32) -> Result<Result<RunEnd, RunFault>, Fail> {
     let mut memory = Memory::new(alloc, 512)?;
     Ok(run_program(alloc, bytes, &mut memory, limit))
@@ -37,7 +37,7 @@ fn programs_run_alone_until_they_end_wait_or_fail(rt: HostRuntime) -> Result<(),
         (b"\x38\x05", 9, fault(InstrFetchErr, 2)),
         (b"\x05", 9, fault(UndefInstr, 0)),
         (b"\x34\x01\0", 9, fault(OperandInvalid, 0)),
-        // The last byte of the memory is loaded, and the one behind it isn't.
+        // The last byte of the memory can be loaded, and the one after it can't.
         (b"\xbc\0\xff\x01\0\0\x04", 9, fault(InstrFetchErr, 7)),
         (b"\xbc\0\0\x02\0\0\x04", 9, fault(DataReadErr, 6)),
         (
@@ -68,10 +68,10 @@ fn too_long_programs_are_refused(rt: HostRuntime) -> Result<(), Fail> {
     Ok(())
 }
 
-// Sixteen times the byte at 0x10, twice, to 0x80 and on.
+// Copies the byte at 0x10 sixteen times, twice, to 0x80 and the following addresses.
 static SAME_BYTE: &[u8] =
     b"\xbc\0\x10\0\0\0\xbc\x02\x80\0\0\0\xbc\x01\xf0\x40\x3c\0\x04\x08\x04\x08\0";
-// Sixteen bytes from 0x20 on, in beats of two, all to 0xc0.
+// Copies sixteen bytes from 0x20 on, in beats of two, all to 0xc0.
 static SAME_PLACE: &[u8] = b"\xbc\0\x20\0\0\0\xbc\x02\xc0\0\0\0\xbc\x01\x73\x80\x1c\0\x04\x08\0";
 
 #[test]
@@ -99,19 +99,20 @@ fn a_run_makes_the_pages_of_its_stores(rt: HostRuntime) -> Result<(), Fail> {
 
 // ---- a program cut to each length
 
-// The 47 bytes of the copy of 300 bytes from 0x1000 to 0x2000.
+// The program of 47 bytes that copies 300 bytes from 0x1000 to 0x2000.
 const COPY_OF_300: [u8; 47] = [
     0xbc, 0x00, 0x00, 0x10, 0x00, 0x00, 0xbc, 0x02, 0x00, 0x20, 0x00, 0x00, 0xbc, 0x01, 0xf9, 0x40,
     0x3e, 0x00, 0x22, 0x00, 0x04, 0x12, 0x08, 0x13, 0x3c, 0x04, 0xbc, 0x01, 0x19, 0x40, 0x06, 0x00,
     0x04, 0x12, 0x08, 0x13, 0xbc, 0x01, 0xb1, 0x40, 0x2c, 0x00, 0x04, 0x12, 0x08, 0x13, 0x00,
 ];
 
-// Where each of its instructions begins.
+// The offset of each of its instructions.
 static STARTS: [u32; 20] = [
     0, 6, 12, 18, 20, 21, 22, 23, 24, 26, 32, 33, 34, 35, 36, 42, 43, 44, 45, 46,
 ];
 
-// How the first `len` of the 47 bytes end: all of them by DMAEND, fewer at an instruction that isn't there or isn't whole.
+// Returns how the first `len` of the 47 bytes end: all of them by DMAEND, fewer at an instruction that is missing or
+// incomplete.
 fn end_of_cut(len: usize) -> RunEnd {
     if len == 47 {
         return ended(20);
@@ -125,7 +126,7 @@ fn end_of_cut(len: usize) -> RunEnd {
     fault(InstrFetchErr, pc)
 }
 
-// How many bytes they store, in bursts of 256, 32 and 12: the bytes of the stores are those at 22, 34 and 44.
+// Returns how many bytes they store, in bursts of 256, 32 and 12. The stores are at the offsets 22, 34 and 44.
 fn stored_by_cut(len: usize) -> u32 {
     match len {
         0..=22 => 0,
@@ -135,7 +136,7 @@ fn stored_by_cut(len: usize) -> u32 {
     }
 }
 
-// The byte at an address once `stored` bytes were copied; none of the 300 is zero.
+// Returns the byte at an address once `stored` bytes were copied; none of the 300 is zero.
 fn byte_after(stored: u32, address: u32) -> u8 {
     let place = address % 0x1000;
     match address / 0x1000 {
@@ -145,7 +146,7 @@ fn byte_after(stored: u32, address: u32) -> u8 {
     }
 }
 
-// A memory with the 300 bytes of the source, and zeros.
+// Returns a memory with the 300 bytes of the source, and zeros elsewhere.
 fn with_source(alloc: Global) -> Result<Memory, MemFault> {
     let mut memory = Memory::new(alloc, 0x4000)?;
     for address in 0x1000..0x112cu32 {
@@ -154,7 +155,8 @@ fn with_source(alloc: Global) -> Result<Memory, MemFault> {
     Ok(memory)
 }
 
-// How the first of the 47 bytes end, run over the source, and the first address that has another byte than they leave.
+// Returns how the first of the 47 bytes end, run over the source, and the first address whose byte isn't the expected
+// one.
 fn run_cut(alloc: Global, cut: &[u8]) -> Result<(RunEnd, Option<u32>), Fail> {
     let mut memory = with_source(alloc)?;
     let end = run_program(alloc, cut, &mut memory, 1000)?;

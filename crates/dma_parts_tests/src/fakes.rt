@@ -1,4 +1,5 @@
-//! A reader and a writer for tests, which count their calls, and fail or move few bytes at the calls that they are given.
+//! A reader and a writer for tests. They count their calls, and fail or transfer few bytes at the calls that a test
+//! selects.
 ghost use Rattle.std.specs.Prelude.{◌≡◌, ◌≤◌, ◌<◌, ◌+◌, IsTrue, OnOk, OnErr, IfOk, length};
 ghost use Rattle.std.specs.Io.{ReadsAtMost, WritesAtMost};
 ghost use Rattle.std.specs.Io.KnownBytes.{ReadConsumes, WriteAppends};
@@ -8,14 +9,14 @@ use dma_script::output::Sink;
 use std::io;
 use std::io::{ErrorKind, Read, Write};
 
-/// Gives these bytes, at most `most` of them at a read.
+/// Returns these bytes, at most `most` of them per read.
 #[derive(Drop)]
 pub struct FakeReader<'a> {
     pub rest: &'a [u8],
     pub most: usize,
-    /// The number of the read that fails, from 1; 0 where none does.
+    /// The number of the read that fails, from 1, or 0 if none does.
     pub fails_at: usize,
-    /// How many reads there were.
+    /// The number of reads so far.
     pub calls: usize,
     pub failed: bool,
     ghost moves: { 0 < most },
@@ -57,16 +58,16 @@ impl Source for FakeReader<'_> {
     }
 }
 
-/// Takes at most `most` bytes at a write.
+/// Accepts at most `most` bytes per write.
 #[derive(Drop)]
 pub struct FakeWriter {
     pub bytes: Vec<u8>,
     pub most: usize,
-    /// The number of the write that fails, from 1; 0 where none does.
+    /// The number of the write that fails, from 1, or 0 if none does.
     pub fails_at: usize,
-    /// That write fails by taking no byte.
+    /// Whether that write fails by accepting no byte.
     pub takes_none: bool,
-    /// How many writes there were.
+    /// The number of writes so far.
     pub calls: usize,
     pub failed: bool,
     ghost moves: { 0 < most },

@@ -1,4 +1,4 @@
-//! Instructions that are written and read.
+//! Encoding and decoding of instructions.
 
 ghost use Rattle.std.specs.Prelude.{◌<◌};
 
@@ -40,7 +40,7 @@ fn numbers_of_events_and_loops(rt: HostRuntime) -> Result<(), Fail> {
     Ok(())
 }
 
-// What `decode` answers for two bytes and four zero bytes behind them.
+// Returns what `decode` answers for two bytes followed by four zero bytes.
 fn kind_of(first: u8, second: u8) -> usize
     ensures { result < 4 }
 {

@@ -1,11 +1,11 @@
-//! Control words that are read and written.
+//! Encoding and decoding of control words.
 
 use dma_insn::control::{
     BeatSize, Beats, BurstEnd, Cache, Control, ControlFault, ControlWord, Protection,
 };
 use std::test::Fail;
 
-// Both ends alike, with rising addresses, and all other bits 0.
+// Source and destination settings are equal, with incrementing addresses, and all other bits are 0.
 fn both_ends(size: BeatSize, beats: u8) -> Option<Control> {
     let end = BurstEnd {
         increments: true,
@@ -37,7 +37,7 @@ fn words_of_rising_bursts(rt: HostRuntime) -> Result<(), Fail> {
     Ok(())
 }
 
-// The ends differ, and all bits of protection and cache are set.
+// Source and destination settings differ, and all protection and cache bits are set.
 #[test]
 fn an_accepted_word_has_its_ends(rt: HostRuntime) -> Result<(), Fail> {
     let word = ControlWord::from_bits(0x0ffd_bff7)

@@ -1,5 +1,5 @@
-//! Texts and bytes whose memory is refused, and which are then read once more. `tests/refuse_calls` refuses each request of
-//! these tests in turn, and wants each row to meet a refusal; with ample memory none does.
+//! Texts and bytes whose reading runs out of memory, and which are then read once more. `tests/refuse_calls` refuses
+//! each allocation of these tests in turn, and requires that each row meets a refusal; with ample memory none does.
 
 use dma_insn::assembler::{AsmFault, Cause, assemble};
 use dma_insn::codec::DecodeFault;
@@ -43,7 +43,7 @@ fn bytes_are_disassembled_when_asked_again(rt: HostRuntime) -> Result<(), Fail> 
     Ok(())
 }
 
-// A fault is told before want of memory, whichever request is refused.
+// A fault is reported before out of memory, whichever allocation is refused.
 #[test]
 fn faults_are_told_before_refused_memory(rt: HostRuntime) {
     let no_name = AsmFault::Line {

@@ -1,4 +1,4 @@
-//! A channel over bytes that a caller lends, and memories of both kinds.
+//! A channel over bytes that a caller lends, and both kinds of memory.
 
 use dma_chan::channel::Channel;
 use dma_chan::lent::{run_over, step_over};

@@ -1,5 +1,6 @@
-//! Tests of the libraries below the engine, by what they make public: what no clause says and no row of `tests/` at the top
-//! shows. They are in a crate of their own, since the gate proves a crate that has tests once more with them.
+//! Tests of the libraries below the engine through their public items. They cover what no clause states and no row of
+//! the top-level `tests/` shows. They have a crate of their own, because the gate proves a crate with tests once more
+//! together with its tests.
 #![tactic(auto)]
 
 #[cfg(test)]

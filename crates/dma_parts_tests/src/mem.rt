@@ -33,7 +33,7 @@ fn flags_are_set_and_cleared(rt: HostRuntime) {
     assert!(rt; !events.is_set(31));
 }
 
-// What a list that grew by one segment was copied to.
+// Returns the copy of a list after it grew by one segment.
 fn grown(alloc: Global, segment: Segment) -> Result<Segments, AllocError> {
     let mut segments = Segments::new(alloc);
     segments.push(segment)?;
@@ -59,7 +59,7 @@ fn segments_meet_where_they_share_an_address(rt: HostRuntime) {
     assert!(rt; !meets(segment(u32::MAX, 2), segment(0, 1)));
 }
 
-// Marks of which one has no address, and one reaches past the last.
+// Marks of which one has no address, and one extends past the last address.
 fn three_marks(alloc: Global) -> Result<Marks, AllocError> {
     let mut marks = Marks::new(alloc);
     marks.add(MarkKind::Reading, segment(0x20, 1))?;
@@ -68,7 +68,7 @@ fn three_marks(alloc: Global) -> Result<Marks, AllocError> {
     marks.try_copy()
 }
 
-// Whether a segment is hit, by the reading marks and by the writing ones.
+// Returns whether a segment is hit by the reading marks, and whether by the writing marks.
 fn hit(marks: &Marks, addr: u32, len: u32) -> [bool; 2] {
     let segment = Segment { addr, len };
     [
@@ -92,7 +92,7 @@ fn marks_are_hit_by_kind_and_address(rt: HostRuntime) -> Result<(), Fail> {
 
 // ---- sets of addresses
 
-// A set of the addresses from 0x10 to 0x17, 0x20 and 0x21 meets just what it has an address of.
+// A set of the addresses from 0x10 to 0x17, 0x20 and 0x21 meets exactly the segments with one of its addresses.
 fn assert_meets(rt: &impl Abort, set: &RangeSet) {
     for row in &[
         (0x17, 1, true),
@@ -138,7 +138,7 @@ fn sets_reach_the_last_addresses(rt: HostRuntime) -> Result<(), Fail> {
 
 // ---- memory
 
-// Three bytes at 0x20 of 64.
+// Returns a memory of 64 bytes with three bytes at 0x20.
 fn three_of_64(alloc: Global) -> Result<Memory, MemFault> {
     let mut memory = Memory::new(alloc, 64)?;
     memory.write(0x20, &[0xAA, 0xBB, 0xCC])?;
@@ -196,7 +196,7 @@ fn blocks_are_moved_across_pages(rt: HostRuntime) -> Result<(), Fail> {
     Ok(())
 }
 
-// Of four pages the second and the third are made, as far as is looked at.
+// Returns whether, of four pages, exactly the second and the third are allocated, as far as the test looks.
 fn has_middle_pages(memory: &Memory) -> bool {
     memory.made(segment(0x1000, 8192))
         && memory.made(segment(0x0FFF, 0))
@@ -215,7 +215,7 @@ fn the_pages_of_a_segment_are_made(rt: HostRuntime) -> Result<(), Fail> {
     Ok(())
 }
 
-// A memory of four pages, of which the first and the last are made by a list.
+// Returns a memory of four pages, of which a list allocates the first and the last.
 fn first_and_last(alloc: Global) -> Result<Memory, MemFault> {
     let mut memory = Memory::new(alloc, 0x4000)?;
     memory.prepare_all(&[segment(0x0FFF, 1), segment(0x3000, 1)])?;
@@ -248,17 +248,17 @@ pub const DESTINATIONS: [Segment; 2] = [
     Segment { addr: 0x50, len: 2 },
 ];
 
-// A copy of eight bytes, which waits for event 3 and signals event 5.
+// Returns a copy of eight bytes, which waits for event 3 and signals event 5.
 pub fn copy(alloc: Global) -> Result<Transfer, TransferFault> {
     Transfer::new(alloc, &SOURCES, &DESTINATIONS, Some(3), Some(5))
 }
 
-// A fill of the same places, with the byte at 0x10.
+// Returns a fill of the same destinations with the byte at 0x10.
 pub fn fill(alloc: Global) -> Result<Transfer, TransferFault> {
     Transfer::fill(alloc, 0x10, &DESTINATIONS, Some(3), Some(5))
 }
 
-// A transfer has these sources, and the destinations and the events of those two.
+// Checks that a transfer has these sources, and the destinations and the events of the copy and the fill above.
 pub fn assert_has_all(rt: &impl Abort, transfer: &Transfer, sources: &[Segment]) {
     assert!(rt; transfer.is_fill() == (sources.len() == 1));
     assert!(rt; transfer.src() == sources);
@@ -266,7 +266,7 @@ pub fn assert_has_all(rt: &impl Abort, transfer: &Transfer, sources: &[Segment])
     assert!(rt; (transfer.len(), transfer.wait(), transfer.signal()) == (8, Some(3), Some(5)));
 }
 
-// The same copy, made of lists, and its copy.
+// Returns a clone of the same copy, made from lists.
 fn copy_of_lists(alloc: Global) -> Result<Transfer, Fail> {
     let src = Segments::from_slice(alloc, &SOURCES)?;
     let dst = Segments::from_slice(alloc, &DESTINATIONS)?;
@@ -274,7 +274,7 @@ fn copy_of_lists(alloc: Global) -> Result<Transfer, Fail> {
     Ok(made.try_copy()?)
 }
 
-// The same fill, made of a list, and its copy.
+// Returns a clone of the same fill, made from a list.
 fn fill_of_list(alloc: Global) -> Result<Transfer, Fail> {
     let dst = Segments::from_slice(alloc, &DESTINATIONS)?;
     let made = Transfer::fill_list(0x10, dst, Some(3), Some(5))?;
@@ -290,7 +290,7 @@ fn transfers_take_lists_for_themselves(rt: HostRuntime) -> Result<(), Fail> {
     Ok(())
 }
 
-// 65 segments without a byte.
+// Returns 65 empty segments.
 fn too_many(alloc: Global) -> Result<Segments, AllocError> {
     let mut list = Segments::new(alloc);
     for _ in 0..65u32 {
@@ -299,7 +299,7 @@ fn too_many(alloc: Global) -> Result<Segments, AllocError> {
     Ok(list)
 }
 
-// Why copies and fills without a segment are refused, which break later rules too.
+// Returns the refusals of copies and fills without a segment, which break later rules too.
 fn faults_of_none(alloc: Global) -> Result<[Option<TransferFault>; 4], AllocError> {
     let many = too_many(alloc)?;
     let none = Segments::new(alloc);
@@ -318,7 +318,7 @@ fn a_list_without_a_segment_is_refused_first(rt: HostRuntime) -> Result<(), Fail
     Ok(())
 }
 
-// Each position has its place in the sources of the copy and of the fill, and in the destinations.
+// Checks the address of each position in the sources of the copy and of the fill, and in the destinations.
 fn assert_places(rt: &impl Abort, copy: &Transfer, fill: &Transfer) {
     for row in &[
         (2, Some(0x12), Some(0x10), Some(0x42)),
@@ -333,7 +333,7 @@ fn assert_places(rt: &impl Abort, copy: &Transfer, fill: &Transfer) {
     }
 }
 
-// Whether a transfer touches the byte at an address, and writes it.
+// Returns whether a transfer touches the byte at an address, and whether it writes it.
 fn touched(t: &Transfer, addr: u32) -> (bool, bool) {
     let byte = segment(addr, 1);
     (t.touches(byte), t.writes(byte))
@@ -350,7 +350,7 @@ fn transfers_answer_for_their_places(rt: HostRuntime) -> Result<(), Fail> {
     Ok(())
 }
 
-// Whether a fill of one byte and the copy are free of each other.
+// Returns whether a fill of one byte is free of the copy, and whether the copy is free of the fill.
 fn is_free(alloc: Global, src: u32, dst: u32) -> Result<[bool; 2], TransferFault> {
     let copy = copy(alloc)?;
     let other = Transfer::fill(alloc, src, &[segment(dst, 1)], None, None)?;

@@ -1,5 +1,5 @@
-//! Calls whose memory is refused, and which are then made once more. `tests/refuse_calls` refuses each request of these
-//! tests in turn, and wants each row to meet a refusal; with ample memory none does.
+//! Calls that run out of memory, and are then made once more. `tests/refuse_calls` refuses each allocation of these
+//! tests in turn, and requires that each row meets a refusal; with ample memory none does.
 
 use crate::mem::{DESTINATIONS, SOURCES, assert_has_all, copy, fill, segment};
 use dma_mem::marks::{MarkKind, Marks};
@@ -10,15 +10,16 @@ use std::alloc::Global;
 use std::process::Abort;
 use std::test::Fail;
 
-// A memory that has only a 7, below its middle. The size is a parameter, so that no proof computes with that many bytes.
+// Returns a memory with a 7 below its middle and zeros elsewhere. The size is a parameter, so that no proof computes
+// with that many bytes.
 fn memory_with_seven(alloc: Global, size: u32) -> Result<Memory, MemFault> {
     let mut memory = Memory::new(alloc, size)?;
     memory.write(0x3F_FFFE, &[7])?;
     Ok(memory)
 }
 
-// A memory of 8 MiB has these bytes across its middle, where the second list of pages begins. The pages beside the middle
-// ones aren't made.
+// Checks that a memory of 8 MiB has these bytes across its middle, where the second list of pages begins. The pages
+// next to the middle ones aren't allocated.
 fn assert_has(rt: &impl Abort, memory: &Memory, middle: [u8; 4]) -> Result<(), Fail> {
     let mut bytes = [9; 4];
     memory.read_into(0x3F_FFFE, &mut bytes)?;
@@ -28,7 +29,7 @@ fn assert_has(rt: &impl Abort, memory: &Memory, middle: [u8; 4]) -> Result<(), F
     Ok(())
 }
 
-// Makes the page of the 7 and three more, twice where the first call is refused.
+// Allocates the page of the 7 and three more, twice if the first call is out of memory.
 fn prepare_again(rt: &(impl Abort + Print), memory: &mut Memory) -> Result<(), Fail> {
     let pages = segment(0x3F_DFFF, 0x2002);
     if let Err(fault) = memory.prepare(pages) {
@@ -42,7 +43,7 @@ fn prepare_again(rt: &(impl Abort + Print), memory: &mut Memory) -> Result<(), F
     assert_has(rt, memory, [7, 0, 0, 0])
 }
 
-// Writes across the middle, twice where the first call is refused.
+// Writes across the middle, twice if the first call is out of memory.
 fn write_again(rt: &(impl Abort + Print), memory: &mut Memory) -> Result<(), Fail> {
     if let Err(fault) = memory.write(0x3F_FFFE, &[1, 2, 3, 4]) {
         println!(rt; "refused Memory::write")?;
@@ -53,7 +54,7 @@ fn write_again(rt: &(impl Abort + Print), memory: &mut Memory) -> Result<(), Fai
     assert_has(rt, memory, [1, 2, 3, 4])
 }
 
-// Copies a memory, twice where the first call is refused.
+// Copies a memory, twice if the first call is out of memory.
 fn copy_again(rt: &(impl Abort + Print), memory: &Memory) -> Result<(), Fail> {
     let copy = match memory.try_copy() {
         Ok(copy) => copy,
@@ -75,7 +76,7 @@ fn memories_are_asked_again(rt: HostRuntime) -> Result<(), Fail> {
     prepare_again(&rt, &mut prepared)
 }
 
-// A transfer that was made, or none where that was refused.
+// Returns the transfer, or `None` if it is out of memory.
 fn made(
     rt: &(impl Abort + Print),
     call: &str,
@@ -104,7 +105,7 @@ fn transfers_are_made_when_asked_again(rt: HostRuntime) -> Result<(), Fail> {
     Ok(())
 }
 
-// The rule that is broken is named before want of memory, whichever request is refused.
+// A broken rule is reported before out of memory, whichever allocation is refused.
 #[test]
 fn rules_come_before_refused_memory(rt: HostRuntime) {
     let wrong = Transfer::new(rt.alloc(), &SOURCES, &DESTINATIONS, None, Some(32));

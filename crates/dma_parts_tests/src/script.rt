@@ -1,4 +1,4 @@
-//! What no script of the program shows: that a list of statements can be looked at, and that the laws are there.
+//! What no script of the program shows: that a list of statements can be inspected, and that the laws exist.
 use dma_script::laws::{first_causes_are_told, first_faults_are_told};
 use dma_script::statements::{Statement, read_run_script};
 use std::test::Fail;

@@ -1,16 +1,16 @@
-//! Memory that is refused in the middle of a script: what the lines before it print stands there, whole, and nothing else.
+//! Out of memory in the middle of a script: the output has exactly what the lines before it print.
 ghost use Rattle.std.specs.Prelude.{◌≡◌, ◌∷◌, [], OnErr, IsTrue};
 
 use dma_script::interpreter::{Interpreter, interpret_lines};
 use std::alloc::AllocError;
 use std::test::Fail;
 
-/// Prints two lines for each letter, and is refused memory at one call.
+/// Prints two lines for each letter, and is out of memory at one call.
 #[derive(Drop)]
 struct Letters {
-    /// The number of the call that is refused memory, from 1; 0 where none is.
+    /// The number of the call that is out of memory, from 1, or 0 if none is.
     refused_at: usize,
-    /// How many calls there were.
+    /// The number of calls so far.
     calls: usize,
 }
 
@@ -28,7 +28,7 @@ impl Interpreter for Letters {
     }
 }
 
-// Each call is refused memory in turn, the first row has none that is.
+// Each call is out of memory in turn; in the first row none is.
 #[test]
 fn refused_at_each_line(rt: HostRuntime) -> Result<(), Fail> {
     let cases: [(usize, usize, &[u8]); 4] = [

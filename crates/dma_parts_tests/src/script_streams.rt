@@ -1,5 +1,5 @@
-//! What no clause says: how many calls of its streams a command makes, however it ends, and that what was printed before
-//! memory was refused is written whole.
+//! What no clause states: how many calls of its streams a command makes, however it ends, and that everything that was
+//! printed before memory ran out is written.
 ghost use Rattle.std.specs.Prelude.{◌∷◌, []};
 
 use crate::fakes::{FakeReader, FakeWriter};
@@ -11,7 +11,7 @@ use std::sync::Wait;
 use std::test::Fail;
 use std::thread::Threads;
 
-/// Prints its input as one line, and may then be refused memory.
+/// Prints its input as one line, and then runs out of memory if `is_refused` is set.
 #[derive(Drop)]
 struct Echo {
     is_refused: bool,
@@ -61,24 +61,24 @@ impl OpenCommand for Echo {
     } };
 }
 
-/// A call of the command, and how its streams behave.
+/// A call of the command, and the behavior of its streams.
 #[derive(Clone, Copy)]
 struct Call {
     is_open: bool,
     is_refused: bool,
-    /// The most bytes of a read.
+    /// The maximum number of bytes per read.
     most_read: usize,
-    /// The number of the read that fails, from 1; 0 where none does.
+    /// The number of the read that fails, from 1, or 0 if none does.
     read_fails: usize,
-    /// The most bytes of a write.
+    /// The maximum number of bytes per write.
     most_written: usize,
-    /// The number of the write that fails, from 1; 0 where none does.
+    /// The number of the write that fails, from 1, or 0 if none does.
     write_fails: usize,
-    /// That write fails by taking no byte.
+    /// Whether that write fails by accepting no byte.
     takes_none: bool,
 }
 
-/// The call comes to this status and text, after this many reads and writes.
+/// Checks that the call ends with this status and text, after this many reads and writes.
 fn assert_ends<H: Abort + Threads + Wait + Sync>(
     rt: &H,
     alloc: Global,
@@ -115,8 +115,8 @@ fn assert_ends<H: Abort + Threads + Wait + Sync>(
     assert_eq!(rt; (reader.calls, writer.calls), (reads, writes));
 }
 
-/// The call comes to this status and text after this many reads. Where a write fails or takes no byte, each in turn, it comes
-/// to status 1 and the text before that write, which is the last.
+/// Checks that the call ends with this status and text after this many reads. If a write fails or accepts no byte,
+/// each write in turn, the call ends with status 1 and the text before that write, and makes no further write.
 fn assert_each_write_fails<H: Abort + Threads + Wait + Sync>(
     rt: &H,
     alloc: Global,
@@ -144,7 +144,8 @@ fn assert_each_write_fails<H: Abort + Threads + Wait + Sync>(
     }
 }
 
-/// The command reads three bytes and then the end. Each of its reads fails in turn, and each write of what it then prints.
+/// Checks a command that reads three bytes and then the end. Each of its reads fails in turn, and each write of what
+/// it then prints.
 fn assert_each_read_fails<H: Abort + Threads + Wait + Sync>(rt: &H, alloc: Global, call: Call) {
     let status = if call.is_refused { 3 } else { 0 };
     let reads = if call.most_read == 1 { 4 } else { 2 };
@@ -156,7 +157,7 @@ fn assert_each_read_fails<H: Abort + Threads + Wait + Sync>(rt: &H, alloc: Globa
     }
 }
 
-/// A call whose streams move all at once, and of which none fails.
+/// A call whose streams transfer everything at once and never fail.
 const PLAIN: Call = Call {
     is_open: false,
     is_refused: false,

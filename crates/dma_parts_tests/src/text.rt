@@ -1,4 +1,4 @@
-//! Numbers and digits that are written.
+//! Printing of numbers and digits.
 
 use dma_text::digits::{hex_pair, push_decimal};
 use std::test::Fail;

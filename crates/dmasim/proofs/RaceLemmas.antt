@@ -34,7 +34,7 @@ use Rattle.dma_commands.proofs.Served.{served-one}
 
 -- ---- one line
 
--- A call that was answered through the desk, and was not refused memory, printed its line.
+-- A call that was answered through the desk, and was not out of memory, printed its line.
 pub told_so : (call : Call) (reply : Reply) (v w : View) (old new : List ℕ) → CallAnswers v call reply w → (reply ≢ Refused NoMemory) × (new ≡ old ++ text_of (call_line call reply ∷ [])) → PrintsCall call old new
 told_so call reply v w old new is prints =
     let same : (reply, w) ≡ answer v call = served-one v call reply w prints.0 is in
@@ -67,7 +67,7 @@ unfit_early ch line e old new is prints =
 of_call : (call : Call) → List ℕ
 of_call call = call_line call (answer some_view call).0
 
--- Each line that may stand before `go` may print something.
+-- Each line that is allowed before `go` may print something.
 early_some : (statement : Statement) → IsEarly statement → (line : List ℕ) × EarlyPrints statement line
 unfolding of_call
 early_some (Write addr bytes) early = (of_call (calls.Write addr bytes), (some_view, refl))
@@ -108,7 +108,7 @@ each_append (s ∷ xs) ys (line ∷ front) back first others = (first.0, each_ap
 alone-append : (xs ys : List (List ℕ)) → alone (xs ++ ys) ≡ alone xs ++ alone ys
 alone-append xs ys = map-append (λ line. line ∷ []) xs ys
 
--- an interpreter that carries out the lines before `go`
+-- an interpreter that executes the lines before `go`
 abbrev pub ActsEarly : {S : Type 0} → S → Statement → List (List ℕ) → S → Type 0
 ActsEarly found statement group left = (line : List ℕ) × (group ≡ line ∷ []) × EarlyPrints statement line
 
@@ -116,7 +116,7 @@ ActsEarly found statement group left = (line : List ℕ) × (group ≡ line ∷ 
 pub early_line : {S : Type 0} (found left : S) (statement : Statement) (old new : List ℕ) → PrintsEarly statement old new → PrintsLine (ActsEarly found statement) left old new
 early_line found left statement old new one = record { group = one.line ∷ []; acted = (one.line, refl, one.allowed); text = one.text }
 
--- what lines before `go` print that are carried out in turn
+-- what lines before `go` print that are executed one after another
 early-in_turn : {S : Type 0} (statements : List Statement) (found left : S) (groups : List (List (List ℕ))) → ActsInTurn ActsEarly statements found groups left → (early : List (List ℕ)) × EachPrints statements early × (groups ≡ alone early)
 early-in_turn [] found left [] done = ([], tt, refl)
 early-in_turn [] found left (g ∷ groups) done = absurd done
@@ -125,13 +125,13 @@ early-in_turn (s ∷ statements) found left (g ∷ groups) (next, (line, is, pri
     let others = early-in_turn statements next left groups rest in
     (line ∷ others.0, (prints, others.1), ap (λ group. group ∷ groups) is ∙ ap (λ l. (line ∷ []) ∷ l) others.2)
 
--- All lines were carried out.
+-- All lines were executed.
 pub all_early : {S : Type 0} (found left : S) (statements : List Statement) (old new : List ℕ) → PrintsLines ActsEarly found statements left old new → PrintsAll statements old new
 all_early found left statements old new done =
     let lines = early-in_turn statements found left done.groups done.acted in
     record { early = lines.0; each = lines.1; text = done.text ∙ ap (λ g. old ++ printed_text g) lines.2 }
 
--- A line was refused memory: those before it printed what they may, and the others may print something.
+-- A line was out of memory: the lines before it printed what they may, and the others may print something.
 pub first_early : {S : Type 0} (is_refused : S → Statement → S → Type 0) (found left : S) (statements : List Statement) (old new : List ℕ) → All IsEarly statements → StopsAtALine ActsEarly is_refused found statements left old new → PrintsFirst statements old new
 first_early is_refused found left statements old new early stop =
     let behind = stop.line ∷ stop.behind in
@@ -199,7 +199,7 @@ fault_complete fault old new printed = record {
   whole = text_after old old new [] (fault_line fault ∷ []) (sym (append-nil old)) printed;
 }
 
--- Memory was refused before anything was printed.
+-- Out of memory before anything was printed.
 pub none_append : (script : RaceScript) (old : List ℕ) → MayAppend (RacePrints script) old old
 none_append script old = record { printed = raced_refused [] (codes "NoReader"); allowed = no_reader refl; first = record { count = 0; some_left = lit< tt; whole = sym (append-nil old) } }
 
@@ -221,7 +221,7 @@ missing_complete script old new missing = record {
   whole = text_after old missing.before new (alone missing.all.early) (refused_line (codes "MissingTally") ∷ []) missing.all.text missing.text;
 }
 
--- Memory was refused up to `go`.
+-- Out of memory before the line of `go` was printed.
 pub first_append : (script : RaceScript) (old new : List ℕ) → PrintsFirst script.before.statements old new → MayAppend (RacePrints script) old new
 first_append script old new first =
     let last = (refused_line (codes "MissingTally") ∷ []) ∷ [] in
@@ -242,7 +242,7 @@ first_append script old new first =
 go_then : (early : List (List ℕ)) (line : List ℕ) (after : List (List (List ℕ))) → (alone early ++ (line ∷ []) ∷ []) ++ after ≡ alone early ++ (line ∷ []) ∷ after
 go_then early line after = append_assoc (alone early) ((line ∷ []) ∷ []) after
 
--- All lines were carried out.
+-- All lines were executed.
 pub whole_complete : (script : RaceScript) (v : View) (old mid new : List ℕ) → PrintsGo script.before.statements v old mid → new ≡ mid ++ printed_text (lines_answered v script.after) → MayComplete (RacePrints script) 0 old new
 whole_complete script v old mid new go printed =
     let front = alone go.early ++ (go_line go.steps go.finished ∷ []) ∷ [] in
@@ -256,7 +256,7 @@ whole_complete script v old mid new go printed =
           ∙ ap (λ t. old ++ t) (sym (printed_text-append front after)) ∙ ap (λ g. old ++ printed_text g) (go_then go.early (go_line go.steps go.finished) after);
     }
 
--- Memory was refused after `go`.
+-- Out of memory after `go`.
 pub whole_append : (script : RaceScript) (v : View) (old mid new : List ℕ) → PrintsGo script.before.statements v old mid → AppendsGroups (lines_answered v script.after) mid new → MayAppend (RacePrints script) old new
 whole_append script v old mid new go some =
     let front = alone go.early ++ (go_line go.steps go.finished ∷ []) ∷ [] in

@@ -1,5 +1,5 @@
--- What the program may print for a race script (profile). The workers take their turns in any order, so the input alone does
--- not settle it. What it does settle: how many lines there are, and of each what it may be.
+-- What the program may print for a race script (profile). The workers take their turns in any order, so the input
+-- doesn't determine the output. It determines how many lines there are, and what each of them may be.
 use Rattle.std.specs.Prelude.{◌≡◌, ℕ, ◌≤◌, ◌⊎◌, List, [], ◌∷◌, ◌++◌, map, Result, Ok, Err, codes, decimal}
 use Rattle.dma_engine.specs.declared.call.Call.TheVariants as calls
 use Rattle.dma_engine.specs.declared.call.Reply.TheVariants.{State}
@@ -16,23 +16,25 @@ use Rattle.dma_script.specs.declared.statements.Statement.TheVariants.{Status}
 use Rattle.dma_commands.specs.Printed.{call_line, refused_line}
 use Rattle.dma_commands.specs.Run.{line_answer, lines_answered}
 
--- A status is told by a reader that asks nobody: `status none`, or the line of some status.
+-- The line of a `status` before `go`. The reader answers without the lock, so the line is `status none`, or the line
+-- of any status.
 abbrev pub StatusPrints : ℕ → ℕ → List ℕ → Type 0
 StatusPrints ch cookie line =
     (line ≡ codes "status none") ⊎ ((status : EngineStatus) × (line ≡ call_line (calls.Status ch cookie) (State status)))
 
--- What a line before `go` may print, one line each: what `run` prints for it to the view that it finds in the desk.
+-- What a line before `go` may print, always one line: what `run` prints for it on an engine with some view; for a
+-- `status` line, see `StatusPrints`.
 abbrev pub EarlyPrints : Statement → List ℕ → Type 0
 EarlyPrints (Status ch cookie) line = StatusPrints ch cookie line
 EarlyPrints statement line = (v : View) × ((line_answer v statement).0 ≡ line ∷ [])
 
--- Each line before `go` may print so.
+-- Each of these lines before `go` may print the corresponding text, and there are as many texts as lines.
 abbrev pub EachPrints : List Statement → List (List ℕ) → Type 0
 EachPrints [] [] = Unit {0}
 EachPrints (statement ∷ statements) (line ∷ lines) = EarlyPrints statement line × EachPrints statements lines
 EachPrints _ _ = ⊥
 
--- lines that stand alone
+-- a group for each line
 abbrev pub alone : List (List ℕ) → List (List (List ℕ))
 alone lines = map (λ line. line ∷ []) lines
 
@@ -40,25 +42,25 @@ alone lines = map (λ line. line ∷ []) lines
 abbrev pub go_line : ℕ → ℕ → List ℕ
 go_line steps finished = codes "go steps " ++ decimal steps ++ codes " finished " ++ decimal finished
 
--- What the workers leave: the step count is the number of steps that was printed, and so many cookies at least are finished
--- (those that were terminated before `go` are finished too).
+-- The view after the workers: it is sound, its step count is the printed number of steps, and at least the printed
+-- number of cookies are finished (those that were terminated before `go` are finished too).
 pub record Leaves (steps finished : ℕ) (v : View) : Type 0 where
   pub sound : IsSound v
   pub stepped : v.steps ≡ steps
   pub ended : finished ≤ finished_all (object_of v)
 
--- a script that is carried out to its end
+-- what a script prints that runs to its end, with status 0
 abbrev pub raced_whole : List (List ℕ) → ℕ → ℕ → View → List Statement → Printed
 raced_whole early steps finished v after =
     record { groups = [] ∷ alone early ++ (go_line steps finished ∷ []) ∷ lines_answered v after; status = 0 }
 
--- a script that ends at its `go`, or before its first line, by a refusal
+-- what a script prints that ends with a refusal, at its `go` or before its first line, with status 1
 abbrev pub raced_refused : List (List ℕ) → List ℕ → Printed
 raced_refused early name = record { groups = [] ∷ alone early ++ (refused_line name ∷ []) ∷ []; status = 1 }
 
--- What may be printed for a race script. Its memory line prints nothing; each line before `go` prints its line; `go` prints
--- its totals; and the lines after it print what those of `run` do to the view that the workers leave. There may be no place
--- for the reader of statuses, or a tally that is missing (no script is known to meet either).
+-- What may be printed for a race script. Its memory line prints nothing, each line before `go` prints its line, `go`
+-- prints its totals, and the lines after it print what `run` prints for them on the view after the workers. Or the
+-- desk has no place for the reader of statuses, or a tally is missing (no script is known for which either happens).
 pub data RacePrints (script : RaceScript) (p : Printed) : Type 0 where
   whole : (early : List (List ℕ)) → EachPrints script.before.statements early
       → (steps finished : ℕ) (v : View) → Leaves steps finished v
@@ -67,7 +69,7 @@ pub data RacePrints (script : RaceScript) (p : Printed) : Type 0 where
   missing_tally : (early : List (List ℕ)) → EachPrints script.before.statements early
       → p ≡ raced_refused early (codes "MissingTally") → RacePrints script p
 
--- Another prints its first fault.
+-- What may be printed for a parsed script; a script with a fault prints its first fault.
 abbrev pub race_prints_of : Result RaceScript Fault → Printed → Type 0
 race_prints_of (Ok script) p = RacePrints script p
 race_prints_of (Err fault) p = p ≡ refusal (fault_line fault)

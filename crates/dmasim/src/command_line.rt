@@ -1,4 +1,4 @@
-//! The commands by their words, over a reader and a writer.
+//! Selects a command by its word and runs it over a reader and a writer.
 ghost use Rattle.std.specs.Prelude.{◌≡◌, ◌≤◌, ◌+◌, ◌∷◌, [], None, IfSome};
 ghost use Rattle.dma_script.specs.Command.{Wrote, failures, longest_input, text_of};
 ghost use Rattle.dmasim.specs.CommandLine.{SubcommandEnds, WordEnds, subcommand_of, usage};
@@ -15,10 +15,10 @@ use std::alloc::Global;
 use std::sync::Wait;
 use std::thread::Threads;
 
-/// The exit status where no command is named.
+/// The exit status if no command is named.
 pub const WRONG_ARGUMENTS: u8 = 2;
 
-/// A command, by the word that names it.
+/// A command.
 #[derive(Clone, Copy, Debug, PartialEq, Eq, Drop)]
 pub enum Subcommand {
     /// `asm`
@@ -33,7 +33,7 @@ pub enum Subcommand {
     Race,
 }
 
-/// The command that a word names, if it names one.
+/// Returns the command that a word names, if any.
 fn subcommand_of(word: &str) -> Option<Subcommand>
     ensures { result ≡ subcommand_of word.now }
 {
@@ -47,7 +47,7 @@ fn subcommand_of(word: &str) -> Option<Subcommand>
     }
 }
 
-/// Carries out a command, and gives its exit status.
+/// Runs a command and returns its exit status.
 fn serve_subcommand<R: Threads + Wait + Sync, I: Source, W: Sink>(
     rt: &R,
     alloc: Global,
@@ -69,7 +69,7 @@ fn serve_subcommand<R: Threads + Wait + Sync, I: Source, W: Sink>(
     }
 }
 
-/// Prints the usage, and gives the status of a wrong command line, or of a fault where the writer fails.
+/// Prints the usage, and returns the status 2 of a wrong command line, or 1 if the writer fails.
 fn push_usage<W: Sink>(writer: &mut W) -> u8
     ensures { Wrote (failures W.has_failed writer.old writer.new) (W.contents writer.old) (W.contents writer.new) (text_of (usage ∷ [])) 2 result }
 {
@@ -79,8 +79,8 @@ fn push_usage<W: Sink>(writer: &mut W) -> u8
     }
 }
 
-/// Carries out the command that a word names, and gives its exit status. Any other word reads nothing, prints the usage, and
-/// has status 2, or 1 where the writer fails.
+/// Runs the command that a word names, and returns its exit status. For any other word it reads nothing, prints the
+/// usage, and returns 2, or 1 if the writer fails.
 pub fn serve_word<R: Threads + Wait + Sync, I: Source, W: Sink>(
     rt: &R,
     alloc: Global,

@@ -1,4 +1,4 @@
-//! dmasim assembles, disassembles and plans channel programs, and carries out scripts of a DMA controller.
+//! dmasim assembles, disassembles and plans channel programs, and runs scripts for a DMA controller.
 #![tactic(auto)]
 
 mod command_line;
@@ -12,7 +12,7 @@ use std::alloc::Global;
 use std::process::ExitCode;
 use std::{env, io};
 
-/// The subcommand that the words of the command line give, if they give one.
+/// Returns the subcommand that the words of the command line name, if any.
 fn subcommand<'a>(alloc: Global, words: &'a [String]) -> Result<Option<&'a str>, Error> {
     let matches = Command::new(alloc, "dmasim")
         .disable_help_subcommand(true)
@@ -26,7 +26,8 @@ fn subcommand<'a>(alloc: Global, words: &'a [String]) -> Result<Option<&'a str>,
     Ok(matches.subcommand_name())
 }
 
-/// The words of the command line, no word where one of them is no text; none for want of memory.
+/// Returns the words of the command line, or no words if one of them isn't valid text. Returns `None` if out of
+/// memory.
 fn words_of(rt: &HostRuntime) -> Option<Vec<String>> {
     match env::args(rt) {
         Ok(args) => args.collect(rt.alloc()).ok(),
@@ -35,7 +36,7 @@ fn words_of(rt: &HostRuntime) -> Option<Vec<String>> {
     }
 }
 
-/// Carries out the command line over standard input and output, and ends with its status.
+/// Runs the command line over standard input and output, and exits with its status.
 fn main(rt: HostRuntime) -> ExitCode {
     let Some(words) = words_of(&rt) else {
         return ExitCode::from(OUT_OF_MEMORY);

@@ -1,5 +1,5 @@
-//! The command `race`: the lines before `go` go through a desk, whose channels are then stepped by all jobs at once; the
-//! lines after it go to the engine that they leave.
+//! The command `race`: executes the lines before `go` through a desk, then steps the desk's channels with all jobs at
+//! once, and executes the lines after `go` on the resulting engine.
 ghost use Rattle.std.specs.Prelude.{◌≡◌, ◌≤◌, ◌<◌, ◌+◌, ◌++◌, ◌∷◌, [], OnOk, OnErr, IfOk, IfSome, MatchOption, codes, length, vec_len};
 ghost use Rattle.std.specs.List.{All};
 ghost use Rattle.dma_engine.specs.View.{new_view};
@@ -32,7 +32,7 @@ use std::marker::Brand;
 use std::sync::Wait;
 use std::thread::Threads;
 
-/// The jobs of the lines.
+/// Returns the jobs of the job lines. Fails if memory runs out.
 fn jobs_of(alloc: Global, lines: &[JobLine]) -> Result<Vec<Job>, AllocError>
     requires { All IsJob lines.now }
     ensures { IfOk result (λ jobs. vec_len jobs ≡ length lines.now) }
@@ -47,7 +47,7 @@ fn jobs_of(alloc: Global, lines: &[JobLine]) -> Result<Vec<Job>, AllocError>
     Ok(jobs)
 }
 
-/// The engine of the memory line.
+/// Returns a new engine as the memory line describes it. Fails if memory runs out.
 fn engine_of(alloc: Global, script: &RaceScript) -> Result<Engine, AllocError>
     requires { IsWithin script.now.before }
     ensures { IfOk result (λ engine. engine.view ≡ new_view script.now.before.size script.now.before.channels) }
@@ -59,8 +59,8 @@ fn engine_of(alloc: Global, script: &RaceScript) -> Result<Engine, AllocError>
     }
 }
 
-/// Carries out the lines before `go`, each of which is done with then, and runs the jobs. The desk is still whole where
-/// memory is refused.
+/// Executes the lines before `go`, dropping each one afterwards, and runs the jobs. If memory runs out it fails, and
+/// the desk is still whole.
 fn until_go<N: DeskName + Send + Sync, R: Threads + Wait + Sync>(
     rt: &R,
     alloc: Global,
@@ -94,7 +94,8 @@ fn push_go(alloc: Global, out: &mut Vec<u8>, steps: u64, finished: u64) -> Resul
     push_line(out, &line)
 }
 
-/// Compares the tallies with the book, and answers the engine; or prints the refusal where a tally is missing.
+/// Compares the tallies with the book, appends the line of `go` and returns the engine. If a tally is missing, it
+/// appends the refusal and returns `None`. If memory runs out it fails and appends nothing.
 fn settled<N: DeskName, R: Wait>(
     rt: &R,
     alloc: Global,
@@ -126,7 +127,8 @@ fn settled<N: DeskName, R: Wait>(
     }
 }
 
-/// The parts of a desk over an engine, and its reader; nothing where there was no place for that.
+/// Returns the parts of a desk over an engine, and its reader, or `None` if the desk has no place for a reader. Fails
+/// if memory runs out.
 fn parts_of<R: Wait>(
     rt: &R,
     alloc: Global,
@@ -149,7 +151,8 @@ fn parts_of<R: Wait>(
     }
 }
 
-/// Carries out a script up to its `go` and with it. Answers the engine, or nothing where a tally is missing.
+/// Executes a script up to and including its `go`. Returns the engine, or `None` if a tally is missing. Fails if
+/// memory runs out.
 fn raced<N: DeskName + Send + Sync, R: Threads + Wait + Sync>(
     rt: &R,
     alloc: Global,
@@ -179,7 +182,7 @@ fn raced<N: DeskName + Send + Sync, R: Threads + Wait + Sync>(
     }
 }
 
-/// Carries out a script, and gives the status.
+/// Executes a script and returns the status. Fails if memory runs out.
 fn run_race<R: Threads + Wait + Sync>(
     rt: &R,
     alloc: Global,
@@ -252,8 +255,9 @@ impl OpenCommand for Race {
     ] };
 }
 
-/// Reads a race script, carries it out, writes what it prints and nothing else, and gives the exit status: 0, or 1 for a
-/// fault of the script, a failing stream, no place for a reader or a missing tally, or 3 for want of memory.
+/// Reads a race script, executes it, writes what it prints and nothing else, and returns the exit status: 0 on
+/// success, 1 for a fault of the script, a failing stream, no place for a reader or a missing tally, 3 if out of
+/// memory.
 pub fn race_script<R: Threads + Wait + Sync, I: Source, W: Sink>(
     rt: &R,
     alloc: Global,

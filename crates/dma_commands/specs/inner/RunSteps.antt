@@ -1,4 +1,4 @@
--- What a line of a script has done and printed.
+-- The effect and the output of one script line.
 use Rattle.std.specs.Prelude.{◌≡◌, ℕ, ◌++◌, List, [], Option, Some, slice_get}
 use Rattle.dma_engine.specs.declared.entry.Entry.{Entry}
 use Rattle.dma_engine.specs.declared.entry.Entry.TheVariants.{ReadBack}
@@ -8,21 +8,21 @@ use Rattle.dma_script.specs.declared.statements.Statement.{Statement}
 use Rattle.dma_script.specs.declared.statements.Statement.TheVariants.{Pause, Resume, Terminate, Status, Result as Outcome, Mark, Unmark, Raise, Checkpoint}
 use Rattle.dma_commands.specs.Run.{Answered}
 
--- A line was answered so: the view is the one after it, and its printed lines were appended.
+-- The new view is the answer's view, and the answer's lines are appended to the output.
 pub record AnswersLine (answered : Answered) (new : View) (out out' : List ℕ) : Type 0 where
   pub acts : new ≡ answered.1
   pub prints : out' ≡ out ++ text_of answered.0
 
--- the bytes that an entry read, none where it is no read
+-- the bytes of a `ReadBack` entry; an empty list for any other entry, or for none
 abbrev pub read_in : Option Entry → List ℕ
 read_in (Some (ReadBack addr bytes)) = bytes
 read_in _ = []
 
--- those of a history's entry at a place
+-- the bytes of the `ReadBack` entry at an index of a history; an empty list if there is no such entry
 abbrev pub read_at : List Entry → ℕ → List ℕ
 read_at history place = read_in (slice_get history place)
 
--- a line that is one call, without a list or bytes, other than `read` and `issue`
+-- a line that makes one call without a list or bytes, other than `read` and `issue`
 abbrev pub IsShort : Statement → Type 0
 IsShort (Pause ch) = Unit {0}
 IsShort (Resume ch) = Unit {0}

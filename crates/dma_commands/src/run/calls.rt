@@ -1,4 +1,4 @@
-//! The lines of a script that are one call, and the totals.
+//! The lines of a script that make one call, and `totals`.
 #![tactic(auto, using(crate::proofs::Begun::begins_more, crate::proofs::Begun::begins_pushed, crate::proofs::Begun::begins_same, crate::proofs::Begun::line_ends, crate::proofs::Begun::line_gone))]
 
 ghost use Rattle.std.specs.Prelude.{◌≡◌, ◌≢◌, ◌++◌, ◌∷◌, [], OnOk, OnErr, IfOk, length};
@@ -23,7 +23,7 @@ use dma_script::plan::TransferLine;
 use dma_script::printing::push_line;
 use std::alloc::AllocError;
 
-/// Carries out one call. Where memory is refused the error comes.
+/// Makes one call and returns its reply. Fails with `AllocError` if the call is out of memory.
 pub(crate) fn reply_to(engine: &mut Engine, call: &Call) -> Result<Reply, AllocError>
     ensures answer { IfOk result (λ reply. (reply, engine.new.view) ≡ answer engine.old.view call.now) }
     ensures refused { OnErr result (CallAnswers engine.old.view call.now (Reply.Refused EngineFault.NoMemory) engine.new.view) }
@@ -34,7 +34,7 @@ pub(crate) fn reply_to(engine: &mut Engine, call: &Call) -> Result<Reply, AllocE
     }
 }
 
-/// Carries out one call, and appends its line or nothing.
+/// Makes one call and appends its line, or appends nothing and fails if memory runs out.
 #[inline(never)]
 pub(crate) fn answer_call(
     engine: &mut Engine,
@@ -48,7 +48,7 @@ pub(crate) fn answer_call(
     push_told(call, &reply, out)
 }
 
-/// Carries out `write ADDR HEX`. Its bytes are moved into the history.
+/// Executes `write ADDR HEX`. The bytes are moved into the history.
 #[inline(never)]
 pub(crate) fn write_line(
     engine: &mut Engine,
@@ -65,7 +65,8 @@ pub(crate) fn write_line(
     }
 }
 
-/// Returns the bytes of the read at a place of a history, or none where that entry is no read.
+/// Returns the bytes of the `ReadBack` entry at index `place` of a history, or an empty slice if there is no such
+/// entry.
 fn read_at(history: &[Entry], place: usize) -> &[u8]
     ensures { result.now ≡ read_at history.now place }
 {
@@ -75,7 +76,7 @@ fn read_at(history: &[Entry], place: usize) -> &[u8]
     }
 }
 
-/// Carries out `read SEG`. The bytes are printed from the history, which keeps them.
+/// Executes `read SEG`. The bytes are printed from the history, which keeps them.
 #[inline(never)]
 pub(crate) fn read_line(
     engine: &mut Engine,
@@ -92,7 +93,8 @@ pub(crate) fn read_line(
     }
 }
 
-/// Appends what a transfer that breaks a rule prints. Where memory was refused it prints nothing and the script ends.
+/// Appends the line for a transfer that breaks a rule. Fails with `AllocError`, and appends nothing, if memory runs
+/// out or if the fault itself is `NoMemory`, which ends the script.
 pub fn push_unfit(fault: TransferFault, out: &mut Vec<u8>) -> Result<(), AllocError>
     ensures ok { OnOk result ((fault ≢ TransferFault.NoMemory) × (out.new.items ≡ out.old.items ++ text_of (refused_line (transfer_fault_name fault) ∷ []))) }
     ensures err { OnErr result (out.new.items ≡ out.old.items) }
@@ -100,7 +102,7 @@ pub fn push_unfit(fault: TransferFault, out: &mut Vec<u8>) -> Result<(), AllocEr
     push_refused(rule_name(fault)?, out)
 }
 
-/// Gives a transfer to a channel.
+/// Submits a transfer to a channel, and appends `cookie N` or the refusal.
 fn submit(
     engine: &mut Engine,
     ch: u8,
@@ -116,7 +118,7 @@ fn submit(
     }
 }
 
-/// Carries out `submit CH LIST to LIST [wait E] [signal E]` or `submit CH fill ADDR to LIST [wait E] [signal E]`.
+/// Executes `submit CH LIST to LIST [wait E] [signal E]` or `submit CH fill ADDR to LIST [wait E] [signal E]`.
 #[inline(never)]
 pub(crate) fn submit_line(
     engine: &mut Engine,
@@ -133,7 +135,7 @@ pub(crate) fn submit_line(
     }
 }
 
-/// Carries out `issue CH`.
+/// Executes `issue CH`.
 #[inline(never)]
 pub(crate) fn issue_line(engine: &mut Engine, ch: u8, out: &mut Vec<u8>) -> Result<(), AllocError>
     ensures ok { OnOk result (AnswersLine (call_answer engine.old.view (Call.Issue ch)) engine.new.view out.old.items out.new.items) }
@@ -145,7 +147,7 @@ pub(crate) fn issue_line(engine: &mut Engine, ch: u8, out: &mut Vec<u8>) -> Resu
     }
 }
 
-/// How many transfers run.
+/// Returns the number of running transfers.
 fn running_count(engine: &Engine) -> usize
     ensures { result ≡ length (running (object_of engine.now.view) engine.now.view.schedule) }
 {
@@ -158,7 +160,7 @@ fn running_count(engine: &Engine) -> usize
     count
 }
 
-/// `totals entries N steps N running N`, at the end.
+/// Appends `totals entries N steps N running N`.
 fn push_totals(line: &mut Vec<u8>, entries: u64, steps: u64, running: u64) -> Result<(), AllocError>
     ensures ok { OnOk result (line.new.items ≡ line.old.items ++ totals_line entries steps running) }
     ensures begins { Begins line.new.items line.old.items }
@@ -168,7 +170,7 @@ fn push_totals(line: &mut Vec<u8>, entries: u64, steps: u64, running: u64) -> Re
     push_worded(line, " running ", running)
 }
 
-/// Carries out `totals`.
+/// Executes `totals`.
 #[inline(never)]
 pub(crate) fn answer_totals(engine: &Engine, out: &mut Vec<u8>) -> Result<(), AllocError>
     ensures ok { OnOk result (out.new.items ≡ out.old.items ++ text_of (totals_of engine.now.view ∷ [])) }

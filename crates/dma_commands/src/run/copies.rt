@@ -1,4 +1,5 @@
-//! The lines of a script that copy or fill: submitted to channel 0, issued, and stepped through.
+//! The `copy` and `fill` lines of a script: their transfer is submitted to channel 0, issued, and stepped until an
+//! answer is neither Started nor Moved.
 ghost use Rattle.std.specs.Prelude.{◌≡◌, OnOk, OnErr, IfOk};
 ghost use Rattle.dma_engine.specs.Answer.{answer, reply_of};
 ghost use Rattle.dma_commands.specs.inner.RunSteps.{AnswersLine};
@@ -18,25 +19,27 @@ use dma_script::plan::{Origin, TransferLine};
 use dma_script::statements::CopyLine;
 use std::alloc::AllocError;
 
-/// At least as many steps as any transfer takes, which are its start and fewer than 2^19 instructions
-/// (`dma_chan::laws::costs_little`). So no copy or fill is cut off by it: that is the law `copies_end`.
+/// A limit for the steps of a copy or a fill. It is at least the number of steps of any transfer: its start and fewer
+/// than 2^19 instructions (`dma_chan::laws::costs_little`). So it cuts off no copy or fill, which is the law
+/// `copies_end`.
 pub const MOST_STEPS: u32 = 524_288;
 
-/// Whether channel 0 has an unfinished cookie, or is paused or halted.
+/// Returns whether channel 0 has an unfinished cookie, or is paused or halted.
 fn is_in_use(engine: &Engine) -> bool
     ensures { result ≡ is_in_use engine.now.view }
 {
     engine.unfinished(0) > 0 || engine.paused(0) || engine.halted(0)
 }
 
-/// Whether a copy or a fill goes on after a step with this answer.
+/// Returns whether a copy or a fill continues after a step with this answer.
 fn goes_on(answer: Result<Turn, EngineFault>) -> bool
     ensures { result ≡ goes_on (reply_of (λ turn. Reply.Turned turn) answer) }
 {
     matches!(answer, Ok(Turn::Started(_) | Turn::Moved))
 }
 
-/// Steps channel 0 until an answer is neither Started nor Moved.
+/// Steps channel 0 until an answer is neither Started nor Moved, and at most `MOST_STEPS` + 1 times. Returns the last
+/// answer. Fails if memory runs out.
 fn step_through(engine: &mut Engine) -> Result<Reply, AllocError>
     ensures { IfOk result (λ reply. (reply, engine.new.view) ≡ stepped_through most_steps engine.old.view) }
 {
@@ -54,7 +57,8 @@ fn step_through(engine: &mut Engine) -> Result<Reply, AllocError>
     reply_to(engine, &Call::Step { ch: 0 })
 }
 
-/// Issues what was submitted to channel 0 and steps through it.
+/// Issues channel 0, steps it with `step_through`, and appends `start` and the last answer. If memory runs out it
+/// fails and appends nothing.
 fn carry_through(engine: &mut Engine, start: &str, out: &mut Vec<u8>) -> Result<(), AllocError>
     ensures ok { OnOk result (AnswersLine (carried_through start.now engine.old.view) engine.new.view out.old.items out.new.items) }
     ensures err { OnErr result (out.new.items ≡ out.old.items) }
@@ -64,7 +68,8 @@ fn carry_through(engine: &mut Engine, start: &str, out: &mut Vec<u8>) -> Result<
     push_after(start, &last, out)
 }
 
-/// Submits a transfer to channel 0, issues it and steps through it.
+/// Submits a transfer to channel 0, issues it and steps it with `step_through`, and appends `start` and the last
+/// answer; or appends the refusal of the submit. If memory runs out it fails and appends nothing.
 fn copy_through(
     engine: &mut Engine,
     start: &str,
@@ -80,7 +85,8 @@ fn copy_through(
     }
 }
 
-/// Carries out a transfer within its line, whose answer starts with `start`. The transfer takes the line's lists for itself.
+/// Runs the transfer of a `copy` or `fill` line, and appends `start` and the last answer; or appends why it wasn't
+/// run. The line's lists are moved into the transfer. If memory runs out it fails and appends nothing.
 fn answer_through(
     engine: &mut Engine,
     start: &str,
@@ -100,7 +106,7 @@ fn answer_through(
     copy_through(engine, start, transfer, out)
 }
 
-/// Carries out `copy LIST to LIST`.
+/// Executes `copy LIST to LIST`.
 #[inline(never)]
 pub fn answer_copy(
     engine: &mut Engine,
@@ -120,7 +126,7 @@ pub fn answer_copy(
     answer_through(engine, "copy ", words, out)
 }
 
-/// Carries out `fill ADDR to LIST`.
+/// Executes `fill ADDR to LIST`.
 #[inline(never)]
 pub fn answer_fill(
     engine: &mut Engine,
@@ -140,8 +146,8 @@ pub fn answer_fill(
     answer_through(engine, "fill ", words, out)
 }
 
-/// The law that a copy or a fill is stepped until its last answer: neither takes so many steps that the loop ends by its own
-/// bound.
+/// Law: the steps of a copy or a fill end with an answer that is neither Started nor Moved, and not because of the
+/// loop's limit.
 pub fn copies_end()
     ensures { CopiesEnd }
 {}

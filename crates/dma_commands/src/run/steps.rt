@@ -1,4 +1,4 @@
-//! The lines of a script that step a channel. Equal answers that follow each other are counted in one printed line.
+//! The `step` lines of a script. Equal consecutive answers are counted and printed as one line.
 #![tactic(auto, using(crate::proofs::Begun::begins_more, crate::proofs::Begun::begins_pushed, crate::proofs::Begun::begins_same, crate::proofs::Begun::line_ends, crate::proofs::Begun::line_gone))]
 
 ghost use Rattle.std.specs.Prelude.{◌≡◌, ◌≢◌, ◌≤◌, ◌<◌, ◌+◌, ◌++◌, ◌∷◌, [], List, ℕ, OnOk, OnErr, IfOk, IsTrue, Err, map, replicate};
@@ -17,8 +17,9 @@ use dma_engine::{Engine, EngineFault, Reply, Turn};
 use std::alloc::{AllocError, Global};
 use std::mem;
 
-/// The answers of the steps of a line so far: the printed lines of the earlier ones, and how many equal ones come last. A
-/// script keeps one value for all its `step` lines, so that the room of its lists is used again.
+/// The answers to the steps of a line so far: the printed lines of the earlier ones, and the last answer with the
+/// number of its consecutive occurrences. A script uses one value for all its `step` lines, so that the memory of its
+/// lists is reused.
 #[derive(Drop)]
 pub struct StepLines {
     lines: Vec<u8>,
@@ -28,7 +29,7 @@ pub struct StepLines {
 }
 
 impl StepLines {
-    /// No answers, which take no memory.
+    /// Returns a value without answers. Doesn't allocate.
     pub fn new(alloc: Global) -> StepLines
         ensures lines { result.lines.items ≡ [] }
         ensures count { result.count ≡ 0 }
@@ -41,7 +42,7 @@ impl StepLines {
         }
     }
 
-    /// Ends the line of the last answers, if there are any.
+    /// Appends the line of the last answer to `lines`, if an answer was counted. Fails if memory runs out.
     fn end_line(&mut self, ch: u8) -> Result<(), AllocError>
         ensures none { OnOk result (self.old.count ≡ 0 → self.new.lines.items ≡ self.old.lines.items) }
         ensures line { OnOk result (0 < self.old.count → self.new.lines.items ≡ self.old.lines.items ++ text_of (step_line ch (self.old.last.items, self.old.count) ∷ [])) }
@@ -59,7 +60,7 @@ impl StepLines {
         push_text(&mut self.lines, "\n")
     }
 
-    /// Takes so many equal answers more.
+    /// Adds `many` equal answers. Fails if memory runs out.
     fn take(&mut self, ch: u8, reply: &Reply, many: u32) -> Result<(), AllocError>
         requires { self.old.count + many ≤ 4294967295 }
         ensures text { OnOk result ((rest : List (List ℕ)) → text_with ch self.new.lines.items self.new.last.items self.new.count rest
@@ -82,7 +83,7 @@ impl StepLines {
     }
 }
 
-/// The reply of a step. Where memory is refused the error comes.
+/// Returns the reply to a step. Fails with `AllocError` if the step was out of memory.
 pub fn step_reply(turn: Result<Turn, EngineFault>) -> Result<Reply, AllocError>
     ensures reply { IfOk result (λ reply. (reply ≡ reply_of (λ turn. Reply.Turned turn) turn) × (reply ≢ Reply.Refused EngineFault.NoMemory)) }
     ensures refused { OnErr result (turn ≡ Err EngineFault.NoMemory) }
@@ -94,7 +95,7 @@ pub fn step_reply(turn: Result<Turn, EngineFault>) -> Result<Reply, AllocError>
     }
 }
 
-/// Whether such an answer to a step changed nothing, so that it comes again with the next step.
+/// Returns whether a step with this answer changed nothing, so that the next step answers the same.
 fn is_idle(turn: Result<Turn, EngineFault>) -> bool
     ensures idle { IsTrue result → IsIdle turn }
     ensures all { IsIdle turn → IsTrue result }
@@ -105,8 +106,9 @@ fn is_idle(turn: Result<Turn, EngineFault>) -> bool
     )
 }
 
-/// Steps a channel at most so often, until one doesn't move, and takes the answers. One that comes again is taken for all
-/// steps that are left, which aren't carried out. Answers how many it took.
+/// Steps a channel at most `most` times, until a step doesn't move, and adds the answers. An answer that every later
+/// step repeats is counted for all remaining steps, which are not executed. Returns the number of answers that it
+/// added. Fails if memory runs out.
 fn take_steps(
     engine: &mut Engine,
     ch: u8,
@@ -132,7 +134,7 @@ fn take_steps(
     Ok(moved + many)
 }
 
-/// Steps a channel so often, and leaves the lines.
+/// Steps a channel `count` times, and stores the printed lines in `told`. Fails if memory runs out.
 #[inline(never)]
 fn step_text(
     engine: &mut Engine,
@@ -154,7 +156,7 @@ fn step_text(
     Ok(())
 }
 
-/// Returns an error where the step was refused memory.
+/// Fails with `AllocError` if the step was out of memory.
 fn unless_refused_memory(turned: Result<Turn, EngineFault>) -> Result<(), AllocError>
     ensures { OnOk result (reply_of (λ turn. Reply.Turned turn) turned ≢ Reply.Refused EngineFault.NoMemory) }
 {
@@ -165,7 +167,8 @@ fn unless_refused_memory(turned: Result<Turn, EngineFault>) -> Result<(), AllocE
     }
 }
 
-/// Appends the text of the line of one step.
+/// Appends the line of one step, without its line feed. If memory runs out, it fails and a part of the line may
+/// remain.
 fn push_one_step(
     line: &mut Vec<u8>,
     ch: u8,
@@ -180,7 +183,7 @@ fn push_one_step(
     push_text(line, " x1")
 }
 
-/// Carries out a `step` line of one step, whose line ends in `x1`. It is appended to the output itself.
+/// Executes a `step` line of one step, whose printed line ends with `x1`. The line is appended directly to the output.
 fn answer_step(engine: &mut Engine, ch: u8, out: &mut Vec<u8>) -> Result<(), AllocError>
     ensures ok { OnOk result (AnswersLine (step_answer engine.old.view ch 1) engine.new.view out.old.items out.new.items) }
     ensures err { OnErr result (out.new.items ≡ out.old.items) }
@@ -192,7 +195,8 @@ fn answer_step(engine: &mut Engine, ch: u8, out: &mut Vec<u8>) -> Result<(), All
     end_line(out, start, parts)
 }
 
-/// Carries out `step CH [N]`. No step takes memory for its answer, and those after one that changed nothing take no time.
+/// Executes `step CH [N]`. No step allocates memory for its answer, and the steps after one that changed nothing are
+/// only counted.
 #[inline(never)]
 pub fn answer_steps(
     engine: &mut Engine,

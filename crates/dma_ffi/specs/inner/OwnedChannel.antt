@@ -1,4 +1,4 @@
--- What a pointer to a channel owns that C keeps.
+-- What the pointer owns that C keeps for a channel.
 use Rattle.std.specs.Prelude.{Option, None, Some}
 use base.Fml.{Fml, ftrue}
 use denote.RawPtr.{Ptr}
@@ -17,7 +17,8 @@ heap_handle = record { memory = record { seal = tt } }
 abbrev pub may_free : Ty → Ptr → Fml
 may_free = ghosts.dealloc_token heap_handle
 
--- a channel with its marks, of this value, lies there in a block of its own, which may be freed; or nothing is owned
+-- the pointer owns a heap block of its own with a channel and its marks of this value, and the right to free the
+-- block; without a value it owns nothing
 abbrev pub owned : Ptr → Option MarkedChannel → Fml
 owned p (Some x) = box_owns may_free the_row p x
 owned p None = ftrue

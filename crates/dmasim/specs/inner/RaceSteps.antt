@@ -1,4 +1,4 @@
--- What was printed on the way through a race script.
+-- What the parts of a race script print.
 use Rattle.std.specs.Prelude.{◌≡◌, ℕ, ◌≤◌, List, [], ◌∷◌, ◌++◌, take, length, codes}
 use Rattle.dma_engine.specs.declared.call.Call.{Call}
 use Rattle.dma_engine.specs.View.{View}
@@ -8,20 +8,21 @@ use Rattle.dma_commands.specs.Printed.{refused_line}
 use Rattle.dmasim.specs.Race.{EachPrints, EarlyPrints, Leaves, alone, go_line}
 use Rattle.dma_commands.specs.Run.{call_answer}
 
--- The line of a call was printed, as the call answers it to some view.
+-- The line of a call is appended, with the answer of an engine with some view.
 pub record PrintsCall (call : Call) (old new : List ℕ) : Type 0 where
   pub view : View
   pub line : List ℕ
   pub told : (call_answer view call).0 ≡ line ∷ []
   pub text : new ≡ old ++ text_of (line ∷ [])
 
--- A line before `go` printed what it may.
+-- A line that this line before `go` may print is appended.
 pub record PrintsEarly (statement : Statement) (old new : List ℕ) : Type 0 where
   pub line : List ℕ
   pub allowed : EarlyPrints statement line
   pub text : new ≡ old ++ text_of (line ∷ [])
 
--- The first of the lines before `go` printed what they may, and so may the others.
+-- The first `count` of the lines before `go` have appended lines that they may print; the other lines may print
+-- something too.
 pub record PrintsFirst (statements : List Statement) (old new : List ℕ) : Type 0 where
   pub early : List (List ℕ)
   pub each : EachPrints statements early
@@ -29,20 +30,21 @@ pub record PrintsFirst (statements : List Statement) (old new : List ℕ) : Type
   pub within : count ≤ length early
   pub text : new ≡ old ++ printed_text (alone (take count early))
 
--- All of them did.
+-- All lines before `go` have appended lines that they may print.
 pub record PrintsAll (statements : List Statement) (old new : List ℕ) : Type 0 where
   pub early : List (List ℕ)
   pub each : EachPrints statements early
   pub text : new ≡ old ++ printed_text (alone early)
 
--- `go` printed its totals.
+-- The totals of `go` are appended, for an engine with the view `v`.
 pub record PrintsTotals (v : View) (old new : List ℕ) : Type 0 where
   pub steps : ℕ
   pub finished : ℕ
   pub leaves : Leaves steps finished v
   pub text : new ≡ old ++ text_of (go_line steps finished ∷ [])
 
--- All of the lines before `go` printed what they may, and `go` its totals.
+-- All lines before `go` have appended lines that they may print, and then `go` its totals, for an engine with the view
+-- `v`.
 pub record PrintsGo (statements : List Statement) (v : View) (old new : List ℕ) : Type 0 where
   pub early : List (List ℕ)
   pub each : EachPrints statements early
@@ -51,11 +53,11 @@ pub record PrintsGo (statements : List Statement) (v : View) (old new : List ℕ
   pub leaves : Leaves steps finished v
   pub text : new ≡ old ++ printed_text (alone early ++ (go_line steps finished ∷ []) ∷ [])
 
--- The line of a refusal was printed.
+-- The line of a refusal is appended.
 abbrev pub PrintsRefusal : List ℕ → List ℕ → List ℕ → Type 0
 PrintsRefusal name old new = new ≡ old ++ text_of (refused_line name ∷ [])
 
--- All of the lines before `go` printed what they may, and `go` that a tally is missing.
+-- All lines before `go` have appended lines that they may print, and then `go` the refusal `MissingTally`.
 pub record PrintsMissing (statements : List Statement) (old new : List ℕ) : Type 0 where
   pub before : List ℕ
   pub all : PrintsAll statements old before

@@ -1,5 +1,5 @@
-//! The lines of a race script before `go`: each takes the desk's lock once for its one call, and prints after that; a status
-//! asks the reader.
+//! The lines of a race script before `go`. Each line except `status` locks the desk once, for its one call, and prints
+//! after unlocking it. A `status` line asks the reader and takes no lock.
 ghost use Rattle.std.specs.Prelude.{◌≡◌, ◌≢◌, ◌++◌, ◌∷◌, [], OnOk, OnErr};
 ghost use Rattle.std.specs.List.{All};
 ghost use Rattle.dma_engine.specs.Answer.{reply_of};
@@ -23,7 +23,7 @@ use dma_work::{DeskName, Shared, StatusReader};
 use std::alloc::AllocError;
 use std::sync::{MutexGuard, Wait};
 
-/// The reply of a call that answers bytes.
+/// Returns the reply of a call that answers bytes.
 fn bytes_reply(bytes: Result<Bytes, EngineFault>) -> Reply
     ensures { result ≡ reply_of (λ bytes. Reply.Bytes bytes) bytes }
 {
@@ -33,7 +33,7 @@ fn bytes_reply(bytes: Result<Bytes, EngineFault>) -> Reply
     }
 }
 
-/// The reply of a call that answers a number of cookies.
+/// Returns the reply of a call that answers a number of cookies.
 fn count_reply(count: Result<u32, EngineFault>) -> Reply
     ensures { result ≡ reply_of (λ count. Reply.Count count) count }
 {
@@ -43,7 +43,8 @@ fn count_reply(count: Result<u32, EngineFault>) -> Reply
     }
 }
 
-/// Appends the line of a call, or nothing. Where memory was refused it prints nothing and the script ends.
+/// Appends the line of a call, or nothing. Fails with `AllocError` if memory runs out, and for a refusal with
+/// `NoMemory`, which prints nothing and ends the script.
 fn push_answer(call: &Call, reply: &Reply, out: &mut Vec<u8>) -> Result<(), AllocError>
     ensures ok { OnOk result ((reply.now ≢ Reply.Refused EngineFault.NoMemory) × (out.new.items ≡ out.old.items ++ text_of (call_line call.now reply.now ∷ []))) }
     ensures err { OnErr result (out.new.items ≡ out.old.items) }
@@ -54,7 +55,7 @@ fn push_answer(call: &Call, reply: &Reply, out: &mut Vec<u8>) -> Result<(), Allo
     push_told(call, reply, out)
 }
 
-/// Carries out `write ADDR HEX`.
+/// Executes `write ADDR HEX`.
 fn write_early<N: DeskName, R: Wait>(
     rt: &R,
     shared: &Shared<N>,
@@ -74,7 +75,7 @@ fn write_early<N: DeskName, R: Wait>(
     }
 }
 
-/// Carries out `read SEG`.
+/// Executes `read SEG`.
 fn read_early<N: DeskName, R: Wait>(
     rt: &R,
     shared: &Shared<N>,
@@ -92,7 +93,7 @@ fn read_early<N: DeskName, R: Wait>(
     push_answer(&Call::Read { addr, len }, &reply, out)
 }
 
-/// Gives a transfer to a channel, and tells the reader of it.
+/// Submits a transfer to a channel, and passes its ticket to the reader.
 fn submit_transfer<N: DeskName, R: Wait>(
     rt: &R,
     shared: &Shared<N>,
@@ -118,7 +119,7 @@ fn submit_transfer<N: DeskName, R: Wait>(
     }
 }
 
-/// Carries out `submit CH LIST to LIST [wait E] [signal E]` or `submit CH fill ADDR to LIST [wait E] [signal E]`.
+/// Executes `submit CH LIST to LIST [wait E] [signal E]` or `submit CH fill ADDR to LIST [wait E] [signal E]`.
 fn submit_early<N: DeskName, R: Wait>(
     rt: &R,
     shared: &Shared<N>,
@@ -138,7 +139,7 @@ fn submit_early<N: DeskName, R: Wait>(
     }
 }
 
-/// Carries out `issue CH`.
+/// Executes `issue CH`.
 fn issue_early<N: DeskName, R: Wait>(
     rt: &R,
     shared: &Shared<N>,
@@ -155,7 +156,7 @@ fn issue_early<N: DeskName, R: Wait>(
     push_answer(&Call::Issue { ch }, &reply, out)
 }
 
-/// Carries out `terminate CH`, and tells the reader of what it ended.
+/// Executes `terminate CH`, and passes the ticket of the cookies that it ended to the reader.
 fn terminate_early<N: DeskName, R: Wait>(
     rt: &R,
     shared: &Shared<N>,
@@ -181,7 +182,7 @@ fn terminate_early<N: DeskName, R: Wait>(
     }
 }
 
-/// Carries out `result CH COOKIE`.
+/// Executes `result CH COOKIE`.
 fn result_early<N: DeskName, R: Wait>(
     rt: &R,
     shared: &Shared<N>,
@@ -198,7 +199,7 @@ fn result_early<N: DeskName, R: Wait>(
     push_answer(&Call::Result { ch, cookie }, &Reply::Result(outcome), out)
 }
 
-/// Carries out `status CH COOKIE`, which asks the reader and takes no lock.
+/// Executes `status CH COOKIE`, which asks the reader and takes no lock.
 fn status_early(
     reader: &mut StatusReader,
     ch: u8,
@@ -215,7 +216,7 @@ fn status_early(
     }
 }
 
-/// Carries out a line before `go`, which is done with then, and appends what it prints or nothing.
+/// Executes a line before `go`, and appends what it prints, or appends nothing and fails if memory runs out.
 fn run_early_statement<N: DeskName, R: Wait>(
     rt: &R,
     shared: &Shared<N>,
@@ -252,7 +253,7 @@ fn run_early_statement<N: DeskName, R: Wait>(
     }
 }
 
-/// Carries out lines before `go` on a desk, and tells its reader of them.
+/// Executes lines before `go` on a desk, and passes their tickets to its reader.
 #[derive(Drop)]
 struct LinesOnDesk<'a, N: DeskName, R: Wait> {
     rt: &'a R,
@@ -277,8 +278,8 @@ impl<N: DeskName, R: Wait> Interpreter for LinesOnDesk<'_, N, R> {
     }
 }
 
-/// Carries out the lines before `go`, each of which is done with then. Where memory is refused, what the lines before
-/// printed stands there.
+/// Executes the lines before `go`, dropping each one afterwards. If memory runs out, the output keeps what the lines
+/// before printed.
 pub fn run_early_statements<N: DeskName, R: Wait>(
     rt: &R,
     shared: &Shared<N>,

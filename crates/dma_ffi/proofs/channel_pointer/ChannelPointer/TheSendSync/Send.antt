@@ -1,4 +1,4 @@
--- What a `ChannelPointer` owns says the same to every thread.
+-- What a `ChannelPointer` owns doesn't depend on the thread.
 use base.Shift.{Keyless}
 use base.Fraction.{full_share}
 use mir.Raw.{raw}

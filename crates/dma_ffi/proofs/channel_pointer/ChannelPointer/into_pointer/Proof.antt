@@ -1,4 +1,4 @@
--- `into_pointer` gives the pointer back.
+-- `into_pointer` returns the pointer.
 use Rattle.std.proofs.Common.{◌≡◌, List, [], ◌∷◌, ◌++◌, refl, sym, subst}
 use Rattle.std.specs.Prelude.{Some, IsSome}
 use mir.Val.{Val, vptr}

@@ -1,4 +1,4 @@
--- What an `EnginePointer` owns says the same to every thread.
+-- What an `EnginePointer` owns doesn't depend on the thread.
 use base.Shift.{Keyless}
 use base.Fraction.{full_share}
 use mir.Raw.{raw}
