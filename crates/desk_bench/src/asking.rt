@@ -5,7 +5,7 @@ ghost use Rattle.dma_work.specs.Desk.{Names};
 use crate::copies::{Copies, load, loaded};
 use crate::plan::{Meanwhile, Measured, Times, since};
 use crate::stepping::{settled, step_often};
-use dma_work::{DeskName, Job, NoGate, Parts, Shared, StatusReader, Tally, work};
+use dma_work::{DeskName, Job, NoGate, Parts, Shared, StatusReader, Tally, Worker, work};
 use std::alloc::Global;
 use std::rt::Clock;
 use std::sync::atomic::{AtomicBool, Ordering};
@@ -105,7 +105,9 @@ fn work_on<N: DeskName, R: Wait>(
             break;
         }
         submit_some(rt, alloc, shared, copies, copies.in_a_round());
-        tallies.push_reserved(work(rt, shared, 0, job, &NoGate));
+        let mut worker = Worker::<N, _>::new(shared.lent(), 0);
+        work(rt, &mut worker, job, &NoGate);
+        tallies.push_reserved(worker.into_tally());
     }
     tallies
 }

@@ -33,8 +33,8 @@ fn tell_the_same_of(this: &Engine, that: &Engine, ch: u8) -> bool {
     told(this, ch) == told(that, ch)
 }
 
-// Whether two engines tell the same, but for the bytes of their memories.
-fn tell_the_same(this: &Engine, that: &Engine) -> bool {
+/// Whether two engines tell the same, but for the bytes of their memories.
+pub fn tell_the_same(this: &Engine, that: &Engine) -> bool {
     for (entry, other) in this.history().iter().zip(that.history().iter()) {
         if said(entry) != said(other) {
             return false;
@@ -43,19 +43,27 @@ fn tell_the_same(this: &Engine, that: &Engine) -> bool {
     this.history().len() == that.history().len()
         && this.steps() == that.steps()
         && this.finished_all() == that.finished_all()
-        && tell_the_same_of(this, that, 0)
-        && tell_the_same_of(this, that, 1)
+        && tell_the_same_of_all(this, that)
 }
 
-// The engine that is asked, and the one beside it.
+fn tell_the_same_of_all(this: &Engine, that: &Engine) -> bool {
+    for ch in 0..8 {
+        if !tell_the_same_of(this, that, ch) {
+            return false;
+        }
+    }
+    true
+}
+
+/// The engine that is asked, and the one beside it.
 #[derive(Drop)]
-struct Pair {
-    asked: Engine,
-    other: Engine,
+pub struct Pair {
+    pub asked: Engine,
+    pub other: Engine,
 }
 
-// Whether their memories have the same bytes, by a read of each, which both histories then have.
-fn have_same_bytes(pair: &mut Pair) -> Result<bool, Fail> {
+/// Whether their memories have the same bytes, by a read of each, which both histories then have.
+pub fn have_same_bytes(pair: &mut Pair) -> Result<bool, Fail> {
     let size = pair.asked.size();
     let these = pair.asked.read(0, size)?;
     let those = pair.other.read(0, size)?;

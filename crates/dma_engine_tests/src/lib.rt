@@ -15,7 +15,11 @@ mod races;
 #[cfg(test)]
 mod scenes;
 #[cfg(test)]
+mod turns;
+#[cfg(test)]
 mod work;
+#[cfg(test)]
+mod work_leaves;
 #[cfg(test)]
 mod work_refused;
 #[cfg(test)]

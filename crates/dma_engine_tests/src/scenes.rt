@@ -7,8 +7,8 @@ use dma_engine::{Engine, EngineFault, Status, Turn};
 use dma_mem::segment::Segment;
 use dma_mem::transfer::Transfer;
 use dma_work::{
-    Desk, DeskName, MissingTally, Parts, Receipt, ShareFault, ShareFaultKind, Shared, StatusReader,
-    Tally, Totals, settle,
+    Desk, DeskName, Job, MissingTally, NoGate, Parts, Receipt, ShareFault, ShareFaultKind, Shared,
+    StatusReader, Tally, Totals, Worker, settle, work,
 };
 use std::alloc::Global;
 use std::marker::Brand;
@@ -192,6 +192,13 @@ pub fn submitted<N: DeskName, R: Wait>(
 pub fn stepped<N: DeskName, R: Wait>(rt: &R, desk: &mut Desk<N>) -> Result<Turn, EngineFault> {
     let mut tally = desk.tally(0);
     desk.step(rt, 0, &mut tally)
+}
+
+/// Takes the turns of a job as a worker, with no gate.
+pub fn worked<N: DeskName, R: Wait>(rt: &R, shared: &Shared<N>, number: u32, job: Job) -> Tally {
+    let mut worker = Worker::<N, _>::new(shared.lent(), number);
+    work(rt, &mut worker, job, &NoGate);
+    worker.into_tally()
 }
 
 /// The totals and the number of entries, where the tallies add up.

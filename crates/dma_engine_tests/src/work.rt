@@ -5,12 +5,11 @@ ghost use Rattle.dma_work.specs.Desk.{Names};
 
 use crate::scenes::{
     COMPLETE, IN_PROGRESS, Scene, UNKNOWN, copy, issued, play, seen, settled, step_often, stepped,
-    submitted, with_a_reader, without_room,
+    submitted, with_a_reader, without_room, worked,
 };
 use dma_engine::{Engine, Outcome, Status, TransResult, Turn};
 use dma_work::{
-    Desk, DeskName, Job, MissingTally, NoGate, Parts, Shared, StatusReader, Tally, Totals, settle,
-    work,
+    Desk, DeskName, Job, MissingTally, Parts, Shared, StatusReader, Tally, Totals, settle,
 };
 use std::alloc::{AllocError, Global};
 use std::marker::Brand;
@@ -89,11 +88,26 @@ fn all_see(readers: &mut [StatusReader], wanted: [Option<Status>; 3]) -> bool {
     true
 }
 
-// Drops the parts of an engine.
-fn close<N: DeskName, R: Wait>(rt: &R, parts: Parts)
+// Whether a desk has a reader more, which sees what was published, once these have given their places back, and none before.
+fn reads_more<N: DeskName>(desk: &mut Desk<N>, readers: Vec<StatusReader>) -> bool {
+    let is_full = readers.is_empty() || desk.reader().is_none();
+    drop(readers);
+    let Some(mut reader) = desk.reader() else {
+        return false;
+    };
+    is_full && seen(&mut reader) == [COMPLETE, IN_PROGRESS, UNKNOWN]
+}
+
+// The same of the desk over these parts, which it ends.
+fn has_places<N: DeskName, R: Wait>(rt: &R, parts: Parts, readers: Vec<StatusReader>) -> bool
     requires { Names N.steps N.finished N.base N.log parts }
 {
-    drop(Shared::<N>::new(parts).close(rt));
+    let shared = Shared::<N>::new(parts);
+    let mut desk = shared.desk().lock(rt);
+    let is_right = reads_more(&mut desk, readers);
+    MutexGuard::unlock(desk);
+    drop(shared.close(rt));
+    is_right
 }
 
 #[test]
@@ -103,9 +117,10 @@ fn each_reader_answers(rt: HostRuntime) -> Result<(), Fail> {
         let Ok((parts, mut readers)) = Parts::new(&rt, rt.alloc(), engine, count) else {
             return Err(Fail::from("no parts"));
         };
-        let is_right = all_see(&mut readers, [COMPLETE, IN_PROGRESS, UNKNOWN]);
-        close::<Brand, _>(&rt, parts);
-        assert!(rt; is_right && readers.len() == count);
+        let is_right = readers.len() == count
+            && all_see(&mut readers, [COMPLETE, IN_PROGRESS, UNKNOWN]);
+        let has_more = has_places::<Brand, _>(&rt, parts, readers);
+        assert!(rt; is_right && has_more);
     }
     Ok(())
 }
@@ -166,8 +181,8 @@ fn until_evening<N: DeskName, R: Wait + Abort>(
     reader.learn(receipt.ticket);
     assert!(rt; seen(reader) == [IN_PROGRESS, UNKNOWN, UNKNOWN]);
     let [first, second] = jobs;
-    let busy = work(rt, shared, 5, first, &NoGate);
-    let idle = work(rt, shared, 6, second, &NoGate);
+    let busy = worked(rt, shared, 5, first);
+    let idle = worked(rt, shared, 6, second);
     assert!(rt; (busy.worker(), busy.turns(), busy.steps(), busy.finishes()) == (5, 9, 8, 1));
     assert!(rt; (idle.worker(), idle.turns(), idle.steps(), idle.finishes()) == (6, 3, 0, 0));
     assert!(rt; seen(reader) == [COMPLETE, UNKNOWN, UNKNOWN]);

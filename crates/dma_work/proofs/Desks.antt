@@ -180,6 +180,16 @@ module _ (s f : ℕ) (base : Board) (log : Book) (before : List Tick) where
       let all : q ≡ next p.shown u = is_published ∙ ap (λ (x : Publication). next x.shown t) ready ∙ ap (next p.shown) is in
       kept_adds m new p q b e (u ∷ []) moves finishes a from all steps done (kept_same old m p b same k)
 
+  -- one tick more was made ready, and the engine has added it: what is to be published is what it did
+  pub acted_next : (old m new : EngineState) (p r : Publication) (b : Totals) (l : List Posted) (t u : Tick) (moves finishes : ℕ) → m.view ≡ old.view → Adds m.view new.view (u ∷ []) moves finishes → t ≡ u → r ≡ record { shown = p.shown; pending = l } → IsKept s f base log before old p b → before ++ ticks_of new.view.history ≡ r.shown.ticks ++ t ∷ []
+  acted_next old m new p r b l t u moves finishes same a is ready k =
+      ap (λ x. before ++ x) a.ticks
+      ∙ sym (append_assoc before (ticks_of m.view.history) (u ∷ []))
+      ∙ ap (λ (v : View). (before ++ ticks_of v.history) ++ u ∷ []) same
+      ∙ ap (λ (x : Posted). x.ticks ++ u ∷ []) (sym k.shown)
+      ∙ ap (λ (x : Publication). x.shown.ticks ++ u ∷ []) (sym ready)
+      ∙ ap (λ (x : Tick). r.shown.ticks ++ x ∷ []) (sym is)
+
   -- a checkpoint: what is published stands before the new history
   pub kept_checkpoint : (old new : EngineState) (p : Publication) (b : Totals) → IsSound old.view → CallAnswers old.view Checkpoint Done new.view → IsKept s f base log before old p b → IsKept s f base log (before ++ ticks_of old.view.history) new p b
   unfolding posted

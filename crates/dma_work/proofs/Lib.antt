@@ -1,4 +1,5 @@
--- Lemmas on beginnings of lists, on boards, on the log's step, on the rule of what is published and on how a list begins.
+-- Lemmas on beginnings of lists, on boards, on the log's step, on the rule of what is published, on how a list begins and on
+-- rotations.
 pub mod Beginnings
 pub mod Boards
 pub mod LogSteps
@@ -6,4 +7,5 @@ pub mod PublishedRule
 pub mod FirstBoards
 pub mod Desks
 pub mod ItemsOfLists
+pub mod Rotations
 pub mod StatusLaws

@@ -1,6 +1,8 @@
 -- What contracts see of a desk.
 use Rattle.std.specs.Prelude.{◌≡◌, ℕ, ◌<◌, length, slice_index_or, ◌+◌, List, ◌++◌, Result}
+use Rattle.std.specs.List.{sum_by}
 use Rattle.logbook.specs.Pages.{Book}
+use Rattle.dma_engine.specs.Answer.{StepAnswers}
 use Rattle.dma_engine.specs.Laws.{steps_in, finishes_in}
 use Rattle.dma_engine.specs.Object.{finished_all}
 use Rattle.dma_engine.specs.Ticks.{Board, Tick, ticks_of}
@@ -54,6 +56,36 @@ AreTallies tallies jobs =
     (i : ℕ) (t : TallyCounts) (j : Job) → i < length jobs
     → ((slice_index_or tallies i t).worker ≡ i) × ((slice_index_or tallies i t).turns ≡ (slice_index_or jobs i j).turns)
 
+-- the steps of all tallies
+abbrev pub steps_of : List TallyCounts → ℕ
+steps_of tallies = sum_by (λ (t : TallyCounts). t.steps) tallies
+
+-- and their finishes
+abbrev pub finishes_of : List TallyCounts → ℕ
+finishes_of tallies = sum_by (λ (t : TallyCounts). t.finishes) tallies
+
 -- a tally after a step with this answer, refused or not
 abbrev pub counted : Result Turn EngineFault → TallyCounts → TallyCounts
 counted r t = record t { turns = t.turns + 1; steps = t.steps + steps_in r; finishes = t.finishes + finishes_in r }
+
+-- A step of a channel, counted: the engine's step with some answer, which the book of the desk and a tally count. The ticks
+-- that were published before those of the history stay.
+pub record CountsAStep
+    (ch : ℕ) (tally : TallyCounts) (old : DeskState) (tally_after : TallyCounts) (new : DeskState)
+    : Type 0 where
+  pub answer : Result Turn EngineFault
+  pub step : StepAnswers old.engine.view ch answer new.engine.view
+  pub book : new.book ≡ stepped_book old.book answer
+  pub before_history : new.before ≡ old.before
+  pub count : tally_after ≡ counted answer tally
+
+-- A worker: what lends it the desk, and its tally.
+pub record WorkerState (L : Type 0) : Type 0 where
+  pub lender : L
+  pub tally : TallyCounts
+
+-- A worker's turn, where `lends` says which desk is lent, and which is given back: it is lent a desk for one step of the channel,
+-- and does nothing else.
+abbrev pub TakesAStep : {L : Type 0} → (L → DeskState → DeskState → L → Type 0) → WorkerState L → ℕ → WorkerState L → Type 0
+TakesAStep lends old ch new =
+    (d : DeskState) × (e : DeskState) × lends old.lender d e new.lender × CountsAStep ch old.tally d new.tally e

@@ -10,3 +10,7 @@ pub record Known : Type 0 where
   pub log : Book
   pub seen : List Tick
   pub learnt : List Tick
+
+-- what a reader knows that has seen this list, and was told of it
+abbrev pub knows : Board → Book → List Tick → Known
+knows base log ticks = record { base = base; log = log; seen = ticks; learnt = ticks }

@@ -25,8 +25,11 @@ use dma_mem::transfer::Transfer;
 use std::marker::{Model, PhantomData};
 use std::sync::Wait;
 
+mod reading;
+mod settling;
 mod tally;
 
+pub use settling::Unsettled;
 pub use tally::Tally;
 
 /// The value behind the lock: an engine, a book of what was done through the desk, and the writer of what status readers
@@ -254,16 +257,16 @@ impl<N: DeskName> Desk<N> {
         let _finished = self.engine.finished_all();
         self.book.steps += 1;
         self.book.finished += 1;
-        self.publisher.publish(rt, tick);
+        self.publisher.publish(rt, tick, &self.before, &self.engine);
         Ok(turn)
     }
 
     /// As [`Engine::step`], counted in the book and in the tally: one step for Moved and for Finished, one finish for
-    /// Finished, and one turn for each call. The tally's counts are below 2^64 - 1.
+    /// Finished, and one turn for each call. The tally has fewer than 2^64 - 1 turns.
     ///
     /// Only a step that finishes a cookie publishes. A refusal changes nothing but the tally's turns.
     pub fn step<R: Wait>(&mut self, rt: &R, ch: u8, tally: &mut Tally) -> Result<Turn, EngineFault>
-        requires { (tally.old.turns < 18446744073709551615) × (tally.old.steps < 18446744073709551615) × (tally.old.finishes < 18446744073709551615) }
+        requires { tally.old.turns < 18446744073709551615 }
         ensures answer { StepAnswers self.old.engine.view ch result self.new.engine.view }
         ensures book { self.new.book ≡ stepped_book self.old.book result }
         ensures before { self.new.before ≡ self.old.before }
@@ -305,8 +308,8 @@ impl<N: DeskName> Desk<N> {
         };
         // opens to the proof what the engine's type keeps
         let _history = self.engine.history();
-        let told = self.publisher.publish(rt, tick);
-        Ok(receipt(ch, cookie, Ticket::new(told)))
+        let list = self.publisher.publish(rt, tick, &self.before, &self.engine);
+        Ok(receipt(ch, cookie, Ticket::new(list)))
     }
 
     /// As [`Engine::terminate`]. The answer has the number of cookies that were aborted, the last cookie given, and a ticket
@@ -333,7 +336,7 @@ impl<N: DeskName> Desk<N> {
         let _history = self.engine.history();
         let _finished = self.engine.finished_all();
         self.book.terminated += u64::from(count);
-        let told = self.publisher.publish(rt, tick);
+        let told = self.publisher.publish(rt, tick, &self.before, &self.engine);
         let through = self.engine.used(ch);
         Ok(closed(ch, count, through, Ticket::new(told)))
     }

@@ -3,7 +3,7 @@
 ghost use Rattle.std.specs.Prelude.{◌≡◌, ◌<◌, ◌≤◌, ◌^◌, [], ◌∷◌, Some, IfSome, IfOk, IsTrue, false, drop, length};
 ghost use Rattle.left_right.specs.Sides.{view};
 ghost use Rattle.dma_work.specs.inner.Log.{Reached};
-ghost use Rattle.dma_work.specs.inner.Posted.{Later, Publication, newest, reached, with_ticks};
+ghost use Rattle.dma_work.specs.inner.Posted.{HasActed, Later, Publication, newest, reached, with_ticks};
 ghost use Rattle.dma_work.specs.Ticks.{board_from};
 
 use crate::board::Board;
@@ -14,6 +14,7 @@ use crate::tick::Tick;
 use crate::ticket::Told;
 use atomic_table::{Join, Split};
 use core::mem::replace_with;
+use dma_engine::Engine;
 use std::alloc::{AllocError, Global};
 use std::marker::Model;
 use std::sync::Wait;
@@ -127,11 +128,18 @@ impl Publisher {
         self.writer.append(next).is_ok()
     }
 
-    /// Publishes the tick that was made ready, then records it in the log. It waits for readers that still look at the board
-    /// before the last one.
-    pub(crate) fn publish<R: Wait>(&mut self, rt: &R, tick: Tick) -> Told
+    /// Publishes the tick that was made ready, then records it in the log. The engine, whose history follows the ticks of
+    /// `_before`, has acted by then. It waits for readers that still look at the board before the last one.
+    pub(crate) fn publish<R: Wait>(
+        &mut self,
+        rt: &R,
+        tick: Tick,
+        _before: &Front,
+        _engine: &Engine,
+    ) -> Told
         requires pending { self.old.pending ≡ with_ticks self.old.shown (tick ∷ []) ∷ [] }
         requires few { length self.old.shown.ticks < 18446744073709551615 }
+        requires acted { HasActed _before.now _engine.now.view self.old.shown tick }
         ensures published { self.new ≡ record { shown = with_ticks self.old.shown (tick ∷ []); pending = [] } }
         ensures told { result ≡ reached (self.new.shown) }
     {

@@ -1,12 +1,12 @@
 //! A desk behind a lock.
 
-ghost use Rattle.std.specs.Prelude.{◌≡◌, ◌≢◌, ◌+◌, ◌↔◌, ◌⊎◌, IfOk, IfErr, IsTrue};
-ghost use Rattle.std.specs.List.{sum_by};
+ghost use Rattle.std.specs.Prelude.{◌≡◌, ◌≢◌, ◌+◌, ◌⊎◌, IfOk, IfErr};
 ghost use Rattle.dma_engine.specs.Object.{finished_all};
 ghost use Rattle.dma_engine.specs.View.{IsSound, memory_of, object_of};
-ghost use Rattle.dma_work.specs.Desk.{Names, TallyCounts};
+ghost use Rattle.dma_work.specs.Desk.{Names, finishes_of, steps_of};
 
-use crate::desk::{Desk, Tally};
+use crate::desk::{Desk, Tally, Unsettled};
+use crate::lending::Locked;
 use crate::names::DeskName;
 use crate::parts::Parts;
 use crate::totals::Totals;
@@ -46,6 +46,11 @@ impl<N: DeskName> Shared<N> {
         &self.desk
     }
 
+    /// Lends the desk for one use at a time, as a [`Worker`](crate::Worker) needs it.
+    pub fn lent(&self) -> Locked<'_, Desk<N>> {
+        Locked::new(&self.desk)
+    }
+
     /// Ends the desk, and answers its engine as it is. Readers see nothing from then on.
     pub fn close<R: Wait>(self, rt: &R) -> Engine
         ensures sound { IsSound result.view }
@@ -56,65 +61,36 @@ impl<N: DeskName> Shared<N> {
     }
 }
 
-// Whether the numbers of steps add up to a total. The sum is taken without wrapping.
-fn steps_add_up(total: u64, tallies: &[Tally]) -> bool
-    ensures { IsTrue result ↔ (sum_by (λ (t : TallyCounts). t.steps) tallies.now ≡ total) }
-{
-    let mut left = total;
-    for tally in tallies {
-        match left.checked_sub(tally.steps()) {
-            Some(rest) => left = rest,
-            None => return false,
-        }
-    }
-    left == 0
-}
-
-// Whether the numbers of finishes add up to a total.
-fn finishes_add_up(total: u64, tallies: &[Tally]) -> bool
-    ensures { IsTrue result ↔ (sum_by (λ (t : TallyCounts). t.finishes) tallies.now ≡ total) }
-{
-    let mut left = total;
-    for tally in tallies {
-        match left.checked_sub(tally.finishes()) {
-            Some(rest) => left = rest,
-            None => return false,
-        }
-    }
-    left == 0
-}
-
-/// Ends the desk where the tallies' steps and finishes add up to those of its book, and answers its engine with the totals.
+/// As [`Desk::settle`], of the desk behind the lock.
 pub fn settle<N: DeskName, R: Wait>(
     rt: &R,
     shared: Shared<N>,
     tallies: Vec<Tally>,
 ) -> Result<(Engine, Totals), MissingTally<N>>
-    ensures steps { IfOk result (λ r. sum_by (λ (t : TallyCounts). t.steps) tallies.items ≡ r.1.steps) }
-    ensures finishes { IfOk result (λ r. sum_by (λ (t : TallyCounts). t.finishes) tallies.items ≡ r.1.finished) }
+    ensures steps { IfOk result (λ r. steps_of tallies.items ≡ r.1.steps) }
+    ensures finishes { IfOk result (λ r. finishes_of tallies.items ≡ r.1.finished) }
     ensures counted { IfOk result (λ r. r.0.view.steps ≡ N.steps + r.1.steps) }
     ensures done { IfOk result (λ r. finished_all (object_of r.0.view) ≡ N.finished + (r.1.finished + r.1.terminated)) }
     ensures sound { IfOk result (λ r. IsSound r.0.view) }
     ensures memory { IfOk result (λ r. r.0.memory ≡ memory_of r.0.view) }
 
     // A tally is missing, or one counts what was not done.
-    ensures missing { IfErr result (λ m. (sum_by (λ (t : TallyCounts). t.steps) tallies.items ≢ m.book.steps) ⊎ (sum_by (λ (t : TallyCounts). t.finishes) tallies.items ≢ m.book.finished)) }
+    ensures missing { IfErr result (λ m. (steps_of tallies.items ≢ m.book.steps) ⊎ (finishes_of tallies.items ≢ m.book.finished)) }
     ensures back { IfErr result (λ m. m.tallies ≡ tallies) }
 {
     let Shared { desk } = shared;
-    let desk = desk.into_inner();
-    let book = desk.book();
-    if steps_add_up(book.steps, tallies.as_slice())
-        && finishes_add_up(book.finished, tallies.as_slice())
-    {
-        return Ok(desk.taken_apart(rt));
+    match desk.into_inner().settle(rt, tallies) {
+        Ok(settled) => Ok(settled),
+        Err(Unsettled { desk, tallies }) => {
+            let book = desk.book();
+            let shared = Shared {
+                desk: Mutex::new(desk),
+            };
+            Err(MissingTally {
+                shared,
+                tallies,
+                book,
+            })
+        }
     }
-    let shared = Shared {
-        desk: Mutex::new(desk),
-    };
-    Err(MissingTally {
-        shared,
-        tallies,
-        book,
-    })
 }

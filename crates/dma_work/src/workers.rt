@@ -1,58 +1,36 @@
-//! Workers that step the channels of one desk.
+//! Jobs that run at the same time, each in a thread.
 
 ghost use Rattle.std.specs.Prelude.{◌≡◌, ◌<◌, ◌≤◌, ℕ, IfOk, length, vec_capacity, vec_len};
 ghost use Rattle.dma_work.specs.Desk.{AreTallies};
 ghost use Rattle.dma_work.specs.inner.Begun.{IsBegun, IsOf, IsOwed};
 
-use crate::desk::Tally;
+use crate::desk::{Desk, Tally};
 use crate::job::Job;
+use crate::lending::Lender;
 use crate::names::DeskName;
 use crate::shared::Shared;
+use crate::turns::{Gate, work};
+use crate::worker::Worker;
 use core::mem::replace;
 use dma_engine::NoMemory;
 use std::alloc::Global;
-use std::sync::{MutexGuard, Wait};
+use std::sync::Wait;
 use std::thread;
 use std::thread::{Promise, PromisedHandle, Scope, Threads};
 
-/// What a worker passes before each of its turns, without the lock. It may wait.
-pub trait Gate: Sync {
-    /// Worker `worker` is about to take its turn `n`, the first of which is 1.
-    fn turn<R: Wait>(&self, rt: &R, worker: u32, n: u64);
-}
-
-/// A gate that holds nobody.
-#[derive(Clone, Copy, Debug)]
-pub struct NoGate;
-
-impl Gate for NoGate {
-    /// Goes on at once.
-    fn turn<R: Wait>(&self, _rt: &R, _worker: u32, _n: u64) {}
-}
-
-/// Takes the job's turns: in each it passes the gate, then takes the lock and steps one channel, the job's channels in
-/// rotation from the first (profile). A refused step changes nothing but the tally's turns.
-pub fn work<N: DeskName, R: Wait, G: Gate>(
+// Takes the turns of a job, as a worker that took none yet.
+fn work_at<N: DeskName, L: Lender<Desk<N>> + Drop, R: Wait, G: Gate>(
     rt: &R,
-    shared: &Shared<N>,
+    lender: L,
     worker: u32,
     job: Job,
     gate: &G,
 ) -> Tally
     ensures { (result.worker ≡ worker) × (result.turns ≡ job.turns) }
 {
-    let mut desk = shared.desk().lock(rt);
-    let mut tally = desk.tally(worker);
-    MutexGuard::unlock(desk);
-    let mut ch = job.first;
-    for n in 0..job.turns {
-        gate.turn(rt, worker, n + 1);
-        let mut desk = shared.desk().lock(rt);
-        let _ = desk.step(rt, ch, &mut tally);
-        MutexGuard::unlock(desk);
-        ch = if ch < job.last { ch + 1 } else { job.first };
-    }
-    tally
+    let mut worker = Worker::<N, L>::new(lender, worker);
+    work(rt, &mut worker, job, gate);
+    worker.into_tally()
 }
 
 // What the thread of a job promises: its worker's number, and that it took the job's turns.
@@ -93,7 +71,7 @@ impl Begun {
         ensures { IsOf self.new worker job.turns }
     {
         if let Begun::Refused = self {
-            *self = Begun::Done(work(rt, shared, worker, job, gate));
+            *self = Begun::Done(work_at(rt, shared.lent(), worker, job, gate));
         }
     }
 
@@ -125,7 +103,10 @@ fn begin<'s, E, N: DeskName + Send + Sync, R: Threads + Wait + Sync, G: Gate>(
         worker,
         turns: job.turns,
     };
-    match scope.spawn_with(promise, move || work(rt, shared, worker, job, gate)) {
+    match scope.spawn_with(
+        promise,
+        move || work_at(rt, shared.lent(), worker, job, gate),
+    ) {
         Ok(thread) => Begun::Started(thread),
         Err(_) => Begun::Refused,
     }
@@ -159,11 +140,11 @@ fn in_scope<'s, E, N: DeskName + Send + Sync, R: Threads + Wait + Sync, G: Gate>
     tallies
 }
 
-/// Runs each job in a thread of its own, with worker numbers from 0, and answers the tallies in the order of the jobs. Where
-/// a thread can't be had, its job is done on the calling thread after the others were started. There are fewer than 2^32
-/// jobs.
+/// Runs each job in a thread of its own, by a [`Worker`] of its number from 0, and returns the tallies in the order of the
+/// jobs. Where a thread can't be had, its job is done on the calling thread after the others were started. There are fewer
+/// than 2^32 jobs.
 ///
-/// The error comes where memory is refused; then no job has begun.
+/// Fails where it is out of memory; then no job has begun.
 pub fn run_workers<N: DeskName + Send + Sync, R: Threads + Wait + Sync, G: Gate>(
     rt: &R,
     alloc: Global,

@@ -1,8 +1,9 @@
 -- What is published.
-use Rattle.std.specs.Prelude.{◌≡◌, ◌++◌, List}
+use Rattle.std.specs.Prelude.{◌≡◌, ◌++◌, [], ◌∷◌, List}
 use Rattle.std.specs.List.{fold}
 use Rattle.logbook.specs.Pages.{Book}
-use Rattle.dma_engine.specs.Ticks.{Board, Tick}
+use Rattle.dma_engine.specs.Ticks.{Board, Tick, ticks_of}
+use Rattle.dma_engine.specs.View.{View}
 use Rattle.dma_work.specs.inner.Log.{Reached}
 use Rattle.dma_work.specs.Ticks.{StartsWith}
 
@@ -29,6 +30,11 @@ newest p posts = fold (λ (x : Posted) (y : Posted). y) p posts
 -- what a token of the list's ticks stands for
 abbrev pub reached : Posted → Reached
 reached p = record { log = p.log; ticks = p.ticks }
+
+-- The engine has acted: what was published before its history, and then the ticks of that history, are what is published and
+-- one tick more.
+abbrev pub HasActed : Reached → View → Posted → Tick → Type 0
+HasActed before v shown tick = before.ticks ++ ticks_of v.history ≡ shown.ticks ++ tick ∷ []
 
 -- What the writer has: the list that is published, and those that are to be published next.
 pub record Publication : Type 0 where

@@ -6,7 +6,8 @@ ghost use Rattle.dma_work.specs.Desk.{counted};
 use dma_engine::{EngineFault, Turn};
 use std::marker::Model;
 
-/// A worker's counts of the steps that took it. A desk alone makes it and raises it, and there is one of it.
+/// A worker's counts of the steps that took it. It begins with nothing counted, a desk's step alone raises it, and there is
+/// one of it.
 #[derive(Drop)]
 pub struct Tally {
     worker: u32,
@@ -16,16 +17,19 @@ pub struct Tally {
 }
 
 impl Model for Tally {
+    ghost use Rattle.std.specs.Prelude.{◌≤◌};
     ghost use Rattle.dma_work.specs.Desk.{TallyCounts};
 
     ghost Value = { TallyCounts };
 
     ghost view = { λ t. record { worker = t.worker; turns = t.turns; steps = t.steps; finishes = t.finishes } };
+
+    ghost invariant = { λ t. (t.steps ≤ t.turns) × (t.finishes ≤ t.turns) };
 }
 
 impl Tally {
     // Nothing is counted yet.
-    pub(super) fn new(worker: u32) -> Tally
+    pub(crate) fn new(worker: u32) -> Tally
         ensures { result ≡ record { worker = worker; turns = 0; steps = 0; finishes = 0 } }
     {
         Tally {
@@ -38,7 +42,7 @@ impl Tally {
 
     // One turn more, with what came of it.
     pub(super) fn count(&mut self, answer: &Result<Turn, EngineFault>)
-        requires { (self.old.turns < 18446744073709551615) × (self.old.steps < 18446744073709551615) × (self.old.finishes < 18446744073709551615) }
+        requires { self.old.turns < 18446744073709551615 }
         ensures { self.new ≡ counted answer.now self.old }
     {
         self.turns += 1;

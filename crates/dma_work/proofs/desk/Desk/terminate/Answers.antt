@@ -9,7 +9,7 @@ use Rattle.dma_engine.proofs.CookieCounts.{terminates_finish}
 use Rattle.dma_work.specs.declared.totals.Totals.{Totals}
 use Rattle.dma_work.specs.inner.Log.{Reached}
 use Rattle.dma_work.specs.inner.Posted.{Posted}
-use Rattle.dma_work.proofs.Desks.{finished_in, kept_next}
+use Rattle.dma_work.proofs.Desks.{acted_next, finished_in, kept_next}
 use Rattle.dma_work.proofs.desk.Desk.terminate.Goals as goal
 
 pub overflow_add-self : goal.overflow_add-self
@@ -18,6 +18,17 @@ overflow_add-self g c =
     let w = c.terminate.new.self.view in
     let s = terminates_finish m w c.args.ch c.in-Ok.count c.in-Ok.ensures.answer in
     omega (arith, c.self.invariant.done, s.0.finished, c.from.ensures, ap (λ (u : View). finished_all (object_of u)) c.make_room.ensures.view, c.finished_all-finished.ensures, c.finished_all-finished.type_inv)
+
+pub publish-told-requires-clause-acted : goal.publish-told-requires-clause-acted
+publish-told-requires-clause-acted g c =
+    let v = c.self.inside.engine in
+    let m = c.make_room.new.self in
+    let w = c.terminate.new.self in
+    let ch = c.args.ch in
+    let count = c.in-Ok.count in
+    let s = terminates_finish m.view w.view ch count c.in-Ok.ensures.answer in
+    let tick : c.finished-tick.result ≡ Finished ch count = c.finished-tick.ensures ∙ ap (λ n. Finished ch n) (c.unfinished.ensures ∙ sym s.2) in
+    acted_next g.N.DeskName.steps g.N.DeskName.finished g.N.DeskName.base g.N.DeskName.log c.self.inside.before.ticks v m w c.self.inside.publisher c.ready.new.self c.self.inside.book _ c.finished-tick.result (Finished ch count) 0 count c.make_room.ensures.view s.0 tick (c.ready.ensures.ready c.if-not-ready.false) c.self.invariant
 
 pub closed-requires : goal.closed-requires
 closed-requires g c =

@@ -1,0 +1,125 @@
+//! What a worker and the end of a desk leave of an engine: what the same steps by one thread leave.
+
+ghost use Rattle.dma_work.specs.Desk.{Names};
+
+use crate::engine_lines::Answer::{Count, Done, Moved, Turned};
+use crate::engine_lines::Ask::{Advance, Issue, Mark, Raise, Step, Submit, Write};
+use crate::engine_lines::{CopyOfFour, READ_FAILED, copy, go_through, segment};
+use crate::engine_refused::{Pair, have_same_bytes, tell_the_same};
+use crate::scenes::worked;
+use dma_engine::{Engine, Turn};
+use dma_mem::marks::MarkKind::Reading;
+use dma_work::{DeskName, Job, MissingTally, Parts, Shared, Tally, settle};
+use std::alloc::Global;
+use std::marker::Brand;
+use std::process::Abort;
+use std::sync::Wait;
+use std::test::Fail;
+
+// Channel 0 is paused where it waits for a flag that is set, channel 1 is halted by a mark, and channel 2 has a copy to begin.
+fn paused_and_halted(alloc: Global) -> Result<Engine, Fail> {
+    let lines = [
+        (Write(0x100, &[1, 2, 3, 4]), Done),
+        (Mark(Reading, segment(0x182, 1)), Done),
+        (Raise(3), Done),
+        (
+            Submit(0, CopyOfFour(0x100, 0x200, (Some(3), Some(4)))),
+            Count(1),
+        ),
+        (Issue(0), Count(1)),
+        (Step(0), Turned(Turn::Started(1))),
+        (Submit(1, copy(0x180, 0x240)), Count(1)),
+        (Issue(1), Count(1)),
+        (Step(1), Turned(Turn::Started(1))),
+        (Advance(1, 9), Moved(3, Some(Ok(READ_FAILED)))),
+        (Submit(2, copy(0x100, 0x280)), Count(1)),
+        (Issue(2), Count(1)),
+    ];
+    let mut engine = Engine::new(alloc, 0x400, 3)?;
+    go_through(alloc, &mut engine, &lines)?;
+    engine.pause(0)?;
+    Ok(engine)
+}
+
+// Steps of the channels 0 to 3 in rotation, of which the last isn't there.
+fn step_four(engine: &mut Engine, turns: u8) {
+    for turn in 0..turns {
+        let _ = engine.step(turn % 4);
+    }
+}
+
+// What goes on shows pauses, halts, flags and marks: the copies of channels 0 and 2 end, and that of channel 1 fails again.
+fn go_on(alloc: Global, engine: &mut Engine) -> Result<(), Fail> {
+    engine.resume(0)?;
+    engine.terminate(1)?;
+    let lines = [
+        (Submit(1, copy(0x180, 0x240)), Count(2)),
+        (Issue(1), Count(1)),
+    ];
+    go_through(alloc, engine, &lines)?;
+    step_four(engine, 60);
+    Ok(())
+}
+
+// The engine of a desk that is settled, and whether it was: where tallies are missing, it is closed.
+fn ended<N: DeskName, R: Wait>(rt: &R, shared: Shared<N>, tallies: Vec<Tally>) -> (Engine, bool) {
+    match settle(rt, shared, tallies) {
+        Ok((engine, _totals)) => (engine, true),
+        Err(missing) => {
+            let MissingTally {
+                shared,
+                tallies: _,
+                book: _,
+            } = missing;
+            (shared.close(rt), false)
+        }
+    }
+}
+
+// A worker does a job at a desk, which ends with its tally or without it. Returns the engine, and whether the desk was settled.
+fn through_a_desk<N: DeskName, R: Wait>(
+    rt: &R,
+    alloc: Global,
+    parts: Parts,
+    job: Job,
+    is_told: bool,
+) -> (Engine, bool)
+    requires { Names N.steps N.finished N.base N.log parts }
+{
+    let shared = Shared::<N>::new(parts);
+    let tally = worked(rt, &shared, 0, job);
+    let mut tallies = Vec::new(alloc);
+    if is_told {
+        let _ = tallies.push(tally);
+    }
+    ended(rt, shared, tallies)
+}
+
+#[test]
+fn a_desk_leaves_what_the_steps_leave(rt: HostRuntime) -> Result<(), Fail> {
+    let job = Job::new(0, 3, 30).ok_or("no job")?;
+    for is_told in [false, true] {
+        let mut other = paused_and_halted(rt.alloc())?;
+        let engine = paused_and_halted(rt.alloc())?;
+        let Ok((parts, readers)) = Parts::new(&rt, rt.alloc(), engine, 1) else {
+            return Err(Fail::from("no parts"));
+        };
+        drop(readers);
+        let (asked, is_settled) = through_a_desk::<Brand, _>(&rt, rt.alloc(), parts, job, is_told);
+        step_four(&mut other, 30);
+        compare(&rt, rt.alloc(), Pair { asked, other })?;
+        assert!(rt; is_settled == is_told);
+    }
+    Ok(())
+}
+
+// They tell the same now, and once both have gone on.
+fn compare(rt: &impl Abort, alloc: Global, mut pair: Pair) -> Result<(), Fail> {
+    assert!(rt; tell_the_same(&pair.asked, &pair.other));
+    assert!(rt; pair.asked.paused(0) && pair.asked.halted(1) && pair.asked.steps() == 10);
+    go_on(alloc, &mut pair.asked)?;
+    go_on(alloc, &mut pair.other)?;
+    assert!(rt; tell_the_same(&pair.asked, &pair.other));
+    assert!(rt; have_same_bytes(&mut pair)?);
+    Ok(())
+}
