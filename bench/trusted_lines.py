@@ -1,15 +1,17 @@
 #!/usr/bin/env python3
-"""What must be believed of a contract: the definitions that its clauses cite, and those that these cite in turn.
+"""Lists the definitions that a reader of a contract must trust: those that its clauses cite, and those cited in turn.
 
-Prints a line a file, in the order in which they are met: how many lines of its definitions are cited, how many lines the
-sentences above these are, how many lines the file has, and the names. Imports and blank lines aren't counted. Of src/ it is
-the declarations of types and constants, and of a trait that bounds a parameter its members and the clauses of its methods; of
-a type that contracts see as another value, that value, and not how it is kept. An operator is followed as a name is, also where
-only the arrows of a `do` stand for it. Names of the standard library and of the kit's crates aren't followed.
+Prints a line for each file, in the order in which the files are reached: the number of cited lines of its definitions,
+the number of lines of the sentences above them, the number of lines of the file, and the names. Imports and blank lines
+aren't counted. In src/ it counts the declarations of types and constants; for a trait that bounds a parameter, its
+members and the clauses of its methods; for a type that contracts see as another value, that value, and not its fields.
+An operator is followed as a name is, also if only the arrows of a `do` use it. Names of the standard library and of the
+kit's crates aren't followed.
 
-    bench/trusted_lines.py [FILE FUNCTION [CLAUSE..]]     else the headline: crates/dma_engine/src/run.rt run
-    bench/trusted_lines.py --check                        whether docs/TRUST.md and README.md have these lines: the table of the
-                                                          headline, its totals, those of its clauses, and of the commands
+    bench/trusted_lines.py [FILE FUNCTION [CLAUSE..]]     without a name: the headline, crates/dma_engine/src/run.rt run
+    bench/trusted_lines.py --check                        checks that docs/TRUST.md and README.md have these numbers:
+                                                          the table of the headline, its totals, those of its clauses,
+                                                          and of the commands
 """
 
 import re
@@ -28,7 +30,7 @@ DECLARATION = re.compile(r"pub(?:\(crate\))? (?:enum|struct|const|trait) (\w+)")
 
 
 def place_of(path):
-    """The file that a path names, and the type of the code in it, where it is one."""
+    """Returns the file that a path names, and the type of the code in it, if the path names one."""
     crate, *parts = path.split(".")
     if not (CRATES / crate).is_dir() or len(parts) < 2:
         return None, None
@@ -43,7 +45,7 @@ def place_of(path):
 
 
 class Source:
-    """A file: what it brings in, and for each name that it defines its lines, those of its sentence, and its text."""
+    """A file: its imports, and for each name that it defines the numbers of code and comment lines, and the code."""
 
     def __init__(self, file):
         self.text = file.read_text()
@@ -93,21 +95,21 @@ class Source:
 
 
 def cited_in(source, text):
-    """The names and the operators in a text of a file."""
+    """Returns the names and the operators in a text of a file."""
     operators = [name for name in (*source.imports, *source.blocks) if name.startswith("◌")]
     stand = {*text.split(), ">>="} if "←" in text else {*text.split()}
     return WORD.findall(LABEL.sub("", text)) + [name for name in operators if name.strip("◌") in stand]
 
 
 def contract_of(text, function, wanted):
-    """The signature of a function with its clauses, or with those that are wanted."""
+    """Returns the signature of a function with its clauses, or with only the wanted ones."""
     whole = re.search(rf"fn {function}\b.*?\n *\{{\}}?\n", text, re.S).group(0)
     signature, *clauses = re.split(r"\n *(?=ensures|requires)", whole)
     return "\n".join([signature] + [c for c in clauses if not wanted or c.split()[1] in wanted])
 
 
 def resolved(files, at, word):
-    """The file and the name of the block that a word of a file means, if it means one of the repository."""
+    """Returns the file and the name of the block that a word of a file names, if it names one of the repository."""
     target, name = at, word
     while name not in files[target].blocks:
         path, declared = files[target].imports.get(name, ("", ""))
@@ -125,7 +127,7 @@ def resolved(files, at, word):
 
 
 def cited(file, function, wanted):
-    """The definitions to which the contract of a function leads, by file."""
+    """Returns the definitions that the contract of a function cites, directly or through others, by file."""
     files = {file: Source(file)}
     todo = [(file, word) for word in cited_in(files[file], contract_of(files[file].text, function, wanted))]
     found = {}
@@ -141,18 +143,18 @@ def cited(file, function, wanted):
 
 
 def part(found, folder):
-    """Of specs/ or of src/: each file with its definitions, and how many lines it has."""
+    """Returns the files of specs/ or of src/, each with its definitions and its number of lines."""
     return {at: it for at, it in found.items() if folder in at.relative_to(CRATES).parts}
 
 
 def total(found, folder):
-    """How many lines, how many lines of sentences above them, and how many files."""
+    """Returns the numbers of lines, of lines of the sentences above them, and of files."""
     rows = [row for blocks, _ in part(found, folder).values() for row in blocks.values()]
     return sum(code for code, _ in rows), sum(said for _, said in rows), len(part(found, folder))
 
 
 def rows_that_differ(found):
-    """The rows of the table that are not those of the headline, and those that the table lacks."""
+    """Returns the rows that differ between the table in docs/TRUST.md and the headline, or that one of them lacks."""
     wanted = {}
     for at, (blocks, size) in part(found, "specs").items():
         wanted[str(at.relative_to(CRATES))] = f"{sum(code for code, _ in blocks.values())} of {size}"
@@ -163,17 +165,17 @@ def rows_that_differ(found):
 
 
 def tens(lines):
-    """A number of lines, to the nearest ten."""
+    """Returns a number of lines, rounded to the nearest ten."""
     return (lines + 5) // 10 * 10
 
 
 def file_of(command):
-    """The file that has the function of a command."""
+    """Returns the file that has the function of a command."""
     return next(file for file in CRATES.glob("*/src/*.rt") if f"pub fn {command}<" in file.read_text())
 
 
 def sentences_of(found):
-    """What the documents have to say of the totals, each with its document."""
+    """Yields the sentences about the totals that the documents must have, each with its document."""
     trust = "docs/TRUST.md"
     lines, said, files = total(found, "specs")
     declared, _, sources = total(found, "src")
@@ -189,7 +191,7 @@ def sentences_of(found):
 
 
 def differences(found):
-    """What the documents say otherwise than the tree."""
+    """Yields the differences between the documents and the tree."""
     yield from rows_that_differ(found)
     for file, sentence in sentences_of(found):
         if sentence not in " ".join((TOP / file).read_text().split()):
@@ -197,7 +199,7 @@ def differences(found):
 
 
 def show(found):
-    """Prints a line a file, and the totals."""
+    """Prints a line for each file, and the totals."""
     for folder, what in (("specs", "definitions"), ("src", "declarations")):
         for at, (blocks, size) in part(found, folder).items():
             code, said = (sum(column) for column in zip(*blocks.values()))

@@ -1,6 +1,6 @@
 #!/bin/sh
-# Builds and runs the tests of the library for C and Rust, and adds up what they tell. `make check` calls it with the
-# compilers (CC, CXX, CARGO) and the archive (LIB). A part whose compiler is missing is left out, and told to be.
+# Builds and runs the tests of the library for C and Rust, and adds up their counts. `make check` calls it with the
+# compilers (CC, CXX, CARGO) and the archive (LIB). A part whose compiler is missing is left out, and a line says so.
 set -u
 cd "$(dirname "$0")" || exit 2
 out=out/check
@@ -9,12 +9,13 @@ mkdir -p "$out"
 passed=0
 failed=0
 
-# has COMMAND: whether its first word can be run
+# has COMMAND: succeeds if the first word of COMMAND can be run
 has() {
     command -v "${1%% *}" >/dev/null 2>&1
 }
 
-# add NAME PASSED FAILED: adds checks up; where one failed it shows what the run told
+# add NAME PASSED FAILED: adds the counts to the totals and prints them, and the end of the run's output if a check
+# failed
 add() {
     passed=$((passed + $2))
     failed=$((failed + $3))
@@ -22,7 +23,7 @@ add() {
     [ "$3" -eq 0 ] || tail -n 60 "$out/log" | sed 's/^/    /'
 }
 
-# try NAME COMMAND..: one check, which passes where the command does
+# try NAME COMMAND..: counts one check, which passes if the command succeeds
 try() {
     name=$1
     shift
@@ -33,7 +34,8 @@ try() {
     fi
 }
 
-# make_it NAME COMMAND..: builds what later checks run; no check, but a failure where it fails
+# make_it NAME COMMAND..: builds what later checks run; counts one failure if the build fails, and nothing if it
+# succeeds
 make_it() {
     name=$1
     shift
@@ -42,8 +44,8 @@ make_it() {
     return 1
 }
 
-# count NAME SCRIPT COMMAND..: a run that counts its checks itself, as the awk script tells; none, or a status that doesn't
-# fit, is a failure more
+# count NAME SCRIPT COMMAND..: runs a command that counts its own checks, and reads the counts from its output with the
+# awk script; adds one failure if no check passed, or if the command fails without a failed check
 count() {
     name=$1
     script=$2
@@ -63,24 +65,25 @@ cargo_lines='/^test result: / {p += $4; f += $6} END {print p + 0, f + 0}'
 
 # ---- C ----
 
-# header COMPILER FLAG..: whether the header alone is taken without a warning
+# header COMPILER FLAG..: succeeds if the header alone compiles without a warning
 header() {
     printf '#include "dma330.h"\n' | "$@" -pedantic-errors -Wall -Wextra -Werror -fsyntax-only -Ic -
 }
 
-# names: whether the archive exports the names that the header declares, those of the kit's heap, and no others
+# names: succeeds if the archive exports the names that the header declares, and no others except those of the kit's
+# heap
 names() {
     nm -g --defined-only "$LIB" | awk 'NF == 3 && $3 !~ /^rattle_(alloc|realloc|dealloc)$/ {print $3}' | sort >"$out/exported"
     sed -n 's/^[a-z0-9_]* \(dma330_[a-z_]*\)(.*/\1/p' c/dma330.h | sort >"$out/declared"
     diff "$out/exported" "$out/declared"
 }
 
-# example COMMAND..: whether it prints what the example is to print
+# example COMMAND..: succeeds if the command prints the text of c/example.txt
 example() {
     "$@" >"$out/printed" && diff "$out/printed" c/example.txt
 }
 
-# readme FLAG..: whether the lines of C that the README has copy what they say, with these flags of the compiler
+# readme FLAG..: succeeds if the README's lines of C, compiled with these flags, copy what they say
 readme() {
     {
         printf '#include "dma330.h"\n#include <string.h>\nint main(void)\n{\n    uint8_t out[5];\n'
@@ -90,22 +93,23 @@ readme() {
     $CC -std=c99 -Wall -Wextra -Werror -o "$out/readme" "$out/readme.c" "$@" && "$out/readme"
 }
 
-# flags PREFIX: what dma330.pc of this prefix says to compile and link with, by pkg-config, where that is there
+# flags PREFIX: prints the flags to compile and link with from dma330.pc of this prefix, by pkg-config if it is
+# installed
 flags() {
     if has pkg-config; then
         PKG_CONFIG_PATH=$1/lib/pkgconfig pkg-config --cflags --libs dma330
     else
-        # a variable there is written as in a shell
+        # dma330.pc writes a variable as a shell does
         (eval "$(sed -n '/^[a-z]*=/p; s/^\(Cflags\|Libs\): \(.*\)/echo \2/p' "$1/lib/pkgconfig/dma330.pc")")
     fi
 }
 
-# installed: whether the README's lines are built by what is installed
+# installed: succeeds if the README's lines build and run with the installed files
 installed() {
     make --no-print-directory install LIB="$LIB" DESTDIR= PREFIX="$PWD/$out/prefix" && readme $(flags "$PWD/$out/prefix")
 }
 
-# staged: whether DESTDIR is put before the places of the files, and nowhere in them
+# staged: succeeds if DESTDIR is put in front of the paths of the installed files, and does not appear inside the files
 staged() {
     make --no-print-directory install LIB="$LIB" PREFIX=/opt/dma330 DESTDIR="$PWD/$out/staged" &&
         cmp c/dma330.h "$out/staged/opt/dma330/include/dma330.h" && cmp "$LIB" "$out/staged/opt/dma330/lib/libdma330.a" &&
@@ -138,7 +142,7 @@ in_c() {
     make_it "$set texts.c" "$@" -o "$to/texts" c/texts.c "$LIB" && count "$set texts.c" "$last_line" "$to/texts"
 }
 
-# with_sanitizers: the same under them, where the compiler has them and what it makes can run here
+# with_sanitizers: does the same with sanitizers, if the compiler has them and its programs can run with them here
 with_sanitizers() {
     sanitizers="-fsanitize=address,undefined -fno-sanitize-recover=all -fno-omit-frame-pointer"
     printf 'int main(void)\n{\n    return 0;\n}\n' >"$out/probe.c"

@@ -1,10 +1,11 @@
-/* Each call of dma330.h is in the library, and the library is that of this header. The header itself asserts the sizes. */
+/* Checks that each call of dma330.h is in the library, and that the library is that of this header. The header itself
+ * asserts the sizes. */
 #include "dma330.h"
 
 #include <stdio.h>
 #include <string.h>
 
-/* A declaration that the library has no code for is an error of the linker. */
+/* A declaration without code in the library is an error of the linker. */
 typedef void (*any_call)(void);
 
 extern const any_call all_calls[];

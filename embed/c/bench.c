@@ -1,10 +1,10 @@
-/* Copies of 1 MiB from the first MiB of a memory to its second, and how long their steps take:
+/* Copies 1 MiB from the first MiB of a memory to its second, several times, and measures how long the steps take:
  *
  *     bench MOST COPIES            at most MOST steps a call, over bytes that nobody wrote, as in desk_bench
  *     bench MOST COPIES written    the same over bytes that were written, which are compared at the end
  *     bench 0 COPIES               memcpy of as many bytes
  *
- * It prints how many steps and calls there were, and the nanoseconds that they took by the clock and of the processor. */
+ * It prints the number of steps and of calls, and the nanoseconds that they took by the clock and by the processor. */
 #define _POSIX_C_SOURCE 199309L
 #include "dma330.h"
 
@@ -65,7 +65,7 @@ static void load(dma330_controller *controller, long copies)
     expect(dma330_issue(controller, 0, &issued) == DMA330_OK, "not issued");
 }
 
-/* Until there is nothing more to do. */
+/* Steps until there is nothing more to do. */
 static void step_all(dma330_controller *controller, uint32_t most, measured *m)
 {
     dma330_report report;
@@ -80,7 +80,7 @@ static void step_all(dma330_controller *controller, uint32_t most, measured *m)
 
 static void copy_all(long copies, measured *m)
 {
-    /* so that no compiler sees that one copy does for all */
+    /* volatile, so that no compiler replaces all copies with one */
     void *(*volatile copy)(void *, const void *, size_t) = memcpy;
     long n;
     begin(m);
@@ -112,7 +112,7 @@ int main(int count, char **words)
     copies = atol(words[2]);
     for (n = 0; n < MIB; n++)
         from[n] = (uint8_t)(n % 251);
-    memset(to, 1, MIB); /* its pages are there before they are timed */
+    memset(to, 1, MIB); /* makes its pages before they are timed */
     if (most == 0)
         copy_all(copies, &m);
     else

@@ -2,8 +2,9 @@
 
 #include <string.h>
 
-/* Registers by their offset; of those that each channel has, that of channel 0. Others read as 0: DPC (0x004) since the
- * manager has no program, CR2 (0xE08) and CR4 (0xE10) with no boot address and no peripherals, and those only written. */
+/* The offsets of the registers; for those that each channel has, the offset for channel 0. Other registers read as 0:
+ * DPC (0x004) because the manager has no program, CR2 (0xE08) and CR4 (0xE10) because there are no boot address and no
+ * peripherals, and the write-only ones. */
 enum {
     DSR = 0x000,           /* the manager's status: bits 3:0, and 9 in the non-secure state */
     INTEN = 0x020,         /* bit n: DMASEV n raises the interrupt n, else the event n */
@@ -18,7 +19,7 @@ enum {
     SAR = 0x400,           /* a channel's SAR, DAR, CCR, LC0 and LC1, one after another; 0x20 apart */
     DBGSTATUS = 0xD00,     /* bit 0: a debug instruction is being executed; here 0, always */
     DBGCMD = 0xD04,        /* writing 0 executes what DBGINST0 and DBGINST1 hold */
-    DBGINST0 = 0xD08,      /* bit 0: a channel is to execute it, that of bits 10:8; from bit 16 on its bytes 0 and 1 */
+    DBGINST0 = 0xD08,      /* bit 0: a channel executes it, the one in bits 10:8; bits 31:16 are its bytes 0 and 1 */
     DBGINST1 = 0xD0C,      /* its bytes 2 to 5 */
     CR0 = 0xE00,           /* bit 2: non-secure after a reset; 6:4 the number of channels, less 1; 21:17 that of events */
     CR1 = 0xE04,           /* the instruction cache: eight lines of 32 bytes */
@@ -59,16 +60,17 @@ static bool runs(const board_thread *t)
     return t->status == EXECUTING || t->status == WAITING_FOR_EVENT;
 }
 
-/* A thread is faulting until it is killed. FTR stays what it is until the channel's next program. */
+/* Makes a thread faulting, until it is killed. FTR keeps its value until the channel's next program. */
 static void fail(board_thread *t, uint32_t why)
 {
     t->status = FAULTING;
     t->fault = why;
 }
 
-/* One call of the library, which ends behind the first DMASEV; returns how many steps it took, and whether the last raised
- * an interrupt. The channel sees the flags of events alone: those that INTEN makes interrupts are for the guest's processor.
- * The library has all 32 events; an instruction with one that the chip doesn't have is made a fault here. */
+/* Makes one call of the library, which ends after the first DMASEV. Returns how many steps it took, and whether the
+ * last one raised an interrupt. The channel sees only the flags of events: those that INTEN makes interrupts are for
+ * the guest's processor. The library has all 32 events; here an instruction with one that the chip doesn't have is a
+ * fault. */
 static uint32_t call_channel(board *b, unsigned channel, uint32_t most, bool *is_raised)
 {
     board_state *s = &b->state;
@@ -98,8 +100,8 @@ static uint32_t call_channel(board *b, unsigned channel, uint32_t most, bool *is
     return r.taken;
 }
 
-/* Behind a DMASEV that raises an interrupt is the program's DMAEND, and no call ends between them: a driver takes for
- * granted that its interrupt handler finds the channel stopped (Linux's starts no program on one that isn't). */
+/* A DMASEV that raises an interrupt is followed by the program's DMAEND, and no call ends between them: a driver
+ * assumes that its interrupt handler finds the channel stopped (Linux's starts no program on a channel that isn't). */
 bool board_step(board *b, unsigned channel, uint32_t most)
 {
     board_thread *t = &b->state.threads[channel];
@@ -117,8 +119,9 @@ bool board_step(board *b, unsigned channel, uint32_t most)
 
 /* ---- the debug instruction ---- */
 
-/* A DMAGO, which does nothing at a channel that isn't stopped. A program has no length of its own (a 0 among its bytes may
- * be a part of a number): the library takes what RAM has from its address on. Is that nothing, the first step fails. */
+/* Executes a DMAGO, which does nothing to a channel that isn't stopped. The length of a program is unknown (a 0 among
+ * its bytes may be part of a number), so the library takes the bytes of RAM from its address on. If there are none, the
+ * first step fails. */
 static void go(board *b, uint32_t channel, bool nonsecure)
 {
     board_state *s = &b->state;
@@ -136,7 +139,8 @@ static void go(board *b, uint32_t channel, bool nonsecure)
     }
 }
 
-/* A channel may signal and be stopped, and the manager may start channels too. One that is faulting may only be stopped. */
+/* A channel or the manager may execute a DMASEV or a DMAKILL, and the manager also a DMAGO. A faulting thread may only
+ * be killed. */
 static void debug_instruction(board *b)
 {
     board_state *s = &b->state;
@@ -264,7 +268,7 @@ bool board_open(board *b, const board_config *g, dma330_region *regions, size_t 
     for (unsigned n = 0; n < g->channels; n++)
         if (dma330_channel_open(&b->channels[n]) != DMA330_OK ||
             dma330_channel_step(&b->channels[n], regions, region_count, &flags, 0, &r) != DMA330_NO_PROGRAM) {
-            board_close(b); /* out of memory, or the step, which comes to nothing, finds the regions impossible */
+            board_close(b); /* out of memory, or the step, which does nothing else, finds the regions invalid */
             return false;
         }
     return true;

@@ -1,4 +1,4 @@
-/* The board of board.c under a guest's driver. */
+/* Tests the board of board.c with a guest's driver. */
 #include "guest.h"
 
 #include <string.h>
@@ -63,13 +63,13 @@ static void refuses_what_is_impossible(void)
 
 /* ---- copies, and their interrupts ---- */
 
-/* Whether a channel is stopped where its interrupt is high. */
+/* Returns whether the channel is stopped or its interrupt is low. */
 static bool is_stopped_with_irq(unsigned channel, unsigned event)
 {
     return (board_irqs(&m.board) >> event & 1) == 0 || get(&m, CSR + 8 * channel) == 0;
 }
 
-/* Two channels in turns, one of them over the border of two regions. */
+/* Copies on two channels in turn, on one of them across the border of two regions. */
 static void copies_on_two_channels(uint32_t most)
 {
     bool goes_on = true, is_stopped = true;
@@ -102,7 +102,8 @@ static void copies_on_two_channels(uint32_t most)
     tear_down(&m);
 }
 
-/* How far NOP, SEV 2, NOP, SEV 2, NOP, WFE 3 go: no call ends right behind a DMASEV that raises an interrupt. */
+/* Checks how far calls go in NOP, SEV 2, NOP, SEV 2, NOP, WFE 3: none ends right after a DMASEV that raises an
+ * interrupt. */
 static void takes_its_steps(void)
 {
     static const uint8_t program[] = {DMANOP, DMASEV, 2 << 3, DMANOP, DMASEV, 2 << 3, DMANOP, DMAWFE, 3 << 3};
@@ -142,7 +143,7 @@ static void is_killed_and_reset(void)
 
 /* ---- events ---- */
 
-/* Channel 1 copies on what channel 0 copies, once that one signals. */
+/* Channel 1 copies the result of channel 0's copy, once channel 0 signals. */
 static void waits_for_another_channel(void)
 {
     set_up(&m, 2, 8, false);
@@ -164,7 +165,8 @@ static void waits_for_another_channel(void)
     tear_down(&m);
 }
 
-/* A channel at a DMAWFE, and the guest that signals: by the manager, by another channel, as an interrupt. */
+/* A channel waits at a DMAWFE, and the guest signals its event through the manager, and through each channel; an
+ * interrupt does not end the wait. */
 static void waits_for_the_guest(void)
 {
     set_up(&m, 2, 8, false);
@@ -185,7 +187,8 @@ static void waits_for_the_guest(void)
     tear_down(&m);
 }
 
-/* In one call, DMASEV 3 is followed by DMAWFE 3: as an event it is passed, and as an interrupt it isn't. */
+/* In one call, DMASEV 3 is followed by DMAWFE 3: the wait ends if INTEN makes it an event, and not if it is an
+ * interrupt. */
 static void waits_for_itself(void)
 {
     set_up(&m, 1, 4, false);
@@ -203,7 +206,7 @@ static void waits_for_itself(void)
 #define WORD(v) (v) & 0xFF, (v) >> 8 & 0xFF, (v) >> 16 & 0xFF, (v) >> 24
 #define MOVE(to, v) DMAMOV, to, WORD(v)
 
-/* Programs that fail on a chip of 16 events: FTR, and where. */
+/* Programs that fail on a chip of 16 events, each with its fault in FTR and the offset at which it fails. */
 static const struct {
     const char *what;
     uint32_t fault;
@@ -230,7 +233,7 @@ static const struct {
     {"a store too many", 1 << 13, 0, {DMAST}},
 };
 
-/* A channel that fails is faulting until it is killed; the other one goes on. */
+/* A channel that fails is faulting until it is killed, while the other channel goes on. */
 static void check_failure(const char *what, uint32_t program, uint32_t fault, uint32_t at)
 {
     set(&m, INTEN, 1);
@@ -264,7 +267,7 @@ static void fails_as_the_manual_says(void)
     tear_down(&m);
 }
 
-/* Instructions of the debug registers that fail. */
+/* Checks instructions of the debug registers that fail. */
 static void debug_instructions_fail(void)
 {
     static const struct {
@@ -297,7 +300,8 @@ static void debug_instructions_fail(void)
 
 /* ---- snapshots ---- */
 
-/* After some steps of three channels, of which one copies, one waits and one fails, another machine goes on with them. */
+/* Takes some steps of three channels, one of which copies, one waits and one fails; another machine then goes on with
+ * them. */
 static void restores_in_mid_transfer(uint32_t steps)
 {
     static board_snapshot snapshot;

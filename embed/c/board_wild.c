@@ -1,10 +1,11 @@
-/* The board of board.c under a guest that writes anything anywhere, and with snapshots that are damaged. All that is asked
- * is that nothing breaks: sanitizers are quiet, no byte outside RAM is written, and the board works afterwards. */
+/* Tests the board of board.c with a guest that writes anything anywhere, and with damaged snapshots. The only
+ * requirement is that nothing breaks: sanitizers report nothing, no byte outside RAM is written, and the board works
+ * afterwards. */
 #include "guest.h"
 
 static machine m;
 
-/* Marsaglia's xorshift, of which no seed is 0. */
+/* Returns a random number by Marsaglia's xorshift. The seed is never 0. */
 static uint32_t any(uint32_t *seed, uint32_t below)
 {
     *seed ^= *seed << 13;
@@ -13,7 +14,7 @@ static uint32_t any(uint32_t *seed, uint32_t below)
     return *seed % below;
 }
 
-/* An address near a border of RAM, or anything. */
+/* Returns an address near a border of RAM, or anything. */
 static uint32_t any_address(uint32_t *seed)
 {
     static const uint32_t borders[] = {LOW, NEXT, NEXT_END, FAR, FAR_END, 0};
@@ -22,7 +23,7 @@ static uint32_t any_address(uint32_t *seed)
     return n < 6 ? borders[n] + any(seed, 600) - 300 : any(seed, 0xFFFFFFFF);
 }
 
-/* A control word of which most fields are possible. */
+/* Returns a control word, most of whose fields are valid. */
 static uint32_t any_control(uint32_t *seed)
 {
     uint32_t word = any(seed, 0xFFFFFFFF), src_size = any(seed, 5), dst_size = any(seed, 5);
@@ -30,7 +31,7 @@ static uint32_t any_control(uint32_t *seed)
     return any(seed, 8) == 0 ? word : (word & 0x0FFC7FF1) | src_size << 1 | dst_size << 15;
 }
 
-/* Instructions that a channel may execute, and a few others. */
+/* Writes an instruction that a channel may execute, or at times another one. */
 static uint32_t put_anything(uint32_t at, uint32_t *seed)
 {
     static const uint8_t of_one[] = {DMALD, DMAST, DMALD, DMAST, DMARMB, DMAWMB, DMANOP, DMANOP};
@@ -57,7 +58,7 @@ static uint32_t any_place(uint32_t *seed)
     return places[any(seed, 6)];
 }
 
-/* At most 1,000 bytes at one of these places, all of which RAM has. */
+/* Writes a program of at most 1,000 bytes at one of these places, all of which RAM has. */
 static void write_program(uint32_t *seed)
 {
     uint32_t at = any_place(seed);
@@ -95,7 +96,7 @@ static void do_anything(uint32_t *seed)
     }
 }
 
-/* ---- what is asked ---- */
+/* ---- the requirements ---- */
 
 static void outlives_anything(uint32_t seed)
 {
@@ -118,7 +119,7 @@ static void outlives_anything(uint32_t seed)
     tear_down(&m);
 }
 
-/* Some bytes of the board's own, of a channel's save, or its length. */
+/* Changes bytes of the board's own state, a byte of a channel's save, or the length of a save. */
 static void damage(board_snapshot *snapshot, uint32_t *seed)
 {
     uint8_t *state = (uint8_t *)&snapshot->state;

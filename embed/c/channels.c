@@ -1,7 +1,8 @@
-/* Each row of channels.txt in three ways: as it is; each step a call of its own, before which the channel is saved and
- * another one restored; and without memory after dma330_channel_open, but for a call that may be out of memory. Besides: a
- * call that fails writes nothing and changes no register, each call has failed with each code that dma330.h names at it, and
- * nothing is leaked. Link it with -Wl,--wrap=malloc,--wrap=realloc,--wrap=free */
+/* Runs each row of channels.txt in three ways: as it is; with a call for each single step, before which the channel is
+ * saved and another one restored; and without memory after dma330_channel_open, except for a call that may be out of
+ * memory. Also checks that a call that fails writes nothing and changes no register, that each call has failed with
+ * each code that dma330.h names for it, and that nothing is leaked. Link it with
+ * -Wl,--wrap=malloc,--wrap=realloc,--wrap=free */
 #include "heap.h"
 #include "rows.h"
 #include "words.h"
@@ -22,7 +23,7 @@ static void count(int holds, const char *title, const char *line, const char *an
         printf("WRONG, way %d: %s: %s: answered %s\n", (int)way, title, line, answer);
 }
 
-static int is_empty; /* the heap */
+static int is_empty; /* the heap refuses all requests */
 
 int refuses(void)
 {
@@ -41,7 +42,7 @@ static uint8_t kept[DMA330_MAX_SAVE];
 static size_t region_count, mark_count, kept_len;
 static arguments asked;
 
-/* What calls write. */
+/* The outputs of calls. */
 static struct {
     dma330_channel_report report;
     dma330_registers registers;
@@ -73,7 +74,7 @@ static uint8_t *byte_at(uint32_t addr)
     return NULL;
 }
 
-/* Another channel goes on in its place, from its save and with its marks. */
+/* Replaces the channel with another one that has its save and its marks. */
 static int goes_on_in_another(void)
 {
     static uint8_t save[DMA330_MAX_SAVE];
@@ -159,7 +160,7 @@ static int32_t ask_unmark(void)
     return dma330_channel_unmark(&channel);
 }
 
-/* The save is kept. It fits exactly into as many bytes as it has. */
+/* Saves the channel, and keeps the save. Checks that it needs exactly as many bytes as its length. */
 static int32_t ask_save(void)
 {
     int32_t code = dma330_channel_save(&channel, told.save, asked.numbers[0], &told.len);
@@ -171,7 +172,8 @@ static int32_t ask_save(void)
     return dma330_channel_save(&channel, kept, told.len, &kept_len);
 }
 
-/* Each beginning of the save, and the save with each byte changed. The answer is that of the last which isn't BAD_SAVE. */
+/* Restores each beginning of the save, and the save with each byte changed. Returns the last code other than BAD_SAVE,
+ * or BAD_SAVE. */
 static int32_t ask_restore_damaged(void)
 {
     int32_t code, answer = DMA330_BAD_SAVE;
@@ -188,7 +190,8 @@ static int32_t ask_restore_damaged(void)
 
 #define LISTS "EMPTY_LIST TOO_MANY_SEGMENTS EMPTY_SEGMENT SEGMENT_WRAPS TOO_LONG DESTINATIONS_MEET SOURCE_MEETS_DESTINATION "
 
-/* The codes are those that dma330.h names at the call, but NO_MEMORY where an open channel asks for none. */
+/* The codes are those that dma330.h names for the call, without NO_MEMORY if the call allocates nothing in an open
+ * channel. */
 static const struct call {
     const char *name;
     const char *shape;
@@ -251,7 +254,8 @@ static void say_registers(answer *said, const dma330_registers *r)
         (unsigned long)r->stored);
 }
 
-/* Makes a call, again where it is out of memory and may be. Returns whether one that fails keeps what it has to keep. */
+/* Makes a call, and makes it again if it is out of memory and may be. Returns whether calls that fail write nothing and
+ * change no register. */
 static int make_call(const struct call *c, int32_t *code)
 {
     static dma330_registers before, after;
@@ -273,7 +277,7 @@ static int make_call(const struct call *c, int32_t *code)
     return is_well;
 }
 
-/* Carries out a line of the caller's own. Returns whether it is one. */
+/* Runs a line of the caller's own. Returns whether the line is one. */
 static int is_the_callers(const char *word, const char *rest, answer *said)
 {
     static const char *const own[] = {"regions", "s", "poke", "nb", "peek", "nn", "equal", "nnn", "raise", "n", "flags", "",

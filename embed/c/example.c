@@ -1,11 +1,11 @@
-/* A copy from submit to finish, and then a device in the loop of an emulator: a guest's register writes submit, the main
- * loop steps, and the guest polls for completion. It prints what example.txt has. */
+/* A copy from submit to finish, and then a device in the loop of an emulator: a guest's register writes submit copies,
+ * the main loop steps them, and the guest polls for completion. It prints the text of example.txt. */
 #include "dma330.h"
 
 #include <stdio.h>
 #include <stdlib.h>
 
-/* A refusal that nothing here expects ends the program. */
+/* Ends the program if a call was refused, which nothing here expects. */
 static void expect_ok(int32_t code, const char *call)
 {
     if (code != DMA330_OK) {
@@ -82,7 +82,7 @@ static int32_t event_of(uint32_t value)
     return value == (uint32_t)NONE ? DMA330_NO_EVENT : (int32_t)(value & 31);
 }
 
-/* A guest's mistake is no mistake of the emulator: it is told in a register. */
+/* A guest's mistake is not an error of the emulator: a register reports it to the guest. */
 static void start(device *dev, uint8_t channel)
 {
     uint32_t *registers = dev->registers[channel];
@@ -122,7 +122,7 @@ static void tell(device *dev, uint8_t channel, const dma330_report *report)
     dev->last_turns[channel] = report->turn;
 }
 
-/* The device's share of a round of the main loop: some steps of each channel. */
+/* Takes some steps of each channel: the device's part of a round of the main loop. */
 static void turn(device *dev)
 {
     uint8_t channel;
@@ -133,7 +133,7 @@ static void turn(device *dev)
     }
 }
 
-/* ---- a guest: a message goes to a mailbox, and a doorbell rings behind it ---- */
+/* ---- a guest: a message goes to a mailbox, and a doorbell rings after it ---- */
 
 enum action { STORE, SET, POLL, HALT };
 
@@ -154,7 +154,7 @@ static const instruction guest[] = {
     {POLL, 1, 0, 0}, {HALT, 0, 0, 0}
 };
 
-/* Executes one instruction; answers whether it is done with it. */
+/* Executes one instruction, and returns whether it is done. */
 static int execute(device *dev, const instruction *next)
 {
     dma330_conflict conflict;

@@ -150,7 +150,7 @@ void debug(machine *m, int thread, uint32_t code, uint32_t operand, uint32_t num
     set(m, DBGCMD, 0);
 }
 
-/* A manager that is in the non-secure state, by DSR, may start non-secure channels alone. */
+/* A manager that is in the non-secure state, as DSR reports, may start only non-secure channels. */
 void start(machine *m, uint32_t channel, uint32_t program)
 {
     debug(m, MANAGER, get(m, DSR) & 1 << 9 ? DMAGO | 2 : DMAGO, channel, program);

@@ -1,5 +1,5 @@
-/* A machine with the board of board.h, and what a guest's driver does there: it writes programs as bytes into RAM, and talks
- * to the board by its registers and interrupt lines alone. */
+/* A machine with the board of board.h, and a guest's driver for it: it writes programs as bytes into RAM, and uses only
+ * the board's registers and interrupt lines. */
 #ifndef GUEST_H
 #define GUEST_H
 
@@ -7,7 +7,7 @@
 
 /* ---- checks ---- */
 
-/* Counts a check, and prints one that fails with what it is of and a number. */
+/* Counts a check. If it fails, prints `what` and `n`. */
 void check(bool holds, const char *what, uint32_t n);
 
 /* Prints how many checks passed and failed, and returns the status to exit with. */
@@ -15,7 +15,7 @@ int end_checks(void);
 
 /* ---- a machine ---- */
 
-/* RAM is three regions, of which the second touches the first. On the host each is between bytes that stay as they are. */
+/* RAM is three regions, the second next to the first. On the host each lies between bytes that must not change. */
 #define LOW 0x80000000u
 #define NEXT 0x80003000u
 #define FAR 0xC0000000u
@@ -32,14 +32,15 @@ typedef struct machine {
     uint8_t wanted[ALL_BYTES]; /* what a test wants them to become */
 } machine;
 
-/* Fills RAM with a pattern and opens the board; checks that nothing but RAM was written, and closes it. */
+/* Fill RAM with a pattern and open the board; check that nothing but RAM was written, and close the board. */
 void set_up(machine *m, unsigned channels, unsigned events, bool nonsecure);
 void tear_down(machine *m);
 
-/* The byte at an address of RAM, in a machine's bytes or in the wanted ones. */
+/* Returns the byte at an address of RAM, in a machine's bytes or in the wanted ones. */
 uint8_t *byte_at(uint8_t bytes[ALL_BYTES], uint32_t addr);
 
-/* The wanted bytes: as they are now; then with copies of blocks of 512 bytes, one after another. */
+/* want_ram sets the wanted bytes to those of RAM now. want_copy copies blocks of 512 bytes in them, one after
+ * another. */
 void want_ram(machine *m);
 void want_copy(machine *m, uint32_t src, uint32_t dst, uint32_t blocks);
 bool is_ram_wanted(const machine *m);
@@ -53,12 +54,13 @@ enum { TO_SAR = 0, TO_CCR = 1, TO_DAR = 2 };
 /* In CCR: bursts of 16 beats of 8 bytes, at addresses that rise. */
 enum { BY_128 = 0xF7 | 0xF7 << 14 };
 
-/* Each writes an instruction at an address, and returns the address behind it. */
+/* Each writes an instruction at an address, and returns the address after it. */
 uint32_t put(machine *m, uint32_t at, uint32_t code);
 uint32_t put_two(machine *m, uint32_t at, uint32_t code, uint32_t operand);
 uint32_t put_move(machine *m, uint32_t at, uint32_t to, uint32_t value);
 
-/* A copy of blocks of 512 bytes, by a loop in a loop, which may wait for an event first and signal one at the end. */
+/* Writes a program that copies blocks of 512 bytes with a loop in a loop. It may wait for an event first and signal one
+ * at the end. */
 enum { NO_EVENT = 32 };
 void put_copy(machine *m, uint32_t at, uint32_t wait, uint32_t src, uint32_t dst, uint32_t blocks, uint32_t signal);
 
@@ -71,17 +73,18 @@ enum { DSR = 0x000, INTEN = 0x020, INT_EVENT_RIS = 0x024, INTMIS = 0x028, INTCLR
 uint32_t get(machine *m, uint32_t offset);
 void set(machine *m, uint32_t offset, uint32_t value);
 
-/* Has the manager, or a channel, execute an instruction: its bytes 0 and 1, and the number behind them. */
+/* Makes the manager, or a channel, execute an instruction: its bytes 0 and 1, and the number after them. */
 enum { MANAGER = -1 };
 void debug(machine *m, int thread, uint32_t code, uint32_t operand, uint32_t number);
 
 void start(machine *m, uint32_t channel, uint32_t program);
 void stop(machine *m, int thread);
 
-/* Checks a copy by a channel, with its interrupt, and the driver's answer to that. */
+/* Checks a copy by a channel, its interrupt, and the driver's response to the interrupt. */
 void check_work(machine *m, uint32_t channel, const char *what, uint32_t n);
 
-/* Whether all registers but the configuration are 0, and whether two machines have the same registers and RAM. */
+/* Return whether all registers except the configuration are 0, and whether two machines have the same registers and
+ * RAM. */
 bool are_registers_0(machine *m);
 bool are_same(machine *m, machine *other);
 

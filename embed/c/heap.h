@@ -1,12 +1,12 @@
-/* The library's malloc, realloc and free, for programs that refuse memory. A program with them is linked with
+/* The library's malloc, realloc and free, for programs that refuse memory. Link such a program with
  * -Wl,--wrap=malloc,--wrap=realloc,--wrap=free */
 #ifndef HEAP_H
 #define HEAP_H
 
-/* Whether the next request is refused. The program has it. */
+/* Returns whether the next request is refused. The program defines it. */
 int refuses(void);
 
-/* How many blocks are there. */
+/* The number of allocated blocks. */
 extern long live_blocks;
 
 #endif

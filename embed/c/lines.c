@@ -203,7 +203,7 @@ static int32_t ask_disassemble(player *p, const arguments *a, outputs *o)
     return dma330_disassemble(a->bytes, a->len, (char *)o->bytes, a->numbers[0], &o->len, &o->place);
 }
 
-/* ---- what they answer beside OK ---- */
+/* ---- their answers after OK ---- */
 
 static void tell_nothing(answer *said, const arguments *a, const outputs *o)
 {
@@ -265,7 +265,7 @@ static void tell_end(answer *said, const arguments *a, const outputs *o)
         say(said, " %s %lu", name_of(faults, o->end.fault), (unsigned long)o->end.pc);
 }
 
-/* Text with " /" for a line feed. */
+/* Writes text with " /" for a line feed. */
 static void tell_text(answer *said, const arguments *a, const outputs *o)
 {
     size_t n;
@@ -331,7 +331,7 @@ int has_answered(const char *name, const char *code)
     return 0;
 }
 
-/* ---- what every call keeps ---- */
+/* ---- the rules that every call must keep ---- */
 
 enum { UNWRITTEN = 0xA5 };
 
@@ -351,19 +351,19 @@ static int is_unwritten(const void *from, size_t len)
     return memcmp(from, &blank, len) == 0;
 }
 
-/* Whether the code names a place in the call's input. */
+/* Returns whether the code has a place in the call's input. */
 static int names_a_place(const call *c, int32_t code)
 {
     return code <= DMA330_BAD_MNEMONIC || (code == DMA330_PROGRAM_TOO_LONG && c->ask == ask_assemble);
 }
 
-/* Whether the code names a running transfer. */
+/* Returns whether the code has a running transfer. */
 static int names_a_conflict(int32_t code)
 {
     return code == DMA330_BUSY || code == DMA330_RUNNING;
 }
 
-/* A member that isn't of the turn is 0, and so are those of an end. */
+/* Return whether each member is 0 that doesn't belong to the turn, or to the end. */
 static int has_zeros_elsewhere(const dma330_report *r)
 {
     int finished = r->turn == DMA330_FINISHED, held = r->turn == DMA330_HELD;
@@ -416,7 +416,7 @@ static int is_cut_short(const call *c, int32_t code, const arguments *a, const d
            (report->turn == DMA330_STARTED || report->turn == DMA330_MOVED);
 }
 
-/* Makes a call, again where memory was refused and somebody looks at that. */
+/* Makes a call, and makes it again if memory was refused and the player has a `refused`. */
 static int32_t make_call(player *p, const call *c)
 {
     uint32_t taken = 0;
@@ -462,7 +462,7 @@ static void carry_out_call(player *p, const call *c, const char *rest, answer *s
         say(said, " %lu %lu", (unsigned long)p->told.conflict.channel, (unsigned long)p->told.conflict.cookie);
 }
 
-/* So many steps of a channel, each a call; like answers that follow each other are told as one. */
+/* Takes steps of a channel, each with a call of its own, and writes equal answers in a row once, with their number. */
 static void carry_out_single(player *p, const char *rest, answer *said)
 {
     const call *step = call_of("step");

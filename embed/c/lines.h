@@ -1,4 +1,4 @@
-/* Calls of the library as lines of text, and what they answered as text. rows.txt says how both are written. */
+/* Calls of the library as lines of text, and their answers as text. rows.txt describes how both are written. */
 #ifndef LINES_H
 #define LINES_H
 
@@ -20,29 +20,29 @@ typedef struct outputs {
     uint8_t bytes[MOST_BYTES];
 } outputs;
 
-/* One who carries lines out; zeroed at first, and then play_from_here. */
+/* The state of a run of lines. make_player makes one. */
 typedef struct player {
     dma330_controller controller;
     uint32_t size;          /* of the controller's memory */
     uint8_t ram[RAM_BYTES]; /* over which programs are run alone */
     arguments asked;
     outputs told;
-    long calls;    /* how many calls were made */
-    long stop_at;  /* how many are to be made at most, or -1 */
+    long calls;    /* the number of calls made */
+    long stop_at;  /* the most calls to make, or -1 for no limit */
     int is_stopped;
-    int wrongs;    /* what no call may do, whatever it answers */
-    /* Told where memory was refused, by the code, or, with a report, after the steps that it tells; then the call is made
-     * again. None: the code is an answer like any other. */
+    int wrongs;    /* the number of failed checks that every call must pass, whatever it answers */
+    /* Called when memory was refused: without a report if the call returned NO_MEMORY, with one if it stopped after the
+     * steps of the report. The call is then made again. If NULL, NO_MEMORY is an answer like any other. */
     void (*refused)(struct player *player, const dma330_report *cut_short);
 } player;
 
-/* A player with a controller that isn't open. */
+/* Makes a player with a controller that isn't open. */
 void make_player(player *p);
 
-/* Carries a line out, and writes its answer. */
+/* Runs a line, and writes its answer. */
 void carry_out(player *p, const char *line, char *answer);
 
-/* Whether a call has answered a code, since the program began. */
+/* Returns whether a call has returned a code since the program began. */
 int has_answered(const char *call, const char *code);
 
 #endif

@@ -1,4 +1,4 @@
-/* All that a controller can be asked without changing it, and bytes of its memory. */
+/* The results of calls that only read a controller, and bytes of its memory. */
 #ifndef READINGS_H
 #define READINGS_H
 
@@ -6,7 +6,7 @@
 
 enum { READ_CHANNELS = DMA330_MAX_CHANNELS + 1, READ_COOKIES = 6, LOW_BYTES = 0x4000, HIGH_BYTES = 0x40, PIECE = 0x40 };
 
-/* Zeros where a call was refused, and where nothing is. */
+/* A member is 0 if its call was refused, or if there is nothing to read. */
 typedef struct readings {
     int32_t steps_code;
     uint64_t steps;
@@ -26,11 +26,11 @@ typedef struct readings {
     uint8_t high[HIGH_BYTES]; /* the last ones */
 } readings;
 
-/* The readings of a controller whose memory has so many bytes. Of the bytes those are left out that a running transfer
- * writes. It adds reads to the history, whose entries and bytes are no readings here. */
+/* Takes the readings of a controller whose memory has `size` bytes, without the bytes that a running transfer writes.
+ * It adds reads to the history, so the history's counts of entries and bytes are not among the readings. */
 void take_readings(dma330_controller *controller, uint32_t size, readings *out);
 
-/* Whether they are the same; the first that differ are printed. */
+/* Returns whether they are the same, and prints the first that differ. */
 int are_same(const readings *a, const readings *b);
 
 #endif

@@ -1,7 +1,8 @@
-/* Each group of rows.txt with its first, second and each further allocation refused, alone and together with all that follow
- * it, until a run meets none. Where a call is told that memory was wanting, all readings are those of a controller that was
- * refused nothing and stands before that call, and the same call then answers what the row has. Nothing is leaked.
- * Link it with -Wl,--wrap=malloc,--wrap=realloc,--wrap=free */
+/* Runs each group of rows.txt with its first, second and each further allocation refused, alone and together with all
+ * that follow it, until a run meets no refusal. When a call is out of memory, checks that all readings are the same as
+ * those of a controller that was refused no memory and has made the calls before this one, and that the same call, made
+ * again, answers as its row does. Also checks that nothing is leaked. Link it with
+ * -Wl,--wrap=malloc,--wrap=realloc,--wrap=free */
 #include "heap.h"
 #include "lines.h"
 #include "readings.h"
@@ -15,12 +16,12 @@
 
 enum mode { ALONE, WITH_ALL_AFTER };
 
-/* What it does with a request: gives; gives, and counts down to the one to be refused; refuses. */
+/* How it treats a request: allocates; allocates, and counts down to the one to refuse; refuses. */
 static enum { GIVES, COUNTS, REFUSES } allocator;
 static enum mode mode;
-static long left;       /* how many requests to give before the one to be refused */
-static int is_refused;  /* whether one was, in this run */
-static int is_untold;   /* whether one was, and no call has told it yet */
+static long left;       /* the number of requests before the one to refuse */
+static int is_refused;  /* whether a request was refused in this run */
+static int is_untold;   /* whether a request was refused, and no call has reported it yet */
 
 int refuses(void)
 {
@@ -36,7 +37,7 @@ int refuses(void)
 
 static const group *playing;
 static player refused_player, other;
-static int is_owed; /* steps were cut short: their next call has to be refused */
+static int is_owed; /* steps were cut short, and the next call must be refused */
 static long passed, failed, refusals;
 
 static int is_right(int holds, const char *what)
@@ -46,7 +47,7 @@ static int is_right(int holds, const char *what)
     return holds;
 }
 
-/* Plays the group up to so many calls with nothing refused, then so many steps, and compares. */
+/* Makes the first `calls` calls of the group with nothing refused, then the steps of the report, and compares. */
 static int is_as_before(const player *p, long calls, const dma330_report *steps)
 {
     static char answer[ANSWER_ROOM];
@@ -67,7 +68,8 @@ static int is_as_before(const player *p, long calls, const dma330_report *steps)
     return is_same;
 }
 
-/* A call was refused memory; or, where there is a report, a step of it, and the steps before that stand. */
+/* Checks a call that is out of memory. With a report, a step of the call was out of memory after the steps of the
+ * report. */
 static void on_refused(player *p, const dma330_report *cut_short)
 {
     static dma330_report steps_before;
@@ -75,25 +77,25 @@ static void on_refused(player *p, const dma330_report *cut_short)
     refusals++;
     if (!is_right(is_untold, "memory was wanting, though none was refused")) {
         p->wrongs++;
-        p->refused = NULL; /* else it may be told for ever */
+        p->refused = NULL; /* else it may be called for ever */
     }
     is_untold = 0;
     if (cut_short)
         steps_before = *cut_short;
     if (cut_short && mode == WITH_ALL_AFTER) {
-        /* the next call owes the refusal. What is read before it would make the history's room for it */
+        /* The next call must be refused. Nothing is read before it: a read would make room in the history for it. */
         is_owed = 1;
         allocator = REFUSES;
         return;
     }
-    /* a call that owed its refusal stands behind these steps */
+    /* a call that had to be refused comes after these steps */
     if (!is_right(is_as_before(p, p->calls - (is_owed ? 2 : 1), cut_short || is_owed ? &steps_before : NULL),
                   "a refused call changed something"))
         p->wrongs++;
     is_owed = 0;
 }
 
-/* Whether each row answers what it should, though the request of this number is refused. */
+/* Returns whether each row answers as it should, though the request of this number is refused. */
 static int plays_well(long number)
 {
     static char answer[ANSWER_ROOM];

@@ -1,4 +1,4 @@
-/* The groups of rows.txt. */
+/* The groups of rows.txt and of channels.txt. */
 #ifndef ROWS_H
 #define ROWS_H
 
@@ -15,7 +15,8 @@ typedef struct group {
     int count;
 } group;
 
-/* Reads the file, or ends the program. The last group has no title. */
+/* Returns the groups of a file, and after them a group without a title. Ends the program if the file can't be read, or
+ * if it is wrong. */
 const group *read_groups(const char *path);
 
 #endif

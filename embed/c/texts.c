@@ -1,5 +1,5 @@
-/* DMA330_MAX_TEXT is room for the text of every program, and no more than the longest needs: that of DMAWFE 31 invalid, again
- * and again. */
+/* Checks that DMA330_MAX_TEXT is room for the text of every program, and no more than the longest text needs, which is
+ * that of DMAWFE 31 invalid, repeated. */
 #include "dma330.h"
 
 #include <stdio.h>

@@ -1,6 +1,6 @@
 /* Threads that share a controller behind a lock, as the processors of an emulator do: all begin at once, and each submits
- * copies to a channel of its own, and steps it until they are complete, two steps each time that it has the lock. The thread
- * that opens the controller is not the one that closes it. */
+ * copies to a channel of its own and steps the channel until they are complete, two steps each time that it has the
+ * lock. The thread that opens the controller is not the one that closes it. */
 #define _POSIX_C_SOURCE 200112L
 #include "dma330.h"
 
@@ -14,7 +14,7 @@ enum { THREADS = 4, REGION = 0x1000, COPY = 0x400, COPIES = 3, MOST = 2, ROUNDS 
 typedef struct board {
     pthread_barrier_t start;
     pthread_mutex_t lock;
-    dma330_controller dma; /* by whoever has the lock */
+    dma330_controller dma; /* used only with the lock */
 } board;
 
 typedef struct processor {
@@ -40,7 +40,7 @@ static void give(board *b)
     expect(pthread_mutex_unlock(&b->lock) == 0, "the lock isn't given back");
 }
 
-/* One copy upward within the region of the processor, for which it takes the lock again and again. */
+/* Makes one copy upward within the region of the processor, which takes the lock again and again. */
 static void copy_upward(const processor *p, uint32_t n)
 {
     const uint32_t from = p->channel * (uint32_t)REGION + n * COPY;
@@ -79,7 +79,7 @@ static void *run(void *argument)
     return NULL;
 }
 
-/* What the region of a channel begins with, and is full of at the end. */
+/* Writes the bytes with which the region of a channel begins, and which fill it at the end. */
 static void pattern(uint8_t channel, uint8_t bytes[COPY])
 {
     uint32_t n;
@@ -101,7 +101,7 @@ static void begin(board *b)
     }
 }
 
-/* By a thread of its own, which has the controller after all others. */
+/* Runs in a thread of its own, which uses the controller after all others. */
 static void *end(void *argument)
 {
     board *b = argument;

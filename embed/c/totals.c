@@ -1,5 +1,5 @@
-/* What dma330_history_entries, dma330_history_bytes and dma330_running_count write. The reads of readings.c are entries too,
- * so no row of rows.txt has the first two. */
+/* Checks what dma330_history_entries, dma330_history_bytes and dma330_running_count write. The reads of readings.c are
+ * entries too, so no row of rows.txt has the first two. */
 #include "dma330.h"
 
 #include <stdio.h>
@@ -21,7 +21,7 @@ static void has(const char *when, uint64_t entries, uint64_t bytes, uint32_t run
                (unsigned long)run);
 }
 
-/* Whether a controller that isn't open fails, and nothing is written. */
+/* Returns whether the calls fail for a controller that isn't open, and write nothing. */
 static int is_refused(void)
 {
     uint64_t wide = 99;

@@ -1,5 +1,6 @@
-/* Each row of rows.txt, and that a refused call changes no reading; that every call has then answered every code that the
- * header names at it; and what no row says: programs cut at each byte, and lengths above 32 bits. */
+/* Runs each row of rows.txt, and checks that a refused call changes no reading, and that every call has returned every
+ * code that the header names for it. Also checks what no row covers: programs cut at each byte, and lengths above 32
+ * bits. */
 #define _DEFAULT_SOURCE
 #include "lines.h"
 #include "readings.h"
@@ -24,7 +25,7 @@ static int is_right(int holds)
 
 static player walker;
 
-/* A row whose call is refused leaves all readings as they were. */
+/* Runs a row, and checks its answer, and that a refused call changes no reading. */
 static void walk_row(const group *of, const row *next)
 {
     static char answer[ANSWER_ROOM];
@@ -52,7 +53,7 @@ static void walk(const group *of)
 
 /* ---- all codes of all calls ---- */
 
-/* By the comments of dma330.h, but for NO_MEMORY, which refuse.c shows, and for two that no program lives to see:
+/* The codes in the comments of dma330.h, except NO_MEMORY, which refuse.c tests, and two that no test can reach:
  * COOKIES_SPENT comes after 2^31 submits, STEPS_SPENT after 2^64 steps. */
 static const struct {
     const char *call;
@@ -107,14 +108,14 @@ static void compare_all_codes(void)
 
 /* ---- a program cut at each byte ---- */
 
-/* The program of 300 bytes from 0x1000 to 0x2000. */
+/* The program of a copy of 300 bytes from 0x1000 to 0x2000. */
 static const uint8_t copy_of_300[47] = {
     0xBC, 0x00, 0x00, 0x10, 0x00, 0x00, 0xBC, 0x02, 0x00, 0x20, 0x00, 0x00, 0xBC, 0x01, 0xF9, 0x40,
     0x3E, 0x00, 0x22, 0x00, 0x04, 0x12, 0x08, 0x13, 0x3C, 0x04, 0xBC, 0x01, 0x19, 0x40, 0x06, 0x00,
     0x04, 0x12, 0x08, 0x13, 0xBC, 0x01, 0xB1, 0x40, 0x2C, 0x00, 0x04, 0x12, 0x08, 0x13, 0x00
 };
 
-/* Where its instructions begin. */
+/* The offsets of its instructions. */
 static const uint32_t offsets[] = {0, 6, 12, 18, 20, 21, 22, 23, 24, 26, 32, 33, 34, 35, 36, 42, 43, 44, 45, 46};
 
 static uint32_t last_offset(size_t cut)
@@ -125,7 +126,7 @@ static uint32_t last_offset(size_t cut)
     return offsets[n];
 }
 
-/* Cut, it ends where the next instruction isn't whole. */
+/* Checks that a cut program stops at the first instruction that isn't whole. */
 static void run_cut_programs(void)
 {
     static uint8_t memory[0x4000];
@@ -152,7 +153,7 @@ static void run_whole_program(void)
         printf("WRONG: the program of 300 bytes\n");
 }
 
-/* ---- lengths above 32 bits, whose low halves would be taken ---- */
+/* ---- lengths above 32 bits, whose low halves alone would be accepted ---- */
 
 static void lend_long_lengths(uint8_t *bytes, size_t len)
 {

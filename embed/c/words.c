@@ -84,7 +84,7 @@ static uint32_t next_number(const char **at)
     return value;
 }
 
-/* A kind of mark, by its name or by a number, which need be no kind's. */
+/* Reads a kind of mark: its name, or a number that need not be a kind. */
 static uint32_t next_kind(const char **at)
 {
     const char *from = *at;
@@ -98,7 +98,8 @@ static uint32_t next_kind(const char **at)
     return next_number(at);
 }
 
-/* Segments, each ADDR+LEN or, for N of them behind one another, ADDR+LEN*N; '-' for none. */
+/* Reads segments: each is ADDR+LEN, or ADDR+LEN*N for N of them, each of which begins where the one before it ends; '-'
+ * is none. */
 static size_t next_list(const char **at, dma330_segment *list)
 {
     static char word[1024];
@@ -132,7 +133,8 @@ static unsigned pair_in(const char *digits)
     return (unsigned)value;
 }
 
-/* Bytes in pairs of digits; XX*N for N like bytes; mod251*N for those whose values are their positions modulo 251. */
+/* Reads bytes: pairs of digits, XX*N for N equal bytes, or mod251*N for N bytes whose values are their positions modulo
+ * 251. */
 static size_t next_bytes(const char **at, uint8_t *bytes)
 {
     static char word[2 * MOST_BYTES];
@@ -154,7 +156,7 @@ static size_t next_bytes(const char **at, uint8_t *bytes)
     return count;
 }
 
-/* The rest of the line behind one space, with " / " for a line feed; WORD*N for N lines of that word. */
+/* Reads the rest of the line after one space, with " / " for a line feed, or WORD*N for N lines of that word. */
 static size_t next_text(const char **at, char *text)
 {
     const char *from = **at == ' ' ? *at + 1 : *at;

@@ -6,7 +6,7 @@
 
 enum { MOST_BYTES = 16384, MOST_TEXT = 1 << 16, MOST_SEGMENTS = 80, MOST_CODES = 64 };
 
-/* A number of dma330.h and its name there, without what all of its enum begin with. */
+/* A number of dma330.h and its name there, without the prefix that all names of its enum share. */
 typedef struct named {
     int32_t number;
     const char *name;
@@ -15,20 +15,20 @@ typedef struct named {
 #define NAMED(name) {DMA330_##name, #name}
 #define NO_MORE {0, NULL}
 
-/* All codes, and all faults. The last has no name. */
+/* All codes, and all faults. The last element has no name. */
 extern const named all_codes[];
 extern const named faults[];
 
-/* The name of a number, ? where it has none. */
+/* Returns the name of a number, or ? if it has none. */
 const char *name_of(const named *names, uint32_t number);
 
-/* The code's name, without the DMA330_. */
+/* Returns the code's name, without the DMA330_. */
 const char *code_name(int32_t code);
 
-/* The place of a code in the list of all, or -1. */
+/* Returns the index of a code in all_codes, or -1. */
 int index_of(int32_t code);
 
-/* What a line says. */
+/* The arguments of a line. */
 typedef struct arguments {
     uint8_t channel;
     uint32_t numbers[3];
@@ -44,20 +44,20 @@ typedef struct arguments {
     size_t text_len;
 } arguments;
 
-/* Ends the program: the file is wrong. */
+/* Ends the program because the file is wrong. */
 void bad_line(const char *why, const char *what);
 
-/* The next word, empty at the end. */
+/* Reads the next word, which is empty at the end. */
 void next_word(const char **at, char *word, size_t room);
 
-/* Reads what the shape asks for: c a channel, k a kind of mark, n a number, b bytes, t text, s a list of sources, d the word
- * 'to', a list of destinations, and events. */
+/* Reads the arguments of a shape: c is a channel, k a kind of mark, n a number, b bytes, t text, s a list of sources,
+ * and d the word 'to', a list of destinations, and events. */
 void read_arguments(const char *shape, const char *at, arguments *a);
 
-/* Whether a code is one of the words. */
+/* Returns whether a code is one of the words. */
 int has_word(const char *words, const char *code);
 
-/* An answer that is written. */
+/* An answer that is being written. */
 typedef struct answer {
     char *at;
     size_t room;
@@ -65,7 +65,7 @@ typedef struct answer {
 
 void say(answer *said, const char *format, ...);
 
-/* Bytes in pairs of digits, more than 16 like ones as XX*N. */
+/* Writes bytes as pairs of digits, more than 16 equal ones as XX*N. */
 void say_bytes(answer *said, const uint8_t *bytes, size_t len);
 
 #endif

@@ -1,5 +1,6 @@
-//! Links the library. DMA330_LIB names the archive. Without it that is this repository's, which `make -C embed library` builds;
-//! where it isn't there, what `make -C embed install` has installed, as pkg-config finds it.
+//! Links the library. DMA330_LIB names the archive. Without it, links this repository's archive, which
+//! `make -C embed library` builds, or, if that is missing, the one that `make -C embed install` installed, which
+//! pkg-config finds.
 
 use std::path::{Path, PathBuf};
 use std::process::Command;

@@ -1,5 +1,6 @@
-//! A copy from submit to finish, and then a device in the loop of an emulator: a guest's register writes submit, the main
-//! loop steps, and the guest polls for completion. It prints what ../c/example.txt has, as the example in C does.
+//! A copy from submit to finish, and then a device in the loop of an emulator: a guest's register writes submit copies,
+//! the main loop steps them, and the guest polls for completion. It prints the text of ../c/example.txt, as the example
+//! in C does.
 
 use dma330::{Controller, Error, Events, Segment, Status, TransferResult, Turn};
 
@@ -81,7 +82,7 @@ impl Device {
             Write::Len(len) => registers.len = len,
             Write::Wait(event) => registers.events.wait = Some(event),
             Write::Signal(event) => registers.events.signal = Some(event),
-            // A guest's mistake is no mistake of the emulator: it is kept for the guest.
+            // A guest's mistake is not an error of the emulator: the device keeps it for the guest to read.
             Write::Start => match start(&mut self.controller, number, *registers) {
                 Ok(cookie) => channel.cookie = cookie,
                 Err(error) => channel.refused = Some(error),
@@ -93,7 +94,7 @@ impl Device {
         self.controller.status(number, self.channels[usize::from(number)].cookie) == Status::Complete
     }
 
-    // The device's share of a round of the main loop: some steps of each channel.
+    // Takes some steps of each channel: the device's part of a round of the main loop.
     fn turn(&mut self) -> Result<(), Error> {
         for (number, channel) in (0..).zip(&mut self.channels) {
             let last = self.controller.step(number, STEPS_OF_A_TURN)?.last;
@@ -115,7 +116,7 @@ fn start(controller: &mut Controller, number: u8, registers: Registers) -> Resul
     Ok(cookie)
 }
 
-// ---- a guest: a message goes to a mailbox, and a doorbell rings behind it ----
+// ---- a guest: a message goes to a mailbox, and a doorbell rings after it ----
 
 enum Instruction {
     Store(u32, u8),
@@ -144,7 +145,7 @@ const GUEST: [Instruction; 14] = [
     Poll(1),
 ];
 
-// Executes one instruction; answers whether it is done with it.
+// Executes one instruction, and returns whether it is done.
 fn execute(device: &mut Device, next: &Instruction) -> Result<bool, Error> {
     match *next {
         Store(addr, byte) => device.controller.write(addr, &[byte])?,

@@ -6,12 +6,12 @@ use dma330::{assemble, Channel, ChannelTurn, Error, Region};
 const RAM_BASE: u32 = 0x8000_0000;
 const RAM_SIZE: usize = 1 << 20;
 
-// Where the guest has its program, the message, and the place that it is copied to.
+// The addresses of the guest's program, of the message, and of the place that the message is copied to.
 const PROGRAM: u32 = 0x8000_1000;
 const MESSAGE: u32 = 0x8002_0000;
 const MAILBOX: u32 = 0x8003_0000;
 
-// What the guest's CPU writes while the channel runs: a counter.
+// The address of a counter, which the guest's CPU writes while the channel runs.
 const COUNTER: u32 = 0x8004_0000;
 
 // How many steps a channel takes in a round of the main loop.
@@ -46,12 +46,13 @@ impl Machine {
         &mut self.ram[at..at + len]
     }
 
-    // The guest starts the channel at a program in RAM. Where no program is, the channel's first step fails as the DMA-330's does.
+    // Starts the channel at a program in RAM, for the guest. If no program is there, the first step fails as on a
+    // DMA-330.
     fn go(&mut self, addr: u32) -> Result<(), Error> {
         self.channel.load_from(&[Region::new(RAM_BASE, &mut self.ram)], addr)
     }
 
-    // The channel's share of a round: what the last step did.
+    // Takes the channel's steps of a round, and returns what the last one did.
     fn turn(&mut self) -> Result<ChannelTurn, Error> {
         let regions = &mut [Region::new(RAM_BASE, &mut self.ram)];
         let steps = self.channel.step(regions, &mut self.flags, STEPS_OF_A_ROUND)?;
@@ -63,7 +64,7 @@ impl Machine {
         Ok(steps.last)
     }
 
-    // The guest's CPU executes an instruction.
+    // Executes an instruction of the guest's CPU.
     fn execute(&mut self) {
         let counter = self.bytes(COUNTER, 4);
         let value = u32::from_le_bytes(counter.try_into().expect("four bytes"));

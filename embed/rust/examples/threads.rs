@@ -9,7 +9,7 @@ const CHANNELS: u8 = 4;
 const SIZE: u32 = 0x4000;
 const STEPS_OF_A_TURN: u32 = 64;
 
-/// A copy that a thread asks for, and where it is told how that ended.
+/// A copy that a thread requests, and the sender through which the owner reports how it ended.
 struct Request {
     channel: u8,
     src: Segment,
@@ -17,7 +17,7 @@ struct Request {
     done: Sender<Result<Outcome, Error>>,
 }
 
-/// The thread of the controller.
+/// The thread that owns the controller.
 struct Owner {
     controller: Controller,
     waiting: HashMap<(u8, u32), Sender<Result<Outcome, Error>>>,
@@ -31,12 +31,12 @@ impl Owner {
             Ok(cookie) => {
                 self.waiting.insert((channel, cookie), done);
             }
-            // one who no longer waits needn't be told
+            // a thread that no longer waits needs no answer
             Err(error) => done.send(Err(error)).unwrap_or_default(),
         }
     }
 
-    // Some steps of each channel, and word to those whose copies have finished.
+    // Takes some steps of each channel, and answers the threads whose copies have finished.
     fn turn(&mut self) -> Result<(), Error> {
         for channel in 0..CHANNELS {
             if let Some(Turn::Finished { cookie, outcome }) = self.controller.step(channel, STEPS_OF_A_TURN)?.last {
@@ -45,20 +45,20 @@ impl Owner {
                 }
             }
         }
-        // what has finished is told, so that the history is of no more use
+        // all finished copies are answered, so the history is no longer needed
         if self.waiting.is_empty() {
             self.controller.checkpoint()?;
         }
         Ok(())
     }
 
-    // Until all who may send requests are gone, and all that was asked for is done.
+    // Serves requests until all senders are gone and all requested copies are finished.
     fn serve(mut self, requests: &Receiver<Request>) -> Result<Controller, Error> {
         loop {
             match requests.try_recv() {
                 Ok(request) => self.take(request),
                 Err(TryRecvError::Disconnected) if self.waiting.is_empty() => return Ok(self.controller),
-                // nothing to step: sleep until there is
+                // nothing to step: sleep until a request comes
                 Err(TryRecvError::Empty) if self.waiting.is_empty() => match requests.recv() {
                     Ok(request) => self.take(request),
                     Err(_) => return Ok(self.controller),
@@ -70,7 +70,7 @@ impl Owner {
     }
 }
 
-// A thread with a region of its own, which it copies upward, a kibibyte at a time.
+// Requests three copies upward in the channel's region, a kibibyte each, and returns their number.
 fn copy_upward(channel_number: u8, requests: &Sender<Request>) -> usize {
     let region = u32::from(channel_number) * 0x1000;
     let mut copied = 0;
@@ -86,12 +86,12 @@ fn copy_upward(channel_number: u8, requests: &Sender<Request>) -> usize {
     copied
 }
 
-// What each region begins with, and has everywhere at the end.
+// Returns the bytes with which a channel's region begins, and which fill it at the end.
 fn pattern(channel: u8) -> Vec<u8> {
     (0..0x400u32).map(|n| (n % 251) as u8 ^ channel).collect()
 }
 
-// The thread that keeps the controller makes it.
+// Opens the controller on the thread that owns it, serves all requests, and checks the memory.
 fn serve_all(requests: &Receiver<Request>) -> Result<(), Error> {
     let mut controller = Controller::open(SIZE, CHANNELS)?;
     for channel in 0..CHANNELS {

@@ -1,4 +1,4 @@
-//! A channel alone, over memory and event flags of its caller.
+//! A channel without a controller, over memory and event flags of its caller.
 
 use crate::{event, fault_of, named, number_of, small, sys, Error, Events, Fault, MarkKind, Region, Segment};
 use std::fmt;
@@ -6,7 +6,7 @@ use std::fmt;
 /// What the last of some steps of a [`Channel`] did.
 #[derive(Clone, Copy, Debug, PartialEq, Eq, Hash)]
 pub enum ChannelTurn {
-    /// None was taken: none was asked for, or 4294967295 instructions were executed since the load.
+    /// No step was taken: `most` was 0, or 4294967295 instructions were executed since the load.
     NoStep,
     /// An instruction was executed.
     Moved,
@@ -15,14 +15,14 @@ pub enum ChannelTurn {
         /// The event.
         event: u8,
     },
-    /// It was DMAEND: the program is gone.
+    /// The instruction was DMAEND: the program is gone.
     Ended,
     /// The instruction failed. Nothing has changed.
     Fault {
-        /// How.
+        /// Its fault.
         fault: Fault,
     },
-    /// It was DMASEV: the flag of an event is set.
+    /// The instruction was DMASEV: the flag of an event is set.
     Signalled {
         /// The event.
         event: u8,
@@ -32,11 +32,12 @@ pub enum ChannelTurn {
 /// What some steps of a [`Channel`] did.
 #[derive(Clone, Copy, Debug, PartialEq, Eq, Hash)]
 pub struct ChannelSteps {
-    /// How many were taken, the last one included, whatever it did.
+    /// The number of steps taken, the last one included, whatever it did.
     pub taken: u32,
     /// What the last one did.
     pub last: ChannelTurn,
-    /// The offset of the next instruction in the program, which is the one that waits or failed, where it did.
+    /// The offset of the next instruction in the program: for `Waiting` and `Fault` that of the instruction that waits
+    /// or failed, for `Ended` that of the DMAEND.
     pub pc: u32,
 }
 
@@ -55,11 +56,11 @@ pub struct Registers {
     pub lc0: u8,
     /// Loop counter 1.
     pub lc1: u8,
-    /// Whether there is a program.
+    /// Whether a program is loaded.
     pub is_loaded: bool,
-    /// How many instructions were executed since the program was loaded, DMAEND included.
+    /// The number of instructions executed since the program was loaded, DMAEND included.
     pub taken: u32,
-    /// How many bytes were stored since then.
+    /// The number of bytes stored since then.
     pub stored: u64,
 }
 
@@ -72,10 +73,11 @@ fn turn_of(report: &sys::RawChannelReport) -> ChannelTurn {
     }
 }
 
-/// A channel that runs a program over memory of its caller, for as many steps as the caller asks for.
+/// A channel that runs a program over memory of its caller, as many steps at a time as the caller requests.
 ///
-/// The memory is lent for the time of a call, in up to 8 regions, so an emulator steps channels over its guest's RAM. No copy of
-/// it is kept. The flags of events 0 to 31 are the bits of a number of the caller. The channel is closed when it is dropped.
+/// The channel borrows the memory for the time of a call, in up to 8 regions, so an emulator can step channels over its
+/// guest's RAM. It keeps no copy of the memory. The flags of events 0 to 31 are the bits of a number of the caller. The
+/// channel is closed when it is dropped.
 ///
 /// ```
 /// use dma330::{assemble, Channel, ChannelSteps, ChannelTurn, Region};
@@ -96,73 +98,78 @@ fn turn_of(report: &sys::RawChannelReport) -> ChannelTurn {
 /// # Ok::<(), dma330::Error>(())
 /// ```
 ///
-/// It may go from thread to thread, as a [`Controller`](crate::Controller) may, and is not `Sync` either.
+/// Like a [`Controller`](crate::Controller), it may move from thread to thread, and is not `Sync`.
 pub struct Channel {
     handle: sys::ChannelHandle,
 }
 
 impl Channel {
-    /// A channel without a program and without marks, with room for the longest program.
+    /// Opens a channel without a program and without marks, with room for the longest program.
     ///
-    /// The error is `NoMemory`.
+    /// Fails with `NoMemory`.
     pub fn open() -> Result<Channel, Error> {
         Ok(Channel { handle: sys::ChannelHandle::open()? })
     }
 
-    /// Loads the program of a copy in place of what was there, with registers and counts at 0.
+    /// Loads the program of a copy in place of the one before, sets registers and counts to 0, and empties the buffer.
     ///
-    /// The error is the first that holds of `EmptyList`, `TooManySegments`, `EmptySegment`, `SegmentWraps`, `TotalsDiffer`,
-    /// `TooLong`, `DestinationsMeet`, `SourceMeetsDestination` and `BadEvent`, each tested over both lists; or it is `NoMemory`.
+    /// Fails with the first that applies of `EmptyList`, `TooManySegments`, `EmptySegment`, `SegmentWraps`,
+    /// `TotalsDiffer`, `TooLong`, `DestinationsMeet`, `SourceMeetsDestination` and `BadEvent`, each tested over both
+    /// lists; or with `NoMemory`.
     pub fn load_copy(&mut self, src: &[Segment], dst: &[Segment], events: Events) -> Result<(), Error> {
         self.handle.load_copy(src, dst, event(events.wait), event(events.signal))
     }
 
-    /// Loads the program of a fill in the same way: the byte at address `src` goes to every place of the destination list.
+    /// Loads the program of a fill in the same way: it copies the byte at address `src` to every place of the
+    /// destination list.
     ///
-    /// The error is as for [`Channel::load_copy`], without `TotalsDiffer`.
+    /// Fails as [`Channel::load_copy`] does, but never with `TotalsDiffer`.
     pub fn load_fill(&mut self, src: u32, dst: &[Segment], events: Events) -> Result<(), Error> {
         self.handle.load_fill(src, dst, event(events.wait), event(events.signal))
     }
 
     /// Loads a program's bytes in the same way. They need not be instructions.
     ///
-    /// The error is `ProgramTooLong` or `NoMemory`.
+    /// Fails with `ProgramTooLong` or `NoMemory`.
     pub fn load_program(&mut self, program: &[u8]) -> Result<(), Error> {
         self.handle.load_program(program)
     }
 
-    /// Loads the program that begins at an address of the memory in the same way: its bytes up to the end of the region, 8192 at
-    /// most, as they are now.
+    /// Loads the program that begins at an address of the memory in the same way.
     ///
-    /// Where no region has the address it has no bytes, and the first step fails with `InstrFetchErr`. The error is `BadRegions`
-    /// or `NoMemory`.
+    /// It has the bytes from that address to the end of the region, 8192 at most, as they are now. If no region has the
+    /// address, the program has no bytes, and the first step fails with `InstrFetchErr`.
+    ///
+    /// Fails with `BadRegions` or `NoMemory`.
     pub fn load_from(&mut self, regions: &[Region<'_>], addr: u32) -> Result<(), Error> {
         self.handle.load_from(regions, addr)
     }
 
-    /// Takes at most `most` steps, up to one that doesn't move or that sets a flag. Bit `n` of `flags` is the flag of event `n`.
+    /// Takes at most `most` steps, and ends after a step that doesn't move or that sets a flag.
     ///
-    /// A load that leaves the regions fails with `DataReadErr`, a store with `DataWriteErr`. The error is `BadRegions` or
-    /// `NoProgram`.
+    /// Bit `n` of `flags` is the flag of event `n`. A load outside the regions ends with the fault `DataReadErr`, a
+    /// store outside them with `DataWriteErr`.
+    ///
+    /// Fails with `BadRegions` or `NoProgram`.
     pub fn step(&mut self, regions: &mut [Region<'_>], flags: &mut u32, most: u32) -> Result<ChannelSteps, Error> {
         let report = self.handle.step(regions, flags, most)?;
         Ok(ChannelSteps { taken: report.taken, last: turn_of(&report), pc: report.pc })
     }
 
-    /// Drops the program, if there is one. Registers and counts stay.
+    /// Drops the program, if one is loaded. Registers and counts stay.
     pub fn stop(&mut self) {
         self.handle.stop();
     }
 
-    /// The registers and counts.
+    /// Returns the registers and counts.
     pub fn registers(&self) -> Registers {
         let sys::RawRegisters { pc, sar, dar, ccr, lc0, lc1, is_loaded, taken, stored } = self.handle.registers();
         Registers { pc, sar, dar, ccr, lc0, lc1, is_loaded: is_loaded != 0, taken, stored }
     }
 
-    /// Marks a range, in the memory or not, at which loads or stores of this channel fail from then on.
+    /// Marks a range, inside the memory or not, in which loads or stores of this channel, by `kind`, fail from then on.
     ///
-    /// The error is `BadRange` or `NoMemory`.
+    /// Fails with `BadRange` or `NoMemory`.
     pub fn mark(&mut self, kind: MarkKind, range: Segment) -> Result<(), Error> {
         self.handle.mark(number_of(kind), range)
     }
@@ -172,7 +179,7 @@ impl Channel {
         self.handle.unmark();
     }
 
-    /// All that the channel is, but for its marks, as plain bytes.
+    /// Returns the whole channel, except its marks, as bytes.
     ///
     /// ```
     /// use dma330::{Channel, Error};
@@ -197,9 +204,9 @@ impl Channel {
         }
     }
 
-    /// Makes the channel the one of a save. Its marks stay.
+    /// Makes the channel the one that was saved. The marks of this channel stay.
     ///
-    /// The error is `BadSave` or `NoMemory`.
+    /// Fails with `BadSave` or `NoMemory`.
     pub fn restore(&mut self, save: &[u8]) -> Result<(), Error> {
         self.handle.restore(save)
     }

@@ -24,13 +24,13 @@ pub enum Error {
     },
     /// The channel's number isn't below the number of channels.
     NoChannel,
-    /// The channel has given its last cookie, 2147483647.
+    /// The channel has used its last cookie, 2147483647.
     CookiesSpent,
-    /// An instruction is due, and the step count is at its end.
+    /// An instruction is due, and the step count is 2^64 - 1.
     StepsSpent,
     /// A range to be marked is empty, or ends above the last address.
     BadRange,
-    /// A checkpoint was asked for while a transfer runs.
+    /// A checkpoint was requested while a transfer runs.
     Running {
         /// Its channel, the lowest of several.
         channel: u8,
@@ -70,7 +70,7 @@ pub enum Error {
         /// Its fault.
         fault: AssemblyFault,
     },
-    /// At some byte of a program no instruction begins.
+    /// No instruction begins at a byte of a program.
     Disassembly {
         /// The byte's offset.
         offset: usize,
@@ -88,7 +88,7 @@ pub enum AssemblyFault {
     BadOperand,
     /// A number is outside its range.
     NumberOutOfRange,
-    /// With this line the program would pass 8192 bytes.
+    /// With this line the program would have more than 8192 bytes.
     ProgramTooLong,
 }
 
@@ -154,22 +154,22 @@ fn number_of<T: PartialEq>(codes: &[(i32, T)], value: &T) -> i32 {
 }
 
 impl Error {
-    /// The error of a code that names no place.
+    /// Returns the error of a code that has no place.
     pub(crate) fn of(code: i32) -> Error {
         found(&CODES, code).unwrap_or_else(|| unreachable!("the library answered the code {code}"))
     }
 
-    /// The error of a code of `dma330_assemble`.
+    /// Returns the error of a code of `dma330_assemble`.
     pub(crate) fn of_line(code: i32, line: usize) -> Error {
         found(&ASSEMBLY_CODES, code).map_or_else(|| Error::of(code), |fault| Error::Assembly { line, fault })
     }
 
-    /// The error of a code of `dma330_disassemble`.
+    /// Returns the error of a code of `dma330_disassemble`.
     pub(crate) fn of_offset(code: i32, offset: usize) -> Error {
         found(&DISASSEMBLY_CODES, code).map_or_else(|| Error::of(code), |fault| Error::Disassembly { offset, fault })
     }
 
-    /// Its number in `dma330.h`.
+    /// Returns its number in `dma330.h`.
     ///
     /// ```
     /// assert_eq!(dma330::Error::NoChannel.code(), -12);

@@ -21,8 +21,8 @@
 //!
 //! A [`Channel`] runs a program over memory of its caller instead, as the RAM of a guest (`examples/guest_ram.rs`).
 //!
-//! The library behind it is proved; what is not are the declarations in `sys`, which a test compares with the library's, and
-//! this crate's own lines. `docs/EMBEDDING.md` of the repository has more on memory, threads and marks.
+//! The library behind it is proved. Not proved are this crate's own code and its declarations in `sys`, which a test
+//! compares with the library's. `docs/EMBEDDING.md` of the repository has more on memory, threads and marks.
 
 #![deny(missing_docs, unsafe_code)]
 
@@ -43,24 +43,24 @@ use std::fmt;
 pub struct Segment {
     /// The first address.
     pub addr: u32,
-    /// How many addresses there are.
+    /// The number of addresses.
     pub len: u32,
 }
 
 impl Segment {
-    /// So many addresses from this one on.
+    /// Returns the segment of `len` addresses from `addr` on.
     pub const fn new(addr: u32, len: u32) -> Segment {
         Segment { addr, len }
     }
 }
 
-/// What a transfer waits for before it begins, and what it signals when all its bytes are stored: an event, 0 to 31, or
-/// none.
+/// The event that a transfer waits for before it begins, and the event that it signals once all its bytes are stored:
+/// each 0 to 31, or none.
 #[derive(Clone, Copy, Debug, Default, PartialEq, Eq, Hash)]
 pub struct Events {
-    /// Its flag is waited for, and cleared.
+    /// The event whose flag the transfer waits for, and then clears.
     pub wait: Option<u8>,
-    /// Its flag is set.
+    /// The event whose flag the transfer sets.
     pub signal: Option<u8>,
 }
 
@@ -77,19 +77,19 @@ pub enum TransferResult {
     Aborted,
 }
 
-/// A result, and how many bytes of the transfer were not stored.
+/// How a transfer finished, and the number of its bytes that were not stored.
 #[derive(Clone, Copy, Debug, PartialEq, Eq, Hash)]
 pub struct Outcome {
-    /// How it finished.
+    /// How the transfer finished.
     pub result: TransferResult,
-    /// How many of its bytes were not stored.
+    /// The number of its bytes that were not stored.
     pub residue: u32,
 }
 
 /// What one step of a channel did.
 #[derive(Clone, Copy, Debug, PartialEq, Eq, Hash)]
 pub enum Turn {
-    /// The channel's next transfer, of this cookie, runs from now on.
+    /// The channel's next transfer began to run.
     Started {
         /// Its cookie.
         cookie: u32,
@@ -98,9 +98,9 @@ pub enum Turn {
     Moved,
     /// No transfer is issued and unfinished.
     Nothing,
-    /// The next transfer can't start: a running one is in its way.
+    /// The next transfer can't start: it conflicts with a running one.
     Held {
-        /// The channel of the one in the way.
+        /// The channel of the running transfer, the lowest of several.
         channel: u8,
         /// Its cookie.
         cookie: u32,
@@ -118,7 +118,7 @@ pub enum Turn {
     Finished {
         /// Its cookie.
         cookie: u32,
-        /// How.
+        /// How it finished.
         outcome: Outcome,
     },
 }
@@ -126,13 +126,13 @@ pub enum Turn {
 /// What some steps of a channel did.
 #[derive(Clone, Copy, Debug, PartialEq, Eq, Hash)]
 pub struct Steps {
-    /// How many were taken, the last one too.
+    /// The number of steps taken, the last one included, whatever it did.
     pub taken: u32,
-    /// What the last one did; none where no step was asked for.
+    /// What the last one did; `None` if no step was requested.
     pub last: Option<Turn>,
 }
 
-/// How far a cookie is; one that failed or was aborted is complete.
+/// How far a cookie is. One that isn't issued yet is in progress, and one that failed or was aborted is complete.
 #[derive(Clone, Copy, Debug, PartialEq, Eq, Hash)]
 pub enum Status {
     /// It was never given.
@@ -143,16 +143,16 @@ pub enum Status {
     Complete,
 }
 
-/// What runs on a channel.
+/// The transfer that runs on a channel.
 #[derive(Clone, Copy, Debug, PartialEq, Eq, Hash)]
 pub struct Running {
     /// Its cookie.
     pub cookie: u32,
-    /// How many of its bytes are stored so far.
+    /// The number of its bytes that are stored so far.
     pub stored: u32,
 }
 
-/// Which bursts a mark stops.
+/// Which bursts fail in a marked range.
 #[derive(Clone, Copy, Debug, PartialEq, Eq, Hash)]
 pub enum MarkKind {
     /// Those that read the range.
@@ -174,36 +174,36 @@ pub enum Fault {
     DataReadErr,
 }
 
-/// How a program that was run alone ended.
+/// How a program that ran alone ended.
 #[derive(Clone, Copy, Debug, PartialEq, Eq, Hash)]
 pub enum RunEnd {
-    /// By DMAEND.
+    /// It executed DMAEND.
     Ended {
-        /// How many instructions were executed, DMAEND too.
+        /// The number of executed instructions, DMAEND included.
         turns: u32,
     },
-    /// As many instructions as the limit were executed, and none was DMAEND.
+    /// It executed as many instructions as the limit, and none was DMAEND.
     OutOfTurns,
-    /// At a wait for an event, as all flags are clear.
+    /// It waits for an event whose flag is clear.
     Waiting {
         /// The event.
         event: u8,
     },
-    /// At a fault.
+    /// An instruction failed.
     Fault {
-        /// Which.
+        /// Its fault.
         fault: Fault,
         /// The offset of the instruction.
         pc: u32,
     },
 }
 
-// What a number of the library stands for. It has no other.
+// Returns what a number that the library wrote means. The library writes no other numbers.
 fn named<T: Copy>(names: &[T], number: u32) -> T {
     *names.get(number as usize).unwrap_or_else(|| unreachable!("the library told the number {number}"))
 }
 
-// A channel or an event, which the library tells with 32 bits.
+// Returns a channel or an event, which the library writes as 32 bits.
 fn small(number: u32) -> u8 {
     u8::try_from(number).unwrap_or_else(|_| unreachable!("the library told the number {number}"))
 }
@@ -242,9 +242,9 @@ fn turn_of(report: &sys::RawReport) -> Option<Turn> {
 
 /// A controller over a memory of its own. It is closed when it is dropped.
 ///
-/// It is `Send`: the check of the library proves that of the library's type that it keeps. So threads may take turns with
-/// one behind a `Mutex`, or it has a thread to which others send their requests (`examples/threads.rs`). It is not `Sync`:
-/// what only tells takes `&self`, and one call at a time has a controller.
+/// It is `Send`: the check of the library proves this of the library's type that it holds. So threads may share a
+/// controller behind a `Mutex`, or one thread may own it and serve the requests of others (`examples/threads.rs`). It
+/// is not `Sync`: calls that only read it take `&self`, and only one call at a time may use a controller.
 ///
 /// ```
 /// use dma330::{Controller, Error};
@@ -269,9 +269,9 @@ pub struct Controller {
 }
 
 impl Controller {
-    /// A controller over a memory of so many zeros, with so many channels, 1 to 8.
+    /// Opens a controller with a memory of `size` zeros and with `channels` channels, 1 to 8.
     ///
-    /// The error is the first that holds of `BadChannels`, `SizeOutOfRange` and `NoMemory`.
+    /// Fails with the first that applies of `BadChannels`, `SizeOutOfRange` and `NoMemory`.
     ///
     /// ```
     /// use dma330::{Controller, Error};
@@ -284,26 +284,28 @@ impl Controller {
 
     /// Writes bytes into the memory from an address on.
     ///
-    /// The error is the first that holds of `OutOfMemoryRange`, `Busy` where a running transfer reads or writes one of the
+    /// Fails with the first that applies of `OutOfMemoryRange`, `Busy` if a running transfer reads or writes one of the
     /// addresses, and `NoMemory`.
     pub fn write(&mut self, addr: u32, bytes: &[u8]) -> Result<(), Error> {
         self.handle.write(addr, bytes)
     }
 
-    /// Reads as many bytes as there is room from an address on.
+    /// Reads `out.len()` bytes of the memory from an address on.
     ///
-    /// The error is the first that holds of `OutOfMemoryRange`, `Busy` where a running transfer writes one of the addresses,
-    /// and `NoMemory`; then no byte of `out` is changed.
+    /// Fails with the first that applies of `OutOfMemoryRange`, `Busy` if a running transfer writes one of the
+    /// addresses, and `NoMemory`. A call that fails doesn't change `out`.
     pub fn read(&mut self, addr: u32, out: &mut [u8]) -> Result<(), Error> {
         self.handle.read(addr, out)
     }
 
-    /// Gives a channel a copy of the source list's bytes to the places of the destination list, and answers its cookie, 1
-    /// for the first of the channel. It starts nothing.
+    /// Queues a copy of the source list's bytes to the places of the destination list on a channel, and returns its
+    /// cookie.
     ///
-    /// The error is the first that holds of `EmptyList`, `TooManySegments`, `EmptySegment`, `SegmentWraps`, `TotalsDiffer`,
-    /// `TooLong`, `DestinationsMeet`, `SourceMeetsDestination`, `BadEvent`, each tested over both lists, `NoChannel`,
-    /// `OutOfMemoryRange` and `CookiesSpent`; or it is `NoMemory`.
+    /// The first cookie of a channel is 1. The copy doesn't start before [`Controller::issue`].
+    ///
+    /// Fails with the first that applies of `EmptyList`, `TooManySegments`, `EmptySegment`, `SegmentWraps`,
+    /// `TotalsDiffer`, `TooLong`, `DestinationsMeet`, `SourceMeetsDestination`, `BadEvent`, each tested over both
+    /// lists, `NoChannel`, `OutOfMemoryRange` and `CookiesSpent`; or with `NoMemory`.
     ///
     /// ```
     /// use dma330::{Controller, Error, Events, Segment};
@@ -318,45 +320,46 @@ impl Controller {
         self.handle.submit(channel, src, dst, event(events.wait), event(events.signal))
     }
 
-    /// Gives a channel a fill: the byte at address `src` is copied to every place of the destination list. Else it is as
-    /// [`Controller::submit`], without `TotalsDiffer`.
+    /// Queues a fill on a channel: a copy of the byte at address `src` to every place of the destination list.
+    ///
+    /// It returns and fails as [`Controller::submit`] does, but never with `TotalsDiffer`.
     pub fn submit_fill(&mut self, channel: u8, src: u32, dst: &[Segment], events: Events) -> Result<u32, Error> {
         self.handle.submit_fill(channel, src, dst, event(events.wait), event(events.signal))
     }
 
-    /// Issues all that was submitted to a channel, so that it may start, and answers how many became so.
+    /// Allows all submitted transfers of a channel to start, and returns how many were not allowed before.
     ///
-    /// The error is `NoChannel` or `NoMemory`.
+    /// Fails with `NoChannel` or `NoMemory`.
     pub fn issue(&mut self, channel: u8) -> Result<u32, Error> {
         self.handle.issue(channel)
     }
 
-    /// Holds the steps of a channel; one that is paused stays so.
+    /// Pauses a channel, paused or not: its steps do nothing until it is resumed or terminated.
     ///
-    /// The error is `NoChannel`.
+    /// Fails with `NoChannel`.
     pub fn pause(&mut self, channel: u8) -> Result<(), Error> {
         self.handle.pause(channel)
     }
 
-    /// Lets the steps of a paused channel go on.
+    /// Ends the pause of a channel.
     ///
-    /// The error is `NoChannel`.
+    /// Fails with `NoChannel`.
     pub fn resume(&mut self, channel: u8) -> Result<(), Error> {
         self.handle.resume(channel)
     }
 
-    /// Aborts all that is unfinished on a channel, and answers how many were. What is stored stays stored; a pause and a
-    /// halt of the channel end.
+    /// Aborts all unfinished transfers of a channel, issued or not, ends its pause and its halt, and returns how many
+    /// transfers it aborted. Stored bytes stay stored.
     ///
-    /// The error is `NoChannel` or `NoMemory`.
+    /// Fails with `NoChannel` or `NoMemory`.
     pub fn terminate(&mut self, channel: u8) -> Result<u32, Error> {
         self.handle.terminate(channel)
     }
 
-    /// Steps a channel until `most` steps were taken, or one neither starts nor moves.
+    /// Steps a channel up to `most` times, or until a step neither starts nor moves.
     ///
-    /// The error is that of the first step: `NoChannel`, `StepsSpent` or `NoMemory`. Where a later step is refused, those
-    /// before it stand and are told, and the next call takes that step again, or answers its error if the cause still holds.
+    /// Fails with the error of the first step: `NoChannel`, `StepsSpent` or `NoMemory`. If a later step fails, the call
+    /// returns the steps before it, and the next call tries that step again and fails if the cause still applies.
     ///
     /// ```
     /// use dma330::{Controller, Events, Outcome, Segment, Steps, TransferResult, Turn};
@@ -375,40 +378,41 @@ impl Controller {
         Ok(Steps { taken: report.taken, last: turn_of(&report) })
     }
 
-    /// How far a cookie is.
+    /// Returns how far a cookie is.
     pub fn status(&self, channel: u8, cookie: u32) -> Status {
         let state = u32::try_from(self.handle.status(channel, cookie)).unwrap_or(u32::MAX);
         named(&[Status::Unknown, Status::InProgress, Status::Complete], state)
     }
 
-    /// How a cookie finished; none where it hasn't, or where a checkpoint has forgotten it.
+    /// Returns how a cookie finished; `None` if it hasn't, if it was never given, or if a checkpoint has forgotten its
+    /// result.
     pub fn result(&self, channel: u8, cookie: u32) -> Option<Outcome> {
         let outcome = self.handle.result(channel, cookie)?;
         Some(outcome_of(outcome.result, outcome.residue))
     }
 
-    /// What runs on a channel.
+    /// Returns the transfer that runs on a channel; `None` if none runs, or if there is no such channel.
     pub fn running(&self, channel: u8) -> Option<Running> {
         let running = self.handle.running(channel)?;
         Some(Running { cookie: running.cookie, stored: running.stored })
     }
 
-    /// How many cookies of a channel are not finished; 0 where there is no such channel.
+    /// Returns the number of unfinished cookies of a channel; 0 if there is no such channel.
     pub fn unfinished(&self, channel: u8) -> u32 {
         self.handle.unfinished(channel)
     }
 
-    /// How many results of a channel checkpoints have forgotten; 0 where there is no such channel.
+    /// Returns the number of a channel's results that checkpoints have forgotten; 0 if there is no such channel.
     pub fn forgotten(&self, channel: u8) -> u32 {
         self.handle.forgotten(channel)
     }
 
-    /// How many steps have moved or finished, on all channels since the controller was opened.
+    /// Returns the number of steps that moved or finished, on all channels since the controller was opened.
     pub fn steps(&self) -> u64 {
         self.handle.steps()
     }
 
-    /// How many entries the history has.
+    /// Returns the number of entries of the history.
     ///
     /// ```
     /// use dma330::{Controller, Error};
@@ -424,19 +428,19 @@ impl Controller {
         self.handle.history_entries()
     }
 
-    /// How many bytes the history keeps, of writes and of reads. It looks at each entry.
+    /// Returns the number of bytes of writes and reads that the history keeps, in time proportional to its entries.
     pub fn history_bytes(&self) -> u64 {
         self.handle.history_bytes()
     }
 
-    /// How many transfers run, on all channels.
+    /// Returns the number of running transfers, on all channels.
     pub fn running_count(&self) -> u32 {
         self.handle.running_count()
     }
 
-    /// Marks a range, below the memory's size or not, in which bursts of that kind fail from then on.
+    /// Marks a range, inside the memory or not, in which bursts of this kind fail from then on.
     ///
-    /// The error is `BadRange` or `NoMemory`.
+    /// Fails with `BadRange` or `NoMemory`.
     ///
     /// ```
     /// use dma330::{Controller, Events, MarkKind, Segment, TransferResult, Turn};
@@ -455,21 +459,21 @@ impl Controller {
 
     /// Removes all marks.
     ///
-    /// The error is `NoMemory`.
+    /// Fails with `NoMemory`.
     pub fn unmark(&mut self) -> Result<(), Error> {
         self.handle.unmark()
     }
 
-    /// Sets the flag of an event, which lets one transfer pass that waits for it.
+    /// Sets the flag of an event. One transfer that waits for the event clears the flag and goes on.
     ///
-    /// The error is `BadEvent` or `NoMemory`.
+    /// Fails with `BadEvent` or `NoMemory`.
     pub fn raise(&mut self, event: u8) -> Result<(), Error> {
         self.handle.raise(event)
     }
 
-    /// Drops the history of the calls, with the results of what has finished, and gives its memory back.
+    /// Drops the history and the results of finished transfers, and frees their memory.
     ///
-    /// The error is `Running` where a transfer runs, or `NoMemory`.
+    /// Fails with `Running` if a transfer runs, or with `NoMemory`.
     pub fn checkpoint(&mut self) -> Result<(), Error> {
         self.handle.checkpoint()
     }
@@ -481,7 +485,7 @@ impl fmt::Debug for Controller {
     }
 }
 
-/// The version of the library.
+/// Returns the version of the library.
 ///
 /// ```
 /// assert_eq!(dma330::version(), "dilkwafam 1.0");
@@ -496,10 +500,11 @@ pub fn version() -> String {
     }
 }
 
-/// Runs a program's bytes alone over a memory, with no marks and all flags clear, for at most `limit` instructions.
+/// Runs a program's bytes alone over a memory, without marks and with all flags clear, for at most `limit`
+/// instructions.
 ///
-/// The error is the first that holds of `SizeOutOfRange`, of the memory's length, and `ProgramTooLong`; or it is `NoMemory`.
-/// Then the memory is as it was.
+/// Fails with the first that applies of `SizeOutOfRange`, for the memory's length, and `ProgramTooLong`; or with
+/// `NoMemory`. A call that fails doesn't change the memory.
 ///
 /// ```
 /// use dma330::{assemble, run_program, Fault, RunEnd};
@@ -520,7 +525,7 @@ pub fn run_program(program: &[u8], memory: &mut [u8], limit: u32) -> Result<RunE
     })
 }
 
-// Of 1 to 7.
+// Returns the fault of a number from 1 to 7.
 fn fault_of(number: u32) -> Fault {
     let faults = [
         Fault::UndefInstr,
@@ -536,12 +541,12 @@ fn fault_of(number: u32) -> Fault {
 
 const MAX_PROGRAM: usize = 8192;
 
-// A byte of a program has at most so many bytes of text.
+// The most bytes of text for one byte of a program.
 const MAX_TEXT: usize = 9;
 
-/// The bytes of the program that a text says.
+/// Returns the bytes of the program with this text.
 ///
-/// The error is `Assembly` of the first line with a fault, or `NoMemory`.
+/// Fails with `Assembly` for the first line with a fault, or with `NoMemory`.
 ///
 /// ```
 /// use dma330::{assemble, AssemblyFault, Error};
@@ -556,9 +561,9 @@ pub fn assemble(text: &str) -> Result<Vec<u8>, Error> {
     Ok(out)
 }
 
-/// The text of a program, a line for each instruction.
+/// Returns the text of a program, a line for each instruction.
 ///
-/// The error is `Disassembly` of the first byte at which no instruction begins, or `NoMemory`.
+/// Fails with `Disassembly` for the first byte at which no instruction begins, or with `NoMemory`.
 ///
 /// ```
 /// use dma330::{disassemble, DisassemblyFault, Error};

@@ -1,20 +1,20 @@
-//! The library as it exports itself; all `unsafe` code of the crate is here.
+//! The calls of the library, as it exports them; all `unsafe` code of the crate is here.
 //!
-//! What the library asks of its caller (docs/EMBEDDING.md), and why each call below keeps it:
+//! What the library requires of its caller (docs/EMBEDDING.md), and why each call below meets it:
 //!
 //! - A controller is zeroed before it is opened, its members are never touched, and an open one is never copied:
-//!   [`Handle`] makes one of zeros, lends nobody its members, and is neither `Copy` nor `Clone`. A move leaves one
-//!   owner. The same holds of a channel and [`ChannelHandle`].
-//! - One call at a time: what changes something takes `&mut self`. What only tells takes `&self` of a type that isn't
-//!   `Sync` (it is a cell), and no call of the library calls back. A handle may go to another thread, since the check
-//!   of the library proves `Send` of the type that it keeps, and Rust orders what one thread does with a value before
-//!   what the next one does.
-//! - Pointers are not null, aligned and good for their counts: each comes from a reference, or from a slice beside its
-//!   length. A [`Region`] is made of a slice that nobody else uses while the region is there.
-//! - Pointers of a call don't overlap, but where both are only read, and nobody else is at what they point to: that is
-//!   Rust's rule of `&mut` and `&`.
-//! - What is left to the program: one allocator behind `malloc`, no call from a signal handler or from the forked child
-//!   of a process with threads, and 32 KiB of stack.
+//!   [`Handle`] starts with zeros, gives nobody access to its members, and is neither `Copy` nor `Clone`. A move leaves
+//!   only one owner. The same is true of a channel and [`ChannelHandle`].
+//! - One call at a time: calls that change something take `&mut self`. Calls that only read take `&self` of a type that
+//!   isn't `Sync` (it is a cell), and no call of the library calls back. A handle may move to another thread, since the
+//!   check of the library proves that the type it holds is `Send`, and Rust orders what one thread does with a value
+//!   before what the next one does.
+//! - Pointers are not null, and are aligned and valid for their counts: each comes from a reference, or from a slice
+//!   that is passed with its length. A [`Region`] is made from a slice that nobody else uses while the region exists.
+//! - Pointers of a call don't overlap unless both are only read, and nobody else uses what they point to: Rust's rules
+//!   of `&mut` and `&` ensure this.
+//! - The program must ensure the rest: one allocator behind `malloc`, no call from a signal handler or from the forked
+//!   child of a process with threads, and 32 KiB of stack.
 
 use crate::error::{BUSY, RUNNING};
 use crate::{Error, Segment};
@@ -90,7 +90,7 @@ struct RawChannel {
 /// let _region = Region::new(0x8000_0000, &mut ram);
 /// ```
 ///
-/// The bytes are free again when the region is gone.
+/// The region borrows the bytes until it is dropped.
 ///
 /// ```compile_fail
 /// let mut ram = vec![0; 0x1000];
@@ -107,7 +107,7 @@ pub struct Region<'a> {
 }
 
 impl<'a> Region<'a> {
-    /// These bytes, from an address on.
+    /// Returns the region of these bytes, the first of which is at `addr`.
     pub fn new(addr: u32, bytes: &'a mut [u8]) -> Region<'a> {
         Region { addr, bytes: bytes.as_mut_ptr(), len: bytes.len(), lent: PhantomData }
     }
@@ -255,7 +255,7 @@ const NO_RESULT: i32 = -6;
 const NOT_RUNNING: i32 = -7;
 const BUFFER_TOO_SMALL: i32 = -8;
 
-// What a call told, or why it was refused.
+// Returns what a call wrote, or the error of its code.
 fn told<T>(code: i32, value: T) -> Result<T, Error> {
     match code {
         OK => Ok(value),
@@ -263,7 +263,7 @@ fn told<T>(code: i32, value: T) -> Result<T, Error> {
     }
 }
 
-// The same of a call that may conflict with a running transfer.
+// Does the same for a call that may conflict with a running transfer.
 fn free_of(code: i32, conflict: RawConflict) -> Result<(), Error> {
     let (channel, cookie) = (conflict.channel as u8, conflict.cookie);
     match code {
@@ -273,7 +273,7 @@ fn free_of(code: i32, conflict: RawConflict) -> Result<(), Error> {
     }
 }
 
-// What a call told, or nothing where it answered this code. It has no other.
+// Returns what a call wrote, or nothing if it returned the code `none`. The call returns no other code.
 fn told_unless<T>(none: i32, code: i32, value: T) -> Option<T> {
     assert!(code == OK || code == none, "the library answered the code {code}");
     (code == OK).then_some(value)
@@ -495,7 +495,7 @@ impl ChannelHandle {
         assert_eq!(code, OK);
     }
 
-    /// How many bytes were written; none where there is no room.
+    /// Writes a save of the channel, and returns its length; `None` if there is no room.
     pub fn save(&self, out: &mut [u8]) -> Option<usize> {
         let mut len = 0;
         let code = unsafe { dma330_channel_save(self.raw.get(), out.as_mut_ptr(), out.len(), &mut len) };
@@ -513,7 +513,7 @@ impl Drop for ChannelHandle {
     }
 }
 
-/// Writes the version and a zero byte, and answers the version's length; none where there is no room.
+/// Writes the version and a zero byte, and returns the version's length; `None` if there is no room.
 pub fn version(out: &mut [u8]) -> Option<usize> {
     let mut len = 0;
     let code = unsafe { dma330_version(out.as_mut_ptr(), out.len(), &mut len) };
@@ -527,7 +527,7 @@ pub fn run_program(program: &[u8], memory: &mut [u8], limit: u32) -> Result<RawR
     told(code, end)
 }
 
-/// How many bytes were written.
+/// Writes the bytes of the program with this text, and returns their number.
 pub fn assemble(text: &[u8], out: &mut [u8]) -> Result<usize, Error> {
     let (mut len, mut place) = (0, 0);
     let (bytes, room) = (out.as_mut_ptr(), out.len());
@@ -537,7 +537,7 @@ pub fn assemble(text: &[u8], out: &mut [u8]) -> Result<usize, Error> {
     }
 }
 
-/// How many bytes were written.
+/// Writes the text of a program, and returns its length.
 pub fn disassemble(program: &[u8], out: &mut [u8]) -> Result<usize, Error> {
     let (mut len, mut place) = (0, 0);
     let (text, room) = (out.as_mut_ptr(), out.len());

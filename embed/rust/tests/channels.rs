@@ -1,4 +1,4 @@
-//! The rows of channels.txt, which the test in C carries out too: as they are, and with each step a call of its own, before
+//! Runs the rows of channels.txt, as the test in C does: as they are, and with a call for each single step, before
 //! which the channel is saved and another one restored.
 
 mod words;
@@ -20,7 +20,7 @@ struct Part {
     bytes: Vec<u8>,
 }
 
-/// Carries lines out.
+/// Runs lines.
 struct Player {
     way: Way,
     channel: Option<Channel>,
@@ -40,7 +40,7 @@ fn answer_of(steps: ChannelSteps) -> String {
     format!("{} {word}{rest} at {}", steps.taken, steps.pc)
 }
 
-// The regions of these parts.
+// Returns the regions of these parts.
 fn regions(parts: &mut [Part]) -> Vec<Region<'_>> {
     parts.iter_mut().map(|part| Region::new(part.addr, &mut part.bytes)).collect()
 }
@@ -54,14 +54,14 @@ impl Player {
         self.channel.as_mut().expect("the group opened a channel")
     }
 
-    // The bytes from an address on, up to the end of its region.
+    // Returns the bytes from an address to the end of its region.
     fn rest(&mut self, addr: u32) -> &mut [u8] {
         let has = |part: &&mut Part| addr >= part.addr && ((addr - part.addr) as usize) < part.bytes.len();
         let part = self.parts.iter_mut().find(has).expect("a region has the address");
         &mut part.bytes[(addr - part.addr) as usize..]
     }
 
-    // Another channel goes on in its place, from its save and with its marks.
+    // Replaces the channel with another one that has its save and its marks.
     fn go_on_in_another(&mut self) -> Result<(), Error> {
         let mut next = Channel::open()?;
         next.restore(&self.channel().save())?;
@@ -101,7 +101,8 @@ impl Player {
         format!("{pc} 0x{sar:08X} 0x{dar:08X} 0x{ccr:08X} {counts}")
     }
 
-    // Each beginning of the save, and the save with each byte changed. The answer is that of the last that isn't refused so.
+    // Restores each beginning of the save, and the save with each byte changed. Returns the last answer other than
+    // `BadSave`, or `BadSave`.
     fn restore_damaged(&mut self) -> Result<(), Error> {
         let mut answer = Err(Error::BadSave);
         for at in 0..self.save.len() {
@@ -117,7 +118,7 @@ impl Player {
         answer
     }
 
-    // A line of the caller's own; none where it is a call.
+    // Runs a line of the caller's own, and returns its answer; `None` if the line is a call.
     fn own_line(&mut self, line: &str, mut words: Words) -> Option<String> {
         match line {
             "regions" => {
@@ -144,7 +145,7 @@ impl Player {
         Some(String::new())
     }
 
-    // What a call answers, or why it fails.
+    // Makes a call, and returns its answer or its error.
     fn call(&mut self, call: &str, mut words: Words) -> Result<String, Error> {
         match call {
             "open" => {
@@ -218,7 +219,7 @@ impl Player {
     }
 }
 
-// Which rows are answered in another way than they say.
+// Returns a message for each row whose answer differs from the one that it has.
 fn wrong_rows(way: Way) -> Vec<String> {
     let mut wrong = Vec::new();
     for (title, rows) in groups(ROWS) {

@@ -1,19 +1,20 @@
-//! The three declarations of the library, in Rattle (its own), in C (dma330.h) and in Rust (sys.rs), say the same: the same
-//! calls, and of each the same parameters and result, as they are passed; and the same codes, where no row of rows.txt meets
-//! them. No compiler compares these.
+//! The three declarations of the library, in Rattle (its own), in C (dma330.h) and in Rust (sys.rs), agree: they have
+//! the same calls, each call passes the same parameters and result, and the codes that no row of rows.txt returns are
+//! the same. No compiler compares them.
 
 use dma330::Error;
 use std::collections::BTreeMap;
 use std::fs;
 use std::path::{Path, PathBuf};
 
-/// What is passed: a number by its name in Rust, a struct by its fields in braces, a pointer with `*` before what is there.
+/// How a value is passed: a number by its Rust name, a struct by its fields in braces, a pointer by `*` before what it
+/// points to.
 type Passed = String;
 
 /// The structs of a language, by name, with the types of their fields.
 type Structs = BTreeMap<String, Vec<String>>;
 
-/// The calls, by name: what they take, and behind it what they answer.
+/// The calls, by name: the parameters of each, and after them its result.
 type Calls = BTreeMap<String, Vec<Passed>>;
 
 fn repository() -> PathBuf {
@@ -24,12 +25,12 @@ fn text_of(path: &Path) -> String {
     fs::read_to_string(path).unwrap_or_else(|error| panic!("{}: {error}", path.display()))
 }
 
-// What stands between two words, and what stands behind.
+// Returns the text between two words, and the text after the second.
 fn between<'a>(text: &'a str, from: &str, to: &str) -> Option<(&'a str, &'a str)> {
     text.split_once(from)?.1.split_once(to)
 }
 
-// Each text that stands between the two words.
+// Returns each text between the two words.
 fn each_between<'a>(mut text: &'a str, from: &str, to: &str) -> Vec<&'a str> {
     let mut found = Vec::new();
     while let Some((inside, rest)) = between(text, from, to) {
@@ -39,7 +40,7 @@ fn each_between<'a>(mut text: &'a str, from: &str, to: &str) -> Vec<&'a str> {
     found
 }
 
-// The parts that commas separate.
+// Returns the parts that commas separate.
 fn parts(list: &str) -> impl Iterator<Item = &str> {
     list.split(',').map(str::trim).filter(|part| !part.is_empty())
 }
@@ -54,12 +55,12 @@ fn without_comments(text: &str) -> String {
     left
 }
 
-// A type's name without its lifetimes.
+// Returns a type's name without its lifetimes.
 fn plain_name(word: &str) -> &str {
     word.split('<').next().unwrap_or_default().trim()
 }
 
-/// A type that is no pointer. Bytes, characters and truth values are all passed as a byte.
+/// Returns how a type that isn't a pointer is passed. Bytes, characters and truth values are all passed as a byte.
 fn value(word: &str, structs: &Structs) -> Passed {
     match word {
         "bool" | "u8" | "uint8_t" | "char" => "u8".into(),
@@ -71,7 +72,7 @@ fn value(word: &str, structs: &Structs) -> Passed {
         _ => {
             let fields = structs.get(plain_name(word)).unwrap_or_else(|| panic!("no type: {word}"));
             let fields: Vec<Passed> = fields.iter().map(|field| value_or_pointer(field, structs)).collect();
-            // a struct of one field is passed as that
+            // a struct of one field is passed as that field
             if fields.len() == 1 {
                 fields[0].clone()
             } else {
@@ -81,7 +82,7 @@ fn value(word: &str, structs: &Structs) -> Passed {
     }
 }
 
-// A field. What it points to is the library's own, or bytes; a slice is two.
+// Returns how a field is passed. A pointer's target is the library's own, or bytes; a slice is a pointer and a length.
 fn value_or_pointer(word: &str, structs: &Structs) -> Passed {
     match word {
         _ if word.starts_with('&') && word.ends_with("[u8]") => "* usize".into(),
@@ -90,7 +91,7 @@ fn value_or_pointer(word: &str, structs: &Structs) -> Passed {
     }
 }
 
-// What a parameter or a result of Rattle or Rust is passed as: a slice is two.
+// Returns how a parameter or a result of Rattle or Rust is passed: a slice as a pointer and a length.
 fn passed(kind: &str, structs: &Structs) -> Vec<Passed> {
     let (mark, inner) = match kind {
         "Global" => return Vec::new(),
@@ -108,7 +109,7 @@ fn passed(kind: &str, structs: &Structs) -> Vec<Passed> {
 
 // ---- Rattle and Rust ----
 
-// The structs that C sees. Fields that are ghosts or of type PhantomData are not there when it runs.
+// Adds the structs that C sees, without the fields that don't exist at run time: ghosts, and those of type PhantomData.
 fn structs_of_rust(text: &str, structs: &mut Structs) {
     for after in text.split("#[repr(C)]").skip(1) {
         let Some((name, rest)) = between(after, "struct ", "{") else { continue };
@@ -121,7 +122,7 @@ fn structs_of_rust(text: &str, structs: &mut Structs) {
     }
 }
 
-// The calls whose declarations begin with this word.
+// Adds the calls whose declarations begin with this word.
 fn calls_of_rust(text: &str, begins: &str, structs: &Structs, calls: &mut Calls) {
     for after in text.split(begins).skip(1) {
         let (name, rest) = after.split_once('(').expect("parameters");
@@ -170,7 +171,7 @@ fn calls_of_crate() -> Calls {
 
 // ---- C ----
 
-// A declaration's type, without the name at its end: its words but for const, and a pointer's mark before them.
+// Returns a declaration's type, without the name at its end: its words except const, after the mark of a pointer.
 fn kind_of_c(declaration: &str) -> String {
     let is_pointer = declaration.contains('*');
     let spaced = declaration.replace('*', " ");
@@ -222,7 +223,7 @@ fn the_crate_declares_what_the_library_exports() {
     compare(&calls_of_library(), &calls_of_crate(), "sys.rs");
 }
 
-// A channel has given its last cookie after 2^31 submits, the step count is at its end after 2^64 steps.
+// A channel uses its last cookie only after 2^31 submits, and the step count ends only after 2^64 steps.
 #[test]
 fn codes_that_no_row_meets_are_the_librarys() {
     let library = text_of(&repository().join("crates/dma_ffi/src/codes.rt"));

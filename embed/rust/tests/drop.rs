@@ -1,4 +1,4 @@
-//! A controller and a channel that are dropped are closed: what they held goes back to the heap.
+//! A dropped controller or channel is closed: its memory goes back to the heap.
 
 use dma330::{Channel, Controller, Error};
 use std::fs;
@@ -6,14 +6,14 @@ use std::sync::Mutex;
 
 const MIB: usize = 1 << 20;
 
-/// The pages of this process that are in memory, in KiB, as Linux counts them.
+/// Returns the size of this process's pages in memory, in KiB, as Linux counts them.
 fn resident() -> usize {
     let status = fs::read_to_string("/proc/self/status").expect("Linux tells of a process");
     let line = status.lines().find(|line| line.starts_with("VmRSS:")).expect("its pages");
     line.split_whitespace().nth(1).and_then(|count| count.parse().ok()).expect("a number of KiB")
 }
 
-// Each keeps a mebibyte in its memory, and once more in its history.
+// Each controller holds a mebibyte in its memory, and another one in its history.
 fn open_write_and_drop(times: usize) -> Result<(), Error> {
     let bytes = vec![7; MIB];
     for _ in 0..times {
@@ -22,7 +22,7 @@ fn open_write_and_drop(times: usize) -> Result<(), Error> {
     Ok(())
 }
 
-// Both tests measure the process.
+// Both tests measure the whole process, so only one may run at a time.
 static ALONE: Mutex<()> = Mutex::new(());
 
 #[test]
@@ -36,7 +36,7 @@ fn a_dropped_controller_gives_its_memory_back() -> Result<(), Error> {
     Ok(())
 }
 
-// Each keeps the longest program.
+// Each channel holds the longest program.
 fn open_load_and_drop(times: usize) -> Result<(), Error> {
     for _ in 0..times {
         Channel::open()?.load_program(&[0x18; 8192])?;

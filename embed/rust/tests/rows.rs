@@ -1,4 +1,4 @@
-//! The rows of rows.txt, which the tests in C carry out too, by the safe type.
+//! Runs the rows of rows.txt, as the tests in C do, through the safe type.
 
 mod words;
 
@@ -40,7 +40,7 @@ fn told_end(end: RunEnd) -> String {
     }
 }
 
-/// Carries lines out.
+/// Runs lines.
 struct Player {
     controller: Option<Controller>,
     ram: Vec<u8>,
@@ -62,7 +62,8 @@ impl Player {
         Ok(hex(&out))
     }
 
-    // So many steps, each a call; like answers that follow each other are told once, with their number.
+    // Takes `count` steps, each with a call of its own, and returns their answers: equal ones in a row once, with their
+    // number.
     fn single(&mut self, channel: u8, count: u32) -> String {
         let mut runs: Vec<(String, u32)> = Vec::new();
         for _ in 0..count {
@@ -76,7 +77,7 @@ impl Player {
         told.join(", ")
     }
 
-    // What a call told, or why it was refused.
+    // Makes a call, and returns its answer or its error.
     fn call(&mut self, call: &str, mut words: Words) -> Result<String, Error> {
         let mut number = || words.number();
         match call {
@@ -125,7 +126,7 @@ impl Player {
         }
     }
 
-    // The same of a call whose first argument is a channel.
+    // Does the same for a call whose first argument is a channel.
     fn channel_call(&mut self, call: &str, mut words: Words) -> Result<String, Error> {
         let channel = words.channel();
         let controller = self.controller();
@@ -154,7 +155,7 @@ impl Player {
         }
     }
 
-    // A line whose answer may be that there is none.
+    // Runs a line that may have no answer.
     fn optional(&mut self, call: &str, words: &mut Words) -> Option<String> {
         let channel = words.channel();
         let controller = self.controller();

@@ -1,4 +1,4 @@
-//! A controller goes from thread to thread: behind a lock, and by a move.
+//! Threads share a controller behind a lock, and move one from thread to thread.
 
 use dma330::{Controller, Error, Events, Outcome, Segment, Status, TransferResult};
 use std::sync::{Barrier, Mutex, MutexGuard};
@@ -10,7 +10,7 @@ const COPY: u32 = 0x400;
 const STEPS_OF_A_TURN: u32 = 2;
 const ROUNDS: u32 = 1000;
 
-// What each region begins with, and has everywhere at the end.
+// Returns the bytes with which a channel's region begins, and which fill it at the end.
 fn pattern(channel: u8) -> Vec<u8> {
     (0..COPY).map(|n| (n % 251) as u8 ^ channel).collect()
 }
@@ -27,7 +27,8 @@ fn locked(shared: &Mutex<Controller>) -> MutexGuard<'_, Controller> {
     shared.lock().expect("no thread panicked")
 }
 
-// Steps a channel until its copy is complete, two steps each time that it has the lock: whether it came to an end.
+// Steps a channel until its copy is complete, two steps each time that it has the lock. Returns whether the copy
+// completed.
 fn step_through(shared: &Mutex<Controller>, channel: u8, cookie: u32) -> Result<bool, Error> {
     for _ in 0..ROUNDS {
         locked(shared).step(channel, STEPS_OF_A_TURN)?;
@@ -38,7 +39,7 @@ fn step_through(shared: &Mutex<Controller>, channel: u8, cookie: u32) -> Result<
     Ok(false)
 }
 
-// Three copies upward in the channel's region, for which the lock is taken again and again.
+// Makes three copies upward in the channel's region, and takes the lock anew for each call.
 fn copy_upward(shared: &Mutex<Controller>, channel: u8) -> Result<Vec<Option<Outcome>>, Error> {
     let mut outcomes = Vec::new();
     for n in 0..3 {
@@ -52,7 +53,7 @@ fn copy_upward(shared: &Mutex<Controller>, channel: u8) -> Result<Vec<Option<Out
     Ok(outcomes)
 }
 
-// Whether each region has its pattern everywhere.
+// Returns whether each region is full of its pattern.
 fn all_is_copied(controller: &mut Controller) -> Result<bool, Error> {
     let mut bytes = vec![0; REGION as usize];
     for channel in 0..CHANNELS {
@@ -83,7 +84,7 @@ fn threads_share_a_controller_behind_a_lock() {
         }
     });
     let mut controller = shared.into_inner().expect("no thread panicked");
-    // another thread asks it last, and closes it
+    // another thread reads it last, and closes it
     let asked = thread::spawn(move || all_is_copied(&mut controller)).join().expect("a thread ends");
     assert_eq!(asked, Ok(true));
 }

@@ -1,4 +1,4 @@
-//! What a controller counts of its history, and of the transfers that run. The values are those of ../c/totals.c.
+//! A controller's counts of its history and of its running transfers. The values are those of ../c/totals.c.
 
 use dma330::{Controller, Error, Events, Segment};
 

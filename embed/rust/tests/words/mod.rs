@@ -1,12 +1,12 @@
 //! The words of rows.txt and channels.txt, and those of their answers.
 
-// Neither of the tests that have this file uses all of it.
+// No test that includes this file uses all of it.
 #![allow(dead_code)]
 
 use dma330::{Error, Events, MarkKind, Segment};
 use std::fmt::Debug;
 
-/// The words of a line that are left.
+/// The words of a line that are not read yet.
 pub struct Words<'a>(pub &'a str);
 
 impl<'a> Words<'a> {
@@ -87,7 +87,7 @@ fn byte(pair: &str) -> u8 {
     u8::from_str_radix(pair, 16).unwrap_or_else(|_| panic!("not a byte: {pair}"))
 }
 
-// ADDR+LEN, or ADDR+LEN*N for N of them behind one another
+// Reads ADDR+LEN, or ADDR+LEN*N for N segments, each of which begins where the one before it ends.
 fn segments(word: &str) -> Vec<Segment> {
     let (addr, len) = word.split_once('+').expect("a segment");
     let (len, count) = len.split_once('*').unwrap_or((len, "1"));
@@ -95,7 +95,7 @@ fn segments(word: &str) -> Vec<Segment> {
     (0..number(count)).map(|n| Segment::new(addr + n * len, len)).collect()
 }
 
-/// A variant's name as dma330.h writes it.
+/// Returns a variant's name as dma330.h writes it.
 pub fn name(value: impl Debug) -> String {
     let debug = format!("{value:?}");
     let variant = debug.split([' ', '(']).next().unwrap_or_default();
@@ -136,7 +136,7 @@ pub fn nothing(_: ()) -> String {
 /// A title, and its rows: lines and answers.
 pub type Group = (&'static str, Vec<(&'static str, &'static str)>);
 
-/// The groups that the types of this crate can say.
+/// Returns the groups that the types of this crate can express.
 pub fn groups(text: &'static str) -> Vec<Group> {
     let text = &text[text.find("\n== ").expect("a group")..];
     let groups = text.split("\n== ").skip(1).map(|group| group.split_once('\n').expect("a title"));
