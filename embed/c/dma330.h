@@ -9,7 +9,11 @@
  *
  * A call returns DMA330_OK, or the first code that applies of those that its comment lists, in their order. A refused call
  * changes nothing and writes no output, except `*place` where the code has a place, and `*conflict` for DMA330_BUSY and
- * DMA330_RUNNING. DMA330_NOT_OPEN comes before all others. */
+ * DMA330_RUNNING. DMA330_NOT_OPEN comes before all others.
+ *
+ * Further duties: 32 KiB of stack are free; no call comes from a signal handler or from the child of a fork of a program with
+ * threads; malloc, realloc and free are one allocator. Addresses and lengths of segments have 32 bits, channels and events 8:
+ * test a guest's number before you narrow it. Of a list longer than 64 segments, 65 are enough to be refused. */
 #ifndef DMA330_H
 #define DMA330_H
 
@@ -100,7 +104,7 @@ typedef struct dma330_region {
     size_t len;
 } dma330_region;
 
-/* A channel, which the caller keeps and steps over memory of its own; its members are the library's own. */
+/* A channel, which the caller keeps and steps over the caller's memory; its members are the library's own. */
 typedef struct dma330_channel {
     void *channel;
     uint8_t is_open;
@@ -239,13 +243,13 @@ int32_t dma330_open(dma330_controller *controller, uint32_t size, uint8_t channe
 /* Frees what an open controller holds; it may be opened again. Does nothing if it isn't open. */
 void dma330_close(dma330_controller *controller) DMA330_NO_NULLS;
 
-/* Writes bytes into the memory from an address on: OUT_OF_MEMORY_RANGE, BUSY where a running transfer reads or writes one of
- * the addresses, NO_MEMORY. */
+/* Writes bytes into the memory from an address on, marked or not: OUT_OF_MEMORY_RANGE, BUSY where a running transfer reads or
+ * writes one of the addresses, NO_MEMORY. */
 int32_t dma330_write(dma330_controller *controller, uint32_t addr, const uint8_t *bytes, size_t len,
                      dma330_conflict *conflict) DMA330_NO_NULLS;
 
-/* Reads `len` bytes of the memory from an address on: OUT_OF_MEMORY_RANGE, BUSY where a running transfer writes one of the
- * addresses, NO_MEMORY. */
+/* Reads `len` bytes of the memory from an address on, marked or not: OUT_OF_MEMORY_RANGE, BUSY where a running transfer
+ * writes one of the addresses, NO_MEMORY. The history keeps the bytes too: read gigabytes in parts. */
 int32_t dma330_read(dma330_controller *controller, uint32_t addr, uint8_t *out, size_t len,
                     dma330_conflict *conflict) DMA330_NO_NULLS;
 
@@ -253,9 +257,10 @@ int32_t dma330_read(dma330_controller *controller, uint32_t addr, uint8_t *out, 
 
 /* Queues a copy of the source list's bytes to the places of the destination list on a channel, and writes its cookie, 1 for
  * the first of the channel. It waits for the event `wait` before it begins, and signals `signal` once all is stored. It
- * doesn't start before dma330_issue. Each rule is tested over both lists before the next: EMPTY_LIST, TOO_MANY_SEGMENTS,
- * EMPTY_SEGMENT, SEGMENT_WRAPS, TOTALS_DIFFER, TOO_LONG, DESTINATIONS_MEET, SOURCE_MEETS_DESTINATION, BAD_EVENT, NO_MEMORY,
- * NO_CHANNEL, OUT_OF_MEMORY_RANGE, COOKIES_SPENT, NO_MEMORY. */
+ * doesn't start before dma330_issue. A halted channel accepts it, and dma330_terminate aborts it with the rest. Each rule is
+ * tested over both lists before the next: EMPTY_LIST, TOO_MANY_SEGMENTS, EMPTY_SEGMENT, SEGMENT_WRAPS, TOTALS_DIFFER,
+ * TOO_LONG, DESTINATIONS_MEET, SOURCE_MEETS_DESTINATION, BAD_EVENT, NO_MEMORY, NO_CHANNEL, OUT_OF_MEMORY_RANGE,
+ * COOKIES_SPENT, NO_MEMORY. */
 int32_t dma330_submit(dma330_controller *controller, uint8_t channel, const dma330_segment *src, size_t src_count,
                       const dma330_segment *dst, size_t dst_count, int32_t wait, int32_t signal,
                       uint32_t *cookie) DMA330_NO_NULLS;
@@ -276,7 +281,7 @@ int32_t dma330_pause(dma330_controller *controller, uint8_t channel) DMA330_NO_N
 int32_t dma330_resume(dma330_controller *controller, uint8_t channel) DMA330_NO_NULLS;
 
 /* Aborts all unfinished transfers of a channel, issued or not, ends its pause and its halt, and writes the number of aborted
- * transfers; one that failed isn't counted. Stored bytes stay stored: NO_CHANNEL, NO_MEMORY. */
+ * transfers; one that failed isn't counted. Stored bytes stay stored, and raised events stay raised: NO_CHANNEL, NO_MEMORY. */
 int32_t dma330_terminate(dma330_controller *controller, uint8_t channel, uint32_t *count) DMA330_NO_NULLS;
 
 /* Steps a channel up to `most` times, or until a step neither starts nor moves. Returns the refusal of the first step:
@@ -308,7 +313,8 @@ int32_t dma330_forgotten(dma330_controller *controller, uint8_t channel, uint32_
  * did nothing count in `taken` alone. */
 int32_t dma330_steps(dma330_controller *controller, uint64_t *steps) DMA330_NO_NULLS;
 
-/* Counts the entries of the history. docs/EMBEDDING.md says which calls add one. */
+/* Counts the entries of the history: one for each accepted write, read, submit, issue, terminate, mark, unmark and raise, and
+ * in steps for each wait that passes, each signal and each finish. */
 int32_t dma330_history_entries(dma330_controller *controller, uint64_t *count) DMA330_NO_NULLS;
 
 /* Counts the bytes of writes and reads that the history keeps, in time proportional to its entries. */
@@ -326,10 +332,13 @@ int32_t dma330_mark(dma330_controller *controller, uint32_t kind, dma330_segment
 /* Removes all marks: NO_MEMORY. */
 int32_t dma330_unmark(dma330_controller *controller) DMA330_NO_NULLS;
 
-/* Sets the flag of an event. One transfer that waits for it takes it: BAD_EVENT, NO_MEMORY. */
+/* Sets the flag of an event of the controller, which stays set until a transfer that waits for it passes and clears it. To
+ * clear one, run a fill of one byte that waits for it; if a step reports DMA330_WAITING, the flag was clear, and a terminate
+ * removes the fill: BAD_EVENT, NO_MEMORY. */
 int32_t dma330_raise(dma330_controller *controller, uint8_t event) DMA330_NO_NULLS;
 
-/* Drops the history and the results of finished transfers, and frees their memory: RUNNING, NO_MEMORY. */
+/* Drops the history and the results of finished transfers, and frees their memory. It first needs memory for a copy of the
+ * pages in use: RUNNING, NO_MEMORY. */
 int32_t dma330_checkpoint(dma330_controller *controller, dma330_conflict *conflict) DMA330_NO_NULLS;
 
 /* ---- a channel over the caller's memory ----
@@ -359,14 +368,16 @@ int32_t dma330_channel_load_fill(dma330_channel *channel, uint32_t src, const dm
 int32_t dma330_channel_load_program(dma330_channel *channel, const uint8_t *program, size_t len) DMA330_NO_NULLS;
 
 /* Loads the program that begins at `addr` of the memory in the same way: the bytes from there to the end of the region, 8192
- * at most, or none if no region has the address; the first step then fails with DMA330_INSTR_FETCH_ERR: BAD_REGIONS,
- * NO_MEMORY. */
+ * at most, or none if no region has the address; the first step then fails with DMA330_INSTR_FETCH_ERR. A call that fails
+ * keeps the program before: BAD_REGIONS, NO_MEMORY. */
 int32_t dma330_channel_load_from(dma330_channel *channel, const dma330_region *regions, size_t region_count,
                                  uint32_t addr) DMA330_NO_NULLS;
 
 /* Takes at most `most` steps over the regions and the flags of events 0 to 31, which are the bits of `*flags`. It ends after
  * a step that doesn't move or that sets a flag, so that the caller can raise an interrupt: BAD_REGIONS, NO_PROGRAM. Loads
- * outside the regions fail with DMA330_DATA_READ_ERR, stores with DMA330_DATA_WRITE_ERR. */
+ * outside the regions fail with DMA330_DATA_READ_ERR, stores with DMA330_DATA_WRITE_ERR. The array of regions isn't written,
+ * only their bytes. A burst may cross from one region into one that touches it. The library keeps no fault: the next step
+ * tries the instruction again, so a model stops stepping a channel that failed. */
 int32_t dma330_channel_step(dma330_channel *channel, dma330_region *regions, size_t region_count, uint32_t *flags,
                             uint32_t most, dma330_channel_report *report) DMA330_NO_NULLS;
 
@@ -391,8 +402,9 @@ int32_t dma330_channel_restore(dma330_channel *channel, const uint8_t *save, siz
 
 /* ---- without a controller ----
  *
- * Programs have the instructions that docs/EMBEDDING.md lists. A text has one a line, in capital letters:
- * DMAMOV SAR 0x00001000 (eight digits), DMALP 0 16, DMASEV 3. */
+ * Programs have the instructions DMAMOV, DMALD, DMAST, DMALP with DMALPEND, DMARMB, DMAWMB, DMANOP, DMASEV, DMAWFE and DMAEND;
+ * all others fail with DMA330_UNDEF_INSTR. A text has one a line, in capital letters: DMAMOV SAR 0x00001000 (eight digits),
+ * DMALP 0 16, DMASEV 3. */
 
 /* Writes DMA330_VERSION and a zero byte, and its length without that byte: BUFFER_TOO_SMALL. */
 int32_t dma330_version(char *out, size_t room, size_t *len) DMA330_NO_NULLS;
