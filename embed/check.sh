@@ -138,6 +138,8 @@ in_c() {
         count "$set refuse.c" "$last_line" "$to/refuse" rows.txt
     make_it "$set channels.c" "$@" $wrap -o "$to/channels" c/channels.c c/heap.c c/words.c c/rows.c "$LIB" &&
         count "$set channels.c" "$last_line" "$to/channels" channels.txt
+    make_it "$set pages.c" "$@" -Wl,--wrap=malloc,--wrap=realloc -o "$to/pages" c/pages.c "$LIB" &&
+        count "$set pages.c" "$last_line" "$to/pages"
     make_it "$set totals.c" "$@" -o "$to/totals" c/totals.c "$LIB" && count "$set totals.c" "$last_line" "$to/totals"
     make_it "$set texts.c" "$@" -o "$to/texts" c/texts.c "$LIB" && count "$set texts.c" "$last_line" "$to/texts"
 }

@@ -1,0 +1,84 @@
+/* Checks which pages a controller makes: at a start those of the transfer's destinations, and none in the steps after it. It
+ * counts the bytes that the library asks for: a page has 4,096, everything else here is smaller. Link it with
+ * -Wl,--wrap=malloc,--wrap=realloc */
+#include "dma330.h"
+
+#include <stdio.h>
+#include <stdlib.h>
+
+#define PAGE 4096
+
+void *__real_malloc(size_t size);
+void *__real_realloc(void *block, size_t size);
+void *__wrap_malloc(size_t size);
+void *__wrap_realloc(void *block, size_t size);
+
+static size_t requested;
+
+void *__wrap_malloc(size_t size)
+{
+    requested += size;
+    return __real_malloc(size);
+}
+
+void *__wrap_realloc(void *block, size_t size)
+{
+    requested += size;
+    return __real_realloc(block, size);
+}
+
+static int passed, failed;
+
+static void is_right(int holds, const char *what)
+{
+    if (holds)
+        passed++;
+    else
+        failed++, printf("WRONG: %s\n", what);
+}
+
+/* Returns how many whole pages of bytes a call for `most` steps asks for. */
+static size_t pages_of_steps(dma330_controller *controller, uint32_t most)
+{
+    dma330_report report;
+    requested = 0;
+    is_right(dma330_step(controller, 0, most, &report) == DMA330_OK, "a step was refused");
+    return requested / PAGE;
+}
+
+/* Submits and issues a copy of four bytes. */
+static void submit(dma330_controller *controller, uint32_t from, uint32_t to)
+{
+    const dma330_segment src = {from, 4}, dst = {to, 4};
+    uint32_t cookie, count;
+    is_right(dma330_submit(controller, 0, &src, 1, &dst, 1, DMA330_NO_EVENT, DMA330_NO_EVENT, &cookie) == DMA330_OK &&
+                 dma330_issue(controller, 0, &count) == DMA330_OK,
+             "a copy was refused");
+}
+
+int main(void)
+{
+    static const uint8_t bytes[4] = {1, 2, 3, 4};
+    dma330_controller controller = DMA330_CONTROLLER_INIT;
+    dma330_conflict conflict;
+    is_right(dma330_open(&controller, 1 << 20, 1) == DMA330_OK, "no controller");
+    is_right(dma330_write(&controller, 0x80000, bytes, 4, &conflict) == DMA330_OK, "a write was refused");
+
+    submit(&controller, 0x80000, 0x80010);
+    is_right(pages_of_steps(&controller, 1) == 0, "a start makes a page, though its destination's page is made");
+    is_right(pages_of_steps(&controller, 100) == 0, "steps make a page");
+
+    submit(&controller, 0x10000, 0x80020);
+    is_right(pages_of_steps(&controller, 1) == 0, "a start makes the page of its source");
+    is_right(pages_of_steps(&controller, 100) == 0, "steps make the page of a source");
+
+    submit(&controller, 0x80000, 0x20000);
+    is_right(pages_of_steps(&controller, 1) == 1, "a start makes another number of pages than its one destination's");
+    is_right(pages_of_steps(&controller, 100) == 0, "steps make a page after the start");
+
+    submit(&controller, 0x80000, 0x30ffe);
+    is_right(pages_of_steps(&controller, 1) == 2, "a start makes another number of pages than its two destinations'");
+    dma330_close(&controller);
+    printf("%d passed, %d failed\n", passed, failed);
+    return failed != 0;
+}
