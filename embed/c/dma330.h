@@ -270,8 +270,8 @@ int32_t dma330_submit(dma330_controller *controller, uint8_t channel, const dma3
 int32_t dma330_submit_fill(dma330_controller *controller, uint8_t channel, uint32_t src, const dma330_segment *dst,
                            size_t dst_count, int32_t wait, int32_t signal, uint32_t *cookie) DMA330_NO_NULLS;
 
-/* Allows all submitted transfers of a channel to start, and writes how many were not allowed before: NO_CHANNEL,
- * NO_MEMORY. */
+/* Allows all submitted transfers of a channel to start, and writes how many were not allowed before. It adds an entry to the
+ * history even where it writes 0: NO_CHANNEL, NO_MEMORY. */
 int32_t dma330_issue(dma330_controller *controller, uint8_t channel, uint32_t *count) DMA330_NO_NULLS;
 
 /* Pauses a channel, paused or not: its steps do nothing until dma330_resume: NO_CHANNEL. */
@@ -403,8 +403,20 @@ int32_t dma330_channel_restore(dma330_channel *channel, const uint8_t *save, siz
 /* ---- without a controller ----
  *
  * Programs have the instructions DMAMOV, DMALD, DMAST, DMALP with DMALPEND, DMARMB, DMAWMB, DMANOP, DMASEV, DMAWFE and DMAEND;
- * all others fail with DMA330_UNDEF_INSTR. A text has one a line, in capital letters: DMAMOV SAR 0x00001000 (eight digits),
- * DMALP 0 16, DMASEV 3. */
+ * all others, and the conditional forms, fail with DMA330_UNDEF_INSTR. A text has one a line, without a space before it, in
+ * capital letters and digits; a line that begins with # and an empty line are skipped. A DMALPEND names the counter and how
+ * many bytes before it the loop begins. This text copies 1024 bytes as 4 bursts of 16 beats of 16 bytes:
+ *
+ *     DMAMOV SAR 0x80001000
+ *     DMAMOV DAR 0x80002000
+ *     DMAMOV CCR 0x003E40F9
+ *     DMALP 0 4
+ *     DMALD
+ *     DMAST
+ *     DMALPEND 0 2
+ *     DMAEND
+ *
+ * A program that waits has DMAWFE 3, or DMAWFE 3 invalid, and one that signals DMASEV 3. */
 
 /* Writes DMA330_VERSION and a zero byte, and its length without that byte: BUFFER_TOO_SMALL. */
 int32_t dma330_version(char *out, size_t room, size_t *len) DMA330_NO_NULLS;
