@@ -56,7 +56,7 @@ steps_made v w ch (suc n) last (u, before, turn, row, goes, answers, is) =
     )
 
 mark_made : (v w : View) (kind : Option MarkKind) (range : Segment) (answer : Answer) → AnswersMark v kind range answer w → Made v (marking kind range) answer w
-mark_made v w None range no_kind same = none_made v w no_kind tt same
+mark_made v w None range no_kind same = none_made v w no_kind refl same
 mark_made v w (Some kind) range (replied reply) answers = one_made v w (Mark kind range) reply answers
 mark_made v w None range closed h = absurd h
 mark_made v w None range (replied reply) h = absurd h
@@ -72,7 +72,7 @@ mark_made v w (Some kind) range (runs r) h = absurd h
 mark_made v w (Some kind) range (numbered n) h = absurd h
 
 copy_made : (v w : View) (ch : ℕ) (t : Descriptor) (refusal : Option TransferFault) (answer : Answer) → AnswersSubmit v ch refusal t answer w → Made v (calls_made (ask_copy ch t) answer) answer w
-copy_made v w ch t refusal (unfit fault) h = none_made v w (unfit fault) tt h.1
+copy_made v w ch t refusal (unfit fault) h = none_made v w (unfit fault) refl h.1
 copy_made v w ch t refusal (replied reply) h = one_made v w (Submit ch t) reply h.1
 copy_made v w ch t refusal closed h = absurd h
 copy_made v w ch t refusal no_kind h = absurd h
@@ -122,13 +122,13 @@ made v w (ask_fill ch src dst wait signal) answer h =
     fill_made v w ch src dst wait signal answer
     (copy_made v w ch (filling src dst wait signal) (refusal_of_fill src dst wait signal) answer h)
 made v w (ask_steps ch most) answer h = stepping_made v w ch most answer h
-made v w (ask_running ch) answer h = read_made v w (runs (running_on v ch)) answer tt h
-made v w (ask_unfinished ch) answer h = read_made v w (numbered (unfinished (channel (object_of v) ch))) answer tt h
-made v w (ask_forgotten ch) answer h = read_made v w (numbered (channel (object_of v) ch).forgotten) answer tt h
-made v w ask_step_count answer h = read_made v w (numbered v.steps) answer tt h
-made v w ask_history_entries answer h = read_made v w (numbered (length v.history)) answer tt h
-made v w ask_history_bytes answer h = read_made v w (numbered (min (kept_bytes v.history) 18446744073709551615)) answer tt h
-made v w ask_running_count answer h = read_made v w (numbered (length (running (object_of v) v.schedule))) answer tt h
+made v w (ask_running ch) answer h = read_made v w (runs (running_on v ch)) answer refl h
+made v w (ask_unfinished ch) answer h = read_made v w (numbered (unfinished (channel (object_of v) ch))) answer refl h
+made v w (ask_forgotten ch) answer h = read_made v w (numbered (channel (object_of v) ch).forgotten) answer refl h
+made v w ask_step_count answer h = read_made v w (numbered v.steps) answer refl h
+made v w ask_history_entries answer h = read_made v w (numbered (length v.history)) answer refl h
+made v w ask_history_bytes answer h = read_made v w (numbered (min (kept_bytes v.history) 18446744073709551615)) answer refl h
+made v w ask_running_count answer h = read_made v w (numbered (length (running (object_of v) v.schedule))) answer refl h
 
 pub calls_are_the_engines : CallsAreTheEngines
 unfolding Told Tells

@@ -1,5 +1,6 @@
 -- How calls from C correspond to calls of the engine.
-use Rattle.std.specs.Prelude.{◌≡◌, ℕ, ℤ, Option, None, Some, IsSomeAnd, List, [], ◌∷◌, ◌++◌, flat_map, replicate}
+use Rattle.std.specs.Prelude.{◌≡◌, ℕ, ◌<◌, ℤ, false, Option, None, Some, IsSomeAnd, List, [], ◌∷◌, ◌++◌, flat_map, replicate}
+use Rattle.std.specs.List.{All}
 use Rattle.dma_mem.specs.declared.marks.MarkKind.{MarkKind}
 use Rattle.dma_mem.specs.declared.segment.Segment.{Segment}
 use Rattle.dma_mem.specs.Places.{filling}
@@ -9,6 +10,7 @@ use Rattle.dma_engine.specs.declared.call.Reply.{Reply}
 use Rattle.dma_engine.specs.declared.call.Reply.TheVariants.{Turned}
 use Rattle.dma_engine.specs.View.{EngineState, View, new_view}
 use Rattle.dma_engine.specs.Answer.{AreAnswers}
+use Rattle.dma_engine.specs.Laws.{IsCall}
 use Rattle.dma_ffi.specs.Codes.{mark_kind}
 use Rattle.dma_ffi.specs.Told.{Answer, Answers, Asked, IsWritten, Told, ToldNew, Written, code_of, ask_call, ask_mark, ask_copy, ask_fill, ask_steps, replied, stepped}
 
@@ -30,12 +32,12 @@ calls_made (ask_steps ch most) (stepped taken last) = replicate taken (Step ch)
 calls_made _ _ = []
 
 -- Whether these replies fit an answer. If the answer is the engine's reply, it is the only reply. If steps were taken,
--- the last reply is the turn of the last step; if none was taken, there is no reply. Any replies fit another answer.
+-- the last reply is the turn of the last step. If no step was taken, and for any other answer, there is no reply.
 abbrev pub AreReplies : Answer → List Reply → Type 0
 AreReplies (replied reply) replies = replies ≡ reply ∷ []
 AreReplies (stepped taken None) replies = replies ≡ []
 AreReplies (stepped taken (Some turn)) replies = (before : List Reply) × (replies ≡ before ++ Turned turn ∷ [])
-AreReplies _ replies = Unit {0}
+AreReplies _ replies = replies ≡ []
 
 -- What a call from C on an open controller returns and writes is an answer of the controller's engine. It is also the
 -- answer to a list of the engine's own calls, made in order: their replies fit the answer and lead to the same view.
@@ -57,12 +59,22 @@ pub record Exchange : Type 0 where
   pub code : ℤ
   pub written : Written
 
--- Calls from C on one controller, one after another. The controller has the engine `found`, or none, before the first
--- call, and `left`, or none, after the last. (Opening an open controller is refused and changes nothing: `ToldNew`.)
+-- A request that C can make: an engine call that can be made (`IsCall`), the submit of a transfer that isn't a fill, the
+-- submit of a fill whose byte has a 32-bit address, or any other request.
+abbrev pub CanBeAsked : Asked → Type 0
+CanBeAsked (ask_call call) = IsCall call
+CanBeAsked (ask_copy ch t) = t.fill ≡ false
+CanBeAsked (ask_fill ch src dst wait signal) = src < 4294967296
+CanBeAsked _ = Unit {0}
+
+-- Calls from C on one controller, one after another, each with a request that C can make. The controller has the engine
+-- `found`, or none, before the first call, and `left`, or none, after the last. (Opening an open controller is refused
+-- and changes nothing: `ToldNew`.)
 abbrev pub AreExchanges : Option EngineState → List Exchange → Option EngineState → Type 0
 AreExchanges found [] left = left ≡ found
 AreExchanges found (call ∷ later) left =
-    (next : Option EngineState) × Told found call.asked call.code call.written next × AreExchanges next later left
+    (next : Option EngineState) × CanBeAsked call.asked
+    × Told found call.asked call.code call.written next × AreExchanges next later left
 
 -- What the engine does for a call from C: its answer, and its replies to the engine calls that the request makes.
 pub record Service : Type 0 where
@@ -96,12 +108,12 @@ all_calls _ _ = []
 abbrev pub all_replies : List Service → List Reply
 all_replies services = flat_map (λ service. service.replies) services
 
--- The calls from C, however many, are one list of engine calls, made one after another. What each call returns and
--- writes is given by its replies in that list.
+-- The calls from C, however many, are one list of engine calls, made one after another, and each of these can be made
+-- (`IsCall`). What each call from C returns and writes is given by its replies in that list.
 abbrev pub AreOneList : View → List Exchange → View → Type 0
 AreOneList v calls w =
     (services : List Service) × ServesAll v calls services w
-    × AreAnswers v (all_calls calls services) (all_replies services) w
+    × AreAnswers v (all_calls calls services) (all_replies services) w × All IsCall (all_calls calls services)
 
 -- For all calls from C on an open controller, one after another: none of them closes the controller, and they are one
 -- list of engine calls (`AreOneList`).

@@ -9,8 +9,8 @@ pub fn calls_are_the_engines()
     ensures { CallsAreTheEngines }
 {}
 
-/// All calls from C on an open controller, one after another, are one list of the engine's own calls. What each call
-/// returned and wrote is given by the replies to that list.
+/// All calls from C on an open controller, one after another, are one list of the engine's own calls, each of which can
+/// be made. What each call returned and wrote is given by the replies to that list.
 pub fn exchanges_are_the_engines()
     ensures exchanges { ExchangesAreTheEngines }
     ensures session { SessionsAreTheEngines }

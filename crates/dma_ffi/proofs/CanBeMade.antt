@@ -1,0 +1,109 @@
+-- The engine calls that a request of C makes can be made.
+use Rattle.std.proofs.Common.{◌≡◌, ℕ, ◌+◌, ◌<◌, Bool, true, false, ◌||◌, nat_lt, List, [], ◌∷◌, Option, Some, None, refl, ap, sym, ◌∙◌, arith}
+use Rattle.std.specs.List.{All, list_any}
+use Rattle.std.proofs.lemmas.Bool.{le-ltb, true≢false}
+use Rattle.std.proofs.lemmas.List.Elements.{All-cons, All-replicate}
+use Rattle.dma_mem.specs.Places.{Descriptor, filling}
+use Rattle.dma_mem.specs.Meeting.{meets}
+use Rattle.dma_mem.specs.Refusals.{cause, has_empty_segment, has_too_many, has_wrapping_segment, is_bad_event, is_empty_list, refusal_of, refusal_of_fill, some_meet, total}
+use Rattle.dma_mem.specs.Rules.{IsTransfer}
+use Rattle.dma_mem.specs.declared.marks.MarkKind.{MarkKind}
+use Rattle.dma_mem.specs.declared.segment.Segment.{Segment}
+use Rattle.dma_mem.specs.declared.transfer.TransferFault.{TransferFault}
+use Rattle.dma_mem.specs.declared.transfer.TransferFault.TheVariants.{EmptyList, TooManySegments, EmptySegment, SegmentWraps, TooLong, DestinationsMeet, SourceMeetsDestination, BadEvent}
+use Rattle.dma_mem.proofs.TransferRules.{IsTransfer-from_no_refusal, fill-from_no_refusal}
+use Rattle.dma_engine.specs.declared.call.Call.{Call}
+use Rattle.dma_engine.specs.declared.call.Call.TheVariants.{Submit, Step, Mark}
+use Rattle.dma_engine.specs.View.{View}
+use Rattle.dma_engine.specs.Laws.{IsCall}
+use Rattle.dma_ffi.specs.Codes.{mark_kind}
+use Rattle.dma_ffi.specs.Told.{Answer, Answers, AnswersSubmit, Asked, ask_call, ask_copy, ask_fill, ask_forgotten, ask_history_bytes, ask_history_entries, ask_mark, ask_running, ask_running_count, ask_step_count, ask_steps, ask_unfinished, closed, no_kind, numbered, replied, runs, stepped, unfit}
+use Rattle.dma_ffi.specs.Laws.{CanBeAsked, calls_made, marking}
+
+-- ---- the refusals of a fill
+
+-- the refusal of a fill, given whether a destination wraps and whether one meets the byte
+abbrev refusal_by : List Segment → Option ℕ → Option ℕ → Bool → Bool → Option TransferFault
+refusal_by dst wait signal wraps met =
+    cause (is_empty_list dst) EmptyList (
+    cause (has_too_many dst) TooManySegments (
+    cause (has_empty_segment dst) EmptySegment (
+    cause wraps SegmentWraps (
+    cause (nat_lt 1048576 (total dst)) TooLong (
+    cause (some_meet dst) DestinationsMeet (
+    cause met SourceMeetsDestination (
+    cause (is_bad_event wait || is_bad_event signal) BadEvent None)))))))
+
+or-false : (b : Bool) → (b || false) ≡ b
+or-false true = refl
+or-false false = refl
+
+no-wrap : (inside wraps : Bool) → inside ≡ false → ((inside || false) || wraps) ≡ wraps
+no-wrap true wraps is = cc
+no-wrap false wraps is = refl
+
+-- a fill whose byte has a 32-bit address breaks the same rule of transfers as of fills
+fill-refusal : (src : ℕ) (dst : List Segment) (wait signal : Option ℕ) → src < 4294967296 → refusal_of (filling src dst wait signal) ≡ refusal_of_fill src dst wait signal
+fill-refusal src dst wait signal below =
+    let inside : nat_lt 4294967296 (src + 1) ≡ false = le-ltb 4294967296 (src + 1) (omega (arith, below)) in
+    let met : Bool = list_any (meets (record { addr = src; len = 1 })) dst in
+    ap (λ b. refusal_by dst wait signal b (met || false)) (no-wrap (nat_lt 4294967296 (src + 1)) (has_wrapping_segment dst) inside)
+    ∙ ap (λ b. refusal_by dst wait signal (has_wrapping_segment dst) b) (or-false met)
+
+-- ---- the calls of each request
+
+pub none-made : All IsCall []
+none-made k d less = absurd (omega (arith, less))
+
+alone : (call : Call) → IsCall call → All IsCall (call ∷ [])
+alone call can = All-cons IsCall call [] can none-made
+
+marks-made : (kind : Option MarkKind) (range : Segment) → All IsCall (marking kind range)
+marks-made None range = none-made
+marks-made (Some kind) range = alone (Mark kind range) tt
+
+submit-made : (v w : View) (ch : ℕ) (t : Descriptor) (refusal : Option TransferFault) (answer : Answer) → (refusal ≡ None → IsTransfer t) → AnswersSubmit v ch refusal t answer w → All IsCall (calls_made (ask_copy ch t) answer)
+submit-made v w ch t refusal (replied reply) fits h = alone (Submit ch t) (fits h.0)
+submit-made v w ch t refusal closed fits h = none-made
+submit-made v w ch t refusal (unfit fault) fits h = none-made
+submit-made v w ch t refusal no_kind fits h = none-made
+submit-made v w ch t refusal (stepped taken last) fits h = none-made
+submit-made v w ch t refusal (runs r) fits h = none-made
+submit-made v w ch t refusal (numbered n) fits h = none-made
+
+fill-made : (v w : View) (ch src : ℕ) (dst : List Segment) (wait signal : Option ℕ) (answer : Answer) → src < 4294967296 → Answers v (ask_fill ch src dst wait signal) answer w → All IsCall (calls_made (ask_fill ch src dst wait signal) answer)
+fill-made v w ch src dst wait signal (replied reply) below h =
+    alone (Submit ch (filling src dst wait signal))
+    (fill-from_no_refusal src dst wait signal (fill-refusal src dst wait signal below ∙ h.0))
+fill-made v w ch src dst wait signal closed below h = none-made
+fill-made v w ch src dst wait signal (unfit fault) below h = none-made
+fill-made v w ch src dst wait signal no_kind below h = none-made
+fill-made v w ch src dst wait signal (stepped taken last) below h = none-made
+fill-made v w ch src dst wait signal (runs r) below h = none-made
+fill-made v w ch src dst wait signal (numbered n) below h = none-made
+
+steps-made : (ch most : ℕ) (answer : Answer) → All IsCall (calls_made (ask_steps ch most) answer)
+steps-made ch most (replied reply) = alone (Step ch) tt
+steps-made ch most (stepped taken last) = All-replicate IsCall taken (Step ch) tt
+steps-made ch most closed = none-made
+steps-made ch most (unfit fault) = none-made
+steps-made ch most no_kind = none-made
+steps-made ch most (runs r) = none-made
+steps-made ch most (numbered n) = none-made
+
+-- the calls that a request of C makes, given its answer, can be made
+pub can-be-made : (v w : View) (asked : Asked) (answer : Answer) → CanBeAsked asked → Answers v asked answer w → All IsCall (calls_made asked answer)
+can-be-made v w (ask_call call) answer can h = alone call can
+can-be-made v w (ask_mark kind range) answer can h = marks-made (mark_kind kind) range
+can-be-made v w (ask_copy ch t) answer can h =
+    submit-made v w ch t (refusal_of t) answer
+    (λ none. IsTransfer-from_no_refusal t (λ is. absurd (true≢false (sym is ∙ can))) none) h
+can-be-made v w (ask_fill ch src dst wait signal) answer can h = fill-made v w ch src dst wait signal answer can h
+can-be-made v w (ask_steps ch most) answer can h = steps-made ch most answer
+can-be-made v w (ask_running ch) answer can h = none-made
+can-be-made v w (ask_unfinished ch) answer can h = none-made
+can-be-made v w (ask_forgotten ch) answer can h = none-made
+can-be-made v w ask_step_count answer can h = none-made
+can-be-made v w ask_history_entries answer can h = none-made
+can-be-made v w ask_history_bytes answer can h = none-made
+can-be-made v w ask_running_count answer can h = none-made
