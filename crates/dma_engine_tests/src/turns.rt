@@ -1,17 +1,43 @@
-//! The turns of a job by a stepper that notes the channels.
+//! The turns of a job by a stepper that notes the channels, and a gate that the stepper sees before each turn.
 
-use dma_work::{Job, NoGate, Stepper, work};
+use dma_work::{Gate, Job, Stepper, work};
 use std::sync::Wait;
+use std::sync::atomic::{AtomicU64, Ordering};
 use std::test::Fail;
 
-// Notes the channels of its first eight turns.
+const WORKER: u32 = 5;
+
+// A gate of one worker.
 #[derive(Drop)]
-struct Noted {
+struct Counted {
+    // the number of the last turn that it let through, and 2^64 - 1 once a turn was out of order or another worker's
+    passed: AtomicU64,
+}
+
+impl Counted {
+    fn passed(&self) -> u64 {
+        self.passed.load(Ordering::SeqCst)
+    }
+}
+
+impl Gate for Counted {
+    fn turn<R: Wait>(&self, _rt: &R, worker: u32, n: u64) {
+        let is_next = worker == WORKER && self.passed().wrapping_add(1) == n;
+        let passed = if is_next { n } else { u64::MAX };
+        self.passed.store(passed, Ordering::SeqCst);
+    }
+}
+
+// Notes the channels of its first eight turns, and whether at each turn it was that turn which the gate let through last.
+#[derive(Drop)]
+struct Noted<'a> {
+    gate: &'a Counted,
+    is_gated: bool,
     channels: [u8; 8],
     taken: u64,
 }
 
-impl Stepper for Noted {
+impl Stepper for Noted<'_> {
     ghost use Rattle.std.specs.Prelude.{◌≡◌, ◌+◌};
 
     ghost worker = { λ s. 5 };
@@ -21,7 +47,7 @@ impl Stepper for Noted {
     ghost acts = { λ s ch t. t.taken ≡ s.taken + 1 };
 
     fn worker(&self) -> u32 {
-        5
+        WORKER
     }
 
     fn turn<R: Wait>(&mut self, _rt: &R, ch: u8) {
@@ -29,6 +55,7 @@ impl Stepper for Noted {
             self.channels[self.taken as usize] = ch;
         }
         self.taken += 1;
+        self.is_gated &= self.gate.passed() == self.taken;
     }
 }
 
@@ -42,12 +69,18 @@ fn channels_come_in_rotation(rt: HostRuntime) -> Result<(), Fail> {
     ];
     for (first, last, turns, channels) in rows {
         let job = Job::new(first, last, turns).ok_or("no job")?;
+        let gate = Counted {
+            passed: AtomicU64::new(0),
+        };
         let mut noted = Noted {
+            gate: &gate,
+            is_gated: true,
             channels: [0; 8],
             taken: 0,
         };
-        work(&rt, &mut noted, job, &NoGate);
+        work(&rt, &mut noted, job, &gate);
         assert!(rt; (noted.channels, noted.taken) == (channels, turns));
+        assert!(rt; noted.is_gated && gate.passed() == turns);
     }
     Ok(())
 }

@@ -1,4 +1,4 @@
-//! What a worker and the end of a desk leave of an engine: what the same steps by one thread leave.
+//! What a worker's thread and the end of a desk leave of an engine: what the same steps by one thread leave.
 
 ghost use Rattle.dma_work.specs.Desk.{Names};
 
@@ -6,15 +6,15 @@ use crate::engine_lines::Answer::{Count, Done, Moved, Turned};
 use crate::engine_lines::Ask::{Advance, Issue, Mark, Raise, Step, Submit, Write};
 use crate::engine_lines::{CopyOfFour, READ_FAILED, copy, go_through, segment};
 use crate::engine_refused::{Pair, have_same_bytes, tell_the_same};
-use crate::scenes::worked;
 use dma_engine::{Engine, Turn};
 use dma_mem::marks::MarkKind::Reading;
-use dma_work::{DeskName, Job, MissingTally, Parts, Shared, Tally, settle};
+use dma_work::{DeskName, Job, MissingTally, NoGate, Parts, Shared, Tally, run_workers, settle};
 use std::alloc::Global;
 use std::marker::Brand;
 use std::process::Abort;
 use std::sync::Wait;
 use std::test::Fail;
+use std::thread::Threads;
 
 // Channel 0 is paused where it waits for a flag that is set, channel 1 is halted by a mark, and channel 2 has a copy to begin.
 fn paused_and_halted(alloc: Global) -> Result<Engine, Fail> {
@@ -41,10 +41,12 @@ fn paused_and_halted(alloc: Global) -> Result<Engine, Fail> {
     Ok(engine)
 }
 
-// Steps of the channels 0 to 3 in rotation, of which the last isn't there.
-fn step_four(engine: &mut Engine, turns: u8) {
-    for turn in 0..turns {
-        let _ = engine.step(turn % 4);
+// Steps the channels from `first` to 3 in rotation, of which the last isn't there.
+fn step_rounds(engine: &mut Engine, first: u8, rounds: u32) {
+    for _ in 0..rounds {
+        for ch in first..4 {
+            let _ = engine.step(ch);
+        }
     }
 }
 
@@ -57,7 +59,7 @@ fn go_on(alloc: Global, engine: &mut Engine) -> Result<(), Fail> {
         (Issue(1), Count(1)),
     ];
     go_through(alloc, engine, &lines)?;
-    step_four(engine, 60);
+    step_rounds(engine, 0, 15);
     Ok(())
 }
 
@@ -76,8 +78,8 @@ fn ended<N: DeskName, R: Wait>(rt: &R, shared: Shared<N>, tallies: Vec<Tally>) -
     }
 }
 
-// A worker does a job at a desk, which ends with its tally or without it. Returns the engine, and whether the desk was settled.
-fn through_a_desk<N: DeskName, R: Wait>(
+// Runs one worker at a desk, which ends with its tally or without it. Returns the engine, and whether the desk was settled.
+fn through_a_desk<N: DeskName + Send + Sync, R: Threads + Wait + Sync>(
     rt: &R,
     alloc: Global,
     parts: Parts,
@@ -87,18 +89,18 @@ fn through_a_desk<N: DeskName, R: Wait>(
     requires { Names N.steps N.finished N.base N.log parts }
 {
     let shared = Shared::<N>::new(parts);
-    let tally = worked(rt, &shared, 0, job);
-    let mut tallies = Vec::new(alloc);
-    if is_told {
-        let _ = tallies.push(tally);
-    }
+    let tallies = match run_workers(rt, alloc, &shared, &[job], &NoGate) {
+        Ok(tallies) if is_told => tallies,
+        _ => Vec::new(alloc),
+    };
     ended(rt, shared, tallies)
 }
 
+// The job's first channel is paused, halted, and about to begin a copy, which seven rounds leave under way.
 #[test]
 fn a_desk_leaves_what_the_steps_leave(rt: HostRuntime) -> Result<(), Fail> {
-    let job = Job::new(0, 3, 30).ok_or("no job")?;
-    for is_told in [false, true] {
+    for (first, turns, is_told) in [(0, 28, false), (1, 21, true), (2, 14, true)] {
+        let job = Job::new(first, 3, turns).ok_or("no job")?;
         let mut other = paused_and_halted(rt.alloc())?;
         let engine = paused_and_halted(rt.alloc())?;
         let Ok((parts, readers)) = Parts::new(&rt, rt.alloc(), engine, 1) else {
@@ -106,7 +108,7 @@ fn a_desk_leaves_what_the_steps_leave(rt: HostRuntime) -> Result<(), Fail> {
         };
         drop(readers);
         let (asked, is_settled) = through_a_desk::<Brand, _>(&rt, rt.alloc(), parts, job, is_told);
-        step_four(&mut other, 30);
+        step_rounds(&mut other, first, 7);
         compare(&rt, rt.alloc(), Pair { asked, other })?;
         assert!(rt; is_settled == is_told);
     }
