@@ -13,7 +13,37 @@
  * - access rights: the secure states can be read, but the only thing that they forbid is that a non-secure manager
  *   starts a secure channel;
  * - a buffer that the channels share: each has 256 bytes. A channel's registers are 0 after a DMAGO;
- * - changes of a program while it runs: its bytes, 8192 at most, are read by the DMAGO. */
+ * - changes of a program while it runs: its bytes, 8192 at most, are read by the DMAGO.
+ *
+ * What the guest uses, and what the board does:
+ * - DMAGO by DBGINST0, DBGINST1, DBGCMD: dma330_channel_load_from its address, and steps from then on; nothing if
+ *   the channel isn't stopped. A load that returns a code shows as a fetch fault. DMAKILL: dma330_channel_stop.
+ *   DMASEV: sets the event's flag.
+ * - SAR, DAR, CCR, LC0, LC1: dma330_channel_registers. A load sets CCR to 0, where the chip has 0x00800200.
+ * - CSR, CPC, FTR, FSRC: the last report. CPC is the program's address plus pc. CSR bits 8:4 are the event that is
+ *   waited for.
+ * - INTEN, INTCLR, INT_EVENT_RIS, INTMIS: flags of the board. INTEN bit n makes DMASEV n an interrupt, else an
+ *   event; a write to it changes no flag. INTCLR clears interrupts, not events; INT_EVENT_RIS is both, INTMIS the
+ *   interrupts.
+ * - CR0 to CRD and the ids: constants. CRD agrees with the library: beats of up to 16 bytes and a FIFO of 256
+ *   (here a bus of 128 bits and 16 lines a channel).
+ *
+ * What a turn of a channel means:
+ * - MOVED: CSR bits 3:0 are 1 (executing); it continues in the next round.
+ * - SIGNALLED: the same; an interrupt's flag is put aside, and the remaining steps are taken.
+ * - WAITING: 4 (waiting for an event); the others are stepped, and this one again in the next round.
+ * - ENDED: 0 (stopped).
+ * - FAULT, NO_STEP: 15 (faulting) until a DMAKILL, with a bit in FTR and irq_abort: undefined instruction 0,
+ *   operand 1, MFIFO 12, store data 13, fetch 16, write 17, read 18, and for NO_STEP lockup 31.
+ * An event that isn't below the modelled chip's number of events becomes an invalid operand: its flag is cleared,
+ * and after SIGNALLED the CPC is set back by 2.
+ *
+ * Channels don't know interrupts. A channel gets the flags of events alone, so that DMAWFE doesn't take an
+ * interrupt. A round doesn't end between a DMASEV that raises an interrupt and the next instruction, mostly the
+ * DMAEND, since a driver's handler expects its channel to be stopped: if the DMASEV was the last of `most` steps,
+ * one more is taken. The lines are set after each round and each write of the guest. A snapshot has each channel's
+ * save, program address, status, fault and awaited event, the marks that the model made (here none), and INTEN,
+ * the flags and the debug registers. */
 #ifndef BOARD_H
 #define BOARD_H
 
