@@ -401,13 +401,13 @@ static void check_outputs(player *p, const call *c, int32_t code, outputs *o)
         return;
     used = is_unwritten(&o->len, sizeof o->len) ? 0 : o->len + (c->ask == ask_version);
     if (!is_unwritten(o->bytes + used, MOST_BYTES - used))
-        wrong(p, c, "wrote behind what it told");
+        wrong(p, c, "wrote past its reported length");
     if (c->ask == ask_version && o->bytes[o->len] != '\0')
         wrong(p, c, "wrote no zero byte behind it");
     if (c->ask == ask_step && !has_zeros_elsewhere(&o->report))
-        wrong(p, c, "told more than its turn has");
+        wrong(p, c, "set a member that its turn does not have");
     if (c->ask == ask_run_program && !ends_with_zeros_elsewhere(&o->end))
-        wrong(p, c, "told more than its end has");
+        wrong(p, c, "set a member that its end does not have");
 }
 
 static int is_cut_short(const call *c, int32_t code, const arguments *a, const dma330_report *report)

@@ -48,7 +48,7 @@ int are_same(const readings *a, const readings *b)
         printf("how many run differs\n");
     for (channel = 0; channel < READ_CHANNELS; channel++)
         if (memcmp(&a->channels[channel], &b->channels[channel], sizeof a->channels[channel]) != 0)
-            printf("what channel %d tells differs\n", channel);
+            printf("the readings of channel %d differ\n", channel);
     if (memcmp(a->piece_codes, b->piece_codes, sizeof a->piece_codes) != 0)
         printf("which bytes are busy differs\n");
     if (memcmp(a->low, b->low, LOW_BYTES) != 0 || memcmp(a->high, b->high, HIGH_BYTES) != 0)

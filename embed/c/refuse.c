@@ -157,9 +157,9 @@ int main(int words_count, char **words)
         int has = has_answered(growing[n], "NO_MEMORY");
         count(has);
         if (!has)
-            printf("WRONG: %s was never refused memory\n", growing[n]);
+            printf("WRONG: %s never ran out of memory\n", growing[n]);
     }
-    printf("%ld calls were refused memory\n", refusals);
+    printf("%ld calls ran out of memory\n", refusals);
     printf("%ld passed, %ld failed\n", passed, failed);
     return failed != 0;
 }

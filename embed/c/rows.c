@@ -52,7 +52,7 @@ const group *read_groups(const char *path)
             groups[group_count++].rows = rows + row_count;
         } else if (line[0] != '#') {
             if (group_count == 0 || row_count == MOST_ROWS)
-                no_row("it stands in no group, or there are too many", line);
+                no_row("it is in no group, or there are too many", line);
             split(&rows[row_count++], line);
             groups[group_count - 1].count++;
         }

@@ -5,9 +5,7 @@ ghost use Rattle.dma_work.specs.Desk.{Names};
 
 use crate::plan::{Measured, Times, since};
 use dma_engine::Engine;
-use dma_work::{
-    DeskName, Job, MissingTally, NoGate, Parts, Shared, Tally, Totals, run_workers, settle,
-};
+use dma_work::{DeskName, Job, NoGate, Parts, Shared, Tally, Totals, run_workers, settle};
 use std::alloc::Global;
 use std::io;
 use std::rt::Clock;
@@ -96,12 +94,7 @@ pub fn settled<N: DeskName, R: Wait>(
     match settle(rt, shared, tallies) {
         Ok((_engine, totals)) => Some(totals),
         Err(missing) => {
-            let MissingTally {
-                shared,
-                tallies: _,
-                book: _,
-            } = missing;
-            drop(shared.close(rt));
+            drop(missing.close(rt));
             None
         }
     }

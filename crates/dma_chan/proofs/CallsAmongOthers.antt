@@ -22,11 +22,11 @@ use Rattle.dma_chan.specs.Compiled.{compiled, cost}
 use Rattle.dma_chan.specs.Traffic.{burst, member, stored_after, read_places, written_places}
 use Rattle.dma_chan.specs.Layer.{Shared, step_at, StepAgrees, Tells}
 use Rattle.dma_chan.specs.Stepping.{Stand, answer_at, left_at, after_steps, goes_on_after, TakesSteps}
-use Rattle.dma_chan.proofs.SteppedOver.{stands_still, was_moved}
+use Rattle.dma_chan.proofs.SteppedOver.{is_still, was_moved}
 use Rattle.dma_chan.specs.Others.{Misses, Touches, CalledAmongOthers, CallsCopyAmongOthers}
 use Rattle.dma_chan.specs.inner.At.{IsAt}
 use Rattle.dma_chan.proofs.ShapeLaws.{shape_is, stored_is}
-use Rattle.dma_chan.proofs.LayerLaws.{starts_at, step_is, survives, turn_tells}
+use Rattle.dma_chan.proofs.LayerLaws.{starts_at, step_is, survives, turn_reports}
 use Rattle.dma_chan.proofs.CopyAlone.{laid_over, laid_over_none, laid_over_all}
 use Rattle.dma_chan.proofs.OthersKept.{writes_no_other}
 use Rattle.dma_chan.proofs.AmongOthers.{Among, keeps_image, next}
@@ -100,7 +100,7 @@ module _ (t : Descriptor) (marks : MarkList) (first : List ℕ) (h : IsTransfer 
       let m : Shared = record { image = u.image; flags = u.flags } in
       let st = agrees n u w in
       let ends : (step_at t n marks m).0 ≡ Ended = sym st.turn ∙ over in
-      let is_end : member t n ≡ End = subst (λ (x : ChanTurn). Tells t n marks m x) ends (turn_tells t n marks m) in
+      let is_end : member t n ≡ End = subst (λ (x : ChanTurn). Tells t n marks m x) ends (turn_reports t n marks m) in
       let no_store : member t n ≢ St = λ e. let bad : End ≡ St = sym is_end ∙ e in cc in
       let last : n + 1 ≡ cost t = (shape_is t h).end_only n (w.at.within) is_end in
       let place : n ≡ cost t - 1 = omega arith in
@@ -114,7 +114,7 @@ module _ (t : Descriptor) (marks : MarkList) (first : List ℕ) (h : IsTransfer 
       }
 
   still : (n : ℕ) (u : Stand) → Among t first n u.image u.channel → ChangesNothing (answer_at marks u) → Runs t first (left_at marks u)
-  still n u w nothing = (n, subst (λ (v : Stand). Among t first n v.image v.channel) (sym (stands_still marks u nothing)) w)
+  still n u w nothing = (n, subst (λ (v : Stand). Among t first n v.image v.channel) (sym (is_still marks u nothing)) w)
 
   one : (n : ℕ) (u : Stand) (turn : ChanTurn) → Among t first n u.image u.channel → answer_at marks u ≡ turn → Leads t first (Some turn) (left_at marks u)
   one n u Moved w e = (n + 1, moved_on n u w e)
@@ -141,7 +141,7 @@ module _ (t : Descriptor) (marks : MarkList) (first : List ℕ) (h : IsTransfer 
 
   -- where no mark lies at what the transfer touches, the last step of a call doesn't fail
   no_fault : (n : ℕ) (m : Shared) (kind : FaultKind) → Misses marks t → (step_at t n marks m).0 ≢ Fault kind
-  no_fault n m kind none e = told kind (subst (λ (x : ChanTurn). Tells t n marks m x) e (turn_tells t n marks m))
+  no_fault n m kind none e = told kind (subst (λ (x : ChanTurn). Tells t n marks m x) e (turn_reports t n marks m))
     where
       told : (k : FaultKind) → ¬ Tells t n marks m (Fault k)
       told DataReadErr w = let bad : false ≡ true = sym (none_met Reading marks (sources t) (stored_after t n) (burst t n) none.reads) ∙ w.1 in cc

@@ -1,30 +1,24 @@
 -- The limits, as numbers, and a program worked out: rows computed from the definitions, and the code's own constants.
 use Rattle.std.proofs.Common.{◌≡◌, ◌+◌, ◌*◌, ◌^◌, [], ◌∷◌, None, false, refl}
 use Rattle.dma_mem.specs.Places.{Descriptor, filling}
-use Rattle.dma_chan.specs.declared.program.TheConstants.{MAX_BYTES}
+use Rattle.dma_insn.specs.AssemblyText.{most_bytes}
+use Rattle.dma_insn.specs.declared.assembler.TheConstants.{MAX_BYTES}
 use Rattle.dma_chan.specs.declared.bursts.TheConstants.{BUFFER_SIZE}
-use Rattle.dma_chan.specs.declared.compile.TheConstants.{MAX_COMPILED}
 use Rattle.dma_chan.specs.Exec.{buffer_size}
-use Rattle.dma_chan.specs.Compiled.{beat_of, parts, members, cost, compiled}
+use Rattle.dma_chan.specs.Compiled.{beat_of, parts, members, cost, compiled, most_compiled}
 use Rattle.dma_chan.specs.Traffic.{read_len, write_len}
 
 -- ---- the code's constants
 
-most_program_bytes : MAX_BYTES ≡ 8192
+most_program_bytes : MAX_BYTES ≡ most_bytes
 most_program_bytes = refl
 
-most_compiled_bytes : MAX_COMPILED ≡ 7371
-most_compiled_bytes = refl
-
 -- 58 bytes for each of at most 127 pieces, and 5 for the wait, the signal and the end
-compiled_bytes_add_up : 58 * 127 + 5 ≡ 7371
+compiled_bytes_add_up : 58 * 127 + 5 ≡ most_compiled
 compiled_bytes_add_up = refl
 
-buffer_bytes : BUFFER_SIZE ≡ 256
+buffer_bytes : BUFFER_SIZE ≡ buffer_size
 buffer_bytes = refl
-
-buffer_bytes_here : buffer_size ≡ 256
-buffer_bytes_here = refl
 
 -- what a transfer costs is below this
 cost_limit : 2 ^ 19 ≡ 524288

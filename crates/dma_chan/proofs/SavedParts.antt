@@ -87,11 +87,6 @@ pub saved_rest : (c : ChannelValue) → saved c ≡ head_bytes (head_of c) ++ re
 unfolding saved sealed
 saved_rest c = simp append_assoc
 
-pub saved_len : (c : ChannelValue) → length (saved c) ≡ 48 + length c.buffer + length (code_of c) + 4
-saved_len c =
-    let check = to_le_bytes w32 (checksum (head_bytes (head_of c) ++ c.buffer ++ code_of c)) in
-    rw (saved_rest c) (omega (arith, head_len (head_of c), length-append (head_bytes (head_of c)) (rest_of c), length-append c.buffer (code_of c ++ check), length-append (code_of c) check))
-
 -- These bytes have the parts of this channel.
 pub record HasParts (c : ChannelValue) (save : List ℕ) : Type 0 where
   pub fits : FitsIn (length save) (head_of c)

@@ -131,3 +131,7 @@ cost t = length (members t)
 -- The program of a transfer.
 unfoldable pub compiled : Descriptor → ProgramValue
 compiled t = record { bytes = bytes_of (tree_of t); cost = Some (cost t) }
+
+-- the most bytes of a compiled program: 58 for each of 127 pieces, and 5 for the wait, the signal and the end
+abbrev pub most_compiled : ℕ
+most_compiled = 7371

@@ -16,7 +16,9 @@ use Rattle.dma_chan.specs.Others.{Misses, Touches}
 -- marks, and its memory contains the ranges of all transfers. It executes steps of the channel `who k`, whose program
 -- is still loaded, and does not change the other channels. Between two calls others may write any byte that no transfer
 -- reads or writes, change the memory's size, and change the flags in any way.
-pub record CalledInTurn (transfers : ℕ → Descriptor) (count : ℕ) (marks : ℕ → MarkList) (calls : ℕ) (who : ℕ → ℕ) (channels : ℕ → ℕ → ChannelValue) (before after : ℕ → Stand) (last : ℕ → Option ChanTurn) : Type 0 where
+pub record CalledInTurn (transfers : ℕ → Descriptor) (count : ℕ) (marks : ℕ → MarkList) (calls : ℕ)
+    (who : ℕ → ℕ) (channels : ℕ → ℕ → ChannelValue) (before after : ℕ → Stand)
+    (last : ℕ → Option ChanTurn) : Type 0 where
   pub begins : (ch : ℕ) → ch < count → channels 0 ch ≡ loaded (compiled (transfers ch))
   pub within : (k : ℕ) → k < calls → who k < count
   pub finds : (k : ℕ) → k < calls → (before k).channel ≡ channels k (who k)
@@ -37,7 +39,8 @@ pub record AreTogether (transfers : ℕ → Descriptor) (count : ℕ) : Type 0 w
 -- The result of such calls. After a call that ends, the places that its channel's transfer touches have the bytes of
 -- one simultaneous copy of all its bytes, made in the memory before the first call. And a call doesn't fail if none of
 -- its marks lies at a place that its channel's transfer touches.
-pub record CopiesInTurn (transfers : ℕ → Descriptor) (marks : ℕ → MarkList) (calls : ℕ) (who : ℕ → ℕ) (before after : ℕ → Stand) (last : ℕ → Option ChanTurn) : Type 0 where
+pub record CopiesInTurn (transfers : ℕ → Descriptor) (marks : ℕ → MarkList) (calls : ℕ) (who : ℕ → ℕ)
+    (before after : ℕ → Stand) (last : ℕ → Option ChanTurn) : Type 0 where
   pub copies : (k a : ℕ) → k < calls → last k ≡ Some Ended → Touches (transfers (who k)) a →
       slice_index (after k).image a ≡ slice_index (laid (before 0).image (transfers (who k)) (size_of (transfers (who k)))) a
   pub never_fails : (k : ℕ) (kind : FaultKind) → k < calls → Misses (marks k) (transfers (who k)) → last k ≢ Some (Fault kind)

@@ -28,7 +28,8 @@ pub record Misses (marks : MarkList) (t : Descriptor) : Type 0 where
 -- which is executed with these marks and flags and with a memory that contains the transfer's ranges. Between two
 -- instructions others may write any byte that the transfer neither reads nor writes, change the memory's size, and
 -- change the flags and the marks in any way.
-pub record RunsAmongOthers (t : Descriptor) (marks : ℕ → MarkList) (channel : ℕ → ChannelValue) (image : ℕ → List ℕ) (flags : ℕ → List Bool) : Type 0 where
+pub record RunsAmongOthers (t : Descriptor) (marks : ℕ → MarkList) (channel : ℕ → ChannelValue)
+    (image : ℕ → List ℕ) (flags : ℕ → List Bool) : Type 0 where
   pub begins : channel 0 ≡ loaded (compiled t)
   pub below : (n : ℕ) → n < cost t → lies_below t (length (image n)) ≡ true
   pub moves : (n : ℕ) → n + 1 < cost t → (step_of (marks n) (channel n) (image n) (flags n)).0 ≡ Moved
@@ -53,14 +54,16 @@ pub record KeepsOthers (before after : List ℕ) (c : ChannelValue) : Type 0 whe
 -- Each instruction keeps the other bytes.
 abbrev pub WritesNoOther : Type 0
 WritesNoOther =
-    (marks : MarkList) (c : ChannelValue) (image : List ℕ) (flags : List Bool) → KeepsOthers image (step_of marks c image flags).1.image c
+    (marks : MarkList) (c : ChannelValue) (image : List ℕ) (flags : List Bool) →
+    KeepsOthers image (step_of marks c image flags).1.image c
 
 -- ---- by calls, each of which executes several steps
 
 -- Calls on a channel that starts with a transfer's program. Each call has its own marks, its program is loaded, and its
 -- memory contains the transfer's ranges. It executes steps from `before` to `after`. Between two calls others may write
 -- any byte that the transfer neither reads nor writes, change the memory's size, and change the flags in any way.
-pub record CalledAmongOthers (t : Descriptor) (marks : ℕ → MarkList) (calls : ℕ) (before after : ℕ → Stand) (last : ℕ → Option ChanTurn) : Type 0 where
+pub record CalledAmongOthers (t : Descriptor) (marks : ℕ → MarkList) (calls : ℕ) (before after : ℕ → Stand)
+    (last : ℕ → Option ChanTurn) : Type 0 where
   pub begins : (before 0).channel ≡ loaded (compiled t)
   pub is_loaded : (k : ℕ) → k < calls → IsSome (before k).channel.program
   pub below : (k : ℕ) → k < calls → lies_below t (length (before k).image) ≡ true
@@ -73,7 +76,8 @@ pub record CalledAmongOthers (t : Descriptor) (marks : ℕ → MarkList) (calls 
 -- The result of such calls. After a call that ends, every address that the transfer touches has the byte that one
 -- simultaneous copy of all its bytes, made in the memory before the first call, leaves there. And a call doesn't fail
 -- if none of its marks lies at what the transfer touches.
-pub record CallsCopy (t : Descriptor) (marks : ℕ → MarkList) (calls : ℕ) (before after : ℕ → Stand) (last : ℕ → Option ChanTurn) : Type 0 where
+pub record CallsCopy (t : Descriptor) (marks : ℕ → MarkList) (calls : ℕ) (before after : ℕ → Stand)
+    (last : ℕ → Option ChanTurn) : Type 0 where
   pub copies : (k a : ℕ) → k < calls → last k ≡ Some Ended → Touches t a →
       slice_index (after k).image a ≡ slice_index (laid (before 0).image t (size_of t)) a
   pub never_fails : (k : ℕ) (kind : FaultKind) → k < calls → Misses (marks k) t → last k ≢ Some (Fault kind)

@@ -1,5 +1,6 @@
 -- The bytes of a saved channel. Numbers of several bytes are little-endian.
 use Rattle.std.specs.Prelude.{◌≡◌, ℕ, ◌+◌, ◌*◌, ◌%◌, ◌^◌, ◌<◌, ◌≤◌, IsTrue, is_some, unwrap_or, List, [], ◌∷◌, ◌++◌, length, slice_index, Option, Some, None, IfSome}
+use Rattle.dma_insn.specs.AssemblyText.{most_bytes}
 use Rattle.std.specs.Int.{w16, w32, w64, to_le_bytes}
 use Rattle.dma_insn.specs.ControlWord.{flag, is_control}
 use Rattle.dma_chan.specs.declared.exec.Registers.{Registers}
@@ -26,7 +27,7 @@ pub record HasRegisterRanges (r : Registers) : Type 0 where
 -- A program has at most 8,192 bytes, each of them a byte value. The offset of the next instruction is in it or at its
 -- end, and its cost fits 32 bits.
 pub record IsLoadedAt (pc : ℕ) (p : ProgramValue) : Type 0 where
-  pub limit : length p.bytes ≤ 8192
+  pub limit : length p.bytes ≤ most_bytes
   pub bytes : AreBytes p.bytes
   pub offset : pc ≤ length p.bytes
   pub cost : IfSome p.cost (λ n. n < 2 ^ 32)
@@ -115,3 +116,7 @@ saved c = sealed (head_bytes (head_of c) ++ c.buffer ++ code_of c)
 -- The bytes are the save of a channel.
 abbrev pub IsSave : List ℕ → Type 0
 IsSave save = (c : ChannelValue) × IsChannelValue c × (save ≡ saved c)
+
+-- the most bytes of a save: 48 of the head, 256 of the buffer, 8,192 of the program and 4 of the checksum
+abbrev pub most_saved : ℕ
+most_saved = 8500

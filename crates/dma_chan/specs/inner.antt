@@ -7,3 +7,4 @@ pub mod At
 pub mod Spans
 pub mod Compiling
 pub mod Blocks
+pub mod Acts

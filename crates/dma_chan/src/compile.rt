@@ -4,22 +4,19 @@ ghost use Rattle.std.specs.Prelude.{ℕ, ◌≡◌, ◌+◌, ◌-◌, ◌*◌, �
 ghost use Rattle.dma_insn.specs.Spelling.{spelling};
 ghost use Rattle.dma_insn.specs.ControlWord.{beat_bytes};
 ghost use Rattle.dma_chan.specs.Tree.{bytes_of, in_order, Repeat};
-ghost use Rattle.dma_chan.specs.inner.Compiling.{cost_of};
-ghost use Rattle.dma_chan.specs.Compiled.{where_some, body, bursts, under, fits, beat_of, control_word, parts, piece_tree, wait_tree, signal_tree, tree_of, cost, compiled, pieces_of};
+ghost use Rattle.dma_chan.specs.inner.Compiling.{Appends, cost_of, word_of};
+ghost use Rattle.dma_chan.specs.Compiled.{where_some, body, bursts, under, fits, beat_of, parts, piece_tree, wait_tree, signal_tree, tree_of, cost, compiled, pieces_of, most_compiled};
+ghost use Rattle.dma_mem.specs.Places.{last_event};
 ghost use Rattle.dma_mem.specs.Rules.{IsTransfer};
 
 use crate::pieces::{Piece, pieces_of};
 use crate::program::Program;
 use dma_insn::codec::encode;
-use dma_insn::control::{BeatSize, Beats, BurstEnd, Cache, Control, Protection};
+use dma_insn::control::{Attribute, BeatSize, Beats, BurstEnd, Control};
 use dma_insn::insn::{Counter, Event, Insn, Reg, Times};
 use dma_mem::transfer::Transfer;
 use std::alloc::{AllocError, Global};
 use thiserror::Error;
-
-/// The most bytes that the program of a transfer has: 58 for each of at most 127 pieces, plus the wait, the signal and
-/// the end.
-pub const MAX_COMPILED: usize = 7371;
 
 // The most bytes of a piece's code.
 const PIECE_BYTES: usize = 58;
@@ -54,13 +51,12 @@ impl From<AllocError> for NoMemory {
 #[tactic(auto, unfolding(crate::specs::Compiled::compiled))]
 pub fn compile(alloc: Global, transfer: &Transfer) -> Result<Program, NoMemory>
     ensures program { IfOk result (λ program. program ≡ compiled transfer.now) }
-    ensures limit { IfOk result (λ program. length program.bytes ≤ 7371) }
-    ensures constant { MAX_COMPILED ≡ 7371 }
+    ensures limit { IfOk result (λ program. length program.bytes ≤ most_compiled) }
 {
     let pieces = pieces_of(alloc, transfer)?;
     let code = code_of(alloc, transfer, &pieces)?;
     let cost = cost_of(transfer, &pieces);
-    Ok(Program::of_compiled(code, cost))
+    Ok(Program::of_vec(code, Some(cost)))
 }
 
 // Returns the bytes of a transfer's code, from its pieces. Room for all bytes is allocated first.
@@ -102,26 +98,20 @@ fn event_cost(event: Option<u8>) -> u32
 
 // Appends the wait, if the transfer has one.
 fn push_wait(code: &mut Vec<u8>, wait: Option<u8>) -> Result<(), AllocError>
-    requires { IfSome wait (λ event. event ≤ 31) }
-    ensures ok { OnOk result (code.new.items ≡ code.old.items ++ bytes_of (wait_tree wait)) }
+    requires { IfSome wait (λ event. event ≤ last_event) }
+    ensures ok { OnOk result (Appends code.old.items code.new.items (wait_tree wait)) }
 {
     let Some(number) = wait else {
         return Ok(());
     };
-    let event = Event::of_number(number);
-    push(
-        code,
-        Insn::Wfe {
-            event,
-            invalid: false,
-        },
-    )
+    let (event, invalid) = (Event::of_number(number), false);
+    push(code, Insn::Wfe { event, invalid })
 }
 
 // Appends the signal, if the transfer has one.
 fn push_signal(code: &mut Vec<u8>, signal: Option<u8>) -> Result<(), AllocError>
-    requires { IfSome signal (λ event. event ≤ 31) }
-    ensures ok { OnOk result (code.new.items ≡ code.old.items ++ bytes_of (signal_tree signal)) }
+    requires { IfSome signal (λ event. event ≤ last_event) }
+    ensures ok { OnOk result (Appends code.old.items code.new.items (signal_tree signal)) }
 {
     let Some(number) = signal else {
         return Ok(());
@@ -132,7 +122,8 @@ fn push_signal(code: &mut Vec<u8>, signal: Option<u8>) -> Result<(), AllocError>
 // Appends the code of the pieces, in order.
 fn push_pieces(code: &mut Vec<u8>, pieces: &[Piece]) -> Result<(), AllocError>
     requires { All (λ p. p.len ≤ 2 ^ 20) pieces.now }
-    ensures ok { OnOk result (code.new.items ≡ code.old.items ++ bytes_of (in_order (map piece_tree pieces.now))) }
+    ensures ok { OnOk result (Appends code.old.items code.new.items
+        (in_order (map piece_tree pieces.now))) }
 {
     for piece in pieces {
         push_piece(code, *piece)?;
@@ -143,7 +134,7 @@ fn push_pieces(code: &mut Vec<u8>, pieces: &[Piece]) -> Result<(), AllocError>
 // Appends the code of a piece.
 fn push_piece(code: &mut Vec<u8>, piece: Piece) -> Result<(), AllocError>
     requires { piece.len ≤ 2 ^ 20 }
-    ensures ok { OnOk result (code.new.items ≡ code.old.items ++ bytes_of (piece_tree piece)) }
+    ensures ok { OnOk result (Appends code.old.items code.new.items (piece_tree piece)) }
 {
     let beat = Beat {
         size: beat_of(piece),
@@ -159,7 +150,8 @@ fn push_piece(code: &mut Vec<u8>, piece: Piece) -> Result<(), AllocError>
 #[tactic(auto, unfolding(crate::specs::Compiled::parts))]
 fn push_parts(code: &mut Vec<u8>, beat: Beat, len: u32) -> Result<(), AllocError>
     requires { len ≤ 2 ^ 20 }
-    ensures ok { OnOk result (code.new.items ≡ code.old.items ++ bytes_of (parts (not beat.source_rises) (beat_bytes beat.size) len)) }
+    ensures ok { OnOk result (Appends code.old.items code.new.items
+        (parts (not beat.source_rises) (beat_bytes beat.size) len)) }
 {
     let bytes = beat.size.bytes();
     let whole = 16 * bytes;
@@ -170,15 +162,15 @@ fn push_parts(code: &mut Vec<u8>, beat: Beat, len: u32) -> Result<(), AllocError
     };
     push_whole_bursts(code, beat, len / whole)?;
     push_burst(code, beat, left / bytes)?;
-    push_burst(code, tail, left % bytes)?;
-    Ok(())
+    push_burst(code, tail, left % bytes)
 }
 
 // Appends `count` bursts of 16 beats under their control word, or nothing if `count` is 0.
 #[tactic(auto, using(crate::proofs::TreeParts::where_some_there, crate::proofs::TreeParts::where_some_none))]
 fn push_whole_bursts(code: &mut Vec<u8>, beat: Beat, count: u32) -> Result<(), AllocError>
     requires { count ≤ 65536 }
-    ensures ok { OnOk result (code.new.items ≡ code.old.items ++ bytes_of (where_some count (under (control_word (not beat.source_rises) (beat_bytes beat.size) 16) (bursts count)))) }
+    ensures ok { OnOk result (Appends code.old.items code.new.items
+        (where_some count (under (word_of beat 16) (bursts count)))) }
 {
     if count == 0 {
         return Ok(());
@@ -190,46 +182,35 @@ fn push_whole_bursts(code: &mut Vec<u8>, beat: Beat, count: u32) -> Result<(), A
 // Appends `count` bursts.
 fn push_bursts(code: &mut Vec<u8>, count: u32) -> Result<(), AllocError>
     requires { count ≤ 65536 }
-    ensures ok { OnOk result (code.new.items ≡ code.old.items ++ bytes_of (bursts count)) }
+    ensures ok { OnOk result (Appends code.old.items code.new.items (bursts count)) }
 {
     push_nested_loop(code, (count / 256) as u16)?;
-    push_rest(code, (count % 256) as u16)?;
-    Ok(())
+    push_rest(code, (count % 256) as u16)
 }
 
 // Appends `turns` rounds of 256 bursts as nested loops, or nothing if `turns` is 0.
 #[tactic(auto, using(crate::proofs::TreeParts::where_some_there, crate::proofs::TreeParts::where_some_none))]
 fn push_nested_loop(code: &mut Vec<u8>, turns: u16) -> Result<(), AllocError>
     requires { turns ≤ 256 }
-    ensures ok { OnOk result (code.new.items ≡ code.old.items ++ bytes_of (where_some turns (Repeat Counter.Lc0 turns (Repeat Counter.Lc1 256 body)))) }
+    ensures ok { OnOk result (Appends code.old.items code.new.items
+        (where_some turns (Repeat Counter.Lc0 turns (Repeat Counter.Lc1 256 body)))) }
 {
     if turns == 0 {
         return Ok(());
     }
     let times = Times::of_number(turns);
-    push(
-        code,
-        Insn::Lp {
-            counter: Counter::Lc0,
-            times,
-        },
-    )?;
+    let counter = Counter::Lc0;
+    push(code, Insn::Lp { counter, times })?;
     push_loop(code, 256)?;
-    push(
-        code,
-        Insn::LpEnd {
-            counter: Counter::Lc0,
-            back: 8,
-        },
-    )?;
-    Ok(())
+    push(code, Insn::LpEnd { counter, back: 8 })
 }
 
 // Appends a loop of `rest` bursts, or nothing if `rest` is 0.
 #[tactic(auto, using(crate::proofs::TreeParts::where_some_there, crate::proofs::TreeParts::where_some_none))]
 fn push_rest(code: &mut Vec<u8>, rest: u16) -> Result<(), AllocError>
     requires { rest ≤ 256 }
-    ensures ok { OnOk result (code.new.items ≡ code.old.items ++ bytes_of (where_some rest (Repeat Counter.Lc1 rest body))) }
+    ensures ok { OnOk result (Appends code.old.items code.new.items
+        (where_some rest (Repeat Counter.Lc1 rest body))) }
 {
     if rest == 0 {
         return Ok(());
@@ -241,32 +222,22 @@ fn push_rest(code: &mut Vec<u8>, rest: u16) -> Result<(), AllocError>
 fn push_loop(code: &mut Vec<u8>, turns: u16) -> Result<(), AllocError>
     requires low { 1 ≤ turns }
     requires high { turns ≤ 256 }
-    ensures ok { OnOk result (code.new.items ≡ code.old.items ++ bytes_of (Repeat Counter.Lc1 turns body)) }
+    ensures ok { OnOk result (Appends code.old.items code.new.items
+        (Repeat Counter.Lc1 turns body)) }
 {
     let times = Times::of_number(turns);
-    push(
-        code,
-        Insn::Lp {
-            counter: Counter::Lc1,
-            times,
-        },
-    )?;
+    let counter = Counter::Lc1;
+    push(code, Insn::Lp { counter, times })?;
     push_body(code)?;
-    push(
-        code,
-        Insn::LpEnd {
-            counter: Counter::Lc1,
-            back: 4,
-        },
-    )?;
-    Ok(())
+    push(code, Insn::LpEnd { counter, back: 4 })
 }
 
 // Appends one burst of this number of beats under its control word, or nothing if the number is 0.
 #[tactic(auto, using(crate::proofs::TreeParts::where_some_there, crate::proofs::TreeParts::where_some_none))]
 fn push_burst(code: &mut Vec<u8>, beat: Beat, beats: u32) -> Result<(), AllocError>
     requires { beats ≤ 16 }
-    ensures ok { OnOk result (code.new.items ≡ code.old.items ++ bytes_of (where_some beats (under (control_word (not beat.source_rises) (beat_bytes beat.size) beats) body))) }
+    ensures ok { OnOk result (Appends code.old.items code.new.items
+        (where_some beats (under (word_of beat beats) body))) }
 {
     if beats == 0 {
         return Ok(());
@@ -277,13 +248,12 @@ fn push_burst(code: &mut Vec<u8>, beat: Beat, beats: u32) -> Result<(), AllocErr
 
 // Appends the instructions that read and write one burst.
 fn push_body(code: &mut Vec<u8>) -> Result<(), AllocError>
-    ensures ok { OnOk result (code.new.items ≡ code.old.items ++ bytes_of body) }
+    ensures ok { OnOk result (Appends code.old.items code.new.items body) }
 {
     push(code, Insn::Ld)?;
     push(code, Insn::Rmb)?;
     push(code, Insn::St)?;
-    push(code, Insn::Wmb)?;
-    Ok(())
+    push(code, Insn::Wmb)
 }
 
 // Appends an instruction's bytes.
@@ -331,14 +301,14 @@ fn beat_of(piece: Piece) -> BeatSize
 fn control_word(beat: Beat, beats: u32) -> u32
     requires low { 1 ≤ beats }
     requires high { beats ≤ 16 }
-    ensures { result ≡ control_word (not beat.source_rises) (beat_bytes beat.size) beats }
+    ensures { result ≡ word_of beat beats }
 {
     let dst = BurstEnd {
         increments: true,
         size: beat.size,
         beats: Beats::of_number(beats as u8),
-        protection: Protection::of_code(0),
-        cache: Cache::of_code(0),
+        protection: Attribute::of_code(0),
+        cache: Attribute::of_code(0),
     };
     let src = BurstEnd {
         increments: beat.source_rises,

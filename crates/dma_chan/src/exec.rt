@@ -1,13 +1,13 @@
 //! The registers of a channel, and the execution of one instruction.
 
-ghost use Rattle.std.specs.Prelude.{◌≡◌, ℕ, ◌+◌, ◌-◌, ◌≤◌, ◌<◌, Bool, IsTrue, IfSome, IsNone, List, length, Ok};
+ghost use Rattle.std.specs.Prelude.{◌≡◌, ◌+◌, ◌-◌, ◌≤◌, ◌<◌, IsTrue, IsNone, length, Ok};
+ghost use Rattle.dma_insn.specs.AssemblyText.{most_bytes};
 ghost use Rattle.dma_insn.specs.Spelling.{spelling};
 ghost use Rattle.dma_insn.specs.declared.insn.Insn.TheVariants.{Mov, Lp, LpEnd, Sev, Wfe};
-ghost use Rattle.dma_chan.specs.Exec.{counter_of, act, fault_in, faults, state};
-ghost use Rattle.dma_chan.specs.declared.exec.Registers.{Registers};
+ghost use Rattle.dma_chan.specs.Exec.{buffer_size, counter_of, act, state};
+ghost use Rattle.dma_chan.specs.inner.Acts.{FaultsAnywhere, FaultsAt, FaultsWith, SetsFlags, SetsRegisters};
 ghost use Rattle.dma_chan.specs.Ready.{finds_pages};
 ghost use Rattle.dma_mem.specs.Lent.{with_gaps};
-ghost use Rattle.dma_mem.specs.Marking.{MarkList};
 
 use crate::bursts::{load_burst, load_fault, store_burst, store_fault};
 use crate::turn::{ChanTurn, FaultKind};
@@ -50,7 +50,7 @@ impl Registers {
 
 // Returns the fault of DMAMOV: `OperandInvalid` for a control word that isn't accepted, else `None`.
 fn set_fault(reg: Reg, value: u32) -> Option<FaultKind>
-    ensures { (marks : MarkList) (r : Registers) (buffer image : List ℕ) (flags : List Bool) → result ≡ fault_in (act marks (Mov reg value) (state r buffer image flags)).0 }
+    ensures { FaultsAnywhere (Mov reg value) result }
 {
     match reg {
         Reg::Sar => None,
@@ -67,8 +67,8 @@ fn set_fault(reg: Reg, value: u32) -> Option<FaultKind>
 // Executes DMAMOV, whose encoding has `len` bytes.
 fn set_register(reg: Reg, value: u32, len: u32, registers: &mut Registers) -> ChanTurn
     requires len { len ≡ length (spelling (Mov reg value)) }
-    requires pc { registers.old.pc + len ≤ 8192 }
-    ensures exact { (marks : MarkList) (buffer image : List ℕ) (flags : List Bool) → act marks (Mov reg value) (state registers.old buffer image flags) ≡ (result, state registers.new buffer image flags) }
+    requires pc { registers.old.pc + len ≤ most_bytes }
+    ensures exact { SetsRegisters (Mov reg value) registers.old result registers.new }
     ensures pc { registers.new.pc ≤ registers.old.pc + len }
 {
     match reg {
@@ -87,8 +87,8 @@ fn set_register(reg: Reg, value: u32, len: u32, registers: &mut Registers) -> Ch
 
 // Executes DMALP.
 fn begin_loop(counter: Counter, times: Times, registers: &mut Registers) -> ChanTurn
-    requires pc { registers.old.pc + 2 ≤ 8192 }
-    ensures exact { (marks : MarkList) (buffer image : List ℕ) (flags : List Bool) → act marks (Lp counter times) (state registers.old buffer image flags) ≡ (result, state registers.new buffer image flags) }
+    requires pc { registers.old.pc + 2 ≤ most_bytes }
+    ensures exact { SetsRegisters (Lp counter times) registers.old result registers.new }
     ensures pc { registers.new.pc ≤ registers.old.pc + 2 }
 {
     let again = (times.number() - 1) as u8;
@@ -112,9 +112,9 @@ fn counter_of(counter: Counter, registers: &Registers) -> u8
 
 // Returns the fault of DMALPEND: `InstrFetchErr` if it jumps to before the program's start, else `None`.
 fn jump_fault(counter: Counter, back: u8, registers: &Registers) -> Option<FaultKind>
-    ensures told { (marks : MarkList) (buffer image : List ℕ) (flags : List Bool) → result ≡ fault_in (act marks (LpEnd counter back) (state registers.now buffer image flags)).0 }
-    ensures still { IfSome result (λ kind. (marks : MarkList) (buffer image : List ℕ) (flags : List Bool) → act marks (LpEnd counter back) (state registers.now buffer image flags) ≡ faults kind (state registers.now buffer image flags)) }
-    ensures within { IsNone result → 0 < counter_of counter registers.now → back ≤ registers.now.pc }
+    ensures fault { FaultsAt (LpEnd counter back) registers.now result }
+    ensures within { IsNone result
+        → 0 < counter_of counter registers.now → back ≤ registers.now.pc }
 {
     let count = counter_of(counter, registers);
     if count > 0 && registers.pc < u32::from(back) {
@@ -126,8 +126,8 @@ fn jump_fault(counter: Counter, back: u8, registers: &Registers) -> Option<Fault
 // Executes DMALPEND.
 #[tactic(auto, using(crate::proofs::LoopEnds::looped_again))]
 fn end_loop(counter: Counter, back: u8, registers: &mut Registers) -> ChanTurn
-    requires pc { registers.old.pc + 2 ≤ 8192 }
-    ensures exact { (marks : MarkList) (buffer image : List ℕ) (flags : List Bool) → act marks (LpEnd counter back) (state registers.old buffer image flags) ≡ (result, state registers.new buffer image flags) }
+    requires pc { registers.old.pc + 2 ≤ most_bytes }
+    ensures exact { SetsRegisters (LpEnd counter back) registers.old result registers.new }
     ensures pc { registers.new.pc ≤ registers.old.pc + 2 }
 {
     if let Some(kind) = jump_fault(counter, back, registers) {
@@ -148,8 +148,8 @@ fn end_loop(counter: Counter, back: u8, registers: &mut Registers) -> ChanTurn
 
 // Executes DMASEV.
 fn signal(event: Event, registers: &mut Registers, events: &mut Events) -> ChanTurn
-    requires pc { registers.old.pc + 2 ≤ 8192 }
-    ensures exact { (marks : MarkList) (buffer image : List ℕ) → act marks (Sev event) (state registers.old buffer image events.old) ≡ (result, state registers.new buffer image events.new) }
+    requires pc { registers.old.pc + 2 ≤ most_bytes }
+    ensures exact { SetsFlags (Sev event) registers.old events.old result registers.new events.new }
     ensures pc { registers.new.pc ≤ registers.old.pc + 2 }
 {
     events.set(event.number());
@@ -159,8 +159,9 @@ fn signal(event: Event, registers: &mut Registers, events: &mut Events) -> ChanT
 
 // Executes DMAWFE.
 fn wait(event: Event, invalid: bool, registers: &mut Registers, events: &mut Events) -> ChanTurn
-    requires pc { registers.old.pc + 2 ≤ 8192 }
-    ensures exact { (marks : MarkList) (buffer image : List ℕ) → act marks (Wfe event invalid) (state registers.old buffer image events.old) ≡ (result, state registers.new buffer image events.new) }
+    requires pc { registers.old.pc + 2 ≤ most_bytes }
+    ensures exact { SetsFlags (Wfe event invalid) registers.old events.old result
+        registers.new events.new }
     ensures pc { registers.new.pc ≤ registers.old.pc + 2 }
 {
     let number = event.number();
@@ -174,7 +175,7 @@ fn wait(event: Event, invalid: bool, registers: &mut Registers, events: &mut Eve
 
 // Executes an instruction whose only effect is to advance `pc`.
 fn go_on(registers: &mut Registers) -> ChanTurn
-    requires { registers.old.pc + 1 ≤ 8192 }
+    requires { registers.old.pc + 1 ≤ most_bytes }
     ensures turn { result ≡ ChanTurn.Moved }
     ensures registers { registers.new ≡ record (registers.old) { pc = registers.old.pc + 1 } }
 {
@@ -194,13 +195,15 @@ pub(crate) fn execute<M: Ram>(
     marks: &Marks,
 ) -> ChanTurn
     requires len { len ≡ length (spelling insn) }
-    requires pc { registers.old.pc + len ≤ 8192 }
-    requires capacity { buffer.old.capacity ≡ 256 }
-    requires block { length block.old ≡ 256 }
+    requires pc { registers.old.pc + len ≤ most_bytes }
+    requires capacity { buffer.old.capacity ≡ buffer_size }
+    requires block { length block.old ≡ buffer_size }
     requires ready { IsTrue (finds_pages (Ok insn) registers.old (M.paged memory.old)) }
-    ensures exact { act (with_gaps (M.loan memory.old) marks.now) insn (state registers.old buffer.old.items (M.paged memory.old).image events.old) ≡ (result, state registers.new buffer.new.items (M.paged memory.new).image events.new) }
+    ensures exact { act (with_gaps (M.loan memory.old) marks.now) insn
+        (state registers.old buffer.old.items (M.paged memory.old).image events.old)
+        ≡ (result, state registers.new buffer.new.items (M.paged memory.new).image events.new) }
     ensures pages { (M.paged memory.new).made ≡ (M.paged memory.old).made }
-    ensures capacity { buffer.new.capacity ≡ 256 }
+    ensures capacity { buffer.new.capacity ≡ buffer_size }
     ensures pc { registers.new.pc ≤ registers.old.pc + len }
     ensures loan { M.loan memory.new ≡ M.loan memory.old }
 {
@@ -227,8 +230,9 @@ pub(crate) fn fault_of<M: Ram>(
     memory: &M,
     marks: &Marks,
 ) -> Option<FaultKind>
-    requires capacity { buffer.now.capacity ≡ 256 }
-    ensures { (flags : List Bool) → result ≡ fault_in (act (with_gaps (M.loan memory.now) marks.now) insn (state registers.now buffer.now.items (M.paged memory.now).image flags)).0 }
+    requires capacity { buffer.now.capacity ≡ buffer_size }
+    ensures { FaultsWith (with_gaps (M.loan memory.now) marks.now) insn registers.now
+        buffer.now.items (M.paged memory.now).image result }
 {
     match insn {
         Insn::Mov(reg, value) => set_fault(reg, value),

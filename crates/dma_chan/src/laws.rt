@@ -1,6 +1,6 @@
 //! Laws of transfers' programs. Each law is the postcondition of a function that does nothing.
 
-ghost use Rattle.dma_chan.specs.Layer.{StartsAt, AheadIs, LeftIs, StepIs, TurnTells, Survives, ShapeIs, CostIs, StoredIs, CopiesAlone};
+ghost use Rattle.dma_chan.specs.Layer.{StartsAt, AheadIs, LeftIs, StepIs, TurnReports, Survives, ShapeIs, CostIs, StoredIs, CopiesAlone};
 ghost use Rattle.dma_chan.specs.InTurn.{ChannelsCopyInTurn};
 ghost use Rattle.dma_chan.specs.LentRegions.{GapsMiss};
 ghost use Rattle.dma_chan.specs.Others.{CallsCopyAmongOthers, CopiesAmongOthers, WritesNoOther};
@@ -12,7 +12,7 @@ pub fn runs_in_step()
     ensures ahead { AheadIs }
     ensures left { LeftIs }
     ensures step { StepIs }
-    ensures tells { TurnTells }
+    ensures tells { TurnReports }
     ensures survives { Survives }
 {}
 

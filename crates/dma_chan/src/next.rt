@@ -1,6 +1,7 @@
 //! The instruction at an offset of a program.
 
 ghost use Rattle.std.specs.Prelude.{◌≡◌, ◌≤◌, length};
+ghost use Rattle.dma_insn.specs.AssemblyText.{most_bytes};
 ghost use Rattle.dma_insn.specs.Spelling.{spelling};
 ghost use Rattle.dma_chan.specs.Next.{fetch_fault, next_of};
 
@@ -49,7 +50,7 @@ impl Next {
     #[inline(always)]
     pub(crate) fn at(program: &[u8], pc: u32) -> Result<Next, FaultKind>
         requires offset { pc ≤ length program.now }
-        requires limit { length program.now ≤ 8192 }
+        requires limit { length program.now ≤ most_bytes }
         ensures { result ≡ next_of program.now pc }
     {
         match decode(&program[pc as usize..]) {

@@ -85,7 +85,8 @@ fn cut_from(
     requires sources { AllByRecursion IsRange (src ∷ sources.now) }
     requires destinations { AllByRecursion IsRange (dst ∷ destinations.now) }
     requires totals { byte_count (src ∷ sources.now) ≡ byte_count (dst ∷ destinations.now) }
-    ensures ok { OnOk result (out.new.items ≡ out.old.items ++ pieces (src ∷ sources.now) (dst ∷ destinations.now)) }
+    ensures ok { OnOk result (out.new.items
+        ≡ out.old.items ++ pieces (src ∷ sources.now) (dst ∷ destinations.now)) }
 {
     let len = src.len.min(dst.len);
     out.push(Piece {

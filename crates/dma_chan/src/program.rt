@@ -1,13 +1,13 @@
 //! Programs.
 
-ghost use Rattle.std.specs.Prelude.{◌≡◌, ◌≤◌, ◌<◌, length, nat_lt, if◌then◌else◌, None, Some, IfOk, IfErr, OnOk, vec_capacity};
+ghost use Rattle.std.specs.Prelude.{◌≡◌, ◌≤◌, ◌<◌, length, None, Some, IfOk, IfErr, OnOk, vec_capacity};
+ghost use Rattle.dma_insn.specs.AssemblyText.{most_bytes};
+ghost use Rattle.dma_chan.specs.Programs.{program_fault};
 
+pub use dma_insn::assembler::MAX_BYTES;
 use std::alloc::Global;
 use std::marker::Model;
 use thiserror::Error;
-
-/// The most bytes that a program has (profile).
-pub const MAX_BYTES: usize = 8192;
 
 /// Why bytes aren't accepted as a program.
 #[derive(Clone, Copy, Debug, PartialEq, Eq, Error)]
@@ -44,24 +44,20 @@ impl Program {
     /// The error is `ProgramTooLong` above [`MAX_BYTES`], else `NoMemory`.
     pub fn from_bytes(alloc: Global, bytes: &[u8]) -> Result<Program, ProgramFault>
         ensures ok { IfOk result (λ program. program ≡ record { bytes = bytes.now; cost = None }) }
-        ensures fits { OnOk result (length bytes.now ≤ 8192) }
-        ensures err { IfErr result (λ fault. fault ≡ (if nat_lt 8192 (length bytes.now) then ProgramFault.ProgramTooLong else ProgramFault.NoMemory)) }
+        ensures fits { OnOk result (length bytes.now ≤ most_bytes) }
+        ensures err { IfErr result (λ fault. fault ≡ program_fault bytes.now) }
     {
         if bytes.len() > MAX_BYTES {
             return Err(ProgramFault::ProgramTooLong);
         }
         let bytes = Vec::from_slice(alloc, bytes).map_err(|_| ProgramFault::NoMemory)?;
-        Ok(Program {
-            bytes,
-            cost: None,
-            in_room: false,
-        })
+        Ok(Program::of_vec(bytes, None))
     }
 
     // Returns the program of these bytes, stored in a channel's room. It has no cost.
     pub(crate) fn in_room(mut room: Vec<u8>, bytes: &[u8]) -> Program
-        requires room { 8192 ≤ vec_capacity room }
-        requires fits { length bytes.now ≤ 8192 }
+        requires room { most_bytes ≤ vec_capacity room }
+        requires fits { length bytes.now ≤ most_bytes }
         ensures { result ≡ record { bytes = bytes.now; cost = None } }
     {
         room.clear();
@@ -77,7 +73,7 @@ impl Program {
 
     // Returns the channel's room that holds the program. The error is the program, if it is in no room.
     pub(crate) fn into_room(self) -> Result<Vec<u8>, Program>
-        ensures room { IfOk result (λ room. 8192 ≤ vec_capacity room) }
+        ensures room { IfOk result (λ room. most_bytes ≤ vec_capacity room) }
         ensures none { IfErr result (λ program. program ≡ self) }
     {
         if self.in_room {
@@ -91,21 +87,17 @@ impl Program {
     pub(crate) fn with_cost(self, cost: Option<u32>) -> Program
         ensures { result ≡ record self { cost = cost } }
     {
-        Program {
-            bytes: self.bytes,
-            cost,
-            in_room: self.in_room,
-        }
+        Program { cost, ..self }
     }
 
-    // Returns the program that the compiler made, with its cost.
-    pub(crate) fn of_compiled(bytes: Vec<u8>, cost: u32) -> Program
-        requires { length bytes.items ≤ 8192 }
-        ensures { result ≡ record { bytes = bytes.items; cost = Some cost } }
+    // Returns the program of these bytes, with this cost.
+    pub(crate) fn of_vec(bytes: Vec<u8>, cost: Option<u32>) -> Program
+        requires { length bytes.items ≤ most_bytes }
+        ensures { result ≡ record { bytes = bytes.items; cost = cost } }
     {
         Program {
             bytes,
-            cost: Some(cost),
+            cost,
             in_room: false,
         }
     }
@@ -113,7 +105,7 @@ impl Program {
     /// Returns the bytes of the program.
     pub fn bytes(&self) -> &[u8]
         ensures value { result.now ≡ self.now.bytes }
-        ensures limit { length result.now ≤ 8192 }
+        ensures limit { length result.now ≤ most_bytes }
     {
         self.bytes.as_slice()
     }

@@ -1,11 +1,10 @@
 //! Runs a program alone.
 
-ghost use Rattle.std.specs.Prelude.{◌≡◌, ◌≤◌, ℕ, [], length, nat_lt, if◌then◌else◌, true, IfOk, IfErr, OnOk};
-ghost use Rattle.dma_mem.specs.Lent.{with_gaps};
-ghost use Rattle.dma_mem.specs.Pages.{has_page};
-ghost use Rattle.dma_chan.specs.Run.{RunsOver};
+ghost use Rattle.std.specs.Prelude.{◌≡◌, ◌≤◌, length, nat_lt, if◌then◌else◌, IfOk, IfErr, OnOk};
+ghost use Rattle.dma_insn.specs.AssemblyText.{most_bytes};
+ghost use Rattle.dma_chan.specs.Run.{RunsOver, gap_marks};
 ghost use Rattle.dma_chan.specs.Fails.{RunFails};
-ghost use Rattle.dma_chan.specs.RunPages.{MakesForStores};
+ghost use Rattle.dma_chan.specs.RunPages.{KeepsPages, MakesForStores};
 
 use crate::channel::Channel;
 use crate::program::{Program, ProgramFault};
@@ -47,8 +46,9 @@ pub enum RunFault {
 // Returns the program of these bytes.
 fn program_of(alloc: Global, bytes: &[u8]) -> Result<Program, RunFault>
     ensures ok { IfOk result (λ program. program.bytes ≡ bytes.now) }
-    ensures fits { OnOk result (length bytes.now ≤ 8192) }
-    ensures err { IfErr result (λ fault. fault ≡ (if nat_lt 8192 (length bytes.now) then RunFault.ProgramTooLong else RunFault.NoMemory)) }
+    ensures fits { OnOk result (length bytes.now ≤ most_bytes) }
+    ensures err { IfErr result (λ fault. fault ≡ (if nat_lt most_bytes (length bytes.now)
+        then RunFault.ProgramTooLong else RunFault.NoMemory)) }
 {
     match Program::from_bytes(alloc, bytes) {
         Ok(program) => Ok(program),
@@ -65,11 +65,13 @@ fn run_on<M: Ram>(
     memory: &mut M,
     limit: u32,
 ) -> Result<RunEnd, RunFault>
-    requires { length program.bytes ≤ 8192 }
-    ensures ok { IfOk result (λ how. RunsOver (with_gaps (M.loan memory.old) []) program.bytes (M.paged memory.old).image limit how (M.paged memory.new).image) }
-    ensures err { IfErr result (λ fault. RunFails (with_gaps (M.loan memory.old) []) program.bytes (M.paged memory.old) limit fault (M.paged memory.new)) }
-    ensures pages { (p : ℕ) → has_page (M.paged memory.old) p ≡ true → has_page (M.paged memory.new) p ≡ true }
-    ensures others { MakesForStores (with_gaps (M.loan memory.old) []) program.bytes limit result
+    requires { length program.bytes ≤ most_bytes }
+    ensures ok { IfOk result (λ how. RunsOver (gap_marks (M.loan memory.old)) program.bytes
+        (M.paged memory.old).image limit how (M.paged memory.new).image) }
+    ensures err { IfErr result (λ fault. RunFails (gap_marks (M.loan memory.old)) program.bytes
+        (M.paged memory.old) limit fault (M.paged memory.new)) }
+    ensures pages { KeepsPages (M.paged memory.old) (M.paged memory.new) }
+    ensures others { MakesForStores (gap_marks (M.loan memory.old)) program.bytes limit result
         (M.paged memory.old) (M.paged memory.new) }
     ensures loan { M.loan memory.new ≡ M.loan memory.old }
 {
@@ -111,11 +113,13 @@ pub fn run_program<M: Ram>(
     memory: &mut M,
     limit: u32,
 ) -> Result<RunEnd, RunFault>
-    ensures ok { IfOk result (λ how. RunsOver (with_gaps (M.loan memory.old) []) bytes.now (M.paged memory.old).image limit how (M.paged memory.new).image) }
-    ensures fits { OnOk result (length bytes.now ≤ 8192) }
-    ensures err { IfErr result (λ fault. RunFails (with_gaps (M.loan memory.old) []) bytes.now (M.paged memory.old) limit fault (M.paged memory.new)) }
-    ensures pages { (p : ℕ) → has_page (M.paged memory.old) p ≡ true → has_page (M.paged memory.new) p ≡ true }
-    ensures others { MakesForStores (with_gaps (M.loan memory.old) []) bytes.now limit result
+    ensures ok { IfOk result (λ how. RunsOver (gap_marks (M.loan memory.old)) bytes.now
+        (M.paged memory.old).image limit how (M.paged memory.new).image) }
+    ensures fits { OnOk result (length bytes.now ≤ most_bytes) }
+    ensures err { IfErr result (λ fault. RunFails (gap_marks (M.loan memory.old)) bytes.now
+        (M.paged memory.old) limit fault (M.paged memory.new)) }
+    ensures pages { KeepsPages (M.paged memory.old) (M.paged memory.new) }
+    ensures others { MakesForStores (gap_marks (M.loan memory.old)) bytes.now limit result
         (M.paged memory.old) (M.paged memory.new) }
     ensures loan { M.loan memory.new ≡ M.loan memory.old }
 {

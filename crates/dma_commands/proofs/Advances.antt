@@ -1,8 +1,9 @@
 -- Steps of one channel in a row.
 use Rattle.std.proofs.Common.{◌≡◌, ◌≢◌, ℕ, ◌+◌, List, [], ◌∷◌, ◌++◌, map, refl, ap, sym, ◌∙◌, subst, zero, suc, inl, inr, append_assoc}
-use Rattle.std.specs.Prelude.{replicate, ◌⊎◌, Option, Some, None, Result}
+use Rattle.std.specs.Prelude.{if◌then◌else◌, is_some, replicate, ◌⊎◌, Option, Some, None, Result, Ok}
+use Rattle.std.specs.Option.{option_map}
 use Rattle.std.proofs.lemmas.List.{map-append, replicate-append-replicate}
-use Rattle.dma_engine.specs.declared.advance.Advanced.{Advanced}
+use Rattle.dma_engine.specs.declared.turn.Advanced.{Advanced}
 use Rattle.dma_engine.specs.declared.call.Call.{Call}
 use Rattle.dma_engine.specs.declared.call.Call.TheVariants.{Step}
 use Rattle.dma_engine.specs.declared.call.Reply.{Reply}
@@ -10,13 +11,14 @@ use Rattle.dma_engine.specs.declared.call.Reply.TheVariants.{Turned, Refused}
 use Rattle.dma_engine.specs.declared.fault.EngineFault.{EngineFault}
 use Rattle.dma_engine.specs.declared.fault.EngineFault.TheVariants.{NoMemory}
 use Rattle.dma_engine.specs.declared.turn.Turn.{Turn}
-use Rattle.dma_engine.specs.declared.turn.Turn.TheVariants.{Moved}
-use Rattle.dma_engine.specs.Advance.{IsAdvance, last_call, last_reply}
-use Rattle.dma_engine.specs.Answer.{AreAnswers, CallAnswers, answer, answers, reply_of}
+use Rattle.dma_engine.specs.declared.turn.Turn.TheVariants.{Started, Moved}
+use Rattle.dma_engine.specs.Advance.{AllMove, IsAdvance, TakesStep, steps_before}
+use Rattle.dma_engine.specs.Answer.{CallAnswers, StepAnswers, answer, answers, reply_of}
 use Rattle.dma_engine.specs.View.{View}
 use Rattle.dma_commands.specs.Printed.{reply_text}
 use Rattle.dma_engine.specs.Room.{IsIdle}
 use Rattle.dma_engine.proofs.IdleSteps.{idle_steps_stay}
+use Rattle.dma_commands.specs.inner.Counting.{start_replies}
 use Rattle.dma_commands.proofs.Served.{AreServed, answers-append, served-all, served-one}
 
 -- ---- an idle answer comes again
@@ -39,59 +41,51 @@ last-steps v w ch reply many is (inl one) =
 last-steps v w ch reply many is (inr same) =
     again v (Step ch) reply many (ap (λ (u : View). (reply, u)) (sym same) ∙ is) ∙ ap (λ (u : View). (replicate many reply, u)) (sym same)
 
--- ---- steps that moved, and the last
-
-pub parted : (call : Call) (reply : Reply) (n : ℕ) (v w : View) (calls : List Call) (replies : List Reply) → AreAnswers v (replicate n call ++ calls) (replicate n reply ++ replies) w → (u : View) × AreAnswers v (replicate n call) (replicate n reply) u × AreAnswers u calls replies w
-parted call reply zero v w calls replies h = (v, refl, h)
-parted call reply (suc n) v w calls replies h =
-    let more = parted call reply n h.0 w calls replies h.2 in
-    (more.0, (h.0, h.1, more.1), more.2)
+-- ---- steps that start and move, and the last
 
 AreServed-replicate : (n : ℕ) (reply : Reply) → reply ≢ Refused NoMemory → AreServed (replicate n reply)
 AreServed-replicate zero reply served = tt
 AreServed-replicate (suc n) reply served = (served, AreServed-replicate n reply served)
 
-moved-steps : (v w : View) (ch n : ℕ) → AreAnswers v (replicate n (Step ch)) (replicate n (Turned Moved)) w → (replicate n (Turned Moved), w) ≡ answers v (replicate n (Step ch))
+moved-steps : (v w : View) (ch n : ℕ) → AllMove v ch n w → (replicate n (Turned Moved), w) ≡ answers v (replicate n (Step ch))
 moved-steps v w ch n h = served-all v (replicate n (Step ch)) (replicate n (Turned Moved)) w (AreServed-replicate n (Turned Moved) (λ e. cc)) h
 
-abbrev First : View → ℕ → ℕ → View → Type 0
-First v ch n w = AreAnswers v (replicate n (Step ch)) (replicate n (Turned Moved)) w
+start-steps : (o : Option ℕ) (v u : View) (ch : ℕ) → TakesStep v ch (option_map (λ cookie. Ok (Started cookie)) o) u → (start_replies o, u) ≡ answers v (replicate (if is_some o then 1 else 0) (Step ch))
+start-steps None v u ch same = ap (λ (x : View). ([], x)) same
+start-steps (Some cookie) v u ch is = ap (λ (a : Reply × View). (a.0 ∷ [], a.1)) is
 
--- where all moved
-pub only-moved : (v w : View) (ch : ℕ) (told : Advanced) → IsAdvance v ch told w → told.last ≡ None → First v ch told.moved w
-only-moved v w ch told h none =
-    let n = told.moved in
-    let all = subst (λ (l : Option (Result Turn EngineFault)). AreAnswers v (replicate n (Step ch) ++ last_call ch l) (replicate n (Turned Moved) ++ last_reply l) w) none h in
-    let parts = parted (Step ch) (Turned Moved) n v w [] [] all in
-    subst (λ (u : View). First v ch n u) (sym parts.2) parts.1
-
-pub all-moved : (v w : View) (ch : ℕ) (told : Advanced) → IsAdvance v ch told w → told.last ≡ None → (replicate told.moved (Turned Moved), w) ≡ answers v (replicate told.moved (Step ch))
-all-moved v w ch told h none = moved-steps v w ch told.moved (only-moved v w ch told h none)
-
--- the last answer
-pub last-answer : (v w : View) (ch : ℕ) (told : Advanced) (last : Result Turn EngineFault) (reply : Reply) → IsAdvance v ch told w → told.last ≡ Some last → (reply ≡ reply_of Turned last) × (reply ≢ Refused NoMemory) → (u : View) × First v ch told.moved u × ((reply, w) ≡ answer u (Step ch))
-last-answer v w ch told last reply h some is =
-    let n = told.moved in
-    let all = subst (λ (l : Option (Result Turn EngineFault)). AreAnswers v (replicate n (Step ch) ++ last_call ch l) (replicate n (Turned Moved) ++ last_reply l) w) some h in
-    let parts = parted (Step ch) (Turned Moved) n v w (Step ch ∷ []) (reply_of Turned last ∷ []) all in
-    let u = parts.0 in
-    let one = parts.2 in
-    let answer-is : CallAnswers u (Step ch) reply w = subst (λ (r : Reply). CallAnswers u (Step ch) r w) (sym is.0) (subst (λ (x : View). CallAnswers u (Step ch) (reply_of Turned last) x) (sym one.2) one.1) in
-    (u, parts.1, served-one u (Step ch) reply w is.1 answer-is)
-
--- the answers of all steps, with the last one repeated
-pub moved-then : (v w : View) (ch : ℕ) (told : Advanced) (many : ℕ) (last : Result Turn EngineFault) (reply : Reply) → IsAdvance v ch told w → told.last ≡ Some last → (reply ≡ reply_of Turned last) × (reply ≢ Refused NoMemory) → (many ≡ 1) ⊎ IsIdle last → (replicate told.moved (Turned Moved) ++ replicate many reply, w) ≡ answers v (replicate (told.moved + many) (Step ch))
-moved-then v w ch told many last reply h some is times =
-    let n = told.moved in
-    let all = last-answer v w ch told last reply h some is in
-    let u = all.0 in
+-- steps after others
+joined : (v u w : View) (ch m n : ℕ) (first rest : List Reply) → (first, u) ≡ answers v (replicate m (Step ch)) → (rest, w) ≡ answers u (replicate n (Step ch)) → (first ++ rest, w) ≡ answers v (replicate (m + n) (Step ch))
+joined v u w ch m n first rest are more =
     let step = Step ch in
-    let first = moved-steps v u ch n all.1 in
-    let stays : IsIdle last → w ≡ u = λ idle. idle_steps_stay u w ch last idle (ap (λ (r : Reply). (r, w)) (sym is.0) ∙ all.2) in
-    let rest = last-steps u w ch reply many all.2 (once-or-same (many ≡ 1) (IsIdle last) (w ≡ u) stays times) in
-    sym (ap (answers v) (sym (replicate-append-replicate n many step)) ∙ answers-append v (replicate n step) (replicate many step)
-    ∙ ap (λ (a : List Reply × View). (let b = answers a.1 (replicate many step) in (a.0 ++ b.0, b.1))) (sym first)
-    ∙ ap (λ (b : List Reply × View). (replicate n (Turned Moved) ++ b.0, b.1)) rest)
+    sym (ap (answers v) (sym (replicate-append-replicate m n step)) ∙ answers-append v (replicate m step) (replicate n step)
+    ∙ ap (λ (a : List Reply × View). (let b = answers a.1 (replicate n step) in (a.0 ++ b.0, b.1))) (sym are)
+    ∙ ap (λ (b : List Reply × View). (first ++ b.0, b.1)) (sym more))
+
+-- the replies of all but the last
+abbrev pub replies_before : Advanced → List Reply
+replies_before a = start_replies a.started ++ replicate a.moved (Turned Moved)
+
+steps-before : (v w : View) (ch : ℕ) (a : Advanced) → (h : IsAdvance v ch a w) → (replies_before a, h.stopped) ≡ answers v (replicate (steps_before a) (Step ch))
+steps-before v w ch a h =
+    joined v h.running h.stopped ch (if is_some a.started then 1 else 0) a.moved (start_replies a.started) (replicate a.moved (Turned Moved))
+    (start-steps a.started v h.running ch h.start) (moved-steps h.running h.stopped ch a.moved h.moves)
+
+-- without a last one
+pub all-steps : (v w : View) (ch : ℕ) (a : Advanced) → IsAdvance v ch a w → a.last ≡ None → (replies_before a, w) ≡ answers v (replicate (steps_before a) (Step ch))
+all-steps v w ch a h none =
+    let same : w ≡ h.stopped = subst (λ (l : Option (Result Turn EngineFault)). TakesStep h.stopped ch l w) none h.last in
+    ap (λ (x : View). (replies_before a, x)) same ∙ steps-before v w ch a h
+
+-- with the last one repeated
+pub steps-then : (v w : View) (ch : ℕ) (a : Advanced) (many : ℕ) (last : Result Turn EngineFault) (reply : Reply) → IsAdvance v ch a w → a.last ≡ Some last → (reply ≡ reply_of Turned last) × (reply ≢ Refused NoMemory) → (many ≡ 1) ⊎ IsIdle last → (replies_before a ++ replicate many reply, w) ≡ answers v (replicate (steps_before a + many) (Step ch))
+steps-then v w ch a many last reply h some is times =
+    let u = h.stopped in
+    let answered : StepAnswers u ch last w = subst (λ (l : Option (Result Turn EngineFault)). TakesStep u ch l w) some h.last in
+    let answer-is = served-one u (Step ch) reply w is.1 (subst (λ (r : Reply). CallAnswers u (Step ch) r w) (sym is.0) answered) in
+    let stays : IsIdle last → w ≡ u = λ idle. idle_steps_stay u w ch last idle (ap (λ (r : Reply). (r, w)) (sym is.0) ∙ answer-is) in
+    joined v u w ch (steps_before a) many (replies_before a) (replicate many reply) (steps-before v w ch a h)
+    (sym (last-steps u w ch reply many answer-is (once-or-same (many ≡ 1) (IsIdle last) (w ≡ u) stays times)))
 
 -- ---- their texts
 
@@ -99,15 +93,23 @@ map-replicate : {X Y : Type 0} (f : X → Y) (n : ℕ) (x : X) → map f (replic
 map-replicate f zero x = refl
 map-replicate f (suc n) x = ap (λ l. f x ∷ l) (map-replicate f n x)
 
-pub all-texts : (m : ℕ) (first : Reply) (w : View) (all : List Reply × View) (rest : List (List ℕ)) → (replicate m first, w) ≡ all → replicate m (reply_text first) ++ rest ≡ map reply_text all.0 ++ rest
-all-texts m first w all rest is =
-    ap (λ l. l ++ rest) (sym (map-replicate reply_text m first) ∙ ap (λ (a : List Reply × View). map reply_text a.0) is)
+-- of those before the last
+before-texts : (a : Advanced) (rest : List (List ℕ)) → map reply_text (start_replies a.started) ++ (replicate a.moved (reply_text (Turned Moved)) ++ rest) ≡ map reply_text (replies_before a) ++ rest
+before-texts a rest =
+    let f = start_replies a.started in
+    let m = replicate a.moved (Turned Moved) in
+    ap (λ t. map reply_text f ++ (t ++ rest)) (sym (map-replicate reply_text a.moved (Turned Moved)))
+    ∙ sym (append_assoc (map reply_text f) (map reply_text m) rest)
+    ∙ ap (λ t. t ++ rest) (sym (map-append reply_text f m))
 
-pub both-texts : (m n : ℕ) (first last : Reply) (w : View) (all : List Reply × View) (rest : List (List ℕ)) → (replicate m first ++ replicate n last, w) ≡ all → replicate m (reply_text first) ++ (replicate n (reply_text last) ++ rest) ≡ map reply_text all.0 ++ rest
-both-texts m n first last w all rest is =
-    let f = replicate m first in
+pub all-texts : (a : Advanced) (w : View) (all : List Reply × View) (rest : List (List ℕ)) → (replies_before a, w) ≡ all → map reply_text (start_replies a.started) ++ (replicate a.moved (reply_text (Turned Moved)) ++ rest) ≡ map reply_text all.0 ++ rest
+all-texts a w all rest is = before-texts a rest ∙ ap (λ (x : List Reply × View). map reply_text x.0 ++ rest) is
+
+pub both-texts : (a : Advanced) (n : ℕ) (last : Reply) (w : View) (all : List Reply × View) (rest : List (List ℕ)) → (replies_before a ++ replicate n last, w) ≡ all → map reply_text (start_replies a.started) ++ (replicate a.moved (reply_text (Turned Moved)) ++ (replicate n (reply_text last) ++ rest)) ≡ map reply_text all.0 ++ rest
+both-texts a n last w all rest is =
+    let f = replies_before a in
     let l = replicate n last in
-    ap (λ t. t ++ (replicate n (reply_text last) ++ rest)) (sym (map-replicate reply_text m first))
+    before-texts a (replicate n (reply_text last) ++ rest)
     ∙ ap (λ t. map reply_text f ++ (t ++ rest)) (sym (map-replicate reply_text n last))
     ∙ sym (append_assoc (map reply_text f) (map reply_text l) rest)
-    ∙ ap (λ t. t ++ rest) (sym (map-append reply_text f l) ∙ ap (λ (a : List Reply × View). map reply_text a.0) is)
+    ∙ ap (λ t. t ++ rest) (sym (map-append reply_text f l) ∙ ap (λ (x : List Reply × View). map reply_text x.0) is)

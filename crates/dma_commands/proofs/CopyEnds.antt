@@ -23,7 +23,7 @@ use Rattle.dma_engine.specs.declared.entry.Signaller.TheVariants.{Channel}
 use Rattle.dma_engine.specs.declared.fault.EngineFault.TheVariants.{NoChannel, OutOfMemoryRange, CookiesSpent}
 use Rattle.dma_engine.specs.Object.{Object, ChannelState, after, channel, finished, used, empty_channel, issued_front, is_set, unfinished, last_cookie, with_channel, with_flag, with_transfer}
 use Rattle.dma_engine.specs.View.{View, RunningTransfer, channels, idle, object_of, schedule_at, size}
-use Rattle.dma_engine.specs.Turn.{Stepped, front_turn, in_the_way, insn_turn, last_step, moves_on, start_turn, turn, with_entry, with_taken}
+use Rattle.dma_engine.specs.Turn.{Stepped, front_turn, first_conflicting, insn_turn, last_step, moves_on, start_turn, turn, with_entry, with_taken}
 use Rattle.dma_engine.specs.Answer.{answer, cause, reply_of, unless}
 use Rattle.dma_engine.proofs.Boards.{with_channel-at}
 use Rattle.dma_engine.proofs.Histories.{object_after-append}
@@ -190,7 +190,7 @@ start-goes v t None there front = λ _. record {
 idle-ends : (n : ℕ) (v : View) (t : Descriptor) → IsTransfer t → 0 < length v.schedule → issued_front (channel (object_of v) 0) ≡ Some t → (schedule_at v 0).taken ≡ None → cost t ≤ n → Ends n v
 idle-ends zero v t rules there front taken left = absurd (omega (arith, (shape_is t rules).some, left))
 idle-ends (suc n) v t rules there front taken left =
-    let starts : Starts t (turn v 0) = stepped-by (Starts t) v (Some t) None (λ s off on. absurd (false≢true (sym off ∙ on))) front taken (start-goes v t (in_the_way v t) there front) in
+    let starts : Starts t (turn v 0) = stepped-by (Starts t) v (Some t) None (λ s off on. absurd (false≢true (sym off ∙ on))) front taken (start-goes v t (first_conflicting v t) there front) in
     ends-next n v (λ on. runs-out n (turn v 0).1 t 0 rules (starts on) (omega (arith, left)))
 
 front-ends : (n : ℕ) (v : View) (t : Descriptor) → IsTransfer t → 0 < length v.schedule → issued_front (channel (object_of v) 0) ≡ Some t → cost t ≤ n → Ends n v

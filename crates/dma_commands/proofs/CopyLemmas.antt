@@ -1,19 +1,21 @@
 -- A copy is stepped through.
-use Rattle.std.proofs.Common.{◌≡◌, ◌≢◌, ℕ, ◌+◌, true, false, if◌then◌else◌, refl, ap, sym, ◌∙◌, zero, suc, arith}
-use Rattle.std.specs.Prelude.{replicate, Some, None, Result, Ok, Err}
-use Rattle.dma_engine.specs.declared.advance.Advanced.{Advanced}
+use Rattle.std.proofs.Common.{◌≡◌, ◌≢◌, ℕ, ◌+◌, ◌-◌, ◌<◌, true, false, if◌then◌else◌, refl, ap, sym, subst, ◌∙◌, zero, suc, arith}
+use Rattle.std.specs.Prelude.{is_some, replicate, Option, Some, None, Result, Ok, Err}
+use Rattle.std.specs.Option.{option_map}
+use Rattle.dma_engine.specs.declared.turn.Advanced.{Advanced}
 use Rattle.dma_engine.specs.declared.call.Call.TheVariants.{Step}
 use Rattle.dma_engine.specs.declared.call.Reply.{Reply}
 use Rattle.dma_engine.specs.declared.call.Reply.TheVariants.{Turned, Refused}
 use Rattle.dma_engine.specs.declared.fault.EngineFault.{EngineFault}
 use Rattle.dma_engine.specs.declared.fault.EngineFault.TheVariants.{NoMemory}
 use Rattle.dma_engine.specs.declared.turn.Turn.{Turn}
-use Rattle.dma_engine.specs.declared.turn.Turn.TheVariants.{Moved}
+use Rattle.dma_engine.specs.declared.turn.Turn.TheVariants.{Started, Moved}
 use Rattle.dma_engine.specs.View.{View}
-use Rattle.dma_engine.specs.Advance.{IsAdvance}
-use Rattle.dma_engine.specs.Answer.{AreAnswers, answer, reply_of}
+use Rattle.dma_engine.specs.Advance.{IsAdvance, TakesStep, steps_before}
+use Rattle.dma_engine.specs.Advance as steps
+use Rattle.dma_engine.specs.Answer.{AreAnswers, CallAnswers, StepAnswers, answer, reply_of}
 use Rattle.dma_commands.specs.Run.{goes_on, stepped_through}
-use Rattle.dma_commands.proofs.Advances.{last-answer, only-moved}
+use Rattle.dma_commands.proofs.Served.{served-one}
 
 abbrev go_on : ℕ → Reply × View → Reply × View
 go_on n first = if goes_on first.0 then stepped_through n first.1 else first
@@ -38,6 +40,10 @@ stepped-end zero v w reply is off = is ∙ stepped-last v
 stepped-end (suc n) v w reply is off =
     sym (ap (λ b. if b then stepped_through n w else (reply, w)) off) ∙ ap (go_on n) is ∙ sym (opened n v)
 
+reply-goes : (last : Result Turn EngineFault) → goes_on (reply_of Turned last) ≡ steps.goes_on last
+reply-goes (Ok turn) = refl
+reply-goes (Err fault) = refl
+
 -- steps that moved
 moved-through : (n left all : ℕ) (v w : View) → n + left ≡ all → AreAnswers v (replicate n (Step 0)) (replicate n (Turned Moved)) w → stepped_through all v ≡ stepped_through left w
 moved-through zero left all v w sum h =
@@ -47,23 +53,33 @@ moved-through (suc n) left zero v w sum h = absurd (omega (arith, sum))
 moved-through (suc n) left (suc all) v w sum h =
     stepped-on all v h.0 (Turned Moved) h.1 refl ∙ moved-through n left all h.0 w (omega (arith, sum)) h.2
 
--- an advance of which all moved
-pub advanced-moved : (v w : View) (told : Advanced) (left all : ℕ) → told.moved + left ≡ all → IsAdvance v 0 told w → told.last ≡ None → stepped_through all v ≡ stepped_through left w
-advanced-moved v w told left all sum h none = moved-through told.moved left all v w sum (only-moved v w 0 told h none)
+-- the start, if there is one
+start-through : (o : Option ℕ) (left all : ℕ) (v u : View) → (if is_some o then 1 else 0) + left ≡ all → TakesStep v 0 (option_map (λ cookie. Ok (Started cookie)) o) u → stepped_through all v ≡ stepped_through left u
+start-through None left all v u sum same =
+    let none : all ≡ left = omega (arith, sum) in
+    ap (λ (k : ℕ). stepped_through k v) none ∙ ap (stepped_through left) (sym same)
+start-through (Some cookie) left zero v u sum answer = absurd (omega (arith, sum))
+start-through (Some cookie) left (suc all) v u sum answer =
+    let more : all ≡ left = omega (arith, sum) in
+    stepped-on all v u (Turned (Started cookie)) answer refl ∙ ap (λ (k : ℕ). stepped_through k u) more
 
--- one after whose last answer the copy goes on
-pub advanced-on : (v w : View) (told : Advanced) (last : Result Turn EngineFault) (reply : Reply) (left all : ℕ) → told.moved + suc left ≡ all → IsAdvance v 0 told w → told.last ≡ Some last → (reply ≡ reply_of Turned last) × (reply ≢ Refused NoMemory) → goes_on reply ≡ true → stepped_through all v ≡ stepped_through left w
-advanced-on v w told last reply left all sum h some is on =
-    let parts = last-answer v w 0 told last reply h some is in
-    moved-through told.moved (suc left) all v parts.0 sum parts.1 ∙ stepped-on left parts.0 w reply parts.2 on
+-- all steps of an advance but the last
+pub advanced-before : (v w : View) (a : Advanced) (left all : ℕ) → steps_before a + left ≡ all → (h : IsAdvance v 0 a w) → stepped_through all v ≡ stepped_through left h.stopped
+advanced-before v w a left all sum h =
+    start-through a.started (a.moved + left) all v h.running (omega (arith, sum)) h.start
+    ∙ moved-through a.moved left (a.moved + left) h.running h.stopped refl h.moves
 
--- and one whose last answer ends it
-pub advanced-end : (v w : View) (told : Advanced) (last : Result Turn EngineFault) (reply : Reply) (left all : ℕ) → told.moved + left ≡ all → IsAdvance v 0 told w → told.last ≡ Some last → (reply ≡ reply_of Turned last) × (reply ≢ Refused NoMemory) → goes_on reply ≡ false → (reply, w) ≡ stepped_through all v
-advanced-end v w told last reply left all sum h some is off =
-    let parts = last-answer v w 0 told last reply h some is in
-    stepped-end left parts.0 w reply parts.2 off ∙ sym (moved-through told.moved left all v parts.0 sum parts.1)
+-- an advance without a last step
+pub advanced-all : (v w : View) (a : Advanced) → (h : IsAdvance v 0 a w) → a.last ≡ None → stepped_through (steps_before a) v ≡ stepped_through 0 w
+advanced-all v w a h none =
+    let same : w ≡ h.stopped = subst (λ (l : Option (Result Turn EngineFault)). TakesStep h.stopped 0 l w) none h.last in
+    advanced-before v w a 0 (steps_before a) (omega arith) h ∙ ap (stepped_through 0) (sym same)
 
--- an answer after which a copy goes on is no refusal
-pub goes-on-moved : (last : Result Turn EngineFault) → goes_on (reply_of Turned last) ≡ true → reply_of Turned last ≢ Refused NoMemory
-goes-on-moved (Ok turn) on = λ bad. cc
-goes-on-moved (Err fault) on = λ bad. absurd (let no : false ≡ true = on in cc)
+-- one whose last step ends the copy
+pub advanced-end : (v w : View) (a : Advanced) (last : Result Turn EngineFault) (reply : Reply) (all : ℕ) → steps_before a < all → IsAdvance v 0 a w → a.last ≡ Some last → (reply ≡ reply_of Turned last) × (reply ≢ Refused NoMemory) → steps.goes_on last ≡ false → (reply, w) ≡ stepped_through all v
+advanced-end v w a last reply all few h some is off =
+    let answered : StepAnswers h.stopped 0 last w = subst (λ (l : Option (Result Turn EngineFault)). TakesStep h.stopped 0 l w) some h.last in
+    let answer-is = served-one h.stopped (Step 0) reply w is.1 (subst (λ (r : Reply). CallAnswers h.stopped (Step 0) r w) (sym is.0) answered) in
+    let left = all - steps_before a in
+    stepped-end left h.stopped w reply answer-is (ap goes_on is.0 ∙ reply-goes last ∙ off)
+    ∙ sym (advanced-before v w a left all (omega (arith, few)) h)

@@ -12,11 +12,12 @@ use Rattle.dma_insn.specs.Decoding.{decoded}
 use Rattle.dma_insn.specs.AssemblyText.{joined}
 use Rattle.dma_insn.specs.Disassembly.{AllInRange, Disassembles, StopsAt, insn_text, text_of}
 use Rattle.dma_insn.proofs.Laws.{IsBytes, decoded-spelling, spelling_some}
-use Rattle.dma_insn.proofs.Fronts.{disassembly_tells}
+use Rattle.dma_insn.proofs.Fronts.{disassembly_reports}
 use Rattle.dma_script.specs.Command as command
 use Rattle.dma_script.specs.Words.{hex_digit_of}
 use Rattle.dma_script.specs.Lines.{◌>>=◌}
-use Rattle.dma_script.specs.Pairs.{is_gap, line_after, pair_of, pairs_from, pairs_of}
+use Rattle.dma_script.specs.declared.fault.Fault.{Fault}
+use Rattle.dma_script.specs.Pairs.{hex_fault, is_gap, line_after, pair_of, pairs_from, pairs_of}
 use Rattle.dma_commands.specs.Disassembled.{DisPrints, lines_from, with_line, lines_printed, dis_printed_of, decode_fault_line}
 
 -- bytes that are skipped are only counted
@@ -78,11 +79,16 @@ shown-text : (bytes text : List ℕ) (d : Disassembles bytes text) → command.t
 shown-text bytes text d = sym (text_of-lines d.insns) ∙ sym d.text_is
 
 -- bytes that have a text print it
-pub printed-text : (bytes text : List ℕ) → Disassembles bytes text → (command.printed_text (lines_printed (lines_from 0 0 bytes)).groups ≡ text) × ((lines_printed (lines_from 0 0 bytes)).status ≡ 0)
+printed-text : (bytes text : List ℕ) → Disassembles bytes text → (command.printed_text (lines_printed (lines_from 0 0 bytes)).groups ≡ text) × ((lines_printed (lines_from 0 0 bytes)).status ≡ 0)
 printed-text bytes text d =
     let read = lines_from-text bytes text d in
     let shown : command.text_of (map insn_text d.insns) ++ [] ≡ text = append-nil (command.text_of (map insn_text d.insns)) ∙ shown-text bytes text d in
     (rw read shown, rw read refl)
+
+pub text_answered : {E : Type 0} (bytes text old new : List ℕ) → Disassembles bytes text → new ≡ old ++ text → command.Answers {E = E} (lines_printed (lines_from 0 0 bytes)) (Ok 0) old new
+text_answered bytes text old new d is =
+    let printed = printed-text bytes text d in
+    record { text = is ∙ ap (λ t. old ++ t) (sym printed.0); status = sym printed.1; refused = tt }
 
 -- others print their fault
 pub printed-stops : (bytes : List ℕ) (offset : ℕ) (fault : DecodeFault) → StopsAt bytes offset fault → lines_printed (lines_from 0 0 bytes) ≡ command.refusal (decode_fault_line offset fault)
@@ -111,27 +117,27 @@ bytes_more : (byte : ℕ) (more : List ℕ) → byte < 256 → IsBytes more → 
 bytes_more byte more small h zero = small
 bytes_more byte more small h (suc i) = h i
 
-pair_then : (pair : Result ℕ ℕ) (rest : Result (List ℕ) ℕ) → IfOk pair (λ byte. byte < 256) → IfOk rest IsBytes → IfOk (pair >>= λ byte. rest >>= λ more. Ok (byte ∷ more)) IsBytes
+pair_then : (pair : Result ℕ Fault) (rest : Result (List ℕ) Fault) → IfOk pair (λ byte. byte < 256) → IfOk rest IsBytes → IfOk (pair >>= λ byte. rest >>= λ more. Ok (byte ∷ more)) IsBytes
 pair_then (Ok byte) (Ok more) small h = bytes_more byte more small h
 pair_then (Ok byte) (Err line) small h = tt
 pair_then (Err line) rest small h = tt
 
-by_gap : (t : Bool) (x y : Result (List ℕ) ℕ) → IfOk x IsBytes → IfOk y IsBytes → IfOk (cond t x y) IsBytes
+by_gap : (t : Bool) (x y : Result (List ℕ) Fault) → IfOk x IsBytes → IfOk y IsBytes → IfOk (cond t x y) IsBytes
 by_gap true x y h k = h
 by_gap false x y h k = k
 
 pairs_bytes : (input : List ℕ) (line : ℕ) → IfOk (pairs_from line input) IsBytes
 pairs_bytes [] line = bytes_none
-pairs_bytes (a ∷ []) line = by_gap (is_gap a) (Ok []) (Err line) bytes_none tt
+pairs_bytes (a ∷ []) line = by_gap (is_gap a) (Ok []) (Err (hex_fault line)) bytes_none tt
 pairs_bytes (a ∷ b ∷ rest) line =
     by_gap (is_gap a) _ _ (pairs_bytes (b ∷ rest) (line_after line a)) (pair_then _ _ (pair_small line _ _ (digit_small a) (digit_small b)) (pairs_bytes rest line))
 
 pairs_of-bytes : (input bytes : List ℕ) → pairs_of input ≡ Ok bytes → IsBytes bytes
-pairs_of-bytes input bytes e = subst (λ (r : Result (List ℕ) ℕ). IfOk r IsBytes) e (pairs_bytes input 1)
+pairs_of-bytes input bytes e = subst (λ (r : Result (List ℕ) Fault). IfOk r IsBytes) e (pairs_bytes input 1)
 
 pub dis_prints : DisPrints
 dis_prints = record {
-  one = λ input bytes e. disassembly_tells.one bytes (pairs_of-bytes input bytes e);
+  one = λ input bytes e. disassembly_reports.one bytes (pairs_of-bytes input bytes e);
   text = λ input bytes text e d. (map insn_text d.insns, ap dis_printed_of e ∙ ap lines_printed (lines_from-text bytes text d), shown-text bytes text d);
   fault = λ input bytes offset fault e s. ap dis_printed_of e ∙ printed-stops bytes offset fault s;
 }

@@ -1,4 +1,3 @@
-pub mod Begun
 pub mod RunLemmas
 pub mod Served
 pub mod Advances

@@ -1,109 +1,140 @@
 -- What the lines of a script print, and the view after them.
-use Rattle.std.proofs.Common.{◌≡◌, ◌≢◌, ℕ, ◌+◌, ◌≤◌, Bool, true, false, if◌then◌else◌, codes, zero, List, [], ◌∷◌, ◌++◌, length, Option, Some, None, refl, ap, sym, subst, ◌∙◌, take, drop, suc, add-one, append_assoc, arith}
-use Rattle.std.proofs.lemmas.List.{length-append}
-use Rattle.std.specs.Prelude.{is_some}
+use Rattle.std.proofs.Common.{◌≡◌, ◌≢◌, ℕ, ◌<◌, ◌+◌, true, false, if◌then◌else◌, codes, List, [], ◌∷◌, ◌++◌, length, Option, Some, None, refl, ap, sym, subst, ◌∙◌, take, drop, suc, arith}
+use Rattle.std.proofs.lemmas.List.{append-nil, length-append}
+use Rattle.std.proofs.lemmas.List.Recursion.{is_count_by}
+use Rattle.std.proofs.lemmas.Result.{on_err_weaker, on_ok_weaker}
+use Rattle.std.specs.Prelude.{Err, IsErr, Ok, OnErr, OnOk, Result, cond, count_by, is_some}
 use Rattle.std.specs.List.{filter_map, range_with_len, cons_option}
-use Rattle.std.proofs.lemmas.List.Elements.{filter_map-append}
 use Rattle.dma_mem.specs.Places.{Descriptor}
-use Rattle.dma_engine.specs.declared.call.Call.TheVariants.{Read, Submit}
+use Rattle.dma_engine.specs.declared.call.Call.{Call}
+use Rattle.dma_engine.specs.declared.call.Call.TheVariants.{Read, Submit as SubmitCall, Issue as IssueCall}
 use Rattle.dma_engine.specs.declared.call.Reply.{Reply}
-use Rattle.dma_engine.specs.declared.call.Reply.TheVariants.{Bytes, Refused}
+use Rattle.dma_engine.specs.declared.call.Reply.TheVariants.{Bytes, Cookie, Refused}
 use Rattle.dma_engine.specs.declared.entry.Entry.TheVariants.{ReadBack}
 use Rattle.dma_engine.specs.declared.fault.EngineFault.{EngineFault}
-use Rattle.dma_engine.specs.Answer.{answer, read_fault, unless}
+use Rattle.dma_engine.specs.declared.fault.EngineFault.TheVariants.{NoMemory}
+use Rattle.dma_engine.specs.Answer.{CallAnswers, answer, read_fault, unless}
 use Rattle.dma_engine.specs.Turn.{with_entry}
 use Rattle.dma_engine.proofs.Queues.{slice_get-push_last}
-use Rattle.dma_engine.proofs.WhatRuns.{range_with_len-add}
 use Rattle.dma_mem.specs.declared.transfer.TransferFault.{TransferFault}
-use Rattle.dma_mem.specs.declared.transfer.TransferFault.TheVariants as transfers
 use Rattle.std.specs.Option.{option_map}
 use Rattle.dma_engine.specs.Object.{Object}
 use Rattle.dma_engine.specs.View.{View, ChannelSchedule, object_of, running, runs}
-use Rattle.dma_script.specs.Command.{text_of, printed_text, AppendsGroups}
+use Rattle.dma_script.specs.Command.{Answers, AppendsGroups, Printed, printed_text, text_of}
 use Rattle.dma_script.specs.Interpreted.{ActsInTurn, PrintsLines, StopsAtALine}
 use Rattle.dma_script.specs.declared.statements.Statement.{Statement}
-use Rattle.dma_script.specs.Printing.{hex_address, spaced_bytes}
-use Rattle.dma_commands.specs.Printed.{call_line, transfer_fault_name, refused_line}
-use Rattle.dma_commands.specs.Run.{Answered, call_answer, copied, copied_after, is_in_use, told, unless_unfit, line_answer, lines_answered}
-use Rattle.dma_commands.specs.inner.RunSteps.{AnswersLine, read_at, read_in}
+use Rattle.dma_script.specs.declared.statements.Statement.TheVariants.{Write, Read as ReadLine, Copy, Fill, Submit, Issue, Pause, Resume, Terminate, Step, Status, Result as Outcome, Mark, Unmark, Raise, Checkpoint, Totals}
+use Rattle.dma_text.specs.Digits.{hex_digits, spaced_bytes}
+use Rattle.dma_commands.specs.Printed.{call_line, fault_text, transfer_fault_name, refused_line}
+use Rattle.dma_commands.specs.Laws.{call_of}
+use Rattle.dma_commands.specs.Run.{Answered, call_answer, copied, copied_after, is_in_use, line_answer, lines_answered, most_steps, stepped_through, through_line, told, unless_unfit}
+use Rattle.dma_commands.specs.inner.RunSteps.{RunsLine, read_at, read_in}
+use Rattle.dma_commands.proofs.Served.{refused-served, served-one}
+
+-- ---- a line that was printed
+
+-- an answered line was printed, or nothing was
+pub printed_runs : {A E : Type 0} (answered : Answered) (w : View) (result : Result A E) (out out' : List ℕ) → OnOk result (w ≡ answered.1) → OnOk result (out' ≡ out ++ text_of answered.0) → OnErr result (out' ≡ out) → RunsLine answered w result out out'
+printed_runs answered w (Ok a) out out' acts prints kept = record { ok = record { acts = acts; prints = prints }; err = tt }
+printed_runs answered w (Err e) out out' acts prints kept = record { ok = tt; err = kept }
+
+-- the line of a call and its reply
+pub call_runs : {A E : Type 0} (v w : View) (call : Call) (reply : Reply) (result : Result A E) (out out' : List ℕ) → CallAnswers v call reply w → OnOk result (reply ≢ Refused NoMemory) → OnOk result (out' ≡ out ++ text_of (call_line call reply ∷ [])) → OnErr result (out' ≡ out) → RunsLine (call_answer v call) w result out out'
+call_runs {A = A} {E = E} v w call reply (Ok a) out out' is served prints kept =
+    subst (λ (x : Reply × View). RunsLine {A = A} {E = E} (told (call_line call x.0) x.1) w (Ok a) out out') (served-one v call reply w served is) (printed_runs {A = A} {E = E} (told (call_line call reply) w) w (Ok a) out out' refl prints tt)
+call_runs v w call reply (Err e) out out' is served prints kept = record { ok = tt; err = kept }
+
+-- the answer of the first call, if any
+abbrev first_answer : View → List Call → Answered
+first_answer v [] = ([], v)
+first_answer v (call ∷ calls) = call_answer v call
+
+-- a line with one call is answered as the call
+pub line_of_call : (v : View) (line : Statement) (call : Call) → call_of line ≡ call ∷ [] → line_answer v line ≡ call_answer v call
+line_of_call v (Copy lists) call is = absurd cc
+line_of_call v (Fill src dst) call is = absurd cc
+line_of_call v (Submit ch transfer) call is = absurd cc
+line_of_call v (Step ch count) call is = absurd cc
+line_of_call v Totals call is = absurd cc
+line_of_call v (Write addr bytes) call is = ap (first_answer v) is
+line_of_call v (ReadLine segment) call is = ap (first_answer v) is
+line_of_call v (Issue ch) call is = ap (first_answer v) is
+line_of_call v (Pause ch) call is = ap (first_answer v) is
+line_of_call v (Resume ch) call is = ap (first_answer v) is
+line_of_call v (Terminate ch) call is = ap (first_answer v) is
+line_of_call v (Status ch cookie) call is = ap (first_answer v) is
+line_of_call v (Outcome ch cookie) call is = ap (first_answer v) is
+line_of_call v (Mark kind segment) call is = ap (first_answer v) is
+line_of_call v Unmark call is = ap (first_answer v) is
+line_of_call v (Raise event) call is = ap (first_answer v) is
+line_of_call v Checkpoint call is = ap (first_answer v) is
 
 -- ---- a transfer's rules
 
-pub unless_unfit-none : (fault : Option TransferFault) (v : View) (answered : Answered) → fault ≡ None → unless_unfit fault v answered ≡ answered
-unless_unfit-none fault v answered none = rw none refl
-
 -- a transfer that breaks a rule
-pub unfit : (v : View) (out out' : List ℕ) (fault : Option TransferFault) (e : TransferFault) (answered : Answered) → fault ≡ Some e → (e ≢ transfers.NoMemory) × (out' ≡ out ++ text_of (refused_line (transfer_fault_name e) ∷ [])) → AnswersLine (unless_unfit fault v answered) v out out'
-unfit v out out' fault e answered is prints = rw is (record { acts = refl; prints = prints.1 })
+pub unfit_runs : {A E : Type 0} (v : View) (fault : Option TransferFault) (e : TransferFault) (answered : Answered) (result : Result A E) (out out' : List ℕ) → fault ≡ Some e → OnOk result (out' ≡ out ++ text_of (refused_line (transfer_fault_name e) ∷ [])) → OnErr result (out' ≡ out) → RunsLine (unless_unfit fault v answered) v result out out'
+unfit_runs v fault e answered result out out' is prints kept =
+    rw is (printed_runs (told (refused_line (transfer_fault_name e)) v) v result out out' (on_ok_weaker result (λ _. refl) prints) prints kept)
+
+-- a transfer that breaks none
+pub fit_runs : {A E : Type 0} (v w : View) (fault : Option TransferFault) (answered : Answered) (result : Result A E) (out out' : List ℕ) → fault ≡ None → RunsLine answered w result out out' → RunsLine (unless_unfit fault v answered) w result out out'
+fit_runs v w fault answered result out out' none runs = rw none runs
+
+-- ---- reads
 
 -- the entry of an answered read in the history
 kept_read : (v w : View) (addr : ℕ) (b bytes : List ℕ) (fault : Option EngineFault) → (Bytes b, w) ≡ unless fault v (Bytes bytes, with_entry v (ReadBack addr bytes)) → read_at w.history (length v.history) ≡ b
 kept_read v w addr b bytes (Some f) is = absurd (let bad : Bytes b ≡ Refused f = ap (λ (x : Reply × View). x.0) is in cc)
 kept_read v w addr b bytes None is =
-    let told_bytes : Bytes b ≡ Bytes bytes = ap (λ (x : Reply × View). x.0) is in
+    let reported_bytes : Bytes b ≡ Bytes bytes = ap (λ (x : Reply × View). x.0) is in
     let same : b ≡ bytes = cc in
     let after : w ≡ with_entry v (ReadBack addr bytes) = ap (λ (x : Reply × View). x.1) is in
     ap (λ (u : View). read_at u.history (length v.history)) after ∙ ap read_in (slice_get-push_last v.history (ReadBack addr bytes) (length v.history) refl) ∙ sym same
 
 -- a read, whose bytes are printed from the history
-pub read_prints : (v w : View) (addr n : ℕ) (bytes out out' : List ℕ) → (Bytes bytes, w) ≡ answer v (Read addr n) → out' ≡ out ++ text_of (((codes "read 0x" ++ hex_address addr) ++ spaced_bytes (read_at w.history (length v.history))) ∷ []) → AnswersLine (call_answer v (Read addr n)) w out out'
-read_prints v w addr n bytes out out' is prints =
-    let kept = kept_read v w addr bytes (take n (drop addr (object_of v).image)) (read_fault v addr n) is in
-    subst (λ (x : Reply × View). AnswersLine (told (call_line (Read addr n) x.0) x.1) w out out') is
-    (record { acts = refl; prints = prints ∙ ap (λ (b : List ℕ). out ++ text_of (((codes "read 0x" ++ hex_address addr) ++ spaced_bytes b) ∷ [])) kept })
+pub read_runs : {A E : Type 0} (v w : View) (addr n : ℕ) (bytes : List ℕ) (result : Result A E) (out out' : List ℕ) → (Bytes bytes, w) ≡ answer v (Read addr n) → OnOk result (out' ≡ out ++ text_of ((codes "read 0x" ++ hex_digits addr ++ spaced_bytes (read_at w.history (length v.history))) ∷ [])) → OnErr result (out' ≡ out) → RunsLine (call_answer v (Read addr n)) w result out out'
+read_runs v w addr n bytes result out out' is prints kept =
+    let same = kept_read v w addr bytes (take n (drop addr (object_of v).image)) (read_fault v addr n) is in
+    call_runs v w (Read addr n) (Bytes bytes) result out out' is (on_ok_weaker result (λ _ e. cc) prints)
+    (on_ok_weaker result (λ p. p ∙ ap (λ (b : List ℕ). out ++ text_of ((codes "read 0x" ++ hex_digits addr ++ spaced_bytes b) ∷ [])) same) prints) kept
+
+-- ---- copies
 
 -- channel 0 in use or not
 pub where_used : (start : List ℕ) (v : View) (t : Descriptor) → is_in_use v ≡ true → copied start v t ≡ told (refused_line (codes "ChannelInUse")) v
-where_used start v t used = ap (λ b. if b then told (refused_line (codes "ChannelInUse")) v else copied_after start (answer v (Submit 0 t))) used
+where_used start v t used = ap (λ b. if b then told (refused_line (codes "ChannelInUse")) v else copied_after start (answer v (SubmitCall 0 t))) used
 
-pub where_free : (start : List ℕ) (v : View) (t : Descriptor) → is_in_use v ≡ false → copied start v t ≡ copied_after start (answer v (Submit 0 t))
-where_free start v t free = ap (λ b. if b then told (refused_line (codes "ChannelInUse")) v else copied_after start (answer v (Submit 0 t))) free
+pub where_free : (start : List ℕ) (v : View) (t : Descriptor) → is_in_use v ≡ false → copied start v t ≡ copied_after start (answer v (SubmitCall 0 t))
+where_free start v t free = ap (λ b. if b then told (refused_line (codes "ChannelInUse")) v else copied_after start (answer v (SubmitCall 0 t))) free
+
+-- the submit of a copy was refused
+pub refused_copy_runs : {A E : Type 0} (start : List ℕ) (v w : View) (t : Descriptor) (fault : EngineFault) (result : Result A E) (out out' : List ℕ) → CallAnswers v (SubmitCall 0 t) (Refused fault) w → OnOk result (fault ≢ NoMemory) → OnOk result (out' ≡ out ++ text_of (refused_line (fault_text fault) ∷ [])) → OnErr result (out' ≡ out) → RunsLine (copied_after start (answer v (SubmitCall 0 t))) w result out out'
+refused_copy_runs {A = A} {E = E} start v w t fault (Ok a) out out' is served prints kept =
+    subst (λ (x : Reply × View). RunsLine {A = A} {E = E} (copied_after start x) w (Ok a) out out') (served-one v (SubmitCall 0 t) (Refused fault) w (refused-served fault served) is)
+    (printed_runs {A = A} {E = E} (told (refused_line (fault_text fault)) w) w (Ok a) out out' refl prints tt)
+refused_copy_runs start v w t fault (Err e) out out' is served prints kept = record { ok = tt; err = kept }
+
+-- a copy was submitted, issued and stepped through
+pub copy_runs : {A E : Type 0} (start : List ℕ) (v u x w : View) (t : Descriptor) (cookie : ℕ) (issued last : Reply) (result : Result A E) (out out' : List ℕ) → (Cookie cookie, u) ≡ answer v (SubmitCall 0 t) → (issued, x) ≡ answer u (IssueCall 0) → (last, w) ≡ stepped_through most_steps x → OnOk result (out' ≡ out ++ text_of (through_line start last ∷ [])) → OnErr result (out' ≡ out) → RunsLine (copied_after start (answer v (SubmitCall 0 t))) w result out out'
+copy_runs {A = A} {E = E} start v u x w t cookie issued last result out out' submitted is steps prints kept =
+    let through = steps ∙ ap (λ (a : Reply × View). stepped_through most_steps a.1) is in
+    subst (λ (a : Reply × View). RunsLine {A = A} {E = E} (copied_after start a) w result out out') submitted
+    (subst (λ (a : Reply × View). RunsLine {A = A} {E = E} (told (through_line start a.0) a.1) w result out out') through
+    (printed_runs (told (through_line start last) w) w result out out' (on_ok_weaker result (λ _. refl) prints) prints kept))
 
 -- ---- what runs
 
-pub filter_map-more : {X : Type 0} (f : ℕ → Option X) (n : ℕ) → filter_map f (range_with_len 0 (n + 1)) ≡ filter_map f (range_with_len 0 n) ++ filter_map f (n ∷ [])
-filter_map-more f n =
-    let place : 0 + n ≡ n = omega arith in
-    ap (filter_map f) (range_with_len-add 0 n 1 ∙ ap (λ k. range_with_len 0 n ++ k ∷ []) place) ∙ filter_map-append f (range_with_len 0 n) (n ∷ [])
+counted-one : {X Y : Type 0} (f : X → Y) (x : Option X) (n : ℕ) (more : List X) → length more ≡ n → length (cons_option x more) ≡ cond (is_some (option_map f x)) (1 + n) n
+counted-one f None n more is = is
+counted-one f (Some x) n more is = omega (arith, is)
 
-one-or-none : {X : Type 0} (x : Option X) (b : Bool) → is_some x ≡ b → length (cons_option x []) ≡ (if b then 1 else 0)
-one-or-none None true is = absurd cc
-one-or-none None false is = refl
-one-or-none (Some x) true is = refl
-one-or-none (Some x) false is = absurd cc
-
-at-most-one : (b : Bool) → (if b then 1 else 0) ≤ 1
-at-most-one true = omega arith
-at-most-one false = omega arith
-
--- the length grows by one if `f n` has a value
-pub counted : {X : Type 0} (f : ℕ → Option X) (n : ℕ) (b : Bool) → is_some (f n) ≡ b → length (filter_map f (range_with_len 0 (n + 1))) ≡ length (filter_map f (range_with_len 0 n)) + (if b then 1 else 0)
-counted f n b is =
-    ap length (filter_map-more f n) ∙ length-append (filter_map f (range_with_len 0 n)) (filter_map f (n ∷ []))
-    ∙ ap (λ k. length (filter_map f (range_with_len 0 n)) + k) (one-or-none (f n) b is)
-
--- at most one for each number
-pub counted-within : {X : Type 0} (f : ℕ → Option X) (n : ℕ) → length (filter_map f (range_with_len 0 n)) ≤ n
-counted-within f zero = omega arith
-counted-within f (suc n) =
-    let more = counted f n (is_some (f n)) refl in
-    let few : (if is_some (f n) then 1 else 0) ≤ 1 = at-most-one (is_some (f n)) in
-    let before = counted-within f n in
-    subst (λ k. length (filter_map f (range_with_len 0 k)) ≤ k) (add-one n) (omega (arith, more, few, before))
+-- the values are as many as the numbers that have one
+pub counted : {X Y : Type 0} (f : X → Y) (g : ℕ → Option X) (xs : List ℕ) → length (filter_map g xs) ≡ count_by (λ n. is_some (option_map f (g n))) xs
+counted f g xs = is_count_by (λ l. length (filter_map g l)) (λ n. is_some (option_map f (g n))) refl (λ x l. counted-one f (g x) _ (filter_map g l) refl) xs
 
 pub running-is : (o : Object) (schedule : List ChannelSchedule) → running o schedule ≡ filter_map (runs o schedule) (range_with_len 0 (length o.channels))
 unfolding running
 running-is o schedule = refl
-
--- a mapped option has a value exactly if the option has one
-pub is_some-told : {X Y : Type 0} (f : X → Y) (x : Option X) → is_some (option_map f x) ≡ is_some x
-is_some-told f None = refl
-is_some-told f (Some x) = refl
-
--- two parts appended one after another are one part
-pub two-more : (line first word number : List ℕ) → line ++ first ++ (word ++ number) ≡ line ++ (first ++ word ++ number)
-two-more line first word number =
-    append_assoc line first (word ++ number) ∙ ap (λ l. line ++ l) (sym (append_assoc first word number))
 
 -- ---- the lines of a script, one after another
 
@@ -146,10 +177,20 @@ answered-some seen is_refused found left lines old new stop =
       whole = answered-all seen found stop.between stop.before old new stop.printed ∙ ap (λ g. old ++ printed_text g) (sym first);
     }
 
+-- an answer that is out of memory
+pub answers_some : {E : Type 0} (printed : Printed) (result : Result ℕ E) (old new : List ℕ) → IsErr result → AppendsGroups printed.groups old new → Answers printed result old new
+answers_some printed (Ok status) old new err first = absurd (let no : false ≡ true = err in cc)
+answers_some printed (Err e) old new err first = record { text = tt; status = tt; refused = first }
+
+-- an answer that is out of memory at once
+pub answers_none : {E : Type 0} (printed : Printed) (result : Result ℕ E) (old new : List ℕ) → IsErr result → 0 < length printed.groups → new ≡ old → Answers printed result old new
+answers_none printed result old new err some same =
+    answers_some printed result old new err (record { count = 0; some_left = some; whole = same ∙ sym (append-nil old) })
+
 -- what the memory line prints comes before what the others print
-pub AppendsGroups-memory : (groups : List (List (List ℕ))) (old new : List ℕ) → AppendsGroups groups old new → AppendsGroups ([] ∷ groups) old new
-AppendsGroups-memory groups old new a = record {
-  count = suc a.count;
-  some_left = omega (arith, a.some_left);
-  whole = a.whole;
+pub answers_memory : {E : Type 0} (groups : List (List (List ℕ))) (status : ℕ) (result : Result ℕ E) (old new : List ℕ) → Answers (record { groups = groups; status = status }) result old new → Answers (record { groups = [] ∷ groups; status = status }) result old new
+answers_memory groups status result old new a = record {
+  text = a.text;
+  status = a.status;
+  refused = on_err_weaker result (λ first. record { count = suc first.count; some_left = omega (arith, first.some_left); whole = first.whole }) a.refused;
 }

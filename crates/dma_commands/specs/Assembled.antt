@@ -1,6 +1,5 @@
 -- What `dmasim asm` prints for an input.
-use Rattle.std.specs.Prelude.{◌≡◌, ◌≢◌, ◌⊎◌, ℕ, ◌∷◌, [], List, Result, Ok, Err, codes, decimal}
-use Rattle.std.specs.List.{concat}
+use Rattle.std.specs.Prelude.{◌≡◌, ◌≢◌, ◌⊎◌, ℕ, ◌++◌, ◌∷◌, [], List, Result, Ok, Err, codes, decimal}
 use Rattle.dma_insn.specs.declared.assembler.Cause.{Cause}
 use Rattle.dma_insn.specs.declared.assembler.Cause.TheVariants.{Mnemonic, Operand, Range}
 use Rattle.dma_insn.specs.declared.assembler.AsmFault.{AsmFault}
@@ -18,8 +17,8 @@ cause_name Range = codes "range"
 
 -- the line of a fault; `NoMemory` has none, so this is the empty list
 abbrev pub fault_line : AsmFault → List ℕ
-fault_line (Line n cause) = concat (codes "line " ∷ decimal n ∷ codes ": " ∷ cause_name cause ∷ [])
-fault_line (ProgramTooLong n) = concat (codes "line " ∷ decimal n ∷ codes ": ProgramTooLong" ∷ [])
+fault_line (Line n cause) = codes "line " ++ decimal n ++ codes ": " ++ cause_name cause
+fault_line (ProgramTooLong n) = codes "line " ++ decimal n ++ codes ": ProgramTooLong"
 fault_line NoMemory = []
 
 -- What is printed for an assembled text: the bytes of its program, with status 0, or its first fault, as a refusal.

@@ -1,13 +1,14 @@
 -- What `dmasim dis` prints for an input.
 use Rattle.std.specs.Prelude.{◌≡◌, ◌⊎◌, ℕ, ◌+◌, ◌-◌, ◌++◌, ◌∷◌, [], List, Result, Ok, Err, suc, zero, codes, decimal}
-use Rattle.std.specs.List.{concat}
 use Rattle.dma_insn.specs.declared.codec.DecodeFault.{DecodeFault}
 use Rattle.dma_insn.specs.declared.codec.DecodeFault.TheVariants.{Cut, Unknown, BadField}
 use Rattle.dma_insn.specs.Decoding.{Decoded, decoded}
 use Rattle.dma_insn.specs.Disassembly.{insn_text, Disassembles, StopsAt}
 use Rattle.dma_script.specs.Command.{Printed, refusal, text_of}
-use Rattle.dma_script.specs.Printing.{hex_byte_of}
-use Rattle.dma_script.specs.Pairs.{pairs_of, pairs_fault_line}
+use Rattle.dma_text.specs.Digits.{hex_pair}
+use Rattle.dma_script.specs.Pairs.{pairs_of}
+use Rattle.dma_script.specs.Printing.{fault_line}
+use Rattle.dma_script.specs.declared.fault.Fault.{Fault}
 
 -- the lines with this line before them; a fault stays as it is
 abbrev pub with_line : List ℕ → Result (List (List ℕ)) (ℕ × DecodeFault) → Result (List (List ℕ)) (ℕ × DecodeFault)
@@ -32,10 +33,9 @@ lines_from offset zero (byte ∷ rest) =
 
 -- the line of a fault
 abbrev pub decode_fault_line : ℕ → DecodeFault → List ℕ
-decode_fault_line offset Cut = concat (codes "offset " ∷ decimal offset ∷ codes ": Cut" ∷ [])
-decode_fault_line offset (Unknown byte) =
-    concat (codes "offset " ∷ decimal offset ∷ codes ": Unknown " ∷ []) ++ hex_byte_of byte
-decode_fault_line offset BadField = concat (codes "offset " ∷ decimal offset ∷ codes ": BadField" ∷ [])
+decode_fault_line offset Cut = codes "offset " ++ decimal offset ++ codes ": Cut"
+decode_fault_line offset (Unknown byte) = codes "offset " ++ decimal offset ++ codes ": Unknown " ++ hex_pair byte
+decode_fault_line offset BadField = codes "offset " ++ decimal offset ++ codes ": BadField"
 
 -- what is printed for these lines, with status 0, or for a fault, as a refusal
 abbrev pub lines_printed : Result (List (List ℕ)) (ℕ × DecodeFault) → Printed
@@ -44,9 +44,9 @@ lines_printed (Err fault) = refusal (decode_fault_line fault.0 fault.1)
 
 -- What is printed for the bytes that the pairs of digits spell: their disassembled lines or their first decoding
 -- fault. An input that isn't pairs of digits prints the fault with the line of its first wrong byte.
-abbrev pub dis_printed_of : Result (List ℕ) ℕ → Printed
+abbrev pub dis_printed_of : Result (List ℕ) Fault → Printed
 dis_printed_of (Ok bytes) = lines_printed (lines_from 0 0 bytes)
-dis_printed_of (Err line) = refusal (pairs_fault_line line)
+dis_printed_of (Err fault) = refusal (fault_line fault)
 
 -- What is printed for an input.
 abbrev pub dis_printed : List ℕ → Printed

@@ -1,6 +1,5 @@
 -- What `dmasim plan` prints for an input.
 use Rattle.std.specs.Prelude.{ℕ, ◌∷◌, [], ◌++◌, List, length, Option, Some, None, Result, Ok, Err, codes, decimal}
-use Rattle.std.specs.List.{concat}
 use Rattle.dma_mem.specs.declared.transfer.TransferFault.{TransferFault}
 use Rattle.dma_mem.specs.Refusals.{refusal_of}
 use Rattle.dma_chan.specs.Programs.{ProgramValue}
@@ -15,17 +14,17 @@ use Rattle.dma_commands.specs.Transfers.{transfer_of}
 
 -- `line N: NAME`
 abbrev pub unfit_line : ℕ → TransferFault → List ℕ
-unfit_line line fault = concat (codes "line " ∷ decimal line ∷ codes ": " ∷ transfer_fault_name fault ∷ [])
+unfit_line line fault = codes "line " ++ decimal line ++ codes ": " ++ transfer_fault_name fault
 
 -- `cost N` for a program with a cost, else no line
 abbrev pub cost_lines : Option ℕ → List (List ℕ)
 cost_lines None = []
-cost_lines (Some cost) = concat (codes "cost " ∷ decimal cost ∷ []) ∷ []
+cost_lines (Some cost) = (codes "cost " ++ decimal cost) ∷ []
 
 -- the lines of a program: its bytes, their number, and its cost
 abbrev pub program_printed : ProgramValue → List (List ℕ)
 program_printed program =
-    program_lines program.bytes ++ concat (codes "bytes " ∷ decimal (length program.bytes) ∷ []) ∷ cost_lines program.cost
+    program_lines program.bytes ++ (codes "bytes " ++ decimal (length program.bytes)) ∷ cost_lines program.cost
 
 -- What is printed for a transfer: its program, with status 0, or the first rule that it breaks, as a refusal.
 abbrev pub transfer_printed : PlanLine → Option TransferFault → Printed

@@ -1,5 +1,5 @@
 -- The printed text of refusals, calls and replies, without line feeds (profile).
-use Rattle.std.specs.Prelude.{◌≡◌, ℕ, ◌++◌, List, [], Option, Some, None, codes, decimal, length, take}
+use Rattle.std.specs.Prelude.{ℕ, ◌++◌, List, [], Option, Some, None, codes, decimal}
 use Rattle.dma_mem.specs.declared.transfer.TransferFault.{TransferFault}
 use Rattle.dma_mem.specs.declared.transfer.TransferFault.TheVariants as transfers
 use Rattle.dma_engine.specs.declared.call.Call.{Call}
@@ -15,11 +15,7 @@ use Rattle.dma_engine.specs.declared.turn.Status.{Status}
 use Rattle.dma_engine.specs.declared.turn.Status.TheVariants.{Unknown, InProgress, Complete}
 use Rattle.dma_engine.specs.declared.turn.Turn.{Turn}
 use Rattle.dma_engine.specs.declared.turn.Turn.TheVariants.{Nothing, Held, Started, Moved, Waiting, Paused, Halted, Finished}
-use Rattle.dma_script.specs.Printing.{hex_address, spaced_bytes}
-
--- The list `whole` begins with all of `front`.
-pub record Begins (whole front : List ℕ) : Type 0 where
-  pub front_is : take (length front) whole ≡ front
+use Rattle.dma_text.specs.Digits.{hex_digits, spaced_bytes}
 
 -- the name of a broken transfer rule, or `NoMemory`
 abbrev pub transfer_fault_name : TransferFault → List ℕ
@@ -96,7 +92,7 @@ reply_text (replies.Refused fault) = refused_line (fault_text fault)
 
 -- the words that are printed before the reply to a call
 abbrev pub call_words : Call → List ℕ
-call_words (calls.Read addr len) = codes "read 0x" ++ hex_address addr
+call_words (calls.Read addr len) = codes "read 0x" ++ hex_digits addr
 call_words (calls.Submit ch transfer) = codes "cookie "
 call_words (calls.Issue ch) = codes "issued "
 call_words (calls.Terminate ch) = codes "aborted "

@@ -10,7 +10,7 @@ use Rattle.dma_engine.specs.declared.call.Call.{Call}
 use Rattle.dma_engine.specs.declared.call.Call.TheVariants as calls
 use Rattle.dma_engine.specs.declared.call.Reply.{Reply}
 use Rattle.dma_engine.specs.declared.call.Reply.TheVariants.{Turned, Cookie, Refused}
-use Rattle.dma_engine.specs.declared.turn.Turn.TheVariants.{Started, Moved}
+use Rattle.dma_engine.specs.Advance as steps
 use Rattle.dma_engine.specs.Object.{channel, unfinished}
 use Rattle.dma_engine.specs.View.{View, IsSound, new_view, object_of, schedule_at, running}
 use Rattle.dma_engine.specs.Answer.{answer, answers}
@@ -84,8 +84,7 @@ is_in_use v =
 
 -- whether a copy or a fill continues after this answer: it is Started or Moved
 abbrev pub goes_on : Reply → Bool
-goes_on (Turned (Started cookie)) = true
-goes_on (Turned Moved) = true
+goes_on (Turned turn) = steps.goes_on (Ok turn)
 goes_on _ = false
 
 -- Steps channel 0 until an answer is neither Started nor Moved, and at most n + 1 times for the argument n. The result

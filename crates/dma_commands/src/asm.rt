@@ -1,13 +1,14 @@
 //! The command `asm`: prints the bytes of the program that an assembly text describes.
-ghost use Rattle.std.specs.Prelude.{◌≡◌, ◌≢◌, ◌≤◌, ◌+◌, ◌++◌, ◌∷◌, [], OnOk, OnErr, IfSome};
-ghost use Rattle.dma_script.specs.Command.{Ends, failures, longest_input, printed_within, text_of};
-ghost use Rattle.dma_commands.specs.Assembled.{AsmPrints, asm_printed, cause_name, fault_line};
+ghost use Rattle.std.specs.Prelude.{◌≡◌, ◌≤◌, ◌+◌, IfSome};
+ghost use Rattle.dma_script.specs.Command.{Ends, failures, longest_input, printed_within};
+ghost use Rattle.dma_commands.specs.Assembled.{AsmPrints, asm_printed, cause_name};
 
 use dma_insn::assembler::{AsmFault, Cause, assemble};
-use dma_script::command::{Command, FAULT, SUCCESS, serve};
+use dma_script::command::{Command, SUCCESS, refuse, serve};
 use dma_script::input::Source;
 use dma_script::output::Sink;
-use dma_script::printing::{push_line, push_program};
+use dma_script::printing::ProgramLines;
+use dma_text::text::print;
 use std::alloc::{AllocError, Global};
 
 /// Returns the name of a cause.
@@ -19,39 +20,6 @@ fn cause_name(cause: Cause) -> &'static str
         Cause::Operand => "operand",
         Cause::Range => "range",
     }
-}
-
-/// Appends the line of a fault. Fails with `AllocError`, and appends nothing, if memory runs out or if the fault
-/// itself is `NoMemory`, which has no line.
-fn push_asm_fault(alloc: Global, out: &mut Vec<u8>, fault: AsmFault) -> Result<(), AllocError>
-    ensures ok { OnOk result ((fault ≢ AsmFault.NoMemory) × (out.new.items ≡ out.old.items ++ text_of (fault_line fault ∷ []))) }
-    ensures err { OnErr result (out.new.items ≡ out.old.items) }
-{
-    match fault {
-        AsmFault::Line { n, cause } => push_cause(alloc, out, n, cause),
-        AsmFault::ProgramTooLong(n) => push_too_long(alloc, out, n),
-        AsmFault::NoMemory => Err(AllocError),
-    }
-}
-
-/// Appends the line of a fault in line `n`, or appends nothing and fails if memory runs out.
-fn push_cause(alloc: Global, out: &mut Vec<u8>, n: usize, cause: Cause) -> Result<(), AllocError>
-    ensures ok { OnOk result (out.new.items ≡ out.old.items ++ text_of (fault_line (AsmFault.Line n cause) ∷ [])) }
-    ensures err { OnErr result (out.new.items ≡ out.old.items) }
-{
-    let name = cause_name(cause);
-    let line = format!(in alloc; "line {n}: {name}")?;
-    push_line(out, line.as_bytes())
-}
-
-/// Appends the fault line for line `n`, the first with which the program is too long, or appends nothing and fails if
-/// memory runs out.
-fn push_too_long(alloc: Global, out: &mut Vec<u8>, n: usize) -> Result<(), AllocError>
-    ensures ok { OnOk result (out.new.items ≡ out.old.items ++ text_of (fault_line (AsmFault.ProgramTooLong n) ∷ [])) }
-    ensures err { OnErr result (out.new.items ≡ out.old.items) }
-{
-    let line = format!(in alloc; "line {n}: ProgramTooLong")?;
-    push_line(out, line.as_bytes())
 }
 
 /// The command `asm`.
@@ -69,13 +37,12 @@ impl Command for Asm {
     fn answer(&self, alloc: Global, input: &[u8], out: &mut Vec<u8>) -> Result<u8, AllocError> {
         match assemble(alloc, input) {
             Ok(program) => {
-                push_program(alloc, out, &program)?;
+                print(out, &ProgramLines(&program))?;
                 Ok(SUCCESS)
             }
-            Err(fault) => {
-                push_asm_fault(alloc, out, fault)?;
-                Ok(FAULT)
-            }
+            Err(AsmFault::Line { n, cause }) => refuse(out, &("line ", n, ": ", cause_name(cause))),
+            Err(AsmFault::ProgramTooLong(n)) => refuse(out, &("line ", n, ": ProgramTooLong")),
+            Err(AsmFault::NoMemory) => Err(AllocError),
         }
     }
 

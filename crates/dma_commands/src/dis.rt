@@ -1,86 +1,48 @@
 //! The command `dis`: prints the disassembled text of a program's bytes.
-ghost use Rattle.std.specs.Prelude.{◌≡◌, ◌≤◌, ◌+◌, ◌++◌, ◌∷◌, [], OnOk, OnErr, IfOk, IfSome};
-ghost use Rattle.dma_insn.specs.declared.codec.DecodeFault.{DecodeFault};
-ghost use Rattle.dma_script.specs.Command.{Ends, failures, longest_input, printed_text, printed_within, text_of};
+ghost use Rattle.std.specs.Prelude.{◌≤◌, ◌+◌, IfSome};
+ghost use Rattle.dma_script.specs.Command.{Answers, Ends, failures, longest_input, printed_within, refusal};
 ghost use Rattle.dma_commands.specs.Disassembled.{DisPrints, decode_fault_line, dis_printed, lines_from, lines_printed};
 
 use dma_insn::codec::DecodeFault;
 use dma_insn::disassembler::{DisFault, disassemble};
-use dma_script::command::{Command, FAULT, SUCCESS, serve};
+use dma_script::command::{Command, SUCCESS, refuse, serve};
 use dma_script::input::Source;
 use dma_script::output::Sink;
-use dma_script::pairs::{PairsError, push_pairs_fault, read_pairs};
-use dma_script::printing::{push_byte, push_line};
+use dma_script::pairs::read_pairs;
+use dma_text::text::{HexByte, print};
 use std::alloc::{AllocError, Global};
 
-/// Returns the line of a decoding fault.
-fn decode_fault_line(
-    alloc: Global,
-    offset: usize,
-    fault: DecodeFault,
-) -> Result<Vec<u8>, AllocError>
-    ensures { IfOk result (λ line. line.items ≡ decode_fault_line offset fault) }
+/// Appends the line of a decoding fault and returns the status, or appends nothing and fails if memory runs out.
+fn refuse_decoding(out: &mut Vec<u8>, offset: usize, fault: DecodeFault) -> Result<u8, AllocError>
+    ensures { Answers (refusal (decode_fault_line offset fault)) result
+        out.old.items out.new.items }
 {
     match fault {
-        DecodeFault::Cut => {
-            let line = format!(in alloc; "offset {offset}: Cut")?;
-            Ok(line.into_bytes())
-        }
+        DecodeFault::Cut => refuse(out, &("offset ", offset, ": Cut")),
         DecodeFault::Unknown(byte) => {
-            let mut line = format!(in alloc; "offset {offset}: Unknown ")?.into_bytes();
-            push_byte(&mut line, byte)?;
-            Ok(line)
+            refuse(out, &("offset ", offset, ": Unknown ", HexByte(byte)))
         }
-        DecodeFault::BadField => {
-            let line = format!(in alloc; "offset {offset}: BadField")?;
-            Ok(line.into_bytes())
-        }
+        DecodeFault::BadField => refuse(out, &("offset ", offset, ": BadField")),
     }
-}
-
-/// Appends the line of a decoding fault, or appends nothing and fails if memory runs out.
-fn push_decode_fault(
-    alloc: Global,
-    out: &mut Vec<u8>,
-    offset: usize,
-    fault: DecodeFault,
-) -> Result<(), AllocError>
-    ensures ok { OnOk result (out.new.items ≡ out.old.items ++ text_of (decode_fault_line offset fault ∷ [])) }
-    ensures err { OnErr result (out.new.items ≡ out.old.items) }
-{
-    let line = decode_fault_line(alloc, offset, fault)?;
-    push_line(out, &line)
-}
-
-/// Appends a text, or appends nothing and fails if memory runs out. An empty output is replaced by the text, so that a
-/// long text is not copied.
-fn push_whole(out: &mut Vec<u8>, text: Vec<u8>) -> Result<(), AllocError>
-    ensures ok { OnOk result (out.new.items ≡ out.old.items ++ text.items) }
-    ensures err { OnErr result (out.new.items ≡ out.old.items) }
-{
-    if out.is_empty() {
-        *out = text;
-        return Ok(());
-    }
-    out.extend_from_slice(&text)
 }
 
 /// Appends the text of a program's bytes, or the line of their first fault, and returns the status. Appends nothing
 /// and fails if memory runs out.
-fn push_text(alloc: Global, out: &mut Vec<u8>, bytes: &[u8]) -> Result<u8, AllocError>
-    ensures text { OnOk result (out.new.items ≡ out.old.items ++ printed_text (lines_printed (lines_from 0 0 bytes.now)).groups) }
-    ensures status { IfOk result (λ status. status ≡ (lines_printed (lines_from 0 0 bytes.now)).status) }
-    ensures err { OnErr result (out.new.items ≡ out.old.items) }
+fn print_text(alloc: Global, out: &mut Vec<u8>, bytes: &[u8]) -> Result<u8, AllocError>
+    ensures { Answers (lines_printed (lines_from 0 0 bytes.now)) result
+        out.old.items out.new.items }
 {
     match disassemble(alloc, bytes) {
         Ok(text) => {
-            push_whole(out, text)?;
+            // A long text is not copied.
+            if out.is_empty() {
+                *out = text;
+            } else {
+                print(out, &text.as_slice())?;
+            }
             Ok(SUCCESS)
         }
-        Err(DisFault::Decode { offset, fault }) => {
-            push_decode_fault(alloc, out, offset, fault)?;
-            Ok(FAULT)
-        }
+        Err(DisFault::Decode { offset, fault }) => refuse_decoding(out, offset, fault),
         Err(DisFault::NoMemory) => Err(AllocError),
     }
 }
@@ -99,12 +61,8 @@ impl Command for Dis {
 
     fn answer(&self, alloc: Global, input: &[u8], out: &mut Vec<u8>) -> Result<u8, AllocError> {
         match read_pairs(alloc, input) {
-            Ok(bytes) => push_text(alloc, out, &bytes),
-            Err(PairsError::Line(line)) => {
-                push_pairs_fault(alloc, out, line)?;
-                Ok(FAULT)
-            }
-            Err(PairsError::NoMemory) => Err(AllocError),
+            Ok(bytes) => print_text(alloc, out, &bytes),
+            Err(error) => refuse(out, &error),
         }
     }
 
@@ -113,7 +71,7 @@ impl Command for Dis {
         | Ok lines ↦ zero-lt-suc _
         | Err fault ↦ zero-lt-suc _
       ]
-      | Err line ↦ zero-lt-suc _
+      | Err fault ↦ zero-lt-suc _
     ] };
 }
 

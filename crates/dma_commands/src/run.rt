@@ -1,25 +1,21 @@
 //! The command `run`: executes a script line by line.
-ghost use Rattle.std.specs.Prelude.{◌≡◌, ◌≤◌, ◌+◌, ◌++◌, OnOk, OnErr, IfSome};
-ghost use Rattle.dma_script.specs.Command.{AppendsGroups, Ends, failures, longest_input, printed_text, printed_within};
+ghost use Rattle.std.specs.Prelude.{◌≡◌, ◌≤◌, ◌+◌, IfSome};
+ghost use Rattle.dma_script.specs.Command.{Answers, Ends, failures, longest_input, printed_within};
 ghost use Rattle.dma_commands.specs.Run.{line_answer, lines_answered, printed};
-ghost use Rattle.dma_commands.specs.inner.RunSteps.{AnswersLine, IsShort};
+ghost use Rattle.dma_commands.specs.inner.RunSteps.{RunsLine};
 
 pub mod calls;
 mod copies;
 mod steps;
 
-use crate::run::calls::{
-    answer_call, answer_totals, issue_line, read_line, submit_line, write_line,
-};
+use crate::run::calls::{answer_call, answer_read, answer_submit, answer_totals, answer_write};
 use crate::run::copies::{answer_copy, answer_fill};
 use crate::run::steps::{StepLines, answer_steps};
-use dma_engine::{Call, Engine, NewFault};
-use dma_script::command::{Command, FAULT, SUCCESS, serve};
-use dma_script::fault::ScriptError;
+use dma_engine::{Engine, NewFault};
+use dma_script::command::{Command, SUCCESS, refuse, serve};
 use dma_script::input::Source;
 use dma_script::interpreter::{Interpreter, interpret_lines};
 use dma_script::output::Sink;
-use dma_script::printing::push_fault;
 use dma_script::statements::{Statement, Statements, read_run_script};
 use std::alloc::{AllocError, Global};
 
@@ -27,60 +23,21 @@ use std::alloc::{AllocError, Global};
 fn run_statement(
     engine: &mut Engine,
     statement: Statement,
-    told: &mut StepLines,
+    steps: &mut StepLines,
     out: &mut Vec<u8>,
 ) -> Result<(), AllocError>
-    ensures ok { OnOk result (AnswersLine (line_answer engine.old.view statement) engine.new.view out.old.items out.new.items) }
-    ensures err { OnErr result (out.new.items ≡ out.old.items) }
+    ensures { RunsLine (line_answer engine.old.view statement) engine.new.view
+        result out.old.items out.new.items }
 {
     match statement {
-        Statement::Write { addr, bytes } => write_line(engine, addr, bytes, out),
-        Statement::Read(segment) => read_line(engine, segment, out),
+        Statement::Write { addr, bytes } => answer_write(engine, addr, bytes, out),
+        Statement::Read(segment) => answer_read(engine, segment, out),
         Statement::Copy(lists) => answer_copy(engine, lists, out),
         Statement::Fill { src, dst } => answer_fill(engine, src, dst, out),
-        Statement::Submit { ch, transfer } => submit_line(engine, ch, transfer, out),
-        Statement::Issue { ch } => issue_line(engine, ch, out),
-        Statement::Step { ch, count } => answer_steps(engine, ch, count, told, out),
+        Statement::Submit { ch, transfer } => answer_submit(engine, ch, transfer, out),
+        Statement::Step { ch, count } => answer_steps(engine, ch, count, steps, out),
         Statement::Totals => answer_totals(engine, out),
-        Statement::Pause { .. }
-        | Statement::Resume { .. }
-        | Statement::Terminate { .. }
-        | Statement::Status { .. }
-        | Statement::Result { .. }
-        | Statement::Mark { .. }
-        | Statement::Unmark
-        | Statement::Raise { .. }
-        | Statement::Checkpoint => answer_short(engine, statement, out),
-    }
-}
-
-/// Executes a line that makes one call without a list or bytes. Not inlined into `run_statement`, because these lines
-/// are rare and the locals of all arms of a `match` are cleared whichever arm is taken.
-#[inline(never)]
-fn answer_short(
-    engine: &mut Engine,
-    statement: Statement,
-    out: &mut Vec<u8>,
-) -> Result<(), AllocError>
-    requires { IsShort statement }
-    ensures ok { OnOk result (AnswersLine (line_answer engine.old.view statement) engine.new.view out.old.items out.new.items) }
-    ensures err { OnErr result (out.new.items ≡ out.old.items) }
-{
-    match statement {
-        Statement::Pause { ch } => answer_call(engine, &Call::Pause { ch }, out),
-        Statement::Resume { ch } => answer_call(engine, &Call::Resume { ch }, out),
-        Statement::Terminate { ch } => answer_call(engine, &Call::Terminate { ch }, out),
-        Statement::Status { ch, cookie } => answer_call(engine, &Call::Status { ch, cookie }, out),
-        Statement::Result { ch, cookie } => answer_call(engine, &Call::Result { ch, cookie }, out),
-        Statement::Mark { kind, segment } => answer_call(
-            engine,
-            &Call::Mark { kind, segment },
-            out,
-        ),
-        Statement::Unmark => answer_call(engine, &Call::Unmark, out),
-        Statement::Raise { event } => answer_call(engine, &Call::Raise { event }, out),
-        Statement::Checkpoint => answer_call(engine, &Call::Checkpoint, out),
-        _ => unreachable!(),
+        line => answer_call(engine, line, out),
     }
 }
 
@@ -88,33 +45,35 @@ fn answer_short(
 #[derive(Drop)]
 struct LinesOnEngine<'a> {
     engine: &'a mut Engine,
-    told: StepLines,
+    steps: StepLines,
 }
 
 impl Interpreter for LinesOnEngine<'_> {
     type Line = Statement;
 
-    ghost acts = { λ found line group left. line_answer found.engine.now.view line ≡ (group, left.engine.now.view) };
+    ghost acts = { λ found line group left. line_answer found.engine.now.view line
+        ≡ (group, left.engine.now.view) };
 
     fn interpret(&mut self, line: Statement, out: &mut Vec<u8>) -> Result<(), AllocError> {
-        run_statement(self.engine, line, &mut self.told, out)
+        run_statement(self.engine, line, &mut self.steps, out)
     }
 }
 
-/// Executes the lines of a script and drops each one afterwards. If memory runs out, the output keeps what the lines
-/// before printed.
+/// Executes the lines of a script, drops each one afterwards, and returns the exit status. If memory runs out, the
+/// output keeps what the lines before printed.
 pub fn run_statements(
     alloc: Global,
     engine: &mut Engine,
     statements: Statements,
     out: &mut Vec<u8>,
-) -> Result<(), AllocError>
-    ensures ok { OnOk result (out.new.items ≡ out.old.items ++ printed_text (lines_answered engine.old.view statements)) }
-    ensures err { OnErr result (AppendsGroups (lines_answered engine.old.view statements) out.old.items out.new.items) }
+) -> Result<u8, AllocError>
+    ensures { Answers (record { groups = lines_answered engine.old.view statements; status = 0 })
+        result out.old.items out.new.items }
 {
-    let told = StepLines::new(alloc);
-    let mut lines = LinesOnEngine { engine, told };
-    interpret_lines(&mut lines, statements.into_vec(), out)
+    let steps = StepLines::new(alloc);
+    let mut lines = LinesOnEngine { engine, steps };
+    interpret_lines(&mut lines, statements.into_vec(), out)?;
+    Ok(SUCCESS)
 }
 
 /// The command `run`.
@@ -137,14 +96,9 @@ impl Command for Run {
                     Err(NewFault::NoMemory) => return Err(AllocError),
                     Err(NewFault::BadChannels | NewFault::SizeOutOfRange) => unreachable!(),
                 };
-                run_statements(alloc, &mut engine, script.statements, out)?;
-                Ok(SUCCESS)
+                run_statements(alloc, &mut engine, script.statements, out)
             }
-            Err(ScriptError::Fault(fault)) => {
-                push_fault(alloc, out, fault)?;
-                Ok(FAULT)
-            }
-            Err(ScriptError::NoMemory) => Err(AllocError),
+            Err(error) => refuse(out, &error),
         }
     }
 

@@ -1,37 +1,31 @@
 -- What each answer adds to the ticks, to the step count and to the number of finished cookies.
-use Rattle.std.proofs.Common.{◌≡◌, ℕ, ◌+◌, ◌<◌, List, [], ◌∷◌, ◌++◌, length, map, drop, Option, Some, None, Bool, true, false, refl, ap, sym, ◌∙◌, subst, arith, append-nil, inl, inr, ◌⊎◌}
-use Rattle.std.specs.Prelude.{if◌then◌else◌, ◌==◌, nat_le, slice_set, Result, Ok, Err, sum}
-use Rattle.std.proofs.lemmas.Bool.{leb-false}
+use Rattle.std.proofs.Common.{◌≡◌, ℕ, ◌+◌, ◌<◌, List, [], ◌∷◌, ◌++◌, length, map, drop, Option, Some, None, true, false, refl, ap, sym, ◌∙◌, subst, arith, append-nil, inl, inr}
+use Rattle.std.specs.Prelude.{slice_set, Result, Ok, Err, sum}
 use Rattle.std.proofs.lemmas.List.{map-set, set-get_or, length-append, length_push, length-drop}
 use Rattle.std.proofs.lemmas.List.Sums.{sum_by-set, sum-map}
 use Rattle.std.proofs.Math.ListN.{get_or-map}
-use Rattle.dma_insn.specs.declared.insn.Insn.{Insn}
-use Rattle.dma_insn.specs.declared.insn.Insn.TheVariants.{Ld, St, End, Sev, Wfe, Mov, Rmb, Wmb, Nop, Lp, LpEnd}
 use Rattle.dma_mem.specs.Places.{Descriptor}
-use Rattle.dma_mem.specs.declared.marks.MarkKind.TheVariants.{Reading, Writing}
-use Rattle.dma_mem.specs.Marking.{meets_mark}
-use Rattle.dma_chan.specs.Traffic.{member, stored_after, read_places, written_places}
+use Rattle.dma_chan.specs.Traffic.{stored_after}
 use Rattle.dma_engine.specs.declared.call.Call.{Call}
 use Rattle.dma_engine.specs.declared.call.Call.TheVariants.{Write, Read, Submit, Issue, Pause, Resume, Terminate, Step, Status, Result as ResultOf, Mark, Unmark, Raise, Checkpoint}
 use Rattle.dma_engine.specs.declared.call.Reply.{Reply}
-use Rattle.dma_engine.specs.declared.call.Reply.TheVariants.{Done, Bytes, Cookie, Count, Turned, State, Result as Told, Refused}
+use Rattle.dma_engine.specs.declared.call.Reply.TheVariants.{Done, Cookie, Count}
 use Rattle.dma_engine.specs.declared.entry.Entry.{Entry}
 use Rattle.dma_engine.specs.declared.entry.Entry.TheVariants.{Wrote, ReadBack, Submitted as SubmittedEntry, Issued, Passed, Signalled, Finished as FinishedEntry, Terminated, Marked, Unmarked}
 use Rattle.dma_engine.specs.declared.entry.Signaller.TheVariants.{Channel, Host}
 use Rattle.dma_engine.specs.declared.fault.EngineFault.{EngineFault}
-use Rattle.dma_engine.specs.declared.fault.EngineFault.TheVariants.{OutOfMemoryRange, Busy, Running, NoChannel, CookiesSpent, StepsSpent, BadEvent, BadRange, NoMemory}
 use Rattle.dma_engine.specs.declared.outcome.TransResult.{TransResult}
-use Rattle.dma_engine.specs.declared.outcome.TransResult.TheVariants.{NoError, ReadFailed, WriteFailed}
 use Rattle.dma_engine.specs.declared.turn.Turn.{Turn}
 use Rattle.dma_engine.specs.declared.turn.Turn.TheVariants.{Nothing, Held, Started, Moved, Waiting, Paused, Halted, Finished as FinishedTurn}
-use Rattle.dma_engine.specs.Object.{Object, ChannelState, after, channel, empty_channel, with_channel, with_flag, with_front_laid, with_outcome, with_all_aborted, finished, finished_all, unfinished, used, front_of, outcome_of, aborted, issued_front, is_set}
+use Rattle.dma_engine.specs.Object.{Object, ChannelState, after, channel, empty_channel, with_channel, with_flag, with_front_laid, with_outcome, with_all_aborted, finished, finished_all, unfinished, used, front_of, outcome_of, aborted}
 use Rattle.dma_engine.specs.Ticks.{Submitted, Finished, ticks_of}
-use Rattle.dma_engine.specs.View.{View, RunningTransfer, object_of, channels, schedule_at}
-use Rattle.dma_engine.specs.Turn.{Stepped, turn, ends, front_turn, start_turn, insn_turn, moves_on, finishes, with_entry, in_the_way, last_step}
-use Rattle.dma_engine.specs.Answer.{CallAnswers, StepAnswers, answer, unless, reply_of, write_fault, read_fault, submit_fault, channel_fault, mark_fault, raise_fault, with_pause, terminated, done_on}
-use Rattle.dma_engine.specs.Laws.{Adds, Still, IsQuiet, QuietCallsKeep, StepsAdd, EndsAsTold, ticks_in, steps_in, finishes_in}
+use Rattle.dma_engine.specs.View.{View, object_of, channels}
+use Rattle.dma_engine.specs.Turn.{Stepped, turn, ends, moves_on, finishes, with_entry}
+use Rattle.dma_engine.specs.Answer.{CallAnswers, answer, unless, write_fault, read_fault, submit_fault, channel_fault, mark_fault, raise_fault, with_pause, terminated, done_on}
+use Rattle.dma_engine.specs.Laws.{Adds, Still, IsQuiet, QuietCallsKeep, StepsAdd, EndsByTurn, ticks_in, steps_in, finishes_in}
 use Rattle.dma_engine.proofs.Endings.{length-aborted}
 use Rattle.dma_engine.proofs.Histories.{object_after-append}
+use Rattle.dma_engine.proofs.Turns.{answer-is, step-is, turn-cases}
 
 -- ---- lists of ticks
 
@@ -116,22 +110,10 @@ by-answer : (v w : View) (call : Call) (reply : Reply) (P : View → Type 0) →
 by-answer v w call reply P h is = subst P (sym (ap (λ (x : Reply × View). x.1) is)) h
 
 pub answered : (v w : View) (call : Call) (reply : Reply) (P : View → Type 0) → P v → P (answer v call).1 → CallAnswers v call reply w → P w
-answered v w call Done P o h is = by-answer v w call Done P h is
-answered v w call (Bytes b) P o h is = by-answer v w call (Bytes b) P h is
-answered v w call (Cookie n) P o h is = by-answer v w call (Cookie n) P h is
-answered v w call (Count n) P o h is = by-answer v w call (Count n) P h is
-answered v w call (Turned t) P o h is = by-answer v w call (Turned t) P h is
-answered v w call (State s) P o h is = by-answer v w call (State s) P h is
-answered v w call (Told x) P o h is = by-answer v w call (Told x) P h is
-answered v w call (Refused NoMemory) P o h is = subst P (sym is.1) o
-answered v w call (Refused OutOfMemoryRange) P o h is = by-answer v w call (Refused OutOfMemoryRange) P h is
-answered v w call (Refused (Busy ch cookie)) P o h is = by-answer v w call (Refused (Busy ch cookie)) P h is
-answered v w call (Refused (Running ch cookie)) P o h is = by-answer v w call (Refused (Running ch cookie)) P h is
-answered v w call (Refused NoChannel) P o h is = by-answer v w call (Refused NoChannel) P h is
-answered v w call (Refused CookiesSpent) P o h is = by-answer v w call (Refused CookiesSpent) P h is
-answered v w call (Refused StepsSpent) P o h is = by-answer v w call (Refused StepsSpent) P h is
-answered v w call (Refused BadEvent) P o h is = by-answer v w call (Refused BadEvent) P h is
-answered v w call (Refused BadRange) P o h is = by-answer v w call (Refused BadRange) P h is
+answered v w call reply P o h a = elim (answer-is v w call reply a) [
+  | inl none ↦ subst P (sym none.1) o
+  | inr is ↦ by-answer v w call reply P h is
+]
 
 -- ---- the calls that give no cookie and finish none
 
@@ -166,13 +148,6 @@ Deed v ch (Ok Moved, w) =
     (ticks_of w.history ≡ ticks_of v.history) × (w.steps ≡ v.steps + 1) × (finished_all (object_of w) ≡ finished_all (object_of v))
 Deed v ch (_, w) = Still v w
 
-if-deed : (v : View) (ch : ℕ) (b : Bool) (x y : Stepped) → (b ≡ true → Deed v ch x) → (b ≡ false → Deed v ch y) → Deed v ch (if◌then◌else◌ {A = Stepped} b x y)
-if-deed v ch true x y h g = h refl
-if-deed v ch false x y h g = g refl
-
-moves-deed : (v : View) (ch n : ℕ) → Deed v ch (moves_on v ch n)
-moves-deed v ch n = (refl, refl, refl)
-
 entry-moves : (v : View) (ch n : ℕ) (e : Entry) → IsQuietEntry e → Deed v ch (moves_on (with_entry v e) ch n)
 entry-moves v ch n e q = let s = entry-still v e q in (s.ticks, refl, s.finished)
 
@@ -187,66 +162,15 @@ finish-deed v ch n t how less =
     let all : finished_all (after o e) ≡ finished_all o + 1 = omega (arith, set, more) in
     (ticks-append v.history (e ∷ []), refl, ap finished_all (object-one v e) ∙ all, length_push v.history e)
 
-insn-deed : (v : View) (ch n : ℕ) (t : Descriptor) (i : Insn) → ch < channels v → Deed v ch (insn_turn v ch t n i)
-insn-deed v ch n t (Wfe event invalid) l = if-deed v ch (is_set (object_of v) event) (moves_on (with_entry v (Passed ch event)) ch n) (Ok (Waiting event), v) (λ _. entry-moves v ch n (Passed ch event) tt) (λ _. same v)
-insn-deed v ch n t (Sev event) l = entry-moves v ch n (Signalled (Channel ch) event) tt
-insn-deed v ch n t End l = finish-deed v ch n t NoError l
-insn-deed v ch n t Ld l = if-deed v ch (meets_mark Reading (object_of v).marks (read_places t n)) (finishes v ch t n ReadFailed) (moves_on v ch n) (λ _. finish-deed v ch n t ReadFailed l) (λ _. moves-deed v ch n)
-insn-deed v ch n t St l = if-deed v ch (meets_mark Writing (object_of v).marks (written_places t n)) (finishes v ch t n WriteFailed) (moves_on v ch n) (λ _. finish-deed v ch n t WriteFailed l) (λ _. moves-deed v ch n)
-insn-deed v ch n t (Mov a b) l = moves-deed v ch n
-insn-deed v ch n t Rmb l = moves-deed v ch n
-insn-deed v ch n t Wmb l = moves-deed v ch n
-insn-deed v ch n t Nop l = moves-deed v ch n
-insn-deed v ch n t (Lp a b) l = moves-deed v ch n
-insn-deed v ch n t (LpEnd a b) l = moves-deed v ch n
-
-start-deed : (v : View) (ch : ℕ) (x : Option RunningTransfer) → Deed v ch (start_turn v ch x)
-start-deed v ch None = record { ticks = refl; steps = refl; finished = refl }
-start-deed v ch (Some r) = same v
-
-front-deed : (v : View) (ch : ℕ) (x : Option Descriptor) (taken : Option ℕ) → ch < channels v → Deed v ch (front_turn v ch x taken)
-front-deed v ch None taken l = same v
-front-deed v ch (Some t) None l = start-deed v ch (in_the_way v t)
-front-deed v ch (Some t) (Some n) l = if-deed v ch (v.steps == last_step) (Err StepsSpent, v) (insn_turn v ch t n (member t n)) (λ _. same v) (λ _. insn-deed v ch n t (member t n) l)
-
 turn-deed : (v : View) (ch : ℕ) → Deed v ch (turn v ch)
-turn-deed v ch =
-    let c = channel (object_of v) ch in
-    let s = schedule_at v ch in
-    let last = front_turn v ch (issued_front c) s.taken in
-    let third : Stepped = if s.paused then (Ok Paused, v) else last in
-    let second : Stepped = if c.halted then (Ok Halted, v) else third in
-    if-deed v ch (nat_le (channels v) ch) (Err NoChannel, v) second (λ _. same v)
-    (λ there. if-deed v ch c.halted (Ok Halted, v) third (λ _. same v) (λ _. if-deed v ch s.paused (Ok Paused, v) last (λ _. same v) (λ _. front-deed v ch (issued_front c) s.taken (leb-false _ _ there))))
-
--- ---- what a step's answer is
-
-told-ok : (x : Result Turn EngineFault) (t : Turn) → Turned t ≡ reply_of Turned x → x ≡ Ok t
-told-ok (Ok u) t h = let e : u ≡ t = cc in ap (λ y. Ok y) e
-told-ok (Err f) t h = absurd cc
-
-told-err : (x : Result Turn EngineFault) (f : EngineFault) → Refused f ≡ reply_of Turned x → x ≡ Err f
-told-err (Ok u) f h = absurd cc
-told-err (Err g) f h = let e : g ≡ f = cc in ap (λ y. Err y) e
-
-by-turn : (v w : View) (ch : ℕ) (reply : Reply) (x : Result Turn EngineFault) → (reply, w) ≡ answer v (Step ch) → (reply ≡ reply_of Turned (turn v ch).0 → (turn v ch).0 ≡ x) → turn v ch ≡ (x, w)
-by-turn v w ch reply x is inv =
-    let first : (turn v ch).0 ≡ x = inv (ap (λ (y : Reply × View). y.0) is) in
-    let second : (turn v ch).1 ≡ w = sym (ap (λ (y : Reply × View). y.1) is) in
-    ap (λ y. (y, (turn v ch).1)) first ∙ ap (λ u. (x, u)) second
-
--- it is the turn's, or memory ran out and nothing changed
-stepped : (v w : View) (ch : ℕ) (r : Result Turn EngineFault) → StepAnswers v ch r w → ((r ≡ Err NoMemory) × (w ≡ v)) ⊎ (turn v ch ≡ (r, w))
-stepped v w ch (Ok t) h = inr (by-turn v w ch (Turned t) (Ok t) h (λ e. told-ok (turn v ch).0 t e))
-stepped v w ch (Err NoMemory) h = inl (refl, h.1)
-stepped v w ch (Err OutOfMemoryRange) h = inr (by-turn v w ch (Refused OutOfMemoryRange) (Err OutOfMemoryRange) h (λ e. told-err (turn v ch).0 OutOfMemoryRange e))
-stepped v w ch (Err (Busy c k)) h = inr (by-turn v w ch (Refused (Busy c k)) (Err (Busy c k)) h (λ e. told-err (turn v ch).0 (Busy c k) e))
-stepped v w ch (Err (Running c k)) h = inr (by-turn v w ch (Refused (Running c k)) (Err (Running c k)) h (λ e. told-err (turn v ch).0 (Running c k) e))
-stepped v w ch (Err NoChannel) h = inr (by-turn v w ch (Refused NoChannel) (Err NoChannel) h (λ e. told-err (turn v ch).0 NoChannel e))
-stepped v w ch (Err CookiesSpent) h = inr (by-turn v w ch (Refused CookiesSpent) (Err CookiesSpent) h (λ e. told-err (turn v ch).0 CookiesSpent e))
-stepped v w ch (Err StepsSpent) h = inr (by-turn v w ch (Refused StepsSpent) (Err StepsSpent) h (λ e. told-err (turn v ch).0 StepsSpent e))
-stepped v w ch (Err BadEvent) h = inr (by-turn v w ch (Refused BadEvent) (Err BadEvent) h (λ e. told-err (turn v ch).0 BadEvent e))
-stepped v w ch (Err BadRange) h = inr (by-turn v w ch (Refused BadRange) (Err BadRange) h (λ e. told-err (turn v ch).0 BadRange e))
+turn-deed v ch = turn-cases v ch (Deed v ch) (record {
+  idle = (same v, same v, same v, same v, same v, λ _. same v, λ _. same v);
+  starts = λ _ _. record { ticks = refl; steps = refl; finished = refl };
+  moves = λ _ _. (refl, refl, refl);
+  passes = λ _ n event. entry-moves v ch n (Passed ch event) tt;
+  signals = λ _ n event. entry-moves v ch n (Signalled (Channel ch) event) tt;
+  ends = λ there n t how. finish-deed v ch n t how there;
+})
 
 -- ---- what a step adds
 
@@ -273,14 +197,14 @@ deed-adds v w ch (Ok Halted) d = still-adds v w d
 deed-adds v w ch (Err f) d = still-adds v w d
 
 pub steps_add : StepsAdd
-steps_add v w ch r h = elim (stepped v w ch r h) [
+steps_add v w ch r h = elim (step-is v w ch r h) [
   | inl none ↦
       subst (λ x. Adds v w (ticks_in ch x) (steps_in x) (finishes_in x)) (sym none.0) (subst (λ u. Adds v u [] 0 0) (sym none.1) (still-adds v v (same v)))
   | inr is ↦ deed-adds v w ch r (subst (λ (s : Stepped). Deed v ch s) is (turn-deed v ch))
 ]
 
-pub ends_as_told : EndsAsTold
-ends_as_told v w ch r h = elim (stepped v w ch r h) [
+pub ends_as_reported : EndsByTurn
+ends_as_reported v w ch r h = elim (step-is v w ch r h) [
   | inl none ↦ inl none.0
   | inr is ↦ inr (ap (λ (s : Stepped). ends s.0) (sym is))
 ]

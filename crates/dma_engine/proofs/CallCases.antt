@@ -13,12 +13,12 @@ use Rattle.dma_engine.specs.declared.entry.Entry.{Entry}
 use Rattle.dma_engine.specs.declared.entry.Entry.TheVariants.{Wrote, ReadBack, Submitted, Issued}
 use Rattle.dma_engine.specs.declared.fault.EngineFault.{EngineFault}
 use Rattle.dma_engine.specs.declared.fault.EngineFault.TheVariants.{OutOfMemoryRange, Busy, Running, NoChannel, CookiesSpent, StepsSpent, BadEvent, BadRange, NoMemory}
-use Rattle.dma_engine.specs.declared.way.Way.TheVariants.{Write as WriteWay, Read as ReadWay}
+use Rattle.dma_engine.specs.declared.access.Access.TheVariants.{Write as WriteWay, Read as ReadWay}
 use Rattle.dma_engine.specs.Object.{channel, used, unfinished, last_cookie}
 use Rattle.dma_engine.specs.View.{View, RunningTransfer, object_of, size, channels}
 use Rattle.dma_engine.specs.Turn.{with_entry}
 use Rattle.dma_engine.specs.Answer.{CallAnswers, answer, reply_of, takes_memory, stores_base, checkpointed, write_fault, read_fault, channel_fault, submit_fault, cause, checked, busy, first_running, with_pause, is_started, terminated}
-use Rattle.dma_engine.specs.inner.Ways.{named, is_in_the_way}
+use Rattle.dma_engine.specs.inner.Accesses.{named, conflicts}
 
 -- ---- a call that adds an entry takes memory
 
@@ -57,16 +57,16 @@ busy-none (Some r) h = absurd cc
 pub write-out : (v : View) (addr : ℕ) (bytes : List ℕ) → size v < addr + length bytes → CallAnswers v (Write addr bytes) (Refused OutOfMemoryRange) v
 write-out v addr bytes h = let e : nat_lt (size v) (addr + length bytes) ≡ true = lt-ltb _ _ h in rw e refl
 
-pub write-busy : (v : View) (addr : ℕ) (bytes : List ℕ) (ch cookie : ℕ) → addr + length bytes ≤ size v → Some (ch, cookie) ≡ named (first_running v (is_in_the_way (WriteWay (record { addr = addr; len = length bytes })))) → CallAnswers v (Write addr bytes) (Refused (Busy ch cookie)) v
+pub write-busy : (v : View) (addr : ℕ) (bytes : List ℕ) (ch cookie : ℕ) → addr + length bytes ≤ size v → Some (ch, cookie) ≡ named (first_running v (conflicts (WriteWay (record { addr = addr; len = length bytes })))) → CallAnswers v (Write addr bytes) (Refused (Busy ch cookie)) v
 write-busy v addr bytes ch cookie within h =
     let e : nat_lt (size v) (addr + length bytes) ≡ false = le-ltb _ _ within in
-    let f = busy-known (first_running v (is_in_the_way (WriteWay (record { addr = addr; len = length bytes })))) ch cookie h in
+    let f = busy-known (first_running v (conflicts (WriteWay (record { addr = addr; len = length bytes })))) ch cookie h in
     rw (e, f) refl
 
-pub write-free : (v : View) (addr n : ℕ) → addr + n ≤ size v → None ≡ named (first_running v (is_in_the_way (WriteWay (record { addr = addr; len = n })))) → write_fault v addr n ≡ None
+pub write-free : (v : View) (addr n : ℕ) → addr + n ≤ size v → None ≡ named (first_running v (conflicts (WriteWay (record { addr = addr; len = n })))) → write_fault v addr n ≡ None
 write-free v addr n within h =
     let e : nat_lt (size v) (addr + n) ≡ false = le-ltb _ _ within in
-    let f = busy-none (first_running v (is_in_the_way (WriteWay (record { addr = addr; len = n })))) h in
+    let f = busy-none (first_running v (conflicts (WriteWay (record { addr = addr; len = n })))) h in
     rw (e, f) refl
 
 pub write-answer : (v : View) (addr : ℕ) (bytes : List ℕ) → write_fault v addr (length bytes) ≡ None → answer v (Write addr bytes) ≡ (Done, with_entry v (Wrote addr bytes))
@@ -83,16 +83,16 @@ write-done v w addr bytes free is = ap (λ x. (Done, x)) is ∙ sym (write-answe
 pub read-out : (v : View) (addr n : ℕ) → size v < addr + n → CallAnswers v (Read addr n) (Refused OutOfMemoryRange) v
 read-out v addr n h = let e : nat_lt (size v) (addr + n) ≡ true = lt-ltb _ _ h in rw e refl
 
-pub read-busy : (v : View) (addr n ch cookie : ℕ) → addr + n ≤ size v → Some (ch, cookie) ≡ named (first_running v (is_in_the_way (ReadWay (record { addr = addr; len = n })))) → CallAnswers v (Read addr n) (Refused (Busy ch cookie)) v
+pub read-busy : (v : View) (addr n ch cookie : ℕ) → addr + n ≤ size v → Some (ch, cookie) ≡ named (first_running v (conflicts (ReadWay (record { addr = addr; len = n })))) → CallAnswers v (Read addr n) (Refused (Busy ch cookie)) v
 read-busy v addr n ch cookie within h =
     let e : nat_lt (size v) (addr + n) ≡ false = le-ltb _ _ within in
-    let f = busy-known (first_running v (is_in_the_way (ReadWay (record { addr = addr; len = n })))) ch cookie h in
+    let f = busy-known (first_running v (conflicts (ReadWay (record { addr = addr; len = n })))) ch cookie h in
     rw (e, f) refl
 
-pub read-free : (v : View) (addr n : ℕ) → addr + n ≤ size v → None ≡ named (first_running v (is_in_the_way (ReadWay (record { addr = addr; len = n })))) → read_fault v addr n ≡ None
+pub read-free : (v : View) (addr n : ℕ) → addr + n ≤ size v → None ≡ named (first_running v (conflicts (ReadWay (record { addr = addr; len = n })))) → read_fault v addr n ≡ None
 read-free v addr n within h =
     let e : nat_lt (size v) (addr + n) ≡ false = le-ltb _ _ within in
-    let f = busy-none (first_running v (is_in_the_way (ReadWay (record { addr = addr; len = n })))) h in
+    let f = busy-none (first_running v (conflicts (ReadWay (record { addr = addr; len = n })))) h in
     rw (e, f) refl
 
 pub read-answer : (v : View) (addr n : ℕ) → read_fault v addr n ≡ None → let bytes = take n (drop addr (object_of v).image) in answer v (Read addr n) ≡ (Bytes bytes, with_entry v (ReadBack addr bytes))

@@ -1,33 +1,21 @@
 -- Calls one after another.
-use Rattle.std.proofs.Common.{◌≡◌, ℕ, ◌+◌, ◌-◌, List, [], ◌∷◌, ◌++◌, length, take, drop, Option, Some, None, Bool, true, false, refl, ap, sym, ◌∙◌, subst, append-nil, append_assoc, suc, zero}
-use Rattle.std.specs.Prelude.{if◌then◌else◌, ◌==◌, nat_le, replicate, Result, Ok, Err}
+use Rattle.std.proofs.Common.{inl, inr, ◌≡◌, ℕ, ◌+◌, ◌-◌, List, [], ◌∷◌, ◌++◌, length, take, drop, Option, Some, None, true, false, refl, ap, sym, ◌∙◌, subst, append-nil, append_assoc}
 use Rattle.std.proofs.lemmas.Bool.{or_parts, true≢false}
-use Rattle.dma_insn.specs.declared.insn.Insn.{Insn}
-use Rattle.dma_insn.specs.declared.insn.Insn.TheVariants.{Ld, St, End, Sev, Wfe, Mov, Rmb, Wmb, Nop, Lp, LpEnd}
-use Rattle.dma_mem.specs.Places.{Descriptor}
-use Rattle.dma_mem.specs.Marking.{meets_mark}
-use Rattle.dma_chan.specs.Traffic.{member, stored_after, read_places, written_places}
+use Rattle.dma_chan.specs.Traffic.{stored_after}
 use Rattle.dma_engine.specs.declared.call.Call.{Call}
 use Rattle.dma_engine.specs.declared.call.Call.TheVariants.{Write, Read, Submit, Issue, Pause, Resume, Terminate, Step, Status, Result as ResultOf, Mark, Unmark, Raise, Checkpoint}
 use Rattle.dma_engine.specs.declared.call.Reply.{Reply}
-use Rattle.dma_engine.specs.declared.call.Reply.TheVariants.{Done, Bytes, Cookie, Count, Turned, State, Result as Told, Refused}
+use Rattle.dma_engine.specs.declared.call.Reply.TheVariants.{Done, Bytes, Cookie, Count}
 use Rattle.dma_engine.specs.declared.entry.Entry.{Entry}
 use Rattle.dma_engine.specs.declared.entry.Entry.TheVariants.{Wrote, ReadBack, Submitted, Issued, Passed, Signalled, Finished, Terminated, Marked, Unmarked}
 use Rattle.dma_engine.specs.declared.entry.Signaller.TheVariants.{Channel, Host}
-use Rattle.dma_engine.specs.declared.outcome.TransResult.{TransResult}
-use Rattle.dma_engine.specs.declared.outcome.TransResult.TheVariants.{NoError, ReadFailed, WriteFailed}
-use Rattle.dma_engine.specs.declared.turn.Turn.{Turn}
-use Rattle.dma_engine.specs.declared.advance.Advanced.{Advanced}
-use Rattle.dma_engine.specs.Advance.{IsAdvance, last_call, last_reply}
-use Rattle.dma_engine.specs.declared.turn.Turn.TheVariants.{Moved, Paused, Halted, Waiting}
-use Rattle.dma_mem.specs.declared.marks.MarkKind.TheVariants.{Reading, Writing}
 use Rattle.dma_engine.specs.declared.fault.EngineFault.{EngineFault}
-use Rattle.dma_engine.specs.declared.fault.EngineFault.TheVariants.{OutOfMemoryRange, Busy, Running, NoChannel, CookiesSpent, StepsSpent, BadEvent, BadRange, NoMemory}
-use Rattle.dma_engine.specs.Object.{channel, issued_front, is_set, used, unfinished}
-use Rattle.dma_engine.specs.View.{View, RunningTransfer, object_of, channels, schedule_at}
-use Rattle.dma_engine.specs.Turn.{Stepped, turn, front_turn, start_turn, insn_turn, moves_on, finishes, with_entry, in_the_way, last_step}
+use Rattle.dma_engine.specs.Object.{channel, used, unfinished}
+use Rattle.dma_engine.specs.View.{View, object_of}
+use Rattle.dma_engine.specs.Turn.{turn, with_entry}
 use Rattle.dma_engine.specs.Laws.{IsQuiet}
 use Rattle.dma_engine.specs.Answer.{CallAnswers, AreAnswers, Extends, answer, unless, write_fault, read_fault, submit_fault, channel_fault, mark_fault, raise_fault, with_pause, terminated, done_on, checkpoint_fault, checkpointed, is_checkpoint, has_checkpoint}
+use Rattle.dma_engine.proofs.Turns.{answer-is, turn-cases}
 
 -- ---- the chain of answers
 
@@ -52,10 +40,6 @@ unless-extends : (v : View) (f : Option EngineFault) (x : Reply × View) → Ext
 unless-extends v None x h = h
 unless-extends v (Some fault) x h = extends-same v v refl
 
-if-extends : (v : View) (b : Bool) (x y : Stepped) → Extends v x.1 → Extends v y.1 → Extends v (if b then x else y).1
-if-extends v true x y h g = h
-if-extends v false x y h g = g
-
 -- by what is said of a base and a history alone
 still : (v : View) → (v.base ≡ v.base) × ((more : List Entry) × (v.history ≡ v.history ++ more))
 still v = (refl, ([], sym (append-nil v.history)))
@@ -63,40 +47,15 @@ still v = (refl, ([], sym (append-nil v.history)))
 one : (v : View) (e : Entry) → (v.base ≡ v.base) × ((more : List Entry) × (v.history ++ e ∷ [] ≡ v.history ++ more))
 one v e = (refl, (e ∷ [], refl))
 
-finish-extends : (v : View) (ch n : ℕ) (t : Descriptor) (how : TransResult) → Extends v (finishes v ch t n how).1
-finish-extends v ch n t how = one v (Finished ch how (stored_after t n))
-
-insn-extends : (v : View) (ch n : ℕ) (t : Descriptor) (i : Insn) → Extends v (insn_turn v ch t n i).1
-insn-extends v ch n t (Wfe event invalid) = if-extends v (is_set (object_of v) event) (moves_on (with_entry v (Passed ch event)) ch n) (Ok (Waiting event), v) (one v (Passed ch event)) (still v)
-insn-extends v ch n t (Sev event) = one v (Signalled (Channel ch) event)
-insn-extends v ch n t End = finish-extends v ch n t NoError
-insn-extends v ch n t Ld = if-extends v (meets_mark Reading (object_of v).marks (read_places t n)) (finishes v ch t n ReadFailed) (moves_on v ch n) (finish-extends v ch n t ReadFailed) (still v)
-insn-extends v ch n t St = if-extends v (meets_mark Writing (object_of v).marks (written_places t n)) (finishes v ch t n WriteFailed) (moves_on v ch n) (finish-extends v ch n t WriteFailed) (still v)
-insn-extends v ch n t (Mov a b) = still v
-insn-extends v ch n t Rmb = still v
-insn-extends v ch n t Wmb = still v
-insn-extends v ch n t Nop = still v
-insn-extends v ch n t (Lp a b) = still v
-insn-extends v ch n t (LpEnd a b) = still v
-
-start-extends : (v : View) (ch : ℕ) (x : Option RunningTransfer) → Extends v (start_turn v ch x).1
-start-extends v ch None = still v
-start-extends v ch (Some r) = still v
-
-front-extends : (v : View) (ch : ℕ) (x : Option Descriptor) (taken : Option ℕ) → Extends v (front_turn v ch x taken).1
-front-extends v ch None taken = still v
-front-extends v ch (Some t) None = start-extends v ch (in_the_way v t)
-front-extends v ch (Some t) (Some n) = if-extends v (v.steps == last_step) (Err StepsSpent, v) (insn_turn v ch t n (member t n)) (still v) (insn-extends v ch n t (member t n))
-
 turn-extends : (v : View) (ch : ℕ) → Extends v (turn v ch).1
-turn-extends v ch =
-    let c = channel (object_of v) ch in
-    let s = schedule_at v ch in
-    let last = front_turn v ch (issued_front c) s.taken in
-    let third : Stepped = if s.paused then (Ok Paused, v) else last in
-    let second : Stepped = if c.halted then (Ok Halted, v) else third in
-    if-extends v (nat_le (channels v) ch) (Err NoChannel, v) second (still v)
-    (if-extends v c.halted (Ok Halted, v) third (still v) (if-extends v s.paused (Ok Paused, v) last (still v) (front-extends v ch (issued_front c) s.taken)))
+turn-extends v ch = turn-cases v ch (λ s. Extends v s.1) (record {
+  idle = (still v, still v, still v, still v, still v, λ _. still v, λ _. still v);
+  starts = λ _ _. still v;
+  moves = λ _ _. still v;
+  passes = λ _ n event. one v (Passed ch event);
+  signals = λ _ n event. one v (Signalled (Channel ch) event);
+  ends = λ _ n t how. one v (Finished ch how (stored_after t n));
+})
 
 refused-still : (v : View) (f : Option EngineFault) (x : Reply × View) (reply : Reply) (w : View) → (reply, w) ≡ unless f v x → (f ≡ None → ⊥) → Extends v w
 refused-still v None x reply w is h = absurd (h refl)
@@ -158,22 +117,10 @@ by-answer v w Unmark reply n is = by-other v w Unmark reply tt is
 by-answer v w (Raise event) reply n is = by-other v w (Raise event) reply tt is
 
 pub answers-extend : (v w : View) (call : Call) (reply : Reply) → is_checkpoint call reply ≡ false → CallAnswers v call reply w → Extends v w
-answers-extend v w call Done n is = by-answer v w call Done n is
-answers-extend v w call (Bytes b) n is = by-answer v w call (Bytes b) n is
-answers-extend v w call (Cookie k) n is = by-answer v w call (Cookie k) n is
-answers-extend v w call (Count k) n is = by-answer v w call (Count k) n is
-answers-extend v w call (Turned t) n is = by-answer v w call (Turned t) n is
-answers-extend v w call (State s) n is = by-answer v w call (State s) n is
-answers-extend v w call (Told o) n is = by-answer v w call (Told o) n is
-answers-extend v w call (Refused NoMemory) n is = extends-same v w is.1
-answers-extend v w call (Refused OutOfMemoryRange) n is = by-answer v w call (Refused OutOfMemoryRange) n is
-answers-extend v w call (Refused (Busy ch cookie)) n is = by-answer v w call (Refused (Busy ch cookie)) n is
-answers-extend v w call (Refused (Running ch cookie)) n is = by-answer v w call (Refused (Running ch cookie)) n is
-answers-extend v w call (Refused NoChannel) n is = by-answer v w call (Refused NoChannel) n is
-answers-extend v w call (Refused CookiesSpent) n is = by-answer v w call (Refused CookiesSpent) n is
-answers-extend v w call (Refused StepsSpent) n is = by-answer v w call (Refused StepsSpent) n is
-answers-extend v w call (Refused BadEvent) n is = by-answer v w call (Refused BadEvent) n is
-answers-extend v w call (Refused BadRange) n is = by-answer v w call (Refused BadRange) n is
+answers-extend v w call reply n h = elim (answer-is v w call reply h) [
+  | inl none ↦ extends-same v w none.1
+  | inr is ↦ by-answer v w call reply n is
+]
 
 pub chain-extends : (v w : View) (calls : List Call) (replies : List Reply) → has_checkpoint calls replies ≡ false → AreAnswers v calls replies w → Extends v w
 chain-extends v w [] [] n h = extends-same v w h
@@ -182,21 +129,6 @@ chain-extends v w (c ∷ cs) [] n h = absurd h
 chain-extends v w (c ∷ cs) (r ∷ rs) n h =
     let both = or_parts (is_checkpoint c r) (has_checkpoint cs rs) n in
     extends-trans v h.0 w (answers-extend v h.0 c r both.0 h.1) (chain-extends h.0 w cs rs both.1 h.2)
-
--- ---- steps of one channel in a row
-
-no-checkpoint : (ch n : ℕ) (calls : List Call) (replies : List Reply) → has_checkpoint calls replies ≡ false → has_checkpoint (replicate n (Step ch) ++ calls) (replicate n (Turned Moved) ++ replies) ≡ false
-no-checkpoint ch zero calls replies h = h
-no-checkpoint ch (suc n) calls replies h = no-checkpoint ch n calls replies h
-
-last-none : (ch : ℕ) (last : Option (Result Turn EngineFault)) → has_checkpoint (last_call ch last) (last_reply last) ≡ false
-last-none ch None = refl
-last-none ch (Some r) = refl
-
-pub advance-extends : (v w : View) (ch : ℕ) (told : Advanced) → IsAdvance v ch told w → Extends v w
-advance-extends v w ch told h =
-    chain-extends v w (replicate told.moved (Step ch) ++ last_call ch told.last) (replicate told.moved (Turned Moved) ++ last_reply told.last)
-    (no-checkpoint ch told.moved (last_call ch told.last) (last_reply told.last) (last-none ch told.last)) h
 
 -- ---- calls that are no checkpoint
 

@@ -60,7 +60,7 @@ queue-kept ch kept history longer memory other q c grows machine h = record {
   given = h.given;
   many = h.many;
   first = h.first;
-  stands = λ k less. let s = h.stands k less in (s.0, grows _ _ s.1);
+  indexed = λ k less. let s = h.indexed k less in (s.0, grows _ _ s.1);
   outcomes = h.outcomes;
   issued = h.issued;
   halted = h.halted;

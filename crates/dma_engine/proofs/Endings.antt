@@ -18,10 +18,10 @@ use Rattle.dma_engine.specs.declared.queue.Queue.{Queue}
 use Rattle.dma_engine.specs.Object.{Object, ChannelState, Allows, after, channel, empty_channel, front, front_of, no_transfer, finished, unfinished, with_outcome, with_all_aborted, outcome_of, aborted, is_failure}
 use Rattle.dma_engine.specs.View.{View, ChannelSchedule, RunningTransfer, runs, runs_there, memory_shown, object_of, channels}
 use Rattle.dma_engine.specs.Answer.{done_by, done_on, terminated}
-use Rattle.dma_engine.specs.inner.Holds.{Holds, Parts, view_of, schedule_of}
+use Rattle.dma_engine.specs.inner.Holds.{Holds, Parts, view_of, schedule_of, queue_finished, queue_terminated}
 use Rattle.dma_engine.proofs.Changes.{changed, changed_view, view-changed, holds-changed, runs-here, runs-other}
 use Rattle.dma_engine.proofs.Fronts.{stored-there}
-use Rattle.dma_engine.proofs.InTheWay.{taken-none}
+use Rattle.dma_engine.proofs.Conflicts.{taken-none}
 use Rattle.dma_engine.proofs.Histories.{object_after-append, IsLegal-append}
 use Rattle.dma_engine.proofs.Memory.{shown-ended}
 use Rattle.dma_engine.proofs.Queues.{holds-at, slice_get-push}
@@ -72,11 +72,6 @@ shown-over p h ch q o x less read many others none image =
 
 -- ---- terminate
 
--- the queue after a terminate
-abbrev pub queue_terminated : Queue → ℕ → List Outcome → ℕ → Queue
-queue_terminated q spare outcomes issued =
-    record q { outcomes = record { items = q.outcomes.items ++ outcomes; spare = spare }; issued = issued; paused = false; halted = false; channel = record (q.channel) { program = None }; ranges = None }
-
 pub holds-terminated : (p : Parts) (ch spare count issued : ℕ) (q : Queue) (outcomes : List Outcome) → Holds p → ch < length p.queues → q ≡ slice_index_or p.queues ch q → let c = channel (object_of (view_of p)) ch in let done = done_on (view_of p) ch in outcomes ≡ aborted done (drop (length c.outcomes) c.submitted) → issued ≡ q.given → count ≡ unfinished c → Holds (changed p ch (queue_terminated q spare outcomes issued) p.memory p.events (p.history ++ Terminated ch done count ∷ []) p.steps)
 holds-terminated p ch spare count issued q outcomes h less read all_of many number =
     let v : View = view_of p in
@@ -106,7 +101,7 @@ holds-terminated p ch spare count issued q outcomes h less read all_of many numb
         given = t.given;
         many = t.many;
         first = t.first;
-        stands = λ k l. let s = t.stands k l in (s.0, slice_get-push p.history e _ _ s.1);
+        indexed = λ k l. let s = t.indexed k l in (s.0, slice_get-push p.history e _ _ s.1);
         outcomes = ap (λ l. l ++ outcomes) t.outcomes ∙ ap (λ l. c.outcomes ++ l) all_of;
         issued = many ∙ t.given;
         halted = refl;
@@ -124,11 +119,6 @@ view-terminated p ch spare count issued q outcomes number =
     ∙ ap (λ n. changed_view p ch (queue_terminated q spare outcomes issued) (p.history ++ Terminated ch done n ∷ []) p.steps) number
 
 -- ---- a finish
-
--- the queue after a finish
-abbrev pub queue_finished : Queue → ℕ → Outcome → Bool → Queue
-queue_finished q spare outcome halted =
-    record q { outcomes = record { items = q.outcomes.items ++ outcome ∷ []; spare = spare }; halted = halted; channel = record (q.channel) { program = None }; ranges = None }
 
 pub holds-finished : (p : Parts) (ch spare steps : ℕ) (result : TransResult) (q : Queue) (outcome : Outcome) (halted : Bool) → Holds p → ch < length p.queues → q ≡ slice_index_or p.queues ch q → let c = channel (object_of (view_of p)) ch in let done = done_on (view_of p) ch in outcome ≡ outcome_of result (front_of c) done → halted ≡ is_failure result → Allows (object_of (view_of p)) (Finished ch result done) → Holds (changed p ch (queue_finished q spare outcome halted) p.memory p.events (p.history ++ Finished ch result done ∷ []) steps)
 holds-finished p ch spare steps result q outcome halted h less read told fails allowed =
@@ -159,7 +149,7 @@ holds-finished p ch spare steps result q outcome halted h less read told fails a
         given = t.given;
         many = t.many;
         first = t.first;
-        stands = λ k l. let s = t.stands k l in (s.0, slice_get-push p.history e _ _ s.1);
+        indexed = λ k l. let s = t.indexed k l in (s.0, slice_get-push p.history e _ _ s.1);
         outcomes = ap (λ l. l ++ outcome ∷ []) t.outcomes ∙ ap (λ y. c.outcomes ++ y ∷ []) told;
         issued = t.issued;
         halted = fails;

@@ -1,29 +1,23 @@
 -- Answers to consecutive calls, and answers when memory doesn't run out.
-use Rattle.std.proofs.Common.{◌≡◌, ◌≢◌, ℕ, ◌+◌, List, [], ◌∷◌, length, take, drop, Option, Some, None, Bool, true, false, refl, ap, ◌∙◌, subst}
-use Rattle.std.specs.Prelude.{if◌then◌else◌, ◌==◌, ◌||◌, nat_le, nat_lt, not, Ok, Err}
+use Rattle.std.proofs.Common.{inl, inr, ◌≡◌, ◌≢◌, ℕ, ◌+◌, List, [], ◌∷◌, length, take, drop, Option, Some, None, Bool, true, false, refl, ap, ◌∙◌, subst}
+use Rattle.std.specs.Prelude.{◌==◌, ◌||◌, nat_le, nat_lt, not}
 use Rattle.std.specs.Option.{option_map}
 use Rattle.std.proofs.lemmas.List.Elements.{All-head, All-tail}
-use Rattle.dma_insn.specs.declared.insn.Insn.{Insn}
-use Rattle.dma_insn.specs.declared.insn.Insn.TheVariants.{Ld, St, End, Sev, Wfe, Mov, Rmb, Wmb, Nop, Lp, LpEnd}
 use Rattle.dma_mem.specs.Places.{Descriptor, lies_below}
-use Rattle.dma_mem.specs.Marking.{meets_mark}
-use Rattle.dma_mem.specs.declared.marks.MarkKind.TheVariants.{Reading, Writing}
-use Rattle.dma_chan.specs.Traffic.{member, read_places, written_places}
 use Rattle.dma_engine.specs.declared.call.Call.{Call}
 use Rattle.dma_engine.specs.declared.call.Call.TheVariants.{Write, Read, Submit, Issue, Pause, Resume, Terminate, Step, Status, Result as ResultOf, Mark, Unmark, Raise, Checkpoint}
 use Rattle.dma_engine.specs.declared.call.Reply.{Reply}
 use Rattle.dma_engine.specs.declared.call.Reply.TheVariants.{Done, Bytes, Cookie, Count, Turned, State, Result as Told, Refused}
-use Rattle.dma_engine.specs.declared.entry.Entry.TheVariants.{Wrote, ReadBack, Submitted, Passed, Marked, Signalled}
+use Rattle.dma_engine.specs.declared.entry.Entry.TheVariants.{Wrote, ReadBack, Submitted, Marked, Signalled}
 use Rattle.dma_engine.specs.declared.entry.Signaller.TheVariants.{Host}
 use Rattle.dma_engine.specs.declared.fault.EngineFault.{EngineFault}
 use Rattle.dma_engine.specs.declared.fault.EngineFault.TheVariants.{OutOfMemoryRange, Busy, Running, NoChannel, CookiesSpent, StepsSpent, BadEvent, BadRange, NoMemory}
-use Rattle.dma_engine.specs.declared.outcome.TransResult.TheVariants.{ReadFailed, WriteFailed}
-use Rattle.dma_engine.specs.declared.turn.Turn.TheVariants.{Paused, Halted, Waiting}
-use Rattle.dma_engine.specs.Object.{channel, issued_front, is_set, last_cookie, used}
-use Rattle.dma_engine.specs.View.{View, RunningTransfer, object_of, channels, schedule_at, size}
-use Rattle.dma_engine.specs.Turn.{Stepped, turn, front_turn, start_turn, insn_turn, moves_on, finishes, with_entry, in_the_way, last_step}
+use Rattle.dma_engine.specs.Object.{channel, last_cookie, used}
+use Rattle.dma_engine.specs.View.{View, RunningTransfer, object_of, channels, size}
+use Rattle.dma_engine.specs.Turn.{Stepped, turn, with_entry}
 use Rattle.dma_engine.specs.Answer.{CallAnswers, AreAnswers, answer, answers, busy, cause, first_running, reply_of, unless, write_fault, read_fault, submit_fault, channel_fault, mark_fault, raise_fault, checkpoint_fault}
 use Rattle.dma_engine.specs.Laws.{AnswersOne, AnswersAppend, AnswersSplit, AnswerIsOne, AnswersAreAnswers, AnswerDespiteMemory, AnswersDespiteMemory}
+use Rattle.dma_engine.proofs.Turns.{answer-is, turn-cases}
 
 -- ---- calls in a row
 
@@ -104,41 +98,15 @@ unless-other v (Some fault) x f h = f
 abbrev IsOtherStep : Stepped → Type 0
 IsOtherStep x = IsOther (reply_of Turned x.0)
 
-if-other : (b : Bool) (x y : Stepped) → IsOtherStep x → IsOtherStep y → IsOtherStep (if b then x else y)
-if-other true x y h g = h
-if-other false x y h g = g
-
-insn-other : (v : View) (ch n : ℕ) (t : Descriptor) (i : Insn) → IsOtherStep (insn_turn v ch t n i)
-insn-other v ch n t (Wfe event invalid) = if-other (is_set (object_of v) event) (moves_on (with_entry v (Passed ch event)) ch n) (Ok (Waiting event), v) tt tt
-insn-other v ch n t (Sev event) = tt
-insn-other v ch n t End = tt
-insn-other v ch n t Ld = if-other (meets_mark Reading (object_of v).marks (read_places t n)) (finishes v ch t n ReadFailed) (moves_on v ch n) tt tt
-insn-other v ch n t St = if-other (meets_mark Writing (object_of v).marks (written_places t n)) (finishes v ch t n WriteFailed) (moves_on v ch n) tt tt
-insn-other v ch n t (Mov a b) = tt
-insn-other v ch n t Rmb = tt
-insn-other v ch n t Wmb = tt
-insn-other v ch n t Nop = tt
-insn-other v ch n t (Lp a b) = tt
-insn-other v ch n t (LpEnd a b) = tt
-
-start-other : (v : View) (ch : ℕ) (x : Option RunningTransfer) → IsOtherStep (start_turn v ch x)
-start-other v ch None = tt
-start-other v ch (Some r) = tt
-
-front-other : (v : View) (ch : ℕ) (x : Option Descriptor) (taken : Option ℕ) → IsOtherStep (front_turn v ch x taken)
-front-other v ch None taken = tt
-front-other v ch (Some t) None = start-other v ch (in_the_way v t)
-front-other v ch (Some t) (Some n) = if-other (v.steps == last_step) (Err StepsSpent, v) (insn_turn v ch t n (member t n)) tt (insn-other v ch n t (member t n))
-
 turn-other : (v : View) (ch : ℕ) → IsOtherStep (turn v ch)
-turn-other v ch =
-    let c = channel (object_of v) ch in
-    let s = schedule_at v ch in
-    let last = front_turn v ch (issued_front c) s.taken in
-    let third : Stepped = if s.paused then (Ok Paused, v) else last in
-    let second : Stepped = if c.halted then (Ok Halted, v) else third in
-    if-other (nat_le (channels v) ch) (Err NoChannel, v) second tt
-    (if-other c.halted (Ok Halted, v) third tt (if-other s.paused (Ok Paused, v) last tt (front-other v ch (issued_front c) s.taken)))
+turn-other v ch = turn-cases v ch IsOtherStep (record {
+  idle = (tt, tt, tt, tt, tt, λ _. tt, λ _. tt);
+  starts = λ _ _. tt;
+  moves = λ _ _. tt;
+  passes = λ _ _ _. tt;
+  signals = λ _ _ _. tt;
+  ends = λ _ _ _ _. tt;
+})
 
 answer-other : (v : View) (call : Call) → IsOther (answer v call).0
 answer-other v (Write addr bytes) =
@@ -173,22 +141,7 @@ answers_are_answers v (c ∷ cs) = ((answer v c).1, answer_is_one v c, answers_a
 -- ---- the only answers without an out of memory
 
 pub answer_despite_memory : AnswerDespiteMemory
-answer_despite_memory v w call Done n h = h
-answer_despite_memory v w call (Bytes b) n h = h
-answer_despite_memory v w call (Cookie k) n h = h
-answer_despite_memory v w call (Count k) n h = h
-answer_despite_memory v w call (Turned t) n h = h
-answer_despite_memory v w call (State s) n h = h
-answer_despite_memory v w call (Told x) n h = h
-answer_despite_memory v w call (Refused NoMemory) n h = absurd (n refl)
-answer_despite_memory v w call (Refused OutOfMemoryRange) n h = h
-answer_despite_memory v w call (Refused (Busy ch cookie)) n h = h
-answer_despite_memory v w call (Refused (Running ch cookie)) n h = h
-answer_despite_memory v w call (Refused NoChannel) n h = h
-answer_despite_memory v w call (Refused CookiesSpent) n h = h
-answer_despite_memory v w call (Refused StepsSpent) n h = h
-answer_despite_memory v w call (Refused BadEvent) n h = h
-answer_despite_memory v w call (Refused BadRange) n h = h
+answer_despite_memory v w call reply n h = elim (answer-is v w call reply h) [ inl none ↦ absurd (n none.0) | inr is ↦ is ]
 
 pub answers_despite_memory : AnswersDespiteMemory
 answers_despite_memory v w [] [] all h = ap (λ (x : View). ([], x)) h

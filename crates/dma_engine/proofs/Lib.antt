@@ -2,7 +2,7 @@
 -- rows.
 pub mod Histories
 pub mod WhatRuns
-pub mod WaysByRanges
+pub mod ConflictsByRanges
 pub mod Memory
 pub mod Queues
 pub mod Changes
@@ -10,7 +10,7 @@ pub mod Sizes
 pub mod Boards
 pub mod CallCases
 pub mod Entries
-pub mod InTheWay
+pub mod Conflicts
 pub mod QueueCalls
 pub mod TransferRules
 pub mod Endings
@@ -22,6 +22,7 @@ pub mod Starts
 pub mod StepsInRow
 pub mod Rooms
 pub mod Opening
+pub mod Turns
 pub mod CallLists
 pub mod OutcomesStay
 pub mod Checkpoint
@@ -33,3 +34,4 @@ pub mod IdleSteps
 pub mod JoinedCalls
 pub mod SoundViews
 pub mod StaysSound
+pub mod Advances

@@ -12,7 +12,7 @@ use Rattle.dma_chan.specs.Programs.{ProgramValue}
 use Rattle.dma_engine.specs.declared.entry.Entry.{Entry}
 use Rattle.dma_engine.specs.declared.entry.Entry.TheVariants.{Submitted, Issued}
 use Rattle.dma_engine.specs.declared.queue.Queue.{Queue}
-use Rattle.dma_engine.specs.declared.ranges.Ranges.{Ranges}
+use Rattle.dma_engine.specs.declared.access.Ranges.{Ranges}
 use Rattle.dma_engine.specs.Object.{Object, ChannelState, Allows, after, channel, empty_channel, with_transfer, front, issued_front, no_transfer, used, finished, last_cookie}
 use Rattle.dma_engine.specs.History.{object_after, IsLegal}
 use Rattle.dma_engine.specs.View.{View, ChannelSchedule, Agrees, runs, runs_there, running, with_stored, memory_shown, object_of, channels}
@@ -103,7 +103,7 @@ holds-besides p ch a b paused q h less read =
       agrees = at.agrees;
       runs_still = refl;
       ranges_still = refl;
-      tied = record { forgotten = t.forgotten; given = t.given; many = t.many; first = t.first; stands = t.stands; outcomes = t.outcomes; issued = t.issued; halted = t.halted; machine = t.machine };
+      tied = record { forgotten = t.forgotten; given = t.given; many = t.many; first = t.first; indexed = t.indexed; outcomes = t.outcomes; issued = t.issued; halted = t.halted; machine = t.machine };
     }))
 
 pub holds-paused : (p : Parts) (ch : ℕ) (q : Queue) (b : Bool) → Holds p → ch < length p.queues → q ≡ slice_index_or p.queues ch q → Holds (changed p ch (record q { paused = b }) p.memory p.events p.history p.steps)
@@ -157,7 +157,7 @@ holds-issued p ch q n h less read all =
         given = t.given;
         many = t.many;
         first = t.first;
-        stands = λ k l. let s = t.stands k l in (s.0, slice_get-push p.history e _ _ s.1);
+        indexed = λ k l. let s = t.indexed k l in (s.0, slice_get-push p.history e _ _ s.1);
         outcomes = t.outcomes;
         issued = all ∙ t.given;
         halted = t.halted;
@@ -216,11 +216,11 @@ queue-submitted ch spare kept history memory q c t cookie h number = record {
   given = omega (arith, number, length_push c.submitted t);
   many = omega (arith, length_push q.indices.items (length history), length_push c.submitted t, h.many);
   first = take-append-le (length kept) c.submitted (t ∷ []) (omega (arith, h.many)) ∙ h.first;
-  stands = λ k less. elim (cases_lt k (length q.indices.items)) [
+  indexed = λ k less. elim (cases_lt k (length q.indices.items)) [
     | inl old ↦
         let index = get_or_append_left q.indices.items (length history ∷ []) 0 k old in
         let is = get_or_append_left c.submitted (t ∷ []) no_transfer (length kept + k) (omega (arith, h.many, old)) in
-        let s = h.stands k old in
+        let s = h.indexed k old in
         (s.0, rw (index, is) (slice_get-push history _ _ _ s.1))
     | inr new ↦
         let last : k ≡ length q.indices.items = omega (arith, length_push q.indices.items (length history)) in

@@ -108,7 +108,7 @@ transfer_found ch kept history memory q c n tied less = elim (cases_lt n (length
   | inr late ↦
       let e : nat_lt n (length kept) ≡ false = le-ltb n (length kept) late in
       let k = n - length kept in
-      let s = tied.stands k (omega (arith, tied.many, less, late)) in
+      let s = tied.indexed k (omega (arith, tied.many, less, late)) in
       let at : length kept + k ≡ n = omega (arith, late) in
       rw e (ap given_by s.1 ∙ ap (λ i. Some (slice_index_or c.submitted i no_transfer)) at)
 ]

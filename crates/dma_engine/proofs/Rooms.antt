@@ -25,7 +25,7 @@ use Rattle.dma_engine.specs.inner.Found.{given_by, transfer_at, transfer_in, tra
 use Rattle.dma_engine.specs.inner.Inside.{queue_room}
 use Rattle.dma_engine.specs.Object.{Object, ChannelState, channel, no_transfer, unfinished, is_set}
 use Rattle.dma_engine.specs.Room.{no_room, room_on, KeepsRoom}
-use Rattle.dma_engine.specs.Turn.{Stepped, ends, insn_turn, front_turn, start_turn, finishes, moves_on, in_the_way}
+use Rattle.dma_engine.specs.Turn.{Stepped, ends, insn_turn, front_turn, start_turn, finishes, moves_on, first_conflicting}
 use Rattle.dma_engine.specs.View.{View, EngineState, RunningTransfer, object_of}
 use Rattle.dma_engine.specs.inner.Holds.{Holds, IsQueue, Parts, view_of}
 use Rattle.dma_engine.proofs.Changes.{changed, view-changed, schedule-kept}
@@ -95,7 +95,7 @@ later-all ch kept history memory q c t =
     let n = length kept in
     let many : length q.indices.items ≡ length (drop n c.submitted) = omega (arith, t.many, length-drop n c.submitted) in
     map-same (transfer_in history) q.indices.items (drop n c.submitted) many
-    (λ k less. ap transfer_of (t.stands k (omega (arith, less, many))).1 ∙ sym (get_or-drop n c.submitted k no_transfer))
+    (λ k less. ap transfer_of (t.indexed k (omega (arith, less, many))).1 ∙ sym (get_or-drop n c.submitted k no_transfer))
 
 -- all its transfers, with those that the base has
 pub found-all : (ch : ℕ) (kept : List Descriptor) (history : List Entry) (memory : List ℕ) (q : Queue) (c : ChannelState) → IsQueue ch kept history memory q c → transfers_in kept history q.indices.items ≡ c.submitted
@@ -143,7 +143,7 @@ start-ends v ch (Some r) = refl
 
 front-ends : (v : View) (ch : ℕ) (o : Option Descriptor) → false ≡ ends (front_turn v ch o None).0
 front-ends v ch None = refl
-front-ends v ch (Some t) = start-ends v ch (in_the_way v t)
+front-ends v ch (Some t) = start-ends v ch (first_conflicting v t)
 
 by-mark : (b : Bool) (v : View) (ch n : ℕ) (t : Descriptor) (how : TransResult) (kind : FaultKind) (m w : Shared) → ends (if◌then◌else◌ {A = Stepped} b (finishes v ch t n how) (moves_on v ch n)).0 ≡ is_some (fault_in (if◌then◌else◌ {A = ChanTurn × Shared} b (Fault kind, m) (Moved, w)).0)
 by-mark true v ch n t how kind m w = refl

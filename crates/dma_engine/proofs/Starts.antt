@@ -22,20 +22,19 @@ use Rattle.dma_engine.specs.declared.queue.Queue.{Queue}
 use Rattle.dma_engine.specs.declared.turn.Turn.TheVariants.{Held, Started, Finished as TurnFinished}
 use Rattle.dma_engine.specs.Object.{ChannelState, Allows, channel, front, issued_front, finished, unfinished}
 use Rattle.dma_engine.specs.View.{View, ChannelSchedule, RunningTransfer, Agrees, AreFree, IsSound, runs, runs_there, object_of, size}
-use Rattle.dma_engine.specs.Turn.{front_cookie, in_the_way, start_turn, turn, with_entry, with_step, with_taken}
-use Rattle.dma_engine.specs.inner.Ways.{named}
+use Rattle.dma_engine.specs.Turn.{front_cookie, first_conflicting, start_turn, turn, with_entry, with_step, with_taken}
+use Rattle.dma_engine.specs.inner.Accesses.{named}
 use Rattle.dma_engine.specs.Answer.{CallAnswers, is_started, done_on, done_by}
 use Rattle.dma_engine.specs.inner.Due.{MayStart, Finishes}
-use Rattle.dma_engine.specs.declared.ranges.Ranges.{Ranges}
+use Rattle.dma_engine.specs.declared.access.Ranges.{Ranges}
 use Rattle.dma_engine.specs.inner.Ranges.{AreOfRunning, HasRangesOf}
-use Rattle.dma_engine.specs.inner.Holds.{Holds, IsPrepared, Parts, view_of, schedule_of, queue_started}
+use Rattle.dma_engine.specs.inner.Holds.{Holds, IsPrepared, Parts, view_of, schedule_of, queue_finished, queue_started}
 use Rattle.dma_engine.proofs.CallCases.{starved}
 use Rattle.dma_engine.proofs.Changes.{FitsStill, changed, view-changed, holds-changed, runs-here, runs-other}
-use Rattle.dma_engine.proofs.Endings.{queue_finished}
 use Rattle.dma_engine.proofs.Fronts.{and-false, finish-may, front-of}
 use Rattle.dma_engine.proofs.Memory.{shown-started}
 use Rattle.dma_engine.proofs.Queues.{front_known, holds-at, runs_front}
-use Rattle.dma_engine.proofs.WaysByRanges.{below-more}
+use Rattle.dma_engine.proofs.ConflictsByRanges.{below-more}
 use Rattle.dma_engine.proofs.TransferRules.{Runs, good-front, ruled-front}
 use Rattle.dma_engine.proofs.Sizes.{size-small}
 use Rattle.dma_engine.proofs.StepCases.{Due, stepped-so, start-turn, finish-turn}
@@ -73,7 +72,7 @@ free-of t r None e h = tt
 free-of t r (Some s) e h = rw e (not-free (is_free_of t s.transfer) h)
 
 -- the schedule after it fits
-pub start-fits : (v : View) (ch : ℕ) (t : Descriptor) (x : ChannelSchedule) → IsSound v → MayStart v ch → issued_front (channel (object_of v) ch) ≡ Some t → in_the_way v t ≡ None → x.taken ≡ Some 0 → FitsStill (object_of v) (object_of v) v.schedule ch x
+pub start-fits : (v : View) (ch : ℕ) (t : Descriptor) (x : ChannelSchedule) → IsSound v → MayStart v ch → issued_front (channel (object_of v) ch) ≡ Some t → first_conflicting v t ≡ None → x.taken ≡ Some 0 → FitsStill (object_of v) (object_of v) v.schedule ch x
 start-fits v ch t x h may some none begun =
     let o = object_of v in
     let s = v.schedule in
@@ -112,7 +111,7 @@ now-started q r t h =
 pub front-below : (p : Parts) → Holds p → (ch : ℕ) (t : Descriptor) → front (channel (object_of (view_of p)) ch) ≡ Some t → lies_below t 4294967295 ≡ true
 front-below p h ch t is = below-more t (size (view_of p)) 4294967295 (size-small p h) (good-front p h ch t is).1
 
-pub holds-started : (p : Parts) (ch : ℕ) (q : Queue) (t : Descriptor) (u : Ranges) → Holds p → ch < length p.queues → q ≡ slice_index_or p.queues ch q → MayStart (view_of p) ch → issued_front (channel (object_of (view_of p)) ch) ≡ Some t → in_the_way (view_of p) t ≡ None → OnPages p.made (destinations t) → HasRangesOf u t → Holds (changed p ch (queue_started q t u) p.memory p.events p.history p.steps)
+pub holds-started : (p : Parts) (ch : ℕ) (q : Queue) (t : Descriptor) (u : Ranges) → Holds p → ch < length p.queues → q ≡ slice_index_or p.queues ch q → MayStart (view_of p) ch → issued_front (channel (object_of (view_of p)) ch) ≡ Some t → first_conflicting (view_of p) t ≡ None → OnPages p.made (destinations t) → HasRangesOf u t → Holds (changed p ch (queue_started q t u) p.memory p.events p.history p.steps)
 holds-started p ch q t u h less read may some none pages ranges =
     let v : View = view_of p in
     let o = object_of v in
@@ -143,7 +142,7 @@ holds-started p ch q t u h less read may some none pages ranges =
         given = tied.given;
         many = tied.many;
         first = tied.first;
-        stands = tied.stands;
+        indexed = tied.indexed;
         outcomes = tied.outcomes;
         issued = tied.issued;
         halted = tied.halted;
@@ -154,7 +153,7 @@ holds-started p ch q t u h less read may some none pages ranges =
       machines = λ d i l k machine. machine;
     })
 
-pub start-answers : (p : Parts) (ch cookie : ℕ) (q : Queue) (t : Descriptor) (u : Ranges) → Holds p → ch < length p.queues → q ≡ slice_index_or p.queues ch q → MayStart (view_of p) ch → issued_front (channel (object_of (view_of p)) ch) ≡ Some t → in_the_way (view_of p) t ≡ None → cookie ≡ finished (channel (object_of (view_of p)) ch) + 1 → CallAnswers (view_of p) (Step ch) (Turned (Started cookie)) (view_of (changed p ch (queue_started q t u) p.memory p.events p.history p.steps))
+pub start-answers : (p : Parts) (ch cookie : ℕ) (q : Queue) (t : Descriptor) (u : Ranges) → Holds p → ch < length p.queues → q ≡ slice_index_or p.queues ch q → MayStart (view_of p) ch → issued_front (channel (object_of (view_of p)) ch) ≡ Some t → first_conflicting (view_of p) t ≡ None → cookie ≡ finished (channel (object_of (view_of p)) ch) + 1 → CallAnswers (view_of p) (Step ch) (Turned (Started cookie)) (view_of (changed p ch (queue_started q t u) p.memory p.events p.history p.steps))
 start-answers p ch cookie q t u h less read may some none number =
     let v : View = view_of p in
     let at = holds-at p h ch q less read in
@@ -164,14 +163,14 @@ start-answers p ch cookie q t u h less read may some none number =
     ∙ stepped-so v _ ch (Started (front_cookie v ch)) (start-turn v ch t may some ∙ ap (start_turn v ch) none)
 
 -- a start that is out of memory
-pub start-starved : (v w : View) (ch : ℕ) (t : Descriptor) → MayStart v ch → issued_front (channel (object_of v) ch) ≡ Some t → in_the_way v t ≡ None → w ≡ v → CallAnswers v (Step ch) (Refused NoMemory) w
+pub start-starved : (v w : View) (ch : ℕ) (t : Descriptor) → MayStart v ch → issued_front (channel (object_of v) ch) ≡ Some t → first_conflicting v t ≡ None → w ≡ v → CallAnswers v (Step ch) (Refused NoMemory) w
 start-starved v w ch t may some none same =
     let is = stepped-so v _ ch (Started (front_cookie v ch)) (start-turn v ch t may some ∙ ap (start_turn v ch) none) in
     (sym (ap (λ (x : Reply × View). is_started x.0 || nat_lt (length v.history) (length x.1.history)) is), same)
 
-pub held-answers : (v : View) (ch other cookie : ℕ) (t : Descriptor) → MayStart v ch → issued_front (channel (object_of v) ch) ≡ Some t → Some (other, cookie) ≡ named (in_the_way v t) → CallAnswers v (Step ch) (Turned (Held other cookie)) v
+pub held-answers : (v : View) (ch other cookie : ℕ) (t : Descriptor) → MayStart v ch → issued_front (channel (object_of v) ch) ≡ Some t → Some (other, cookie) ≡ named (first_conflicting v t) → CallAnswers v (Step ch) (Turned (Held other cookie)) v
 held-answers v ch other cookie t may some held =
-    let by : (x : Option RunningTransfer) → in_the_way v t ≡ x → Some (other, cookie) ≡ named x → CallAnswers v (Step ch) (Turned (Held other cookie)) v = λ x. elim x as (λ x. in_the_way v t ≡ x → Some (other, cookie) ≡ named x → CallAnswers v (Step ch) (Turned (Held other cookie)) v) [
+    let by : (x : Option RunningTransfer) → first_conflicting v t ≡ x → Some (other, cookie) ≡ named x → CallAnswers v (Step ch) (Turned (Held other cookie)) v = λ x. elim x as (λ x. first_conflicting v t ≡ x → Some (other, cookie) ≡ named x → CallAnswers v (Step ch) (Turned (Held other cookie)) v) [
       | None ↦ λ _ e. absurd cc
       | Some r ↦ λ is e.
           let pair : Option (ℕ × ℕ) → ℕ × ℕ = λ y. unwrap_or y (0, 0) in
@@ -182,8 +181,8 @@ held-answers v ch other cookie t may some held =
     ] in
     by _ refl held
 
-pub way-clear : (v : View) (t : Descriptor) → None ≡ named (in_the_way v t) → in_the_way v t ≡ None
-way-clear v t h = way-none (in_the_way v t) h
+pub way-clear : (v : View) (t : Descriptor) → None ≡ named (first_conflicting v t) → first_conflicting v t ≡ None
+way-clear v t h = way-none (first_conflicting v t) h
 
 -- ---- a finish
 

@@ -28,7 +28,7 @@ use Rattle.dma_engine.specs.declared.outcome.TransResult.TheVariants.{NoError, R
 use Rattle.dma_engine.specs.declared.turn.Turn.TheVariants.{Paused, Halted, Waiting}
 use Rattle.dma_engine.specs.Object.{Allows, IsMark, after, channel, empty_channel, is_set, issued_front, unfinished, used, with_all_aborted, with_outcome, with_transfer}
 use Rattle.dma_engine.specs.View.{View, ChannelSchedule, RunningTransfer, Agrees, IsSound, channels, idle, object_of, runs_there, schedule_at}
-use Rattle.dma_engine.specs.Turn.{Stepped, turn, front_turn, start_turn, insn_turn, moves_on, finishes, with_entry, with_taken, in_the_way, last_step}
+use Rattle.dma_engine.specs.Turn.{Stepped, turn, front_turn, start_turn, insn_turn, moves_on, finishes, with_entry, with_taken, first_conflicting, last_step}
 use Rattle.dma_engine.specs.Answer.{answer, unless, write_fault, read_fault, submit_fault, channel_fault, mark_fault, raise_fault, checkpoint_fault, checkpointed, first_running, with_pause, terminated, done_on}
 use Rattle.dma_engine.specs.Laws.{IsCall, NewViewsAreSound, AnswersStaySound, CallsStaySound}
 use Rattle.dma_engine.specs.inner.Due.{Finishes, MayStart}
@@ -157,7 +157,7 @@ insn-sound v ch n t Nop r is = known-sound v ch n t Nop r is (λ k b e. absurd c
 insn-sound v ch n t (Lp a b) r is = known-sound v ch n t (Lp a b) r is (λ k b e. absurd cc) (λ k e. absurd cc) (λ e. absurd cc)
 insn-sound v ch n t (LpEnd a b) r is = known-sound v ch n t (LpEnd a b) r is (λ k b e. absurd cc) (λ k e. absurd cc) (λ e. absurd cc)
 
-started-sound : (v : View) (ch : ℕ) (t : Descriptor) → IsSound v → MayStart v ch → issued_front (channel (object_of v) ch) ≡ Some t → in_the_way v t ≡ None → IsSound (with_taken v ch (Some 0))
+started-sound : (v : View) (ch : ℕ) (t : Descriptor) → IsSound v → MayStart v ch → issued_front (channel (object_of v) ch) ≡ Some t → first_conflicting v t ≡ None → IsSound (with_taken v ch (Some 0))
 started-sound v ch t h may some none =
     let x : ChannelSchedule = record (schedule_at v ch) { taken = Some 0 } in
     schedule-sound v ch v.steps x h (start-fits v ch t x h may some none refl)
@@ -169,7 +169,7 @@ start-sound v ch t (Some r) h g = h
 front-sound : (v : View) (ch : ℕ) (x : Option Descriptor) (taken : Option ℕ) → IsSound v → ch < channels v → (channel (object_of v) ch).halted ≡ false → (schedule_at v ch).paused ≡ false → issued_front (channel (object_of v) ch) ≡ x → (schedule_at v ch).taken ≡ taken → IsSound (front_turn v ch x taken).1
 front-sound v ch None taken h less goes active is at = h
 front-sound v ch (Some t) None h less goes active is at =
-    start-sound v ch t (in_the_way v t) h (λ none. started-sound v ch t h (less, goes, active, at) is none)
+    start-sound v ch t (first_conflicting v t) h (λ none. started-sound v ch t h (less, goes, active, at) is none)
 front-sound v ch (Some t) (Some n) h less goes active is at =
     let f = runs-at v ch n h less at in
     let same : f.transfer ≡ t = let e : Some f.transfer ≡ Some t = sym f.it.issued ∙ is in cc in

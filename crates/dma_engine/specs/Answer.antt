@@ -18,18 +18,18 @@ use Rattle.dma_engine.specs.declared.fault.EngineFault.{EngineFault}
 use Rattle.dma_engine.specs.declared.fault.EngineFault.TheVariants.{OutOfMemoryRange, Busy, Running, NoChannel, CookiesSpent, BadEvent, BadRange, NoMemory}
 use Rattle.dma_engine.specs.declared.fault.SubmitFault.{SubmitFault}
 use Rattle.dma_engine.specs.declared.outcome.Outcome.{Outcome}
-use Rattle.dma_engine.specs.Object.{Object, base_from, channel, used, finished, unfinished, last_cookie}
+use Rattle.dma_engine.specs.Object.{Object, base_from, channel, end_of_addresses, used, finished, unfinished, last_cookie}
 use Rattle.dma_chan.specs.Traffic.{stored_after}
 use Rattle.dma_engine.specs.View.{View, RunningTransfer, object_of, schedule_at, size, channels, idle, runs, running}
 use Rattle.dma_engine.specs.Turn.{with_entry, turn}
 
--- ---- the first cause of a refusal, if there is one
+-- ---- the first cause of a refusal, if any
 
 -- this cause if it holds, else the others
 abbrev pub cause : Bool → EngineFault → Option EngineFault → Option EngineFault
 cause holds fault others = if holds then Some fault else others
 
--- the fault that names a running transfer by its channel and cookie, if there is one
+-- the fault that names a running transfer by its channel and cookie, if any
 abbrev pub busy : Option RunningTransfer → Option EngineFault
 busy None = None
 busy (Some r) = Some (Busy r.ch r.cookie)
@@ -70,7 +70,7 @@ checked (Some fault) cookie = Err fault
 
 -- why a mark is refused: the range is empty or ends above 2 ^ 32 (PL330 manual, 32-bit addresses)
 abbrev pub mark_fault : Segment → Option EngineFault
-mark_fault s = cause (s.len == 0 || nat_lt 4294967296 (s.addr + s.len)) BadRange None
+mark_fault s = cause (s.len == 0 || nat_lt end_of_addresses (s.addr + s.len)) BadRange None
 
 -- why a raise is refused: the event is above 31 (PL330 manual, DMASEV and DMAWFE)
 abbrev pub raise_fault : ℕ → Option EngineFault
@@ -121,10 +121,26 @@ result_of o ch cookie =
     let c = channel o ch in
     if nat_le cookie c.forgotten then None else slice_get c.outcomes (cookie - c.forgotten - 1)
 
--- the reply to a call that returns a result: `told` of the value, or Refused
+-- the reply to a call that returns a result: `reply` of the value, or Refused
 abbrev pub reply_of : {T : Type 0} → (T → Reply) → Result T EngineFault → Reply
-reply_of told (Ok x) = told x
-reply_of told (Err fault) = Refused fault
+reply_of reply (Ok x) = reply x
+reply_of reply (Err fault) = Refused fault
+
+-- the reply to a call that returns nothing
+abbrev pub done_reply : {T : Type 0} → Result T EngineFault → Reply
+done_reply result = reply_of (λ _. Done) result
+
+-- the reply to a call that returns a count
+abbrev pub count_reply : Result ℕ EngineFault → Reply
+count_reply result = reply_of (λ count. Count count) result
+
+-- the cookie that a submit returns, or the first cause of its refusal
+abbrev pub next_cookie : View → ℕ → Descriptor → Result ℕ EngineFault
+next_cookie v ch t = checked (submit_fault v ch t) (used (channel (object_of v) ch) + 1)
+
+-- the bytes of a range of the object's image
+abbrev pub bytes_in : View → ℕ → ℕ → List ℕ
+bytes_in v addr len = take len (drop addr (object_of v).image)
 
 -- the reply to a submit
 abbrev pub submit_reply : Result ℕ SubmitFault → Reply
@@ -141,7 +157,7 @@ unless None v accepted = accepted
 abbrev pub answer : View → Call → Reply × View
 answer v (Write addr bytes) = unless (write_fault v addr (length bytes)) v (Done, with_entry v (Wrote addr bytes))
 answer v (Read addr len) =
-    let bytes = take len (drop addr (object_of v).image) in
+    let bytes = bytes_in v addr len in
     unless (read_fault v addr len) v (Bytes bytes, with_entry v (ReadBack addr bytes))
 answer v (Submit ch t) =
     let cookie = used (channel (object_of v) ch) + 1 in
@@ -178,7 +194,7 @@ abbrev pub takes_memory : View → Call → Bool
 takes_memory v call =
     stores_base v call || (is_started (answer v call).0 || nat_lt (length v.history) (length (answer v call).1.history))
 
--- A call has this reply and leaves this view. A call that allocates memory may instead be out of memory; no other cause
+-- A call has this reply, and this is the view after it. A call that allocates memory may instead be out of memory; no other cause
 -- applies then, and the view is unchanged.
 abbrev pub CallAnswers : View → Call → Reply → View → Type 0
 CallAnswers old call (Refused NoMemory) new = (takes_memory old call ≡ true) × (new ≡ old)
@@ -190,7 +206,7 @@ StepAnswers old ch result new = CallAnswers old (Step ch) (reply_of Turned resul
 
 -- ---- lists of calls
 
--- Calls in order have these replies, one for each call, and leave this view.
+-- Calls in order have these replies, one for each call, and this is the view after them.
 abbrev pub AreAnswers : View → List Call → List Reply → View → Type 0
 AreAnswers old [] [] new = new ≡ old
 AreAnswers old (call ∷ calls) (reply ∷ replies) new =

@@ -1,5 +1,5 @@
--- What each answer adds to the ticks, to the step count and to the number of finished cookies; which views answers
--- leave; and answers to consecutive calls.
+-- What each answer adds to the ticks, to the step count and to the number of finished cookies; the views after
+-- answers; and answers to consecutive calls.
 use Rattle.std.specs.Prelude.{◌≡◌, ◌≢◌, ℕ, ◌+◌, ◌≤◌, ◌<◌, ◌⊎◌, false, if◌then◌else◌, None, Result, Ok, Err, List, [], ◌∷◌, ◌++◌, length, take, drop}
 use Rattle.std.specs.List.{All}
 use Rattle.dma_mem.specs.Places.{Descriptor}
@@ -85,8 +85,8 @@ StepsAdd =
     → Adds v w (ticks_in ch r) (steps_in r) (finishes_in r)
 
 -- A step's answer finishes a cookie exactly if its turn does, unless it is out of memory.
-abbrev pub EndsAsTold : Type 0
-EndsAsTold =
+abbrev pub EndsByTurn : Type 0
+EndsByTurn =
     (v w : View) (ch : ℕ) (r : Result Turn EngineFault) → StepAnswers v ch r w
     → (r ≡ Err NoMemory) ⊎ (ends r ≡ ends (turn v ch).0)
 
@@ -136,7 +136,7 @@ abbrev pub IdleStepsStay : Type 0
 IdleStepsStay =
     (v w : View) (ch : ℕ) (r : Result Turn EngineFault) → IsIdle r → (reply_of Turned r, w) ≡ answer v (Step ch) → w ≡ v
 
--- ---- which views answers leave
+-- ---- the views after answers
 
 -- A call that can be made: the transfer of a submit meets the rules of transfers, as every value of the type does.
 abbrev pub IsCall : Call → Type 0

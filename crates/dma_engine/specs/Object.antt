@@ -125,9 +125,13 @@ CanHaveStored c done =
     (done ≤ size_of t) × (c.halted ≡ true → done ≡ 0) × (IsSome t.wait → c.passed ≡ false → done ≡ 0)
     × (c.signalled ≡ true → done ≡ size_of t))
 
+-- one past the last address (PL330 manual, 32-bit address registers)
+abbrev pub end_of_addresses : ℕ
+end_of_addresses = 4294967296
+
 -- a range that can be marked: it isn't empty, and ends at 2 ^ 32 or below
 abbrev pub IsMark : Segment → Type 0
-IsMark s = (0 < s.len) × (s.addr + s.len ≤ 4294967296)
+IsMark s = (0 < s.len) × (s.addr + s.len ≤ end_of_addresses)
 
 -- What an entry requires of the object that it changes.
 abbrev pub Allows : Object → Entry → Type 0

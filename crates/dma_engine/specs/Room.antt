@@ -1,10 +1,11 @@
 -- Room that is allocated before it is needed.
-use Rattle.std.specs.Prelude.{◌≡◌, ℕ, ◌<◌, ◌≤◌, Result, Ok, slice_index_or}
+use Rattle.std.specs.Prelude.{◌≡◌, ◌≢◌, ℕ, ◌<◌, ◌≤◌, None, Result, Ok, IfErr, slice_index_or}
 use Rattle.dma_engine.specs.declared.fault.EngineFault.{EngineFault}
+use Rattle.dma_engine.specs.declared.fault.EngineFault.TheVariants.{NoMemory}
 use Rattle.dma_engine.specs.declared.turn.Turn.{Turn}
 use Rattle.dma_engine.specs.declared.turn.Turn.TheVariants.{Started, Moved, Finished}
 use Rattle.dma_engine.specs.Object.{channel, unfinished}
-use Rattle.dma_engine.specs.View.{EngineState, QueueRoom, Room, object_of}
+use Rattle.dma_engine.specs.View.{EngineState, QueueRoom, Room, View, object_of, schedule_at}
 
 -- the room of a channel that doesn't exist
 abbrev pub no_room : QueueRoom
@@ -32,6 +33,14 @@ IsIdle (Ok Moved) = ⊥
 IsIdle (Ok (Finished cookie result residue)) = ⊥
 IsIdle _ = Unit {0}
 
+-- A result is not the fault that memory ran out.
+abbrev pub HasMemory : {T : Type 0} → Result T EngineFault → Type 0
+HasMemory result = IfErr result (λ fault. fault ≢ NoMemory)
+
 -- Every channel that had room still has it.
 abbrev pub KeepsRoom : EngineState → EngineState → Type 0
 KeepsRoom old new = (ch : ℕ) → HasRoom old ch → HasRoom new ch
+
+-- A step of a channel with this result is out of memory only if nothing runs there: at a start.
+abbrev pub OutOfMemoryOnlyToStart : View → ℕ → Result Turn EngineFault → Type 0
+OutOfMemoryOnlyToStart v ch result = IfErr result (λ fault. fault ≡ NoMemory → (schedule_at v ch).taken ≡ None)

@@ -115,7 +115,7 @@ Agrees c (Some taken) =
     (taken < cost t) × (c.passed ≡ (is_some t.wait && nat_lt 0 taken))
     × (c.signalled ≡ (is_some t.signal && taken == cost t - 1)))
 
--- two running transfers, if both are there, are free of each other
+-- two running transfers, if both exist, are free of each other
 abbrev pub AreFree : Option RunningTransfer → Option RunningTransfer → Type 0
 AreFree (Some r) (Some s) = is_free_of r.transfer s.transfer ≡ true
 AreFree _ _ = Unit {0}

@@ -3,9 +3,9 @@
 pub mod Lists
 pub mod Stored
 pub mod Ranges
-pub mod Ways
+pub mod Accesses
 pub mod Found
 pub mod Due
 pub mod Holds
 pub mod Inside
-pub mod InRow
+pub mod Steps

@@ -118,7 +118,8 @@ impl Base {
 
     /// Returns a base of these parts.
     pub fn of(image: Memory, events: Events, marks: Marks, channels: Vec<BaseChannel>) -> Base
-        ensures { result ≡ record { image = image.image; events = events; marks = marks; channels = channels.items } }
+        ensures { result ≡ record
+            { image = image.image; events = events; marks = marks; channels = channels.items } }
     {
         Base {
             size: image.size(),
@@ -131,7 +132,7 @@ impl Base {
 
     /// Returns how many cookies a channel has given, or 0 if there is no such channel.
     pub fn used(&self, index: usize) -> u32
-        requires { used (slice_index_or self.now.channels index empty_channel) ≤ 4294967295 }
+        requires { used (slice_index_or self.now.channels index empty_channel) ≤ u32.MAX }
         ensures { result ≡ used (slice_index_or self.now.channels index empty_channel) }
     {
         match self.channels.get(index) {

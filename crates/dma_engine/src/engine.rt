@@ -6,17 +6,17 @@ ghost use Rattle.dma_engine.specs.Object.{channel, used, finished, finished_all,
 ghost use Rattle.dma_engine.specs.Ticks.{board_of, counts};
 ghost use Rattle.dma_engine.specs.View.{size, channels, object_of, schedule_at, running_on, new_fault, new_view, memory_of, IsSound};
 ghost use Rattle.dma_engine.specs.Answer.{status_in, result_of, first_running, done_on};
-ghost use Rattle.dma_engine.specs.inner.Ways.{named, is_in_the_way};
+ghost use Rattle.dma_engine.specs.inner.Accesses.{named, conflicts};
 ghost use Rattle.dma_engine.specs.inner.Holds.{new_queue};
-ghost use Rattle.dma_engine.specs.inner.Due.{front_told};
+ghost use Rattle.dma_engine.specs.inner.Due.{front_with_cookie};
 
+use crate::access::Access;
 use crate::base::Base;
 use crate::entry::Entry;
 use crate::fault::{EngineFault, NewFault};
 use crate::outcome::Outcome;
 use crate::queue::Queue;
 use crate::turn::{Running, Status, Turn};
-use crate::way::Way;
 use dma_mem::events::Events;
 use dma_mem::marks::Marks;
 use dma_mem::memory::{MemFault, Memory};
@@ -24,6 +24,7 @@ use dma_mem::transfer::Transfer;
 use std::alloc::{AllocError, Global};
 use std::marker::Model;
 
+mod advance;
 mod calls;
 mod checkpoints;
 mod host_calls;
@@ -57,7 +58,11 @@ impl Model for Engine {
     ghost use Rattle.dma_engine.specs.inner.Holds.{view_of, Holds};
     ghost use Rattle.dma_engine.specs.inner.Inside.{parts_of, room_of};
 
-    ghost view = { λ e. record { view = view_of (parts_of e); memory = e.memory.image; room = room_of e } };
+    ghost view = { λ e. record {
+      view = view_of (parts_of e);
+      memory = e.memory.image;
+      room = room_of e;
+    } };
 
     ghost invariant = { λ e. Holds (parts_of e) };
 }
@@ -70,12 +75,10 @@ impl Engine {
     pub fn new(alloc: Global, size: u32, channels: u8) -> Result<Engine, NewFault>
         ensures ok { IfOk result (λ engine. engine.view ≡ new_view size channels) }
         ensures made { OnOk result (new_fault size channels ≡ None) }
-        ensures err { IfErr result (λ fault. fault ≡ unwrap_or (new_fault size channels) NewFault.NoMemory) }
+        ensures err { IfErr result
+            (λ fault. fault ≡ unwrap_or (new_fault size channels) NewFault.NoMemory) }
     {
-        if channels == 0 {
-            return Err(NewFault::BadChannels);
-        }
-        if channels > MAX_CHANNELS {
+        if channels == 0 || channels > MAX_CHANNELS {
             return Err(NewFault::BadChannels);
         }
         let memory = match Memory::new(alloc, size) {
@@ -120,8 +123,9 @@ impl Engine {
         self.steps
     }
 
-    /// What was done since the last checkpoint, or since the engine was made, in order. The history is legal from the base,
-    /// and the memory is its image, with the bytes that running transfers have stored laid over their own destinations.
+    /// What was done since the last checkpoint, or since the engine was made, in order. The history is legal from the
+    /// base, and the memory is its image, with the bytes that running transfers have stored laid over their own
+    /// destinations.
     pub fn history(&self) -> &[Entry]
         ensures entries { result.now ≡ self.now.view.history }
         ensures sound { IsSound self.now.view }
@@ -145,7 +149,7 @@ impl Engine {
         ensures { result ≡ finished (channel (object_of self.now.view) ch) }
     {
         match self.queues.get(usize::from(ch)) {
-            Some(queue) => queue.forgotten + queue.outcomes.len() as u32,
+            Some(queue) => queue.finished(),
             None => 0,
         }
     }
@@ -174,9 +178,10 @@ impl Engine {
     pub fn unfinished(&self, ch: u8) -> u32
         ensures { result ≡ unfinished (channel (object_of self.now.view) ch) }
     {
-        // gives the proof access to the invariant: no more cookies are finished than given
-        let _ = &self.size;
-        self.used(ch) - self.finished(ch)
+        match self.queues.get(usize::from(ch)) {
+            Some(queue) => queue.unfinished() as u32,
+            None => 0,
+        }
     }
 
     /// Returns how many cookies are finished on all channels together.
@@ -185,9 +190,7 @@ impl Engine {
     {
         let mut all = 0;
         for index in 0..self.queues.len() {
-            let cookies = &self.queues[index];
-            let finished = u64::from(cookies.forgotten) + cookies.outcomes.len() as u64;
-            all += finished;
+            all += u64::from(self.queues[index].finished());
         }
         all
     }
@@ -236,17 +239,12 @@ impl Engine {
     pub fn result(&self, ch: u8, cookie: u32) -> Option<Outcome>
         ensures { result ≡ result_of (object_of self.now.view) ch cookie }
     {
-        match self.queues.get(usize::from(ch)) {
-            Some(queue) => {
-                if cookie <= queue.forgotten {
-                    return None;
-                }
-                queue
-                    .outcomes
-                    .get(cookie as usize - queue.forgotten as usize - 1)
-            }
-            None => None,
+        let queue = self.queues.get(usize::from(ch))?;
+        if cookie <= queue.forgotten {
+            return None;
         }
+        let index = cookie - queue.forgotten - 1;
+        queue.outcomes.as_slice().get(index as usize).copied()
     }
 
     /// Returns what runs on a channel: its cookie, and how many of its bytes are stored.
@@ -261,7 +259,7 @@ impl Engine {
         if !queue.channel.is_loaded() {
             return None;
         }
-        let cookie = queue.forgotten + queue.outcomes.len() as u32 + 1;
+        let cookie = queue.finished() + 1;
         let stored = queue.channel.stored() as u32;
         Some(Running { cookie, stored })
     }
@@ -269,7 +267,8 @@ impl Engine {
     // Returns the index of a channel's queue. The error is `NoChannel`.
     fn index_of(&self, ch: u8) -> Result<usize, EngineFault>
         ensures there { IfOk result (λ index. (index ≡ ch) × (ch < channels self.now.view)) }
-        ensures none { IfErr result (λ fault. (fault ≡ EngineFault.NoChannel) × (channels self.now.view ≤ ch)) }
+        ensures none { IfErr result
+            (λ fault. (fault ≡ EngineFault.NoChannel) × (channels self.now.view ≤ ch)) }
     {
         let index = usize::from(ch);
         if index >= self.queues.len() {
@@ -294,25 +293,26 @@ impl Engine {
     // Returns the issued front of a channel, with its cookie.
     fn front(&self, index: usize) -> Option<(&Transfer, u32)>
         requires { index < channels self.now.view }
-        ensures { option_map (λ p. (p.0.now, p.1)) result ≡ front_told (channel (object_of self.now.view) index) }
+        ensures { option_map (λ p. (p.0.now, p.1)) result
+            ≡ front_with_cookie (channel (object_of self.now.view) index) }
     {
         let queue = &self.queues[index];
         let Some(transfer) = queue.front_in(self.base.kept(index), &self.history) else {
             return None;
         };
-        let cookie = queue.forgotten + queue.outcomes.len() as u32 + 1;
+        let cookie = queue.finished() + 1;
         Some((transfer, cookie))
     }
 
-    // Returns the channel and the cookie of the first running transfer that conflicts with `way`.
-    fn first_in_the_way(&self, way: &Way) -> Option<(u8, u32)>
-        ensures { result ≡ named (first_running self.now.view (is_in_the_way way.now)) }
+    // Returns the channel and the cookie of the first running transfer that conflicts with `access`.
+    fn first_conflict(&self, access: &Access) -> Option<(u8, u32)>
+        ensures { result ≡ named (first_running self.now.view (conflicts access.now)) }
     {
         for index in 0..self.queues.len() {
             let queue = &self.queues[index];
             if let Some(ranges) = &queue.ranges {
-                if way.has(ranges) {
-                    let cookie = queue.forgotten + queue.outcomes.len() as u32 + 1;
+                if access.conflicts_with(ranges) {
+                    let cookie = queue.finished() + 1;
                     return Some((index as u8, cookie));
                 }
             }

@@ -1,6 +1,6 @@
 //! Laws of the engine's answers, for the layers above. Each law is the postcondition of a function that does nothing.
 
-ghost use Rattle.dma_engine.specs.Laws.{CallsExtend, StretchesKeep, QuietCallsKeep, CheckpointsKeep, SubmitsGive, TerminatesFinish, StepsAdd, EndsAsTold, BoardsCount, StatusByTicks, BoardsOpen, TicksAreThere, TicksAreFew, IdleStepsStay, NewViewsAreSound, AnswersStaySound, CallsStaySound, AnswersOne, AnswersAppend, AnswersSplit, AnswerIsOne, AnswersAreAnswers, AnswerDespiteMemory, AnswersDespiteMemory};
+ghost use Rattle.dma_engine.specs.Laws.{CallsExtend, StretchesKeep, QuietCallsKeep, CheckpointsKeep, SubmitsGive, TerminatesFinish, StepsAdd, EndsByTurn, BoardsCount, StatusByTicks, BoardsOpen, TicksAreThere, TicksAreFew, IdleStepsStay, NewViewsAreSound, AnswersStaySound, CallsStaySound, AnswersOne, AnswersAppend, AnswersSplit, AnswerIsOne, AnswersAreAnswers, AnswerDespiteMemory, AnswersDespiteMemory};
 
 /// What each call adds to the ticks, to the step count and to the number of finished cookies.
 pub fn calls_add()
@@ -11,7 +11,7 @@ pub fn calls_add()
     ensures submit { SubmitsGive }
     ensures terminate { TerminatesFinish }
     ensures step { StepsAdd }
-    ensures ends { EndsAsTold }
+    ensures ends { EndsByTurn }
 {}
 
 /// What the ticks of a history sum up to.

@@ -13,7 +13,7 @@
 //! Not proved: that an allocation succeeds; which pages are made beyond those that are needed.
 #![tactic(auto)]
 
-pub mod advance;
+mod access;
 mod base;
 pub mod call;
 pub mod engine;
@@ -23,10 +23,8 @@ pub mod laws;
 mod lists;
 pub mod outcome;
 mod queue;
-mod ranges;
 pub mod run;
 pub mod turn;
-mod way;
 
 pub use call::{Call, Reply};
 pub use dma_chan::compile::NoMemory;
@@ -35,4 +33,4 @@ pub use engine::Engine;
 pub use entry::{Entry, Signaller};
 pub use fault::{EngineFault, NewFault, SubmitFault};
 pub use outcome::{Outcome, TransResult};
-pub use turn::{Running, Status, Turn};
+pub use turn::{Advanced, Running, Status, Turn};

@@ -1,113 +1,50 @@
-//! Lists that contracts see as their items and the room for more items.
+//! A list that contracts see as its items and the room for more items.
 
-ghost use Rattle.std.specs.Prelude.{◌≡◌, ◌+◌, ◌<◌, ◌≤◌, ◌++◌, ◌∷◌, [], length, slice_index, slice_get, IsOk, OnOk, OnErr};
+ghost use Rattle.std.specs.Prelude.{◌≡◌, ◌+◌, ◌<◌, ◌≤◌, ◌++◌, ◌∷◌, [], length, IsOk, OnOk, OnErr};
 
-use crate::outcome::Outcome;
 use std::alloc::{AllocError, Global};
 use std::marker::Model;
 
-/// Indices of a history's entries.
+/// A list whose room for more items is made before they are added.
 #[derive(Drop)]
-pub struct Indices {
-    items: Vec<usize>,
+pub struct SpareVec<T> {
+    items: Vec<T>,
 }
 
-impl Model for Indices {
+impl<T> Model for SpareVec<T> {
     ghost use Rattle.std.specs.Prelude.{◌-◌, vec_capacity, vec_len};
-    ghost use Rattle.dma_engine.specs.inner.Lists.{IndexList};
+    ghost use Rattle.dma_engine.specs.inner.Lists.{SpareList};
 
-    ghost Value = { IndexList };
+    ghost Value = { SpareList T };
 
-    ghost view = { λ p. record { items = p.items.items; spare = vec_capacity p.items - vec_len p.items } };
+    ghost view = { λ l. record { items = l.items.items; spare = vec_capacity l.items - vec_len l.items } };
 }
 
-impl Indices {
+impl<T> SpareVec<T> {
     /// Returns an empty list. It allocates no memory.
-    pub fn new(alloc: Global) -> Indices
+    pub fn new(alloc: Global) -> SpareVec<T>
         ensures { result ≡ record { items = []; spare = 0 } }
     {
-        Indices {
+        SpareVec {
             items: Vec::new(alloc),
         }
     }
 
-    /// Returns the number of indices.
+    /// Returns the number of items.
     pub fn len(&self) -> usize
         ensures { result ≡ length self.now.items }
     {
         self.items.len()
     }
 
-    /// Returns the index at a position of the list, counted from 0.
-    pub fn at(&self, index: usize) -> usize
-        requires { index < length self.now.items }
-        ensures { result ≡ slice_index self.now.items index }
+    /// Returns the items.
+    pub fn as_slice(&self) -> &[T]
+        ensures { result.now ≡ self.now.items }
     {
-        self.items[index]
+        self.items.as_slice()
     }
 
-    /// Makes room for one more index.
-    pub fn make_room(&mut self) -> Result<(), AllocError>
-        ensures items { self.new.items ≡ self.old.items }
-        ensures room { OnOk result (0 < self.new.spare) }
-        ensures there { 0 < self.old.spare → IsOk result }
-        ensures kept { self.old.spare ≤ self.new.spare }
-    {
-        self.items.reserve(1)
-    }
-
-    /// Adds an index at the end. Without memory nothing changes.
-    pub fn add(&mut self, index: usize) -> Result<(), AllocError>
-        ensures added { OnOk result (self.new ≡ record { items = self.old.items ++ index ∷ []; spare = self.new.spare }) }
-        ensures refused { OnErr result (self.new ≡ self.old) }
-        ensures room { 0 < self.old.spare → IsOk result }
-    {
-        self.items.reserve(1)?;
-        self.items.push_reserved(index);
-        Ok(())
-    }
-}
-
-/// The outcomes of a channel's finished cookies that aren't forgotten, in the order of their cookies.
-#[derive(Drop)]
-pub struct Outcomes {
-    items: Vec<Outcome>,
-}
-
-impl Model for Outcomes {
-    ghost use Rattle.std.specs.Prelude.{◌-◌, vec_capacity, vec_len};
-    ghost use Rattle.dma_engine.specs.inner.Lists.{OutcomeList};
-
-    ghost Value = { OutcomeList };
-
-    ghost view = { λ o. record { items = o.items.items; spare = vec_capacity o.items - vec_len o.items } };
-}
-
-impl Outcomes {
-    /// Returns an empty list. It allocates no memory.
-    pub fn new(alloc: Global) -> Outcomes
-        ensures { result ≡ record { items = []; spare = 0 } }
-    {
-        Outcomes {
-            items: Vec::new(alloc),
-        }
-    }
-
-    /// Returns the number of outcomes.
-    pub fn len(&self) -> usize
-        ensures { result ≡ length self.now.items }
-    {
-        self.items.len()
-    }
-
-    /// Returns the outcome at an index, if there is one.
-    pub fn get(&self, index: usize) -> Option<Outcome>
-        ensures { result ≡ slice_get self.now.items index }
-    {
-        self.items.get(index).copied()
-    }
-
-    /// Makes room for this number of further outcomes. Nothing changes when out of memory.
+    /// Makes room for this number of further items. Nothing changes when out of memory.
     pub fn make_room(&mut self, more: usize) -> Result<(), AllocError>
         ensures items { self.new.items ≡ self.old.items }
         ensures room { OnOk result (more ≤ self.new.spare) }
@@ -118,12 +55,12 @@ impl Outcomes {
         self.items.reserve(more)
     }
 
-    /// Adds an outcome at the end. There must be room for it.
-    pub fn add(&mut self, outcome: Outcome)
+    /// Adds an item at the end. There must be room for it.
+    pub fn add(&mut self, item: T)
         requires { 0 < self.old.spare }
-        ensures items { self.new.items ≡ self.old.items ++ outcome ∷ [] }
+        ensures items { self.new.items ≡ self.old.items ++ item ∷ [] }
         ensures spare { self.old.spare ≤ self.new.spare + 1 }
     {
-        self.items.push_reserved(outcome);
+        self.items.push_reserved(item);
     }
 }

@@ -1,5 +1,6 @@
 //! The result of a step of a channel, and the status of a cookie.
 
+use crate::fault::EngineFault;
 use crate::outcome::TransResult;
 
 /// The result of one step of a channel.
@@ -36,6 +37,18 @@ pub enum Turn {
     },
 }
 
+/// The result of consecutive steps of a channel.
+#[derive(Clone, Copy, Debug, PartialEq, Eq)]
+pub struct Advanced {
+    /// The cookie of the transfer that the first step started, if it started one.
+    pub started: Option<u32>,
+    /// How many steps moved after that.
+    pub moved: u32,
+    /// The result of the step after them, which neither started a transfer nor moved. It is `None` if all steps were
+    /// taken before it.
+    pub last: Option<Result<Turn, EngineFault>>,
+}
+
 /// The status of a cookie.
 #[derive(Clone, Copy, Debug, PartialEq, Eq)]
 pub enum Status {
@@ -48,6 +61,7 @@ pub enum Status {
 }
 
 /// What runs on a channel.
+#[repr(C)]
 #[derive(Clone, Copy, Debug, PartialEq, Eq)]
 pub struct Running {
     /// Its cookie.

@@ -1,7 +1,7 @@
-//! What no script asks: what an engine tells of itself, its history, an end before its step, a transfer that is handed back,
-//! and lists of calls. The rows of `tests/run/engine_*.test` have the rest.
+//! What no script asks: what an engine reports, its history, an end before its step, a transfer that is handed
+//! back, and lists of calls. The rows of `tests/run/engine_*.test` have the rest.
 
-use crate::engine_lines::Answer::{Count, Done, Four, Moved, Refused, State, Turned};
+use crate::engine_lines::Answer::{Advanced, Count, Done, Four, Refused, State, Turned};
 use crate::engine_lines::Ask::{
     Advance, CheckSubmit, Checkpoint, Issue, MakeRoom, Mark, Raise, Read, Step, Submit, Terminate,
     Unmark, Write,
@@ -14,7 +14,7 @@ use dma_engine::call::{Call, Reply};
 use dma_engine::engine::Engine;
 use dma_engine::fault::EngineFault;
 use dma_engine::outcome::{Outcome, TransResult};
-use dma_engine::run::{run, run_into};
+use dma_engine::run::run;
 use dma_engine::turn::{Running, Status, Turn};
 use dma_mem::lists::Bytes;
 use dma_mem::marks::MarkKind::{Reading, Writing};
@@ -41,7 +41,7 @@ fn before_an_end(alloc: Global, engine: &mut Engine) -> Result<(), Fail> {
         (Step(0), Turned(Turn::Started(1))),
         (MakeRoom(0), Done),
         // the wait, seven instructions and the signal
-        (Advance(0, 9), Moved(9, None)),
+        (Advance(0, 9), Advanced(None, 9, None)),
     ];
     go_through(alloc, engine, &lines)
 }
@@ -49,7 +49,8 @@ fn before_an_end(alloc: Global, engine: &mut Engine) -> Result<(), Fail> {
 // Then its end, and that of the second.
 fn after_both_ends(alloc: Global, engine: &mut Engine) -> Result<(), Fail> {
     let lines = [
-        (Advance(0, 9), Moved(0, Some(Ok(COPIED)))),
+        (Advance(0, 9), Advanced(None, 0, Some(Ok(COPIED)))),
+        (Advance(0, 1), Advanced(Some(2), 0, None)),
         (Read(0x200, 4), Four([1, 2, 3, 4])),
         (Terminate(0), Count(1)),
     ];
@@ -81,13 +82,13 @@ fn has_that_history(engine: &Engine) -> bool {
     engine.history().len() == wanted.len()
 }
 
-// Whether an engine tells these counts of a channel that rests.
+// Whether an engine reports these counts for an idle channel.
 fn rests(engine: &Engine, ch: u8, counts: [u32; 5]) -> bool {
     told(engine, ch) == (counts, [false; 3], None)
 }
 
 #[test]
-fn an_engine_tells_what_was_done(rt: HostRuntime) -> Result<(), Fail> {
+fn an_engine_reports_what_was_done(rt: HostRuntime) -> Result<(), Fail> {
     let mut engine = Engine::new(rt.alloc(), 0x400, 2)?;
     assert!(rt; (engine.size(), engine.channels()) == (0x400, 2));
     before_an_end(rt.alloc(), &mut engine)?;
@@ -207,8 +208,8 @@ fn host_replies(alloc: Global, engine: &mut Engine) -> Result<Vec<Reply>, Fail> 
     Ok(run(alloc, engine, &calls).ok().ok_or("no memory")?)
 }
 
-// Adds those to calls that start a copy and end it, with checkpoints before and behind its end.
-fn add_replies(alloc: Global, engine: &mut Engine, replies: &mut Vec<Reply>) -> Result<(), Fail> {
+// Those to calls that start a copy and end it, with checkpoints before and behind its end.
+fn copy_replies(alloc: Global, engine: &mut Engine) -> Result<Vec<Reply>, Fail> {
     let transfer = copy(0x10, 0x20).transfer(alloc)?;
     let calls = [
         Call::Submit { ch: 0, transfer },
@@ -224,10 +225,10 @@ fn add_replies(alloc: Global, engine: &mut Engine, replies: &mut Vec<Reply>) -> 
         Call::Checkpoint,
         Call::Result { ch: 0, cookie: 1 },
     ];
-    Ok(run_into(engine, &calls, replies).ok().ok_or("no memory")?)
+    Ok(run(alloc, engine, &calls).ok().ok_or("no memory")?)
 }
 
-fn are_as_wanted(replies: &[Reply]) -> bool {
+fn are_as_wanted(host: &[Reply], copy: &[Reply]) -> bool {
     let aborted = Outcome {
         result: TransResult::Aborted,
         residue: 4,
@@ -252,20 +253,20 @@ fn are_as_wanted(replies: &[Reply]) -> bool {
         Done,
         Answer::Result(None),
     ];
-    for (reply, answer) in replies.iter().zip(wanted.iter()) {
+    for (reply, answer) in host.iter().chain(copy.iter()).zip(wanted.iter()) {
         if answer_of(reply) != *answer {
             return false;
         }
     }
-    replies.len() == wanted.len()
+    host.len() + copy.len() == wanted.len()
 }
 
 #[test]
 fn lists_of_calls(rt: HostRuntime) -> Result<(), Fail> {
     let mut engine = Engine::new(rt.alloc(), 64, 1)?;
-    let mut replies = host_replies(rt.alloc(), &mut engine)?;
-    add_replies(rt.alloc(), &mut engine, &mut replies)?;
-    assert!(rt; are_as_wanted(&replies));
+    let host = host_replies(rt.alloc(), &mut engine)?;
+    let copy = copy_replies(rt.alloc(), &mut engine)?;
+    assert!(rt; are_as_wanted(&host, &copy));
     assert!(rt; rests(&engine, 0, [1, 1, 0, 1, 1]));
     Ok(())
 }

@@ -1,6 +1,5 @@
-//! Calls on an engine with what each must answer, carried out one after another, and what an engine tells of itself.
+//! Calls on an engine with what each must answer, carried out one after another, and what an engine reports.
 
-use dma_engine::advance::{Advanced, advance};
 use dma_engine::call::Reply;
 use dma_engine::engine::Engine;
 use dma_engine::entry::{Entry, Signaller};
@@ -28,7 +27,8 @@ pub const READ_FAILED: Turn = Turn::Finished {
     residue: 4,
 };
 
-/// A copy of four bytes from the first address to the second, with the event that it waits for and the one that it signals.
+/// A copy of four bytes from the first address to the second, with the event that it waits for and the one that it
+/// signals.
 #[derive(Clone, Copy)]
 pub struct CopyOfFour(pub u32, pub u32, pub (Option<u8>, Option<u8>));
 
@@ -92,8 +92,9 @@ pub enum Answer {
     /// A cookie, or how many cookies were issued or aborted.
     Count(u32),
     Turned(Turn),
-    /// How many steps moved, and what the step after them answered, if there was one.
-    Moved(u32, Option<Result<Turn, EngineFault>>),
+    /// The cookie that the first step started, if it did, how many steps moved after it, and what the step after them
+    /// answered, if there was one.
+    Advanced(Option<u32>, u32, Option<Result<Turn, EngineFault>>),
     State(Status),
     Result(Option<Outcome>),
     Refused(EngineFault),
@@ -102,7 +103,8 @@ pub enum Answer {
 /// A call with what it must answer.
 pub type Line = (Ask, Answer);
 
-/// Carries lines out. The error is that one isn't answered as it must be, or that a transfer to be submitted can't be made.
+/// Carries lines out. The error is that one isn't answered as it must be, or that a transfer to be submitted can't be
+/// made.
 pub fn go_through(alloc: Global, engine: &mut Engine, lines: &[Line]) -> Result<(), Fail> {
     for (index, (ask, wanted)) in lines.iter().enumerate() {
         let answer = answer_to(alloc, engine, *ask)?;
@@ -149,8 +151,8 @@ pub fn answer_to(alloc: Global, engine: &mut Engine, ask: Ask) -> Result<Answer,
             Err(fault) => Answer::Refused(fault),
         },
         Ask::Advance(ch, most) => {
-            let Advanced { moved, last } = advance(engine, ch, most);
-            Answer::Moved(moved, last)
+            let steps = engine.advance(ch, most);
+            Answer::Advanced(steps.started, steps.moved, steps.last)
         }
         Ask::Checkpoint => done(engine.checkpoint()),
     })
@@ -214,8 +216,9 @@ pub fn answer_of(reply: &Reply) -> Answer {
     }
 }
 
-/// What an engine tells of a channel: how many cookies were given, are finished, aren't, were forgotten by the last
-/// checkpoint, and had been given before it; whether the channel is paused, halted, and before an end; and what runs.
+/// What an engine reports about a channel: how many cookies were given, are finished, aren't, were forgotten by the
+/// last checkpoint, and had been given before it; whether the channel is paused, halted, and before an end; and what
+/// runs.
 pub fn told(engine: &Engine, ch: u8) -> ([u32; 5], [bool; 3], Option<Running>) {
     let counts = [
         engine.used(ch),

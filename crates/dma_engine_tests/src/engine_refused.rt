@@ -1,10 +1,10 @@
-//! Calls on an engine whose memory is refused, and which are then made once more. `tests/refuse_calls` refuses each request
-//! of these tests in turn, and wants each row to meet a refusal; with ample memory none does.
+//! Calls on an engine whose memory is refused, and which are then made once more. `tests/refuse_calls` refuses each
+//! request of these tests in turn, and wants each row to meet a refusal; with ample memory none does.
 //!
-//! Beside the engine that is asked is another, of which all is asked but the call that is refused. While both tell the same,
-//! that call has changed nothing; and both tell the same once each was asked it with memory.
+//! Beside the engine under test is another, which gets all calls but the refused one. While both report the same, that
+//! call has changed nothing; they report the same again once each got the call with memory.
 
-use crate::engine_lines::Answer::{Count, Done, Four, Moved, Turned};
+use crate::engine_lines::Answer::{Advanced, Count, Done, Four, Turned};
 use crate::engine_lines::Ask::{
     Advance, Checkpoint, Issue, MakeRoom, Mark, Raise, Read, ReadBack, Step, Submit,
     SubmitOverPages, Terminate, Unmark, Write, WriteOwned,
@@ -21,8 +21,8 @@ use std::alloc::Global;
 use std::process::Abort;
 use std::test::Fail;
 
-// Whether two engines tell the same of a channel.
-fn tell_the_same_of(this: &Engine, that: &Engine, ch: u8) -> bool {
+// Whether two engines report the same about a channel.
+fn report_the_same_of(this: &Engine, that: &Engine, ch: u8) -> bool {
     for cookie in 1..5 {
         if this.status(ch, cookie) != that.status(ch, cookie)
             || this.result(ch, cookie) != that.result(ch, cookie)
@@ -33,8 +33,8 @@ fn tell_the_same_of(this: &Engine, that: &Engine, ch: u8) -> bool {
     told(this, ch) == told(that, ch)
 }
 
-/// Whether two engines tell the same, but for the bytes of their memories.
-pub fn tell_the_same(this: &Engine, that: &Engine) -> bool {
+/// Whether two engines report the same, except for the bytes of their memories.
+pub fn report_the_same(this: &Engine, that: &Engine) -> bool {
     for (entry, other) in this.history().iter().zip(that.history().iter()) {
         if said(entry) != said(other) {
             return false;
@@ -43,12 +43,12 @@ pub fn tell_the_same(this: &Engine, that: &Engine) -> bool {
     this.history().len() == that.history().len()
         && this.steps() == that.steps()
         && this.finished_all() == that.finished_all()
-        && tell_the_same_of_all(this, that)
+        && report_the_same_of_all(this, that)
 }
 
-fn tell_the_same_of_all(this: &Engine, that: &Engine) -> bool {
+fn report_the_same_of_all(this: &Engine, that: &Engine) -> bool {
     for ch in 0..8 {
-        if !tell_the_same_of(this, that, ch) {
+        if !report_the_same_of(this, that, ch) {
             return false;
         }
     }
@@ -70,19 +70,19 @@ pub fn have_same_bytes(pair: &mut Pair) -> Result<bool, Fail> {
     Ok(these.as_slice() == those.as_slice())
 }
 
-// Ends what is unfinished on channel 0 of both, which must then tell the same and have the same bytes.
+// Ends what is unfinished on channel 0 of both, which must then report the same and have the same bytes.
 fn end_alike(rt: &impl Abort, pair: &mut Pair) -> Result<(), Fail> {
     let count = pair.asked.terminate(0)?;
     assert_eq!(rt; pair.other.terminate(0)?, count);
     assert!(rt; have_same_bytes(pair)?);
-    assert!(rt; tell_the_same(&pair.asked, &pair.other));
+    assert!(rt; report_the_same(&pair.asked, &pair.other));
     Ok(())
 }
 
 // A name, a call that takes memory, and what it answers where there is memory.
 type Row = (&'static str, Ask, Answer);
 
-// Asks an engine, once more where it is refused memory. `looks` is whether the memories are read between the two calls.
+// Asks an engine, and again if it runs out of memory. `looks` is whether the memories are read between the two calls.
 fn asked_again(
     rt: &(impl Abort + Print),
     alloc: Global,
@@ -97,7 +97,7 @@ fn asked_again(
         return Ok(first);
     }
     println!(rt; "refused {}", name)?;
-    assert!(rt; tell_the_same(&pair.asked, &pair.other));
+    assert!(rt; report_the_same(&pair.asked, &pair.other));
     if looks {
         assert!(rt; have_same_bytes(pair)?);
     }
@@ -117,7 +117,7 @@ fn asked_after(
     let (_, ask, wanted) = row;
     assert_eq!(rt; answered, wanted);
     go_through(alloc, &mut pair.other, &[(ask, wanted)])?;
-    assert!(rt; tell_the_same(&pair.asked, &pair.other));
+    assert!(rt; report_the_same(&pair.asked, &pair.other));
     end_alike(rt, &mut pair)
 }
 
@@ -137,7 +137,7 @@ fn calls_without_room(rt: HostRuntime) -> Result<(), Fail> {
         (Submit(0, copy(0x200, 0x1FFE)), Count(2)),
         (Issue(0), Count(2)),
         (Step(0), Turned(Turn::Started(1))),
-        (Advance(0, 9), Moved(7, Some(Ok(COPIED)))),
+        (Advance(0, 9), Advanced(None, 7, Some(Ok(COPIED)))),
         (Submit(0, copy(0x100, 0x2000)), Count(3)),
         (Raise(5), Done),
         (Mark(Writing, segment(0x2FFF, 1)), Done),
@@ -188,7 +188,7 @@ fn steps_that_add_an_entry(rt: HostRuntime) -> Result<(), Fail> {
             (Raise(3), Done),
             (Checkpoint, Done),
             (Step(0), Turned(Turn::Started(1))),
-            (Advance(0, most), Moved(most, None)),
+            (Advance(0, most), Advanced(None, most, None)),
         ];
         // its destination can't be read while it runs
         let row = (name, Step(0), Turned(turn));
@@ -197,7 +197,7 @@ fn steps_that_add_an_entry(rt: HostRuntime) -> Result<(), Fail> {
     Ok(())
 }
 
-// The first page is there. Where the third is refused, the second was made before it.
+// The first page exists. Where the third is refused, the second was made before it.
 #[test]
 fn a_start_that_makes_two_pages(rt: HostRuntime) -> Result<(), Fail> {
     let before = [

@@ -1,5 +1,6 @@
-//! Tests of the engine and of the running controller, by what they make public: what no clause says and no row of `tests/` at
-//! the top shows. They are in a crate of their own, since the gate proves a crate that has tests once more with them.
+//! Tests of the engine and of the running controller, by what they make public: what no clause says and no row of
+//! `tests/` at the top shows. They are in a crate of their own, since the gate proves a crate that has tests once more
+//! with them.
 #![tactic(auto)]
 
 #[cfg(test)]

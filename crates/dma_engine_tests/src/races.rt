@@ -17,7 +17,7 @@ use std::thread::Threads;
 // How often a gate looks at most.
 const MOST_LOOKS: u64 = 20_000_000;
 
-// Holds each of two workers before each of its turns until the other is there too.
+// Holds each of two workers before each of its turns until the other has arrived too.
 #[derive(Drop)]
 struct InStep {
     // the number of the turn that each has come to
@@ -112,8 +112,8 @@ fn begin<N: DeskName, R: Wait>(
     Ok(())
 }
 
-/// Two jobs pass a gate while another thread asks. Returns the totals and the number of entries. The first job makes the copy
-/// that the reader has learned of, the second one that was submitted before the desk was there.
+/// Two jobs pass a gate while another thread asks. Returns the totals and the number of entries. The first job makes
+/// the copy that the reader has learned of, the second one that was submitted before the desk was there.
 pub fn raced<N: DeskName + Send + Sync, R: Threads + Wait + Sync + Abort + Print, G: Gate>(
     rt: &R,
     alloc: Global,

@@ -7,8 +7,8 @@ use dma_engine::{Engine, EngineFault, Status, Turn};
 use dma_mem::segment::Segment;
 use dma_mem::transfer::Transfer;
 use dma_work::{
-    Desk, DeskName, Job, MissingTally, NoGate, Parts, Receipt, ShareFault, ShareFaultKind, Shared,
-    StatusReader, Tally, Totals, Worker, settle, work,
+    Desk, DeskName, Job, NoGate, Parts, Receipt, ShareFault, ShareFaultKind, Shared, StatusReader,
+    Tally, Totals, Worker, settle, work,
 };
 use std::alloc::Global;
 use std::marker::Brand;
@@ -62,7 +62,8 @@ fn one_of_two_copied(alloc: Global, engine: &mut Engine) -> Result<(), Fail> {
     Ok(())
 }
 
-/// An engine whose lists have no room, since a checkpoint gave it back. Of channel 0 cookie 1 is finished and cookie 2 issued.
+/// An engine whose lists have no room, since a checkpoint gave it back. Of channel 0 cookie 1 is finished and cookie 2
+/// issued.
 pub fn without_room(alloc: Global) -> Result<Engine, Fail> {
     let mut engine = Engine::new(alloc, 0x4000, 1)?;
     one_of_two_copied(alloc, &mut engine)?;
@@ -173,8 +174,8 @@ pub fn seen(reader: &mut StatusReader) -> [Option<Status>; 3]
     ]
 }
 
-/// Submits a copy to channel 0 and issues it. By a function of its own, since what holds of a transfer by its type would
-/// only lengthen the proofs about readers.
+/// Submits a copy to channel 0 and issues it. By a function of its own, since what holds of a transfer by its type
+/// would only lengthen the proofs about readers.
 pub fn submitted<N: DeskName, R: Wait>(
     rt: &R,
     alloc: Global,
@@ -210,12 +211,7 @@ pub fn settled<N: DeskName, R: Wait>(
     match settle(rt, shared, tallies) {
         Ok((engine, totals)) => Some((totals, engine.history().len())),
         Err(missing) => {
-            let MissingTally {
-                shared,
-                tallies: _,
-                book: _,
-            } = missing;
-            drop(shared.close(rt));
+            drop(missing.close(rt));
             None
         }
     }

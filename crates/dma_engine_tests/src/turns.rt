@@ -28,7 +28,8 @@ impl Gate for Counted {
     }
 }
 
-// Notes the channels of its first eight turns, and whether at each turn it was that turn which the gate let through last.
+// Notes the channels of its first eight turns, and whether at each turn it was that turn which the gate let through
+// last.
 #[derive(Drop)]
 struct Noted<'a> {
     gate: &'a Counted,

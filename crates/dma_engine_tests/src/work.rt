@@ -19,8 +19,8 @@ use std::test::Fail;
 
 // ---- a checkpoint
 
-// A checkpoint forgets one finished cookie of channel 0. The reader gets the same statuses before and after it, and then the
-// next cookie's.
+// A checkpoint forgets one finished cookie of channel 0. The reader gets the same statuses before and after it, and
+// then the next cookie's.
 #[derive(Clone, Copy)]
 struct Checkpoint {
     seen: [Option<Status>; 3],
@@ -88,7 +88,8 @@ fn all_see(readers: &mut [StatusReader], wanted: [Option<Status>; 3]) -> bool {
     true
 }
 
-// Whether a desk has a reader more, which sees what was published, once these have given their places back, and none before.
+// Whether a desk has a reader more, which sees what was published, once these have given their places back, and none
+// before.
 fn reads_more<N: DeskName>(desk: &mut Desk<N>, readers: Vec<StatusReader>) -> bool {
     let is_full = readers.is_empty() || desk.reader().is_none();
     drop(readers);
@@ -162,8 +163,8 @@ fn afternoon<N: DeskName, R: Wait + Abort>(
     Ok(())
 }
 
-// A worker finishes the first copy, and the reader sees it though it learns of nothing; another worker finds no channel.
-// Answers the tally of each.
+// A worker finishes the first copy, and the reader sees it though it learns of nothing; another worker finds no
+// channel. Answers the tally of each.
 fn until_evening<N: DeskName, R: Wait + Abort>(
     rt: &R,
     alloc: Global,

@@ -1,14 +1,14 @@
-//! What a worker's thread and the end of a desk leave of an engine: what the same steps by one thread leave.
+//! An engine after a worker's thread and the end of a desk: as after the same steps by one thread.
 
 ghost use Rattle.dma_work.specs.Desk.{Names};
 
-use crate::engine_lines::Answer::{Count, Done, Moved, Turned};
+use crate::engine_lines::Answer::{Advanced, Count, Done, Turned};
 use crate::engine_lines::Ask::{Advance, Issue, Mark, Raise, Step, Submit, Write};
 use crate::engine_lines::{CopyOfFour, READ_FAILED, copy, go_through, segment};
-use crate::engine_refused::{Pair, have_same_bytes, tell_the_same};
+use crate::engine_refused::{Pair, have_same_bytes, report_the_same};
 use dma_engine::{Engine, Turn};
 use dma_mem::marks::MarkKind::Reading;
-use dma_work::{DeskName, Job, MissingTally, NoGate, Parts, Shared, Tally, run_workers, settle};
+use dma_work::{DeskName, Job, NoGate, Parts, Shared, Tally, run_workers, settle};
 use std::alloc::Global;
 use std::marker::Brand;
 use std::process::Abort;
@@ -16,7 +16,8 @@ use std::sync::Wait;
 use std::test::Fail;
 use std::thread::Threads;
 
-// Channel 0 is paused where it waits for a flag that is set, channel 1 is halted by a mark, and channel 2 has a copy to begin.
+// Channel 0 is paused where it waits for a flag that is set, channel 1 is halted by a mark, and channel 2 has a copy to
+// begin.
 fn paused_and_halted(alloc: Global) -> Result<Engine, Fail> {
     let lines = [
         (Write(0x100, &[1, 2, 3, 4]), Done),
@@ -31,7 +32,7 @@ fn paused_and_halted(alloc: Global) -> Result<Engine, Fail> {
         (Submit(1, copy(0x180, 0x240)), Count(1)),
         (Issue(1), Count(1)),
         (Step(1), Turned(Turn::Started(1))),
-        (Advance(1, 9), Moved(3, Some(Ok(READ_FAILED)))),
+        (Advance(1, 9), Advanced(None, 3, Some(Ok(READ_FAILED)))),
         (Submit(2, copy(0x100, 0x280)), Count(1)),
         (Issue(2), Count(1)),
     ];
@@ -50,7 +51,8 @@ fn step_rounds(engine: &mut Engine, first: u8, rounds: u32) {
     }
 }
 
-// What goes on shows pauses, halts, flags and marks: the copies of channels 0 and 2 end, and that of channel 1 fails again.
+// What goes on shows pauses, halts, flags and marks: the copies of channels 0 and 2 end, and that of channel 1 fails
+// again.
 fn go_on(alloc: Global, engine: &mut Engine) -> Result<(), Fail> {
     engine.resume(0)?;
     engine.terminate(1)?;
@@ -67,39 +69,33 @@ fn go_on(alloc: Global, engine: &mut Engine) -> Result<(), Fail> {
 fn ended<N: DeskName, R: Wait>(rt: &R, shared: Shared<N>, tallies: Vec<Tally>) -> (Engine, bool) {
     match settle(rt, shared, tallies) {
         Ok((engine, _totals)) => (engine, true),
-        Err(missing) => {
-            let MissingTally {
-                shared,
-                tallies: _,
-                book: _,
-            } = missing;
-            (shared.close(rt), false)
-        }
+        Err(missing) => (missing.close(rt), false),
     }
 }
 
-// Runs one worker at a desk, which ends with its tally or without it. Returns the engine, and whether the desk was settled.
+// Runs one worker at a desk, which ends with its tally or without it. Returns the engine, and whether the desk was
+// settled.
 fn through_a_desk<N: DeskName + Send + Sync, R: Threads + Wait + Sync>(
     rt: &R,
     alloc: Global,
     parts: Parts,
     job: Job,
-    is_told: bool,
+    is_reported: bool,
 ) -> (Engine, bool)
     requires { Names N.steps N.finished N.base N.log parts }
 {
     let shared = Shared::<N>::new(parts);
     let tallies = match run_workers(rt, alloc, &shared, &[job], &NoGate) {
-        Ok(tallies) if is_told => tallies,
+        Ok(tallies) if is_reported => tallies,
         _ => Vec::new(alloc),
     };
     ended(rt, shared, tallies)
 }
 
-// The job's first channel is paused, halted, and about to begin a copy, which seven rounds leave under way.
+// The job's first channel is paused, halted, and about to begin a copy, which still runs after seven rounds.
 #[test]
 fn a_desk_leaves_what_the_steps_leave(rt: HostRuntime) -> Result<(), Fail> {
-    for (first, turns, is_told) in [(0, 28, false), (1, 21, true), (2, 14, true)] {
+    for (first, turns, is_reported) in [(0, 28, false), (1, 21, true), (2, 14, true)] {
         let job = Job::new(first, 3, turns).ok_or("no job")?;
         let mut other = paused_and_halted(rt.alloc())?;
         let engine = paused_and_halted(rt.alloc())?;
@@ -107,21 +103,27 @@ fn a_desk_leaves_what_the_steps_leave(rt: HostRuntime) -> Result<(), Fail> {
             return Err(Fail::from("no parts"));
         };
         drop(readers);
-        let (asked, is_settled) = through_a_desk::<Brand, _>(&rt, rt.alloc(), parts, job, is_told);
+        let (asked, is_settled) = through_a_desk::<Brand, _>(
+            &rt,
+            rt.alloc(),
+            parts,
+            job,
+            is_reported,
+        );
         step_rounds(&mut other, first, 7);
         compare(&rt, rt.alloc(), Pair { asked, other })?;
-        assert!(rt; is_settled == is_told);
+        assert!(rt; is_settled == is_reported);
     }
     Ok(())
 }
 
-// They tell the same now, and once both have gone on.
+// They report the same now, and again after further steps.
 fn compare(rt: &impl Abort, alloc: Global, mut pair: Pair) -> Result<(), Fail> {
-    assert!(rt; tell_the_same(&pair.asked, &pair.other));
+    assert!(rt; report_the_same(&pair.asked, &pair.other));
     assert!(rt; pair.asked.paused(0) && pair.asked.halted(1) && pair.asked.steps() == 10);
     go_on(alloc, &mut pair.asked)?;
     go_on(alloc, &mut pair.other)?;
-    assert!(rt; tell_the_same(&pair.asked, &pair.other));
+    assert!(rt; report_the_same(&pair.asked, &pair.other));
     assert!(rt; have_same_bytes(&mut pair)?);
     Ok(())
 }

@@ -110,7 +110,7 @@ fn refusal<N: DeskName, R: Wait + Abort>(
     })
 }
 
-// Asks a desk, and once more where it is refused memory.
+// Asks a desk, and again if it runs out of memory.
 impl Scene for Row {
     fn at<N: DeskName, R: Wait + Abort + Print>(
         &self,
@@ -132,8 +132,8 @@ impl Scene for Row {
     }
 }
 
-// Plays a row over an engine. In the end, once what runs is terminated, this is the byte behind those that are copied, and
-// the first of the copied ones.
+// Plays a row over an engine. In the end, once what runs is terminated, this is the byte behind those that are copied,
+// and the first of the copied ones.
 fn over_an_engine<R: Wait + Abort + Print>(
     rt: &R,
     alloc: Global,
@@ -186,8 +186,8 @@ fn issued_without_room(engine: &mut Engine, transfer: Transfer, steps: u32) -> R
     step_often(engine, steps)
 }
 
-// An engine that has given all room back, and then takes steps of a copy with these events on channel 0. The flag of event 3
-// is set.
+// An engine that has given all room back, and then takes steps of a copy with these events on channel 0. The flag of
+// event 3 is set.
 fn before_a_step(
     alloc: Global,
     wait: Option<u8>,

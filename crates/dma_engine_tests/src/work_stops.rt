@@ -46,7 +46,7 @@ impl Scene for Stop {
 // It is copied in bursts of 256, 32 and 12 bytes.
 #[test]
 fn a_stop_after_each_instruction(rt: HostRuntime) -> Result<(), Fail> {
-    // the first and the last number of instructions, and the bytes that they leave
+    // the first and the last number of instructions, and the residue
     let rows: [(u32, u32, u32); 4] = [(0, 6, 300), (7, 12, 44), (13, 17, 12), (18, 19, 0)];
     for (first, last, residue) in rows {
         let result = TransResult::Aborted;

@@ -1,5 +1,5 @@
 -- The engine calls that a request of C makes can be made.
-use Rattle.std.proofs.Common.{◌≡◌, ℕ, ◌+◌, ◌<◌, Bool, true, false, ◌||◌, nat_lt, List, [], ◌∷◌, Option, Some, None, refl, ap, sym, ◌∙◌, arith}
+use Rattle.std.proofs.Common.{◌≡◌, ℕ, ◌+◌, ◌<◌, Bool, true, false, ◌||◌, nat_lt, List, [], ◌∷◌, Option, Some, None, refl, ap, sym, ◌∙◌, arith, subst, inl, inr}
 use Rattle.std.specs.List.{All, list_any}
 use Rattle.std.proofs.lemmas.Bool.{le-ltb, true≢false}
 use Rattle.std.proofs.lemmas.List.Elements.{All-cons, All-replicate}
@@ -17,8 +17,8 @@ use Rattle.dma_engine.specs.declared.call.Call.TheVariants.{Submit, Step, Mark}
 use Rattle.dma_engine.specs.View.{View}
 use Rattle.dma_engine.specs.Laws.{IsCall}
 use Rattle.dma_ffi.specs.Codes.{mark_kind}
-use Rattle.dma_ffi.specs.Told.{Answer, Answers, AnswersSubmit, Asked, ask_call, ask_copy, ask_fill, ask_forgotten, ask_history_bytes, ask_history_entries, ask_mark, ask_running, ask_running_count, ask_step_count, ask_steps, ask_unfinished, closed, no_kind, numbered, replied, runs, stepped, unfit}
-use Rattle.dma_ffi.specs.Laws.{CanBeAsked, calls_made, marking}
+use Rattle.dma_ffi.specs.Requests.{Answer, Answers, AnswersSubmit, Request, ask_call, ask_copy, ask_fill, ask_mark, ask_steps, ask_value, closed, known, no_kind, replied, stepped, unfit}
+use Rattle.dma_ffi.specs.Laws.{CanBeRequested, calls_made, if_replied, marking}
 
 -- ---- the refusals of a fill
 
@@ -62,25 +62,11 @@ marks-made : (kind : Option MarkKind) (range : Segment) → All IsCall (marking 
 marks-made None range = none-made
 marks-made (Some kind) range = alone (Mark kind range) tt
 
-submit-made : (v w : View) (ch : ℕ) (t : Descriptor) (refusal : Option TransferFault) (answer : Answer) → (refusal ≡ None → IsTransfer t) → AnswersSubmit v ch refusal t answer w → All IsCall (calls_made (ask_copy ch t) answer)
-submit-made v w ch t refusal (replied reply) fits h = alone (Submit ch t) (fits h.0)
-submit-made v w ch t refusal closed fits h = none-made
-submit-made v w ch t refusal (unfit fault) fits h = none-made
-submit-made v w ch t refusal no_kind fits h = none-made
-submit-made v w ch t refusal (stepped taken last) fits h = none-made
-submit-made v w ch t refusal (runs r) fits h = none-made
-submit-made v w ch t refusal (numbered n) fits h = none-made
-
-fill-made : (v w : View) (ch src : ℕ) (dst : List Segment) (wait signal : Option ℕ) (answer : Answer) → src < 4294967296 → Answers v (ask_fill ch src dst wait signal) answer w → All IsCall (calls_made (ask_fill ch src dst wait signal) answer)
-fill-made v w ch src dst wait signal (replied reply) below h =
-    alone (Submit ch (filling src dst wait signal))
-    (fill-from_no_refusal src dst wait signal (fill-refusal src dst wait signal below ∙ h.0))
-fill-made v w ch src dst wait signal closed below h = none-made
-fill-made v w ch src dst wait signal (unfit fault) below h = none-made
-fill-made v w ch src dst wait signal no_kind below h = none-made
-fill-made v w ch src dst wait signal (stepped taken last) below h = none-made
-fill-made v w ch src dst wait signal (runs r) below h = none-made
-fill-made v w ch src dst wait signal (numbered n) below h = none-made
+submit-made : (v w : View) (ch : ℕ) (t : Descriptor) (refusal : Option TransferFault) (answer : Answer) → (refusal ≡ None → IsTransfer t) → AnswersSubmit v ch refusal t answer w → All IsCall (if_replied answer (Submit ch t))
+submit-made v w ch t refusal answer fits (inl h) =
+    subst (λ (a : Answer). All IsCall (if_replied a (Submit ch t))) (sym h.0) none-made
+submit-made v w ch t refusal answer fits (inr h) =
+    subst (λ (a : Answer). All IsCall (if_replied a (Submit ch t))) (sym h.1.1) (alone (Submit ch t) (fits h.0))
 
 steps-made : (ch most : ℕ) (answer : Answer) → All IsCall (calls_made (ask_steps ch most) answer)
 steps-made ch most (replied reply) = alone (Step ch) tt
@@ -88,22 +74,17 @@ steps-made ch most (stepped taken last) = All-replicate IsCall taken (Step ch) t
 steps-made ch most closed = none-made
 steps-made ch most (unfit fault) = none-made
 steps-made ch most no_kind = none-made
-steps-made ch most (runs r) = none-made
-steps-made ch most (numbered n) = none-made
+steps-made ch most (known x) = none-made
 
 -- the calls that a request of C makes, given its answer, can be made
-pub can-be-made : (v w : View) (asked : Asked) (answer : Answer) → CanBeAsked asked → Answers v asked answer w → All IsCall (calls_made asked answer)
+pub can-be-made : (v w : View) (request : Request) (answer : Answer) → CanBeRequested request → Answers v request answer w → All IsCall (calls_made request answer)
 can-be-made v w (ask_call call) answer can h = alone call can
 can-be-made v w (ask_mark kind range) answer can h = marks-made (mark_kind kind) range
 can-be-made v w (ask_copy ch t) answer can h =
     submit-made v w ch t (refusal_of t) answer
     (λ none. IsTransfer-from_no_refusal t (λ is. absurd (true≢false (sym is ∙ can))) none) h
-can-be-made v w (ask_fill ch src dst wait signal) answer can h = fill-made v w ch src dst wait signal answer can h
+can-be-made v w (ask_fill ch src dst wait signal) answer can h =
+    submit-made v w ch (filling src dst wait signal) (refusal_of_fill src dst wait signal) answer
+    (λ none. fill-from_no_refusal src dst wait signal (fill-refusal src dst wait signal can ∙ none)) h
 can-be-made v w (ask_steps ch most) answer can h = steps-made ch most answer
-can-be-made v w (ask_running ch) answer can h = none-made
-can-be-made v w (ask_unfinished ch) answer can h = none-made
-can-be-made v w (ask_forgotten ch) answer can h = none-made
-can-be-made v w ask_step_count answer can h = none-made
-can-be-made v w ask_history_entries answer can h = none-made
-can-be-made v w ask_history_bytes answer can h = none-made
-can-be-made v w ask_running_count answer can h = none-made
+can-be-made v w (ask_value value) answer can h = none-made

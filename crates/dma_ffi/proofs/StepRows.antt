@@ -1,117 +1,98 @@
 -- Steps of a channel in a row.
-use Rattle.std.proofs.Common.{◌≡◌, ℕ, zero, suc, ◌+◌, ◌<◌, List, [], ◌∷◌, ◌++◌, replicate, Option, None, Some, Result, Ok, Err, true, refl, sym, subst, arith, inr}
-use Rattle.dma_engine.specs.declared.call.Call.{Call}
-use Rattle.dma_engine.specs.declared.call.Call.TheVariants.{Step}
-use Rattle.dma_engine.specs.declared.call.Reply.{Reply}
-use Rattle.dma_engine.specs.declared.call.Reply.TheVariants.{Turned, Refused}
-use Rattle.dma_engine.specs.declared.advance.Advanced.{Advanced}
-use Rattle.dma_engine.specs.Advance.{IsAdvance, last_call, last_reply}
-use Rattle.dma_engine.specs.declared.turn.Turn.TheVariants.{Moved}
+use Rattle.std.proofs.Common.{◌≡◌, ℕ, zero, suc, ◌+◌, ◌<◌, ◌≤◌, Option, None, Some, Result, Ok, Err, true, false, refl, sym, subst, arith, inl, inr}
+use Rattle.std.specs.Prelude.{if◌then◌else◌, is_some}
+use Rattle.std.specs.Option.{option_map}
+use Rattle.dma_engine.specs.declared.turn.Advanced.{Advanced}
+use Rattle.dma_engine.specs.Advance.{AllMove, IsAdvance, TakesStep, steps_before}
+use Rattle.dma_engine.specs.declared.turn.Turn.TheVariants.{Started, Moved}
 use Rattle.dma_engine.specs.declared.fault.EngineFault.{EngineFault}
-use Rattle.dma_engine.specs.declared.fault.EngineFault.TheVariants.{OutOfMemoryRange, Busy, Running, NoChannel, CookiesSpent, StepsSpent, BadEvent, BadRange, NoMemory}
+use Rattle.dma_engine.specs.declared.call.Call.TheVariants.{Step}
+use Rattle.dma_engine.specs.declared.call.Reply.TheVariants.{Refused}
 use Rattle.dma_engine.specs.declared.turn.Turn.{Turn}
 use Rattle.dma_engine.specs.View.{View}
-use Rattle.dma_engine.specs.Answer.{StepAnswers, CallAnswers, AreAnswers}
+use Rattle.dma_engine.specs.Answer.{StepAnswers}
 use Rattle.dma_engine.proofs.IdleSteps.{idle_steps_stay}
-use Rattle.dma_ffi.specs.Told.{InARow, TakesSteps, goes_on}
-use Rattle.dma_ffi.specs.inner.InRow.{after_moves}
+use Rattle.dma_engine.proofs.Turns.{answer-is}
+use Rattle.dma_ffi.specs.Requests.{InARow, TakesSteps, goes_on}
+use Rattle.dma_ffi.specs.inner.InRow.{turn_before}
 
 -- a refused step changes nothing
-pub refused_stays : (v w : View) (ch : ℕ) (fault : EngineFault) → StepAnswers v ch (Err fault) w → w ≡ v
-refused_stays v w ch NoMemory h = h.1
-refused_stays v w ch OutOfMemoryRange h = idle_steps_stay v w ch (Err OutOfMemoryRange) tt h
-refused_stays v w ch (Busy other cookie) h = idle_steps_stay v w ch (Err (Busy other cookie)) tt h
-refused_stays v w ch (Running other cookie) h = idle_steps_stay v w ch (Err (Running other cookie)) tt h
-refused_stays v w ch NoChannel h = idle_steps_stay v w ch (Err NoChannel) tt h
-refused_stays v w ch CookiesSpent h = idle_steps_stay v w ch (Err CookiesSpent) tt h
-refused_stays v w ch StepsSpent h = idle_steps_stay v w ch (Err StepsSpent) tt h
-refused_stays v w ch BadEvent h = idle_steps_stay v w ch (Err BadEvent) tt h
-refused_stays v w ch BadRange h = idle_steps_stay v w ch (Err BadRange) tt h
+refused_stays : (v w : View) (ch : ℕ) (fault : EngineFault) → StepAnswers v ch (Err fault) w → w ≡ v
+refused_stays v w ch fault h = elim (answer-is v w (Step ch) (Refused fault) h) [
+  | inl none ↦ none.1
+  | inr is ↦ idle_steps_stay v w ch (Err fault) tt is
+]
 
--- to where one is refused
-pub takes_to_refusal : (v u w : View) (ch most n : ℕ) (last : Option Turn) (fault : EngineFault) → InARow v ch n last u → 0 < n → n < most → StepAnswers u ch (Err fault) w → TakesSteps v ch most n last w
-takes_to_refusal v u w ch most n last fault row some few answer =
-    let same : w ≡ u = refused_stays u w ch fault answer in
+-- ---- the steps before the last of an advance
+
+-- m more steps, which moved
+row_moves : (m : ℕ) (v u w : View) (ch n : ℕ) (last : Option Turn) → InARow v ch n last u → goes_on last ≡ true → AllMove u ch (suc m) w → InARow v ch (n + suc m) (Some Moved) w
+row_moves zero v u w ch n last row goes all =
+    let one : suc n ≡ n + 1 = omega arith in
+    subst (λ (k : ℕ). InARow v ch k (Some Moved) w) one (u, last, Moved, row, goes, subst (λ (x : View). StepAnswers u ch (Ok Moved) x) (sym all.2) all.1, refl)
+row_moves (suc m) v u w ch n last row goes all =
+    let next = row_moves m v all.0 w ch (suc n) (Some Moved) (u, last, Moved, row, goes, all.1, refl) refl all.2 in
+    let more : suc n + suc m ≡ n + suc (suc m) = omega arith in
+    subst (λ (k : ℕ). InARow v ch k (Some Moved) w) more next
+
+-- the start, if there is one
+row_start : (o : Option ℕ) (v u : View) (ch : ℕ) → TakesStep v ch (option_map (λ cookie. Ok (Started cookie)) o) u → InARow v ch (if is_some o then 1 else 0) (option_map Started o) u × (goes_on (option_map Started o) ≡ true)
+row_start None v u ch same = ((refl, same), refl)
+row_start (Some cookie) v u ch answer = ((v, None, Started cookie, (refl, refl), refl, answer, refl), refl)
+
+abbrev pub before : Advanced → Option Turn
+before a = turn_before a.started a.moved
+
+row_all : (o : Option ℕ) (m : ℕ) (v u w : View) (ch : ℕ) → TakesStep v ch (option_map (λ cookie. Ok (Started cookie)) o) u → AllMove u ch m w → InARow v ch ((if is_some o then 1 else 0) + m) (turn_before o m) w × (goes_on (turn_before o m) ≡ true)
+row_all o zero v u w ch start all =
+    let row = row_start o v u ch start in
+    let n = if is_some o then 1 else 0 in
+    let none : n ≡ n + 0 = omega arith in
+    (subst (λ (k : ℕ). InARow v ch k (option_map Started o) w) none (subst (λ (x : View). InARow v ch n (option_map Started o) x) (sym all) row.0), row.1)
+row_all o (suc m) v u w ch start all =
+    let row = row_start o v u ch start in
+    (row_moves m v u w ch (if is_some o then 1 else 0) (option_map Started o) row.0 row.1 all, refl)
+
+-- all of them
+row_before : (v w : View) (ch : ℕ) (a : Advanced) → (h : IsAdvance v ch a w) → InARow v ch (steps_before a) (before a) h.stopped × (goes_on (before a) ≡ true)
+row_before v w ch a h = row_all a.started a.moved v h.running h.stopped ch h.start h.moves
+
+-- ---- the steps that are taken
+
+ended : (w : View) (ch : ℕ) (a : Advanced) (u : View) (o : Option (Result Turn EngineFault)) → TakesStep u ch a.last w → a.last ≡ o → TakesStep u ch o w
+ended w ch a u o h is = subst (λ (x : Option (Result Turn EngineFault)). TakesStep u ch x w) is h
+
+-- without a last step
+pub takes_all : (v w : View) (ch most : ℕ) (a : Advanced) → IsAdvance v ch a w → a.last ≡ None → steps_before a ≡ most → TakesSteps v ch most (steps_before a) (before a) w
+takes_all v w ch most a h is all = record {
+  row = subst (λ (x : View). InARow v ch (steps_before a) (before a) x) (sym (ended w ch a h.stopped None h.last is)) (row_before v w ch a h).0;
+  few = omega (arith, all);
+  stops = inl all;
+}
+
+-- with one that ends them
+pub takes_last : (v w : View) (ch most : ℕ) (a : Advanced) (turn : Turn) → IsAdvance v ch a w → a.last ≡ Some (Ok turn) → steps_before a < most → goes_on (Some turn) ≡ false → TakesSteps v ch most (steps_before a + 1) (Some turn) w
+takes_last v w ch most a turn h is few off =
+    let one : suc (steps_before a) ≡ steps_before a + 1 = omega arith in
     record {
-      row = subst (λ (x : View). InARow v ch n last x) (sym same) row;
+      row = subst (λ (k : ℕ). InARow v ch k (Some turn) w) one (h.stopped, before a, turn, (row_before v w ch a h).0, (row_before v w ch a h).1, ended w ch a h.stopped (Some (Ok turn)) h.last is, refl);
+      few = omega (arith, few);
+      stops = inr (inl off);
+    }
+
+-- with a refusal, after other steps
+pub takes_to_refusal : (v w : View) (ch most : ℕ) (a : Advanced) (fault : EngineFault) → IsAdvance v ch a w → a.last ≡ Some (Err fault) → 0 < steps_before a → steps_before a < most → TakesSteps v ch most (steps_before a) (before a) w
+takes_to_refusal v w ch most a fault h is some few =
+    let answer = ended w ch a h.stopped (Some (Err fault)) h.last is in
+    let same : w ≡ h.stopped = refused_stays h.stopped w ch fault answer in
+    record {
+      row = subst (λ (x : View). InARow v ch (steps_before a) (before a) x) (sym same) (row_before v w ch a h).0;
       few = omega (arith, few);
       stops = inr (inr (some, (fault, subst (λ (x : View). StepAnswers x ch (Err fault) w) (sym same) answer)));
     }
 
--- ---- steps that moved, in a row
-
-moved_stays : (m : ℕ) → after_moves m (Some Moved) ≡ Some Moved
-moved_stays zero = refl
-moved_stays (suc m) = refl
-
--- one more step, which moved
-row_moved : (v u w : View) (ch n : ℕ) (last : Option Turn) → InARow v ch n last u → goes_on last ≡ true → CallAnswers u (Step ch) (Turned Moved) w → InARow v ch (suc n) (Some Moved) w
-row_moved v u w ch n last row goes answer = (u, last, Moved, row, goes, answer, refl)
-
--- Steps in a row, and the answers of further calls after them.
-pub record RowOn (v : View) (ch n : ℕ) (last : Option Turn) (calls : List Call) (replies : List Reply) (w : View) : Type 0 where
-  pub view : View
-  pub row : InARow v ch n last view
-  pub goes : goes_on last ≡ true
-  pub rest : AreAnswers view calls replies w
-
--- m more steps, which moved
-pub row_moves : (m : ℕ) (v u w : View) (ch n : ℕ) (last : Option Turn) (calls : List Call) (replies : List Reply) → InARow v ch n last u → goes_on last ≡ true → AreAnswers u (replicate m (Step ch) ++ calls) (replicate m (Turned Moved) ++ replies) w → RowOn v ch (n + m) (after_moves m last) calls replies w
-row_moves zero v u w ch n last calls replies row goes all =
-    let none : n ≡ n + 0 = omega arith in
-    record { view = u; row = subst (λ (k : ℕ). InARow v ch k last u) none row; goes = goes; rest = all }
-row_moves (suc m) v u w ch n last calls replies row goes all =
-    let one = row_moved v u all.0 ch n last row goes all.1 in
-    let next = row_moves m v all.0 w ch (suc n) (Some Moved) calls replies one refl all.2 in
-    let more : suc n + m ≡ n + suc m = omega arith in
-    let last_is : after_moves m (Some Moved) ≡ Some Moved = moved_stays m in
-    record {
-      view = next.view;
-      row = subst (λ (k : ℕ). InARow v ch k (Some Moved) next.view) more (subst (λ (x : Option Turn). InARow v ch (suc n + m) x next.view) last_is next.row);
-      goes = refl;
-      rest = next.rest;
-    }
-
--- ---- the answers of `advance` after steps in a row
-
-answers_as : (u w : View) (ch : ℕ) (advanced : Advanced) (x : Option (Result Turn EngineFault)) → advanced.last ≡ x → IsAdvance u ch advanced w → AreAnswers u (replicate advanced.moved (Step ch) ++ last_call ch x) (replicate advanced.moved (Turned Moved) ++ last_reply x) w
-answers_as u w ch advanced x is all = subst (λ (y : Option (Result Turn EngineFault)). AreAnswers u (replicate advanced.moved (Step ch) ++ last_call ch y) (replicate advanced.moved (Turned Moved) ++ last_reply y) w) is all
-
--- all steps moved
-pub row_none : (v u w : View) (ch n : ℕ) (last : Option Turn) (advanced : Advanced) → advanced.last ≡ None → InARow v ch n last u → goes_on last ≡ true → IsAdvance u ch advanced w → InARow v ch (n + advanced.moved) (after_moves advanced.moved last) w
-row_none v u w ch n last advanced is row goes all =
-    let on = row_moves advanced.moved v u w ch n last [] [] row goes (answers_as u w ch advanced None is all) in
-    subst (λ (x : View). InARow v ch (n + advanced.moved) (after_moves advanced.moved last) x) (sym on.rest) on.row
-
--- the step after those that moved answered something else
-pub row_ok : (v u w : View) (ch n : ℕ) (last : Option Turn) (advanced : Advanced) (turn : Turn) → advanced.last ≡ Some (Ok turn) → InARow v ch n last u → goes_on last ≡ true → IsAdvance u ch advanced w → InARow v ch (n + advanced.moved + 1) (Some turn) w
-row_ok v u w ch n last advanced turn is row goes all =
-    let on = row_moves advanced.moved v u w ch n last (Step ch ∷ []) (Turned turn ∷ []) row goes (answers_as u w ch advanced (Some (Ok turn)) is all) in
-    let more : suc (n + advanced.moved) ≡ n + advanced.moved + 1 = omega arith in
-    let here : InARow v ch (suc (n + advanced.moved)) (Some turn) on.rest.0 = (on.view, after_moves advanced.moved last, turn, on.row, on.goes, on.rest.1, refl) in
-    subst (λ (k : ℕ). InARow v ch k (Some turn) w) more (subst (λ (x : View). InARow v ch (suc (n + advanced.moved)) (Some turn) x) (sym on.rest.2) here)
-
--- the step after those that moved was refused
-pub record RowRefused (v : View) (ch n : ℕ) (last : Option Turn) (fault : EngineFault) (w : View) : Type 0 where
-  pub view : View
-  pub row : InARow v ch n last view
-  pub refused : StepAnswers view ch (Err fault) w
-
-pub row_err : (v u w : View) (ch n : ℕ) (last : Option Turn) (advanced : Advanced) (fault : EngineFault) → advanced.last ≡ Some (Err fault) → InARow v ch n last u → goes_on last ≡ true → IsAdvance u ch advanced w → RowRefused v ch (n + advanced.moved) (after_moves advanced.moved last) fault w
-row_err v u w ch n last advanced fault is row goes all =
-    let on = row_moves advanced.moved v u w ch n last (Step ch ∷ []) (Refused fault ∷ []) row goes (answers_as u w ch advanced (Some (Err fault)) is all) in
-    record {
-      view = on.view;
-      row = on.row;
-      refused = subst (λ (x : View). StepAnswers on.view ch (Err fault) x) (sym on.rest.2) on.rest.1;
-    }
-
--- the first step of all was refused
-pub first_refused : (v w : View) (ch n : ℕ) (last : Option Turn) (fault : EngineFault) → n ≡ 0 → RowRefused v ch n last fault w → StepAnswers v ch (Err fault) w
-first_refused v w ch n last fault none r =
-    let row : InARow v ch 0 last r.view = subst (λ (k : ℕ). InARow v ch k last r.view) none r.row in
-    subst (λ (x : View). StepAnswers x ch (Err fault) w) row.1 r.refused
-
--- the steps that were taken before a refusal
-pub takes_then : (v w : View) (ch most n : ℕ) (last : Option Turn) (fault : EngineFault) → 0 < n → n < most → RowRefused v ch n last fault w → TakesSteps v ch most n last w
-takes_then v w ch most n last fault some few r = takes_to_refusal v r.view w ch most n last fault r.row some few r.refused
+-- with a refusal of the first step
+pub first_refused : (v w : View) (ch : ℕ) (a : Advanced) (fault : EngineFault) → IsAdvance v ch a w → a.last ≡ Some (Err fault) → steps_before a ≡ 0 → StepAnswers v ch (Err fault) w
+first_refused v w ch a fault h is none =
+    let row : InARow v ch 0 (before a) h.stopped = subst (λ (k : ℕ). InARow v ch k (before a) h.stopped) none (row_before v w ch a h).0 in
+    subst (λ (x : View). StepAnswers x ch (Err fault) w) row.1 (ended w ch a h.stopped (Some (Err fault)) h.last is)

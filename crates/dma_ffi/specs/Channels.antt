@@ -1,5 +1,5 @@
 -- What a call from C on a channel does and returns.
-use Rattle.std.specs.Prelude.{◌≡◌, ℕ, ◌+◌, ◌≤◌, ◌<◌, ◌||◌, ◌==◌, ◌&&◌, nat_lt, nat_le, Bool, true, false, ℤ, Option, Some, None, IsSome, IsSomeAnd, is_some, if◌then◌else◌, Result, Ok, Err, List, [], ◌∷◌, ◌++◌, length, map, take, unwrap_or}
+use Rattle.std.specs.Prelude.{◌≡◌, ℕ, ◌+◌, ◌≤◌, ◌<◌, ◌⊎◌, ◌||◌, ◌==◌, ◌&&◌, nat_lt, nat_le, Bool, true, false, ℤ, Option, Some, None, IsSome, IsSomeAnd, is_some, if◌then◌else◌, List, [], ◌∷◌, ◌++◌, length, map, take, unwrap_or}
 use Rattle.dma_mem.specs.Flags.{flags_of}
 use Rattle.dma_mem.specs.Lent.{marks_at}
 use Rattle.dma_mem.specs.Marking.{MarkList}
@@ -18,45 +18,21 @@ use Rattle.dma_chan.specs.Saved.{IsChannelValue, IsSave, saved}
 use Rattle.dma_chan.specs.Stepping.{Stand, TakesSteps, signal_after}
 use Rattle.dma_chan.specs.declared.turn.ChanTurn.{ChanTurn}
 use Rattle.dma_chan.specs.declared.turn.ChanTurn.TheVariants.{Moved, Waiting, Ended, Fault}
-use Rattle.dma_ffi.specs.declared.channel_calls.ChannelFault.{ChannelFault}
-use Rattle.dma_ffi.specs.declared.channel_calls.ChannelFault.TheVariants.{NotOpen, BadRegions, NoProgram, ProgramTooLong, Unfit, BadKind, BadRange, BadSave, NoMemory}
-use Rattle.dma_ffi.specs.declared.channel_calls.ChannelRegisters.{ChannelRegisters}
+use Rattle.dma_chan.specs.declared.lent.Taken.{Taken}
+use Rattle.dma_ffi.specs.declared.channels.ChannelRegisters.{ChannelRegisters}
 use Rattle.dma_ffi.specs.declared.channel_steps.ChannelReport.{ChannelReport}
-use Rattle.dma_ffi.specs.declared.channel_steps.Stepped.{Stepped}
 use Rattle.dma_ffi.specs.declared.marked_channel.MarkedChannel.{MarkedChannel}
 use Rattle.dma_ffi.specs.Programs.{laid_into, room_code, where_fits}
 use Rattle.dma_ffi.specs.Codes.{ok_code, not_open, already_open, no_memory, no_program, bad_kind, bad_range, bad_regions, bad_save, program_too_long, kind_number, transfer_code}
 
--- ---- codes and calls
-
--- the code of a call that fails
-abbrev pub fault_code : ChannelFault → ℤ
-fault_code NotOpen = not_open
-fault_code BadRegions = bad_regions
-fault_code NoProgram = no_program
-fault_code ProgramTooLong = program_too_long
-fault_code (Unfit fault) = transfer_code fault
-fault_code BadKind = bad_kind
-fault_code BadRange = bad_range
-fault_code BadSave = bad_save
-fault_code NoMemory = no_memory
-
--- The outcome of a call: success or a fault.
-abbrev pub Outcome : Type 0
-Outcome = Result (Unit {0}) ChannelFault
-
--- the code of an outcome
-abbrev pub outcome_code : Outcome → ℤ
-outcome_code (Ok u) = ok_code
-outcome_code (Err fault) = fault_code fault
+-- ---- calls
 
 -- A call on a channel and its marks. On a channel that isn't open it returns `not_open` and changes nothing. On an
--- open one it acts as `does` says and returns the code of the outcome, and the channel stays open.
-abbrev pub OnOpen : (MarkedChannel → Outcome → MarkedChannel → Type 0)
+-- open one it acts and returns a code as `does` says, and the channel stays open.
+abbrev pub OnOpen : (MarkedChannel → ℤ → MarkedChannel → Type 0)
     → Option MarkedChannel → ℤ → Option MarkedChannel → Type 0
 OnOpen does None code new = (code ≡ not_open) × (new ≡ None)
-OnOpen does (Some m) code new =
-    IsSomeAnd new (λ n. (outcome : Outcome) × does m outcome n × (code ≡ outcome_code outcome))
+OnOpen does (Some m) code new = IsSomeAnd new (λ n. does m code n)
 
 -- A call that can't fail on an open channel: it applies `change` and returns `ok_code`. On a channel that isn't open
 -- it returns `not_open` and changes nothing.
@@ -65,13 +41,13 @@ Becomes change None code new = (code ≡ not_open) × (new ≡ None)
 Becomes change (Some m) code new = (code ≡ ok_code) × (new ≡ Some (change m))
 
 -- A call that acts on the channel alone; the marks are unchanged.
-pub record OfChannel (does : ChannelValue → Outcome → ChannelValue → Type 0)
-    (m : MarkedChannel) (outcome : Outcome) (n : MarkedChannel) : Type 0 where
-  pub channel : does m.channel outcome n.channel
+pub record OfChannel (does : ChannelValue → ℤ → ChannelValue → Type 0)
+    (m : MarkedChannel) (code : ℤ) (n : MarkedChannel) : Type 0 where
+  pub channel : does m.channel code n.channel
   pub marks : n.marks ≡ m.marks
 
 -- `OnOpen` for a call that acts on the channel alone
-abbrev pub OnChannel : (ChannelValue → Outcome → ChannelValue → Type 0)
+abbrev pub OnChannel : (ChannelValue → ℤ → ChannelValue → Type 0)
     → Option MarkedChannel → ℤ → Option MarkedChannel → Type 0
 OnChannel does = OnOpen (OfChannel does)
 
@@ -85,28 +61,28 @@ Opens None code (Some m) = (code ≡ ok_code) × (m ≡ record { channel = unloa
 -- ---- programs
 
 -- Loads the program of a transfer; the channel becomes `loaded` with it. Fails with the first rule that the transfer
--- breaks, or with `NoMemory` if it breaks none; a failed call changes nothing.
-abbrev pub LoadsTransfer : Option TransferFault → Descriptor → ChannelValue → Outcome → ChannelValue → Type 0
-LoadsTransfer refusal t c (Ok u) d = (refusal ≡ None) × (d ≡ loaded (compiled t))
-LoadsTransfer refusal t c (Err (Unfit fault)) d = (fault ≡ unwrap_or refusal transfers.NoMemory) × (d ≡ c)
-LoadsTransfer refusal t c (Err _) d = ⊥
+-- breaks, or out of memory if it breaks none; a failed call changes nothing.
+abbrev pub LoadsTransfer : Option TransferFault → Descriptor → ChannelValue → ℤ → ChannelValue → Type 0
+LoadsTransfer refusal t c code d =
+    ((code ≡ ok_code) × (refusal ≡ None) × (d ≡ loaded (compiled t)))
+    ⊎ ((code ≡ transfer_code (unwrap_or refusal transfers.NoMemory)) × (d ≡ c))
 
 -- `LoadsTransfer` for a copy
-abbrev pub LoadsCopy : Descriptor → ChannelValue → Outcome → ChannelValue → Type 0
+abbrev pub LoadsCopy : Descriptor → ChannelValue → ℤ → ChannelValue → Type 0
 LoadsCopy t = LoadsTransfer (refusal_of t) t
 
 -- `LoadsTransfer` for a fill of these segments with the byte at an address, with the events that it waits for and
 -- signals
-abbrev pub LoadsFill : ℕ → List Segment → Option ℕ → Option ℕ → ChannelValue → Outcome → ChannelValue → Type 0
+abbrev pub LoadsFill : ℕ → List Segment → Option ℕ → Option ℕ → ChannelValue → ℤ → ChannelValue → Type 0
 LoadsFill src dst wait signal = LoadsTransfer (refusal_of_fill src dst wait signal) (filling src dst wait signal)
 
--- Loads these bytes as a program; they needn't be instructions. Fails with `ProgramTooLong` exactly above 8,192 bytes,
--- and with `NoMemory` only for at most 8,192; a failed call changes nothing.
-abbrev pub LoadsBytes : List ℕ → ChannelValue → Outcome → ChannelValue → Type 0
-LoadsBytes bytes c (Ok u) d = (length bytes ≤ 8192) × (d ≡ loaded (record { bytes = bytes; cost = None }))
-LoadsBytes bytes c (Err ProgramTooLong) d = (8192 < length bytes) × (d ≡ c)
-LoadsBytes bytes c (Err NoMemory) d = (length bytes ≤ 8192) × (d ≡ c)
-LoadsBytes bytes c (Err _) d = ⊥
+-- Loads these bytes as a program; they needn't be instructions. Fails with `program_too_long` exactly above 8,192
+-- bytes, and with `no_memory` only for at most 8,192; a failed call changes nothing.
+abbrev pub LoadsBytes : List ℕ → ChannelValue → ℤ → ChannelValue → Type 0
+LoadsBytes bytes c code d =
+    ((code ≡ ok_code) × (length bytes ≤ 8192) × (d ≡ loaded (record { bytes = bytes; cost = None })))
+    ⊎ (((code ≡ program_too_long) × (8192 < length bytes) × (d ≡ c))
+    ⊎ ((code ≡ no_memory) × (length bytes ≤ 8192) × (d ≡ c)))
 
 -- the channel without its program; its marks, registers and counts are unchanged
 abbrev pub stopped : MarkedChannel → MarkedChannel
@@ -140,15 +116,14 @@ WritesRegisters (Some m) code before after new = (code ≡ ok_code) × (after �
 abbrev pub is_bad_range : Segment → Bool
 is_bad_range range = range.len == 0 || nat_lt 4294967296 (range.addr + range.len)
 
--- Marks a range for this kind. Fails with `BadKind` if no kind has the number, with `BadRange` if the range can't be
--- marked, or with `NoMemory`; the causes are checked in this order, and a failed call changes nothing.
-abbrev pub MarksRange : Option MarkKind → Segment → MarkedChannel → Outcome → MarkedChannel → Type 0
-MarksRange (Some kind) range m (Ok u) n =
-    (is_bad_range range ≡ false) × (n ≡ record m { marks = m.marks ++ (kind, range) ∷ [] })
-MarksRange None range m (Err BadKind) n = n ≡ m
-MarksRange (Some kind) range m (Err BadRange) n = (is_bad_range range ≡ true) × (n ≡ m)
-MarksRange (Some kind) range m (Err NoMemory) n = (is_bad_range range ≡ false) × (n ≡ m)
-MarksRange _ range m _ n = ⊥
+-- Marks a range for this kind. Fails with `bad_kind` if no kind has the number, with `bad_range` if the range can't be
+-- marked, or with `no_memory`; the causes are checked in this order, and a failed call changes nothing.
+abbrev pub MarksRange : Option MarkKind → Segment → MarkedChannel → ℤ → MarkedChannel → Type 0
+MarksRange None range m code n = (code ≡ bad_kind) × (n ≡ m)
+MarksRange (Some kind) range m code n =
+    ((code ≡ bad_range) × (is_bad_range range ≡ true) × (n ≡ m))
+    ⊎ (((code ≡ ok_code) × (is_bad_range range ≡ false) × (n ≡ record m { marks = m.marks ++ (kind, range) ∷ [] }))
+    ⊎ ((code ≡ no_memory) × (is_bad_range range ≡ false) × (n ≡ m)))
 
 -- the channel with its marks removed
 abbrev pub unmarked : MarkedChannel → MarkedChannel
@@ -168,13 +143,13 @@ WritesSave (Some m) code buffer out len written new =
     × (length (saved m.channel) ≤ 8500) × IsChannelValue m.channel × (new ≡ Some m)
 
 -- Makes the channel the one of a save: these bytes are its save, and no other value that satisfies `IsChannelValue`
--- has this save. Fails with `BadSave` exactly if the bytes aren't a save, and with `NoMemory` only if they are one; a
+-- has this save. Fails with `bad_save` exactly if the bytes aren't a save, and with `no_memory` only if they are one; a
 -- failed call changes nothing.
-abbrev pub Restores : List ℕ → ChannelValue → Outcome → ChannelValue → Type 0
-Restores save c (Ok u) d = (save ≡ saved d) × ((e : ChannelValue) → IsChannelValue e → save ≡ saved e → d ≡ e)
-Restores save c (Err BadSave) d = (¬ IsSave save) × (d ≡ c)
-Restores save c (Err NoMemory) d = IsSave save × (d ≡ c)
-Restores save c (Err _) d = ⊥
+abbrev pub Restores : List ℕ → ChannelValue → ℤ → ChannelValue → Type 0
+Restores save c code d =
+    ((code ≡ ok_code) × (save ≡ saved d) × ((e : ChannelValue) → IsChannelValue e → save ≡ saved e → d ≡ e))
+    ⊎ (((code ≡ bad_save) × (¬ IsSave save) × (d ≡ c))
+    ⊎ ((code ≡ no_memory) × IsSave save × (d ≡ c)))
 
 -- ---- the caller's memory
 
@@ -184,15 +159,14 @@ abbrev pub are_usable : List Region → Bool
 are_usable regions = nat_le (length regions) 8 && in_order (pieces_of regions)
 
 -- Loads the program that begins at an address of the regions: the bytes from there to the end of the region with this
--- address, at most 8,192, or no bytes if no region has the address. Fails with `BadRegions` exactly if the regions
--- aren't usable, or with `NoMemory`; a failed call changes nothing.
-abbrev pub LoadsFrom : List Region → ℕ → ChannelValue → Outcome → ChannelValue → Type 0
-LoadsFrom regions addr c (Ok u) d =
-    (are_usable regions ≡ true)
-    × (d ≡ loaded (record { bytes = take 8192 (rest_from (pieces_of regions) addr); cost = None }))
-LoadsFrom regions addr c (Err BadRegions) d = (are_usable regions ≡ false) × (d ≡ c)
-LoadsFrom regions addr c (Err NoMemory) d = (are_usable regions ≡ true) × (d ≡ c)
-LoadsFrom regions addr c (Err _) d = ⊥
+-- address, at most 8,192, or no bytes if no region has the address. Fails with `bad_regions` exactly if the
+-- regions aren't usable, or with `no_memory`; a failed call changes nothing.
+abbrev pub LoadsFrom : List Region → ℕ → ChannelValue → ℤ → ChannelValue → Type 0
+LoadsFrom regions addr c code d =
+    ((code ≡ bad_regions) × (are_usable regions ≡ false) × (d ≡ c))
+    ⊎ (((code ≡ ok_code) × (are_usable regions ≡ true)
+    × (d ≡ loaded (record { bytes = take 8192 (rest_from (pieces_of regions) addr); cost = None })))
+    ⊎ ((code ≡ no_memory) × (are_usable regions ≡ true) × (d ≡ c)))
 
 -- ---- steps
 
@@ -217,36 +191,6 @@ pub record StayInPlace (regions left : List Region) : Type 0 where
   pub places : map segment_of left ≡ map segment_of regions
   pub names : map (λ r. r.bytes.ghost_name) left ≡ map (λ r. r.bytes.ghost_name) regions
 
--- Steps of an open channel with a program, over usable regions: the steps that were taken, the event whose flag the
--- last of them set, if any, and the offset of the next instruction. The marks are unchanged, and the regions keep
--- their places.
-pub record StepsOver (a : Lent) (most : ℕ) (steps : Stepped) (b : Lent) (m n : MarkedChannel) : Type 0 where
-  pub before : a.channel ≡ Some m
-  pub after : b.channel ≡ Some n
-  pub marks : n.marks ≡ m.marks
-  pub usable : are_usable a.regions ≡ true
-  pub is_loaded : IsSome m.channel.program
-  pub taken : TakesSteps (marks_over m a.regions) (over m a.regions a.flags) most
-      steps.taken.count steps.taken.last (over n b.regions b.flags)
-  pub signal : steps.taken.signal ≡ signal_after (marks_over m a.regions) (over m a.regions a.flags) steps.taken.count
-  pub place : steps.pc ≡ n.channel.registers.pc
-  pub regions : StayInPlace a.regions b.regions
-
--- The result of steps: those that were taken; or the first of the faults `NotOpen`, `BadRegions` and `NoProgram`, in
--- this order, and then nothing changes.
-abbrev pub Steps : Lent → ℕ → Result Stepped ChannelFault → Lent → Type 0
-Steps a most (Ok steps) b = (m : MarkedChannel) × (n : MarkedChannel) × StepsOver a most steps b m n
-Steps a most (Err NotOpen) b = (a.channel ≡ None) × (b ≡ a)
-Steps a most (Err BadRegions) b = IsSome a.channel × (are_usable a.regions ≡ false) × (b ≡ a)
-Steps a most (Err NoProgram) b =
-    (m : MarkedChannel) × (a.channel ≡ Some m) × (are_usable a.regions ≡ true) × (m.channel.program ≡ None) × (b ≡ a)
-Steps a most (Err _) b = ⊥
-
--- the code of steps
-abbrev pub steps_code : Result Stepped ChannelFault → ℤ
-steps_code (Ok steps) = ok_code
-steps_code (Err fault) = fault_code fault
-
 -- a report of `taken` steps, with the offset of the next instruction and this turn number; event and fault are 0
 abbrev pub did : ℕ → ℕ → ℕ → ChannelReport
 did taken pc turn = record { taken = taken; turn = turn; event = 0; fault = 0; pc = pc }
@@ -261,13 +205,28 @@ report_of taken pc (Some (Waiting e)) signal = record (did taken pc 2) { event =
 report_of taken pc (Some Ended) signal = did taken pc 3
 report_of taken pc (Some (Fault kind)) signal = record (did taken pc 4) { fault = kind_number kind }
 
--- the report of the steps that were taken, or the former report if the call failed
-abbrev pub report_in : Result Stepped ChannelFault → ChannelReport → ChannelReport
-report_in (Ok steps) before = report_of steps.taken.count steps.pc steps.taken.last steps.taken.signal
-report_in (Err fault) before = before
+-- Steps of an open channel with a program, over usable regions: the steps that were taken, the event whose flag the
+-- last of them set, if any, and the report of these and of the offset of the next instruction. The marks are unchanged,
+-- and the regions keep their places.
+pub record StepsOver (a : Lent) (most : ℕ) (taken : Taken) (report : ChannelReport) (b : Lent) (m n : MarkedChannel) : Type 0 where
+  pub before : a.channel ≡ Some m
+  pub after : b.channel ≡ Some n
+  pub marks : n.marks ≡ m.marks
+  pub usable : are_usable a.regions ≡ true
+  pub is_loaded : IsSome m.channel.program
+  pub steps : TakesSteps (marks_over m a.regions) (over m a.regions a.flags) most
+      taken.count taken.last (over n b.regions b.flags)
+  pub signal : taken.signal ≡ signal_after (marks_over m a.regions) (over m a.regions a.flags) taken.count
+  pub reported : report ≡ report_of taken.count n.channel.registers.pc taken.last taken.signal
+  pub regions : StayInPlace a.regions b.regions
 
--- A call from C that takes steps: the code that it returns, and the report before and after.
+-- A call from C that takes steps: the code that it returns, and the report before and after. On a channel that isn't
+-- open, else over regions that aren't usable, else without a program, it returns the code for that and changes nothing.
 abbrev pub ReportsSteps : Lent → ℕ → ℤ → ChannelReport → ChannelReport → Lent → Type 0
 ReportsSteps a most code before report b =
-    (answer : Result Stepped ChannelFault) × Steps a most answer b × (code ≡ steps_code answer)
-    × (report ≡ report_in answer before)
+    ((code ≡ not_open) × (a.channel ≡ None) × (b ≡ a) × (report ≡ before))
+    ⊎ (((code ≡ bad_regions) × IsSome a.channel × (are_usable a.regions ≡ false) × (b ≡ a) × (report ≡ before))
+    ⊎ (((code ≡ no_program) × IsSomeAnd a.channel (λ m. m.channel.program ≡ None) × (are_usable a.regions ≡ true)
+    × (b ≡ a) × (report ≡ before))
+    ⊎ ((code ≡ ok_code)
+    × ((m : MarkedChannel) × (n : MarkedChannel) × (taken : Taken) × StepsOver a most taken report b m n))))

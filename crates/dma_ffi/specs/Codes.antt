@@ -1,5 +1,5 @@
 -- The numbers that calls from C return and write. In ℤ, negsuc n is -(n + 1).
-use Rattle.std.specs.Prelude.{ℕ, ℤ, pos, negsuc, min, ◌==◌, if◌then◌else◌, Option, None, Some}
+use Rattle.std.specs.Prelude.{ℕ, ℤ, pos, negsuc, min, ◌==◌, if◌then◌else◌, Option, None, Some, Result, Ok, Err}
 use Rattle.dma_mem.specs.declared.marks.MarkKind.{MarkKind}
 use Rattle.dma_mem.specs.declared.marks.MarkKind.TheVariants.{Reading, Writing}
 use Rattle.dma_mem.specs.declared.transfer.TransferFault.{TransferFault}
@@ -8,6 +8,8 @@ use Rattle.dma_insn.specs.declared.assembler.Cause.{Cause}
 use Rattle.dma_insn.specs.declared.assembler.Cause.TheVariants.{Mnemonic, Operand, Range}
 use Rattle.dma_insn.specs.declared.codec.DecodeFault.{DecodeFault}
 use Rattle.dma_insn.specs.declared.codec.DecodeFault.TheVariants.{Cut, Unknown as UnknownByte, BadField}
+use Rattle.dma_chan.specs.declared.program.ProgramFault.{ProgramFault}
+use Rattle.dma_chan.specs.declared.program.ProgramFault.TheVariants as programs
 use Rattle.dma_chan.specs.declared.turn.FaultKind.{FaultKind}
 use Rattle.dma_chan.specs.declared.turn.FaultKind.TheVariants.{UndefInstr, OperandInvalid, MfifoErr, StDataUnavailable, InstrFetchErr, DataWriteErr, DataReadErr}
 use Rattle.dma_engine.specs.declared.call.Reply.{Reply}
@@ -114,6 +116,11 @@ transfer_code transfers.SourceMeetsDestination = negsuc 36
 transfer_code transfers.BadEvent = bad_event
 transfer_code transfers.NoMemory = no_memory
 
+-- the code of a fault for which no program is made of bytes
+abbrev pub program_code : ProgramFault → ℤ
+program_code programs.ProgramTooLong = program_too_long
+program_code programs.NoMemory = no_memory
+
 -- the code of the reason that a line isn't an instruction
 abbrev pub cause_code : Cause → ℤ
 cause_code Mnemonic = negsuc 49
@@ -145,6 +152,21 @@ reply_code (Cookie cookie) = ok_code
 reply_code (Count count) = ok_code
 reply_code (Turned turn) = ok_code
 
+-- the code of an answer to a call
+abbrev pub answer_code : {A : Type 0} → Result A EngineFault → ℤ
+answer_code (Ok x) = ok_code
+answer_code (Err fault) = fault_code fault
+
+-- the value of an answer, or the former value if the call was refused
+abbrev pub value_or : {A : Type 0} → Result A EngineFault → A → A
+value_or (Ok x) before = x
+value_or (Err fault) before = before
+
+-- the code of a call for a value that may be missing
+abbrev pub found_code : {A : Type 0} → ℤ → Option A → ℤ
+found_code missing None = missing
+found_code missing (Some x) = ok_code
+
 -- ---- other numbers
 
 -- the kind of mark with this number, if any
@@ -170,6 +192,6 @@ kind_number DataReadErr = 7
 
 -- The event with this number, or none for a negative number. Numbers above 255 become 255, which is invalid like all
 -- events above 31.
-abbrev pub event_told : ℤ → Option ℕ
-event_told (negsuc n) = None
-event_told (pos n) = Some (min n 255)
+abbrev pub event_of : ℤ → Option ℕ
+event_of (negsuc n) = None
+event_of (pos n) = Some (min n 255)

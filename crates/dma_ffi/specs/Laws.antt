@@ -12,21 +12,26 @@ use Rattle.dma_engine.specs.View.{EngineState, View, new_view}
 use Rattle.dma_engine.specs.Answer.{AreAnswers}
 use Rattle.dma_engine.specs.Laws.{IsCall}
 use Rattle.dma_ffi.specs.Codes.{mark_kind}
-use Rattle.dma_ffi.specs.Told.{Answer, Answers, Asked, IsWritten, Told, ToldNew, Written, code_of, ask_call, ask_mark, ask_copy, ask_fill, ask_steps, replied, stepped}
+use Rattle.dma_ffi.specs.Requests.{Answer, Answers, IsWritten, Opens, Request, Returns, Written, code_of, ask_call, ask_mark, ask_copy, ask_fill, ask_steps, replied, stepped}
 
 -- the call that marks a range for this kind; no call without a kind
 abbrev pub marking : Option MarkKind → Segment → List Call
 marking None range = []
 marking (Some kind) range = Mark kind range ∷ []
 
+-- the call if the answer is the engine's reply, else none
+abbrev pub if_replied : Answer → Call → List Call
+if_replied (replied reply) call = call ∷ []
+if_replied _ call = []
+
 -- The engine calls that a request of C makes, given its answer: the call itself; a mark whose kind exists; the submit
 -- of a transfer that was made; the steps that were taken, or the first one if it was refused; none for a request that
 -- only reads, for a kind that doesn't exist, and for a transfer that wasn't made.
-abbrev pub calls_made : Asked → Answer → List Call
+abbrev pub calls_made : Request → Answer → List Call
 calls_made (ask_call call) answer = call ∷ []
 calls_made (ask_mark kind range) answer = marking (mark_kind kind) range
-calls_made (ask_copy ch t) (replied reply) = Submit ch t ∷ []
-calls_made (ask_fill ch src dst wait signal) (replied reply) = Submit ch (filling src dst wait signal) ∷ []
+calls_made (ask_copy ch t) answer = if_replied answer (Submit ch t)
+calls_made (ask_fill ch src dst wait signal) answer = if_replied answer (Submit ch (filling src dst wait signal))
 calls_made (ask_steps ch most) (replied reply) = Step ch ∷ []
 calls_made (ask_steps ch most) (stepped taken last) = replicate taken (Step ch)
 calls_made _ _ = []
@@ -45,36 +50,36 @@ AreReplies _ replies = replies ≡ []
 -- and a close.
 abbrev pub CallsAreTheEngines : Type 0
 CallsAreTheEngines =
-    (e : EngineState) (asked : Asked) (code : ℤ) (written : Written) (new : Option EngineState)
-    → Told (Some e) asked code written new
-    → IsSomeAnd new (λ e'. (answer : Answer) × Answers e.view asked answer e'.view × (code ≡ code_of answer)
+    (e : EngineState) (request : Request) (code : ℤ) (written : Written) (new : Option EngineState)
+    → Returns (Some e) request code written new
+    → IsSomeAnd new (λ e'. (answer : Answer) × Answers e.view request answer e'.view × (code ≡ code_of answer)
     × IsWritten answer written
-    × ((replies : List Reply) × AreReplies answer replies × AreAnswers e.view (calls_made asked answer) replies e'.view))
+    × ((replies : List Reply) × AreReplies answer replies × AreAnswers e.view (calls_made request answer) replies e'.view))
 
 -- ---- calls from C, one after another
 
 -- A call from C as C sees it: what it requests, the code that it returns, and what it writes.
 pub record Exchange : Type 0 where
-  pub asked : Asked
+  pub request : Request
   pub code : ℤ
   pub written : Written
 
 -- A request that C can make: an engine call that can be made (`IsCall`), the submit of a transfer that isn't a fill, the
 -- submit of a fill whose byte has a 32-bit address, or any other request.
-abbrev pub CanBeAsked : Asked → Type 0
-CanBeAsked (ask_call call) = IsCall call
-CanBeAsked (ask_copy ch t) = t.fill ≡ false
-CanBeAsked (ask_fill ch src dst wait signal) = src < 4294967296
-CanBeAsked _ = Unit {0}
+abbrev pub CanBeRequested : Request → Type 0
+CanBeRequested (ask_call call) = IsCall call
+CanBeRequested (ask_copy ch t) = t.fill ≡ false
+CanBeRequested (ask_fill ch src dst wait signal) = src < 4294967296
+CanBeRequested _ = Unit {0}
 
 -- Calls from C on one controller, one after another, each with a request that C can make. The controller has the engine
 -- `found`, or none, before the first call, and `left`, or none, after the last. (Opening an open controller is refused
--- and changes nothing: `ToldNew`.)
+-- and changes nothing: `Opens`.)
 abbrev pub AreExchanges : Option EngineState → List Exchange → Option EngineState → Type 0
 AreExchanges found [] left = left ≡ found
 AreExchanges found (call ∷ later) left =
-    (next : Option EngineState) × CanBeAsked call.asked
-    × Told found call.asked call.code call.written next × AreExchanges next later left
+    (next : Option EngineState) × CanBeRequested call.request
+    × Returns found call.request call.code call.written next × AreExchanges next later left
 
 -- What the engine does for a call from C: its answer, and its replies to the engine calls that the request makes.
 pub record Service : Type 0 where
@@ -85,11 +90,11 @@ pub record Service : Type 0 where
 -- written are the answer's, the replies fit the answer, and they are replies to the engine calls that the request
 -- makes.
 pub record Serves (v : View) (call : Exchange) (service : Service) (w : View) : Type 0 where
-  pub answers : Answers v call.asked service.answer w
+  pub answers : Answers v call.request service.answer w
   pub code : call.code ≡ code_of service.answer
   pub written : IsWritten service.answer call.written
   pub replies : AreReplies service.answer service.replies
-  pub made : AreAnswers v (calls_made call.asked service.answer) service.replies w
+  pub made : AreAnswers v (calls_made call.request service.answer) service.replies w
 
 -- An engine with the view `v` may serve these calls from C by these services, one for each call, each on the view
 -- after the call before, and then has the view `w`.
@@ -101,7 +106,7 @@ ServesAll v _ _ w = ⊥
 
 -- the engine calls of all calls from C, in order
 abbrev pub all_calls : List Exchange → List Service → List Call
-all_calls (call ∷ later) (service ∷ services) = calls_made call.asked service.answer ++ all_calls later services
+all_calls (call ∷ later) (service ∷ services) = calls_made call.request service.answer ++ all_calls later services
 all_calls _ _ = []
 
 -- the replies to these engine calls, in order
@@ -128,5 +133,5 @@ ExchangesAreTheEngines =
 abbrev pub SessionsAreTheEngines : Type 0
 SessionsAreTheEngines =
     (size channels : ℕ) (code : ℤ) (e : EngineState) (calls : List Exchange) (left : Option EngineState)
-    → ToldNew None size channels code (Some e) → AreExchanges (Some e) calls left
+    → Opens None size channels code (Some e) → AreExchanges (Some e) calls left
     → IsSomeAnd left (λ e'. AreOneList (new_view size channels) calls e'.view)

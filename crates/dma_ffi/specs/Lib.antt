@@ -2,7 +2,7 @@
 -- structs.
 pub mod Codes
 pub mod Reports
-pub mod Told
+pub mod Requests
 pub mod Programs
 pub mod Channels
 pub mod Laws

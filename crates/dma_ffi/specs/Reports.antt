@@ -1,34 +1,28 @@
--- The structs that calls from C write: how a cookie finished, what runs, what steps did, and how a program ended.
-use Rattle.std.specs.Prelude.{ℕ, Option, None, Some, List, map}
-use Rattle.dma_mem.specs.declared.segment.Segment.{Segment}
+-- The structs that calls from C write: how a cookie finished, what a call conflicts with, what steps did, and how a
+-- program ended.
+use Rattle.std.specs.Prelude.{ℕ, Option, None, Some, Result, Err}
 use Rattle.dma_chan.specs.declared.run.RunEnd.{RunEnd}
 use Rattle.dma_chan.specs.declared.run.RunEnd.TheVariants as ends
+use Rattle.dma_engine.specs.declared.fault.EngineFault.{EngineFault}
+use Rattle.dma_engine.specs.declared.fault.EngineFault.TheVariants.{Busy, Running as RunningOn}
 use Rattle.dma_engine.specs.declared.outcome.Outcome.{Outcome}
-use Rattle.dma_engine.specs.declared.turn.Running.{Running}
 use Rattle.dma_engine.specs.declared.turn.Turn.{Turn}
 use Rattle.dma_engine.specs.declared.turn.Turn.TheVariants.{Nothing, Held, Started, Moved, Waiting, Paused, Halted, Finished}
-use Rattle.dma_ffi.specs.declared.reports.DmaSegment.{DmaSegment}
 use Rattle.dma_ffi.specs.declared.reports.DmaOutcome.{DmaOutcome}
-use Rattle.dma_ffi.specs.declared.reports.DmaRun.{DmaRun}
+use Rattle.dma_ffi.specs.declared.reports.DmaConflict.{DmaConflict}
 use Rattle.dma_ffi.specs.declared.reports.DmaReport.{DmaReport}
 use Rattle.dma_ffi.specs.declared.reports.DmaRunEnd.{DmaRunEnd}
 use Rattle.dma_ffi.specs.Codes.{result_number, kind_number}
 
--- a range of addresses as a segment of the engine
-abbrev pub segment_of : DmaSegment → Segment
-segment_of s = record { addr = s.addr; len = s.len }
-
--- a list of ranges as segments of the engine
-abbrev pub segments_of : List DmaSegment → List Segment
-segments_of list = map segment_of list
-
 -- how a cookie finished
-abbrev pub outcome_told : Outcome → DmaOutcome
-outcome_told o = record { result = result_number o.result; residue = o.residue }
+abbrev pub outcome_of : Outcome → DmaOutcome
+outcome_of o = record { result = result_number o.result; residue = o.residue }
 
--- what runs on a channel
-abbrev pub run_told : Running → DmaRun
-run_told r = record { cookie = r.cookie; stored = r.stored }
+-- the transfer that a `Busy` or `Running` refusal names, or the former value for any other answer
+abbrev pub conflict_of : {A : Type 0} → Result A EngineFault → DmaConflict → DmaConflict
+conflict_of (Err (Busy ch cookie)) before = record { channel = ch; cookie = cookie }
+conflict_of (Err (RunningOn ch cookie)) before = record { channel = ch; cookie = cookie }
+conflict_of _ before = before
 
 -- a report of `taken` steps with this turn number; all other fields are 0
 abbrev pub did : ℕ → ℕ → DmaReport

@@ -1,5 +1,7 @@
--- Definitions for what the pointers that C keeps own, and for the steps of proofs. The contracts of the calls from C
--- don't use them.
+-- Definitions for what the pointers that C keeps own and lend, and for the steps of proofs. The contracts of the calls
+-- from C don't use them.
 pub mod Owned
-pub mod OwnedChannel
+pub mod Lending
 pub mod InRow
+pub mod Loads
+pub mod Submits

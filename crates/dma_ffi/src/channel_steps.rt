@@ -1,20 +1,16 @@
-//! Steps of a channel that C keeps, and their reports.
+//! Steps of channels that C keeps, and their reports.
 
-ghost use Rattle.std.specs.Prelude.{◌≡◌, IsTrue, IsSome, Some};
-ghost use Rattle.dma_mem.specs.Regions.{in_order, pieces_of};
-ghost use Rattle.dma_chan.specs.Stepping.{TakesSteps, signal_after};
-ghost use Rattle.dma_ffi.specs.Channels.{StayInPlace, Steps, did, marks_over, over, report_in, report_of, steps_code};
+ghost use Rattle.std.specs.Prelude.{◌≡◌, Some};
+ghost use Rattle.dma_ffi.specs.Channels.{ReportsSteps, did, report_of};
 
-use crate::channel_calls::{ChannelFault, are_usable, code_of_fault};
-use crate::codes::{OK, number_of_kind};
+use crate::channels::are_usable;
+use crate::codes::{BAD_REGIONS, NO_PROGRAM, NOT_OPEN, OK, number_of_kind};
 use crate::kept_channel::KeptChannel;
-use crate::marked_channel::MarkedChannel;
 use dma_chan::lent::{Taken, step_regions};
 use dma_chan::turn::ChanTurn;
 use dma_insn::insn::Event;
 use dma_mem::events::Events;
 use dma_mem::regions::Region;
-use std::alloc::Global;
 
 /// The number of steps that were taken, and what the last one did.
 #[repr(C)]
@@ -33,73 +29,6 @@ pub struct ChannelReport {
     pub pc: u32,
 }
 
-/// The steps that were taken.
-#[derive(Clone, Copy, Debug, PartialEq, Eq)]
-pub struct Stepped {
-    /// Their number, and what the last one did.
-    pub taken: Taken,
-    /// The offset of the next instruction in the program.
-    pub pc: u32,
-}
-
-// Takes at most `most` steps over lent regions and flags.
-fn step_lent(
-    marked: &mut MarkedChannel,
-    regions: &mut [Region<'_>],
-    flags: &mut u32,
-    most: u32,
-) -> Stepped
-    requires loaded { IsSome marked.old.channel.program }
-    requires order { IsTrue (in_order (pieces_of regions.old)) }
-    ensures taken { TakesSteps (marks_over marked.old regions.old) (over marked.old regions.old flags.old) most
-        result.taken.count result.taken.last (over marked.new regions.new flags.new) }
-    ensures signal { result.taken.signal ≡ signal_after (marks_over marked.old regions.old)
-        (over marked.old regions.old flags.old) result.taken.count }
-    ensures marks { marked.new.marks ≡ marked.old.marks }
-    ensures place { result.pc ≡ marked.new.channel.registers.pc }
-    ensures regions { StayInPlace regions.old regions.new }
-{
-    let mut events = Events::from_bits(*flags);
-    let taken = step_regions(
-        &mut marked.channel,
-        regions,
-        &mut events,
-        &marked.marks,
-        most,
-    );
-    *flags = events.bits();
-    Stepped {
-        taken,
-        pc: marked.channel.pc(),
-    }
-}
-
-/// Takes at most `most` steps of C's channel. Fails with `NotOpen`, `BadRegions` or `NoProgram`, checked in this
-/// order.
-pub fn step(
-    alloc: Global,
-    kept: &mut KeptChannel,
-    regions: &mut [Region<'_>],
-    flags: &mut u32,
-    most: u32,
-) -> Result<Stepped, ChannelFault>
-    ensures { Steps (record { channel = kept.old.channel.value; regions = regions.old; flags = flags.old }) most result
-        (record { channel = kept.new.channel.value; regions = regions.new; flags = flags.new }) }
-{
-    let Some(mut marked) = kept.take(alloc) else {
-        return Err(ChannelFault::NotOpen);
-    };
-    let answer = if !are_usable(regions) {
-        Err(ChannelFault::BadRegions)
-    } else if !marked.channel.is_loaded() {
-        Err(ChannelFault::NoProgram)
-    } else {
-        Ok(step_lent(&mut marked, regions, flags, most))
-    };
-    kept.put(marked);
-    answer
-}
-
 // Returns the report of `taken` steps with this offset and turn number, and 0 as event and fault.
 fn did(taken: u32, pc: u32, turn: u32) -> ChannelReport
     ensures { result ≡ did taken pc turn }
@@ -113,7 +42,7 @@ fn did(taken: u32, pc: u32, turn: u32) -> ChannelReport
     }
 }
 
-// Returns the report of `taken` steps and of what the last one did, if any.
+// Returns the report of `taken` steps, of what the last one did, and of the event that it signalled, if any.
 fn report_of(taken: u32, pc: u32, last: Option<ChanTurn>, signal: Option<Event>) -> ChannelReport
     ensures { result ≡ report_of taken pc last signal }
 {
@@ -123,12 +52,18 @@ fn report_of(taken: u32, pc: u32, last: Option<ChanTurn>, signal: Option<Event>)
     }
 }
 
-// Returns the report of `taken` steps, the last of which did `turn`.
+// Returns the report of `taken` steps, the last of which did `turn`, and signalled this event, if any.
 fn report_of_turn(taken: u32, pc: u32, turn: ChanTurn, signal: Option<Event>) -> ChannelReport
     ensures { result ≡ report_of taken pc (Some turn) signal }
 {
     match turn {
-        ChanTurn::Moved => report_of_move(taken, pc, signal),
+        ChanTurn::Moved => match signal {
+            None => did(taken, pc, 1),
+            Some(event) => ChannelReport {
+                event: u32::from(event.number()),
+                ..did(taken, pc, 5)
+            },
+        },
         ChanTurn::Waiting(event) => ChannelReport {
             event: u32::from(event.number()),
             ..did(taken, pc, 2)
@@ -141,34 +76,46 @@ fn report_of_turn(taken: u32, pc: u32, turn: ChanTurn, signal: Option<Event>) ->
     }
 }
 
-// Returns the report of `taken` steps, the last of which moved and signalled this event, if any.
-fn report_of_move(taken: u32, pc: u32, signal: Option<Event>) -> ChannelReport
-    ensures { result ≡ report_of taken pc (Some ChanTurn.Moved) signal }
+/// Takes at most `most` steps over the regions and the flags, and writes their report. It stops after the first step
+/// that doesn't move or that sets a flag, and when the channel has executed 4,294,967,295 instructions since the load.
+/// The channel keeps no pointer to the regions and the flags. Fails if the channel isn't open, the regions aren't
+/// usable, or the channel has no program.
+#[unsafe(no_mangle)]
+pub extern "C" fn dma330_channel_step(
+    kept: &mut KeptChannel,
+    regions: &mut [Region<'_>],
+    flags: &mut u32,
+    most: u32,
+    report: &mut ChannelReport,
+) -> i32
+    ensures { ReportsSteps
+        (record { channel = kept.old.channel.value; regions = regions.old; flags = flags.old })
+        most result report.old report.new
+        (record { channel = kept.new.channel.value; regions = regions.new; flags = flags.new }) }
 {
-    match signal {
-        None => did(taken, pc, 1),
-        Some(event) => ChannelReport {
-            event: u32::from(event.number()),
-            ..did(taken, pc, 5)
-        },
+    if !kept.is_open() {
+        return NOT_OPEN;
     }
-}
-
-/// Returns the code of steps, and writes their report if they were taken.
-pub fn reported(answer: Result<Stepped, ChannelFault>, report: &mut ChannelReport) -> i32
-    ensures code { result ≡ steps_code answer }
-    ensures written { report.new ≡ report_in answer report.old }
-{
-    match answer {
-        Ok(Stepped { taken, pc }) => {
-            let Taken {
-                count,
-                last,
-                signal,
-            } = taken;
-            *report = report_of(count, pc, last, signal);
-            OK
-        }
-        Err(fault) => code_of_fault(fault),
+    if !are_usable(regions) {
+        return BAD_REGIONS;
     }
+    let marked = kept.channel.as_mut();
+    if !marked.channel.is_loaded() {
+        return NO_PROGRAM;
+    }
+    let mut events = Events::from_bits(*flags);
+    let Taken {
+        count,
+        last,
+        signal,
+    } = step_regions(
+        &mut marked.channel,
+        regions,
+        &mut events,
+        &marked.marks,
+        most,
+    );
+    *flags = events.bits();
+    *report = report_of(count, marked.channel.pc(), last, signal);
+    OK
 }

@@ -4,24 +4,52 @@
 //! not null, and they overlap neither each other nor anything else that the call gets.
 
 ghost use Rattle.std.specs.Prelude.{◌≡◌, None};
-ghost use Rattle.dma_ffi.specs.Channels.{Becomes, LoadsBytes, LoadsCopy, LoadsFill, LoadsFrom, MarksRange, OnChannel, OnOpen, Opens, ReportsSteps, Restores, WritesRegisters, WritesSave, stopped, unmarked};
-ghost use Rattle.dma_ffi.specs.Codes.{event_told, mark_kind};
-ghost use Rattle.dma_ffi.specs.Reports.{segment_of, segments_of};
-ghost use Rattle.dma_ffi.specs.Told.{copying};
+ghost use Rattle.dma_ffi.specs.Channels.{Becomes, LoadsBytes, LoadsCopy, LoadsFill, LoadsFrom, MarksRange, OnChannel, OnOpen, Opens, Restores, WritesRegisters, WritesSave, are_usable, registers_of, stopped, unmarked};
+ghost use Rattle.dma_ffi.specs.Codes.{event_of, mark_kind};
+ghost use Rattle.dma_ffi.specs.Requests.{copying};
+ghost use Rattle.dma_ffi.specs.inner.Loads.{LoadsMade};
 
-use crate::channel_calls::{
-    ChannelRegisters, code_of, load_copy, load_fill, load_from, load_program, mark, registers_of,
-    restore, save,
+use crate::codes::{
+    ALREADY_OPEN, BAD_KIND, BAD_RANGE, BAD_REGIONS, BAD_SAVE, BUFFER_TOO_SMALL, NO_MEMORY,
+    NOT_OPEN, OK, code_of_program, code_of_transfer, event_of, found, kind_of,
 };
-use crate::channel_steps::{ChannelReport, reported, step};
-use crate::codes::{ALREADY_OPEN, NO_MEMORY, NOT_OPEN, OK};
 use crate::kept_channel::KeptChannel;
 use crate::marked_channel::MarkedChannel;
-use crate::reports::DmaSegment;
 use dma_chan::channel::Channel;
+use dma_chan::compile::compile;
+use dma_chan::program::MAX_BYTES;
+use dma_chan::save::RestoreFault;
 use dma_mem::marks::Marks;
-use dma_mem::regions::Region;
+use dma_mem::regions::{Region, are_in_order, bytes_from};
+use dma_mem::segment::Segment;
+use dma_mem::transfer::{Transfer, TransferFault};
 use std::alloc::Global;
+
+/// The maximum number of regions.
+const MAX_REGIONS: usize = 8;
+
+/// The end of the address space.
+const END_OF_ADDRESSES: u64 = 1 << 32;
+
+/// A channel's registers and counts.
+#[repr(C)]
+#[derive(Clone, Copy)]
+pub struct ChannelRegisters {
+    /// The offset of the next instruction in the program.
+    pub pc: u32,
+    /// The manual's SAR, DAR, CCR, LC0 and LC1.
+    pub sar: u32,
+    pub dar: u32,
+    pub ccr: u32,
+    pub lc0: u8,
+    pub lc1: u8,
+    /// 1 if the channel has a program, else 0. The caller may pass any byte here.
+    pub is_loaded: u8,
+    /// The number of instructions executed since the load.
+    pub taken: u32,
+    /// The number of bytes stored since the load.
+    pub stored: u64,
+}
 
 /// Opens a channel without a program and without marks. Fails if it is open already, or if out of memory.
 #[unsafe(no_mangle)]
@@ -38,7 +66,7 @@ pub extern "C" fn dma330_channel_open(alloc: Global, kept: &mut KeptChannel) -> 
     let Ok(marked) = Box::new(alloc, MarkedChannel { channel, marks }) else {
         return NO_MEMORY;
     };
-    kept.put(marked);
+    kept.open(marked);
     OK
 }
 
@@ -47,10 +75,27 @@ pub extern "C" fn dma330_channel_open(alloc: Global, kept: &mut KeptChannel) -> 
 pub extern "C" fn dma330_channel_close(alloc: Global, kept: &mut KeptChannel)
     ensures { kept.new.channel.value ≡ None }
 {
-    drop(kept.take(alloc));
+    kept.close(alloc);
 }
 
 // ---- programs
+
+// Loads the program of a transfer that was made, or returns the code of the fault for which none was made.
+fn load(alloc: Global, channel: &mut Channel, made: Result<Transfer, TransferFault>) -> i32
+    ensures { LoadsMade made channel.old result channel.new }
+{
+    let transfer = match made {
+        Ok(transfer) => transfer,
+        Err(fault) => return code_of_transfer(fault),
+    };
+    match compile(alloc, &transfer) {
+        Ok(program) => {
+            channel.load(program);
+            OK
+        }
+        Err(_) => NO_MEMORY,
+    }
+}
 
 /// Loads the program of a copy in place of the former program. A negative `wait` or `signal` is no event. Fails with
 /// the first rule that the copy breaks, or if out of memory.
@@ -58,20 +103,19 @@ pub extern "C" fn dma330_channel_close(alloc: Global, kept: &mut KeptChannel)
 pub extern "C" fn dma330_channel_load_copy(
     alloc: Global,
     kept: &mut KeptChannel,
-    src: &[DmaSegment],
-    dst: &[DmaSegment],
+    src: &[Segment],
+    dst: &[Segment],
     wait: i32,
     signal: i32,
 ) -> i32
-    ensures { OnChannel (LoadsCopy (copying (segments_of src.now) (segments_of dst.now) (event_told wait) (event_told signal)))
+    ensures { OnChannel (LoadsCopy (copying src.now dst.now (event_of wait) (event_of signal)))
         kept.old.channel.value result kept.new.channel.value }
 {
-    let Some(mut marked) = kept.take(alloc) else {
+    if !kept.is_open() {
         return NOT_OPEN;
-    };
-    let outcome = load_copy(alloc, &mut marked.channel, src, dst, wait, signal);
-    kept.put(marked);
-    code_of(outcome)
+    }
+    let made = Transfer::new(alloc, src, dst, event_of(wait), event_of(signal));
+    load(alloc, &mut kept.channel.as_mut().channel, made)
 }
 
 /// Loads the program of a fill with the byte at `src` in place of the former program. A negative `wait` or `signal` is
@@ -81,19 +125,18 @@ pub extern "C" fn dma330_channel_load_fill(
     alloc: Global,
     kept: &mut KeptChannel,
     src: u32,
-    dst: &[DmaSegment],
+    dst: &[Segment],
     wait: i32,
     signal: i32,
 ) -> i32
-    ensures { OnChannel (LoadsFill src (segments_of dst.now) (event_told wait) (event_told signal))
+    ensures { OnChannel (LoadsFill src dst.now (event_of wait) (event_of signal))
         kept.old.channel.value result kept.new.channel.value }
 {
-    let Some(mut marked) = kept.take(alloc) else {
+    if !kept.is_open() {
         return NOT_OPEN;
-    };
-    let outcome = load_fill(alloc, &mut marked.channel, src, dst, wait, signal);
-    kept.put(marked);
-    code_of(outcome)
+    }
+    let made = Transfer::fill(alloc, src, dst, event_of(wait), event_of(signal));
+    load(alloc, &mut kept.channel.as_mut().channel, made)
 }
 
 /// Loads these bytes as a program in place of the former program. The bytes are copied, so later changes to them have
@@ -104,18 +147,28 @@ pub extern "C" fn dma330_channel_load_program(
     kept: &mut KeptChannel,
     program: &[u8],
 ) -> i32
-    ensures { OnChannel (LoadsBytes program.now) kept.old.channel.value result kept.new.channel.value }
+    ensures { OnChannel (LoadsBytes program.now) kept.old.channel.value result
+        kept.new.channel.value }
 {
-    let Some(mut marked) = kept.take(alloc) else {
+    if !kept.is_open() {
         return NOT_OPEN;
-    };
-    let outcome = load_program(alloc, &mut marked.channel, program);
-    kept.put(marked);
-    code_of(outcome)
+    }
+    match kept.channel.as_mut().channel.load_bytes(alloc, program) {
+        Ok(()) => OK,
+        Err(fault) => code_of_program(fault),
+    }
+}
+
+/// Returns whether channels can be stepped over these regions.
+pub fn are_usable(regions: &[Region<'_>]) -> bool
+    ensures { result ≡ are_usable regions.now }
+{
+    regions.len() <= MAX_REGIONS && are_in_order(regions)
 }
 
 /// Loads the program that begins at address `addr` of the regions, in place of the former program. Fails if the
 /// regions aren't usable, or if out of memory.
+#[tactic(auto, using(std::proofs::lemmas::List::take_min))]
 #[unsafe(no_mangle)]
 pub extern "C" fn dma330_channel_load_from(
     alloc: Global,
@@ -123,99 +176,102 @@ pub extern "C" fn dma330_channel_load_from(
     regions: &[Region<'_>],
     addr: u32,
 ) -> i32
-    ensures { OnChannel (LoadsFrom regions.now addr) kept.old.channel.value result kept.new.channel.value }
+    ensures { OnChannel (LoadsFrom regions.now addr) kept.old.channel.value result
+        kept.new.channel.value }
 {
-    let Some(mut marked) = kept.take(alloc) else {
+    if !kept.is_open() {
         return NOT_OPEN;
-    };
-    let outcome = load_from(alloc, &mut marked.channel, regions, addr);
-    kept.put(marked);
-    code_of(outcome)
+    }
+    if !are_usable(regions) {
+        return BAD_REGIONS;
+    }
+    let rest = bytes_from(regions, addr);
+    let program = &rest[..MAX_BYTES.min(rest.len())];
+    match kept.channel.as_mut().channel.load_bytes(alloc, program) {
+        Ok(()) => OK,
+        Err(_) => NO_MEMORY,
+    }
 }
 
 /// Drops the program. Registers and counts are unchanged.
 #[unsafe(no_mangle)]
-pub extern "C" fn dma330_channel_stop(alloc: Global, kept: &mut KeptChannel) -> i32
+pub extern "C" fn dma330_channel_stop(kept: &mut KeptChannel) -> i32
     ensures { Becomes stopped kept.old.channel.value result kept.new.channel.value }
 {
-    let Some(mut marked) = kept.take(alloc) else {
+    if !kept.is_open() {
         return NOT_OPEN;
-    };
-    marked.channel.unload();
-    kept.put(marked);
+    }
+    kept.channel.as_mut().channel.unload();
     OK
 }
 
-// ---- steps and registers
+// ---- registers and marks
 
-/// Takes at most `most` steps over the regions and the flags, and writes their report. It stops after the first step
-/// that doesn't move or that sets a flag, and when the channel has executed 4,294,967,295 instructions since the load.
-/// The channel keeps no pointer to the regions and the flags. Fails if the channel isn't open, the regions aren't
-/// usable, or the channel has no program.
-#[unsafe(no_mangle)]
-pub extern "C" fn dma330_channel_step(
-    alloc: Global,
-    kept: &mut KeptChannel,
-    regions: &mut [Region<'_>],
-    flags: &mut u32,
-    most: u32,
-    report: &mut ChannelReport,
-) -> i32
-    ensures { ReportsSteps (record { channel = kept.old.channel.value; regions = regions.old; flags = flags.old }) most result
-        report.old report.new (record { channel = kept.new.channel.value; regions = regions.new; flags = flags.new }) }
+// Returns the registers and counts of a channel.
+fn registers_of(channel: &Channel) -> ChannelRegisters
+    ensures { result ≡ registers_of channel.now }
 {
-    let answer = step(alloc, kept, regions, flags, most);
-    reported(answer, report)
+    let (lc0, lc1) = channel.loop_counters();
+    ChannelRegisters {
+        pc: channel.pc(),
+        sar: channel.source_addr(),
+        dar: channel.destination_addr(),
+        ccr: channel.control(),
+        lc0,
+        lc1,
+        is_loaded: u8::from(channel.is_loaded()),
+        taken: channel.taken(),
+        stored: channel.stored(),
+    }
 }
 
 /// Writes the registers and counts of the channel.
 #[unsafe(no_mangle)]
 pub extern "C" fn dma330_channel_registers(
-    alloc: Global,
     kept: &mut KeptChannel,
     registers: &mut ChannelRegisters,
 ) -> i32
-    ensures { WritesRegisters kept.old.channel.value result registers.old registers.new kept.new.channel.value }
+    ensures { WritesRegisters kept.old.channel.value result registers.old registers.new
+        kept.new.channel.value }
 {
-    let Some(marked) = kept.take(alloc) else {
+    if !kept.is_open() {
         return NOT_OPEN;
-    };
-    *registers = registers_of(&marked.channel);
-    kept.put(marked);
+    }
+    *registers = registers_of(&kept.channel.as_mut().channel);
     OK
 }
-
-// ---- marks
 
 /// Marks a range: kind 0 for loads of this channel, 1 for stores. Fails for any other kind, for a range that is empty
 /// or ends above the last address, or if out of memory.
 #[unsafe(no_mangle)]
-pub extern "C" fn dma330_channel_mark(
-    alloc: Global,
-    kept: &mut KeptChannel,
-    kind: u32,
-    range: DmaSegment,
-) -> i32
-    ensures { OnOpen (MarksRange (mark_kind kind) (segment_of range)) kept.old.channel.value result kept.new.channel.value }
+pub extern "C" fn dma330_channel_mark(kept: &mut KeptChannel, kind: u32, range: Segment) -> i32
+    ensures { OnOpen (MarksRange (mark_kind kind) range) kept.old.channel.value result
+        kept.new.channel.value }
 {
-    let Some(mut marked) = kept.take(alloc) else {
+    if !kept.is_open() {
         return NOT_OPEN;
+    }
+    let Some(kind) = kind_of(kind) else {
+        return BAD_KIND;
     };
-    let outcome = mark(&mut marked, kind, range);
-    kept.put(marked);
-    code_of(outcome)
+    if range.len == 0 || u64::from(range.addr) + u64::from(range.len) > END_OF_ADDRESSES {
+        return BAD_RANGE;
+    }
+    match kept.channel.as_mut().marks.add(kind, range) {
+        Ok(()) => OK,
+        Err(_) => NO_MEMORY,
+    }
 }
 
 /// Removes all marks of this channel.
 #[unsafe(no_mangle)]
-pub extern "C" fn dma330_channel_unmark(alloc: Global, kept: &mut KeptChannel) -> i32
+pub extern "C" fn dma330_channel_unmark(kept: &mut KeptChannel) -> i32
     ensures { Becomes unmarked kept.old.channel.value result kept.new.channel.value }
 {
-    let Some(mut marked) = kept.take(alloc) else {
+    if !kept.is_open() {
         return NOT_OPEN;
-    };
-    marked.marks.clear();
-    kept.put(marked);
+    }
+    kept.channel.as_mut().marks.clear();
     OK
 }
 
@@ -225,19 +281,21 @@ pub extern "C" fn dma330_channel_unmark(alloc: Global, kept: &mut KeptChannel) -
 /// is too small.
 #[unsafe(no_mangle)]
 pub extern "C" fn dma330_channel_save(
-    alloc: Global,
     kept: &mut KeptChannel,
     out: &mut [u8],
     len: &mut usize,
 ) -> i32
-    ensures { WritesSave kept.old.channel.value result out.old out.new len.old len.new kept.new.channel.value }
+    ensures { WritesSave kept.old.channel.value result out.old out.new len.old len.new
+        kept.new.channel.value }
 {
-    let Some(marked) = kept.take(alloc) else {
+    if !kept.is_open() {
         return NOT_OPEN;
-    };
-    let code = save(&marked.channel, out, len);
-    kept.put(marked);
-    code
+    }
+    found(
+        kept.channel.as_mut().channel.save(out),
+        len,
+        BUFFER_TOO_SMALL,
+    )
 }
 
 /// Restores the channel from a save. Its marks are unchanged. Fails if the bytes aren't a save, or if out of memory.
@@ -245,10 +303,12 @@ pub extern "C" fn dma330_channel_save(
 pub extern "C" fn dma330_channel_restore(alloc: Global, kept: &mut KeptChannel, save: &[u8]) -> i32
     ensures { OnChannel (Restores save.now) kept.old.channel.value result kept.new.channel.value }
 {
-    let Some(mut marked) = kept.take(alloc) else {
+    if !kept.is_open() {
         return NOT_OPEN;
-    };
-    let outcome = restore(alloc, &mut marked.channel, save);
-    kept.put(marked);
-    code_of(outcome)
+    }
+    match kept.channel.as_mut().channel.restore(alloc, save) {
+        Ok(()) => OK,
+        Err(RestoreFault::BadSave) => BAD_SAVE,
+        Err(RestoreFault::NoMemory) => NO_MEMORY,
+    }
 }

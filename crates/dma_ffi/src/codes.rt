@@ -1,12 +1,11 @@
 //! The numbers that calls from C return and write.
 
-ghost use Rattle.std.specs.Prelude.{◌≡◌};
-ghost use Rattle.dma_engine.specs.Answer.{reply_of, submit_reply};
-ghost use Rattle.dma_ffi.specs.Codes.{cause_code, decode_code, event_told, fault_code, kind_number, mark_kind, new_code, reply_code, result_number, status_code, transfer_code};
-ghost use Rattle.dma_ffi.specs.Told.{number_in, replied};
+ghost use Rattle.std.specs.Prelude.{◌≡◌, unwrap_or};
+ghost use Rattle.dma_ffi.specs.Codes.{answer_code, cause_code, decode_code, event_of, fault_code, found_code, kind_number, mark_kind, new_code, program_code, result_number, status_code, transfer_code, value_or};
 
+use dma_chan::program::ProgramFault;
 use dma_chan::turn::FaultKind;
-use dma_engine::{EngineFault, MarkKind, NewFault, Reply, Status, SubmitFault, TransResult};
+use dma_engine::{EngineFault, MarkKind, NewFault, Status, TransResult};
 use dma_insn::assembler::Cause;
 use dma_insn::codec::DecodeFault;
 use dma_mem::transfer::TransferFault;
@@ -88,6 +87,16 @@ pub fn code_of_transfer(fault: TransferFault) -> i32
     }
 }
 
+/// Returns the code of a fault for which no program is made of bytes.
+pub fn code_of_program(fault: ProgramFault) -> i32
+    ensures { result ≡ program_code fault }
+{
+    match fault {
+        ProgramFault::ProgramTooLong => PROGRAM_TOO_LONG,
+        ProgramFault::NoMemory => NO_MEMORY,
+    }
+}
+
 /// Returns the code of the reason that a line of assembly text isn't an instruction.
 pub fn code_of_cause(cause: Cause) -> i32
     ensures { result ≡ cause_code cause }
@@ -152,63 +161,56 @@ pub fn number_of_kind(kind: FaultKind) -> u32
 pub fn kind_of(kind: u32) -> Option<MarkKind>
     ensures { result ≡ mark_kind kind }
 {
-    if kind == 0 {
-        return Some(MarkKind::Reading);
+    match kind {
+        0 => Some(MarkKind::Reading),
+        1 => Some(MarkKind::Writing),
+        _ => None,
     }
-    if kind == 1 {
-        return Some(MarkKind::Writing);
-    }
-    None
 }
 
 /// Returns the event with this number, or none for a negative number. Numbers above 255 become 255, which is invalid
 /// like all events above 31.
 pub fn event_of(event: i32) -> Option<u8>
-    ensures { result ≡ event_told event }
+    ensures { result ≡ event_of event }
 {
     if event < 0 {
-        return None;
+        None
+    } else {
+        Some(event.min(255) as u8)
     }
-    if event > 255 {
-        return Some(255);
-    }
-    Some(event as u8)
 }
 
-/// Returns the code of a call whose answer has no value.
+/// Returns the code of an answer, and writes its value.
+pub fn answered<T: Copy>(answer: Result<T, EngineFault>, out: &mut T) -> i32
+    ensures code { result ≡ answer_code answer }
+    ensures value { out.new ≡ value_or answer out.old }
+{
+    match answer {
+        Ok(value) => {
+            *out = value;
+            OK
+        }
+        Err(fault) => code_of_fault(fault),
+    }
+}
+
+/// Returns the code of an answer without a value.
 pub fn done(answer: Result<(), EngineFault>) -> i32
-    ensures { result ≡ reply_code (reply_of (λ _. Reply.Done) answer) }
+    ensures { result ≡ answer_code answer }
 {
-    match answer {
-        Ok(()) => OK,
-        Err(fault) => code_of_fault(fault),
-    }
+    answered(answer, &mut ())
 }
 
-/// Returns the code of a call that answers a count, and writes the count.
-pub fn counted(answer: Result<u32, EngineFault>, count: &mut u32) -> i32
-    ensures code { result ≡ reply_code (reply_of (λ n. Reply.Count n) answer) }
-    ensures number { count.new ≡ number_in (replied (reply_of (λ n. Reply.Count n) answer)) count.old }
+/// Writes the value, if any, else returns the code `missing`.
+pub fn found<T: Copy>(value: Option<T>, out: &mut T, missing: i32) -> i32
+    ensures code { result ≡ found_code missing value }
+    ensures value { out.new ≡ unwrap_or value out.old }
 {
-    match answer {
-        Ok(number) => {
-            *count = number;
+    match value {
+        Some(value) => {
+            *out = value;
             OK
         }
-        Err(fault) => code_of_fault(fault),
-    }
-}
-
-/// Returns the code of a submit, and writes the cookie.
-pub fn submitted(answer: Result<u32, SubmitFault>, cookie: &mut u32) -> i32
-    ensures code { result ≡ reply_code (submit_reply answer) }
-    ensures number { cookie.new ≡ number_in (replied (submit_reply answer)) cookie.old }
-{
-    match answer {
-        Ok(given) => {
-            *cookie = given;
-            OK
-        }
-        Err(refused) => code_of_fault(refused.fault),
+        None => missing,
     }
 }

@@ -1,16 +1,14 @@
 //! The value that C keeps for an engine between calls.
 
 ghost use Rattle.std.specs.Prelude.{◌≡◌, ◌↔◌, IsTrue, IsSome, None, Some};
-ghost use Rattle.std.specs.Option.{option_map};
 
+use crate::box_pointer::BoxPointer;
 use crate::engine_pointer::EnginePointer;
-use box_pointer::BoxPointer;
 use dma_engine::Engine;
 use std::alloc::Global;
 
 /// An engine, or none. C sets it to zeros, which mean no engine, before the first call, and doesn't read or write it
-/// otherwise. It has no `Drop`, so the compiler rejects code that drops or overwrites it: [`Controller::end`] consumes
-/// it, and requires that it has no engine.
+/// otherwise. It has no `Drop`, so the compiler rejects code that drops or overwrites it.
 #[repr(C)]
 pub struct Controller {
     pub engine: EnginePointer,
@@ -19,25 +17,6 @@ pub struct Controller {
 }
 
 impl Controller {
-    /// Returns a controller without an engine, as zeros are.
-    pub fn closed() -> Controller
-        ensures { result.engine.value ≡ None }
-    {
-        Controller {
-            engine: EnginePointer::empty(),
-            is_open: false,
-        }
-    }
-
-    fn holding(engine: Box<Engine>) -> Controller
-        ensures { result.engine.value ≡ Some engine.value }
-    {
-        Controller {
-            engine: EnginePointer::full(BoxPointer::of(engine)),
-            is_open: true,
-        }
-    }
-
     /// Returns whether there is an engine.
     pub fn is_open(&self) -> bool
         ensures { IsTrue result ↔ IsSome self.now.engine.value }
@@ -45,34 +24,25 @@ impl Controller {
         self.is_open
     }
 
-    /// Takes the engine out, if there is an engine.
-    pub fn take(&mut self, alloc: Global) -> Option<Box<Engine>>
-        ensures closed { self.new.engine.value ≡ None }
-        ensures taken { option_map (λ engine. engine.value) result ≡ self.old.engine.value }
-    {
-        let Controller { engine, is_open } = std::mem::replace(self, Controller::closed());
-        if is_open {
-            Some(engine.into_pointer(alloc).into_box())
-        } else {
-            engine.end();
-            None
-        }
-    }
-
     /// Puts an engine into a controller without one.
-    pub fn put(&mut self, engine: Box<Engine>)
+    pub fn open(&mut self, engine: Box<Engine>)
         requires { self.old.engine.value ≡ None }
         ensures { self.new.engine.value ≡ Some engine.value }
     {
-        std::mem::replace(self, Controller::holding(engine)).end();
+        let full = EnginePointer::full(BoxPointer::of(engine));
+        std::mem::replace(&mut self.engine, full).end();
+        self.is_open = true;
     }
 
-    /// Consumes a controller without an engine.
-    pub fn end(self)
-        requires { self.engine.value ≡ None }
+    /// Frees the engine, if any.
+    pub fn close(&mut self, alloc: Global)
+        ensures { self.new.engine.value ≡ None }
     {
-        let Controller { engine, is_open: _ } = self;
-        engine.end();
+        if self.is_open {
+            self.is_open = false;
+            let engine = std::mem::replace(&mut self.engine, EnginePointer::empty());
+            drop(engine.into_pointer(alloc).into_box());
+        }
     }
 }
 

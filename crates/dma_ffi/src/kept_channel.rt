@@ -1,17 +1,15 @@
 //! The value that C keeps for a channel between calls.
 
 ghost use Rattle.std.specs.Prelude.{◌≡◌, ◌↔◌, IsTrue, IsSome, None, Some};
-ghost use Rattle.std.specs.Option.{option_map};
 
+use crate::box_pointer::BoxPointer;
 use crate::channel_pointer::ChannelPointer;
 use crate::controller::sent;
 use crate::marked_channel::MarkedChannel;
-use box_pointer::BoxPointer;
 use std::alloc::Global;
 
-/// A channel, or none. C sets it to zeros, which mean no channel, before the first call, and doesn't read or write it
-/// otherwise. It has no `Drop`, so the compiler rejects code that drops or overwrites it: [`KeptChannel::end`]
-/// consumes it, and requires that it has no channel.
+/// A channel and its marks, or none. C sets it to zeros, which mean no channel, before the first call, and doesn't read
+/// or write it otherwise. It has no `Drop`, so the compiler rejects code that drops or overwrites it.
 #[repr(C)]
 pub struct KeptChannel {
     pub channel: ChannelPointer,
@@ -20,25 +18,6 @@ pub struct KeptChannel {
 }
 
 impl KeptChannel {
-    /// Returns a value without a channel, as zeros are.
-    pub fn closed() -> KeptChannel
-        ensures { result.channel.value ≡ None }
-    {
-        KeptChannel {
-            channel: ChannelPointer::empty(),
-            is_open: false,
-        }
-    }
-
-    fn holding(channel: Box<MarkedChannel>) -> KeptChannel
-        ensures { result.channel.value ≡ Some channel.value }
-    {
-        KeptChannel {
-            channel: ChannelPointer::full(BoxPointer::of(channel)),
-            is_open: true,
-        }
-    }
-
     /// Returns whether there is a channel.
     pub fn is_open(&self) -> bool
         ensures { IsTrue result ↔ IsSome self.now.channel.value }
@@ -46,37 +25,25 @@ impl KeptChannel {
         self.is_open
     }
 
-    /// Takes the channel out, if there is a channel.
-    pub fn take(&mut self, alloc: Global) -> Option<Box<MarkedChannel>>
-        ensures closed { self.new.channel.value ≡ None }
-        ensures taken { option_map (λ channel. channel.value) result ≡ self.old.channel.value }
-    {
-        let KeptChannel { channel, is_open } = std::mem::replace(self, KeptChannel::closed());
-        if is_open {
-            Some(channel.into_pointer(alloc).into_box())
-        } else {
-            channel.end();
-            None
-        }
-    }
-
     /// Puts a channel into a value without one.
-    pub fn put(&mut self, channel: Box<MarkedChannel>)
+    pub fn open(&mut self, channel: Box<MarkedChannel>)
         requires { self.old.channel.value ≡ None }
         ensures { self.new.channel.value ≡ Some channel.value }
     {
-        std::mem::replace(self, KeptChannel::holding(channel)).end();
+        let full = ChannelPointer::full(BoxPointer::of(channel));
+        std::mem::replace(&mut self.channel, full).end();
+        self.is_open = true;
     }
 
-    /// Consumes a value without a channel.
-    pub fn end(self)
-        requires { self.channel.value ≡ None }
+    /// Frees the channel, if any.
+    pub fn close(&mut self, alloc: Global)
+        ensures { self.new.channel.value ≡ None }
     {
-        let KeptChannel {
-            channel,
-            is_open: _,
-        } = self;
-        channel.end();
+        if self.is_open {
+            self.is_open = false;
+            let channel = std::mem::replace(&mut self.channel, ChannelPointer::empty());
+            drop(channel.into_pointer(alloc).into_box());
+        }
     }
 }
 

@@ -1,25 +1,13 @@
 //! The structs that C sees, and the functions that fill them.
 
 ghost use Rattle.std.specs.Prelude.{◌≡◌};
-ghost use Rattle.dma_ffi.specs.Codes.{reply_code};
-ghost use Rattle.dma_ffi.specs.Reports.{did, end_of, ended, report_of, segment_of};
-ghost use Rattle.dma_ffi.specs.Told.{code_of, conflict_in, outcome_in, replied, report_in, run_in, runs, steps_answer};
+ghost use Rattle.dma_ffi.specs.Codes.{answer_code};
+ghost use Rattle.dma_ffi.specs.Reports.{conflict_of, did, end_of, ended, outcome_of, report_of};
 
-use crate::codes::{NO_RESULT, NOT_RUNNING, OK, code_of_fault, number_of_kind, number_of_result};
+use crate::codes::{done, number_of_kind, number_of_result};
 use crate::steps::Taken;
 use dma_chan::run::RunEnd;
-use dma_engine::{EngineFault, Outcome, Reply, Running, Turn};
-use dma_mem::segment::Segment;
-
-/// A range of addresses.
-#[repr(C)]
-#[derive(Clone, Copy)]
-pub struct DmaSegment {
-    /// The first address.
-    pub addr: u32,
-    /// The number of bytes.
-    pub len: u32,
-}
+use dma_engine::{EngineFault, Outcome, Turn};
 
 /// How a cookie finished.
 #[repr(C)]
@@ -29,16 +17,6 @@ pub struct DmaOutcome {
     pub result: u32,
     /// The number of its bytes that were not stored.
     pub residue: u32,
-}
-
-/// What runs on a channel.
-#[repr(C)]
-#[derive(Clone, Copy)]
-pub struct DmaRun {
-    /// Its cookie.
-    pub cookie: u32,
-    /// The number of its bytes that are stored.
-    pub stored: u32,
 }
 
 /// The transfer that a call conflicts with.
@@ -89,79 +67,28 @@ pub struct DmaRunEnd {
     pub pc: u32,
 }
 
-impl DmaSegment {
-    /// Returns the range as a segment of the engine.
-    pub fn segment(self) -> Segment
-        ensures { result ≡ segment_of self }
-    {
-        Segment {
-            addr: self.addr,
-            len: self.len,
-        }
+/// Returns how a cookie finished.
+pub fn outcome_of(outcome: Outcome) -> DmaOutcome
+    ensures { result ≡ outcome_of outcome }
+{
+    DmaOutcome {
+        result: number_of_result(outcome.result),
+        residue: outcome.residue,
     }
 }
 
-/// Returns the code of how a cookie finished, and writes the outcome if it is known.
-pub fn told_outcome(answer: Option<Outcome>, outcome: &mut DmaOutcome) -> i32
-    ensures code { result ≡ reply_code (Reply.Result answer) }
-    ensures written { outcome.new ≡ outcome_in (replied (Reply.Result answer)) outcome.old }
+/// Returns the code of an answer without a value, and writes the transfer that a `Busy` or `Running` refusal names.
+pub fn done_unless(answer: Result<(), EngineFault>, conflict: &mut DmaConflict) -> i32
+    ensures code { result ≡ answer_code answer }
+    ensures conflict { conflict.new ≡ conflict_of answer conflict.old }
 {
-    match answer {
-        Some(told) => {
-            *outcome = DmaOutcome {
-                result: number_of_result(told.result),
-                residue: told.residue,
-            };
-            OK
-        }
-        None => NO_RESULT,
+    if let Err(EngineFault::Busy { ch, cookie } | EngineFault::Running { ch, cookie }) = answer {
+        *conflict = DmaConflict {
+            channel: u32::from(ch),
+            cookie,
+        };
     }
-}
-
-/// Writes the transfer that a `Busy` or `Running` refusal names. Other refusals write nothing.
-pub fn name_conflict(fault: EngineFault, conflict: &mut DmaConflict)
-    ensures { conflict.new ≡ conflict_in (replied (Reply.Refused fault)) conflict.old }
-{
-    match fault {
-        EngineFault::Busy { ch, cookie } | EngineFault::Running { ch, cookie } => {
-            *conflict = DmaConflict {
-                channel: u32::from(ch),
-                cookie,
-            };
-        }
-        _ => {}
-    }
-}
-
-/// Returns the code of what runs on a channel, and writes it if anything does.
-pub fn told_run(answer: Option<Running>, run: &mut DmaRun) -> i32
-    ensures code { result ≡ code_of (runs answer) }
-    ensures written { run.new ≡ run_in (runs answer) run.old }
-{
-    match answer {
-        Some(told) => {
-            *run = DmaRun {
-                cookie: told.cookie,
-                stored: told.stored,
-            };
-            OK
-        }
-        None => NOT_RUNNING,
-    }
-}
-
-/// Returns the code of steps, and writes their report unless the first step was refused.
-pub fn told_steps(answer: Result<Taken, EngineFault>, report: &mut DmaReport) -> i32
-    ensures code { result ≡ code_of (steps_answer answer) }
-    ensures written { report.new ≡ report_in (steps_answer answer) report.old }
-{
-    match answer {
-        Ok(steps) => {
-            *report = report_of(steps.count, steps.last);
-            OK
-        }
-        Err(fault) => code_of_fault(fault),
-    }
+    done(answer)
 }
 
 // Returns the report of `taken` steps with this turn number and 0 in all other fields.
@@ -179,43 +106,37 @@ fn did(taken: u32, turn: u32) -> DmaReport
     }
 }
 
-// Returns the report of `taken` steps and of what the last one did, if any.
-fn report_of(taken: u32, last: Option<Turn>) -> DmaReport
-    ensures { result ≡ report_of taken last }
+/// Returns the report of steps.
+pub fn report_of(steps: Taken) -> DmaReport
+    ensures { result ≡ report_of steps.count steps.last }
 {
-    match last {
+    let taken = steps.count;
+    match steps.last {
         None => did(taken, 0),
-        Some(turn) => report_of_turn(taken, turn),
-    }
-}
-
-// Returns the report of `taken` steps, the last of which did `turn`.
-fn report_of_turn(taken: u32, turn: Turn) -> DmaReport
-    ensures { result ≡ report_of taken (Some turn) }
-{
-    match turn {
-        Turn::Started(cookie) => DmaReport {
+        Some(Turn::Started(cookie)) => DmaReport {
             cookie,
             ..did(taken, 1)
         },
-        Turn::Moved => did(taken, 2),
-        Turn::Nothing => did(taken, 3),
-        Turn::Held { ch, cookie } => DmaReport {
+        Some(Turn::Moved) => did(taken, 2),
+        Some(Turn::Nothing) => did(taken, 3),
+        Some(Turn::Held { ch, cookie }) => DmaReport {
             channel: u32::from(ch),
             cookie,
             ..did(taken, 4)
         },
-        Turn::Waiting(event) => DmaReport {
+        Some(Turn::Waiting(event)) => DmaReport {
             event: u32::from(event),
             ..did(taken, 5)
         },
-        Turn::Paused => did(taken, 6),
-        Turn::Halted => did(taken, 7),
-        Turn::Finished {
-            cookie,
-            result: how,
-            residue,
-        } => DmaReport {
+        Some(Turn::Paused) => did(taken, 6),
+        Some(Turn::Halted) => did(taken, 7),
+        Some(
+            Turn::Finished {
+                cookie,
+                result: how,
+                residue,
+            },
+        ) => DmaReport {
             cookie,
             result: number_of_result(how),
             residue,

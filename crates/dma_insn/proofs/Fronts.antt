@@ -8,7 +8,7 @@ use Rattle.dma_insn.specs.declared.codec.DecodeFault.{DecodeFault}
 use Rattle.dma_insn.specs.Spelling.{spelling, HasRanges, IsSpelledAt, IsRefusedFor}
 use Rattle.dma_insn.specs.Decoding.{Decoded, decoded}
 use Rattle.dma_insn.specs.AssemblyText.{joined}
-use Rattle.dma_insn.specs.Disassembly.{AllInRange, insn_text, text_of, AreSpelled, Disassembles, StopsAt, DisassemblyTells}
+use Rattle.dma_insn.specs.Disassembly.{AllInRange, insn_text, text_of, AreSpelled, Disassembles, StopsAt, DisassemblyReports}
 use Rattle.dma_insn.proofs.Laws.{IsBytes, Right, one_front, spelling_some, spelled_within, decoded_right, none_spelled}
 use Rattle.dma_insn.proofs.Texts.{disassembles}
 use Rattle.dma_insn.proofs.OneText.{one_way}
@@ -230,8 +230,8 @@ told : (bytes : List ℕ) → AreSpelled bytes ⊎ BreaksOff bytes → ((text : 
 told bytes (inl s) = inl (has_text bytes s)
 told bytes (inr b) = inr (length (joined b.insns), b.fault, breaks_stops bytes b)
 
-pub disassembly_tells : DisassemblyTells
-disassembly_tells = record {
+pub disassembly_reports : DisassemblyReports
+disassembly_reports = record {
   one = λ bytes are. told bytes (cut (length bytes) bytes (omega arith) are);
   not_both = λ bytes text offset fault d s. stops_none bytes text offset fault s d;
   one_text = λ bytes text other p q. same_text_of bytes text other p q;

@@ -10,13 +10,11 @@ use Rattle.dma_insn.specs.declared.insn.Reg.TheVariants.{Sar, Ccr, Dar}
 use Rattle.dma_insn.specs.declared.insn.Counter.{Counter}
 use Rattle.dma_insn.specs.declared.insn.Insn.{Insn}
 use Rattle.dma_insn.specs.declared.insn.Insn.TheVariants.{Ld, St, Rmb, Wmb, Nop, End, Lp, LpEnd, Sev, Wfe}
-use Rattle.dma_insn.specs.declared.line.Name.{Name}
-use Rattle.dma_insn.specs.declared.line.Name.TheVariants as n
 use Rattle.dma_insn.specs.declared.assembler.Cause.{Cause}
 use Rattle.dma_insn.specs.declared.assembler.Cause.TheVariants.{Mnemonic, Operand, Range}
 use Rattle.dma_insn.specs.AssemblyText.{Statement, dmaend, dmald, dmast, dmarmb, dmawmb, dmanop, dmalp, dmalpend, dmasev, dmawfe, dmamov, IsDecimal, IsWritten, insn_of, counter_of, register_word, value_word, names, first_of}
 use Rattle.std.specs.List.{list_any}
-use Rattle.dma_insn.specs.LineReading.{◌>>=◌, capped, number_of, value_of, register_of, counter_at, times_at, back_at, event_at, loop_line, loop_end_line, signal_line, wait_line, set_line, bare_line, line_by, line_in}
+use Rattle.dma_insn.specs.LineReading.{◌>>=◌, capped, number_of, value_of, register_of, counter_at, times_at, back_at, event_at, loop_line, loop_end_line, signal_line, wait_line, set_line, bare_line, line_in}
 use Rattle.dma_insn.proofs.Numbers.{number_of_reads, number_of_decimal, value_of_reads, value_of_word}
 
 -- the ranges treat a number above 65,535 as 65,535
@@ -111,86 +109,86 @@ line_in_written words (dmawfe e true) h = ap line_in h.words_are ∙ wait_invali
 line_in_written words (dmamov r v) h = ap line_in h.words_are ∙ set_read r v h.in_range
 
 -- What the result of reading a line's words says about them.
-abbrev pub IsTold : List (List ℕ) → Result Insn Cause → Type 0
-IsTold words (Ok i) = (s : Statement) × IsWritten words s × (insn_of s ≡ Some i)
-IsTold words (Err Mnemonic) = list_any (λ name. bytes_eq (first_of words) name) names ≡ false
-IsTold words (Err Operand) = list_any (λ name. bytes_eq (first_of words) name) names ≡ true
-IsTold words (Err Range) = (s : Statement) × IsWritten words s × (insn_of s ≡ None)
+abbrev pub IsReported : List (List ℕ) → Result Insn Cause → Type 0
+IsReported words (Ok i) = (s : Statement) × IsWritten words s × (insn_of s ≡ Some i)
+IsReported words (Err Mnemonic) = list_any (λ name. bytes_eq (first_of words) name) names ≡ false
+IsReported words (Err Operand) = list_any (λ name. bytes_eq (first_of words) name) names ≡ true
+IsReported words (Err Range) = (s : Statement) × IsWritten words s × (insn_of s ≡ None)
 
-told_insn : (words : List (List ℕ)) (s : Statement) (o : Option Insn) → insn_of s ≡ o → IsWritten words s → IsTold words (ok_or o Range)
-told_insn words s None e h = (s, h, e)
-told_insn words s (Some i) e h = (s, h, e)
+reported_insn : (words : List (List ℕ)) (s : Statement) (o : Option Insn) → insn_of s ≡ o → IsWritten words s → IsReported words (ok_or o Range)
+reported_insn words s None e h = (s, h, e)
+reported_insn words s (Some i) e h = (s, h, e)
 
 -- words that are read as a statement's
-told_written : (words : List (List ℕ)) (s : Statement) (r : Result Insn Cause) → IsWritten words s → r ≡ ok_or (insn_of s) Range → IsTold words r
-told_written words s r h e = subst (IsTold words) (sym e) (told_insn words s (insn_of s) refl h)
+reported_written : (words : List (List ℕ)) (s : Statement) (r : Result Insn Cause) → IsWritten words s → r ≡ ok_or (insn_of s) Range → IsReported words r
+reported_written words s r h e = subst (IsReported words) (sym e) (reported_insn words s (insn_of s) refl h)
 
-bare_told : (name : List ℕ) (i : Insn) (words : List (List ℕ)) → list_any (λ x. bytes_eq name x) names ≡ true → IsTold (name ∷ []) (Ok i) → IsTold (name ∷ words) (bare_line i words)
-bare_told name i [] known h = h
-bare_told name i (a ∷ rest) known h = known
+bare_reported : (name : List ℕ) (i : Insn) (words : List (List ℕ)) → list_any (λ x. bytes_eq name x) names ≡ true → IsReported (name ∷ []) (Ok i) → IsReported (name ∷ words) (bare_line i words)
+bare_reported name i [] known h = h
+bare_reported name i (a ∷ rest) known h = known
 
-loop_told_by : (a b : List ℕ) (x y : Option ℕ) → number_of a ≡ x → number_of b ≡ y → IsTold (codes "DMALP" ∷ a ∷ b ∷ []) (loop_line (a ∷ b ∷ []))
-loop_told_by a b None y p q = rw p refl
-loop_told_by a b (Some k) None p q = rw (p, q) refl
-loop_told_by a b (Some k) (Some l) p q =
+loop_reported_by : (a b : List ℕ) (x y : Option ℕ) → number_of a ≡ x → number_of b ≡ y → IsReported (codes "DMALP" ∷ a ∷ b ∷ []) (loop_line (a ∷ b ∷ []))
+loop_reported_by a b None y p q = rw p refl
+loop_reported_by a b (Some k) None p q = rw (p, q) refl
+loop_reported_by a b (Some k) (Some l) p q =
     let f = number_of_reads a k p in
     let g = number_of_reads b l q in
-    told_written (codes "DMALP" ∷ a ∷ b ∷ []) (dmalp f.number g.number) _ (record { first = a; second = b; words_are = refl; first_number = f.is_decimal; second_number = g.is_decimal }) (loop_read a b f.number g.number f.is_decimal g.is_decimal)
+    reported_written (codes "DMALP" ∷ a ∷ b ∷ []) (dmalp f.number g.number) _ (record { first = a; second = b; words_are = refl; first_number = f.is_decimal; second_number = g.is_decimal }) (loop_read a b f.number g.number f.is_decimal g.is_decimal)
 
-loop_told : (words : List (List ℕ)) → IsTold (codes "DMALP" ∷ words) (loop_line words)
-loop_told [] = refl
-loop_told (a ∷ []) = refl
-loop_told (a ∷ b ∷ []) = loop_told_by a b (number_of a) (number_of b) refl refl
-loop_told (a ∷ b ∷ c ∷ rest) = refl
+loop_reported : (words : List (List ℕ)) → IsReported (codes "DMALP" ∷ words) (loop_line words)
+loop_reported [] = refl
+loop_reported (a ∷ []) = refl
+loop_reported (a ∷ b ∷ []) = loop_reported_by a b (number_of a) (number_of b) refl refl
+loop_reported (a ∷ b ∷ c ∷ rest) = refl
 
-loop_end_told_by : (a b : List ℕ) (x y : Option ℕ) → number_of a ≡ x → number_of b ≡ y → IsTold (codes "DMALPEND" ∷ a ∷ b ∷ []) (loop_end_line (a ∷ b ∷ []))
-loop_end_told_by a b None y p q = rw p refl
-loop_end_told_by a b (Some k) None p q = rw (p, q) refl
-loop_end_told_by a b (Some k) (Some l) p q =
+loop_end_reported_by : (a b : List ℕ) (x y : Option ℕ) → number_of a ≡ x → number_of b ≡ y → IsReported (codes "DMALPEND" ∷ a ∷ b ∷ []) (loop_end_line (a ∷ b ∷ []))
+loop_end_reported_by a b None y p q = rw p refl
+loop_end_reported_by a b (Some k) None p q = rw (p, q) refl
+loop_end_reported_by a b (Some k) (Some l) p q =
     let f = number_of_reads a k p in
     let g = number_of_reads b l q in
-    told_written (codes "DMALPEND" ∷ a ∷ b ∷ []) (dmalpend f.number g.number) _ (record { first = a; second = b; words_are = refl; first_number = f.is_decimal; second_number = g.is_decimal }) (loop_end_read a b f.number g.number f.is_decimal g.is_decimal)
+    reported_written (codes "DMALPEND" ∷ a ∷ b ∷ []) (dmalpend f.number g.number) _ (record { first = a; second = b; words_are = refl; first_number = f.is_decimal; second_number = g.is_decimal }) (loop_end_read a b f.number g.number f.is_decimal g.is_decimal)
 
-loop_end_told : (words : List (List ℕ)) → IsTold (codes "DMALPEND" ∷ words) (loop_end_line words)
-loop_end_told [] = refl
-loop_end_told (a ∷ []) = refl
-loop_end_told (a ∷ b ∷ []) = loop_end_told_by a b (number_of a) (number_of b) refl refl
-loop_end_told (a ∷ b ∷ c ∷ rest) = refl
+loop_end_reported : (words : List (List ℕ)) → IsReported (codes "DMALPEND" ∷ words) (loop_end_line words)
+loop_end_reported [] = refl
+loop_end_reported (a ∷ []) = refl
+loop_end_reported (a ∷ b ∷ []) = loop_end_reported_by a b (number_of a) (number_of b) refl refl
+loop_end_reported (a ∷ b ∷ c ∷ rest) = refl
 
-signal_told_by : (a : List ℕ) (x : Option ℕ) → number_of a ≡ x → IsTold (codes "DMASEV" ∷ a ∷ []) (signal_line (a ∷ []))
-signal_told_by a None p = rw p refl
-signal_told_by a (Some k) p =
+signal_reported_by : (a : List ℕ) (x : Option ℕ) → number_of a ≡ x → IsReported (codes "DMASEV" ∷ a ∷ []) (signal_line (a ∷ []))
+signal_reported_by a None p = rw p refl
+signal_reported_by a (Some k) p =
     let f = number_of_reads a k p in
-    told_written (codes "DMASEV" ∷ a ∷ []) (dmasev f.number) _ (record { word = a; words_are = refl; number = f.is_decimal }) (signal_read a f.number f.is_decimal)
+    reported_written (codes "DMASEV" ∷ a ∷ []) (dmasev f.number) _ (record { word = a; words_are = refl; number = f.is_decimal }) (signal_read a f.number f.is_decimal)
 
-signal_told : (words : List (List ℕ)) → IsTold (codes "DMASEV" ∷ words) (signal_line words)
-signal_told [] = refl
-signal_told (a ∷ []) = signal_told_by a (number_of a) refl
-signal_told (a ∷ b ∷ rest) = refl
+signal_reported : (words : List (List ℕ)) → IsReported (codes "DMASEV" ∷ words) (signal_line words)
+signal_reported [] = refl
+signal_reported (a ∷ []) = signal_reported_by a (number_of a) refl
+signal_reported (a ∷ b ∷ rest) = refl
 
-wait_told_by : (a : List ℕ) (x : Option ℕ) → number_of a ≡ x → IsTold (codes "DMAWFE" ∷ a ∷ []) (wait_line (a ∷ []))
-wait_told_by a None p = rw p refl
-wait_told_by a (Some k) p =
+wait_reported_by : (a : List ℕ) (x : Option ℕ) → number_of a ≡ x → IsReported (codes "DMAWFE" ∷ a ∷ []) (wait_line (a ∷ []))
+wait_reported_by a None p = rw p refl
+wait_reported_by a (Some k) p =
     let f = number_of_reads a k p in
-    told_written (codes "DMAWFE" ∷ a ∷ []) (dmawfe f.number false) _ (record { word = a; words_are = refl; number = f.is_decimal }) (wait_read a f.number f.is_decimal)
+    reported_written (codes "DMAWFE" ∷ a ∷ []) (dmawfe f.number false) _ (record { word = a; words_are = refl; number = f.is_decimal }) (wait_read a f.number f.is_decimal)
 
-wait_invalid_told : (a : List ℕ) (x : Option ℕ) → number_of a ≡ x → IsTold (codes "DMAWFE" ∷ a ∷ codes "invalid" ∷ []) (wait_line (a ∷ codes "invalid" ∷ []))
-wait_invalid_told a None p = rw p refl
-wait_invalid_told a (Some k) p =
+wait_invalid_reported : (a : List ℕ) (x : Option ℕ) → number_of a ≡ x → IsReported (codes "DMAWFE" ∷ a ∷ codes "invalid" ∷ []) (wait_line (a ∷ codes "invalid" ∷ []))
+wait_invalid_reported a None p = rw p refl
+wait_invalid_reported a (Some k) p =
     let f = number_of_reads a k p in
-    told_written (codes "DMAWFE" ∷ a ∷ codes "invalid" ∷ []) (dmawfe f.number true) _ (record { word = a; words_are = refl; number = f.is_decimal }) (wait_invalid_read a f.number f.is_decimal)
+    reported_written (codes "DMAWFE" ∷ a ∷ codes "invalid" ∷ []) (dmawfe f.number true) _ (record { word = a; words_are = refl; number = f.is_decimal }) (wait_invalid_read a f.number f.is_decimal)
 
-wait_two_told : (a b : List ℕ) (t : Bool) → bytes_eq b (codes "invalid") ≡ t → IsTold (codes "DMAWFE" ∷ a ∷ b ∷ []) (wait_line (a ∷ b ∷ []))
-wait_two_told a b true e =
+wait_two_reported : (a b : List ℕ) (t : Bool) → bytes_eq b (codes "invalid") ≡ t → IsReported (codes "DMAWFE" ∷ a ∷ b ∷ []) (wait_line (a ∷ b ∷ []))
+wait_two_reported a b true e =
     let same : b ≡ codes "invalid" = same_text b (codes "invalid") (sym e) in
-    subst (λ (w : List ℕ). IsTold (codes "DMAWFE" ∷ a ∷ w ∷ []) (wait_line (a ∷ w ∷ []))) (sym same) (wait_invalid_told a (number_of a) refl)
-wait_two_told a b false e = rw e refl
+    subst (λ (w : List ℕ). IsReported (codes "DMAWFE" ∷ a ∷ w ∷ []) (wait_line (a ∷ w ∷ []))) (sym same) (wait_invalid_reported a (number_of a) refl)
+wait_two_reported a b false e = rw e refl
 
-wait_told : (words : List (List ℕ)) → IsTold (codes "DMAWFE" ∷ words) (wait_line words)
-wait_told [] = refl
-wait_told (a ∷ []) = wait_told_by a (number_of a) refl
-wait_told (a ∷ b ∷ []) = wait_two_told a b (bytes_eq b (codes "invalid")) refl
-wait_told (a ∷ b ∷ c ∷ rest) = refl
+wait_reported : (words : List (List ℕ)) → IsReported (codes "DMAWFE" ∷ words) (wait_line words)
+wait_reported [] = refl
+wait_reported (a ∷ []) = wait_reported_by a (number_of a) refl
+wait_reported (a ∷ b ∷ []) = wait_two_reported a b (bytes_eq b (codes "invalid")) refl
+wait_reported (a ∷ b ∷ c ∷ rest) = refl
 
 register_same : (a b : Reg) → Some a ≡ Some b → a ≡ b
 register_same a b e = cc
@@ -206,44 +204,41 @@ register_is word r false true z p q s e = same_text word (codes "CCR") (sym q) �
 register_is word r false false true p q s e = same_text word (codes "DAR") (sym s) ∙ ap register_word (register_same Dar r e)
 register_is word r false false false p q s e = absurd (no_register r e)
 
-set_told_by : (a b : List ℕ) (x : Option Reg) (y : Option ℕ) → register_of a ≡ x → value_of b ≡ y → IsTold (codes "DMAMOV" ∷ a ∷ b ∷ []) (set_line (a ∷ b ∷ []))
-set_told_by a b None y p q = rw p refl
-set_told_by a b (Some r) None p q = rw (p, q) refl
-set_told_by a b (Some r) (Some v) p q =
+set_reported_by : (a b : List ℕ) (x : Option Reg) (y : Option ℕ) → register_of a ≡ x → value_of b ≡ y → IsReported (codes "DMAMOV" ∷ a ∷ b ∷ []) (set_line (a ∷ b ∷ []))
+set_reported_by a b None y p q = rw p refl
+set_reported_by a b (Some r) None p q = rw (p, q) refl
+set_reported_by a b (Some r) (Some v) p q =
     let f : a ≡ register_word r = register_is a r (bytes_eq a (codes "SAR")) (bytes_eq a (codes "CCR")) (bytes_eq a (codes "DAR")) refl refl refl p in
     let g = value_of_reads b v q in
     let words : (codes "DMAMOV" ∷ a ∷ b ∷ []) ≡ codes "DMAMOV" ∷ register_word r ∷ value_word v ∷ [] = rw (f, g.word_is) refl in
-    told_written (codes "DMAMOV" ∷ a ∷ b ∷ []) (dmamov r v) _ (record { words_are = words; in_range = g.small }) (rw (p, q) refl)
+    reported_written (codes "DMAMOV" ∷ a ∷ b ∷ []) (dmamov r v) _ (record { words_are = words; in_range = g.small }) (rw (p, q) refl)
 
-set_told : (words : List (List ℕ)) → IsTold (codes "DMAMOV" ∷ words) (set_line words)
-set_told [] = refl
-set_told (a ∷ []) = refl
-set_told (a ∷ b ∷ []) = set_told_by a b (register_of a) (value_of b) refl refl
-set_told (a ∷ b ∷ c ∷ rest) = refl
-
-abbrev by_option : Option Name → List (List ℕ) → Result Insn Cause
-by_option o words = ok_or o Mnemonic >>= λ name. line_by name words
+set_reported : (words : List (List ℕ)) → IsReported (codes "DMAMOV" ∷ words) (set_line words)
+set_reported [] = refl
+set_reported (a ∷ []) = refl
+set_reported (a ∷ b ∷ []) = set_reported_by a b (register_of a) (value_of b) refl refl
+set_reported (a ∷ b ∷ c ∷ rest) = refl
 
 -- one test of the chain of names
-name_step : (word : List ℕ) (words : List (List ℕ)) (name : List ℕ) (x : Name) (rest : Option Name) (b : Bool) → bytes_eq word name ≡ b
-    → IsTold (name ∷ words) (line_by x words) → (b ≡ false → IsTold (word ∷ words) (by_option rest words)) → IsTold (word ∷ words) (by_option (cond b (Some x) rest) words)
-name_step word words name x rest true e h more =
-    subst (λ (w : List ℕ). IsTold (w ∷ words) (line_by x words)) (sym (same_text word name (sym e))) h
-name_step word words name x rest false e h more = more refl
+name_step : (word : List ℕ) (words : List (List ℕ)) (name : List ℕ) (here rest : Result Insn Cause) (b : Bool) → bytes_eq word name ≡ b
+    → IsReported (name ∷ words) here → (b ≡ false → IsReported (word ∷ words) rest) → IsReported (word ∷ words) (cond b here rest)
+name_step word words name here rest true e h more =
+    subst (λ (w : List ℕ). IsReported (w ∷ words) here) (sym (same_text word name (sym e))) h
+name_step word words name here rest false e h more = more refl
 
-pub line_in_told : (words : List (List ℕ)) → IsTold words (line_in words)
+pub line_in_reported : (words : List (List ℕ)) → IsReported words (line_in words)
 unfolding line_in
-line_in_told [] = refl
-line_in_told (word ∷ words) =
-    name_step word words (codes "DMAEND") n.End _ _ refl (bare_told (codes "DMAEND") End words refl (dmaend, refl, refl)) (λ n0.
-    name_step word words (codes "DMALD") n.Ld _ _ refl (bare_told (codes "DMALD") Ld words refl (dmald, refl, refl)) (λ n1.
-    name_step word words (codes "DMAST") n.St _ _ refl (bare_told (codes "DMAST") St words refl (dmast, refl, refl)) (λ n2.
-    name_step word words (codes "DMARMB") n.Rmb _ _ refl (bare_told (codes "DMARMB") Rmb words refl (dmarmb, refl, refl)) (λ n3.
-    name_step word words (codes "DMAWMB") n.Wmb _ _ refl (bare_told (codes "DMAWMB") Wmb words refl (dmawmb, refl, refl)) (λ n4.
-    name_step word words (codes "DMANOP") n.Nop _ _ refl (bare_told (codes "DMANOP") Nop words refl (dmanop, refl, refl)) (λ n5.
-    name_step word words (codes "DMALP") n.Lp _ _ refl (loop_told words) (λ n6.
-    name_step word words (codes "DMALPEND") n.LpEnd _ _ refl (loop_end_told words) (λ n7.
-    name_step word words (codes "DMASEV") n.Sev _ _ refl (signal_told words) (λ n8.
-    name_step word words (codes "DMAWFE") n.Wfe _ _ refl (wait_told words) (λ n9.
-    name_step word words (codes "DMAMOV") n.Mov _ _ refl (set_told words) (λ n10.
+line_in_reported [] = refl
+line_in_reported (word ∷ words) =
+    name_step word words (codes "DMAEND") _ _ _ refl (bare_reported (codes "DMAEND") End words refl (dmaend, refl, refl)) (λ n0.
+    name_step word words (codes "DMALD") _ _ _ refl (bare_reported (codes "DMALD") Ld words refl (dmald, refl, refl)) (λ n1.
+    name_step word words (codes "DMAST") _ _ _ refl (bare_reported (codes "DMAST") St words refl (dmast, refl, refl)) (λ n2.
+    name_step word words (codes "DMARMB") _ _ _ refl (bare_reported (codes "DMARMB") Rmb words refl (dmarmb, refl, refl)) (λ n3.
+    name_step word words (codes "DMAWMB") _ _ _ refl (bare_reported (codes "DMAWMB") Wmb words refl (dmawmb, refl, refl)) (λ n4.
+    name_step word words (codes "DMANOP") _ _ _ refl (bare_reported (codes "DMANOP") Nop words refl (dmanop, refl, refl)) (λ n5.
+    name_step word words (codes "DMALP") _ _ _ refl (loop_reported words) (λ n6.
+    name_step word words (codes "DMALPEND") _ _ _ refl (loop_end_reported words) (λ n7.
+    name_step word words (codes "DMASEV") _ _ _ refl (signal_reported words) (λ n8.
+    name_step word words (codes "DMAWFE") _ _ _ refl (wait_reported words) (λ n9.
+    name_step word words (codes "DMAMOV") _ _ _ refl (set_reported words) (λ n10.
     rw (n0, n1, n2, n3, n4, n5, n6, n7, n8, n9, n10) refl)))))))))))

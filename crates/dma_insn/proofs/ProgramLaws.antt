@@ -12,8 +12,8 @@ use Rattle.dma_insn.specs.declared.assembler.Cause.TheVariants.{Mnemonic, Operan
 use Rattle.dma_insn.specs.declared.assembler.AsmFault.{AsmFault}
 use Rattle.dma_insn.specs.declared.assembler.AsmFault.TheVariants.{Line, ProgramTooLong, NoMemory}
 use Rattle.dma_insn.specs.AssemblyText.{text_lines, words_of, is_skipped, Statement, dmaend, dmald, dmast, dmarmb, dmawmb, dmanop, dmalp, dmalpend, dmasev, dmawfe, dmamov, IsWritten, insn_of, names, first_of, Writes, IsCause, HasCause, WritesFirst, WriteAll, joined, most_bytes, Assembles, StandsAt, IsFirstFault}
-use Rattle.dma_insn.specs.LineReading.{◌>>=◌, at_line, with_insn, line_in, after_line, after_lines, assembled, ReadingTells, AnswersAs}
-use Rattle.dma_insn.proofs.LineLaws.{IsTold, line_in_told, line_in_written}
+use Rattle.dma_insn.specs.LineReading.{◌>>=◌, at_line, with_insn, line_in, after_line, after_lines, assembled, ReadingReports, AnswersAs}
+use Rattle.dma_insn.proofs.LineLaws.{IsReported, line_in_reported, line_in_written}
 
 insn_err : (i : Insn) (cause : Cause) (r : Result Insn Cause) → r ≡ Ok i → r ≡ Err cause → ⊥
 insn_err i cause r p q = cc
@@ -26,17 +26,17 @@ not_operand None e = range_operand (Err Range) refl e
 not_operand (Some i) e = insn_err i Operand (Ok i) refl e
 
 -- What the result of reading a line's words says about the line.
-cause_told : (line : List ℕ) (cause : Cause) → line_in (words_of line) ≡ Err cause → IsTold (words_of line) (Err cause) → IsCause line cause
-cause_told line Mnemonic e told = told
-cause_told line Operand e told = (told, λ s written. not_operand (insn_of s) (sym (line_in_written (words_of line) s written) ∙ e))
-cause_told line Range e told = told
+cause_reported : (line : List ℕ) (cause : Cause) → line_in (words_of line) ≡ Err cause → IsReported (words_of line) (Err cause) → IsCause line cause
+cause_reported line Mnemonic e told = told
+cause_reported line Operand e told = (told, λ s written. not_operand (insn_of s) (sym (line_in_written (words_of line) s written) ∙ e))
+cause_reported line Range e told = told
 
 cause_of : (line : List ℕ) (cause : Cause) → line_in (words_of line) ≡ Err cause → IsCause line cause
-cause_of line cause e = cause_told line cause e (subst (IsTold (words_of line)) e (line_in_told (words_of line)))
+cause_of line cause e = cause_reported line cause e (subst (IsReported (words_of line)) e (line_in_reported (words_of line)))
 
 written_by : (line : List ℕ) (i : Insn) → is_skipped line ≡ false → line_in (words_of line) ≡ Ok i → Writes line i
 written_by line i taken e =
-    let told : IsTold (words_of line) (Ok i) = subst (IsTold (words_of line)) e (line_in_told (words_of line)) in
+    let told : IsReported (words_of line) (Ok i) = subst (IsReported (words_of line)) e (line_in_reported (words_of line)) in
     record { taken = taken; statement = told.0; words_are = told.1; insn_is = told.2 }
 
 writes_read : (line : List ℕ) (i : Insn) → Writes line i → line_in (words_of line) ≡ Ok i
@@ -307,7 +307,7 @@ written_name words (dmawfe e true) h = rw h.words_are refl
 written_name words (dmamov r v) h = rw h.words_are refl
 
 -- What a line with a cause is read as.
-cause_by : (line : List ℕ) (cause : Cause) (r : Result Insn Cause) → line_in (words_of line) ≡ r → IsTold (words_of line) r → IsCause line cause → r ≡ Err cause
+cause_by : (line : List ℕ) (cause : Cause) (r : Result Insn Cause) → line_in (words_of line) ≡ r → IsReported (words_of line) r → IsCause line cause → r ≡ Err cause
 cause_by line Mnemonic (Ok i) e told h = absurd (false≢true (sym h ∙ written_name (words_of line) told.0 told.1))
 cause_by line Mnemonic (Err Mnemonic) e told h = refl
 cause_by line Mnemonic (Err Operand) e told h = absurd (false≢true (sym h ∙ told))
@@ -319,7 +319,7 @@ cause_by line Operand (Err Range) e told h = absurd (h.1 told.0 told.1)
 cause_by line Range r e told h = sym e ∙ line_in_written (words_of line) h.0 h.1 ∙ ap (λ (o : Option Insn). ok_or o Range) h.2
 
 cause_read : (line : List ℕ) (cause : Cause) → IsCause line cause → line_in (words_of line) ≡ Err cause
-cause_read line cause h = cause_by line cause (line_in (words_of line)) refl (line_in_told (words_of line)) h
+cause_read line cause h = cause_by line cause (line_in (words_of line)) refl (line_in_reported (words_of line)) h
 
 -- The lines before a place are read as what they write.
 read_before : (text line : List ℕ) (n : ℕ) (insns : List Insn) (at : StandsAt text line n insns) → assembled text ≡ after_lines (length at.before) (joined insns) (line ∷ at.after)
@@ -346,8 +346,8 @@ no_memory_never text fault e is =
     let bad : Outcome 0 [] (text_lines text) (Err NoMemory) = subst (Outcome 0 [] (text_lines text)) (e ∙ ap Err is) (outcome (text_lines text) 0 [] (omega arith)) in
     bad
 
-pub reading_tells : ReadingTells
-reading_tells = record {
+pub reading_reports : ReadingReports
+reading_reports = record {
   program = λ text bytes. (λ e. assembled_ok text bytes e, λ a. assembled_again text bytes a);
   fault = λ text fault. (λ e. (no_memory_never text fault e, assembled_err text fault e), λ h. fault_read text fault h.0 h.1);
 }

@@ -37,9 +37,13 @@ insn_text (Wfe e false) = concat (codes "DMAWFE " ∷ decimal e ∷ [])
 insn_text (Wfe e true) = concat (codes "DMAWFE " ∷ decimal e ∷ codes " invalid" ∷ [])
 insn_text (Mov r v) = concat (codes "DMAMOV " ∷ register_word r ∷ codes " " ∷ value_word v ∷ [])
 
+-- the line of an instruction, which a line feed ends
+abbrev pub line_of : Insn → List ℕ
+line_of i = insn_text i ++ 10 ∷ []
+
 -- the text of a program: a line for each instruction, each ended by a line feed, and no other line
 abbrev pub text_of : List Insn → List ℕ
-text_of is = flat_map (λ i. insn_text i ++ 10 ∷ []) is
+text_of is = flat_map (λ i. line_of i) is
 
 -- The bytes are the joined encodings of some instructions in range.
 pub record AreSpelled (bytes : List ℕ) : Type 0 where
@@ -88,7 +92,7 @@ DisassemblyAssembles =
 -- Each list of bytes has a text, or an offset at which no instruction begins, right after the longest front of encoded
 -- instructions; no list has both, or two texts. A text whose lines write instructions in range, with no line skipped
 -- and each ended by a line feed, is `text_of` these instructions.
-pub record DisassemblyTells : Type 0 where
+pub record DisassemblyReports : Type 0 where
   pub one : (bytes : List ℕ) → ((i : ℕ) → slice_index bytes i < 256)
       → ((text : List ℕ) × Disassembles bytes text) ⊎ ((offset : ℕ) × (fault : DecodeFault) × StopsAt bytes offset fault)
   pub not_both : (bytes text : List ℕ) (offset : ℕ) (fault : DecodeFault) → Disassembles bytes text

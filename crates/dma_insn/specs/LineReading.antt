@@ -1,17 +1,15 @@
 -- Reading assembly text, as functions of the bytes. `AssemblyText` defines the meaning of a text; the law
--- `ReadingTells` is that `assembled` agrees with it on every text.
+-- `ReadingReports` is that `assembled` agrees with it on every text.
 use Rattle.std.specs.Prelude.{◌≡◌, ◌≢◌, ◌↔◌, ℕ, ◌+◌, ◌-◌, ◌*◌, Bool, true, false, ◌==◌, ◌&&◌, if◌then◌else◌, List, [], ◌∷◌, ◌++◌, length, Option, Some, None, Result, Ok, Err, IsOk, ◌⊎◌, codes, nat_le, min}
 use Rattle.std.specs.Option.{option_and_then, ok_or}
 use Rattle.std.specs.Str.{bytes_eq}
 use Rattle.dma_insn.specs.Spelling.{spelling}
-use Rattle.dma_insn.specs.AssemblyText.{words_of, text_lines, is_skipped, counter_of, Assembles, IsFirstFault}
+use Rattle.dma_insn.specs.AssemblyText.{words_of, text_lines, is_skipped, counter_of, most_bytes, Assembles, IsFirstFault}
 use Rattle.dma_insn.specs.declared.insn.Reg.{Reg}
 use Rattle.dma_insn.specs.declared.insn.Reg.TheVariants.{Sar, Ccr, Dar}
 use Rattle.dma_insn.specs.declared.insn.Counter.{Counter}
 use Rattle.dma_insn.specs.declared.insn.Insn.{Insn}
 use Rattle.dma_insn.specs.declared.insn.Insn.TheVariants.{Mov, Ld, St, Rmb, Wmb, Nop, End, Lp, LpEnd, Sev, Wfe}
-use Rattle.dma_insn.specs.declared.line.Name.{Name}
-use Rattle.dma_insn.specs.declared.line.Name.TheVariants as names
 use Rattle.dma_insn.specs.declared.assembler.Cause.{Cause}
 use Rattle.dma_insn.specs.declared.assembler.Cause.TheVariants.{Mnemonic, Operand, Range}
 use Rattle.dma_insn.specs.declared.assembler.AsmFault.{AsmFault}
@@ -24,9 +22,9 @@ abbrev pub ◌>>=◌ : {A B E : Type 0} → Result A E → (A → Result B E) �
 (Err e) >>= f = Err e
 
 -- The result that a function returned, with `view` applied to a value, equals `read`.
-abbrev pub SeenAs : {X Y : Type 0} → (X → Y) → Result X Cause → Result Y Cause → Type 0
+abbrev pub SeenAs : {X Y E : Type 0} → (X → Y) → Result X E → Result Y E → Type 0
 SeenAs view (Ok x) read = read ≡ Ok (view x)
-SeenAs view (Err cause) read = read ≡ Err cause
+SeenAs view (Err fault) read = read ≡ Err fault
 
 -- the words after a word, given the rest of the line: none if it is empty, else those after its first byte, a space
 abbrev pub words_after : List ℕ → List (List ℕ)
@@ -183,41 +181,25 @@ bare_line i words = do
   done ← no_word words
   Ok i
 
--- the instruction name that a word spells
-abbrev pub name_of : List ℕ → Option Name
-name_of word =
-    if bytes_eq word (codes "DMAEND") then Some names.End else (
-    if bytes_eq word (codes "DMALD") then Some names.Ld else (
-    if bytes_eq word (codes "DMAST") then Some names.St else (
-    if bytes_eq word (codes "DMARMB") then Some names.Rmb else (
-    if bytes_eq word (codes "DMAWMB") then Some names.Wmb else (
-    if bytes_eq word (codes "DMANOP") then Some names.Nop else (
-    if bytes_eq word (codes "DMALP") then Some names.Lp else (
-    if bytes_eq word (codes "DMALPEND") then Some names.LpEnd else (
-    if bytes_eq word (codes "DMASEV") then Some names.Sev else (
-    if bytes_eq word (codes "DMAWFE") then Some names.Wfe else (
-    if bytes_eq word (codes "DMAMOV") then Some names.Mov else None))))))))))
-
 -- the instruction of a name and the words after it, or the first cause that applies
-abbrev pub line_by : Name → List (List ℕ) → Result Insn Cause
-line_by names.End words = bare_line End words
-line_by names.Ld words = bare_line Ld words
-line_by names.St words = bare_line St words
-line_by names.Rmb words = bare_line Rmb words
-line_by names.Wmb words = bare_line Wmb words
-line_by names.Nop words = bare_line Nop words
-line_by names.Lp words = loop_line words
-line_by names.LpEnd words = loop_end_line words
-line_by names.Sev words = signal_line words
-line_by names.Wfe words = wait_line words
-line_by names.Mov words = set_line words
+abbrev pub line_by : List ℕ → List (List ℕ) → Result Insn Cause
+line_by name words =
+    if bytes_eq name (codes "DMAEND") then bare_line End words else (
+    if bytes_eq name (codes "DMALD") then bare_line Ld words else (
+    if bytes_eq name (codes "DMAST") then bare_line St words else (
+    if bytes_eq name (codes "DMARMB") then bare_line Rmb words else (
+    if bytes_eq name (codes "DMAWMB") then bare_line Wmb words else (
+    if bytes_eq name (codes "DMANOP") then bare_line Nop words else (
+    if bytes_eq name (codes "DMALP") then loop_line words else (
+    if bytes_eq name (codes "DMALPEND") then loop_end_line words else (
+    if bytes_eq name (codes "DMASEV") then signal_line words else (
+    if bytes_eq name (codes "DMAWFE") then wait_line words else (
+    if bytes_eq name (codes "DMAMOV") then set_line words else Err Mnemonic))))))))))
 
 -- the instruction of a line, by its words, or the first cause that applies
 unfoldable pub line_in : List (List ℕ) → Result Insn Cause
 line_in [] = Err Mnemonic
-line_in (word ∷ words) = do
-  name ← ok_or (name_of word) Mnemonic
-  line_by name words
+line_in (name ∷ words) = line_by name words
 
 -- the result of line n, with the line's number added to a cause
 abbrev pub at_line : {A : Type 0} → ℕ → Result A Cause → Result A AsmFault
@@ -227,7 +209,7 @@ at_line n (Err cause) = Err (Line n cause)
 -- the bytes of a program with one more instruction, of line n; `ProgramTooLong` if they are more than 8,192
 abbrev pub with_insn : ℕ → List ℕ → Insn → Result (List ℕ) AsmFault
 with_insn n program i =
-    if nat_le (length program + length (spelling i)) 8192 then Ok (program ++ spelling i) else Err (ProgramTooLong n)
+    if nat_le (length program + length (spelling i)) most_bytes then Ok (program ++ spelling i) else Err (ProgramTooLong n)
 
 -- the bytes of a program after line n, or the fault of the line; a skipped line adds nothing
 unfoldable pub after_line : ℕ → List ℕ → List ℕ → Result (List ℕ) AsmFault
@@ -247,7 +229,7 @@ assembled text = after_lines 0 [] (text_lines text)
 
 -- For every text, `assembled` gives bytes exactly if the text assembles to them, and a fault exactly if it is the
 -- text's first fault and is not `NoMemory`.
-pub record ReadingTells : Type 0 where
+pub record ReadingReports : Type 0 where
   pub program : (text bytes : List ℕ) → (assembled text ≡ Ok bytes) ↔ Assembles text bytes
   pub fault : (text : List ℕ) (fault : AsmFault)
       → (assembled text ≡ Err fault) ↔ ((fault ≢ NoMemory) × IsFirstFault text fault)

@@ -1,14 +1,18 @@
 //! Assembles the text of a program into its bytes.
 
-ghost use Rattle.std.specs.Prelude.{◌≡◌, ℕ, List, MatchResult, Ok, Err, IfOk, IfErr};
+ghost use Rattle.std.specs.Prelude.{◌≡◌, ℕ, List, MatchResult, IfOk, IfErr};
 ghost use Rattle.dma_insn.specs.AssemblyText.{Assembles, IsFirstFault};
-ghost use Rattle.dma_insn.specs.LineReading.{AnswersAs, ReadingTells, after_line, assembled};
+ghost use Rattle.dma_insn.specs.LineReading.{AnswersAs, ReadingReports, SeenAs, after_line, assembled};
 ghost use Rattle.dma_insn.specs.declared.assembler.AsmFault.TheVariants.{NoMemory};
 
-use crate::buffer::CodeBuffer;
+use crate::codec::encode;
 use crate::line::{is_skipped, read_line, split_line};
+use arrayvec::ArrayVec;
 use std::alloc::{AllocError, Global};
 use thiserror::Error;
+
+/// The most bytes that a program has (profile).
+pub const MAX_BYTES: usize = 8192;
 
 /// Why a line of assembly text is not an instruction, in the order in which the causes are tested.
 #[derive(Clone, Copy, PartialEq, Eq, Debug, Error)]
@@ -63,34 +67,23 @@ pub fn assemble(alloc: Global, text: &[u8]) -> Result<Vec<u8>, AsmFault>
     // The result as a function of the text, except that `NoMemory` may take the place of the bytes.
     ensures exact { AnswersAs (λ program. program.items) result (assembled text.now) }
 {
-    build(alloc, text)
+    let program = read_text(text)?;
+    let bytes = program.as_slice().to_vec(alloc)?;
+    Ok(bytes)
 }
 
 /// Law: for every text, the function `assembled` agrees with the relations `Assembles` and `IsFirstFault`. It gives
 /// bytes exactly if the text assembles to them, and a fault exactly if it is the text's first fault and is not
 /// `NoMemory`.
-pub fn reading_tells()
-    ensures { ReadingTells }
+pub fn reading_reports()
+    ensures { ReadingReports }
 {}
 
-// Returns the bytes or the fault that `assembled` gives. Fails with `NoMemory` only if `assembled` gives bytes.
-fn build(alloc: Global, text: &[u8]) -> Result<Vec<u8>, AsmFault>
-    ensures { AnswersAs (λ program. program.items) result (assembled text.now) }
-{
-    match read_text(text) {
-        Err(fault) => Err(fault),
-        Ok(program) => match program.to_vec(alloc) {
-            Err(_) => Err(AsmFault::NoMemory),
-            Ok(bytes) => Ok(bytes),
-        },
-    }
-}
-
 // Assembles a whole text, line by line, without allocating.
-fn read_text(text: &[u8]) -> Result<CodeBuffer, AsmFault>
-    ensures { result ≡ assembled text.now }
+fn read_text(text: &[u8]) -> Result<ArrayVec<u8, MAX_BYTES>, AsmFault>
+    ensures { SeenAs (λ program. program.items) result (assembled text.now) }
 {
-    let mut program = CodeBuffer::new();
+    let mut program = ArrayVec::new();
     let mut rest = text;
     let mut number = 0usize;
     while !rest.is_empty() {
@@ -104,21 +97,16 @@ fn read_text(text: &[u8]) -> Result<CodeBuffer, AsmFault>
 
 // Appends the instruction of line `n`, unless the line is skipped.
 #[tactic(auto, unfolding(crate::specs::LineReading::after_line))]
-fn add_line(program: &mut CodeBuffer, n: usize, line: &[u8]) -> Result<(), AsmFault>
-    ensures { MatchResult result (λ _. after_line n program.old line.now ≡ Ok program.new)
-        (λ fault. after_line n program.old line.now ≡ Err fault) }
+fn add_line(program: &mut ArrayVec<u8, MAX_BYTES>, n: usize, line: &[u8]) -> Result<(), AsmFault>
+    ensures { SeenAs (λ _. program.new.items) result (after_line n program.old.items line.now) }
 {
     if is_skipped(line) {
         return Ok(());
     }
-    match read_line(line) {
-        Err(cause) => Err(AsmFault::Line { n, cause }),
-        Ok(insn) => {
-            if program.push(insn) {
-                Ok(())
-            } else {
-                Err(AsmFault::ProgramTooLong(n))
-            }
-        }
-    }
+    let insn = read_line(line).map_err(|cause| AsmFault::Line { n, cause })?;
+    let mut code = [0; 6];
+    let len = encode(insn, &mut code);
+    program
+        .try_extend_from_slice(&code[..len])
+        .map_err(|_| AsmFault::ProgramTooLong(n))
 }

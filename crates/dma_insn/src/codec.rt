@@ -154,10 +154,8 @@ fn read(bytes: &[u8]) -> Result<(Insn, usize), DecodeFault>
 fn loop_start(counter: Counter, rest: &[u8]) -> Result<(Insn, usize), DecodeFault>
     ensures { result ≡ by_second rest.now (λ n. Ok (Lp counter (n + 1), 2)) }
 {
-    let Some(less_one) = rest.first() else {
-        return Err(DecodeFault::Cut);
-    };
-    let times = Times::of_number(*less_one as u16 + 1);
+    let less_one = *rest.first().ok_or(DecodeFault::Cut)?;
+    let times = Times::of_number(u16::from(less_one) + 1);
     Ok((Insn::Lp { counter, times }, 2))
 }
 
@@ -165,10 +163,7 @@ fn loop_start(counter: Counter, rest: &[u8]) -> Result<(Insn, usize), DecodeFaul
 fn loop_end(counter: Counter, rest: &[u8]) -> Result<(Insn, usize), DecodeFault>
     ensures { result ≡ by_second rest.now (λ n. Ok (LpEnd counter n, 2)) }
 {
-    let Some(back) = rest.first() else {
-        return Err(DecodeFault::Cut);
-    };
-    let back = *back;
+    let back = *rest.first().ok_or(DecodeFault::Cut)?;
     Ok((Insn::LpEnd { counter, back }, 2))
 }
 
@@ -176,11 +171,9 @@ fn loop_end(counter: Counter, rest: &[u8]) -> Result<(Insn, usize), DecodeFault>
 fn signal(rest: &[u8]) -> Result<(Insn, usize), DecodeFault>
     ensures { result ≡ by_second rest.now signal_at }
 {
-    let Some(field) = rest.first() else {
-        return Err(DecodeFault::Cut);
-    };
-    if *field % 8 == 0 {
-        Ok((Insn::Sev(Event::of_number(*field / 8)), 2))
+    let field = *rest.first().ok_or(DecodeFault::Cut)?;
+    if field % 8 == 0 {
+        Ok((Insn::Sev(Event::of_number(field / 8)), 2))
     } else {
         Err(DecodeFault::BadField)
     }
@@ -190,11 +183,9 @@ fn signal(rest: &[u8]) -> Result<(Insn, usize), DecodeFault>
 fn wait(rest: &[u8]) -> Result<(Insn, usize), DecodeFault>
     ensures { result ≡ by_second rest.now wait_at }
 {
-    let Some(field) = rest.first() else {
-        return Err(DecodeFault::Cut);
-    };
-    let event = Event::of_number(*field / 8);
-    let invalid = match *field % 8 {
+    let field = *rest.first().ok_or(DecodeFault::Cut)?;
+    let event = Event::of_number(field / 8);
+    let invalid = match field % 8 {
         0 => false,
         2 => true,
         _ => return Err(DecodeFault::BadField),

@@ -118,43 +118,44 @@ impl Beats {
     }
 }
 
-/// The protection field of one end, 0 to 7. It is kept and has no effect (profile). A contract sees the number.
+/// The protection or the cache field of one end, 0 to 7. It is kept and has no effect (profile). A contract sees the
+/// number.
 #[derive(Clone, Copy, PartialEq, Eq, Debug)]
-pub struct Protection {
-    prot_ctrl: u8,
+pub struct Attribute {
+    code: u8,
 }
 
-impl Model for Protection {
+impl Model for Attribute {
     ghost use Rattle.std.specs.Prelude.{ℕ, ◌<◌, ◌≤◌};
 
     ghost Value = { ℕ };
 
-    ghost view = { λ p. p.prot_ctrl };
+    ghost view = { λ a. a.code };
 
-    ghost invariant = { λ p. p.prot_ctrl < 8 };
+    ghost invariant = { λ a. a.code < 8 };
 
-    ghost inverse = { λ n. record { prot_ctrl = n } };
+    ghost inverse = { λ n. record { code = n } };
 }
 
-impl Protection {
+impl Attribute {
     /// Returns the field of a code, or `None` for a code above 7.
-    pub fn new(prot_ctrl: u8) -> Option<Protection>
-        ensures some { IsSome result ↔ (prot_ctrl < 8) }
-        ensures value { IfSome result (λ protection. protection ≡ prot_ctrl) }
+    pub fn new(code: u8) -> Option<Attribute>
+        ensures some { IsSome result ↔ (code < 8) }
+        ensures value { IfSome result (λ field. field ≡ code) }
     {
-        if prot_ctrl < 8 {
-            Some(Protection::of_code(prot_ctrl))
+        if code < 8 {
+            Some(Attribute::of_code(code))
         } else {
             None
         }
     }
 
     /// Returns the field of a code, which has to be at most 7.
-    pub fn of_code(prot_ctrl: u8) -> Protection
-        requires { prot_ctrl < 8 }
-        ensures { result ≡ prot_ctrl }
+    pub fn of_code(code: u8) -> Attribute
+        requires { code < 8 }
+        ensures { result ≡ code }
     {
-        Protection { prot_ctrl }
+        Attribute { code }
     }
 
     /// Returns the field's code in a control word, 0 to 7.
@@ -162,55 +163,7 @@ impl Protection {
         ensures value { result ≡ self }
         ensures range { self < 8 }
     {
-        self.prot_ctrl
-    }
-}
-
-/// The cache field of one end, 0 to 7. It is kept and has no effect (profile). A contract sees the number.
-#[derive(Clone, Copy, PartialEq, Eq, Debug)]
-pub struct Cache {
-    cache_ctrl: u8,
-}
-
-impl Model for Cache {
-    ghost use Rattle.std.specs.Prelude.{ℕ, ◌<◌, ◌≤◌};
-
-    ghost Value = { ℕ };
-
-    ghost view = { λ c. c.cache_ctrl };
-
-    ghost invariant = { λ c. c.cache_ctrl < 8 };
-
-    ghost inverse = { λ n. record { cache_ctrl = n } };
-}
-
-impl Cache {
-    /// Returns the field of a code, or `None` for a code above 7.
-    pub fn new(cache_ctrl: u8) -> Option<Cache>
-        ensures some { IsSome result ↔ (cache_ctrl < 8) }
-        ensures value { IfSome result (λ field. field ≡ cache_ctrl) }
-    {
-        if cache_ctrl < 8 {
-            Some(Cache::of_code(cache_ctrl))
-        } else {
-            None
-        }
-    }
-
-    /// Returns the field of a code, which has to be at most 7.
-    pub fn of_code(cache_ctrl: u8) -> Cache
-        requires { cache_ctrl < 8 }
-        ensures { result ≡ cache_ctrl }
-    {
-        Cache { cache_ctrl }
-    }
-
-    /// Returns the field's code in a control word, 0 to 7.
-    pub fn code(self) -> u8
-        ensures value { result ≡ self }
-        ensures range { self < 8 }
-    {
-        self.cache_ctrl
+        self.code
     }
 }
 
@@ -221,18 +174,11 @@ pub struct BurstEnd {
     pub increments: bool,
     pub size: BeatSize,
     pub beats: Beats,
-    pub protection: Protection,
-    pub cache: Cache,
+    pub protection: Attribute,
+    pub cache: Attribute,
 }
 
 impl BurstEnd {
-    /// Returns whether the address grows by a burst's bytes.
-    pub fn is_incrementing(&self) -> bool
-        ensures { result ≡ self.now.increments }
-    {
-        self.increments
-    }
-
     /// Returns the number of bytes of one beat, 1 to 16.
     pub fn beat_bytes(&self) -> u32
         ensures value { result ≡ beat_bytes self.now.size }
@@ -260,8 +206,8 @@ impl BurstEnd {
             increments: one_bit(bits, from) == 1,
             size,
             beats: Beats::of_number(four_bits(bits, from + 4) + 1),
-            protection: Protection::of_code(three_bits(bits, from + 8)),
-            cache: Cache::of_code(three_bits(bits, from + 11)),
+            protection: Attribute::of_code(three_bits(bits, from + 8)),
+            cache: Attribute::of_code(three_bits(bits, from + 11)),
         })
     }
 
@@ -272,7 +218,7 @@ impl BurstEnd {
         ensures range { result < 2 ^ 14 }
         ensures in_range { HasEndRanges self.now }
     {
-        let low = if self.is_incrementing() { 1 } else { 0 };
+        let low = if self.increments { 1 } else { 0 };
         let size = u32::from(self.size.code()) << 1;
         let beats = u32::from(self.beats.number() - 1) << 4;
         let protection = u32::from(self.protection.code()) << 8;
@@ -291,6 +237,7 @@ pub struct Control {
 impl Control {
     /// Returns the fields of a word. Fails with `ReservedSize` for a reserved size of either end, then with `Swap`,
     /// then with `Bit31`.
+    #[tactic(auto, unfolding(crate::specs::ControlWord::control_of))]
     pub fn from_bits(bits: u32) -> Result<Control, ControlFault>
         // The result as a function of the word.
         ensures exact { result ≡ control_of bits }
@@ -299,10 +246,20 @@ impl Control {
         // The returned fields encode to the same word.
         ensures back { IfOk result (λ control. bits_of control ≡ bits) }
     {
-        read(bits)
+        let (Some(src), Some(dst)) = (BurstEnd::at(bits, 0), BurstEnd::at(bits, 14)) else {
+            return Err(ControlFault::ReservedSize);
+        };
+        if three_bits(bits, 28) != 0 {
+            return Err(ControlFault::Swap);
+        }
+        if one_bit(bits, 31) != 0 {
+            return Err(ControlFault::Bit31);
+        }
+        Ok(Control { src, dst })
     }
 
     /// Returns the word of these fields.
+    #[tactic(auto, unfolding(crate::specs::ControlWord::bits_of))]
     pub fn bits(&self) -> u32
         ensures value { result ≡ bits_of self.now }
         // The types of the fields guarantee these ranges.
@@ -313,7 +270,7 @@ impl Control {
         // The returned word decodes to the same fields.
         ensures again { control_of result ≡ Ok self.now }
     {
-        write(self)
+        self.src.bits() + (self.dst.bits() << 14)
     }
 }
 
@@ -352,7 +309,7 @@ impl ControlWord {
         ensures accepted { is_ok result ≡ is_control bits }
         ensures refused { IfErr result (λ fault. control_of bits ≡ Err fault) }
     {
-        read(bits)?;
+        Control::from_bits(bits)?;
         Ok(ControlWord { bits })
     }
 
@@ -385,31 +342,6 @@ impl ControlWord {
         };
         end
     }
-}
-
-#[tactic(auto, unfolding(crate::specs::ControlWord::control_of))]
-fn read(bits: u32) -> Result<Control, ControlFault>
-    ensures { result ≡ control_of bits }
-{
-    let (Some(src), Some(dst)) = (BurstEnd::at(bits, 0), BurstEnd::at(bits, 14)) else {
-        return Err(ControlFault::ReservedSize);
-    };
-    if three_bits(bits, 28) != 0 {
-        return Err(ControlFault::Swap);
-    }
-    if one_bit(bits, 31) != 0 {
-        return Err(ControlFault::Bit31);
-    }
-    Ok(Control { src, dst })
-}
-
-#[tactic(auto, unfolding(crate::specs::ControlWord::bits_of))]
-fn write(control: &Control) -> u32
-    ensures value { result ≡ bits_of control.now }
-    ensures src_in_range { HasEndRanges control.now.src }
-    ensures dst_in_range { HasEndRanges control.now.dst }
-{
-    control.src.bits() + (control.dst.bits() << 14)
 }
 
 // Returns bit `from` of a word.

@@ -2,13 +2,13 @@
 
 ghost use Rattle.std.specs.Prelude.{◌≡◌, ℕ, ◌++◌, ◌∷◌, [], List, MatchResult, MatchOption, IfSome, IfOk, IfErr, OnOk, ◌<◌, codes, decimal};
 ghost use Rattle.dma_insn.specs.AssemblyText.{register_word};
-ghost use Rattle.dma_insn.specs.Disassembly.{counter_number, insn_text, AreSpelled, Disassembles, IsDisFault, StopsAt, DisassemblyAssembles, DisassemblyTells};
+ghost use Rattle.dma_insn.specs.Disassembly.{counter_number, insn_text, AreSpelled, Disassembles, IsDisFault, StopsAt, DisassemblyAssembles, DisassemblyReports};
 ghost use Rattle.dma_insn.specs.declared.disassembler.DisFault.TheVariants.{NoMemory};
 ghost use Rattle.dma_insn.specs.declared.insn.Insn.TheVariants.{Mov, Wfe};
 
 use crate::codec::{DecodeFault, decode};
-use crate::insn::{Counter, Event, Insn, Reg};
-use dma_text::digits::{hex_digits, push_decimal};
+use crate::insn::{Counter, Insn, Reg};
+use dma_text::text::{Address, Text};
 use std::alloc::{AllocError, Global};
 use thiserror::Error;
 
@@ -55,13 +55,14 @@ pub fn disassembly_assembles()
 
 /// Law: each list of bytes has either exactly one text or an offset at which no instruction begins. Instructions have
 /// only one text in which no line is skipped and a line feed ends each line.
-pub fn disassembly_tells()
-    ensures { DisassemblyTells }
+pub fn disassembly_reports()
+    ensures { DisassemblyReports }
 {}
 
 // Returns the first offset at which no instruction begins, with its fault, or `None` if all bytes are instructions.
 fn fault_of(bytes: &[u8]) -> Option<(usize, DecodeFault)>
-    ensures { MatchOption result (AreSpelled bytes.now) (λ found. StopsAt bytes.now found.0 found.1) }
+    ensures { MatchOption result (AreSpelled bytes.now)
+        (λ found. StopsAt bytes.now found.0 found.1) }
 {
     let mut offset = 0;
     while offset < bytes.len() {
@@ -84,7 +85,7 @@ fn write_all(alloc: Global, bytes: &[u8]) -> Result<Vec<u8>, Option<(usize, Deco
     while offset < bytes.len() {
         match decode(&bytes[offset..]) {
             Ok((insn, count)) => {
-                let Ok(()) = push_line(&mut text, insn) else {
+                let Ok(()) = (insn, "\n").push(&mut text) else {
                     return Err(None);
                 };
                 offset += count;
@@ -105,75 +106,41 @@ fn number_of(counter: Counter) -> u8
     }
 }
 
-// Adds the line of an instruction.
-fn push_line(text: &mut Vec<u8>, insn: Insn) -> Result<(), AllocError>
-    ensures { OnOk result (text.new.items ≡ text.old.items ++ (insn_text insn ++ 10 ∷ [])) }
-{
-    match insn {
-        Insn::End => text.extend_from_slice(b"DMAEND\n"),
-        Insn::Ld => text.extend_from_slice(b"DMALD\n"),
-        Insn::St => text.extend_from_slice(b"DMAST\n"),
-        Insn::Rmb => text.extend_from_slice(b"DMARMB\n"),
-        Insn::Wmb => text.extend_from_slice(b"DMAWMB\n"),
-        Insn::Nop => text.extend_from_slice(b"DMANOP\n"),
-        Insn::Lp { counter, times } => {
-            text.extend_from_slice(b"DMALP ")?;
-            push_pair(text, number_of(counter), times.number())
-        }
-        Insn::LpEnd { counter, back } => {
-            text.extend_from_slice(b"DMALPEND ")?;
-            push_pair(text, number_of(counter), u16::from(back))
-        }
-        Insn::Sev(event) => {
-            text.extend_from_slice(b"DMASEV ")?;
-            push_decimal(text, u64::from(event.number()))?;
-            text.extend_from_slice(b"\n")
-        }
-        Insn::Wfe { event, invalid } => push_wait(text, event, invalid),
-        Insn::Mov(reg, value) => push_value(text, reg, value),
-    }
-}
-
-// Adds a loop's counter and its number of times or its jump, and ends the line.
-fn push_pair(text: &mut Vec<u8>, counter: u8, count: u16) -> Result<(), AllocError>
-    ensures { OnOk result (text.new.items ≡ text.old.items ++ (decimal counter ++ (32 ∷ (decimal count ++ 10 ∷ [])))) }
-{
-    push_decimal(text, u64::from(counter))?;
-    text.extend_from_slice(b" ")?;
-    push_decimal(text, u64::from(count))?;
-    text.extend_from_slice(b"\n")
-}
-
-// Adds the line of DMAWFE.
-fn push_wait(text: &mut Vec<u8>, event: Event, invalid: bool) -> Result<(), AllocError>
-    ensures { OnOk result (text.new.items ≡ text.old.items ++ (insn_text (Wfe event invalid) ++ 10 ∷ [])) }
-{
-    text.extend_from_slice(b"DMAWFE ")?;
-    push_decimal(text, u64::from(event.number()))?;
-    if invalid {
-        text.extend_from_slice(b" invalid\n")
-    } else {
-        text.extend_from_slice(b"\n")
-    }
-}
-
-// Appends the part of a DMAMOV line before its digits.
-#[inline(always)]
-fn push_value_front(text: &mut Vec<u8>, reg: Reg) -> Result<(), AllocError>
-    ensures { OnOk result (text.new.items ≡ text.old.items ++ (codes "DMAMOV " ++ (register_word reg ++ codes " 0x"))) }
+// Returns the name of a register.
+fn register_name(reg: Reg) -> &'static str
+    ensures { result.now ≡ register_word reg }
 {
     match reg {
-        Reg::Sar => text.extend_from_slice(b"DMAMOV SAR 0x"),
-        Reg::Ccr => text.extend_from_slice(b"DMAMOV CCR 0x"),
-        Reg::Dar => text.extend_from_slice(b"DMAMOV DAR 0x"),
+        Reg::Sar => "SAR",
+        Reg::Ccr => "CCR",
+        Reg::Dar => "DAR",
     }
 }
 
-// Adds the line of DMAMOV.
-fn push_value(text: &mut Vec<u8>, reg: Reg, value: u32) -> Result<(), AllocError>
-    ensures { OnOk result (text.new.items ≡ text.old.items ++ (insn_text (Mov reg value) ++ 10 ∷ [])) }
-{
-    push_value_front(text, reg)?;
-    text.extend_from_slice(&hex_digits(value))?;
-    text.extend_from_slice(b"\n")
+// The line of an instruction, without its line feed.
+impl Text for Insn {
+    ghost text = { insn_text };
+
+    fn push(&self, out: &mut Vec<u8>) -> Result<(), AllocError> {
+        match *self {
+            Insn::End => "DMAEND".push(out),
+            Insn::Ld => "DMALD".push(out),
+            Insn::St => "DMAST".push(out),
+            Insn::Rmb => "DMARMB".push(out),
+            Insn::Wmb => "DMAWMB".push(out),
+            Insn::Nop => "DMANOP".push(out),
+            Insn::Lp { counter, times } => {
+                ("DMALP ", number_of(counter), " ", u32::from(times.number())).push(out)
+            }
+            Insn::LpEnd { counter, back } => ("DMALPEND ", number_of(counter), " ", back).push(out),
+            Insn::Sev(event) => ("DMASEV ", event.number()).push(out),
+            Insn::Wfe { event, invalid } => {
+                let flag = if invalid { " invalid" } else { "" };
+                ("DMAWFE ", event.number(), flag).push(out)
+            }
+            Insn::Mov(reg, value) => {
+                ("DMAMOV ", register_name(reg), (" 0x", Address(value))).push(out)
+            }
+        }
+    }
 }

@@ -11,7 +11,6 @@
 #![tactic(auto)]
 
 pub mod assembler;
-mod buffer;
 pub mod codec;
 pub mod control;
 pub mod disassembler;

@@ -3,27 +3,11 @@
 ghost use Rattle.std.specs.Prelude.{◌≡◌, ◌+◌, ◌<◌, ◌==◌, ◌∷◌, [], length, Option, MatchOption, IfSome, Result, Ok};
 ghost use Rattle.std.specs.List.{list_all};
 ghost use Rattle.dma_insn.specs.AssemblyText.{text_lines, words_of, is_skipped};
-ghost use Rattle.dma_insn.specs.LineReading.{SeenAs, words_after, no_word, one_word, two_words, wait_words, digit_of, digits_from, number_at, hex_digit_of, hex_from, value_at, register_at, counter_at, times_at, back_at, event_at, two_numbers, loop_line, loop_end_line, signal_line, wait_line, set_line, bare_line, name_of, line_by, line_in};
+ghost use Rattle.dma_insn.specs.LineReading.{SeenAs, words_after, no_word, one_word, two_words, wait_words, digit_of, digits_from, number_at, hex_digit_of, hex_from, value_at, register_at, counter_at, times_at, back_at, event_at, two_numbers, loop_line, loop_end_line, signal_line, wait_line, set_line, bare_line, line_by, line_in};
 
 use crate::assembler::Cause;
 use crate::insn::{Counter, Event, Insn, Reg, Times};
 use dma_text::bytes::{is_text, position_of};
-
-/// The name that a line begins with.
-#[derive(Clone, Copy, PartialEq, Eq, Debug)]
-pub enum Name {
-    End,
-    Ld,
-    St,
-    Rmb,
-    Wmb,
-    Nop,
-    Lp,
-    LpEnd,
-    Sev,
-    Wfe,
-    Mov,
-}
 
 /// Returns the first line of a text, without its line feed, and the rest of the text.
 pub fn split_line(text: &[u8]) -> (&[u8], &[u8])
@@ -49,7 +33,8 @@ fn split_word(text: &[u8]) -> (&[u8], &[u8])
 
 // Returns the next word and the rest of the line, or `None` if no word is left.
 fn next_word(rest: &[u8]) -> Option<(&[u8], &[u8])>
-    ensures { MatchOption result (words_after rest.now ≡ []) (λ w. words_after rest.now ≡ w.0.now ∷ words_after w.1.now) }
+    ensures { MatchOption result (words_after rest.now ≡ [])
+        (λ w. words_after rest.now ≡ w.0.now ∷ words_after w.1.now) }
 {
     match rest {
         [] => None,
@@ -75,39 +60,29 @@ fn is_blank(line: &[u8]) -> bool
 fn no_more(rest: &[u8]) -> Result<(), Cause>
     ensures { result ≡ no_word (words_after rest.now) }
 {
-    match next_word(rest) {
-        None => Ok(()),
-        Some(_) => Err(Cause::Operand),
+    if next_word(rest).is_some() {
+        return Err(Cause::Operand);
     }
+    Ok(())
 }
 
 // Returns the one word that is left. Fails with `Operand` for none, or more than one.
 fn one(rest: &[u8]) -> Result<&[u8], Cause>
     ensures { SeenAs (λ a. a.now) result (one_word (words_after rest.now)) }
 {
-    let Some((a, rest)) = next_word(rest) else {
-        return Err(Cause::Operand);
-    };
-    match next_word(rest) {
-        None => Ok(a),
-        Some(_) => Err(Cause::Operand),
-    }
+    let (a, rest) = next_word(rest).ok_or(Cause::Operand)?;
+    no_more(rest)?;
+    Ok(a)
 }
 
 // Returns the two words that are left. Fails with `Operand` for fewer or more.
 fn two(rest: &[u8]) -> Result<(&[u8], &[u8]), Cause>
     ensures { SeenAs (λ w. (w.0.now, w.1.now)) result (two_words (words_after rest.now)) }
 {
-    let Some((a, rest)) = next_word(rest) else {
-        return Err(Cause::Operand);
-    };
-    let Some((b, rest)) = next_word(rest) else {
-        return Err(Cause::Operand);
-    };
-    match next_word(rest) {
-        None => Ok((a, b)),
-        Some(_) => Err(Cause::Operand),
-    }
+    let (a, rest) = next_word(rest).ok_or(Cause::Operand)?;
+    let (b, rest) = next_word(rest).ok_or(Cause::Operand)?;
+    no_more(rest)?;
+    Ok((a, b))
 }
 
 // Returns the next word, and whether the word `invalid` follows it. Fails with `Operand` for no word, another second
@@ -115,9 +90,7 @@ fn two(rest: &[u8]) -> Result<(&[u8], &[u8]), Cause>
 fn one_or_invalid(rest: &[u8]) -> Result<(&[u8], bool), Cause>
     ensures { SeenAs (λ w. (w.0.now, w.1)) result (wait_words (words_after rest.now)) }
 {
-    let Some((a, rest)) = next_word(rest) else {
-        return Err(Cause::Operand);
-    };
+    let (a, rest) = next_word(rest).ok_or(Cause::Operand)?;
     let Some((b, rest)) = next_word(rest) else {
         return Ok((a, false));
     };
@@ -231,22 +204,14 @@ fn counter(number: u16) -> Result<Counter, Cause>
 fn times(number: u16) -> Result<Times, Cause>
     ensures { result ≡ times_at number }
 {
-    if 1 <= number && number <= 256 {
-        Ok(Times::of_number(number))
-    } else {
-        Err(Cause::Range)
-    }
+    Times::new(number).ok_or(Cause::Range)
 }
 
 // Returns the length of a jump back, in bytes. Fails with `Range` above 255.
 fn back(number: u16) -> Result<u8, Cause>
     ensures { result ≡ back_at number }
 {
-    if number <= 255 {
-        Ok(number as u8)
-    } else {
-        Err(Cause::Range)
-    }
+    u8::try_from(number).map_err(|_| Cause::Range)
 }
 
 // Returns the event of a number. Fails with `Range` above 31.
@@ -327,53 +292,34 @@ fn bare(insn: Insn, rest: &[u8]) -> Result<Insn, Cause>
     Ok(insn)
 }
 
-// Returns the instruction name that a word spells, or `None` for any other word.
-fn name_in(word: &[u8]) -> Option<Name>
-    ensures { result ≡ name_of word.now }
-{
-    if is_text(word, b"DMAEND") {
-        Some(Name::End)
-    } else if is_text(word, b"DMALD") {
-        Some(Name::Ld)
-    } else if is_text(word, b"DMAST") {
-        Some(Name::St)
-    } else if is_text(word, b"DMARMB") {
-        Some(Name::Rmb)
-    } else if is_text(word, b"DMAWMB") {
-        Some(Name::Wmb)
-    } else if is_text(word, b"DMANOP") {
-        Some(Name::Nop)
-    } else if is_text(word, b"DMALP") {
-        Some(Name::Lp)
-    } else if is_text(word, b"DMALPEND") {
-        Some(Name::LpEnd)
-    } else if is_text(word, b"DMASEV") {
-        Some(Name::Sev)
-    } else if is_text(word, b"DMAWFE") {
-        Some(Name::Wfe)
-    } else if is_text(word, b"DMAMOV") {
-        Some(Name::Mov)
-    } else {
-        None
-    }
-}
-
 // Returns the instruction of a name and the words after it, or the first cause that applies.
-fn by_name(name: Name, rest: &[u8]) -> Result<Insn, Cause>
-    ensures { result ≡ line_by name (words_after rest.now) }
+fn by_name(name: &[u8], rest: &[u8]) -> Result<Insn, Cause>
+    ensures { result ≡ line_by name.now (words_after rest.now) }
 {
-    match name {
-        Name::End => bare(Insn::End, rest),
-        Name::Ld => bare(Insn::Ld, rest),
-        Name::St => bare(Insn::St, rest),
-        Name::Rmb => bare(Insn::Rmb, rest),
-        Name::Wmb => bare(Insn::Wmb, rest),
-        Name::Nop => bare(Insn::Nop, rest),
-        Name::Lp => loop_start(rest),
-        Name::LpEnd => loop_end(rest),
-        Name::Sev => signal(rest),
-        Name::Wfe => wait(rest),
-        Name::Mov => set_register(rest),
+    if is_text(name, b"DMAEND") {
+        bare(Insn::End, rest)
+    } else if is_text(name, b"DMALD") {
+        bare(Insn::Ld, rest)
+    } else if is_text(name, b"DMAST") {
+        bare(Insn::St, rest)
+    } else if is_text(name, b"DMARMB") {
+        bare(Insn::Rmb, rest)
+    } else if is_text(name, b"DMAWMB") {
+        bare(Insn::Wmb, rest)
+    } else if is_text(name, b"DMANOP") {
+        bare(Insn::Nop, rest)
+    } else if is_text(name, b"DMALP") {
+        loop_start(rest)
+    } else if is_text(name, b"DMALPEND") {
+        loop_end(rest)
+    } else if is_text(name, b"DMASEV") {
+        signal(rest)
+    } else if is_text(name, b"DMAWFE") {
+        wait(rest)
+    } else if is_text(name, b"DMAMOV") {
+        set_register(rest)
+    } else {
+        Err(Cause::Mnemonic)
     }
 }
 
@@ -382,9 +328,6 @@ fn by_name(name: Name, rest: &[u8]) -> Result<Insn, Cause>
 pub fn read_line(line: &[u8]) -> Result<Insn, Cause>
     ensures { result ≡ line_in (words_of line.now) }
 {
-    let (word, rest) = split_word(line);
-    match name_in(word) {
-        None => Err(Cause::Mnemonic),
-        Some(name) => by_name(name, rest),
-    }
+    let (name, rest) = split_word(line);
+    by_name(name, rest)
 }

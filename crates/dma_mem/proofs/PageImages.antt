@@ -179,6 +179,11 @@ AllMade-from size pages addr len h some = λ a i.
 pub pages_of_all : (size : ℕ) (pages : List (List ℕ)) (addr len : ℕ) → AllMade (paged size pages) (range_with_len addr len) → (a : ℕ) → addr ≤ a → a < addr + len → 0 < length (page_at pages (a / 4096))
 pages_of_all size pages addr len h a low high = (page_of_made size pages a (h a (in_range addr len a low high))).1
 
+-- the same where contracts see the pages as a memory
+pub pages_seen : (size : ℕ) (pages : List (List ℕ)) (m : Paged) (addr len : ℕ) → paged size pages ≡ m → AllMade m (range_with_len addr len) → (a : ℕ) → addr ≤ a → a < addr + len → 0 < length (page_at pages (a / 4096))
+pages_seen size pages m addr len view all =
+    pages_of_all size pages addr len (subst (λ (n : Paged). AllMade n (range_with_len addr len)) (sym view) all)
+
 -- a range of which an address is on no page
 pub short-from : (size : ℕ) (pages : List (List ℕ)) (addr len : ℕ) → (a : ℕ) × (addr ≤ a) × (a < addr + len) × (length (page_at pages (a / 4096)) ≡ 0) → ¬ AllMade (paged size pages) (range_with_len addr len)
 short-from size pages addr len w = λ all. omega (arith, w.3, pages_of_all size pages addr len all w.0 w.1 w.2)

@@ -6,9 +6,13 @@ use Rattle.dma_mem.specs.Places.{Descriptor, moves}
 
 -- An image is a list with one byte for each address below its length, the size of the memory.
 
--- A memory has 1 to 4,294,963,200 bytes (profile): no address above them comes near the end of the 32-bit addresses.
+-- The most bytes of a memory (profile): no address above them comes near the end of the 32-bit addresses.
+abbrev pub largest_size : ℕ
+largest_size = 4294963200
+
+-- A memory has 1 to 4,294,963,200 bytes.
 abbrev pub is_size : ℕ → Bool
-is_size size = nat_le 1 size && nat_le size 4294963200
+is_size size = nat_le 1 size && nat_le size largest_size
 
 -- the image with these bytes put at these addresses, all at once
 unfoldable pub put : List ℕ → List (ℕ × ℕ) → List ℕ

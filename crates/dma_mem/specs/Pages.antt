@@ -1,6 +1,12 @@
 -- Memory by pages of 4,096 bytes, each made on first write (profile).
-use Rattle.std.specs.Prelude.{◌≡◌, ◌≢◌, ℕ, ◌+◌, ◌/◌, Bool, true, false, ◌&&◌, nat_lt, List, length, replicate, slice_index_or, IsTrue}
+use Rattle.std.specs.Prelude.{◌≡◌, ◌≢◌, ℕ, ◌+◌, ◌/◌, Bool, true, false, ◌&&◌, nat_lt, List, length, replicate, slice_index_or, IsTrue, if◌then◌else◌}
 use Rattle.std.specs.List.{Contains}
+use Rattle.dma_mem.specs.declared.memory.MemFault.{MemFault}
+use Rattle.dma_mem.specs.declared.memory.MemFault.TheVariants.{OutOfMemoryRange, NoMemory}
+
+-- how many bytes a page has
+abbrev pub page_size : ℕ
+page_size = 4096
 
 -- What contracts see of pages: a byte for each address below their size, and for each page, by its number, whether it is
 -- made.
@@ -14,7 +20,7 @@ has_page m p = slice_index_or m.made p false
 
 -- Whether an address lies below the size and on a page that is made.
 abbrev pub is_made : Paged → ℕ → Bool
-is_made m a = nat_lt a (length m.image) && has_page m (a / 4096)
+is_made m a = nat_lt a (length m.image) && has_page m (a / page_size)
 
 -- Each of these addresses lies below the size and on a page that is made.
 abbrev pub AllMade : Paged → List ℕ → Type 0
@@ -27,12 +33,18 @@ pub record Keeps (old new : Paged) : Type 0 where
 
 -- Of the pages on which none of these addresses lies, those are made that were.
 abbrev pub MakesNoOther : Paged → Paged → List ℕ → Type 0
-MakesNoOther old new addresses = (p : ℕ) → ((a : ℕ) → Contains addresses a → a / 4096 ≢ p) → has_page new p ≡ has_page old p
+MakesNoOther old new addresses =
+    (p : ℕ) → ((a : ℕ) → Contains addresses a → a / page_size ≢ p) → has_page new p ≡ has_page old p
 
 -- each page of `size` bytes is made
 unfoldable pub all_made : ℕ → List Bool
-all_made size = replicate ((size + 4095) / 4096) true
+all_made size = replicate ((size + 4095) / page_size) true
 
 -- what contracts see of a memory that is there whole: these bytes, each on a page that is made
 abbrev pub whole : List ℕ → Paged
 whole image = record { image = image; made = all_made (length image) }
+
+-- Why a call is refused that needs the addresses below `end` of a memory of this size: they are not all there, or else the
+-- allocator is out of memory.
+abbrev pub range_fault : ℕ → ℕ → MemFault
+range_fault size end = if nat_lt size end then OutOfMemoryRange else NoMemory

@@ -1,7 +1,11 @@
 -- The places of a list of segments, and what it is for two transfers to be free of each other.
-use Rattle.std.specs.Prelude.{ℕ, List, [], ◌∷◌, length, take, Option, Bool, true, ◌||◌, ◌&&◌, not, nat_eq, nat_le, ◌+◌, if◌then◌else◌}
+use Rattle.std.specs.Prelude.{ℕ, List, [], ◌∷◌, length, take, Option, Bool, true, false, ◌||◌, ◌&&◌, not, nat_eq, nat_le, ◌+◌, if◌then◌else◌}
 use Rattle.std.specs.List.{flat_map, range_with_len, Contains, list_any, list_all, zip}
 use Rattle.dma_mem.specs.declared.segment.Segment.{Segment}
+
+-- the end of the controller's 32-bit addresses (PL330 manual, SAR and DAR)
+abbrev pub end_of_addresses : ℕ
+end_of_addresses = 4294967296
 
 -- the addresses of a segment, rising
 abbrev pub range_of : Segment → List ℕ
@@ -27,6 +31,22 @@ pub record Descriptor : Type 0 where
   pub dst : List Segment
   pub wait : Option ℕ
   pub signal : Option ℕ
+
+-- a copy, from the places of one list to those of another
+abbrev pub copying : List Segment → List Segment → Option ℕ → Option ℕ → Descriptor
+copying src dst wait signal = record { fill = false; src = src; dst = dst; wait = wait; signal = signal }
+
+-- the most segments in one list (profile)
+abbrev pub most_segments : ℕ
+most_segments = 64
+
+-- the most bytes in one transfer (profile)
+abbrev pub most_copied : ℕ
+most_copied = 1048576
+
+-- the last event of the controller, which has 32 (PL330 manual, DMASEV and DMAWFE)
+abbrev pub last_event : ℕ
+last_event = 31
 
 -- A fill: the byte at one address, to every place of a list (profile; after dmaengine memset, by a source address that
 -- doesn't rise: PL330 manual, CCR bit 0).

@@ -4,7 +4,7 @@ use Rattle.std.specs.List.{list_any}
 use Rattle.dma_mem.specs.declared.segment.Segment.{Segment}
 use Rattle.dma_mem.specs.declared.transfer.TransferFault.{TransferFault}
 use Rattle.dma_mem.specs.declared.transfer.TransferFault.TheVariants.{EmptyList, TooManySegments, EmptySegment, SegmentWraps, TotalsDiffer, TooLong, DestinationsMeet, SourceMeetsDestination, BadEvent}
-use Rattle.dma_mem.specs.Places.{Descriptor}
+use Rattle.dma_mem.specs.Places.{Descriptor, end_of_addresses, last_event, most_copied, most_segments}
 use Rattle.dma_mem.specs.Meeting.{meets}
 
 -- whether a test holds of the sources or of the destinations
@@ -15,17 +15,17 @@ of_either_list test t = test t.src || test t.dst
 abbrev pub is_empty_list : List Segment → Bool
 is_empty_list list = length list == 0
 
--- A list has more than 64 segments (profile).
+-- A list has more than 64 segments.
 abbrev pub has_too_many : List Segment → Bool
-has_too_many list = nat_lt 64 (length list)
+has_too_many list = nat_lt most_segments (length list)
 
 -- A segment of the list has no byte.
 abbrev pub has_empty_segment : List Segment → Bool
 has_empty_segment list = list_any (λ s. s.len == 0) list
 
--- A segment of the list ends above 2 ^ 32, the end of the controller's 32-bit addresses (PL330 manual, SAR and DAR).
+-- A segment of the list ends above the last address.
 abbrev pub has_wrapping_segment : List Segment → Bool
-has_wrapping_segment list = list_any (λ s. nat_lt 4294967296 (s.addr + s.len)) list
+has_wrapping_segment list = list_any (λ s. nat_lt end_of_addresses (s.addr + s.len)) list
 
 -- how many bytes a list has: the sum of its segments' lengths
 abbrev pub total : List Segment → ℕ
@@ -40,10 +40,10 @@ some_meet (s ∷ later) = list_any (meets s) later || some_meet later
 abbrev pub meets_any : List Segment → List Segment → Bool
 meets_any list others = list_any (λ s. list_any (meets s) others) list
 
--- The event is above 31: the controller has 32 (PL330 manual, DMASEV and DMAWFE).
+-- The event is above the last.
 abbrev pub is_bad_event : Option ℕ → Bool
 is_bad_event None = false
-is_bad_event (Some event) = nat_lt 31 event
+is_bad_event (Some event) = nat_lt last_event event
 
 -- this refusal where its test holds, else that of the others
 abbrev pub cause : Bool → TransferFault → Option TransferFault → Option TransferFault
@@ -62,7 +62,7 @@ refusal_of t =
     cause (of_either_list has_empty_segment t) EmptySegment (
     cause (of_either_list has_wrapping_segment t) SegmentWraps (
     cause (not t.fill && not (total t.src == total t.dst)) TotalsDiffer (
-    cause (nat_lt 1048576 (total t.dst)) TooLong (
+    cause (nat_lt most_copied (total t.dst)) TooLong (
     cause (some_meet t.dst) DestinationsMeet (
     cause (meets_any t.src t.dst) SourceMeetsDestination (
     cause (is_bad_event t.wait || is_bad_event t.signal) BadEvent None))))))))
@@ -74,7 +74,7 @@ refusal_of_fill src dst wait signal =
     cause (has_too_many dst) TooManySegments (
     cause (has_empty_segment dst) EmptySegment (
     cause (has_wrapping_segment dst) SegmentWraps (
-    cause (nat_lt 1048576 (total dst)) TooLong (
+    cause (nat_lt most_copied (total dst)) TooLong (
     cause (some_meet dst) DestinationsMeet (
     cause (list_any (meets (record { addr = src; len = 1 })) dst) SourceMeetsDestination (
     cause (is_bad_event wait || is_bad_event signal) BadEvent None)))))))

@@ -2,6 +2,7 @@
 use Rattle.std.specs.Prelude.{ℕ, ◌+◌, ◌-◌, Bool, true, ◌&&◌, nat_le, nat_lt, List, [], ◌∷◌, ◌++◌, length, drop, map, replicate, if◌then◌else◌}
 use Rattle.dma_mem.specs.declared.regions.Region.{Region}
 use Rattle.dma_mem.specs.declared.segment.Segment.{Segment}
+use Rattle.dma_mem.specs.Image.{largest_size}
 
 -- A piece of a memory: the address of its first byte, and its bytes.
 pub record Piece : Type 0 where
@@ -16,13 +17,18 @@ end_of p = p.addr + length p.bytes
 abbrev pub piece_of : Region → Piece
 piece_of r = record { addr = r.addr; bytes = r.bytes.now }
 
+-- the pieces of regions, in order
 abbrev pub pieces_of : List Region → List Piece
 pieces_of regions = map piece_of regions
+
+-- the names of the loans of regions
+abbrev pub names_of : List Region → List ℕ
+names_of regions = map (λ r. r.bytes.ghost_name) regions
 
 -- Whether pieces rise from an address on, share no address, and end at the largest size of a memory at most.
 abbrev pub rises_from : ℕ → List Piece → Bool
 rises_from at [] = true
-rises_from at (p ∷ ps) = nat_le at p.addr && (nat_le (end_of p) 4294963200 && rises_from (end_of p) ps)
+rises_from at (p ∷ ps) = nat_le at p.addr && (nat_le (end_of p) largest_size && rises_from (end_of p) ps)
 
 abbrev pub in_order : List Piece → Bool
 in_order ps = rises_from 0 ps

@@ -1,14 +1,14 @@
 -- The rules of a transfer.
 use Rattle.std.specs.Prelude.{◌≡◌, ◌≢◌, ◌+◌, ◌<◌, ◌≤◌, ℕ, List, [], ◌∷◌, length, true, All, AllPairs, IfSome}
 use Rattle.dma_mem.specs.declared.segment.Segment.{Segment}
-use Rattle.dma_mem.specs.Places.{Descriptor, Apart, sources, destinations, size_of}
+use Rattle.dma_mem.specs.Places.{Descriptor, Apart, end_of_addresses, last_event, most_copied, most_segments, sources, destinations, size_of}
 
 -- A list has 1 to 64 segments, none of them empty, and none ends above 2 ^ 32.
 pub record IsSegmentList (list : List Segment) : Type 0 where
   pub some : 0 < length list
-  pub few : length list ≤ 64
+  pub few : length list ≤ most_segments
   pub filled : All (λ s. 0 < s.len) list
-  pub within : All (λ s. s.addr + s.len ≤ 4294967296) list
+  pub within : All (λ s. s.addr + s.len ≤ end_of_addresses) list
 
 -- A fill has one source segment, of one byte.
 abbrev pub HasOneByte : Descriptor → Type 0
@@ -22,8 +22,8 @@ pub record IsTransfer (t : Descriptor) : Type 0 where
   pub source_list : IsSegmentList t.src
   pub destination_list : IsSegmentList t.dst
   pub same_length : length (sources t) ≡ length (destinations t)
-  pub short : size_of t ≤ 1048576
+  pub short : size_of t ≤ most_copied
   pub once : AllPairs (λ a b. a ≢ b) (destinations t)
   pub apart : Apart (sources t) (destinations t)
-  pub wait_event : IfSome t.wait (λ event. event ≤ 31)
-  pub signal_event : IfSome t.signal (λ event. event ≤ 31)
+  pub wait_event : IfSome t.wait (λ event. event ≤ last_event)
+  pub signal_event : IfSome t.signal (λ event. event ≤ last_event)

@@ -2,10 +2,12 @@
 
 ghost use Rattle.std.specs.Prelude.{◌≡◌, ◌≤◌, length, slice_index_or, slice_set, true, false};
 ghost use Rattle.dma_mem.specs.Flags.{all_clear, flags_of};
+ghost use Rattle.dma_mem.specs.Places.{last_event};
 
 use std::marker::Model;
 
-/// A flag for each event from 0 to 31 (PL330 manual, DMASEV and DMAWFE). Contracts see them as a list of 32 truth values.
+/// A flag for each event from 0 to 31 (PL330 manual, DMASEV and DMAWFE). Contracts see them as a list of 32 truth
+/// values.
 #[derive(Debug, Drop)]
 pub struct Events {
     bits: u32,
@@ -21,37 +23,37 @@ impl Model for Events {
 }
 
 impl Events {
-    /// All flags clear.
+    /// Returns flags that are all clear.
     pub fn new() -> Events
         ensures { result ≡ all_clear }
     {
         Events { bits: 0 }
     }
 
-    /// The flags that the bits of a number are.
+    /// Returns the flags that the bits of a number are.
     pub fn from_bits(bits: u32) -> Events
         ensures { result ≡ flags_of bits }
     {
         Events { bits }
     }
 
-    /// The number whose bits they are.
+    /// Returns the number whose bits they are.
     pub fn bits(&self) -> u32
         ensures { flags_of result ≡ self.now }
     {
         self.bits
     }
 
-    /// The same flags again.
+    /// Returns the same flags again.
     pub fn copy(&self) -> Events
         ensures { result ≡ self.now }
     {
         Events { bits: self.bits }
     }
 
-    /// Whether the flag of an event is set.
+    /// Returns whether the flag of an event is set.
     pub fn is_set(&self, event: u8) -> bool
-        requires { event ≤ 31 }
+        requires { event ≤ last_event }
         ensures flag { result ≡ slice_index_or self.now event false }
         ensures count { length self.now ≡ 32 }
     {
@@ -60,7 +62,7 @@ impl Events {
 
     /// Sets the flag of an event.
     pub fn set(&mut self, event: u8)
-        requires { event ≤ 31 }
+        requires { event ≤ last_event }
         ensures { self.new ≡ slice_set self.old event true }
     {
         self.bits |= 1 << event;
@@ -68,7 +70,7 @@ impl Events {
 
     /// Clears the flag of an event.
     pub fn clear(&mut self, event: u8)
-        requires { event ≤ 31 }
+        requires { event ≤ last_event }
         ensures { self.new ≡ slice_set self.old event false }
     {
         self.bits &= !(1 << event);

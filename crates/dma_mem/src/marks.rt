@@ -43,7 +43,7 @@ impl Model for Marks {
 }
 
 impl Marks {
-    /// No marks, which take no memory.
+    /// Returns no marks, which take no memory.
     pub fn new(alloc: Global) -> Marks
         ensures { result ≡ [] }
     {
@@ -68,18 +68,15 @@ impl Marks {
         Ok(())
     }
 
-    /// The same marks again, in memory of their own. `AllocError` comes where it was refused.
+    /// Returns the same marks again, in memory of their own. `AllocError` comes where it was refused.
     pub fn try_copy(&self) -> Result<Marks, AllocError>
         ensures { IfOk result (λ copy. copy ≡ self.now) }
     {
         let alloc = *self.list.allocator();
-        let list = Vec::from_slice(alloc, &self.list)?;
-        let reading = Vec::from_slice(alloc, &self.reading)?;
-        let writing = Vec::from_slice(alloc, &self.writing)?;
         Ok(Marks {
-            list,
-            reading,
-            writing,
+            list: Vec::from_slice(alloc, &self.list)?,
+            reading: Vec::from_slice(alloc, &self.reading)?,
+            writing: Vec::from_slice(alloc, &self.writing)?,
         })
     }
 
@@ -87,13 +84,10 @@ impl Marks {
     pub fn clear(&mut self)
         ensures { self.new ≡ [] }
     {
-        let alloc = *self.list.allocator();
-        self.list = Vec::new(alloc);
-        self.reading = Vec::new(alloc);
-        self.writing = Vec::new(alloc);
+        *self = Marks::new(*self.list.allocator());
     }
 
-    // The addresses of the marks of a kind, as ranges in order.
+    // Returns the addresses of the marks of a kind, as ranges in order.
     fn ranges(&self, kind: MarkKind) -> &[Segment]
         ensures { AreRangesOf kind self.now result.now }
     {
@@ -103,20 +97,22 @@ impl Marks {
         }
     }
 
-    /// Whether a mark of the kind meets the segment, which is whether one of its addresses lies in such a mark.
+    /// Returns whether a mark of the kind meets the segment, which is whether one of its addresses lies in such a mark.
     pub fn hits(&self, kind: MarkKind, segment: Segment) -> bool
         ensures meets { result ≡ hits kind self.now segment }
-        ensures addresses { result ≡ list_any (is_marked kind self.now) (range_with_len segment.addr segment.len) }
+        ensures addresses { result
+            ≡ list_any (is_marked kind self.now) (range_with_len segment.addr segment.len) }
     {
         meets_ordered(self.ranges(kind), segment)
     }
 
-    /// Returns how many addresses of the segment come before the first that lies in a mark of the kind. It is the segment's
-    /// length where none does.
+    /// Returns how many addresses of the segment come before the first that lies in a mark of the kind. It is the
+    /// segment's length where none does.
     pub fn unmarked(&self, kind: MarkKind, segment: Segment) -> u32
         ensures few { result ≤ segment.len }
         ensures none { NoneMarked kind self.now segment.addr result }
-        ensures next { result < segment.len → IsTrue (is_marked kind self.now (segment.addr + result)) }
+        ensures next { result < segment.len
+            → IsTrue (is_marked kind self.now (segment.addr + result)) }
     {
         clear_of_ordered(self.ranges(kind), segment)
     }

@@ -10,13 +10,6 @@ ghost use Rattle.dma_mem.specs.inner.RangesInOrder.{IsOrdered, AddsAddresses, Is
 use crate::segment::{Segment, meets};
 use std::alloc::AllocError;
 
-/// The address past the last of a segment, the sum taken without wrapping.
-pub fn end_of(segment: Segment) -> u64
-    ensures { result ≡ segment.addr + segment.len }
-{
-    u64::from(segment.addr) + u64::from(segment.len)
-}
-
 /// Puts segments in the order of their first addresses, in place.
 pub fn sort_by_address(segments: &mut [Segment])
     ensures same { IsPermutation segments.old segments.new }
@@ -25,26 +18,28 @@ pub fn sort_by_address(segments: &mut [Segment])
     segments.sort_unstable_by_key(|segment| segment.addr);
 }
 
-// How many of the ranges begin below an address: the first ones.
+// Returns how many of the ranges begin below an address: the first ones.
 fn begun_below(ranges: &[Segment], addr: u32) -> usize
     requires { IsNonDecreasingBy (λ (r : Segment). r.addr) ranges.now }
     ensures bound { result ≤ length ranges.now }
-    ensures first { IsPartitionPoint (λ (r : Segment). r.addr < addr) (λ r. addr ≤ r.addr) ranges.now result }
+    ensures first { IsPartitionPoint (λ (r : Segment). r.addr < addr) (λ r. addr ≤ r.addr)
+        ranges.now result }
 {
     ranges.partition_point(|range| range.addr < addr)
 }
 
-// How many of the ranges end at an address or below it: the first ones.
+// Returns how many of the ranges end at an address or below it: the first ones.
 fn ended_by(ranges: &[Segment], end: u64) -> usize
     requires { IsNonDecreasingBy (λ (r : Segment). r.addr + r.len) ranges.now }
     ensures bound { result ≤ length ranges.now }
-    ensures first { IsPartitionPoint (λ (r : Segment). r.addr + r.len ≤ end) (λ r. end < r.addr + r.len) ranges.now result }
+    ensures first { IsPartitionPoint (λ (r : Segment). r.addr + r.len ≤ end)
+        (λ r. end < r.addr + r.len) ranges.now result }
 {
-    ranges.partition_point(|range| end_of(*range) <= end)
+    ranges.partition_point(|range| range.end() <= end)
 }
 
-// Whether the segment ends below the first range or begins above the last, or there are none: then none has an address of
-// it.
+// Returns whether the segment ends below the first range or begins above the last, or there are none: then none has an
+// address of it.
 fn lies_outside(ranges: &[Segment], segment: Segment) -> bool
     requires { IsOrdered ranges.now }
     ensures { IsTrue result → share (range_of segment) (places ranges.now) ≡ false }
@@ -54,11 +49,11 @@ fn lies_outside(ranges: &[Segment], segment: Segment) -> bool
     }
     let first = ranges[0];
     let last = ranges[ranges.len() - 1];
-    end_of(segment) <= u64::from(first.addr) || end_of(last) <= u64::from(segment.addr)
+    segment.end() <= u64::from(first.addr) || last.end() <= u64::from(segment.addr)
 }
 
-// Whether one of the ranges has an address of the segment: the first that ends above where the segment begins has one, if
-// any has. It is found by binary search.
+// Returns whether one of the ranges has an address of the segment: the first that ends above where the segment begins
+// has one, if any has. It is found by binary search.
 #[inline(never)]
 fn meets_by_search(ranges: &[Segment], segment: Segment) -> bool
     requires { IsOrdered ranges.now }
@@ -78,7 +73,8 @@ fn replace(
 ) -> Result<(), AllocError>
     requires order { first ≤ past }
     requires bound { past ≤ length ranges.old.items }
-    ensures ok { OnOk result (ranges.new.items ≡ take first ranges.old.items ++ range ∷ drop past ranges.old.items) }
+    ensures ok { OnOk result (ranges.new.items
+        ≡ take first ranges.old.items ++ range ∷ drop past ranges.old.items) }
     ensures err { OnErr result (ranges.new.items ≡ ranges.old.items) }
 {
     if first == past {
@@ -91,7 +87,8 @@ fn replace(
 }
 
 /// Adds the addresses of a segment to ranges in order. It takes the place of those that lie in it; where one begins
-/// below it and ends above it, or it is empty, nothing changes. Without memory for one more range they stay as they were.
+/// below it and ends above it, or it is empty, nothing changes. Without memory for one more range they stay as they
+/// were.
 pub fn add_in_order(ranges: &mut Vec<Segment>, segment: Segment) -> Result<(), AllocError>
     requires { IsOrdered ranges.old.items }
     ensures ordered { IsOrdered ranges.new.items }
@@ -102,15 +99,15 @@ pub fn add_in_order(ranges: &mut Vec<Segment>, segment: Segment) -> Result<(), A
         return Ok(());
     }
     let first = begun_below(ranges, segment.addr);
-    let past = ended_by(ranges, end_of(segment));
+    let past = ended_by(ranges, segment.end());
     if past < first {
         return Ok(());
     }
     replace(ranges, first, past, segment)
 }
 
-/// Whether one of the ranges shares an address with the segment. A segment outside all ranges, the common case, is found by
-/// an inlined look at the first and the last range; else this searches by halves.
+/// Returns whether one of the ranges shares an address with the segment. A segment outside all ranges, the common case,
+/// is found by an inlined look at the first and the last range; else this searches by halves.
 pub fn meets_ordered(ranges: &[Segment], segment: Segment) -> bool
     requires { IsOrdered ranges.now }
     ensures { result ≡ share (range_of segment) (places ranges.now) }
@@ -121,8 +118,8 @@ pub fn meets_ordered(ranges: &[Segment], segment: Segment) -> bool
     meets_by_search(ranges, segment)
 }
 
-/// Returns, by binary search, how many addresses of the segment come before the first that lies in one of the ranges. It is
-/// the segment's length where none does.
+/// Returns, by binary search, how many addresses of the segment come before the first that lies in one of the ranges.
+/// It is the segment's length where none does.
 pub fn clear_of_ordered(ranges: &[Segment], segment: Segment) -> u32
     requires { IsOrdered ranges.now }
     ensures few { result ≤ segment.len }
@@ -137,7 +134,7 @@ pub fn clear_of_ordered(ranges: &[Segment], segment: Segment) -> u32
     begin.saturating_sub(segment.addr).min(segment.len)
 }
 
-/// Whether one of the ranges has an address of one of the segments.
+/// Returns whether one of the ranges has an address of one of the segments.
 pub fn any_meets_ordered(ranges: &[Segment], segments: &[Segment]) -> bool
     requires { IsOrdered ranges.now }
     ensures { result ≡ list_any (λ s. share (range_of s) (places ranges.now)) segments.now }

@@ -1,19 +1,19 @@
 //! What a channel's bursts need of a memory, and a memory over bytes that a caller lends.
 
-ghost use Rattle.std.specs.Prelude.{◌≡◌, ℕ, ◌+◌, ◌≤◌, ◌<◌, ◌⊎◌, ◌++◌, [], ◌∷◌, length, take, drop, replicate, nat_lt, true, if◌then◌else◌, IfOk, IfErr, OnOk, OnErr, IsTrue};
+ghost use Rattle.std.specs.Prelude.{◌≡◌, ℕ, ◌+◌, ◌≤◌, ◌<◌, ◌⊎◌, ◌++◌, [], ◌∷◌, length, take, drop, replicate, nat_lt, true, IfOk, IfErr, OnOk, OnErr, IsTrue};
 ghost use Rattle.std.specs.List.{list_all, range_with_len};
 ghost use Rattle.dma_mem.specs.Places.{range_of};
-ghost use Rattle.dma_mem.specs.Image.{put, bytes_at};
+ghost use Rattle.dma_mem.specs.Image.{put, bytes_at, largest_size};
 ghost use Rattle.dma_mem.specs.Lent.{Loan, Avoids, lies_in_one};
-ghost use Rattle.dma_mem.specs.Pages.{Paged, is_made, AllMade, Keeps, MakesNoOther};
+ghost use Rattle.dma_mem.specs.Pages.{Paged, is_made, range_fault, AllMade, Keeps, MakesNoOther};
 
 use crate::memory::{MemFault, Memory};
 use crate::segment::Segment;
 use crate::table::blocks::{copy_bytes_apart, fill_bytes};
 use crate::table::put_parts;
 
-/// A memory that bursts read and write: bytes at the addresses from 0 up to its size, but for its gaps. Some of them are ready
-/// to be written.
+/// A memory that bursts read and write: bytes at the addresses from 0 up to its size, but for its gaps. Some of them
+/// are ready to be written.
 pub trait Ram {
     // Its image, and which of its pages are made.
     ghost paged: { Self → Paged };
@@ -21,23 +21,24 @@ pub trait Ram {
     // The loans by which it is reached, where it is lent, and its gaps. No call changes them.
     ghost loan: { Self → Loan };
 
-    /// How many bytes it has.
+    /// Returns how many bytes it has.
     fn size(&self) -> u32
         ensures { result ≡ length (paged self.now).image };
 
-    /// Whether each address of a segment lies below the size and on a page.
+    /// Returns whether each address of a segment lies below the size and on a page.
     fn made(&self, segment: Segment) -> bool
         ensures { result ≡ list_all (is_made (paged self.now)) (range_of segment) };
 
-    /// Returns how many addresses of a segment come before the first that lies in a gap. It is the segment's length where
-    /// none does.
+    /// Returns how many addresses of a segment come before the first that lies in a gap. It is the segment's length
+    /// where none does.
     fn clear(&self, segment: Segment) -> u32
         ensures few { result ≤ segment.len }
         ensures none { Avoids (loan self.now).gaps segment.addr result }
-        ensures next { result < segment.len → IsTrue (lies_in_one (loan self.now).gaps (segment.addr + result)) };
+        ensures next { result < segment.len
+            → IsTrue (lies_in_one (loan self.now).gaps (segment.addr + result)) };
 
-    /// The bytes from an address on, as many as the block has: in place where they are in one piece, else the block, filled
-    /// with them.
+    /// Returns the bytes from an address on, as many as the block has: in place where they are in one piece, else the
+    /// block, filled with them.
     fn bytes<'a>(&'a self, addr: u32, block: &'a mut [u8]) -> &'a [u8]
         requires within { addr + length block.old ≤ length (paged self.now).image }
         requires gaps { Avoids (loan self.now).gaps addr (length block.old) }
@@ -45,26 +46,32 @@ pub trait Ram {
 
     /// Makes the pages of a segment where they aren't made.
     ///
-    /// The error is `OutOfMemoryRange` where the segment ends above the size, and nothing has changed; else `NoMemory`, and
-    /// some of its pages may have been made.
+    /// The error is `OutOfMemoryRange` where the segment ends above the size, and nothing has changed; else `NoMemory`,
+    /// and some of its pages may have been made.
     fn prepare(&mut self, segment: Segment) -> Result<(), MemFault>
         ensures ok { OnOk result (AllMade (paged self.new) (range_of segment)) }
         ensures within { OnOk result (segment.addr + segment.len ≤ length (paged self.old).image) }
-        ensures short { segment.addr + segment.len ≤ length (paged self.old).image → OnErr result (¬ AllMade (paged self.new) (range_of segment)) }
+        ensures short { segment.addr + segment.len ≤ length (paged self.old).image
+            → OnErr result (¬ AllMade (paged self.new) (range_of segment)) }
         ensures image { (paged self.new).image ≡ (paged self.old).image }
         ensures keeps { Keeps (paged self.old) (paged self.new) }
         ensures others { MakesNoOther (paged self.old) (paged self.new) (range_of segment) }
-        ensures err { IfErr result (λ fault. fault ≡ (if nat_lt (length (paged self.old).image) (segment.addr + segment.len) then MemFault.OutOfMemoryRange else MemFault.NoMemory)) }
-        ensures refused { nat_lt (length (paged self.old).image) (segment.addr + segment.len) ≡ true → paged self.new ≡ paged self.old }
+        ensures err { IfErr result (λ fault. fault
+            ≡ range_fault (length (paged self.old).image) (segment.addr + segment.len)) }
+        ensures refused { nat_lt (length (paged self.old).image) (segment.addr + segment.len) ≡ true
+            → paged self.new ≡ paged self.old }
         ensures loan { loan self.new ≡ loan self.old };
 
     /// Writes the bytes of two slices, those of the second behind those of the first, from an address on, to pages that
     /// are made.
     fn write_parts(&mut self, addr: u32, front: &[u8], back: &[u8])
-        requires within { addr + length front.now + length back.now ≤ length (paged self.old).image }
-        requires made { AllMade (paged self.old) (range_with_len addr (length front.now + length back.now)) }
+        requires within { addr + length front.now + length back.now
+            ≤ length (paged self.old).image }
+        requires made { AllMade (paged self.old)
+            (range_with_len addr (length front.now + length back.now)) }
         requires gaps { Avoids (loan self.old).gaps addr (length front.now + length back.now) }
-        ensures image { (paged self.new).image ≡ put (paged self.old).image (bytes_at addr (front.now ++ back.now)) }
+        ensures image { (paged self.new).image
+            ≡ put (paged self.old).image (bytes_at addr (front.now ++ back.now)) }
         ensures made { (paged self.new).made ≡ (paged self.old).made }
         ensures loan { loan self.new ≡ loan self.old };
 
@@ -76,7 +83,8 @@ pub trait Ram {
         requires reads { Avoids (loan self.old).gaps from len }
         requires writes { Avoids (loan self.old).gaps to len }
         requires apart { (from + len ≤ to) ⊎ (to + len ≤ from) }
-        ensures image { (paged self.new).image ≡ put (paged self.old).image (bytes_at to (take len (drop from (paged self.old).image))) }
+        ensures image { (paged self.new).image ≡ put (paged self.old).image
+            (bytes_at to (take len (drop from (paged self.old).image))) }
         ensures made { (paged self.new).made ≡ (paged self.old).made }
         ensures loan { loan self.new ≡ loan self.old };
 
@@ -85,7 +93,8 @@ pub trait Ram {
         requires within { addr + len ≤ length (paged self.old).image }
         requires made { AllMade (paged self.old) (range_with_len addr len) }
         requires gaps { Avoids (loan self.old).gaps addr len }
-        ensures image { (paged self.new).image ≡ put (paged self.old).image (bytes_at addr (replicate len byte)) }
+        ensures image { (paged self.new).image
+            ≡ put (paged self.old).image (bytes_at addr (replicate len byte)) }
         ensures made { (paged self.new).made ≡ (paged self.old).made }
         ensures loan { loan self.new ≡ loan self.old };
 }
@@ -142,13 +151,13 @@ impl Ram for Memory {
 #[derive(Drop)]
 pub struct LentRam<'a> {
     pub bytes: &'a mut [u8],
-    ghost fits: { length bytes.now ≤ 4294963200 },
+    ghost fits: { length bytes.now ≤ largest_size },
 }
 
 impl<'a> LentRam<'a> {
     /// Returns the memory of these bytes.
     pub fn over(bytes: &'a mut [u8]) -> LentRam<'a>
-        requires { length bytes.old ≤ 4294963200 }
+        requires { length bytes.old ≤ largest_size }
         ensures same_reference { result.bytes.ghost_name ≡ bytes.entry.ghost_name }
         ensures bytes { result.bytes.now ≡ bytes.old }
     {

@@ -21,7 +21,7 @@ enum Kept {
 }
 
 impl Kept {
-    // The ranges, in order.
+    // Returns the ranges, in order.
     fn as_slice(&self) -> &[Segment]
         ensures { result.now ≡ ranges_of self.now }
     {
@@ -32,8 +32,8 @@ impl Kept {
     }
 }
 
-/// A set of addresses, each at most 4,294,967,294. Contracts see it as its ranges, which rise and of which no two meet or
-/// touch.
+/// A set of addresses, each at most 4,294,967,294. Contracts see it as its ranges, which rise and of which no two meet
+/// or touch.
 #[derive(Debug, Drop)]
 pub struct RangeSet {
     kept: Kept,
@@ -53,8 +53,8 @@ impl Model for RangeSet {
     ghost invariant = { λ set. IsCoalesced (ranges_of set.kept) };
 }
 
-// Joins segments that meet or touch, in place. They are in the order of their first addresses, and end at 4,294,967,295 or
-// below it, so that nothing saturates.
+// Joins segments that meet or touch, in place. They are in the order of their first addresses, and end at 4,294,967,295
+// or below it, so that nothing saturates.
 fn coalesce(segments: &mut Vec<Segment>)
     requires filled { All (λ s. 0 < s.len) segments.old.items }
     requires within { All (λ s. s.addr + s.len ≤ 4294967295) segments.old.items }
@@ -78,9 +78,9 @@ fn coalesce(segments: &mut Vec<Segment>)
 }
 
 impl RangeSet {
-    /// The set of the segments' addresses. Each segment has bytes and ends at 4,294,967,295 or below it; they may meet,
-    /// and be in any order. It fails with `AllocError` where memory for one copy of the list was refused; with one
-    /// segment it never fails.
+    /// Returns the set of the segments' addresses. Each segment has bytes and ends at 4,294,967,295 or below it; they
+    /// may meet, and be in any order. It fails with `AllocError` where memory for one copy of the list was refused;
+    /// with one segment it never fails.
     pub fn new(alloc: Global, segments: &[Segment]) -> Result<RangeSet, AllocError>
         requires filled { All (λ s. 0 < s.len) segments.now }
         requires within { All (λ s. s.addr + s.len ≤ 4294967295) segments.now }
@@ -101,7 +101,7 @@ impl RangeSet {
         })
     }
 
-    /// The same addresses as ranges that rise, of which no two meet or touch.
+    /// Returns the same addresses as ranges that rise, of which no two meet or touch.
     pub fn ranges(&self) -> &[Segment]
         ensures ranges { result.now ≡ self.now }
         ensures coalesced { IsCoalesced self.now }
@@ -109,14 +109,14 @@ impl RangeSet {
         self.kept.as_slice()
     }
 
-    /// Whether the segment has an address of the set. An empty one has none.
+    /// Returns whether the segment has an address of the set. An empty one has none.
     pub fn meets(&self, segment: Segment) -> bool
         ensures { result ≡ share (range_of segment) (places self.now) }
     {
         meets_ordered(self.ranges(), segment)
     }
 
-    /// Whether one of the segments has an address of the set.
+    /// Returns whether one of the segments has an address of the set.
     pub fn meets_any(&self, segments: &[Segment]) -> bool
         ensures { result ≡ share (places segments.now) (places self.now) }
     {

@@ -1,6 +1,7 @@
 //! Memory that a caller lends in several regions.
 
 ghost use Rattle.std.specs.Prelude.{◌≡◌, ℕ, ◌+◌, ◌-◌, ◌<◌, ◌≤◌, ◌⊎◌, ◌++◌, ◌∷◌, [], false, length, take, drop, replicate, IsTrue, slice_index};
+ghost use Rattle.dma_mem.specs.Image.{largest_size};
 ghost use Rattle.dma_mem.specs.Lent.{Avoids, lies_in_one};
 ghost use Rattle.dma_mem.specs.Regions.{in_order, pieces_of, piece_of, end_of, has, image_of, gaps_of, rest_from};
 ghost use Rattle.dma_mem.specs.inner.Rewritten.{piece_at, Holds, Writable, Rewritten};
@@ -25,7 +26,7 @@ pub struct Region<'a> {
 }
 
 impl Region<'_> {
-    // Whether it has an address.
+    // Returns whether it has an address.
     #[inline(always)]
     fn has(&self, addr: u32) -> bool
         ensures { result ≡ has addr (piece_of self.now) }
@@ -33,17 +34,17 @@ impl Region<'_> {
         self.addr <= addr && ((addr - self.addr) as usize) < self.bytes.len()
     }
 
-    // The address behind its last byte.
+    // Returns the address behind its last byte.
     #[inline(always)]
     fn end(&self) -> u32
-        requires { end_of (piece_of self.now) ≤ 4294963200 }
+        requires { end_of (piece_of self.now) ≤ largest_size }
         ensures { result ≡ end_of (piece_of self.now) }
     {
         self.addr + self.bytes.len() as u32
     }
 }
 
-/// Whether regions rise, share no address, and end at [`MAX_SIZE`] at most.
+/// Returns whether regions rise, share no address, and end at [`MAX_SIZE`] at most.
 pub fn are_in_order(regions: &[Region<'_>]) -> bool
     ensures { result ≡ in_order (pieces_of regions.now) }
 {
@@ -64,7 +65,8 @@ pub fn are_in_order(regions: &[Region<'_>]) -> bool
 fn place(regions: &[Region<'_>], addr: u32) -> usize
     ensures within { result ≤ length regions.now }
     ensures before { (k : ℕ) → k < result → has addr (piece_at (pieces_of regions.now) k) ≡ false }
-    ensures found { result < length regions.now → IsTrue (has addr (piece_at (pieces_of regions.now) result)) }
+    ensures found { result < length regions.now
+        → IsTrue (has addr (piece_at (pieces_of regions.now) result)) }
 {
     for (index, region) in regions.iter().enumerate() {
         if region.has(addr) {
@@ -91,7 +93,8 @@ fn holder(regions: &[Region<'_>], addr: u32, len: usize) -> usize
     }
 }
 
-/// The bytes of the region that has an address, from that address on up to its end. There are none where no region has it.
+/// Returns the bytes of the region that has an address, from that address on up to its end. There are none where no
+/// region has it.
 pub fn bytes_from<'a>(regions: &'a [Region<'_>], addr: u32) -> &'a [u8]
     ensures { result.now ≡ rest_from (pieces_of regions.now) addr }
 {
@@ -103,7 +106,7 @@ pub fn bytes_from<'a>(regions: &'a [Region<'_>], addr: u32) -> &'a [u8]
     &region.bytes[(addr - region.addr) as usize..]
 }
 
-// The byte at an address: 0 where no region has it.
+// Returns the byte at an address: 0 where no region has it.
 fn byte_at(regions: &[Region<'_>], addr: u32) -> u8
     requires { IsTrue (in_order (pieces_of regions.now)) }
     ensures { result ≡ slice_index (image_of (pieces_of regions.now)) addr }
@@ -210,7 +213,8 @@ fn copy_in_region(regions: &mut [Region<'_>], index: usize, from: u32, to: u32, 
     requires reads { Holds (pieces_of regions.old) index from len }
     requires writes { Holds (pieces_of regions.old) index to len }
     requires apart { (from + len ≤ to) ⊎ (to + len ≤ from) }
-    ensures { Rewritten regions.old regions.new to (take len (drop from (image_of (pieces_of regions.old)))) }
+    ensures { Rewritten regions.old regions.new to
+        (take len (drop from (image_of (pieces_of regions.old)))) }
 {
     let region = &mut regions[index];
     let (source, target) = ((from - region.addr) as usize, (to - region.addr) as usize);
@@ -236,7 +240,8 @@ fn copy_block(regions: &mut [Region<'_>], from: u32, to: u32, len: usize)
     requires few { len ≤ 1024 }
     requires writable { Writable regions.old to len }
     requires source { from + len ≤ length (image_of (pieces_of regions.old)) }
-    ensures { Rewritten regions.old regions.new to (take len (drop from (image_of (pieces_of regions.old)))) }
+    ensures { Rewritten regions.old regions.new to
+        (take len (drop from (image_of (pieces_of regions.old)))) }
 {
     let mut block = [0; BLOCK_SIZE];
     let part = &mut block[..len];
@@ -249,7 +254,8 @@ fn copy_by_blocks(regions: &mut [Region<'_>], from: u32, to: u32, len: u32)
     requires writable { Writable regions.old to len }
     requires source { from + len ≤ length (image_of (pieces_of regions.old)) }
     requires apart { (from + len ≤ to) ⊎ (to + len ≤ from) }
-    ensures { Rewritten regions.old regions.new to (take len (drop from (image_of (pieces_of regions.old)))) }
+    ensures { Rewritten regions.old regions.new to
+        (take len (drop from (image_of (pieces_of regions.old)))) }
 {
     let mut done = 0;
     while done < len {
@@ -264,7 +270,8 @@ fn copy(regions: &mut [Region<'_>], from: u32, to: u32, len: u32)
     requires writable { Writable regions.old to len }
     requires source { from + len ≤ length (image_of (pieces_of regions.old)) }
     requires apart { (from + len ≤ to) ⊎ (to + len ≤ from) }
-    ensures { Rewritten regions.old regions.new to (take len (drop from (image_of (pieces_of regions.old)))) }
+    ensures { Rewritten regions.old regions.new to
+        (take len (drop from (image_of (pieces_of regions.old)))) }
 {
     let source = holder(regions, from, len as usize);
     let target = holder(regions, to, len as usize);
@@ -275,7 +282,7 @@ fn copy(regions: &mut [Region<'_>], from: u32, to: u32, len: u32)
     }
 }
 
-// The address behind the last region: 0 without one.
+// Returns the address behind the last region: 0 without one.
 fn size_of(regions: &[Region<'_>]) -> u32
     requires { IsTrue (in_order (pieces_of regions.now)) }
     ensures { result ≡ length (image_of (pieces_of regions.now)) }
@@ -293,7 +300,8 @@ fn clear_of(regions: &[Region<'_>], segment: Segment) -> u32
     requires { IsTrue (in_order (pieces_of regions.now)) }
     ensures few { result ≤ segment.len }
     ensures none { Avoids (gaps_of (pieces_of regions.now)) segment.addr result }
-    ensures next { result < segment.len → IsTrue (lies_in_one (gaps_of (pieces_of regions.now)) (segment.addr + result)) }
+    ensures next { result < segment.len
+        → IsTrue (lies_in_one (gaps_of (pieces_of regions.now)) (segment.addr + result)) }
 {
     let mut end = 0;
     for region in regions {
@@ -306,7 +314,7 @@ fn clear_of(regions: &[Region<'_>], segment: Segment) -> u32
     segment.len
 }
 
-// The elements of a slice, shared.
+// Returns the elements of a slice, shared.
 #[inline(always)]
 fn shared<'a, T>(slice: &'a &mut [T]) -> &'a [T]
     ensures { result.now ≡ slice.now.now }
@@ -314,10 +322,11 @@ fn shared<'a, T>(slice: &'a &mut [T]) -> &'a [T]
     slice
 }
 
-/// Bytes that a caller lends in regions, which rise and share no address, as a memory from address 0 on. It has no bytes
-/// between them. All of its pages are made.
+/// Bytes that a caller lends in regions, which rise and share no address, as a memory from address 0 on. It has no
+/// bytes between them. All of its pages are made.
 ///
-/// A function that is given regions writes `LentRegions { regions }` itself: its contract can then say what they become.
+/// A function that is given regions writes `LentRegions { regions }` itself: its contract can then say what they
+/// become.
 #[derive(Drop)]
 pub struct LentRegions<'a, 'b> {
     pub regions: &'a mut [Region<'b>],
@@ -325,13 +334,16 @@ pub struct LentRegions<'a, 'b> {
 }
 
 impl Ram for LentRegions<'_, '_> {
-    ghost use Rattle.std.specs.Prelude.{◌∷◌, map};
+    ghost use Rattle.std.specs.Prelude.{◌∷◌};
     ghost use Rattle.dma_mem.specs.Pages.{whole};
-    ghost use Rattle.dma_mem.specs.Regions.{image_of, gaps_of, pieces_of};
+    ghost use Rattle.dma_mem.specs.Regions.{image_of, gaps_of, names_of, pieces_of};
 
     ghost paged = { λ r. whole (image_of (pieces_of r.regions.now)) };
 
-    ghost loan = { λ r. record { names = r.regions.ghost_name ∷ map (λ x. x.bytes.ghost_name) r.regions.now; gaps = gaps_of (pieces_of r.regions.now) } };
+    ghost loan = { λ r. record {
+      names = r.regions.ghost_name ∷ names_of r.regions.now;
+      gaps = gaps_of (pieces_of r.regions.now);
+    } };
 
     fn size(&self) -> u32 {
         size_of(shared(&self.regions))

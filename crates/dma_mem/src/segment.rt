@@ -1,9 +1,10 @@
 //! A range of addresses.
 
-ghost use Rattle.std.specs.Prelude.{◌≡◌, ◌↔◌, IsTrue};
+ghost use Rattle.std.specs.Prelude.{◌≡◌, ◌+◌, ◌↔◌, IsTrue};
 ghost use Rattle.dma_mem.specs.Meeting.{Meets, meets};
 
 /// The addresses from `addr` up to, not including, `addr + len`, the sum taken without wrapping.
+#[repr(C)]
 #[derive(Clone, Copy, Debug, PartialEq, Eq)]
 pub struct Segment {
     /// The first address.
@@ -12,7 +13,16 @@ pub struct Segment {
     pub len: u32,
 }
 
-/// Whether two segments share an address. An empty one meets nothing.
+impl Segment {
+    /// Returns the address past the last, the sum taken without wrapping.
+    pub fn end(self) -> u64
+        ensures { result ≡ self.addr + self.len }
+    {
+        u64::from(self.addr) + u64::from(self.len)
+    }
+}
+
+/// Returns whether two segments share an address. An empty one meets nothing.
 pub fn meets(a: Segment, b: Segment) -> bool
     ensures value { result ≡ meets a b }
     ensures fact { IsTrue result ↔ Meets a b }
@@ -20,7 +30,5 @@ pub fn meets(a: Segment, b: Segment) -> bool
     if a.len == 0 || b.len == 0 {
         return false;
     }
-    let end_of_a = u64::from(a.addr) + u64::from(a.len);
-    let end_of_b = u64::from(b.addr) + u64::from(b.len);
-    u64::from(a.addr) < end_of_b && u64::from(b.addr) < end_of_a
+    u64::from(a.addr) < b.end() && u64::from(b.addr) < a.end()
 }

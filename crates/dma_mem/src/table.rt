@@ -2,16 +2,15 @@
 
 ghost use Rattle.std.specs.Prelude.{◌≡◌, ◌≢◌, ℕ, ◌+◌, ◌*◌, ◌/◌, ◌%◌, ◌<◌, ◌≤◌, ◌++◌, [], length, take, slice_index, slice_index_or, IfOk, OnOk, OnErr};
 ghost use Rattle.dma_mem.specs.Image.{put, bytes_at};
-ghost use Rattle.dma_mem.specs.inner.PageTable.{page_at, IsLaid};
+ghost use Rattle.dma_mem.specs.Pages.{page_size};
+ghost use Rattle.dma_mem.specs.inner.PageTable.{group_size, page_at, IsLaid, OthersStay, SameBytes};
 
 mod addresses;
 pub(crate) mod blocks;
 
+use crate::memory::PAGE_SIZE;
 use std::alloc::{AllocError, Global};
 use std::marker::Model;
-
-/// How many bytes a page has.
-pub(crate) const PAGE_SIZE: usize = 4096;
 
 // How many pages are in one group of the table.
 const GROUP_SIZE: usize = 1024;
@@ -61,11 +60,14 @@ impl Model for Page {
 
     ghost view = { λ p. p.bytes.items };
 
-    ghost invariant = { λ p. (0 < length p.bytes.items → 4096 ≤ length p.bytes.items) × (length p.bytes.items ≤ 4096) };
+    ghost use Rattle.dma_mem.specs.Pages.{page_size};
+
+    ghost invariant = { λ p. (0 < length p.bytes.items → page_size ≤ length p.bytes.items)
+        × (length p.bytes.items ≤ page_size) };
 }
 
 impl Page {
-    // A page that isn't made, which takes no memory.
+    // Returns a page that isn't made, which takes no memory.
     fn new(alloc: Global) -> Page
         ensures { result ≡ [] }
     {
@@ -74,18 +76,18 @@ impl Page {
         }
     }
 
-    // Its bytes, none where it isn't made.
+    // Returns its bytes, none where it isn't made.
     fn as_slice(&self) -> &[u8]
         ensures bytes { result.now ≡ self.now }
-        ensures whole { 0 < length self.now → length self.now ≡ 4096 }
+        ensures whole { 0 < length self.now → length self.now ≡ page_size }
     {
         self.bytes.as_slice()
     }
 
     // Makes it, if it isn't, of zeros.
     fn make(&mut self) -> Result<(), AllocError>
-        ensures whole { OnOk result (length self.new ≡ 4096) }
-        ensures bytes { (k : ℕ) → slice_index self.new k ≡ slice_index self.old k }
+        ensures whole { OnOk result (length self.new ≡ page_size) }
+        ensures bytes { SameBytes self.old self.new }
         ensures kept { 0 < length self.old → self.new ≡ self.old }
         ensures short { OnErr result (length self.old ≡ 0) }
         ensures err { OnErr result (self.new ≡ self.old) }
@@ -98,9 +100,9 @@ impl Page {
 
     // Puts the bytes of two slices into it, those of the second behind those of the first, from an offset on.
     fn put(&mut self, offset: usize, front: &[u8], back: &[u8])
-        requires fits { offset + length front.now + length back.now ≤ 4096 }
+        requires fits { offset + length front.now + length back.now ≤ page_size }
         requires made { 0 < length self.old }
-        ensures whole { length self.new ≡ 4096 }
+        ensures whole { length self.new ≡ page_size }
         ensures len { length self.new ≡ length self.old }
         ensures bytes { self.new ≡ put self.old (bytes_at offset (front.now ++ back.now)) }
     {
@@ -109,8 +111,8 @@ impl Page {
 
     // Makes it, if it isn't, and puts bytes into it from an offset on.
     fn write(&mut self, offset: usize, bytes: &[u8]) -> Result<(), AllocError>
-        requires { offset + length bytes.now ≤ 4096 }
-        ensures whole { OnOk result (length self.new ≡ 4096) }
+        requires { offset + length bytes.now ≤ page_size }
+        ensures whole { OnOk result (length self.new ≡ page_size) }
         ensures bytes { OnOk result (IsLaid self.old offset bytes.now self.new) }
         ensures short { OnErr result (length self.old ≡ 0) }
         ensures err { OnErr result (self.new ≡ self.old) }
@@ -120,7 +122,7 @@ impl Page {
         Ok(())
     }
 
-    // The same page again, in memory of its own.
+    // Returns the same page again, in memory of its own.
     fn try_copy(&self) -> Result<Page, AllocError>
         ensures { IfOk result (λ copy. copy ≡ self.now) }
     {
@@ -142,10 +144,12 @@ impl Model for Group {
 
     ghost view = { λ g. g.pages.items };
 
-    ghost invariant = { λ g. 0 < length g.pages.items → 1024 ≤ length g.pages.items };
+    ghost use Rattle.dma_mem.specs.inner.PageTable.{group_size};
+
+    ghost invariant = { λ g. 0 < length g.pages.items → group_size ≤ length g.pages.items };
 }
 
-// Pages, none of them made.
+// Returns pages, none of them made.
 fn no_pages(alloc: Global, count: usize) -> Result<Vec<Page>, AllocError>
     ensures len { IfOk result (λ v. length v.items ≡ count) }
     ensures none { IfOk result (λ v. (p : ℕ) → page_at v.items p ≡ []) }
@@ -158,7 +162,7 @@ fn no_pages(alloc: Global, count: usize) -> Result<Vec<Page>, AllocError>
 }
 
 impl Group {
-    // Pages that aren't made, which take no memory.
+    // Returns pages that aren't made, which take no memory.
     fn new(alloc: Global) -> Group
         ensures { result ≡ [] }
     {
@@ -167,10 +171,10 @@ impl Group {
         }
     }
 
-    // The bytes of a page, none where it isn't made.
+    // Returns the bytes of a page, none where it isn't made.
     fn page(&self, index: usize) -> &[u8]
         ensures bytes { result.now ≡ page_at self.now index }
-        ensures whole { 0 < length result.now → length result.now ≡ 4096 }
+        ensures whole { 0 < length result.now → length result.now ≡ page_size }
     {
         match self.pages.get(index) {
             Some(page) => page.as_slice(),
@@ -180,7 +184,7 @@ impl Group {
 
     // Gets its list of pages, if it has none.
     fn open(&mut self) -> Result<(), AllocError>
-        ensures long { OnOk result (1024 ≤ length self.new) }
+        ensures long { OnOk result (group_size ≤ length self.new) }
         ensures pages { (p : ℕ) → page_at self.new p ≡ page_at self.old p }
         ensures kept { 0 < length self.old → (result ≡ Ok tt) × (self.new ≡ self.old) }
     {
@@ -192,11 +196,12 @@ impl Group {
 
     // Makes a page, if it isn't.
     fn make(&mut self, index: usize) -> Result<(), AllocError>
-        requires { index < 1024 }
-        ensures whole { OnOk result (length (page_at self.new index) ≡ 4096) }
-        ensures bytes { (k : ℕ) → slice_index (page_at self.new index) k ≡ slice_index (page_at self.old index) k }
-        ensures others { (p : ℕ) → p ≢ index → page_at self.new p ≡ page_at self.old p }
-        ensures kept { 0 < length (page_at self.old index) → (p : ℕ) → page_at self.new p ≡ page_at self.old p }
+        requires { index < group_size }
+        ensures whole { OnOk result (length (page_at self.new index) ≡ page_size) }
+        ensures bytes { SameBytes (page_at self.old index) (page_at self.new index) }
+        ensures others { OthersStay self.old self.new index }
+        ensures kept { 0 < length (page_at self.old index)
+            → (p : ℕ) → page_at self.new p ≡ page_at self.old p }
         ensures short { OnErr result (length (page_at self.old index) ≡ 0) }
         ensures err { OnErr result ((p : ℕ) → page_at self.new p ≡ page_at self.old p) }
     {
@@ -207,11 +212,12 @@ impl Group {
 
     // Puts the bytes of two slices into a page that is made, from an offset on.
     fn put(&mut self, index: usize, offset: usize, front: &[u8], back: &[u8])
-        requires fits { offset + length front.now + length back.now ≤ 4096 }
+        requires fits { offset + length front.now + length back.now ≤ page_size }
         requires made { 0 < length (page_at self.old index) }
         ensures len { length (page_at self.new index) ≡ length (page_at self.old index) }
-        ensures bytes { IsLaid (page_at self.old index) offset (front.now ++ back.now) (page_at self.new index) }
-        ensures others { (p : ℕ) → p ≢ index → page_at self.new p ≡ page_at self.old p }
+        ensures bytes { IsLaid (page_at self.old index) offset (front.now ++ back.now)
+            (page_at self.new index) }
+        ensures others { OthersStay self.old self.new index }
     {
         let page = &mut self.pages[index];
         page.put(offset, front, back);
@@ -219,11 +225,12 @@ impl Group {
 
     // Makes a page, if it isn't, and puts bytes into it from an offset on.
     fn write(&mut self, index: usize, offset: usize, bytes: &[u8]) -> Result<(), AllocError>
-        requires within { index < 1024 }
-        requires fits { offset + length bytes.now ≤ 4096 }
-        ensures whole { OnOk result (length (page_at self.new index) ≡ 4096) }
-        ensures bytes { OnOk result (IsLaid (page_at self.old index) offset bytes.now (page_at self.new index)) }
-        ensures others { (p : ℕ) → p ≢ index → page_at self.new p ≡ page_at self.old p }
+        requires within { index < group_size }
+        requires fits { offset + length bytes.now ≤ page_size }
+        ensures whole { OnOk result (length (page_at self.new index) ≡ page_size) }
+        ensures bytes { OnOk result
+            (IsLaid (page_at self.old index) offset bytes.now (page_at self.new index)) }
+        ensures others { OthersStay self.old self.new index }
         ensures short { OnErr result (length (page_at self.old index) ≡ 0) }
         ensures err { OnErr result ((p : ℕ) → page_at self.new p ≡ page_at self.old p) }
     {
@@ -232,7 +239,7 @@ impl Group {
         page.write(offset, bytes)
     }
 
-    // The same pages again, in memory of their own.
+    // Returns the same pages again, in memory of their own.
     fn try_copy(&self) -> Result<Group, AllocError>
         ensures { IfOk result (λ copy. copy ≡ self.now) }
     {
@@ -281,10 +288,10 @@ impl Table {
         Ok(Table { groups })
     }
 
-    // The bytes of a page, none where it isn't made.
+    // Returns the bytes of a page, none where it isn't made.
     fn page(&self, number: usize) -> &[u8]
         ensures bytes { result.now ≡ page_at self.now number }
-        ensures whole { 0 < length result.now → length result.now ≡ 4096 }
+        ensures whole { 0 < length result.now → length result.now ≡ page_size }
     {
         match self.groups.get(number / GROUP_SIZE) {
             Some(group) => group.page(number % GROUP_SIZE),
@@ -296,9 +303,9 @@ impl Table {
     fn make_page(&mut self, number: usize) -> Result<(), AllocError>
         requires { number < length self.old }
         ensures count { length self.new ≡ length self.old }
-        ensures whole { OnOk result (length (page_at self.new number) ≡ 4096) }
-        ensures bytes { (k : ℕ) → slice_index (page_at self.new number) k ≡ slice_index (page_at self.old number) k }
-        ensures others { (p : ℕ) → p ≢ number → page_at self.new p ≡ page_at self.old p }
+        ensures whole { OnOk result (length (page_at self.new number) ≡ page_size) }
+        ensures bytes { SameBytes (page_at self.old number) (page_at self.new number) }
+        ensures others { OthersStay self.old self.new number }
         ensures kept { 0 < length (page_at self.old number) → self.new ≡ self.old }
         ensures short { OnErr result (length (page_at self.old number) ≡ 0) }
         ensures err { OnErr result (self.new ≡ self.old) }
@@ -309,12 +316,13 @@ impl Table {
 
     // Puts the bytes of two slices into a page that is made, from an offset on.
     fn put_in_page(&mut self, number: usize, offset: usize, front: &[u8], back: &[u8])
-        requires fits { offset + length front.now + length back.now ≤ 4096 }
+        requires fits { offset + length front.now + length back.now ≤ page_size }
         requires made { 0 < length (page_at self.old number) }
         ensures count { length self.new ≡ length self.old }
         ensures len { length (page_at self.new number) ≡ length (page_at self.old number) }
-        ensures bytes { IsLaid (page_at self.old number) offset (front.now ++ back.now) (page_at self.new number) }
-        ensures others { (p : ℕ) → p ≢ number → page_at self.new p ≡ page_at self.old p }
+        ensures bytes { IsLaid (page_at self.old number) offset (front.now ++ back.now)
+            (page_at self.new number) }
+        ensures others { OthersStay self.old self.new number }
     {
         let group = &mut self.groups[number / GROUP_SIZE];
         group.put(number % GROUP_SIZE, offset, front, back);
@@ -328,11 +336,12 @@ impl Table {
         bytes: &[u8],
     ) -> Result<(), AllocError>
         requires within { number < length self.old }
-        requires fits { offset + length bytes.now ≤ 4096 }
+        requires fits { offset + length bytes.now ≤ page_size }
         ensures count { length self.new ≡ length self.old }
-        ensures whole { OnOk result (length (page_at self.new number) ≡ 4096) }
-        ensures bytes { OnOk result (IsLaid (page_at self.old number) offset bytes.now (page_at self.new number)) }
-        ensures others { (p : ℕ) → p ≢ number → page_at self.new p ≡ page_at self.old p }
+        ensures whole { OnOk result (length (page_at self.new number) ≡ page_size) }
+        ensures bytes { OnOk result
+            (IsLaid (page_at self.old number) offset bytes.now (page_at self.new number)) }
+        ensures others { OthersStay self.old self.new number }
         ensures short { OnErr result (length (page_at self.old number) ≡ 0) }
         ensures err { OnErr result (self.new ≡ self.old) }
     {
@@ -340,7 +349,7 @@ impl Table {
         group.write(number % GROUP_SIZE, offset, bytes)
     }
 
-    /// The same table again, in memory of its own.
+    /// Returns the same table again, in memory of its own.
     pub(crate) fn try_copy(&self) -> Result<Table, AllocError>
         ensures { IfOk result (λ copy. copy ≡ self.now) }
     {
@@ -352,10 +361,10 @@ impl Table {
     }
 }
 
-// The bytes of a page, which reads as zeros where it isn't made.
+// Returns the bytes of a page, which reads as zeros where it isn't made.
 fn shown(page: &[u8]) -> &[u8]
-    requires { 0 < length page.now → length page.now ≡ 4096 }
-    ensures len { length result.now ≡ 4096 }
+    requires { 0 < length page.now → length page.now ≡ page_size }
+    ensures len { length result.now ≡ page_size }
     ensures bytes { (k : ℕ) → slice_index result.now k ≡ slice_index page.now k }
 {
     if page.is_empty() {

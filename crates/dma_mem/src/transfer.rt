@@ -1,7 +1,7 @@
 //! Transfers from a list of segments to another.
 
-ghost use Rattle.std.specs.Prelude.{◌≡◌, ◌+◌, ◌<◌, ◌≤◌, ◌↔◌, All, IsTrue, false, IfOk, IfErr, MatchResult, length, slice_get, unwrap_or};
-ghost use Rattle.dma_mem.specs.Places.{Descriptor, filling, places, sources, destinations, size_of, lies_below, all_below, touches, writes, is_free_of};
+ghost use Rattle.std.specs.Prelude.{◌≡◌, ◌+◌, ◌<◌, ◌≤◌, ◌↔◌, All, IsTrue, IfOk, IfErr, MatchResult, length, slice_get, unwrap_or};
+ghost use Rattle.dma_mem.specs.Places.{Descriptor, copying, filling, end_of_addresses, most_copied, places, sources, destinations, size_of, lies_below, all_below, touches, writes, is_free_of};
 ghost use Rattle.dma_mem.specs.Meeting.{meets, IsFree};
 ghost use Rattle.dma_mem.specs.declared.segment.Segment.{Segment};
 ghost use Rattle.dma_mem.specs.Rules.{IsTransfer};
@@ -60,7 +60,7 @@ enum Origin {
 }
 
 impl Origin {
-    // The segments, in order.
+    // Returns the segments, in order.
     fn as_slice(&self) -> &[Segment]
         ensures { result.now ≡ segments_of self.now }
     {
@@ -70,14 +70,14 @@ impl Origin {
         }
     }
 
-    // Whether it is one place, for every destination.
+    // Returns whether it is one place, for every destination.
     fn is_place(&self) -> bool
         ensures { result ≡ is_place self.now }
     {
         matches!(self, Origin::Place(_))
     }
 
-    // The same again, in memory of its own.
+    // Returns the same again, in memory of its own.
     fn try_copy(&self) -> Result<Origin, AllocError>
         ensures { IfOk result (λ copy. copy ≡ self.now) }
     {
@@ -90,8 +90,9 @@ impl Origin {
 
 /// What is copied from where to where, and the events that it waits for first and signals last.
 ///
-/// The places of a list are the addresses of its segments, segment after segment, each rising. Position p of the sources
-/// is copied to position p of the destinations. A fill has one source byte, which is copied to every destination.
+/// The places of a list are the addresses of its segments, segment after segment, each rising. Position p of the
+/// sources is copied to position p of the destinations. A fill has one source byte, which is copied to every
+/// destination.
 #[derive(Debug, Drop)]
 pub struct Transfer {
     src: Origin,
@@ -108,19 +109,17 @@ impl Model for Transfer {
     ghost Value = { Descriptor };
 
     ghost use Rattle.dma_mem.specs.Rules.{IsTransfer};
-    ghost use Rattle.dma_mem.specs.inner.Origins.{segments_of, is_place};
+    ghost use Rattle.dma_mem.specs.inner.Origins.{descriptor_of};
 
-    ghost view = { λ t. record { fill = is_place t.src; src = segments_of t.src; dst = t.dst; wait = t.wait; signal = t.signal } };
+    ghost view = { λ t. descriptor_of t.src t.dst t.wait t.signal };
 
-    ghost invariant = { λ t. IsTransfer
-        (record { fill = is_place t.src; src = segments_of t.src; dst = t.dst; wait = t.wait; signal = t.signal })
-        × (t.len ≡ size_of
-        (record { fill = is_place t.src; src = segments_of t.src; dst = t.dst; wait = t.wait; signal = t.signal })) };
+    ghost invariant = { λ t. IsTransfer (descriptor_of t.src t.dst t.wait t.signal)
+        × (t.len ≡ size_of (descriptor_of t.src t.dst t.wait t.signal)) };
 }
 
 // The place of a position of a list, or none past its end.
 fn place_at(list: &[Segment], position: u32) -> Option<u32>
-    requires { All (λ s. s.addr + s.len ≤ 4294967296) list.now }
+    requires { All (λ s. s.addr + s.len ≤ end_of_addresses) list.now }
     ensures { result ≡ slice_get (places list.now) position }
 {
     let mut left = position;
@@ -133,28 +132,30 @@ fn place_at(list: &[Segment], position: u32) -> Option<u32>
     None
 }
 
-// Whether each segment of the list ends at the size at most.
+// Returns whether each segment of the list ends at the size at most.
 fn all_below(list: &[Segment], size: u32) -> bool
     ensures { result ≡ all_below list.now size }
 {
-    list.iter().all(|s| u64::from(s.addr) + u64::from(s.len) <= u64::from(size))
+    list.iter().all(|s| s.end() <= u64::from(size))
 }
 
-// A copy of the list.
+// Returns a copy of the list.
 fn copied(alloc: Global, list: &[Segment]) -> Result<Segments, TransferFault>
-    ensures { MatchResult result (λ copy. copy ≡ list.now) (λ fault. fault ≡ TransferFault.NoMemory) }
+    ensures { MatchResult result (λ copy. copy ≡ list.now)
+        (λ fault. fault ≡ TransferFault.NoMemory) }
 {
     Segments::from_slice(alloc, list).map_err(|_| TransferFault::NoMemory)
 }
 
 impl Transfer {
-    /// A transfer from the places of `src` to those of `dst`, which waits for one event first and signals one last.
+    /// Returns a transfer from the places of `src` to those of `dst`, which waits for one event first and signals one
+    /// last.
     ///
     /// The error is the first that holds, each tested over the sources and then the destinations before the next:
-    /// `EmptyList`; `TooManySegments` for more than [`MAX_SEGMENTS`]; `EmptySegment`; `SegmentWraps` where a segment ends
-    /// above 2^32; `TotalsDiffer` where the lists don't have as many bytes; `TooLong` for more than [`MAX_BYTES`];
-    /// `DestinationsMeet`; `SourceMeetsDestination`; `BadEvent` for one above [`LAST_EVENT`]; else `NoMemory`.
-    /// Source segments may meet each other.
+    /// `EmptyList`; `TooManySegments` for more than [`MAX_SEGMENTS`]; `EmptySegment`; `SegmentWraps` where a segment
+    /// ends above 2^32; `TotalsDiffer` where the lists don't have as many bytes; `TooLong` for more than [`MAX_BYTES`];
+    /// `DestinationsMeet`; `SourceMeetsDestination`; `BadEvent` for one above [`LAST_EVENT`]; else `NoMemory`. Source
+    /// segments may meet each other.
     pub fn new(
         alloc: Global,
         src: &[Segment],
@@ -162,11 +163,11 @@ impl Transfer {
         wait: Option<u8>,
         signal: Option<u8>,
     ) -> Result<Transfer, TransferFault>
-        ensures ok { IfOk result (λ t. t ≡ record { fill = false; src = src.now; dst = dst.now; wait = wait; signal = signal }) }
+        ensures ok { IfOk result (λ t. t ≡ copying src.now dst.now wait signal) }
         ensures accepted { IfOk result (λ t. refusal_of t ≡ None) }
         ensures rules { IfOk result (λ t. IsTransfer t) }
         ensures err { IfErr result (λ fault. fault ≡ unwrap_or
-            (refusal_of (record { fill = false; src = src.now; dst = dst.now; wait = wait; signal = signal })) TransferFault.NoMemory) }
+            (refusal_of (copying src.now dst.now wait signal)) TransferFault.NoMemory) }
     {
         let len = checked_len(Totals::Same, src, dst, wait, signal)?;
         let src = copied(alloc, src)?;
@@ -188,10 +189,11 @@ impl Transfer {
         wait: Option<u8>,
         signal: Option<u8>,
     ) -> Result<Transfer, TransferFault>
-        ensures ok { IfOk result (λ t. t ≡ record { fill = false; src = src; dst = dst; wait = wait; signal = signal }) }
+        ensures ok { IfOk result (λ t. t ≡ copying src dst wait signal) }
         ensures accepted { IfOk result (λ t. refusal_of t ≡ None) }
         ensures rules { IfOk result (λ t. IsTransfer t) }
-        ensures err { IfErr result (λ fault. refusal_of (record { fill = false; src = src; dst = dst; wait = wait; signal = signal }) ≡ Some fault) }
+        ensures err { IfErr result
+            (λ fault. refusal_of (copying src dst wait signal) ≡ Some fault) }
     {
         let len = checked_len(Totals::Same, src.as_slice(), dst.as_slice(), wait, signal)?;
         Ok(Transfer {
@@ -203,11 +205,12 @@ impl Transfer {
         })
     }
 
-    /// A fill: a transfer of the byte at `src` to every place of `dst`, which waits for one event first and signals one
-    /// last.
+    /// Returns a fill: a transfer of the byte at `src` to every place of `dst`, which waits for one event first and
+    /// signals one last.
     ///
-    /// The error is the first that holds, as for [`Transfer::new`] with a source segment of one byte, but each is tested
-    /// over `dst` alone, and `TotalsDiffer` is none of them; `SourceMeetsDestination` comes where a place of `dst` is `src`.
+    /// The error is the first that holds, as for [`Transfer::new`] with a source segment of one byte, but each is
+    /// tested over `dst` alone, and `TotalsDiffer` is none of them; `SourceMeetsDestination` comes where a place of
+    /// `dst` is `src`.
     pub fn fill(
         alloc: Global,
         src: u32,
@@ -218,7 +221,8 @@ impl Transfer {
         ensures ok { IfOk result (λ t. t ≡ filling src dst.now wait signal) }
         ensures accepted { IfOk result (λ t. refusal_of_fill src dst.now wait signal ≡ None) }
         ensures rules { IfOk result (λ t. IsTransfer t) }
-        ensures err { IfErr result (λ fault. fault ≡ unwrap_or (refusal_of_fill src dst.now wait signal) TransferFault.NoMemory) }
+        ensures err { IfErr result (λ fault. fault
+            ≡ unwrap_or (refusal_of_fill src dst.now wait signal) TransferFault.NoMemory) }
     {
         let len = checked_fill(src, dst, wait, signal)?;
         let list = copied(alloc, dst)?;
@@ -254,7 +258,7 @@ impl Transfer {
         })
     }
 
-    /// Whether it is a fill, which copies one byte to every destination.
+    /// Returns whether it is a fill, which copies one byte to every destination.
     pub fn is_fill(&self) -> bool
         ensures fill { result ≡ self.now.fill }
         ensures rules { IsTransfer self.now }
@@ -262,7 +266,7 @@ impl Transfer {
         self.src.is_place()
     }
 
-    /// The source segments, in order: of a fill one of one byte.
+    /// Returns the source segments, in order: of a fill one of one byte.
     pub fn src(&self) -> &[Segment]
         ensures segments { result.now ≡ self.now.src }
         ensures rules { IsTransfer self.now }
@@ -270,7 +274,7 @@ impl Transfer {
         self.src.as_slice()
     }
 
-    /// The destination segments, in order.
+    /// Returns the destination segments, in order.
     pub fn dst(&self) -> &[Segment]
         ensures segments { result.now ≡ self.now.dst }
         ensures rules { IsTransfer self.now }
@@ -278,32 +282,33 @@ impl Transfer {
         self.dst.as_slice()
     }
 
-    /// The event that it waits for before its first byte.
+    /// Returns the event that it waits for before its first byte.
     pub fn wait(&self) -> Option<u8>
         ensures { result ≡ self.now.wait }
     {
         self.wait
     }
 
-    /// The event that it signals after its last byte.
+    /// Returns the event that it signals after its last byte.
     pub fn signal(&self) -> Option<u8>
         ensures { result ≡ self.now.signal }
     {
         self.signal
     }
 
-    /// How many bytes it copies: 1 to [`MAX_BYTES`].
+    /// Returns how many bytes it copies: 1 to [`MAX_BYTES`].
     pub fn len(&self) -> u32
         ensures size { result ≡ size_of self.now }
         ensures sources { result ≡ length (sources self.now) }
         ensures low { 1 ≤ result }
-        ensures high { result ≤ 1048576 }
+        ensures high { result ≤ most_copied }
         ensures rules { IsTransfer self.now }
     {
         self.len
     }
 
-    /// The address that position `position` is read from, or none at or past the length: of a fill the same at each.
+    /// Returns the address that position `position` is read from, or none at or past the length: of a fill the same at
+    /// each.
     pub fn src_place(&self, position: u32) -> Option<u32>
         ensures { result ≡ slice_get (sources self.now) position }
     {
@@ -314,14 +319,14 @@ impl Transfer {
         }
     }
 
-    /// The address that position `position` is written to, or none at or past the length.
+    /// Returns the address that position `position` is written to, or none at or past the length.
     pub fn dst_place(&self, position: u32) -> Option<u32>
         ensures { result ≡ slice_get (destinations self.now) position }
     {
         place_at(self.dst(), position)
     }
 
-    /// Whether all its segments end at `size` or below it, as they have to in a memory of that size.
+    /// Returns whether all its segments end at `size` or below it, as they have to in a memory of that size.
     pub fn lies_below(&self, size: u32) -> bool
         ensures below { result ≡ lies_below self.now size }
         ensures rules { IsTransfer self.now }
@@ -329,21 +334,21 @@ impl Transfer {
         all_below(self.src(), size) && all_below(self.dst(), size)
     }
 
-    /// Whether a source or a destination segment meets this one.
+    /// Returns whether a source or a destination segment meets this one.
     pub fn touches(&self, segment: Segment) -> bool
         ensures { result ≡ touches self.now segment }
     {
         self.writes(segment) || meets_list(segment, self.src())
     }
 
-    /// Whether a destination segment meets this one.
+    /// Returns whether a destination segment meets this one.
     pub fn writes(&self, segment: Segment) -> bool
         ensures { result ≡ writes self.now segment }
     {
         meets_list(segment, self.dst())
     }
 
-    /// Whether its destinations meet no segment of the other, and its sources no destination of the other.
+    /// Returns whether its destinations meet no segment of the other, and its sources no destination of the other.
     pub fn is_free_of(&self, other: &Transfer) -> bool
         ensures value { result ≡ is_free_of self.now other.now }
         ensures fact { IsTrue result ↔ IsFree self.now other.now }
@@ -353,23 +358,16 @@ impl Transfer {
             && !lists_meet(self.src(), other.dst())
     }
 
-    /// The same transfer again, in memory of its own.
+    /// Returns the same transfer again, in memory of its own.
     pub fn try_copy(&self) -> Result<Transfer, AllocError>
         ensures { IfOk result (λ copy. copy ≡ self.now) }
     {
-        let Transfer {
-            src,
-            dst,
-            wait,
-            signal,
-            len,
-        } = self;
         Ok(Transfer {
-            src: src.try_copy()?,
-            dst: dst.try_copy()?,
-            wait: *wait,
-            signal: *signal,
-            len: *len,
+            src: self.src.try_copy()?,
+            dst: self.dst.try_copy()?,
+            wait: self.wait,
+            signal: self.signal,
+            len: self.len,
         })
     }
 }

@@ -181,7 +181,8 @@ fn what_is_left_falls_by_one_each_step(rt: HostRuntime) -> Result<(), Fail> {
 static LOOP: &[u8] =
     b"\xbc\0\x11\0\0\0\xbc\x02\x81\0\0\0\xbc\x01\x31\x40\x0c\0\x22\x03\x04\x12\x08\x13\x3c\x04\0";
 
-// Copies 512 bytes from 0x11 to 0x811 by two rounds of an outer loop, each 256 of an inner one. The body is at offset 22.
+// Copies 512 bytes from 0x11 to 0x811 by two rounds of an outer loop, each 256 of an inner one. The body is at offset
+// 22.
 static NEST: &[u8] =
     b"\xbc\0\x11\0\0\0\xbc\x02\x11\x08\0\0\xbc\x01\x01\x40\0\0\x20\x01\x22\xff\x04\x12\x08\x13\x3c\x04\x38\x08\0";
 
@@ -245,7 +246,8 @@ fn a_loop_of_loops_is_one_block(rt: HostRuntime) -> Result<(), Fail> {
 
 // ---- pages
 
-// Loads 16 bytes from 0x1FF8 and stores them to 0x3FFC: both ranges lie on two pages. Its store is the fifth instruction.
+// Loads 16 bytes from 0x1FF8 and stores them to 0x3FFC: both ranges lie on two pages. Its store is the fifth
+// instruction.
 pub static ACROSS: &[u8] =
     b"\xbc\0\xf8\x1f\0\0\xbc\x02\xfc\x3f\0\0\xbc\x01\xf1\x40\x3c\0\x04\x08\0";
 

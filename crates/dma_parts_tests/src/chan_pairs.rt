@@ -51,8 +51,8 @@ fn end_of_second(is_loaded: bool, second: u8) -> RunEnd {
 // How many pairs end in which way, by `slot_of`. Of the 256 first bytes 243 begin no instruction; each is counted with
 // its 256 second bytes. After the four one-byte instructions that go on, each second byte is counted once.
 const ALL_PAIRS: [u32; 7] = [
-    // DMAEND, two DMALP and two DMALPEND with any second byte; DMASEV of 32 events; DMAMOV of 3 registers; behind each of the
-    // four DMAEND and nine others that go on to one, and a store behind DMALD: 5 * 256 + 32 + 3 + 4 * 10 + 1
+    // DMAEND, two DMALP and two DMALPEND with any second byte; DMASEV of 32 events; DMAMOV of 3 registers; behind each
+    // of the four DMAEND and nine others that go on to one, and a store behind DMALD: 5 * 256 + 32 + 3 + 4 * 10 + 1
     1_356,
     // DMAWFE of 32 events with the invalid flag and without; DMAWFE 0 behind each of the four: 2 * 32 + 4
     68,

@@ -29,7 +29,8 @@ impl Read for FakeReader<'_> {
 
     fn read(&mut self, buf: &mut [u8]) -> io::Result<usize>
         ensures bound { ReadsAtMost result buf.new }
-        ensures bytes { ReadConsumes (Some self.old.rest.now) (Some self.new.rest.now) result buf.new }
+        ensures bytes { ReadConsumes (Some self.old.rest.now)
+            (Some self.new.rest.now) result buf.new }
         ensures fault { OnErr result (IsTrue self.new.failed) }
         ensures no_fault { OnOk result (IsTrue self.new.failed → IsTrue self.old.failed) }
         ensures lasting { IsTrue self.old.failed → IsTrue self.new.failed }
@@ -80,10 +81,13 @@ impl Write for FakeWriter {
 
     fn write(&mut self, buf: &[u8]) -> io::Result<usize>
         ensures bound { WritesAtMost result buf.now }
-        ensures bytes { WriteAppends (Some self.old.bytes.items) (Some self.new.bytes.items) result buf.now }
+        ensures bytes { WriteAppends (Some self.old.bytes.items)
+            (Some self.new.bytes.items) result buf.now }
         ensures fault { OnErr result (IsTrue self.new.failed) }
-        ensures none_taken { IfOk result (λ n. n ≡ 0 → 0 < length buf.now → IsTrue self.new.failed) }
-        ensures some_taken { IfOk result (λ n. 0 < n → IsTrue self.new.failed → IsTrue self.old.failed) }
+        ensures none_taken { IfOk result
+            (λ n. n ≡ 0 → 0 < length buf.now → IsTrue self.new.failed) }
+        ensures some_taken { IfOk result
+            (λ n. 0 < n → IsTrue self.new.failed → IsTrue self.old.failed) }
         ensures lasting { IsTrue self.old.failed → IsTrue self.new.failed }
     {
         self.calls = self.calls.saturating_add(1);

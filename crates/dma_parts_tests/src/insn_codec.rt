@@ -2,9 +2,9 @@
 
 ghost use Rattle.std.specs.Prelude.{◌<◌};
 
-use dma_insn::assembler::reading_tells;
+use dma_insn::assembler::reading_reports;
 use dma_insn::codec::{DecodeFault, decode, encode, no_spelling_begins_another};
-use dma_insn::disassembler::{disassembly_assembles, disassembly_tells};
+use dma_insn::disassembler::{disassembly_assembles, disassembly_reports};
 use dma_insn::insn::{Counter, Event, Insn, Times};
 use std::test::Fail;
 
@@ -67,7 +67,7 @@ fn every_pair_of_first_bytes(rt: HostRuntime) {
 #[test]
 fn the_laws_are_there() {
     no_spelling_begins_another();
-    reading_tells();
+    reading_reports();
     disassembly_assembles();
-    disassembly_tells();
+    disassembly_reports();
 }

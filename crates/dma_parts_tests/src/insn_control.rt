@@ -1,8 +1,6 @@
 //! Encoding and decoding of control words.
 
-use dma_insn::control::{
-    BeatSize, Beats, BurstEnd, Cache, Control, ControlFault, ControlWord, Protection,
-};
+use dma_insn::control::{Attribute, BeatSize, Beats, BurstEnd, Control, ControlFault, ControlWord};
 use std::test::Fail;
 
 // Source and destination settings are equal, with incrementing addresses, and all other bits are 0.
@@ -11,8 +9,8 @@ fn both_ends(size: BeatSize, beats: u8) -> Option<Control> {
         increments: true,
         size,
         beats: Beats::new(beats)?,
-        protection: Protection::new(0)?,
-        cache: Cache::new(0)?,
+        protection: Attribute::new(0)?,
+        cache: Attribute::new(0)?,
     };
     Some(Control { src: end, dst: end })
 }
@@ -67,6 +65,6 @@ fn refusals_come_in_their_order(rt: HostRuntime) {
         assert_eq!(rt; Control::from_bits(bits), Err(fault));
         assert_eq!(rt; ControlWord::from_bits(bits), Err(fault));
     }
-    assert!(rt; Beats::new(17).is_none() && Protection::new(8).is_none());
-    assert!(rt; Cache::new(8).is_none() && BeatSize::from_code(5).is_none());
+    assert!(rt; Beats::new(17).is_none());
+    assert!(rt; Attribute::new(8).is_none() && BeatSize::from_code(5).is_none());
 }

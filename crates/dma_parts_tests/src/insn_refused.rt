@@ -45,7 +45,7 @@ fn bytes_are_disassembled_when_asked_again(rt: HostRuntime) -> Result<(), Fail> 
 
 // A fault is reported before out of memory, whichever allocation is refused.
 #[test]
-fn faults_are_told_before_refused_memory(rt: HostRuntime) {
+fn faults_are_reported_before_refused_memory(rt: HostRuntime) {
     let no_name = AsmFault::Line {
         n: 3,
         cause: Cause::Mnemonic,

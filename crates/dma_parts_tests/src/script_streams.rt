@@ -4,7 +4,7 @@ ghost use Rattle.std.specs.Prelude.{◌∷◌, []};
 
 use crate::fakes::{FakeReader, FakeWriter};
 use dma_script::command::{Command, OpenCommand, SUCCESS, serve, serve_open};
-use dma_script::printing::push_line;
+use dma_script::printing::print_line;
 use std::alloc::{AllocError, Global};
 use std::process::Abort;
 use std::sync::Wait;
@@ -24,7 +24,7 @@ impl Command for Echo {
     ghost printed = { λ input. record { groups = (input ∷ []) ∷ [] ∷ []; status = 0 } };
 
     fn answer(&self, _alloc: Global, input: &[u8], out: &mut Vec<u8>) -> Result<u8, AllocError> {
-        push_line(out, input)?;
+        print_line(out, &input)?;
         if self.is_refused {
             return Err(AllocError);
         }
@@ -47,7 +47,7 @@ impl OpenCommand for Echo {
         input: &[u8],
         out: &mut Vec<u8>,
     ) -> Result<u8, AllocError> {
-        push_line(out, input)?;
+        print_line(out, &input)?;
         if self.is_refused {
             return Err(AllocError);
         }

@@ -1,14 +1,16 @@
 //! Printing of numbers and digits.
 
-use dma_text::digits::{hex_pair, push_decimal};
+use dma_text::text::{Address, HexByte, SpacedBytes, Text};
 use std::test::Fail;
 
 #[test]
 fn numbers_and_digits(rt: HostRuntime) -> Result<(), Fail> {
-    let mut line = Vec::new(rt.alloc());
-    push_decimal(&mut line, 0)?;
-    line.extend_from_slice(&hex_pair(0x9A))?;
-    push_decimal(&mut line, u64::MAX)?;
-    assert_eq!(rt; line.as_slice(), b"09A18446744073709551615".as_slice());
+    let mut out = Vec::new(rt.alloc());
+    (0u8, HexByte(0x9A), u64::MAX).push(&mut out)?;
+    (" ", Address(0x1234ABCD), SpacedBytes(&[0, 255]), ".").push(&mut out)?;
+    assert_eq!(rt;
+        out.as_slice(),
+        b"09A18446744073709551615 1234ABCD 00 FF.".as_slice()
+    );
     Ok(())
 }

@@ -6,10 +6,10 @@ use Rattle.std.specs.Str.Lines.{lines}
 use Rattle.dma_script.specs.Words.{words_of, is_plain}
 use Rattle.dma_script.specs.Lines.{◌>>=◌, after_line, after_lines, at_line, first_number, is_skipped}
 use Rattle.dma_script.specs.Plan.{transfer_line, plan_step, plan_of}
-use Rattle.dma_script.specs.Arguments.{where_holds, no_word}
-use Rattle.dma_script.specs.Race.{RaceRead, nothing_read, race_keyword_of, is_early, job_line, next_race_line, race_step, race_script_of}
+use Rattle.dma_script.specs.Arguments.{cause_reported, ended, unread}
+use Rattle.dma_script.specs.Race.{RaceRead, where_holds, nothing_read, race_keyword_of, is_early, job_line, next_race_line, race_step, race_script_of}
 use Rattle.dma_script.specs.Statements.{keyword_of, first_line, later_line, next_line, run_step, run_script_of}
-use Rattle.dma_script.specs.Causes.{cause_told, line_told, run_asks, plan_asks, is_taken, first_fault, behind_after, no_line_fault, fault_told, race_asks, RaceSide, side_of, race_command_of, is_go, after_command, race_after, at_start, no_go_fault, FirstFaultsAreTold}
+use Rattle.dma_script.specs.Causes.{line_reported, run_asks, plan_asks, is_taken, first_fault, behind_after, no_line_fault, fault_reported, race_asks, RaceSide, side_of, race_command_of, is_go, after_command, race_after, at_start, no_go_fault, FirstFaultsAreReported}
 use Rattle.dma_script.specs.declared.fault.Cause.{Cause}
 use Rattle.dma_script.specs.declared.fault.Cause.TheVariants as causes
 use Rattle.dma_script.specs.declared.fault.Fault.{Fault}
@@ -25,20 +25,20 @@ use Rattle.dma_script.specs.declared.race.RaceScript.{RaceScript}
 use Rattle.dma_script.proofs.CauseLemmas.{run_line, race_line, plan_line}
 
 -- one line, for which a fault is reported or not, and what follows it
-one_line : {S : Type 0} (n : ℕ) (r : Result S Cause) (f : S → Result S Fault) (test : Option Cause) (rest : Option Fault) → cause_told r ≡ test → ((next : S) → r ≡ Ok next → fault_told (f next) ≡ rest)
-    → fault_told (at_line n r >>= f) ≡ option_or (option_map (λ cause. let fault : Fault = record { line = n; cause = cause } in fault) test) rest
+one_line : {S : Type 0} (n : ℕ) (r : Result S Cause) (f : S → Result S Fault) (test : Option Cause) (rest : Option Fault) → cause_reported r ≡ test → ((next : S) → r ≡ Ok next → fault_reported (f next) ≡ rest)
+    → fault_reported (at_line n r >>= f) ≡ option_or (option_map (λ cause. let fault : Fault = record { line = n; cause = cause } in fault) test) rest
 one_line n (Ok next) f test rest same more = more next refl ∙ ap (λ t. option_or (option_map (λ cause. let fault : Fault = record { line = n; cause = cause } in fault) t) rest) same
 one_line n (Err cause) f test rest same more = ap (λ t. option_or (option_map (λ cause. let fault : Fault = record { line = n; cause = cause } in fault) t) rest) same
 
 -- The fault of some lines, for any reader whose report on a line depends on the position in the script.
-lines_told : {S K : Type 0} (step : S → List (List ℕ) → Result S Cause) (side : S → K) (test : K → List ℕ → Option Cause) (after : K → List ℕ → K)
-    → ((read : S) (line : List ℕ) → cause_told (after_line step read line) ≡ test (side read) line)
+lines_reported : {S K : Type 0} (step : S → List (List ℕ) → Result S Cause) (side : S → K) (test : K → List ℕ → Option Cause) (after : K → List ℕ → K)
+    → ((read : S) (line : List ℕ) → cause_reported (after_line step read line) ≡ test (side read) line)
     → ((read : S) (line : List ℕ) (next : S) → after_line step read line ≡ Ok next → side next ≡ after (side read) line)
-    → (n : ℕ) (read : S) (rest : List (List ℕ)) → fault_told (after_lines step n read rest) ≡ first_fault test after (side read) n rest
-lines_told step side test after tells goes n read [] = refl
-lines_told step side test after tells goes n read (line ∷ rest) =
+    → (n : ℕ) (read : S) (rest : List (List ℕ)) → fault_reported (after_lines step n read rest) ≡ first_fault test after (side read) n rest
+lines_reported step side test after tells goes n read [] = refl
+lines_reported step side test after tells goes n read (line ∷ rest) =
     one_line (n + 1) (after_line step read line) (λ next. after_lines step (n + 1) next rest) (test (side read) line) (first_fault test after (after (side read) line) (n + 1) rest) (tells read line)
-    (λ next is. lines_told step side test after tells goes (n + 1) next rest ∙ ap (λ k. first_fault test after k (n + 1) rest) (goes read line next is))
+    (λ next is. lines_reported step side test after tells goes (n + 1) next rest ∙ ap (λ k. first_fault test after k (n + 1) rest) (goes read line next is))
 
 or_false : (b : Bool) → b ≡ (b || false)
 or_false true = refl
@@ -104,11 +104,11 @@ behind_all behind [] = or_false behind
 behind_all behind (line ∷ rest) = behind_all (behind || is_taken line) rest ∙ or_assoc behind (is_taken line) (list_any is_taken rest)
 
 -- The fault reported for a whole script, for whose lines a fault is reported or not.
-whole_told : {A B : Type 0} (r : Result (Option A) Fault) (end : Option A → Result B Fault) (fault : Fault) (of_lines : Option Fault) (some : Bool) → fault_told (end None) ≡ Some fault → ((a : A) → fault_told (end (Some a)) ≡ None)
-    → fault_told r ≡ of_lines → ((final : Option A) → r ≡ Ok final → is_some final ≡ some) → fault_told (r >>= end) ≡ option_or of_lines (if some then None else Some fault)
-whole_told (Ok None) end fault of_lines some none_told some_told same final = let e : false ≡ some = final None refl in rw (← same, ← e) none_told
-whole_told (Ok (Some a)) end fault of_lines some none_told some_told same final = let e : true ≡ some = final (Some a) refl in rw (← same, ← e) (some_told a)
-whole_told (Err other) end fault of_lines some none_told some_told same final = ap (λ t. option_or t (if some then None else Some fault)) same
+whole_reported : {A B : Type 0} (r : Result (Option A) Fault) (end : Option A → Result B Fault) (fault : Fault) (of_lines : Option Fault) (some : Bool) → fault_reported (end None) ≡ Some fault → ((a : A) → fault_reported (end (Some a)) ≡ None)
+    → fault_reported r ≡ of_lines → ((final : Option A) → r ≡ Ok final → is_some final ≡ some) → fault_reported (r >>= end) ≡ option_or of_lines (if some then None else Some fault)
+whole_reported (Ok None) end fault of_lines some none_told some_reported same final = let e : false ≡ some = final None refl in rw (← same, ← e) none_told
+whole_reported (Ok (Some a)) end fault of_lines some none_told some_reported same final = let e : true ≡ some = final (Some a) refl in rw (← same, ← e) (some_reported a)
+whole_reported (Err other) end fault of_lines some none_told some_reported same final = ap (λ t. option_or t (if some then None else Some fault)) same
 
 run_goes : (read : Option RunScript) (line : List ℕ) (next : Option RunScript) → after_line run_step read line ≡ Ok next → is_some next ≡ behind_after (is_some read) line
 run_goes read line next is = goes_behind (is_skipped (words_of line)) (list_all is_plain line) read next (run_step read (words_of line)) (run_some read (words_of line) next) is
@@ -116,16 +116,16 @@ run_goes read line next is = goes_behind (is_skipped (words_of line)) (list_all 
 plan_goes : (read : Option TransferLine) (line : List ℕ) (next : Option TransferLine) → after_line plan_step read line ≡ Ok next → is_some next ≡ behind_after (is_some read) line
 plan_goes read line next is = goes_behind (is_skipped (words_of line)) (list_all is_plain line) read next (plan_step read (words_of line)) (plan_some read (words_of line) next) is
 
-run_faults : (input : List ℕ) → fault_told (run_script_of input) ≡ option_or (first_fault (λ behind line. line_told (run_asks behind) line) behind_after false 0 (lines input)) (no_line_fault input)
+run_faults : (input : List ℕ) → fault_reported (run_script_of input) ≡ option_or (first_fault (λ behind line. line_reported (run_asks behind) line) behind_after false 0 (lines input)) (no_line_fault input)
 run_faults input =
-    whole_told (after_lines run_step 0 None (lines input)) (λ script. ok_or script (record { line = 0; cause = causes.First })) (record { line = 0; cause = causes.First }) _ (list_any is_taken (lines input)) refl (λ a. refl)
-    (lines_told run_step (λ read. is_some read) (λ behind line. line_told (run_asks behind) line) behind_after run_line run_goes 0 None (lines input))
+    whole_reported (after_lines run_step 0 None (lines input)) (λ script. ok_or script (record { line = 0; cause = causes.First })) (record { line = 0; cause = causes.First }) _ (list_any is_taken (lines input)) refl (λ a. refl)
+    (lines_reported run_step (λ read. is_some read) (λ behind line. line_reported (run_asks behind) line) behind_after run_line run_goes 0 None (lines input))
     (λ final is. lines_reach run_step (λ read. is_some read) behind_after run_goes 0 None (lines input) final is ∙ behind_all false (lines input))
 
-plan_faults : (input : List ℕ) → fault_told (plan_of input) ≡ option_or (first_fault (λ behind line. line_told (plan_asks behind) line) behind_after false 0 (lines input)) (no_line_fault input)
+plan_faults : (input : List ℕ) → fault_reported (plan_of input) ≡ option_or (first_fault (λ behind line. line_reported (plan_asks behind) line) behind_after false 0 (lines input)) (no_line_fault input)
 plan_faults input =
-    whole_told (after_lines plan_step 0 None (lines input)) (λ read. ok_or read (record { line = 0; cause = causes.First }) >>= (λ line. let plan : PlanLine = record { line = first_number input; transfer = line } in Ok plan)) (record { line = 0; cause = causes.First }) _ (list_any is_taken (lines input)) refl (λ a. refl)
-    (lines_told plan_step (λ read. is_some read) (λ behind line. line_told (plan_asks behind) line) behind_after plan_line plan_goes 0 None (lines input))
+    whole_reported (after_lines plan_step 0 None (lines input)) (λ read. ok_or read (record { line = 0; cause = causes.First }) >>= (λ line. let plan : PlanLine = record { line = first_number input; transfer = line } in Ok plan)) (record { line = 0; cause = causes.First }) _ (list_any is_taken (lines input)) refl (λ a. refl)
+    (lines_reported plan_step (λ read. is_some read) (λ behind line. line_reported (plan_asks behind) line) behind_after plan_line plan_goes 0 None (lines input))
     (λ final is. lines_reach plan_step (λ read. is_some read) behind_after plan_goes 0 None (lines input) final is ∙ behind_all false (lines input))
 
 -- ---- race scripts
@@ -167,7 +167,7 @@ job_made jobs script (Ok job) false next is = absurd (let bad : Err causes.Range
 job_made jobs script (Err cause) few next is = absurd (let bad : Err cause ≡ Ok next = is in cc)
 
 go_made : (jobs : List JobLine) (script : RunScript) (words : List (List ℕ)) (next : RaceRead)
-    → (no_word words >>= (λ none. let read : RaceRead = record { before = Some script; jobs = jobs; after = Some [] } in Ok read)) ≡ Ok next → Moves (record { before = Some script; jobs = jobs; after = None }) (Some race_keywords.Go) next
+    → (ended (unread words) >>= (λ none. let read : RaceRead = record { before = Some script; jobs = jobs; after = Some [] } in Ok read)) ≡ Ok next → Moves (record { before = Some script; jobs = jobs; after = None }) (Some race_keywords.Go) next
 go_made jobs script [] next is =
     let made : RaceRead = record { before = Some script; jobs = jobs; after = Some [] } in
     let same : made ≡ next = cc in
@@ -237,14 +237,14 @@ sound_behind false false sound = refl
 
 -- the end of a race script that was read
 race_end : (jobs : List JobLine) (before : Option RunScript) (after : Option (List Statement))
-    → fault_told (ok_or before (record { line = 0; cause = causes.First }) >>= (λ before. ok_or after (record { line = 0; cause = causes.Go }) >>= (λ after. let script : RaceScript = record { before = before; jobs = jobs; after = after } in Ok script)))
+    → fault_reported (ok_or before (record { line = 0; cause = causes.First }) >>= (λ before. ok_or after (record { line = 0; cause = causes.Go }) >>= (λ after. let script : RaceScript = record { before = before; jobs = jobs; after = after } in Ok script)))
     ≡ option_or (if is_some before then None else Some (record { line = 0; cause = causes.First })) (if is_some after then None else Some (record { line = 0; cause = causes.Go }))
 race_end jobs None after = refl
 race_end jobs (Some script) None = refl
 race_end jobs (Some script) (Some l) = refl
 
-whole_race : (r : Result RaceRead Fault) (of_lines : Option Fault) (some go : Bool) → fault_told r ≡ of_lines → ((final : RaceRead) → r ≡ Ok final → (is_some final.before ≡ some) × (is_some final.after ≡ go))
-    → fault_told (r >>= (λ read. ok_or read.before (record { line = 0; cause = causes.First }) >>= (λ before. ok_or read.after (record { line = 0; cause = causes.Go }) >>= (λ after. let script : RaceScript = record { before = before; jobs = read.jobs; after = after } in Ok script))))
+whole_race : (r : Result RaceRead Fault) (of_lines : Option Fault) (some go : Bool) → fault_reported r ≡ of_lines → ((final : RaceRead) → r ≡ Ok final → (is_some final.before ≡ some) × (is_some final.after ≡ go))
+    → fault_reported (r >>= (λ read. ok_or read.before (record { line = 0; cause = causes.First }) >>= (λ before. ok_or read.after (record { line = 0; cause = causes.Go }) >>= (λ after. let script : RaceScript = record { before = before; jobs = read.jobs; after = after } in Ok script))))
     ≡ option_or of_lines (option_or (if some then None else Some (record { line = 0; cause = causes.First })) (if go then None else Some (record { line = 0; cause = causes.Go })))
 whole_race (Ok final) of_lines some go same ends =
     let e = ends final refl in
@@ -253,15 +253,15 @@ whole_race (Ok final) of_lines some go same ends =
     rw (← same, ← b, ← a) (race_end final.jobs final.before final.after)
 whole_race (Err fault) of_lines some go same ends = ap (λ t. option_or t (option_or (if some then None else Some (record { line = 0; cause = causes.First })) (if go then None else Some (record { line = 0; cause = causes.Go })))) same
 
-race_faults : (input : List ℕ) → fault_told (race_script_of input) ≡ option_or (first_fault (λ side line. line_told (race_asks side) line) race_after at_start 0 (lines input)) (option_or (no_line_fault input) (no_go_fault input))
+race_faults : (input : List ℕ) → fault_reported (race_script_of input) ≡ option_or (first_fault (λ side line. line_reported (race_asks side) line) race_after at_start 0 (lines input)) (option_or (no_line_fault input) (no_go_fault input))
 race_faults input =
     whole_race (after_lines race_step 0 nothing_read (lines input)) _ (list_any is_taken (lines input)) (list_any go_line (lines input))
-    (lines_told race_step side_of (λ side line. line_told (race_asks side) line) race_after race_line (λ read line next is. (race_both read line next is).0) 0 nothing_read (lines input))
+    (lines_reported race_step side_of (λ side line. line_reported (race_asks side) line) race_after race_line (λ read line next is. (race_both read line next is).0) 0 nothing_read (lines input))
     (λ final is.
     let side = lines_reach race_step side_of race_after (λ read line next is. (race_both read line next is).0) 0 nothing_read (lines input) final is in
     let sound = lines_keep race_step IsSound (λ read line next is. (race_both read line next is).1) 0 nothing_read (lines input) final (λ after. after) is in
     (sound_behind (is_some final.before) (is_some final.after) sound ∙ ap (λ (s : RaceSide). s.behind) side ∙ race_behind at_start (lines input), ap (λ (s : RaceSide). s.after_go) side ∙ race_gone at_start (lines input)))
 
 -- For each kind of script, the fault of the first faulty line is reported.
-pub first_faults_are_told : FirstFaultsAreTold
-first_faults_are_told = record { run = run_faults; race = race_faults; plan = plan_faults }
+pub first_faults_are_reported : FirstFaultsAreReported
+first_faults_are_reported = record { run = run_faults; race = race_faults; plan = plan_faults }

@@ -1,6 +1,5 @@
 -- Lemmas on how a command ends, on lines, their words, and which are skipped, on the causes of faulty lines, on lines
 -- that run one after another, on numbers, hexadecimal words and lists of segments; worked scripts.
-pub mod AddedLines
 pub mod CauseLemmas
 pub mod EndLemmas
 pub mod FaultLemmas
@@ -10,8 +9,8 @@ pub mod LineLemmas
 pub mod ListLemmas
 pub mod NumberLemmas
 pub mod PairLemmas
-pub mod PlainLines
-pub mod RaceLemmas
+pub mod Within
+pub mod Reading
 pub mod RowLemmas
 pub mod Rows
 pub mod Skipped

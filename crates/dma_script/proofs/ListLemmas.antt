@@ -1,12 +1,9 @@
 -- A list of segments, part by part.
-use Rattle.std.proofs.Common.{◌≡◌, ℕ, ◌<◌, ◌+◌, List, [], ◌∷◌, ◌++◌, length, map, take, get_or, refl, ap, ◌∙◌, sym, arith, Option, Some, None, zero, suc, Ok, Err}
-use Rattle.std.specs.Option.{option_map, ok_or}
+use Rattle.std.proofs.Common.{◌≡◌, ℕ, ◌<◌, ◌+◌, List, [], ◌∷◌, ◌++◌, length, map, take, get_or, refl, ap, ◌∙◌, sym, arith, Option, Some, None, zero, suc}
+use Rattle.std.specs.Option.{option_map}
 use Rattle.std.proofs.lemmas.List.{take_more, map-append}
-use Rattle.dma_script.specs.Words.{each_of, segment_of, parts_at}
+use Rattle.dma_script.specs.Words.{each_of, segment_of}
 use Rattle.dma_mem.specs.declared.segment.Segment.{Segment}
-use Rattle.dma_script.specs.declared.fault.Cause.{Cause}
-use Rattle.dma_script.specs.declared.fault.Cause.TheVariants.{Number}
-use Rattle.dma_script.specs.Arguments.{segment_at, list_at}
 
 each_of-push : {A : Type 0} (xs : List (Option A)) (a : A) → each_of (xs ++ Some a ∷ []) ≡ option_map (λ l. l ++ a ∷ []) (each_of xs)
 each_of-push [] a = refl
@@ -18,32 +15,13 @@ each_of_rest None xs h = refl
 each_of_rest (Some a) xs h = rw h refl
 
 -- One more part that is a segment.
-segments_more : (parts : List (List ℕ)) (n : ℕ) (part : List ℕ) (segment : Segment) (list : List Segment) → n < length parts → part ≡ get_or parts n part → segment_of part ≡ Some segment → each_of (map segment_of (take n parts)) ≡ Some list → each_of (map segment_of (take (n + 1) parts)) ≡ Some (list ++ segment ∷ [])
+pub segments_more : (parts : List (List ℕ)) (n : ℕ) (part : List ℕ) (segment : Segment) (list : List Segment) → n < length parts → part ≡ get_or parts n part → segment_of part ≡ Some segment → each_of (map segment_of (take n parts)) ≡ Some list → each_of (map segment_of (take (n + 1) parts)) ≡ Some (list ++ segment ∷ [])
 segments_more parts n part segment list within e is so_far =
     ap (λ l. each_of (map segment_of l)) (take_more parts n part within) ∙ ap each_of (map-append segment_of (take n parts) (get_or parts n part ∷ []))
     ∙ ap (λ o. each_of (map segment_of (take n parts) ++ o ∷ [])) (ap segment_of (sym e) ∙ is) ∙ each_of-push (map segment_of (take n parts)) segment ∙ rw so_far refl
 
 -- A part that is no segment.
-segments_none : (parts : List (List ℕ)) (n : ℕ) (part : List ℕ) → n < length parts → part ≡ get_or parts n part → segment_of part ≡ None → each_of (map segment_of parts) ≡ None
+pub segments_none : (parts : List (List ℕ)) (n : ℕ) (part : List ℕ) → n < length parts → part ≡ get_or parts n part → segment_of part ≡ None → each_of (map segment_of parts) ≡ None
 segments_none [] n part within e not = absurd (omega arith)
 segments_none (x ∷ parts) zero part within e not = rw (← e, not) refl
 segments_none (x ∷ parts) (suc n) part within e not = each_of_rest (segment_of x) (map segment_of parts) (segments_none parts n part (omega arith) e not)
-
-ok_or_ok : {A : Type 0} (o : Option A) (a : A) → ok_or o Number ≡ Ok a → o ≡ Some a
-ok_or_ok None a h = cc
-ok_or_ok (Some x) a h = cc
-
--- A part that is read goes to the end of the list.
-pub list_at_more : (parts : List (List ℕ)) (n m : ℕ) (part : List ℕ) (segment : Segment) (old new : List Segment) → n < length parts → part ≡ get_or parts n part → segment_at part ≡ Ok segment → each_of (map segment_of (take n parts)) ≡ Some old → m ≡ n + 1 → new ≡ old ++ segment ∷ [] → each_of (map segment_of (take m parts)) ≡ Some new
-list_at_more parts n m part segment old new within at is so_far e more =
-    rw (e, more) (segments_more parts n part segment old within at (ok_or_ok (segment_of part) segment is) so_far)
-
-ok_or_err : {A : Type 0} (o : Option A) (cause : Cause) → ok_or o Number ≡ Err cause → (o ≡ None) × (Number ≡ cause)
-ok_or_err None cause h = (refl, cc)
-ok_or_err (Some a) cause h = cc
-
--- The fault of a part is the fault of the list.
-pub list_at_fault : (word part : List ℕ) (n : ℕ) (cause : Cause) → n < length (parts_at 44 word) → part ≡ get_or (parts_at 44 word) n part → segment_at part ≡ Err cause → list_at word ≡ Err cause
-list_at_fault word part n cause within at fault =
-    let told = ok_or_err (segment_of part) cause fault in
-    ap (λ o. ok_or o Number) (segments_none (parts_at 44 word) n part within at told.0) ∙ ap Err told.1

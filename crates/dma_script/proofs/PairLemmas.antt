@@ -4,10 +4,11 @@ use Rattle.std.proofs.lemmas.Bool.{eqb-true, ne_eqb, false_from_ne_true}
 use Rattle.std.specs.Option.{option_and_then, option_map}
 use Rattle.dma_script.specs.Words.{hex_digit_of, hex_pair_of}
 use Rattle.dma_script.specs.Lines.{◌>>=◌}
-use Rattle.dma_script.specs.Pairs.{is_gap, pair_of, pairs_from}
+use Rattle.dma_script.specs.declared.fault.Fault.{Fault}
+use Rattle.dma_script.specs.Pairs.{hex_fault, is_gap, pair_of, pairs_from}
 
 -- The bytes behind those read before, from a line on.
-abbrev pub pairs_after : List ℕ → ℕ → List ℕ → Result (List ℕ) ℕ
+abbrev pub pairs_after : List ℕ → ℕ → List ℕ → Result (List ℕ) Fault
 pairs_after before line rest = do
   more ← pairs_from line rest
   Ok (before ++ more)
@@ -23,7 +24,7 @@ pairs_after_gap before line [] one gap none = absurd (omega arith)
 pairs_after_gap before line (a ∷ []) one gap none = rw gap refl
 pairs_after_gap before line (a ∷ b ∷ rest) one gap none = let is : eqb a 10 ≡ false = ne_eqb a 10 none in rw (gap, is) refl
 
-joined : (before : List ℕ) (b : ℕ) (rest : Result (List ℕ) ℕ) → (rest >>= (λ more. Ok ((before ++ b ∷ []) ++ more))) ≡ ((rest >>= (λ more. Ok (b ∷ more))) >>= (λ more. Ok (before ++ more)))
+joined : (before : List ℕ) (b : ℕ) (rest : Result (List ℕ) Fault) → (rest >>= (λ more. Ok ((before ++ b ∷ []) ++ more))) ≡ ((rest >>= (λ more. Ok (b ∷ more))) >>= (λ more. Ok (before ++ more)))
 joined before b (Err line) = refl
 joined before b (Ok more) = ap Ok (append_assoc before (b ∷ []) more)
 
@@ -51,7 +52,7 @@ pair_spelled line None low byte is = absurd (let bad : None ≡ Some byte = is i
 pair_spelled line (Some h) None byte is = absurd (let bad : None ≡ Some byte = is in cc)
 pair_spelled line (Some h) (Some l) byte is = let same : 16 * h + l ≡ byte = cc in ap Ok same
 
-pair_refused : (line : ℕ) (high low : Option ℕ) → option_and_then (λ h. option_map (λ l. 16 * h + l) low) high ≡ None → pair_of line high low ≡ Err line
+pair_refused : (line : ℕ) (high low : Option ℕ) → option_and_then (λ h. option_map (λ l. 16 * h + l) low) high ≡ None → pair_of line high low ≡ Err (hex_fault line)
 pair_refused line None None is = refl
 pair_refused line None (Some l) is = refl
 pair_refused line (Some h) None is = refl
@@ -65,7 +66,7 @@ pairs_after_pair before line byte (a ∷ b ∷ rest) two is =
     rw (no_gap a b byte is, pair_spelled line (hex_digit_of a) (hex_digit_of b) byte is) (joined before byte (pairs_from line rest))
 
 -- Two bytes that are no pair, the first of them no gap.
-pub pairs_after_fault : (before : List ℕ) (line : ℕ) (rest : List ℕ) → 2 ≤ length rest → is_gap (get_or rest 0 0) ≡ false → hex_pair_of (get_or rest 0 0) (get_or rest 1 0) ≡ None → pairs_after before line rest ≡ Err line
+pub pairs_after_fault : (before : List ℕ) (line : ℕ) (rest : List ℕ) → 2 ≤ length rest → is_gap (get_or rest 0 0) ≡ false → hex_pair_of (get_or rest 0 0) (get_or rest 1 0) ≡ None → pairs_after before line rest ≡ Err (hex_fault line)
 pairs_after_fault before line [] two gap is = absurd (omega arith)
 pairs_after_fault before line (a ∷ []) two gap is = absurd (omega arith)
 pairs_after_fault before line (a ∷ b ∷ rest) two gap is = rw (gap, pair_refused line (hex_digit_of a) (hex_digit_of b) is) refl
@@ -81,7 +82,7 @@ pub pairs_after_same : (before : List ℕ) (line : ℕ) (rest shorter : List ℕ
 pairs_after_same before line rest shorter same = ap (λ read. read >>= (λ more. Ok (before ++ more))) same
 
 -- A byte that is alone at the end.
-pub pairs_after_alone : (before : List ℕ) (line : ℕ) (rest : List ℕ) → length rest ≡ 1 → is_gap (get_or rest 0 0) ≡ false → pairs_after before line rest ≡ Err line
+pub pairs_after_alone : (before : List ℕ) (line : ℕ) (rest : List ℕ) → length rest ≡ 1 → is_gap (get_or rest 0 0) ≡ false → pairs_after before line rest ≡ Err (hex_fault line)
 pairs_after_alone before line [] one gap = absurd (omega arith)
 pairs_after_alone before line (a ∷ []) one gap = rw gap refl
 pairs_after_alone before line (a ∷ b ∷ rest) one gap = absurd (omega arith)

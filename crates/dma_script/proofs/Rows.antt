@@ -5,7 +5,8 @@ use Rattle.dma_script.specs.Command.{longest_input}
 use Rattle.dma_script.specs.Words.{number_of}
 use Rattle.dma_script.specs.Statements.{run_script_of}
 use Rattle.dma_script.specs.Race.{race_script_of}
-use Rattle.dma_script.specs.Printing.{program_lines, hex_address, spaced_bytes}
+use Rattle.dma_text.specs.Digits.{hex_digits, spaced_bytes}
+use Rattle.dma_script.specs.Printing.{program_lines}
 use Rattle.dma_script.specs.Pairs.{pairs_of}
 use Rattle.dma_script.specs.Plan.{plan_of}
 use Rattle.dma_script.specs.declared.fault.Cause.TheVariants.{Byte, Command, First, Words, Number, Hex, Range, SizeOutOfRange, BadChannels, Go}
@@ -80,7 +81,7 @@ too_many_steps = refl
 no_such_mark : run_script_of (after_memory (codes "mark red 0+1")) ≡ Err (record { line = 2; cause = Words })
 no_such_mark = refl
 
-printed_address : hex_address 31 ≡ codes "0000001F"
+printed_address : hex_digits 31 ≡ codes "0000001F"
 printed_address = refl
 
 printed_bytes : spaced_bytes (0 ∷ 170 ∷ []) ≡ codes " 00 AA"
@@ -98,10 +99,10 @@ program_rows = refl
 some_pairs : pairs_of (codes "22 fF" ++ 10 ∷ codes "0a" ++ 13 ∷ 9 ∷ []) ≡ Ok (34 ∷ 255 ∷ 10 ∷ [])
 some_pairs = refl
 
-lone_digit : pairs_of (codes "3") ≡ Err 1
+lone_digit : pairs_of (codes "3") ≡ Err (record { line = 1; cause = Hex })
 lone_digit = refl
 
-lone_digit_before_a_line_feed : pairs_of (codes "22" ++ 10 ∷ codes "3" ++ 10 ∷ codes "4") ≡ Err 2
+lone_digit_before_a_line_feed : pairs_of (codes "22" ++ 10 ∷ codes "3" ++ 10 ∷ codes "4") ≡ Err (record { line = 2; cause = Hex })
 lone_digit_before_a_line_feed = refl
 
 whole_plan : plan_of (codes "# one" ++ 10 ∷ codes "1+2 to 3+2 wait 3 signal 255") ≡ Ok (record { line = 2; transfer = record { src = origins.List (record { addr = 1; len = 2 } ∷ []); dst = record { addr = 3; len = 2 } ∷ []; wait = Some 3; signal = Some 255 } })

@@ -1,19 +1,14 @@
--- Whether a line is skipped: blanks at its start change nothing.
-use Rattle.std.proofs.Common.{◌≡◌, ℕ, ◌<◌, ◌+◌, Bool, List, ◌∷◌, length, drop, get_or, true, refl, ap, ◌∙◌, sym, add-one, drop-cons}
+-- Whether a line is skipped: its first byte that is not a blank tells.
+use Rattle.std.proofs.Common.{◌≡◌, ℕ, ◌<◌, ◌==◌, not, false, List, [], ◌∷◌, length, filter, get_or, refl, arith}
+use Rattle.std.specs.List.{onto_first, slice_split}
 use Rattle.dma_script.specs.Words.{words_of, is_blank}
 use Rattle.dma_script.specs.Lines.{is_skipped}
+use Rattle.dma_script.proofs.HexLemmas.{some_word}
 
--- whether a line is skipped
-abbrev pub skips : List ℕ → Bool
-skips line = is_skipped (words_of line)
+part_skips : (a : ℕ) (parts : List (List ℕ)) → is_skipped (filter (λ word. not (length word == 0)) (onto_first a parts)) ≡ (a == 35)
+part_skips a [] = refl
+part_skips a (part ∷ parts) = rw (some_word a part) refl
 
-blank_first : (b : ℕ) (line : List ℕ) → is_blank b ≡ true → skips (b ∷ line) ≡ skips line
-blank_first b line blank = rw blank refl
-
--- The line from the place of a byte on.
-from_place : (line : List ℕ) (i : ℕ) (d : ℕ) → i < length line → drop i line ≡ get_or line i d ∷ drop (i + 1) line
-from_place line i d within = rw (add-one, drop-cons line i d within) refl
-
--- A blank changes nothing.
-pub skips_after_blank : (line : List ℕ) (i : ℕ) (d : ℕ) → i < length line → is_blank (get_or line i d) ≡ true → skips (drop (i + 1) line) ≡ skips (drop i line)
-skips_after_blank line i d within blank = sym (ap skips (from_place line i d within) ∙ blank_first (get_or line i d) (drop (i + 1) line) blank)
+pub first_skips : (line : List ℕ) → 0 < length line → is_blank (get_or line 0 0) ≡ false → is_skipped (words_of line) ≡ (get_or line 0 0 == 35)
+first_skips [] some plain = absurd (omega arith)
+first_skips (a ∷ rest) some plain = rw plain (part_skips a (slice_split is_blank rest))

@@ -1,7 +1,8 @@
 -- The cause that is reported for a faulty line (profile): the first that applies, where each cause is tested over all
--- words of the line, from the left, before the next one. This table of causes doesn't depend on how a line is read.
--- That the readers of run, race and plan scripts report the same is the law `FirstCausesAreTold` for every line, and
--- `FirstFaultsAreTold` for every script.
+-- words of the line, from the left, before the next one. This table of causes doesn't depend on how a line is read: it
+-- has its own tests, also where those of the readers read the same.
+-- That the readers of run, race and plan scripts report the same is the law `FirstCausesAreReported` for every line, and
+-- `FirstFaultsAreReported` for every script.
 use Rattle.std.specs.Prelude.{◌≡◌, ℕ, ◌+◌, Bool, true, false, not, ◌&&◌, ◌||◌, nat_le, nat_lt, if◌then◌else◌, List, [], ◌∷◌, length, map, Option, Some, None, Result, Ok, Err, is_some, unwrap_or, codes}
 use Rattle.std.specs.List.{list_all, list_any}
 use Rattle.std.specs.Option.{option_map, option_or}
@@ -27,9 +28,9 @@ abbrev pub where_not : Bool → Cause → Option Cause
 where_not holds cause = if holds then None else Some cause
 
 -- the first cause of a list of tests, each of which gives a cause or none
-abbrev pub first_told : List (Option Cause) → Option Cause
-first_told [] = None
-first_told (test ∷ tests) = option_or test (first_told tests)
+abbrev pub first_reported : List (Option Cause) → Option Cause
+first_reported [] = None
+first_reported (test ∷ tests) = option_or test (first_reported tests)
 
 -- ---- one word
 
@@ -54,6 +55,10 @@ pub record Operand : Type 0 where
 abbrev pub number_or_zero : List ℕ → ℕ
 number_or_zero word = unwrap_or (number_of word) 0
 
+-- whether a number is at least `low` and at most `high`
+abbrev pub is_between : ℕ → ℕ → ℕ → Bool
+is_between low high n = nat_le low n && nat_le n high
+
 -- `Number`, or `Hex` for hexadecimal digits, if a word is not in its form
 abbrev pub form_cause : Form → List ℕ → Option Cause
 form_cause segment word = where_not (is_some (segment_of word)) causes.Number
@@ -63,23 +68,23 @@ form_cause _ word = where_not (is_some (number_of word)) causes.Number
 
 -- `Range` for a channel or an event above 255, or a number of steps that is 0 or above 1,000,000
 abbrev pub range_cause : Form → List ℕ → Option Cause
-range_cause byte word = where_not (nat_le (number_or_zero word) 255) causes.Range
-range_cause steps word = where_not (nat_le 1 (number_or_zero word) && nat_le (number_or_zero word) 1000000) causes.Range
+range_cause byte word = where_not (is_between 0 255 (number_or_zero word)) causes.Range
+range_cause steps word = where_not (is_between 1 1000000 (number_or_zero word)) causes.Range
 range_cause _ word = None
 
 -- `SizeOutOfRange` for a size of 0 or above 4,294,963,200
 abbrev pub size_cause : Form → List ℕ → Option Cause
-size_cause size word = where_not (nat_le 1 (number_or_zero word) && nat_le (number_or_zero word) 4294963200) causes.SizeOutOfRange
+size_cause size word = where_not (is_between 1 4294963200 (number_or_zero word)) causes.SizeOutOfRange
 size_cause _ word = None
 
 -- `BadChannels` for 0 or more than 8 channels
 abbrev pub channels_cause : Form → List ℕ → Option Cause
-channels_cause channels word = where_not (nat_le 1 (number_or_zero word) && nat_le (number_or_zero word) 8) causes.BadChannels
+channels_cause channels word = where_not (is_between 1 8 (number_or_zero word)) causes.BadChannels
 channels_cause _ word = None
 
 -- the first cause of one test over all words, from the left
 abbrev pub first_over : (Form → List ℕ → Option Cause) → List Operand → Option Cause
-first_over test operands = first_told (map (λ operand. test operand.form operand.word) operands)
+first_over test operands = first_reported (map (λ operand. test operand.form operand.word) operands)
 
 -- ---- one line
 
@@ -109,8 +114,8 @@ tests line asked =
     ∷ []
 
 -- The cause that is reported for a line, given what is required of its words; none for a line that is skipped.
-abbrev pub line_told : (List (List ℕ) → Asked) → List ℕ → Option Cause
-line_told asks line = if is_skipped (words_of line) then None else first_told (tests line (asks (words_of line)))
+abbrev pub line_reported : (List (List ℕ) → Asked) → List ℕ → Option Cause
+line_reported asks line = if is_skipped (words_of line) then None else first_reported (tests line (asks (words_of line)))
 
 -- ---- the words after the first
 
@@ -285,19 +290,19 @@ side_of read =
 -- ---- the law
 
 -- the cause of a result, or none if it is `Ok`
-abbrev pub cause_told : {A : Type 0} → Result A Cause → Option Cause
-cause_told (Ok read) = None
-cause_told (Err cause) = Some cause
+abbrev pub cause_reported : {A : Type 0} → Result A Cause → Option Cause
+cause_reported (Ok read) = None
+cause_reported (Err cause) = Some cause
 
 -- Each reader, whatever it has read before, reports for each line the first cause of the table that applies, and reads
 -- the line exactly if none applies.
-pub record FirstCausesAreTold : Type 0 where
+pub record FirstCausesAreReported : Type 0 where
   pub run : (read : Option RunScript) (line : List ℕ)
-      → cause_told (after_line run_step read line) ≡ line_told (run_asks (is_some read)) line
+      → cause_reported (after_line run_step read line) ≡ line_reported (run_asks (is_some read)) line
   pub race : (read : RaceRead) (line : List ℕ)
-      → cause_told (after_line race_step read line) ≡ line_told (race_asks (side_of read)) line
+      → cause_reported (after_line race_step read line) ≡ line_reported (race_asks (side_of read)) line
   pub plan : (read : Option TransferLine) (line : List ℕ)
-      → cause_told (after_line plan_step read line) ≡ line_told (plan_asks (is_some read)) line
+      → cause_reported (after_line plan_step read line) ≡ line_reported (plan_asks (is_some read)) line
 
 -- ---- a whole script
 
@@ -322,9 +327,9 @@ abbrev pub no_line_fault : List ℕ → Option Fault
 no_line_fault input = if list_any is_taken (lines input) then None else Some (record { line = 0; cause = causes.First })
 
 -- the fault of a result, or none if it is `Ok`
-abbrev pub fault_told : {A : Type 0} → Result A Fault → Option Fault
-fault_told (Ok script) = None
-fault_told (Err fault) = Some fault
+abbrev pub fault_reported : {A : Type 0} → Result A Fault → Option Fault
+fault_reported (Ok script) = None
+fault_reported (Err fault) = Some fault
 
 -- the command that the first of a line's words spells
 abbrev pub race_command_of : List (List ℕ) → Option RaceKeyword
@@ -366,13 +371,13 @@ no_go_fault input =
 
 -- Each reader reports for a whole script the fault of the first faulty line. If no line has a fault, it reports that
 -- there is no line, or else, for a race script, that there is no `go`.
-pub record FirstFaultsAreTold : Type 0 where
-  pub run : (input : List ℕ) → fault_told (run_script_of input)
-      ≡ option_or (first_fault (λ behind line. line_told (run_asks behind) line) behind_after false 0 (lines input))
+pub record FirstFaultsAreReported : Type 0 where
+  pub run : (input : List ℕ) → fault_reported (run_script_of input)
+      ≡ option_or (first_fault (λ behind line. line_reported (run_asks behind) line) behind_after false 0 (lines input))
       (no_line_fault input)
-  pub race : (input : List ℕ) → fault_told (race_script_of input)
-      ≡ option_or (first_fault (λ side line. line_told (race_asks side) line) race_after at_start 0 (lines input))
+  pub race : (input : List ℕ) → fault_reported (race_script_of input)
+      ≡ option_or (first_fault (λ side line. line_reported (race_asks side) line) race_after at_start 0 (lines input))
       (option_or (no_line_fault input) (no_go_fault input))
-  pub plan : (input : List ℕ) → fault_told (plan_of input)
-      ≡ option_or (first_fault (λ behind line. line_told (plan_asks behind) line) behind_after false 0 (lines input))
+  pub plan : (input : List ℕ) → fault_reported (plan_of input)
+      ≡ option_or (first_fault (λ behind line. line_reported (plan_asks behind) line) behind_after false 0 (lines input))
       (no_line_fault input)

@@ -1,5 +1,5 @@
 -- What a command prints for an input, and how a call of it may end.
-use Rattle.std.specs.Prelude.{◌≡◌, ◌<◌, ◌≤◌, ◌⊎◌, ℕ, List, [], ◌∷◌, ◌++◌, flat_map, take, length, codes, nat_lt, if◌then◌else◌, Option, IfSome}
+use Rattle.std.specs.Prelude.{◌≡◌, ◌<◌, ◌≤◌, ◌⊎◌, ℕ, List, [], ◌∷◌, ◌++◌, flat_map, take, length, codes, nat_lt, if◌then◌else◌, Option, IfSome, IfOk, OnErr, OnOk, Result}
 use Rattle.std.specs.Io.KnownBytes.{Appends}
 
 -- What a command prints: for each input line the lines that it prints, without their line feeds, and the exit status. A
@@ -35,6 +35,13 @@ pub record AppendsGroups (groups : List (List (List ℕ))) (old new : List ℕ) 
   pub count : ℕ
   pub some_left : count < length groups
   pub whole : new ≡ old ++ printed_text (take count groups)
+
+-- How a command answers (profile): the whole text is appended, and the result is its status; or it is out of memory, and
+-- the text of the first groups is appended, with at least one group missing.
+pub record Answers {E : Type 0} (printed : Printed) (result : Result ℕ E) (old new : List ℕ) : Type 0 where
+  pub text : OnOk result (new ≡ old ++ printed_text printed.groups)
+  pub status : IfOk result (λ status. status ≡ printed.status)
+  pub refused : OnErr result (AppendsGroups printed.groups old new)
 
 -- The failures of a stream: whether a call of it had failed before, and whether one has failed by now.
 pub record Failures : Type 1 where

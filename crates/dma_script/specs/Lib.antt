@@ -12,4 +12,3 @@ pub mod Printing
 pub mod Pairs
 pub mod Causes
 pub mod Interpreted
-pub mod inner

@@ -7,11 +7,9 @@ use Rattle.std.specs.Str.Lines.{lines}
 use Rattle.dma_script.specs.Words.{words_of, is_plain}
 use Rattle.dma_script.specs.declared.fault.Cause.{Cause}
 use Rattle.dma_script.specs.declared.fault.Cause.TheVariants.{Byte}
-use Rattle.dma_script.specs.declared.fault.Fault.{Fault}
-use Rattle.dma_script.specs.declared.fault.LineError.{LineError}
-use Rattle.dma_script.specs.declared.fault.LineError.TheVariants as line_errors
-use Rattle.dma_script.specs.declared.fault.ScriptError.{ScriptError}
-use Rattle.dma_script.specs.declared.fault.ScriptError.TheVariants as script_errors
+use Rattle.dma_script.specs.declared.fault.Fault.{Fault as LineFault}
+use Rattle.dma_script.specs.declared.fault.ReadError.{ReadError}
+use Rattle.dma_script.specs.declared.fault.ReadError.TheVariants.{NoMemory, Fault}
 
 -- whether a line is skipped: it has no words, or its first word begins with #
 abbrev pub is_skipped : List (List ℕ) → Bool
@@ -26,7 +24,7 @@ after_line step read line =
     if list_all is_plain line then step read (words_of line) else Err Byte)
 
 -- the result of line n, with the line's number added to a cause
-abbrev pub at_line : {S : Type 0} → ℕ → Result S Cause → Result S Fault
+abbrev pub at_line : {S : Type 0} → ℕ → Result S Cause → Result S LineFault
 at_line n (Ok read) = Ok read
 at_line n (Err cause) = Err (record { line = n; cause = cause })
 
@@ -37,7 +35,7 @@ abbrev pub ◌>>=◌ : {A B E : Type 0} → Result A E → (A → Result B E) �
 (Err e) >>= f = Err e
 
 -- What has been read after the lines that follow line n, or their first fault.
-abbrev pub after_lines : {S : Type 0} → (S → List (List ℕ) → Result S Cause) → ℕ → S → List (List ℕ) → Result S Fault
+abbrev pub after_lines : {S : Type 0} → (S → List (List ℕ) → Result S Cause) → ℕ → S → List (List ℕ) → Result S LineFault
 after_lines step n read [] = Ok read
 after_lines step n read (line ∷ rest) = do
   next ← at_line (n + 1) (after_line step read line)
@@ -46,35 +44,15 @@ after_lines step n read (line ∷ rest) = do
 -- What has been read after a whole script, or its first fault. Lines are numbered from 1. A line ends with a line feed,
 -- and a carriage return right before that is not part of the line. The last line may have no line feed; a carriage
 -- return at its end is then part of it.
-abbrev pub after_script : {S : Type 0} → (S → List (List ℕ) → Result S Cause) → S → List ℕ → Result S Fault
+abbrev pub after_script : {S : Type 0} → (S → List (List ℕ) → Result S Cause) → S → List ℕ → Result S LineFault
 after_script step read input = after_lines step 0 read (lines input)
 
 -- The number of the first line that is not skipped, from 1, or one more than the number of lines if all are skipped.
 abbrev pub first_number : List ℕ → ℕ
 first_number input = position_or_len (λ line. not (is_skipped (words_of line))) (lines input) + 1
 
--- A function that reads a line agrees with the result `gives`: it returned `Ok` and `read` is the value, or it returned
--- the cause. Nothing is known if it is out of memory.
-abbrev pub LineGives : {S : Type 0} → Result (Unit {0}) LineError → S → Result S Cause → Type 0
-LineGives (Ok done) read gives = gives ≡ Ok read
-LineGives (Err line_errors.NoMemory) read gives = Unit {0}
-LineGives (Err (line_errors.Fault cause)) read gives = gives ≡ Err cause
-
--- The result that a function returned for a whole script, with `view` applied to a value, equals `gives`, unless it is
--- `NoMemory`.
-abbrev pub ScriptGives : {X Y : Type 0} → (X → Y) → Result X ScriptError → Result Y Fault → Type 0
-ScriptGives view (Ok x) gives = gives ≡ Ok (view x)
-ScriptGives view (Err script_errors.NoMemory) gives = Unit {0}
-ScriptGives view (Err (script_errors.Fault fault)) gives = gives ≡ Err fault
-
--- The result that a function returned for a line or a part of it, with `view` applied to a value, equals `gives`,
--- unless it is `NoMemory`.
-abbrev pub Gives : {X Y : Type 0} → (X → Y) → Result X LineError → Result Y Cause → Type 0
+-- The result that a function returned, with `view` applied to a value, equals `gives`, unless it is `NoMemory`.
+abbrev pub Gives : {X Y F : Type 0} → (X → Y) → Result X (ReadError F) → Result Y F → Type 0
 Gives view (Ok x) gives = gives ≡ Ok (view x)
-Gives view (Err line_errors.NoMemory) gives = Unit {0}
-Gives view (Err (line_errors.Fault cause)) gives = gives ≡ Err cause
-
--- The result that a function returned, with `view` applied to a value; a cause is unchanged.
-abbrev pub seen_by : {X Y : Type 0} → (X → Y) → Result X Cause → Result Y Cause
-seen_by view (Ok x) = Ok (view x)
-seen_by view (Err cause) = Err cause
+Gives view (Err NoMemory) gives = Unit {0}
+Gives view (Err (Fault fault)) gives = gives ≡ Err fault

@@ -1,11 +1,9 @@
 -- The input of `dis`: pairs of hexadecimal digits (profile).
-use Rattle.std.specs.Prelude.{◌≡◌, ℕ, ◌+◌, ◌*◌, Bool, ◌==◌, ◌||◌, if◌then◌else◌, List, [], ◌∷◌, Option, Some, Result, Ok, Err}
+use Rattle.std.specs.Prelude.{ℕ, ◌+◌, ◌*◌, Bool, ◌==◌, ◌||◌, if◌then◌else◌, List, [], ◌∷◌, Option, Some, Result, Ok, Err}
 use Rattle.dma_script.specs.Words.{is_blank, hex_digit_of}
 use Rattle.dma_script.specs.Lines.{◌>>=◌}
-use Rattle.dma_script.specs.Printing.{fault_line}
 use Rattle.dma_script.specs.declared.fault.Cause.TheVariants.{Hex}
-use Rattle.dma_script.specs.declared.pairs.PairsError.{PairsError}
-use Rattle.dma_script.specs.declared.pairs.PairsError.TheVariants.{NoMemory, Line}
+use Rattle.dma_script.specs.declared.fault.Fault.{Fault}
 
 -- whether a byte may separate pairs: a space, a tab, a carriage return or a line feed
 abbrev pub is_gap : ℕ → Bool
@@ -15,32 +13,26 @@ is_gap b = is_blank b || (b == 13 || b == 10)
 abbrev pub line_after : ℕ → ℕ → ℕ
 line_after line b = if b == 10 then line + 1 else line
 
--- the byte that two digits spell, or else the number of the line: it has the first byte that is not a digit, and any
--- digit before it
-abbrev pub pair_of : ℕ → Option ℕ → Option ℕ → Result ℕ ℕ
-pair_of line (Some high) (Some low) = Ok (16 * high + low)
-pair_of line high low = Err line
+-- the fault of a line with a wrong byte or a lone digit
+abbrev pub hex_fault : ℕ → Fault
+hex_fault line = record { line = line; cause = Hex }
 
--- The bytes that pairs spell, given the number of the line of the first byte, or the number of the line of the first
+-- the byte that two digits spell, or else the fault of the line, which has the first byte that is not a digit, and any
+-- digit before it
+abbrev pub pair_of : ℕ → Option ℕ → Option ℕ → Result ℕ Fault
+pair_of line (Some high) (Some low) = Ok (16 * high + low)
+pair_of line high low = Err (hex_fault line)
+
+-- The bytes that pairs spell, given the number of the line of the first byte, or the fault of the line of the first
 -- wrong byte or lone digit.
-abbrev pub pairs_from : ℕ → List ℕ → Result (List ℕ) ℕ
+abbrev pub pairs_from : ℕ → List ℕ → Result (List ℕ) Fault
 pairs_from line [] = Ok []
-pairs_from line (a ∷ []) = if is_gap a then Ok [] else Err line
+pairs_from line (a ∷ []) = if is_gap a then Ok [] else Err (hex_fault line)
 pairs_from line (a ∷ b ∷ rest) = if is_gap a then pairs_from (line_after line a) (b ∷ rest) else (do
   byte ← pair_of line (hex_digit_of a) (hex_digit_of b)
   more ← pairs_from line rest
   Ok (byte ∷ more))
 
--- The bytes that an input spells, or the number of the line of its first fault; lines are numbered from 1.
-abbrev pub pairs_of : List ℕ → Result (List ℕ) ℕ
+-- The bytes that an input spells, or its first fault; lines are numbered from 1.
+abbrev pub pairs_of : List ℕ → Result (List ℕ) Fault
 pairs_of input = pairs_from 1 input
-
--- the printed line of a fault of the pairs
-abbrev pub pairs_fault_line : ℕ → List ℕ
-pairs_fault_line line = fault_line (record { line = line; cause = Hex })
-
--- The result that a function returned, with `view` applied to a value, equals `gives`, unless it is `NoMemory`.
-abbrev pub PairsGives : {X Y : Type 0} → (X → Y) → Result X PairsError → Result Y ℕ → Type 0
-PairsGives view (Ok x) gives = gives ≡ Ok (view x)
-PairsGives view (Err NoMemory) gives = Unit {0}
-PairsGives view (Err (Line line)) gives = gives ≡ Err line

@@ -1,11 +1,12 @@
 -- The lines that are printed, without their line feeds (profile).
-use Rattle.std.specs.Prelude.{ℕ, ◌+◌, ◌*◌, ◌/◌, ◌%◌, true, List, [], ◌∷◌, length, map, flat_map, take, drop, codes, decimal}
-use Rattle.std.specs.List.{concat, range_with_len}
-use Rattle.std.specs.Fmt.{digit_glyph}
-use Rattle.dma_text.specs.Digits.{hex_digits, hex_pair}
+use Rattle.std.specs.Prelude.{ℕ, ◌+◌, ◌*◌, ◌/◌, ◌++◌, List, [], length, map, take, drop, codes, decimal}
+use Rattle.std.specs.List.{range_with_len}
+use Rattle.dma_text.specs.Digits.{spaced_bytes}
 use Rattle.dma_script.specs.declared.fault.Cause.{Cause}
 use Rattle.dma_script.specs.declared.fault.Cause.TheVariants.{Byte, Command, First, Words, Number, Hex, Range, SizeOutOfRange, BadChannels, Go}
-use Rattle.dma_script.specs.declared.fault.Fault.{Fault}
+use Rattle.dma_script.specs.declared.fault.Fault.{Fault as ScriptFault}
+use Rattle.dma_script.specs.declared.fault.ReadError.{ReadError}
+use Rattle.dma_script.specs.declared.fault.ReadError.TheVariants.{Fault, NoMemory}
 
 -- the name of a cause
 abbrev pub cause_name : Cause → List ℕ
@@ -21,20 +22,13 @@ cause_name BadChannels = codes "BadChannels"
 cause_name Go = codes "Go"
 
 -- the printed line of a fault of a script
-abbrev pub fault_line : Fault → List ℕ
-fault_line fault = concat (codes "line " ∷ decimal fault.line ∷ codes ": " ∷ cause_name fault.cause ∷ [])
+abbrev pub fault_line : ScriptFault → List ℕ
+fault_line fault = codes "line " ++ decimal fault.line ++ codes ": " ++ cause_name fault.cause
 
--- a byte in two capital hexadecimal digits
-abbrev pub hex_byte_of : ℕ → List ℕ
-hex_byte_of b = hex_pair b
-
--- bytes with a space before each
-abbrev pub spaced_bytes : List ℕ → List ℕ
-spaced_bytes bytes = flat_map (λ b. 32 ∷ hex_byte_of b) bytes
-
--- an address in eight hexadecimal digits
-abbrev pub hex_address : ℕ → List ℕ
-hex_address addr = hex_digits addr
+-- the printed line of a script that was not read; `NoMemory` has none, so this is the empty list
+abbrev pub error_line : ReadError ScriptFault → List ℕ
+error_line (Fault fault) = fault_line fault
+error_line NoMemory = []
 
 -- the bytes of one printed line: those of a row of the given number, from 0, sixteen to a row
 abbrev pub row_at : List ℕ → ℕ → List ℕ

@@ -1,11 +1,11 @@
 -- The lines of a race script (profile): those before `go`, with jobs among them, and those after it. The test for the
 -- side of `go` comes before the test for the first line.
-use Rattle.std.specs.Prelude.{ℕ, ◌≤◌, ◌&&◌, Bool, true, false, nat_le, nat_lt, if◌then◌else◌, List, [], ◌∷◌, ◌++◌, length, Option, Some, None, IfSome, Result, Ok, Err, codes}
+use Rattle.std.specs.Prelude.{ℕ, ◌≤◌, ◌&&◌, Bool, true, false, nat_le, nat_lt, if◌then◌else◌, List, [], ◌∷◌, ◌++◌, length, Option, Some, None, Result, Ok, Err, codes}
 use Rattle.std.specs.List.{All}
 use Rattle.std.specs.Option.{ok_or, option_map}
 use Rattle.std.specs.Str.{bytes_eq}
 use Rattle.dma_script.specs.Lines.{◌>>=◌, after_script}
-use Rattle.dma_script.specs.Arguments.{where_holds, no_word, three_of, number_at}
+use Rattle.dma_script.specs.Arguments.{unread, ended, number_from}
 use Rattle.dma_script.specs.Statements.{IsWithin, keyword_of, later_line, next_line}
 use Rattle.dma_script.specs.declared.fault.Cause.{Cause}
 use Rattle.dma_script.specs.declared.fault.Cause.TheVariants as causes
@@ -38,15 +38,19 @@ is_early Status = true
 is_early Outcome = true
 is_early _ = false
 
+-- succeeds if a test holds, else fails with a cause
+abbrev pub where_holds : Bool → Cause → Result (Unit {0}) Cause
+where_holds holds cause = if holds then Ok tt else Err cause
+
 -- the job of the words after `job`, `FIRST LAST TURNS`; `Range` if FIRST is above LAST, or LAST above 7
 abbrev pub job_line : List (List ℕ) → Result JobLine Cause
-job_line words = do
-  w ← three_of words
-  first ← number_at w.0
-  last ← number_at w.1
-  turns ← number_at w.2
-  in_range ← where_holds (nat_le first last && nat_le last 7) causes.Range
-  Ok (record { first = first; last = last; turns = turns })
+job_line words =
+    let first = number_from (unread words) in
+    let last = number_from first.1 in
+    let turns = number_from last.1 in do
+      done ← ended turns.1
+      in_range ← where_holds (nat_le first.0 last.0 && nat_le last.0 7) causes.Range
+      Ok (record { first = first.0; last = last.0; turns = turns.0 })
 
 -- The part of a race script that was read so far: the memory line with the lines before `go`, the jobs, and, once `go`
 -- was read, the lines after it.
@@ -82,7 +86,7 @@ job_taken read words = do
 abbrev pub go_taken : RaceRead → List (List ℕ) → Result RaceRead Cause
 go_taken read words = do
   behind ← behind_memory read.before
-  none ← no_word words
+  done ← ended (unread words)
   Ok (record read { after = Some [] })
 
 -- a line before `go`, or `go`
@@ -139,13 +143,6 @@ IsEarly (statements.Terminate ch) = Unit {0}
 IsEarly (statements.Status ch cookie) = Unit {0}
 IsEarly (statements.Result ch cookie) = Unit {0}
 IsEarly _ = ⊥
-
--- The invariant of what was read so far: each statement read before `go` is allowed there, each job is in range, and
--- there are at most 16 jobs.
-pub record IsRead (read : RaceRead) : Type 0 where
-  pub early : IfSome read.before (λ script. All IsEarly script.statements)
-  pub jobs : All IsJob read.jobs
-  pub few : length read.jobs ≤ 16
 
 -- What holds of a race script that was read: its memory line is in range, each statement before `go` is allowed there,
 -- each job is in range, and there are at most 16 jobs.

@@ -1,11 +1,12 @@
 //! Commands: what one prints for an input, and how it runs on a reader and a writer.
-ghost use Rattle.std.specs.Prelude.{◌≡◌, ◌++◌, ◌+◌, ◌≤◌, ◌<◌, ◌⊎◌, [], List, ℕ, IfErr, IfOk, OnErr, OnOk, IfSome, length, vec_len};
-ghost use Rattle.std.specs.Io.KnownBytes.{Appends};
+ghost use Rattle.std.specs.Prelude.{◌≡◌, ◌+◌, ◌≤◌, ◌<◌, [], List, ℕ, IfErr, IfOk, OnErr, OnOk, IfSome, length, vec_len};
 ghost use Rattle.std.specs.Thread.{IsSync};
-ghost use Rattle.dma_script.specs.Command.{AppendsGroups, Ends, EndsUnread, MayAppend, MayComplete, MayEnd, Printed, failures, longest_input, may_print_within, printed_text, printed_within};
+ghost use Rattle.dma_script.specs.Command.{Answers, Ends, EndsUnread, MayAppend, MayComplete, MayEnd, Printed, Wrote, failures, longest_input, may_print_within, printed_within, refusal};
 
 use crate::input::{InputError, LONGEST_INPUT, Source, read_input};
 use crate::output::{Sink, write_output};
+use crate::printing::print_line;
+use dma_text::text::Text;
 use std::alloc::{AllocError, Global};
 use std::sync::Wait;
 use std::thread::Threads;
@@ -27,19 +28,26 @@ pub trait Command {
     /// first groups, with at least one group missing.
     fn answer(&self, alloc: Global, input: &[u8], out: &mut Vec<u8>) -> Result<u8, AllocError>
         requires { length input.now ≤ longest_input }
-        ensures text { OnOk result (out.new.items ≡ out.old.items ++ printed_text (printed input.now).groups) }
-        ensures status { IfOk result (λ status. status ≡ (printed input.now).status) }
-        ensures refused { OnErr result (AppendsGroups (printed input.now).groups out.old.items out.new.items) };
+        ensures { Answers (printed input.now) result out.old.items out.new.items };
 
     // There is at least one group, maybe an empty one, so that one can be missing if the command is out of memory.
     ghost some_group: { (input : List ℕ) → 0 < length (printed input).groups };
 }
 
+/// Appends the line of a fault and returns the exit status `FAULT`. Appends nothing if the fault can't be printed or
+/// memory runs out.
+pub fn refuse<T: Text>(out: &mut Vec<u8>, fault: &T) -> Result<u8, AllocError>
+    ensures answer { Answers (refusal (T.text fault.now)) result out.old.items out.new.items }
+    ensures printed { OnOk result (T.is_printed fault.now) }
+{
+    print_line(out, fault)?;
+    Ok(FAULT)
+}
+
 /// Writes the text and returns `status`, or `FAULT` if a write fails.
-fn finish<W: Sink>(writer: &mut W, text: &[u8], status: u8) -> u8
-    ensures { ((result ≡ status) × Appends (W.contents writer.old) (W.contents writer.new) text.now
-        × (W.has_failed writer.new → W.has_failed writer.old))
-        ⊎ ((result ≡ FAULT) × W.has_failed writer.new) }
+pub fn finish<W: Sink>(writer: &mut W, text: &[u8], status: u8) -> u8
+    ensures { Wrote (failures W.has_failed writer.old writer.new)
+        (W.contents writer.old) (W.contents writer.new) text.now status result }
 {
     match write_output(writer, text) {
         Ok(()) => status,
@@ -112,8 +120,10 @@ pub trait OpenCommand {
     ) -> Result<u8, AllocError>
         requires short { length input.now ≤ longest_input }
         requires shared { IsSync H.row }
-        ensures complete { IfOk result (λ status. MayComplete (may_print input.now) status out.old.items out.new.items) }
-        ensures refused { OnErr result (MayAppend (may_print input.now) out.old.items out.new.items) };
+        ensures complete { IfOk result
+            (λ status. MayComplete (may_print input.now) status out.old.items out.new.items) }
+        ensures refused { OnErr result
+            (MayAppend (may_print input.now) out.old.items out.new.items) };
 
     // For each input a text may be printed that has at least one group, maybe an empty one, so that one can be missing
     // if the command is out of memory.
@@ -139,7 +149,7 @@ pub fn serve_open<H: Threads + Wait + Sync, C: OpenCommand, R: Source, W: Sink>(
     };
     let mut out = Vec::new(alloc);
     match command.answer(rt, alloc, &input, &mut out) {
-        Ok(told) => finish(writer, &out, told),
+        Ok(status) => finish(writer, &out, status),
         Err(AllocError) => finish(writer, &out, OUT_OF_MEMORY),
     }
 }

@@ -1,9 +1,8 @@
 //! Why a script is refused.
-ghost use Rattle.std.specs.Prelude.{◌≡◌, Some};
+ghost use Rattle.std.specs.Prelude.{◌≡◌};
 
-use std::alloc::{AllocError, AllocFailed};
-use std::error::Error;
-use std::fmt;
+use dma_text::text::Text;
+use std::alloc::AllocError;
 
 /// Why a line is refused (profile), in the order in which the causes are tested. Each cause is tested over all words of
 /// the line, from the left, before the next one. `Number` and `Hex` are tested together.
@@ -31,15 +30,14 @@ pub enum Cause {
     Go,
 }
 
-// The name that is printed.
-impl fmt::Display for Cause {
-    ghost use Rattle.std.specs.Prelude.{Some};
+impl Cause {
     ghost use Rattle.dma_script.specs.Printing.{cause_name};
 
-    ghost output = { λ c. Some (cause_name c) };
-
-    fn fmt<W: fmt::Write>(&self, f: &mut fmt::Formatter<W>) -> fmt::Result {
-        let name = match self {
+    /// Returns the name that is printed.
+    fn name(self) -> &'static str
+        ensures { result.now ≡ cause_name self }
+    {
+        match self {
             Cause::Byte => "Byte",
             Cause::Command => "Command",
             Cause::First => "First",
@@ -50,8 +48,7 @@ impl fmt::Display for Cause {
             Cause::SizeOutOfRange => "SizeOutOfRange",
             Cause::BadChannels => "BadChannels",
             Cause::Go => "Go",
-        };
-        f.write_str(name)
+        }
     }
 }
 
@@ -64,66 +61,72 @@ pub struct Fault {
     pub cause: Cause,
 }
 
-// The line that is printed: `line N: NAME`.
-impl fmt::Display for Fault {
-    ghost use Rattle.std.specs.Prelude.{Some};
+// `line N: NAME`
+impl Text for Fault {
     ghost use Rattle.dma_script.specs.Printing.{fault_line};
 
-    ghost output = { λ f. Some (fault_line f) };
+    ghost text = { fault_line };
 
-    fn fmt<W: fmt::Write>(&self, f: &mut fmt::Formatter<W>) -> fmt::Result {
-        let line = self.line;
-        let cause = self.cause;
-        write!(f, "line {line}: {cause}")
+    fn push(&self, out: &mut Vec<u8>) -> Result<(), AllocError> {
+        ("line ", self.line, ": ", self.cause.name()).push(out)
     }
 }
 
-impl Error for Fault {}
-
-/// Why a line was not read.
+/// Why something was not read.
 #[derive(Clone, Copy, Debug, PartialEq, Eq, Drop)]
-pub enum LineError {
-    /// The line is refused.
-    Fault(Cause),
+pub enum ReadError<F> {
+    /// It has a fault.
+    Fault(F),
     /// Out of memory.
     NoMemory,
 }
 
-impl From<Cause> for LineError {
-    ghost use Rattle.dma_script.specs.declared.fault.LineError.TheVariants.{Fault};
+/// Why a line was not read.
+pub type LineError = ReadError<Cause>;
+
+/// Why a script was not read.
+pub type ScriptError = ReadError<Fault>;
+
+/// Returns the fault of a script in which a line is missing.
+pub(crate) fn missing(cause: Cause) -> ScriptError
+    ensures { result ≡ ReadError.Fault (record { line = 0; cause = cause }) }
+{
+    ReadError::Fault(Fault { line: 0, cause })
+}
+
+impl From<Cause> for ReadError<Cause> {
+    ghost use Rattle.dma_script.specs.declared.fault.ReadError.TheVariants.{Fault};
 
     ghost from_gives = { λ cause e. e ≡ Fault cause };
 
     fn from(cause: Cause) -> LineError {
-        LineError::Fault(cause)
+        ReadError::Fault(cause)
     }
 }
 
-impl From<AllocError> for LineError {
-    ghost use Rattle.dma_script.specs.declared.fault.LineError.TheVariants.{NoMemory};
+impl<F> From<AllocError> for ReadError<F> {
+    ghost use Rattle.dma_script.specs.declared.fault.ReadError.TheVariants.{NoMemory};
 
     ghost from_gives = { λ _ e. e ≡ NoMemory };
 
-    fn from(_error: AllocError) -> LineError {
-        LineError::NoMemory
+    fn from(_error: AllocError) -> ReadError<F> {
+        ReadError::NoMemory
     }
 }
 
-impl<T: Drop> From<AllocFailed<T>> for LineError {
-    ghost use Rattle.dma_script.specs.declared.fault.LineError.TheVariants.{NoMemory};
+impl Text for ReadError<Fault> {
+    ghost use Rattle.std.specs.Prelude.{◌≢◌};
+    ghost use Rattle.dma_script.specs.declared.fault.ReadError.TheVariants.{NoMemory};
+    ghost use Rattle.dma_script.specs.Printing.{error_line};
 
-    ghost from_gives = { λ _ e. e ≡ NoMemory };
+    ghost text = { error_line };
 
-    fn from(_error: AllocFailed<T>) -> LineError {
-        LineError::NoMemory
+    ghost is_printed = { λ e. e ≢ NoMemory };
+
+    fn push(&self, out: &mut Vec<u8>) -> Result<(), AllocError> {
+        match self {
+            ReadError::Fault(fault) => fault.push(out),
+            ReadError::NoMemory => Err(AllocError),
+        }
     }
-}
-
-/// Why a script was not read.
-#[derive(Clone, Copy, Debug, PartialEq, Eq, Drop)]
-pub enum ScriptError {
-    /// The script is refused.
-    Fault(Fault),
-    /// Out of memory.
-    NoMemory,
 }

@@ -27,7 +27,8 @@ pub trait Source: Read {
     /// Reads bytes to the front of `buf` by one plain read, and returns their number.
     fn fetch(&mut self, buf: &mut [u8]) -> io::Result<usize>
         ensures bound { ReadsAtMost result buf.new }
-        ensures bytes { ReadConsumes (Self.remaining self.old) (Self.remaining self.new) result buf.new }
+        ensures bytes { ReadConsumes (Self.remaining self.old)
+            (Self.remaining self.new) result buf.new }
         ensures fault { OnErr result (has_failed self.new) }
         ensures no_fault { OnOk result (has_failed self.new → has_failed self.old) }
         ensures lasting { has_failed self.old → has_failed self.new }
@@ -68,9 +69,11 @@ pub enum InputError {
 pub fn read_input<R: Source>(alloc: Global, reader: &mut R) -> Result<Vec<u8>, InputError>
     ensures input { IfOk result (λ v. IfSome (R.remaining reader.old) (λ input. v.items ≡ input)) }
     ensures within { IfOk result (λ v. vec_len v ≤ longest_input) }
-    ensures too_long { IsErrOf result InputError.TooLong → IfSome (R.remaining reader.old) (λ input. longest_input < length input) }
+    ensures too_long { IsErrOf result InputError.TooLong
+        → IfSome (R.remaining reader.old) (λ input. longest_input < length input) }
     ensures failed { IsErrOf result InputError.Failed → R.has_failed reader.new }
-    ensures unfailed { result ≢ Err InputError.Failed → R.has_failed reader.new → R.has_failed reader.old }
+    ensures unfailed { result ≢ Err InputError.Failed
+        → R.has_failed reader.new → R.has_failed reader.old }
     ensures reads { R.reads reader.new ≤ R.reads reader.old + (longest_input + 1) }
 {
     let mut input = Vec::new(alloc);

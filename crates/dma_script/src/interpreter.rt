@@ -29,7 +29,8 @@ pub trait Interpreter {
     fn interpret(&mut self, line: Self::Line, out: &mut Vec<u8>) -> Result<(), AllocError>
         requires taken { takes line }
         requires ready { is_ready self.old }
-        ensures ok { OnOk result (PrintsLine (acts self.old line) self.new out.old.items out.new.items) }
+        ensures ok { OnOk result
+            (PrintsLine (acts self.old line) self.new out.old.items out.new.items) }
         ensures ready_again { OnOk result (is_ready self.new) }
         ensures refused { OnErr result (is_refused self.old line self.new) }
         ensures err { OnErr result (out.new.items ≡ out.old.items) };
@@ -46,9 +47,11 @@ pub fn interpret_lines<I: Interpreter>(
 ) -> Result<(), AllocError>
     requires taken { All I.takes lines.items }
     requires ready { I.is_ready interpreter.old }
-    ensures ok { OnOk result (PrintsLines I.acts interpreter.old lines.items interpreter.new out.old.items out.new.items) }
+    ensures ok { OnOk result (PrintsLines I.acts
+        interpreter.old lines.items interpreter.new out.old.items out.new.items) }
     ensures ready_again { OnOk result (I.is_ready interpreter.new) }
-    ensures err { OnErr result (StopsAtALine I.acts I.is_refused interpreter.old lines.items interpreter.new out.old.items out.new.items) }
+    ensures err { OnErr result (StopsAtALine I.acts I.is_refused
+        interpreter.old lines.items interpreter.new out.old.items out.new.items) }
 {
     for line in lines {
         interpreter.interpret(line, out)?;

@@ -1,15 +1,15 @@
 //! Laws of the readers of scripts. Each is the clause of a function that does nothing.
 
-ghost use Rattle.dma_script.specs.Causes.{FirstCausesAreTold, FirstFaultsAreTold};
+ghost use Rattle.dma_script.specs.Causes.{FirstCausesAreReported, FirstFaultsAreReported};
 
 /// Law: for a faulty line, each reader reports the first cause that applies. Each cause is tested over all words of the
 /// line before the next one.
-pub fn first_causes_are_told()
-    ensures { FirstCausesAreTold }
+pub fn first_causes_are_reported()
+    ensures { FirstCausesAreReported }
 {}
 
 /// Law: for a script, each reader reports the fault of the first faulty line. If no line has a fault, it reports that
 /// the script has no line, or that a race script has no `go`.
-pub fn first_faults_are_told()
-    ensures { FirstFaultsAreTold }
+pub fn first_faults_are_reported()
+    ensures { FirstFaultsAreReported }
 {}

@@ -4,7 +4,7 @@
 //! they give and take, and whether a call of them has failed.
 //!
 //! Proved: what `read_run_script`, `read_race_script`, `read_plan` and `read_pairs` return is a function of the input;
-//! the reported fault is the first of a table of causes (`laws::first_faults_are_told`); `serve` writes all of the
+//! the reported fault is the first of a table of causes (`laws::first_faults_are_reported`); `serve` writes all of the
 //! output with its status, or whole lines of it and status 3 where it is out of memory, or a stream failed;
 //! `interpret_lines` runs all lines, or those before the one that is out of memory.
 //!
@@ -12,7 +12,6 @@
 //! contract whether they failed.
 #![tactic(auto)]
 
-pub mod apart;
 mod arguments;
 pub mod command;
 pub mod fault;
@@ -20,11 +19,11 @@ pub mod input;
 pub mod interpreter;
 pub mod laws;
 pub mod lines;
+pub mod list;
 pub mod output;
 pub mod pairs;
 pub mod plan;
 pub mod printing;
 pub mod race;
-mod run_lines;
 pub mod statements;
 mod words;

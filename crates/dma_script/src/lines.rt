@@ -1,18 +1,17 @@
 //! Reads a script line by line, up to its first fault.
-ghost use Rattle.std.specs.Prelude.{◌≡◌, true};
-ghost use Rattle.std.specs.List.{list_all};
-ghost use Rattle.dma_script.specs.Lines.{LineGives, ScriptGives, after_line, after_script, first_number, is_skipped};
-ghost use Rattle.dma_script.specs.Words.{is_plain, words_of};
+ghost use Rattle.std.specs.Prelude.{◌≡◌};
+ghost use Rattle.dma_script.specs.Lines.{Gives, after_line, after_script, first_number, is_skipped};
+ghost use Rattle.dma_script.specs.Words.{words_of};
 
 use crate::fault::{Cause, Fault, LineError, ScriptError};
-use crate::words::{is_blank, is_plain_line, is_plain_text, split_line};
+use crate::words::{is_plain_line, split_line, without_blanks};
 use std::alloc::Global;
 
 /// A kind of script: the part of it that was read so far.
 pub trait Script {
     ghost use Rattle.std.specs.Prelude.{List, ℕ, Result};
     ghost use Rattle.dma_script.specs.declared.fault.Cause.{Cause};
-    ghost use Rattle.dma_script.specs.Lines.{LineGives};
+    ghost use Rattle.dma_script.specs.Lines.{Gives};
     ghost use Rattle.dma_script.specs.Words.{words_of};
 
     ghost View: { Type 0 };
@@ -23,69 +22,50 @@ pub trait Script {
 
     /// Reads the words of the next line that is not skipped.
     fn take_line(&mut self, alloc: Global, words: &[u8]) -> Result<(), LineError>
-        ensures { LineGives result (view self.new) (step (view self.old) (words_of words.now)) };
+        ensures { Gives (λ _. view self.new) result (step (view self.old) (words_of words.now)) };
 }
 
 /// Returns whether a line is skipped, and only counted: it has no words or is a comment. Tests only the first byte that
 /// is not a blank.
+#[tactic(auto, using(crate::proofs::Skipped::first_skips))]
 fn is_skipped(line: &[u8]) -> bool
     ensures { result ≡ is_skipped (words_of line.now) }
 {
-    for b in line {
-        if !is_blank(*b) {
-            return *b == b'#';
-        }
+    match without_blanks(line) {
+        [] => true,
+        [first, ..] => *first == b'#',
     }
-    true
 }
 
-/// Returns whether each byte of a line is plain. `known` means that the whole input was found to be plain, and saves
-/// the test.
-fn is_line_plain(known: bool, line: &[u8]) -> bool
-    requires { known ≡ true → list_all is_plain line.now ≡ true }
-    ensures { result ≡ list_all is_plain line.now }
-{
-    if known {
-        return true;
-    }
-    is_plain_line(line)
-}
-
-/// Reads one line. `plain` means that the whole input was found to be plain.
-fn read_line<S: Script>(
-    script: &mut S,
-    alloc: Global,
-    plain: bool,
-    line: &[u8],
-) -> Result<(), LineError>
-    requires { plain ≡ true → list_all is_plain line.now ≡ true }
-    ensures { LineGives result (S.view script.new) (after_line S.step (S.view script.old) line.now) }
+/// Reads one line.
+fn read_line<S: Script>(script: &mut S, alloc: Global, line: &[u8]) -> Result<(), LineError>
+    ensures { Gives (λ _. S.view script.new) result
+        (after_line S.step (S.view script.old) line.now) }
 {
     if is_skipped(line) {
         return Ok(());
     }
-    if !is_line_plain(plain, line) {
+    if !is_plain_line(line) {
         return Err(LineError::Fault(Cause::Byte));
     }
     script.take_line(alloc, line)
 }
 
 /// Reads a whole script, or fails with its first fault or `NoMemory`. After an error nothing is known of `script`.
-#[tactic(auto, using(crate::proofs::PlainLines::lines_plain, crate::proofs::PlainLines::first_plain, crate::proofs::PlainLines::rest_plain))]
 pub fn read_script<S: Script>(
     script: &mut S,
     alloc: Global,
     input: &[u8],
 ) -> Result<(), ScriptError>
-    ensures { ScriptGives (λ _. S.view script.new) result (after_script S.step (S.view script.old) input.now) }
+    ensures { Gives (λ _. S.view script.new) result
+        (after_script S.step (S.view script.old) input.now) }
 {
-    let plain = is_plain_text(input);
     let mut rest = input;
     let mut number = 0usize;
     while !rest.is_empty() {
         let (line, after) = split_line(rest);
         number += 1;
-        match read_line(script, alloc, plain, line) {
+        match read_line(script, alloc, line) {
             Ok(()) => rest = after,
             Err(LineError::NoMemory) => return Err(ScriptError::NoMemory),
             Err(LineError::Fault(cause)) => {

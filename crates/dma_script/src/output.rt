@@ -17,7 +17,8 @@ pub trait Sink: Write {
     fn put(&mut self, buf: &[u8]) -> io::Result<usize>
         requires { 0 < length buf.now }
         ensures bound { WritesAtMost result buf.now }
-        ensures bytes { WriteAppends (Self.contents self.old) (Self.contents self.new) result buf.now }
+        ensures bytes { WriteAppends (Self.contents self.old)
+            (Self.contents self.new) result buf.now }
         ensures fault { OnErr result (has_failed self.new) }
         ensures none_taken { IfOk result (λ n. n ≡ 0 → has_failed self.new) }
         ensures some_taken { IfOk result (λ n. 0 < n → has_failed self.new → has_failed self.old) }

@@ -1,41 +1,11 @@
 //! The input of `dis`: pairs of hexadecimal digits.
-ghost use Rattle.std.specs.Prelude.{◌≡◌, ◌≤◌, ◌+◌, ◌++◌, ◌∷◌, [], ℕ, length, OnErr, OnOk};
-ghost use Rattle.dma_script.specs.Command.{text_of};
-ghost use Rattle.dma_script.specs.Pairs.{PairsGives, is_gap, pairs_fault_line, pairs_from, pairs_of};
+ghost use Rattle.std.specs.Prelude.{◌≡◌, ◌≤◌, ◌+◌, ℕ, length};
+ghost use Rattle.dma_script.specs.Lines.{Gives};
+ghost use Rattle.dma_script.specs.Pairs.{hex_fault, is_gap, pairs_from, pairs_of};
 
 use crate::arguments::byte_in;
-use crate::fault::{Cause, Fault};
-use crate::printing::push_fault;
-use std::alloc::{AllocError, AllocFailed, Global};
-
-/// Why pairs of digits were not read.
-#[derive(Clone, Copy, Debug, PartialEq, Eq, Drop)]
-pub enum PairsError {
-    /// The number of the line, from 1, of the first byte that is wrong, or of the lone digit of half a pair.
-    Line(usize),
-    /// Out of memory.
-    NoMemory,
-}
-
-impl From<AllocError> for PairsError {
-    ghost use Rattle.dma_script.specs.declared.pairs.PairsError.TheVariants.{NoMemory};
-
-    ghost from_gives = { λ _ e. e ≡ NoMemory };
-
-    fn from(_error: AllocError) -> PairsError {
-        PairsError::NoMemory
-    }
-}
-
-impl<T: Drop> From<AllocFailed<T>> for PairsError {
-    ghost use Rattle.dma_script.specs.declared.pairs.PairsError.TheVariants.{NoMemory};
-
-    ghost from_gives = { λ _ e. e ≡ NoMemory };
-
-    fn from(_error: AllocFailed<T>) -> PairsError {
-        PairsError::NoMemory
-    }
-}
+use crate::fault::{Cause, Fault, ReadError, ScriptError};
+use std::alloc::Global;
 
 /// Returns whether a byte may separate pairs.
 fn is_gap(byte: u8) -> bool
@@ -55,12 +25,20 @@ fn past_space(rest: &[u8]) -> &[u8]
     }
 }
 
+/// Returns the fault of a line with a wrong byte or the lone digit of half a pair.
+fn hex_fault(line: usize) -> ScriptError
+    ensures { result ≡ ReadError.Fault (hex_fault line) }
+{
+    let cause = Cause::Hex;
+    ReadError::Fault(Fault { line, cause })
+}
+
 /// Returns the bytes that pairs of hexadecimal digits in either case spell, with spaces, tabs, carriage returns and
 /// line feeds between pairs. There is no limit to their number.
 ///
 /// Fails with the line of the first fault, or with `NoMemory`.
-pub fn read_pairs(alloc: Global, input: &[u8]) -> Result<Vec<u8>, PairsError>
-    ensures { PairsGives (λ bytes. bytes.items) result (pairs_of input.now) }
+pub fn read_pairs(alloc: Global, input: &[u8]) -> Result<Vec<u8>, ScriptError>
+    ensures { Gives (λ bytes. bytes.items) result (pairs_of input.now) }
 {
     // A pair takes at least two bytes of the input, so this is room for all pairs.
     let mut bytes = Vec::with_capacity(alloc, input.len() / 2)?;
@@ -76,20 +54,11 @@ pub fn read_pairs(alloc: Global, input: &[u8]) -> Result<Vec<u8>, PairsError>
             }
             rest = &rest[1..];
         } else {
-            return Err(PairsError::Line(line));
+            return Err(hex_fault(line));
         }
     }
     match rest {
-        [last] if !is_gap(*last) => Err(PairsError::Line(line)),
+        [last] if !is_gap(*last) => Err(hex_fault(line)),
         _ => Ok(bytes),
     }
-}
-
-/// Appends the line that reports a fault of the pairs. Appends nothing if it is out of memory.
-pub fn push_pairs_fault(alloc: Global, out: &mut Vec<u8>, line: usize) -> Result<(), AllocError>
-    ensures ok { OnOk result (out.new.items ≡ out.old.items ++ text_of (pairs_fault_line line ∷ [])) }
-    ensures err { OnErr result (out.new.items ≡ out.old.items) }
-{
-    let cause = Cause::Hex;
-    push_fault(alloc, out, Fault { line, cause })
 }

@@ -1,25 +1,26 @@
 //! The lines of a run script.
-ghost use Rattle.std.specs.Prelude.{◌≡◌, ◌++◌, ◌∷◌, [], IfOk, None, OnErr, OnOk};
+ghost use Rattle.std.specs.Prelude.{◌≡◌, IfOk};
+ghost use Rattle.dma_script.specs.Lines.{Gives};
+ghost use Rattle.dma_script.specs.Words.{words_of};
+ghost use Rattle.dma_script.specs.Statements.{IsWithin, first_line, keyword_of, kind_from, later_line, run_script_of, statement_from};
 
-use crate::apart::Apart;
-use crate::arguments::bytes_at;
-use crate::fault::{Cause, Fault, LineError, ScriptError};
+use crate::arguments::Arguments;
+pub use crate::arguments::MAX_STEPS;
+use crate::fault::{Cause, LineError, ScriptError, missing};
 use crate::lines::{Script, read_script};
-use crate::plan::TransferLine;
-use crate::run_lines::{add_later_line, first_line};
+use crate::list::List;
+use crate::plan::{TransferLine, transfer};
 use crate::words::next_word;
 use dma_mem::lists::{Bytes, Segments};
 use dma_mem::marks::MarkKind;
+use dma_mem::memory::MAX_SIZE;
 use dma_mem::segment::Segment;
 use dma_text::bytes::is_text;
-use std::alloc::{AllocError, Global};
+use std::alloc::Global;
 use std::marker::Model;
 
 /// The most channels of a script (profile).
 pub const MAX_CHANNELS: u32 = 8;
-
-/// The most steps of a line (profile).
-pub const MAX_STEPS: u32 = 1_000_000;
 
 /// The word that begins a line.
 #[derive(Clone, Copy, Debug, PartialEq, Eq, Drop)]
@@ -71,161 +72,48 @@ pub struct CopyLine {
     pub dst: Segments,
 }
 
-/// A line of a run script after its first.
+/// A line of a run script after its first. `ch` is the number of a channel, `cookie` the number that the submit line of
+/// a transfer printed.
 #[derive(Debug, Drop)]
 pub enum Statement {
-    /// Writes the bytes from an address on. There is at least one byte.
-    Write {
-        /// The first address.
-        addr: u32,
-        /// What is written there.
-        bytes: Bytes,
-    },
+    /// Writes the bytes, of which there is at least one, from the address on.
+    Write { addr: u32, bytes: Bytes },
     /// Reads the bytes of a segment.
     Read(Segment),
     /// Copies the bytes of one list of segments to another.
-    Copy(Apart<CopyLine>),
-    /// Copies one byte to every place of a list of segments.
-    Fill {
-        /// The address of the byte.
-        src: u32,
-        /// Where it goes.
-        dst: Segments,
-    },
+    Copy(CopyLine),
+    /// Copies the byte at the address `src` to every place of a list of segments.
+    Fill { src: u32, dst: Segments },
     /// Submits a transfer on a channel.
-    Submit {
-        /// The channel.
-        ch: u8,
-        /// The transfer, with its events.
-        transfer: Apart<TransferLine>,
-    },
+    Submit { ch: u8, transfer: TransferLine },
     /// Issues what was submitted on a channel.
-    Issue {
-        /// The channel.
-        ch: u8,
-    },
+    Issue { ch: u8 },
     /// Pauses a channel.
-    Pause {
-        /// The channel.
-        ch: u8,
-    },
+    Pause { ch: u8 },
     /// Resumes a paused channel.
-    Resume {
-        /// The channel.
-        ch: u8,
-    },
+    Resume { ch: u8 },
     /// Ends all unfinished transfers of a channel.
-    Terminate {
-        /// The channel.
-        ch: u8,
-    },
-    /// Steps a channel.
-    Step {
-        /// The channel.
-        ch: u8,
-        /// The number of steps, 1 to [`MAX_STEPS`]; 1 if the line has no number.
-        count: u32,
-    },
+    Terminate { ch: u8 },
+    /// Takes 1 to [`MAX_STEPS`] steps of a channel, 1 if the line has no number.
+    Step { ch: u8, count: u32 },
     /// Prints the status of a transfer.
-    Status {
-        /// The channel.
-        ch: u8,
-        /// The number that its submit line printed.
-        cookie: u32,
-    },
+    Status { ch: u8, cookie: u32 },
     /// Prints the result of a transfer.
-    Result {
-        /// The channel.
-        ch: u8,
-        /// The number that its submit line printed.
-        cookie: u32,
-    },
-    /// Marks a segment. Loads or stores fail at it.
-    Mark {
-        /// Whether loads or stores fail.
-        kind: MarkKind,
-        /// The segment.
-        segment: Segment,
-    },
+    Result { ch: u8, cookie: u32 },
+    /// Marks a segment, at which loads or stores fail.
+    Mark { kind: MarkKind, segment: Segment },
     /// Removes all marks.
     Unmark,
     /// Sets the flag of an event.
-    Raise {
-        /// The event.
-        event: u8,
-    },
+    Raise { event: u8 },
     /// Makes the current state the base of the history.
     Checkpoint,
     /// Prints the counts of the whole run.
     Totals,
 }
 
-/// A list of statements. Contracts see only its items.
-#[derive(Debug, Drop)]
-pub struct Statements {
-    items: Vec<Statement>,
-    // The list into which the bytes of a `write` line are read. The next line reuses its memory.
-    bytes: Vec<u8>,
-}
-
-impl Model for Statements {
-    ghost use Rattle.std.specs.Prelude.{List};
-    ghost use Rattle.dma_script.specs.declared.statements.Statement.{Statement};
-
-    ghost Value = { List Statement };
-
-    ghost view = { λ s. s.items.items };
-}
-
-impl Statements {
-    ghost use Rattle.dma_script.specs.Arguments.{bytes_at};
-    ghost use Rattle.dma_script.specs.Lines.{Gives};
-    ghost use Rattle.dma_script.specs.Words.{words_of};
-
-    /// Returns a list without statements, which takes no memory.
-    pub(crate) fn new(alloc: Global) -> Statements
-        ensures { result ≡ [] }
-    {
-        Statements {
-            items: Vec::new(alloc),
-            bytes: Vec::new(alloc),
-        }
-    }
-
-    /// Returns the statements.
-    pub fn as_slice(&self) -> &[Statement]
-        ensures { result.now ≡ self.now }
-    {
-        self.items.as_slice()
-    }
-
-    /// Returns the statements as a `Vec`.
-    pub fn into_vec(self) -> Vec<Statement>
-        ensures { result.items ≡ self }
-    {
-        let Statements { items, bytes: _ } = self;
-        items
-    }
-
-    /// Returns the joined bytes of the hexadecimal words of a `write` line.
-    pub(crate) fn bytes_at(&mut self, alloc: Global, words: &[u8]) -> Result<Bytes, LineError>
-        ensures bytes { Gives (λ bytes. bytes) result (bytes_at (words_of words.now)) }
-        ensures same { self.new ≡ self.old }
-    {
-        bytes_at(alloc, &mut self.bytes, words)
-    }
-
-    /// Adds a statement at the end. If it is out of memory, the list is unchanged.
-    #[inline(always)]
-    pub(crate) fn push(&mut self, statement: Statement) -> Result<(), AllocError>
-        ensures ok { OnOk result (self.new ≡ self.old ++ statement ∷ []) }
-        ensures err { OnErr result (self.new ≡ self.old) }
-    {
-        self.items.reserve(1)?;
-        self.items.push_reserved(statement);
-        Ok(())
-    }
-}
+/// A list of statements.
+pub type Statements = List<Statement>;
 
 /// A run script: its memory line, and the lines after that.
 #[derive(Debug, Drop)]
@@ -237,11 +125,6 @@ pub struct RunScript {
     /// The lines after the memory line, without those that are skipped.
     pub statements: Statements,
 }
-
-ghost use Rattle.std.specs.Option.{ForSome};
-ghost use Rattle.dma_script.specs.Lines.{LineGives, ScriptGives};
-ghost use Rattle.dma_script.specs.Words.{words_of};
-ghost use Rattle.dma_script.specs.Statements.{IsWithin, keyword_of, next_line, run_script_of};
 
 /// Returns the command that a word spells, or `None` for any other word.
 pub(crate) fn keyword_in(word: &[u8]) -> Option<Keyword>
@@ -270,39 +153,155 @@ pub(crate) fn keyword_in(word: &[u8]) -> Option<Keyword>
     }
 }
 
-/// The part of a run script that was read so far: `None` before the memory line.
+/// Reads the first line, `memory SIZE CHANNELS`. Fails with `First` for any other keyword.
+pub(crate) fn first_line(alloc: Global, keyword: Keyword, words: &[u8]) -> Result<RunScript, Cause>
+    ensures { result ≡ first_line keyword (words_of words.now) }
+{
+    let Keyword::Memory = keyword else {
+        return Err(Cause::First);
+    };
+    let mut words = Arguments::new(words);
+    let size = words.within(1, MAX_SIZE, Cause::SizeOutOfRange);
+    let channels = words.within(1, MAX_CHANNELS, Cause::BadChannels);
+    words.end()?;
+    Ok(RunScript {
+        size,
+        channels,
+        statements: List::new(alloc),
+    })
+}
+
+/// Reads the kind of a mark: loads fail at a `read` mark, stores at a `write` mark.
+fn mark_kind(words: &mut Arguments<'_>) -> MarkKind
+    ensures { (result, words.new) ≡ kind_from words.old }
+{
+    if words.skip(b"read") {
+        return MarkKind::Reading;
+    }
+    words.fixed(b"write");
+    MarkKind::Writing
+}
+
+/// Reads the words of a line after the first. Fails with `First` for the keyword of the first line. `kept` is as in
+/// [`Arguments::bytes`].
+fn read_statement(
+    alloc: Global,
+    kept: &mut Vec<u8>,
+    keyword: Keyword,
+    words: &mut Arguments<'_>,
+) -> Result<Statement, LineError>
+    ensures { Gives (λ line. (line, words.new)) result (statement_from keyword words.old) }
+{
+    match keyword {
+        Keyword::Memory => Err(LineError::Fault(Cause::First)),
+        Keyword::Write => Ok(Statement::Write {
+            addr: words.number(),
+            bytes: words.bytes(alloc, kept)?,
+        }),
+        Keyword::Read => Ok(Statement::Read(words.segment())),
+        Keyword::Copy => Ok(Statement::Copy(CopyLine {
+            src: words.list(alloc)?,
+            dst: words.to_list(alloc)?,
+        })),
+        Keyword::Fill => Ok(Statement::Fill {
+            src: words.number(),
+            dst: words.to_list(alloc)?,
+        }),
+        Keyword::Submit => Ok(Statement::Submit {
+            ch: words.byte(),
+            transfer: transfer(alloc, words)?,
+        }),
+        Keyword::Issue => Ok(Statement::Issue { ch: words.byte() }),
+        Keyword::Pause => Ok(Statement::Pause { ch: words.byte() }),
+        Keyword::Resume => Ok(Statement::Resume { ch: words.byte() }),
+        Keyword::Terminate => Ok(Statement::Terminate { ch: words.byte() }),
+        Keyword::Step => Ok(Statement::Step {
+            ch: words.byte(),
+            count: words.count(),
+        }),
+        Keyword::Status => Ok(Statement::Status {
+            ch: words.byte(),
+            cookie: words.number(),
+        }),
+        Keyword::Result => Ok(Statement::Result {
+            ch: words.byte(),
+            cookie: words.number(),
+        }),
+        Keyword::Mark => Ok(Statement::Mark {
+            kind: mark_kind(words),
+            segment: words.segment(),
+        }),
+        Keyword::Unmark => Ok(Statement::Unmark),
+        Keyword::Raise => Ok(Statement::Raise {
+            event: words.byte(),
+        }),
+        Keyword::Checkpoint => Ok(Statement::Checkpoint),
+        Keyword::Totals => Ok(Statement::Totals),
+    }
+}
+
+/// Reads a line after the first, as [`read_statement`] does.
+pub(crate) fn later_line(
+    alloc: Global,
+    kept: &mut Vec<u8>,
+    keyword: Keyword,
+    words: &[u8],
+) -> Result<Statement, LineError>
+    ensures { Gives (λ line. line) result (later_line keyword (words_of words.now)) }
+{
+    let mut words = Arguments::new(words);
+    let line = read_statement(alloc, kept, keyword, &mut words)?;
+    words.end()?;
+    Ok(line)
+}
+
+/// The part of a run script that was read so far, which contracts see: nothing before the memory line.
 #[derive(Drop)]
 pub(crate) struct ReadSoFar {
     pub(crate) script: Option<RunScript>,
-    ghost within: { ForSome script IsWithin },
+    // The list into which the bytes of a `write` line are read. The next line reuses its memory.
+    pub(crate) bytes: Vec<u8>,
+}
+
+impl Model for ReadSoFar {
+    ghost use Rattle.std.specs.Prelude.{Option};
+    ghost use Rattle.dma_script.specs.declared.statements.RunScript.{RunScript};
+
+    ghost Value = { Option RunScript };
+
+    ghost view = { λ s. s.script };
 }
 
 impl ReadSoFar {
+    ghost use Rattle.std.specs.Prelude.{None};
+    ghost use Rattle.dma_script.specs.Statements.{next_line};
+
     /// Returns the state before any line is read.
-    pub(crate) fn new() -> ReadSoFar
-        ensures { result.script ≡ None }
+    pub(crate) fn new(alloc: Global) -> ReadSoFar
+        ensures { result ≡ None }
     {
-        ReadSoFar { script: None }
+        ReadSoFar {
+            script: None,
+            bytes: Vec::new(alloc),
+        }
     }
 
-    /// Reads a line by its keyword and the words after it. After an error the script is unchanged.
-    #[inline(always)]
+    /// Reads a line by its keyword and the words after it.
     pub(crate) fn take(
         &mut self,
         alloc: Global,
         keyword: Keyword,
         words: &[u8],
     ) -> Result<(), LineError>
-        ensures line { LineGives result self.new.script (next_line self.old.script keyword (words_of words.now)) }
-        ensures err { OnErr result (self.new.script ≡ self.old.script) }
+        ensures { Gives (λ _. self.new) result (next_line self.old keyword (words_of words.now)) }
     {
         match &mut self.script {
-            None => {
-                self.script = Some(first_line(alloc, keyword, words)?);
-                Ok(())
-            }
-            Some(script) => add_later_line(&mut script.statements, alloc, keyword, words),
+            None => self.script = Some(first_line(alloc, keyword, words)?),
+            Some(script) => script
+                .statements
+                .push(later_line(alloc, &mut self.bytes, keyword, words)?)?,
         }
+        Ok(())
     }
 }
 
@@ -313,30 +312,23 @@ impl Script for ReadSoFar {
 
     ghost View = { Option RunScript };
 
-    ghost view = { λ s. s.script };
+    ghost view = { λ s. s };
 
     ghost step = { run_step };
 
     fn take_line(&mut self, alloc: Global, words: &[u8]) -> Result<(), LineError> {
-        let Some((word, arguments)) = next_word(words) else {
-            return Err(LineError::Fault(Cause::Command));
-        };
-        let Some(keyword) = keyword_in(word) else {
-            return Err(LineError::Fault(Cause::Command));
-        };
+        let (word, arguments) = next_word(words).ok_or(Cause::Command)?;
+        let keyword = keyword_in(word).ok_or(Cause::Command)?;
         self.take(alloc, keyword, arguments)
     }
 }
 
 /// Reads a whole run script, or fails with its first fault or `NoMemory`. Runs none of it.
 pub fn read_run_script(alloc: Global, input: &[u8]) -> Result<RunScript, ScriptError>
-    ensures script { ScriptGives (λ script. script) result (run_script_of input.now) }
+    ensures script { Gives (λ script. script) result (run_script_of input.now) }
     ensures within { IfOk result IsWithin }
 {
-    let mut read = ReadSoFar::new();
+    let mut read = ReadSoFar::new(alloc);
     read_script(&mut read, alloc, input)?;
-    read.script.ok_or(ScriptError::Fault(Fault {
-        line: 0,
-        cause: Cause::First,
-    }))
+    read.script.ok_or(missing(Cause::First))
 }

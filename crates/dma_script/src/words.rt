@@ -3,7 +3,6 @@ ghost use Rattle.std.specs.Prelude.{◌≡◌, ◌==◌, ◌∷◌, [], ◌<◌,
 ghost use Rattle.std.specs.List.{list_all};
 ghost use Rattle.std.specs.Str.Lines.{lines, strip_carriage_return};
 ghost use Rattle.dma_script.specs.Words.{is_blank, is_plain, segment_of, words_of, number_of, number_in};
-ghost use Rattle.dma_script.specs.inner.Plain.{is_plain_or_feed};
 
 use dma_mem::segment::Segment;
 use dma_text::bytes::position_of;
@@ -40,8 +39,9 @@ pub(crate) fn is_blank(byte: u8) -> bool
 }
 
 /// Returns a line without its leading blanks.
-fn without_blanks(line: &[u8]) -> &[u8]
+pub(crate) fn without_blanks(line: &[u8]) -> &[u8]
     ensures words { words_of result.now ≡ words_of line.now }
+    ensures within { length result.now ≤ length line.now }
     ensures first { 0 < length result.now → is_blank (slice_index result.now 0) ≡ false }
 {
     let mut rest = line;
@@ -70,7 +70,8 @@ fn cut_word(line: &[u8]) -> (&[u8], &[u8])
 
 /// Returns the first word of a line and the rest of the line, or `None` if there is no word.
 pub(crate) fn next_word(line: &[u8]) -> Option<(&[u8], &[u8])>
-    ensures { MatchOption result (words_of line.now ≡ []) (λ w. words_of line.now ≡ w.0.now ∷ words_of w.1.now) }
+    ensures { MatchOption result
+        (words_of line.now ≡ []) (λ w. words_of line.now ≡ w.0.now ∷ words_of w.1.now) }
 {
     let rest = without_blanks(line);
     if rest.is_empty() {
@@ -94,25 +95,6 @@ pub fn is_plain_line(line: &[u8]) -> bool
     let mut plain = true;
     for b in line {
         plain &= is_plain(*b);
-    }
-    plain
-}
-
-/// Returns whether a byte is plain or a line feed.
-fn is_plain_or_feed(byte: u8) -> bool
-    ensures { result ≡ is_plain_or_feed byte }
-{
-    is_plain(byte) || byte == b'\n'
-}
-
-/// Returns whether each byte of a text is plain or a line feed. Then each of its lines is plain.
-pub(crate) fn is_plain_text(text: &[u8]) -> bool
-    ensures { result ≡ list_all is_plain_or_feed text.now }
-{
-    // No early return, as in `is_plain_line`.
-    let mut plain = true;
-    for b in text {
-        plain &= is_plain_or_feed(*b);
     }
     plain
 }

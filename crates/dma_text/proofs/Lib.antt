@@ -4,3 +4,4 @@ pub mod EightDigits
 pub mod PairTable
 pub mod FirstBytes
 pub mod SameTexts
+pub mod Begun

@@ -1,5 +1,5 @@
 -- Numbers as text.
-use Rattle.std.specs.Prelude.{ℕ, ◌/◌, ◌%◌, true, List, [], ◌∷◌, map}
+use Rattle.std.specs.Prelude.{ℕ, ◌/◌, ◌%◌, true, List, [], ◌∷◌, map, flat_map}
 use Rattle.std.specs.Fmt.{digit_glyph}
 
 -- the two hexadecimal digits of a byte, 0 to 9 and A to F
@@ -11,3 +11,7 @@ abbrev pub hex_digits : ℕ → List ℕ
 hex_digits v =
     map (λ weight. digit_glyph true (v / weight % 16))
     (0x10000000 ∷ 0x1000000 ∷ 0x100000 ∷ 0x10000 ∷ 0x1000 ∷ 0x100 ∷ 0x10 ∷ 0x1 ∷ [])
+
+-- bytes in hexadecimal digits, with a space before each
+abbrev pub spaced_bytes : List ℕ → List ℕ
+spaced_bytes bytes = flat_map (λ b. 32 ∷ hex_pair b) bytes

@@ -1,34 +1,7 @@
-//! Reads digits, and writes numbers in decimal and hexadecimal digits.
-ghost use Rattle.std.specs.Prelude.{◌≡◌, ◌++◌, OnErr, OnOk, decimal};
+//! The values of digits, and the hexadecimal digits of numbers.
+ghost use Rattle.std.specs.Prelude.{◌≡◌};
 ghost use Rattle.std.specs.Char.{digit_value};
 ghost use Rattle.dma_text.specs.Digits.{hex_digits, hex_pair};
-
-use itoa::Buffer;
-use std::alloc::AllocError;
-
-/// Appends a number in decimal digits. Appends nothing if it is out of memory.
-#[inline(always)]
-#[tactic(auto, using(std::proofs::lemmas::Fmt::decimal_digit))]
-pub fn push_decimal(line: &mut Vec<u8>, number: u64) -> Result<(), AllocError>
-    ensures ok { OnOk result (line.new.items ≡ line.old.items ++ decimal number) }
-    ensures err { OnErr result (line.new.items ≡ line.old.items) }
-{
-    // Most numbers have one digit.
-    if number < 10 {
-        line.push(b'0' + number as u8)?;
-        return Ok(());
-    }
-    push_digits(line, number)
-}
-
-/// Appends a number of any size, as [`push_decimal`] does. Makes the digits on the stack.
-#[inline(never)]
-fn push_digits(line: &mut Vec<u8>, number: u64) -> Result<(), AllocError>
-    ensures ok { OnOk result (line.new.items ≡ line.old.items ++ decimal number) }
-    ensures err { OnErr result (line.new.items ≡ line.old.items) }
-{
-    line.extend_from_slice(Buffer::new().format(number).as_bytes())
-}
 
 /// The two hexadecimal digits of each byte, in capitals. A look-up takes fewer instructions than arithmetic.
 const PAIRS: [u8; 512] = *b"\
@@ -43,7 +16,7 @@ E0E1E2E3E4E5E6E7E8E9EAEBECEDEEEFF0F1F2F3F4F5F6F7F8F9FAFBFCFDFEFF";
 
 /// Returns the two hexadecimal digits of a byte, in capitals.
 #[inline(always)]
-pub fn hex_pair(byte: u8) -> [u8; 2]
+pub(crate) fn hex_pair(byte: u8) -> [u8; 2]
     ensures { result ≡ hex_pair byte }
 {
     let place = 2 * usize::from(byte);
@@ -52,7 +25,7 @@ pub fn hex_pair(byte: u8) -> [u8; 2]
 
 /// Returns the eight hexadecimal digits of a number, in capitals.
 #[inline(always)]
-pub fn hex_digits(value: u32) -> [u8; 8]
+pub(crate) fn hex_digits(value: u32) -> [u8; 8]
     ensures { result ≡ hex_digits value }
 {
     let [a, b] = hex_pair((value / 0x100_0000) as u8);

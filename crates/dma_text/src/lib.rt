@@ -1,8 +1,10 @@
-//! Bytes of text: search for a byte, and digits.
+//! Bytes of text: search for a byte, digits, and texts that can be appended to bytes.
 //!
 //! Proved: the first position of a byte (`position_of`), the value of a digit in a base of at most 36 (`digit_value`),
-//! and the digits of numbers, decimal (`push_decimal`) and hexadecimal in capitals (`hex_pair`, `hex_digits`).
+//! and what a text appends (`Text`): words, numbers in decimal digits, bytes and addresses in hexadecimal ones, and two
+//! to four texts in a row.
 #![tactic(auto)]
 
 pub mod bytes;
 pub mod digits;
+pub mod text;

@@ -1,6 +1,9 @@
 -- Beginnings of one list.
-use Rattle.std.proofs.Common.{◌≡◌, ◌≤◌, List, [], ◌∷◌, ◌++◌, length, refl, ap, sym, ◌∙◌, arith, append_assoc}
+use Rattle.std.proofs.Common.{◌≡◌, ◌+◌, ◌≤◌, List, [], ◌∷◌, ◌++◌, length, refl, ap, sym, ◌∙◌, arith, append_assoc}
+use Rattle.std.specs.List.{slice_get}
 use mathlib.Core.List.{IsPrefix}
+use Rattle.dma_engine.specs.Ticks.{Tick}
+use Rattle.dma_work.specs.inner.Published.{those}
 
 -- each list begins with itself
 pub prefix_self : {A : Type 0} (xs : List A) → IsPrefix xs xs
@@ -27,3 +30,14 @@ prefix_whole [] (y ∷ ys) p le = absurd (omega arith)
 prefix_whole (x ∷ xs) [] p le = absurd (cc (p.1))
 prefix_whole (x ∷ xs) (y ∷ ys) p le =
     let rest = prefix_whole xs ys (p.0, cc (p.1)) (omega arith) in cc (p.1, rest)
+
+-- a list that has one more tick than one of its beginnings
+pub one_longer : (xs ys : List Tick) → IsPrefix xs ys → length ys ≡ length xs + 1 → xs ++ those (slice_get ys (length xs)) ≡ ys
+one_longer [] [] p n = absurd (omega arith)
+one_longer [] (y ∷ []) p n = refl
+one_longer [] (y ∷ z ∷ zs) p n = absurd (omega arith)
+one_longer (x ∷ xs) [] p n = absurd (omega arith)
+one_longer (x ∷ xs) (y ∷ ys) p n =
+    let rest = one_longer xs ys (p.0, cc (p.1)) (omega arith) in
+    let same : x ≡ y = cc (p.1) in
+    cc (same, rest)

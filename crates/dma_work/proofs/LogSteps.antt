@@ -6,7 +6,7 @@ use mathlib.Core.List.{IsPrefix}
 use prog.Atomic.{either}
 use Rattle.logbook.specs.Pages.{Cell, cell, keeps, no_nib, step, Moves, Goes}
 use Rattle.dma_engine.specs.Ticks.{Tick}
-use Rattle.dma_work.specs.inner.Log.{IsKept, Adds}
+use Rattle.dma_work.specs.inner.Published.{Adds, IsCounted}
 use Rattle.dma_work.proofs.Beginnings.{prefix_whole}
 
 abbrev pub shown : List Tick → List Tick
@@ -16,7 +16,7 @@ abbrev pub moved : List Tick → List Tick → ℕ → Type 0
 moved xs ys n = Unit {0}
 
 pub adds_goes : (log v : List Tick) (e : Tick) (old : ℕ) → length v ≡ old → IsPrefix v log → (b : Bool) → (length log == old) ≡ b
-    → Goes IsKept shown moved 0 (v, (no_nib, None)) (λ n. either (n == old) (old + 1) n) (Adds (step 0 old (old + 1) e) (v, (no_nib, None))) ((length log, true) ∷ (0, true) ∷ []) log
+    → Goes IsCounted shown moved 0 (v, (no_nib, None)) (λ n. either (n == old) (old + 1) n) (Adds (step 0 old (old + 1) e) (v, (no_nib, None))) ((length log, true) ∷ (0, true) ∷ []) log
 adds_goes log v e old len pre true is =
     let here : length log ≡ old = grind (arith, nat_tests) in
     let same : v ≡ log = prefix_whole v log pre (omega arith) in
@@ -29,7 +29,7 @@ adds_goes log v e old len pre false is =
 
 -- whatever the book is, the exchange adds the tick to all that was seen, or finds that the history is longer
 pub adds_moves : (v : List Tick) (e : Tick) (old : ℕ) → length v ≡ old
-    → Moves IsKept shown moved 0 (v, (no_nib, None)) (λ n. either (n == old) (old + 1) n) (Adds (step 0 old (old + 1) e) (v, (no_nib, None)))
+    → Moves IsCounted shown moved 0 (v, (no_nib, None)) (λ n. either (n == old) (old + 1) n) (Adds (step 0 old (old + 1) e) (v, (no_nib, None)))
 adds_moves v e old len cs log kept pre away =
-    let P : List Cell → Type 0 = λ c. (0 < length c) × ((cell c 0).1 ≡ true) × Goes IsKept shown moved 0 (v, (no_nib, None)) (λ n. either (n == old) (old + 1) n) (Adds (step 0 old (old + 1) e) (v, (no_nib, None))) c log in
+    let P : List Cell → Type 0 = λ c. (0 < length c) × ((cell c 0).1 ≡ true) × Goes IsCounted shown moved 0 (v, (no_nib, None)) (λ n. either (n == old) (old + 1) n) (Adds (step 0 old (old + 1) e) (v, (no_nib, None))) c log in
     subst P (sym kept) (omega arith, refl, adds_goes log v e old len pre (length log == old) refl)

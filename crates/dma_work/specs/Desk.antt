@@ -1,16 +1,18 @@
 -- What contracts see of a desk.
-use Rattle.std.specs.Prelude.{◌≡◌, ℕ, ◌<◌, length, slice_index_or, ◌+◌, List, ◌++◌, Result}
+use Rattle.std.specs.Prelude.{◌≡◌, ◌≢◌, ◌⊎◌, ℕ, ◌+◌, List, ◌++◌, Result}
 use Rattle.std.specs.List.{sum_by}
 use Rattle.logbook.specs.Pages.{Book}
-use Rattle.dma_engine.specs.Answer.{StepAnswers}
+use Rattle.dma_engine.specs.Answer.{CallAnswers, StepAnswers, reply_of}
 use Rattle.dma_engine.specs.Laws.{steps_in, finishes_in}
 use Rattle.dma_engine.specs.Object.{finished_all}
 use Rattle.dma_engine.specs.Ticks.{Board, Tick, ticks_of}
-use Rattle.dma_engine.specs.View.{EngineState, object_of}
+use Rattle.dma_engine.specs.View.{EngineState, IsSound, memory_of, object_of}
+use Rattle.dma_engine.specs.declared.call.Call.{Call}
+use Rattle.dma_engine.specs.declared.call.Reply.{Reply}
+use Rattle.dma_engine.specs.declared.call.Reply.TheVariants.{Done}
 use Rattle.dma_engine.specs.declared.fault.EngineFault.{EngineFault}
 use Rattle.dma_engine.specs.declared.turn.Turn.{Turn}
-use Rattle.dma_work.specs.declared.job.Job.{Job}
-use Rattle.dma_work.specs.declared.totals.Totals.{Totals}
+use Rattle.dma_work.specs.declared.worker.Totals.{Totals}
 
 -- The parts of a desk: an engine, the log of its published list, and the counts from which that list's board begins.
 pub record PartsState : Type 0 where
@@ -34,9 +36,21 @@ abbrev pub Names : ℕ → ℕ → Board → Book → PartsState → Type 0
 Names steps finished base log p =
     (steps ≡ p.engine.view.steps) × (finished ≡ finished_all (object_of p.engine.view)) × (base ≡ p.base) × (log ≡ p.log)
 
--- The book stays, and so do the ticks that stand before those of the history.
+-- The book stays, and so do the ticks that were published before those of the history.
 abbrev pub SameBook : DeskState → DeskState → Type 0
 SameBook old new = (new.book ≡ old.book) × (new.before ≡ old.before)
+
+-- A call gets the engine's reply, and the book stays.
+abbrev pub Answers : DeskState → Call → Reply → DeskState → Type 0
+Answers old call reply new = CallAnswers old.engine.view call reply new.engine.view × SameBook old new
+
+-- The same of a call that returns nothing unless it is refused.
+abbrev pub Does : {A : Type 0} → DeskState → Call → Result A EngineFault → DeskState → Type 0
+Does old call result new = Answers old call (reply_of (λ _. Done) result) new
+
+-- a book with nothing in it
+abbrev pub no_totals : Totals
+no_totals = record { steps = 0; finished = 0; terminated = 0 }
 
 -- the book with what a step's answer adds
 abbrev pub stepped_book : Totals → Result Turn EngineFault → Totals
@@ -50,11 +64,9 @@ pub record TallyCounts : Type 0 where
   pub steps : ℕ
   pub finishes : ℕ
 
--- Tally i has worker i and the turns of job i.
-abbrev pub AreTallies : List TallyCounts → List Job → Type 0
-AreTallies tallies jobs =
-    (i : ℕ) (t : TallyCounts) (j : Job) → i < length jobs
-    → ((slice_index_or tallies i t).worker ≡ i) × ((slice_index_or tallies i t).turns ≡ (slice_index_or jobs i j).turns)
+-- a tally of a worker with nothing counted
+abbrev pub new_tally : ℕ → TallyCounts
+new_tally worker = record { worker = worker; turns = 0; steps = 0; finishes = 0 }
 
 -- the steps of all tallies
 abbrev pub steps_of : List TallyCounts → ℕ
@@ -64,12 +76,29 @@ steps_of tallies = sum_by (λ (t : TallyCounts). t.steps) tallies
 abbrev pub finishes_of : List TallyCounts → ℕ
 finishes_of tallies = sum_by (λ (t : TallyCounts). t.finishes) tallies
 
+-- The tallies' steps and finishes add up to those of the book.
+abbrev pub AddUp : List TallyCounts → Totals → Type 0
+AddUp tallies book = (steps_of tallies ≡ book.steps) × (finishes_of tallies ≡ book.finished)
+
+-- The tallies' steps don't add up to those of the book, or their finishes don't.
+abbrev pub Differ : List TallyCounts → Totals → Type 0
+Differ tallies book = (steps_of tallies ≢ book.steps) ⊎ (finishes_of tallies ≢ book.finished)
+
+-- A desk ended with this engine and this book. The tallies add up to the book, which is the rise of the engine's step count
+-- and finished cookies over these.
+pub record IsSettled (steps finished : ℕ) (tallies : List TallyCounts) (engine : EngineState) (book : Totals) : Type 0 where
+  pub adds : AddUp tallies book
+  pub counted : engine.view.steps ≡ steps + book.steps
+  pub done : finished_all (object_of engine.view) ≡ finished + (book.finished + book.terminated)
+  pub sound : IsSound engine.view
+  pub memory : engine.memory ≡ memory_of engine.view
+
 -- a tally after a step with this answer, refused or not
 abbrev pub counted : Result Turn EngineFault → TallyCounts → TallyCounts
 counted r t = record t { turns = t.turns + 1; steps = t.steps + steps_in r; finishes = t.finishes + finishes_in r }
 
--- A step of a channel, counted: the engine's step with some answer, which the book of the desk and a tally count. The ticks
--- that were published before those of the history stay.
+-- A step of a channel, counted: the engine's step with some answer, which the desk's book and a tally count. The ticks that
+-- were published before those of the history stay.
 pub record CountsAStep
     (ch : ℕ) (tally : TallyCounts) (old : DeskState) (tally_after : TallyCounts) (new : DeskState)
     : Type 0 where

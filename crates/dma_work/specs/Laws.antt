@@ -11,8 +11,8 @@ AreCounts board = (ch : ℕ) → ((counts board ch).used ≤ 4294967295) × ((co
 -- A cookie that is given in a list is never unknown in a list that begins with that one.
 abbrev pub StaysKnown : Type 0
 StaysKnown =
-    (base : Board) (told seen : List Tick) (ch cookie : ℕ) → AreCounts base → StartsWith seen told
-    → IsGiven base told ch cookie → status_after base seen ch cookie ≢ Unknown
+    (base : Board) (learnt seen : List Tick) (ch cookie : ℕ) → AreCounts base → StartsWith seen learnt
+    → IsGiven base learnt ch cookie → status_after base seen ch cookie ≢ Unknown
 
 -- A cookie that is complete in a list is complete in each list that begins with that one.
 abbrev pub StaysComplete : Type 0
@@ -23,5 +23,5 @@ StaysComplete =
 -- A cookie up to the last one that was closed is complete in each list that begins with that of the closing.
 abbrev pub ClosedIsComplete : Type 0
 ClosedIsComplete =
-    (base : Board) (told seen : List Tick) (ch through cookie : ℕ) → AreCounts base → StartsWith seen told
-    → AreFinished base told ch through → 0 < cookie → cookie ≤ through → status_after base seen ch cookie ≡ Complete
+    (base : Board) (learnt seen : List Tick) (ch through cookie : ℕ) → AreCounts base → StartsWith seen learnt
+    → AreFinished base learnt ch through → 0 < cookie → cookie ≤ through → status_after base seen ch cookie ≡ Complete

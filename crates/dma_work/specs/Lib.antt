@@ -1,8 +1,9 @@
--- Published ticks and what they tell; what a reader knows of them; what contracts see of a desk; the channels that a worker
--- steps; the laws of statuses.
+-- Published ticks and the status of a cookie after them; what a reader knows; what contracts see of a desk; the tallies of
+-- jobs; the channels that a worker steps; the laws of statuses.
 pub mod Ticks
 pub mod Known
 pub mod Desk
+pub mod Tallies
 pub mod Rotation
 pub mod Laws
 pub mod inner

@@ -1,19 +1,14 @@
 -- Which channels a worker steps, and in which order.
 use Rattle.std.specs.Prelude.{◌≡◌, ◌<◌, ◌≤◌, ℕ, ◌+◌, ◌-◌, ◌%◌, zero, suc, List, [], ◌∷◌, ◌++◌, length, slice_index}
-use Rattle.dma_work.specs.declared.job.Job.{Job}
 
 -- The channel of turn k, where turns count from 0: the first up to the last, again and again.
 abbrev pub channel_at : ℕ → ℕ → ℕ → ℕ
 channel_at first last k = first + k % (last + 1 - first)
 
--- the channels of so many turns, in order
+-- the channels of this number of turns, in order
 abbrev pub rotation : ℕ → ℕ → ℕ → List ℕ
 rotation first last zero = []
 rotation first last (suc n) = rotation first last n ++ channel_at first last n ∷ []
-
--- the channels that a worker steps for a job, in order
-abbrev pub turns_of : Job → List ℕ
-turns_of j = rotation j.first j.last j.turns
 
 -- It acted at these channels, one after another, and did nothing else.
 abbrev pub StepsInTurn : {S : Type 0} → (S → ℕ → S → Type 0) → List ℕ → S → S → Type 0

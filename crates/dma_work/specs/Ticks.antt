@@ -1,4 +1,4 @@
--- Published ticks, and what they tell of a cookie.
+-- Published ticks, and the status of a cookie after them.
 use Rattle.std.specs.Prelude.{ℕ, ◌<◌, ◌≤◌, List, [], ◌∷◌}
 use mathlib.Core.List.{IsPrefix}
 use Rattle.dma_engine.specs.Ticks.{Tick, Board, board_after, board_of, counts, status_of}

@@ -1,90 +1,187 @@
-//! What is published: the counts that a list of ticks adds up to, with a token of that list.
+//! Boards: what is published, and the rule that it only grows.
 
-ghost use Rattle.std.specs.Prelude.{◌≡◌, ◌++◌, [], ◌∷◌, IsTrue};
-ghost use Rattle.dma_work.specs.inner.Posted.{with_ticks};
-ghost use Rattle.dma_work.specs.Ticks.{StartsWith, board_from, status_after};
+ghost use Rattle.std.specs.Prelude.{◌≡◌, ◌++◌, IfSome};
+ghost use Rattle.dma_engine.specs.Ticks.{board_of, counts, status_of, ticked};
+ghost use Rattle.dma_work.specs.inner.Published.{board_with, snapshot_of, those};
+ghost use Rattle.dma_work.specs.Ticks.{StartsWith, base_of, board_from, status_after};
 
-use crate::counts::Counts;
-use crate::log::Front;
-use crate::tick::Tick;
-use crate::ticket::{Latest, Told};
-use dma_engine::Status;
+use crate::log::{Change, Snapshot, Tick};
+use crossbeam_utils::rule::{Outcome, Protocol};
+use dma_engine::{Engine, Status};
 use left_right::Absorb;
+use left_right::reader::Reader;
+use left_right::writer::Writer;
 use std::alloc::AllocError;
 use std::marker::Model;
 
-/// The board of a published list. Contracts see it as that list.
+// The counts of one channel. Contracts see them as the engine's own.
+#[derive(Clone, Copy)]
+struct ChannelCounts {
+    used: u32,
+    finished: u32,
+}
+
+impl Model for ChannelCounts {
+    ghost use Rattle.dma_engine.specs.Ticks.{Counts};
+
+    ghost Value = { Counts };
+
+    ghost view = { λ c. record { used = c.used; finished = c.finished } };
+
+    ghost inverse = { λ c. record { used = c.used; finished = c.finished } };
+}
+
+/// The counts of the channels 0 to 7.
+#[derive(Clone, Copy)]
+pub(crate) struct Counts {
+    channels: [ChannelCounts; 8],
+}
+
+impl Model for Counts {
+    ghost use Rattle.std.specs.Prelude.{◌≡◌, length};
+    ghost use Rattle.dma_engine.specs.Ticks.{Board};
+
+    ghost Value = { Board };
+
+    ghost view = { λ c. c.channels };
+
+    ghost invariant = { λ c. length c.channels ≡ 8 };
+
+    ghost inverse = { λ b. record { channels = b } };
+}
+
+impl ChannelCounts {
+    // Returns the counts with which an engine's history begins on a channel, or 0 if there is no such channel.
+    fn at_base(engine: &Engine, ch: u8) -> ChannelCounts
+        ensures { result ≡ counts (board_of engine.now.view.base) ch }
+    {
+        ChannelCounts {
+            used: engine.used_at_base(ch),
+            finished: engine.forgotten(ch),
+        }
+    }
+}
+
+impl Counts {
+    /// Returns the counts with which an engine's history begins.
+    pub fn at_base(engine: &Engine) -> Counts
+        ensures { result ≡ base_of engine.now.view }
+    {
+        let at = |ch: u8| -> ChannelCounts
+            ensures { result ≡ counts (board_of engine.entry.now.view.base) ch }
+        { ChannelCounts::at_base(engine, ch) };
+        Counts {
+            channels: [at(0), at(1), at(2), at(3), at(4), at(5), at(6), at(7)],
+        }
+    }
+
+    /// Adds a tick. A count stops at 4,294,967,295.
+    #[tactic(auto, using(crate::proofs::Boards::ticked_past))]
+    pub fn add(&mut self, tick: Tick)
+        ensures { self.new ≡ ticked self.old tick }
+    {
+        let at = usize::from(tick.ch);
+        let channels = &mut self.channels;
+        if at >= channels.len() {
+            return;
+        }
+        let mut counts = channels[at];
+        match tick.change {
+            Change::Given => counts.used = counts.used.saturating_add(1),
+            Change::Finished(count) => counts.finished = counts.finished.saturating_add(count),
+        }
+        channels[at] = counts;
+    }
+
+    /// Returns the status of a cookie.
+    #[tactic(auto, using(crate::proofs::Boards::status_past))]
+    fn status(&self, ch: u8, cookie: u32) -> Status
+        ensures { result ≡ status_of self.now ch cookie }
+    {
+        let channels = &self.channels;
+        match channels.get(usize::from(ch)) {
+            Some(counts) if cookie == 0 || counts.used < cookie => Status::Unknown,
+            Some(counts) if cookie <= counts.finished => Status::Complete,
+            Some(_) => Status::InProgress,
+            None => Status::Unknown,
+        }
+    }
+}
+
+/// The counts that a list of ticks sums up to. Contracts see the list.
 #[derive(Drop)]
 pub(crate) struct Board {
     base: Counts,
     counts: Counts,
-    latest: Latest,
+    before: Snapshot,
+    // the last tick of the list, if the log records it only after the board is published
+    next: Option<Tick>,
 }
 
 impl Model for Board {
-    ghost use Rattle.std.specs.Prelude.{◌≡◌};
-    ghost use Rattle.dma_work.specs.inner.Posted.{Posted};
+    ghost use Rattle.std.specs.Prelude.{◌≡◌, ◌++◌};
+    ghost use Rattle.dma_work.specs.inner.Published.{BoardState, those};
     ghost use Rattle.dma_work.specs.Ticks.{board_from};
 
-    ghost Value = { Posted };
+    ghost Value = { BoardState };
 
-    ghost view = { λ b. record { base = b.base; ticks = b.latest.ticks; log = b.latest.log } };
+    ghost view = { λ b. record {
+      base = b.base;
+      ticks = b.before.ticks ++ those b.next;
+      log = b.before.log;
+    } };
 
-    ghost invariant = { λ b. b.counts ≡ board_from b.base b.latest.ticks };
+    ghost invariant = { λ b. b.counts ≡ board_from b.base (b.before.ticks ++ those b.next) };
 }
 
 impl Board {
-    /// The board of the log as it is.
-    pub(crate) fn new(base: Counts, counts: Counts, front: &Front) -> Board
-        requires { counts ≡ board_from base front.now.ticks }
-        ensures { result ≡ record { base = base; ticks = front.now.ticks; log = front.now.log } }
+    /// Returns the board of a snapshot and the next tick, if any.
+    pub fn new(base: Counts, counts: Counts, before: Snapshot, next: Option<Tick>) -> Board
+        requires { counts ≡ board_from base (before.ticks ++ those next) }
+        ensures { result ≡ record {
+          base = base;
+          ticks = before.ticks ++ those next;
+          log = before.log;
+        } }
     {
         Board {
             base,
             counts,
-            latest: Latest::whole(front),
+            before,
+            next,
         }
     }
 
-    /// The board with one tick more, which follows all of the log.
+    /// Returns a copy.
+    pub fn copy(&self) -> Board
+        ensures { result ≡ self.now }
+    {
+        Board::new(self.base, self.counts, self.before.copy(), self.next)
+    }
+
+    /// Returns the board with one more tick. `before` is a snapshot with all ticks of this board.
     #[tactic(auto, using(crate::proofs::Boards::board_push))]
-    pub(crate) fn next(&self, front: &Front, tick: Tick) -> Board
-        requires { (front.now.log ≡ self.now.log) × (front.now.ticks ≡ self.now.ticks) }
-        ensures { result ≡ with_ticks self.now (tick ∷ []) }
+    pub fn next(&self, before: Snapshot, tick: Tick) -> Board
+        requires { before ≡ snapshot_of self.now }
+        ensures { result ≡ board_with self.now tick }
     {
         let mut counts = self.counts;
         counts.add(tick);
-        Board {
-            base: self.base,
-            counts,
-            latest: Latest::next(front, tick),
+        Board::new(self.base, counts, before, Some(tick))
+    }
+
+    /// Returns the status of a cookie, or `None` unless the board's list is known to begin with a snapshot of its log.
+    pub fn status(&self, snapshot: &Snapshot, ch: u8, cookie: u32) -> Option<Status>
+        requires { snapshot.now.log ≡ self.now.log }
+        ensures covers { IfSome result (λ s. StartsWith self.now.ticks snapshot.now.ticks) }
+        ensures some { IfSome result
+            (λ s. s ≡ status_after self.now.base self.now.ticks ch cookie) }
+    {
+        if snapshot.is_within_next(&self.before, self.next) {
+            Some(self.counts.status(ch, cookie))
+        } else {
+            None
         }
-    }
-
-    /// A copy.
-    pub(crate) fn again(&self) -> Board
-        ensures { result ≡ self.now }
-    {
-        Board {
-            base: self.base,
-            counts: self.counts,
-            latest: self.latest.again(),
-        }
-    }
-
-    /// How far a cookie is.
-    pub(crate) fn status(&self, ch: u8, cookie: u32) -> Status
-        ensures { result ≡ status_after self.now.base self.now.ticks ch cookie }
-    {
-        self.counts.status(ch, cookie)
-    }
-
-    /// Whether the list is known to begin with what was told.
-    pub(crate) fn covers(&self, told: &Told) -> bool
-        requires { self.now.log ≡ told.now.log }
-        ensures { IsTrue result → StartsWith self.now.ticks told.now.ticks }
-    {
-        self.latest.covers(told)
     }
 }
 
@@ -100,7 +197,30 @@ impl Absorb<Board> for Board {
 
     /// Becomes the board that is to be published.
     fn absorb_first(&mut self, operation: &Board, _other: &Board) -> Result<(), AllocError> {
-        *self = operation.again();
+        *self = operation.copy();
         Ok(())
     }
 }
+
+/// The rule of what is published, and what a look at it or a publishing shows. Of the writer and each reader it sees
+/// the board that it has seen, if any.
+pub(crate) struct Published;
+
+impl Protocol<Board, Option<Board>> for Published {
+    ghost use Rattle.std.specs.Prelude.{None};
+    ghost use Rattle.dma_work.specs.inner.Published.{Keeps};
+
+    ghost holds = { Keeps };
+
+    ghost first = { None };
+}
+
+impl Outcome<Board, Option<Board>> for Published {
+    ghost use Rattle.dma_work.specs.inner.Published.{Sees};
+
+    ghost then = { Sees };
+}
+
+pub(crate) type BoardReader = Reader<Board, Option<Board>, Published>;
+
+pub(crate) type BoardWriter = Writer<Board, Board, Option<Board>, Published>;

@@ -1,23 +1,73 @@
-//! The log of ticks. A token of it has no bytes, can be kept, copied and compared, and outlives the lock.
+//! Ticks, the log that records them, and snapshots of the log.
 
 ghost use Rattle.std.specs.Prelude.{◌≡◌, ◌+◌, ◌<◌, [], ◌∷◌, ◌++◌, ◌≤◌, ◌↔◌, false, length, IsTrue};
-ghost use Rattle.dma_work.specs.inner.Log.{head_of};
+ghost use Rattle.dma_engine.specs.Ticks.{ticks_of};
+ghost use Rattle.dma_work.specs.inner.Published.{head_of, those, with_tick};
+ghost use Rattle.dma_work.specs.inner.TickForms.{tick_of};
 ghost use Rattle.dma_work.specs.Ticks.{StartsWith};
 
-use crate::tick::Tick;
+use dma_engine::Entry;
 use logbook::{Gain, Offer, Plain, Play, Rule, Seen, Start, Word};
 use std::marker::Model;
 use std::sync::Wait;
 
-/// The rule of the log.
-pub(crate) struct Law;
+/// What happened on a channel.
+#[derive(Clone, Copy, PartialEq, Eq)]
+pub(crate) enum Change {
+    /// It gave its next cookie.
+    Given,
+    /// This many of its cookies finished.
+    Finished(u32),
+}
+
+/// A change on a channel. Contracts see it as a tick of the engine's history.
+#[derive(Clone, Copy, PartialEq, Eq)]
+pub(crate) struct Tick {
+    pub(crate) ch: u8,
+    pub(crate) change: Change,
+}
+
+impl Model for Tick {
+    ghost use Rattle.dma_engine.specs.Ticks.{Tick as EngineTick};
+    ghost use Rattle.dma_work.specs.inner.TickForms.{tick_of, channel_of, change_of};
+
+    ghost Value = { EngineTick };
+
+    ghost view = { λ t. tick_of t.ch t.change };
+
+    ghost inverse = { λ t. record { ch = channel_of t; change = change_of t } };
+}
+
+impl Tick {
+    /// Returns the tick of a change on a channel.
+    pub fn new(ch: u8, change: Change) -> Tick
+        ensures { result ≡ tick_of ch change }
+    {
+        Tick { ch, change }
+    }
+
+    /// Returns the tick of an entry of a history, if it has one.
+    pub fn of(entry: &Entry) -> Option<Tick>
+        ensures { those result ≡ ticks_of (entry.now ∷ []) }
+    {
+        match entry {
+            Entry::Submitted { ch, .. } => Some(Tick::new(*ch, Change::Given)),
+            Entry::Finished { ch, .. } => Some(Tick::new(*ch, Change::Finished(1))),
+            Entry::Terminated { ch, count, .. } => Some(Tick::new(*ch, Change::Finished(*count))),
+            _ => None,
+        }
+    }
+}
+
+// The rule of the log, and the step that adds a tick, for which its client gains nothing.
+struct Law;
 
 impl Rule<Tick, u64> for Law {
     ghost use Rattle.std.specs.Prelude.{[]};
     ghost use base.Fml.{ftrue};
-    ghost use Rattle.dma_work.specs.inner.Log.{IsKept};
+    ghost use Rattle.dma_work.specs.inner.Published.{IsCounted};
 
-    ghost holds = { λ cells ticks. IsKept cells ticks };
+    ghost holds = { λ cells ticks. IsCounted cells ticks };
 
     ghost first = { [] };
 
@@ -30,25 +80,19 @@ impl Rule<Tick, u64> for Law {
     ghost moves = { λ ask before after answer. Unit {0} };
 }
 
-// Who adds a tick trades nothing.
-struct Nothing;
-
-impl Gain<Tick, u64> for Nothing {
+impl Gain<Tick, u64> for Law {
     ghost use base.Fml.{ftrue};
 
     ghost after = { λ names about answer. ftrue };
 }
 
-// The step that adds a tick.
-struct Add;
-
-impl Play<Tick, u64> for Add {
-    ghost use Rattle.dma_work.specs.inner.Log.{Adds};
+impl Play<Tick, u64> for Law {
+    ghost use Rattle.dma_work.specs.inner.Published.{Adds};
 
     ghost then = { Adds };
 }
 
-impl Plain<Tick, Tick, u64> for Add {
+impl Plain<Tick, Tick, u64> for Law {
     ghost use Rattle.std.specs.Prelude.{None};
 
     ghost ask = { λ tick. tick };
@@ -56,36 +100,52 @@ impl Plain<Tick, Tick, u64> for Add {
     ghost state = { λ tick. None };
 }
 
-/// A beginning of the log, and its length.
+/// The ticks that the log had at some time. It has no memory of its own, can be copied and compared, and outlives the
+/// lock.
 #[derive(Drop)]
-pub(crate) struct Front {
+pub(crate) struct Snapshot {
+    // the number of ticks
     len: u64,
+    // the last tick, if any
+    last: Option<Tick>,
     seen: Seen<Tick, u64, Law>,
 }
 
-impl Model for Front {
-    ghost use Rattle.std.specs.Prelude.{◌≡◌, length};
-    ghost use Rattle.dma_work.specs.inner.Log.{Reached};
+impl Model for Snapshot {
+    ghost use Rattle.std.specs.Prelude.{◌≡◌, ◌-◌, length, slice_get};
+    ghost use Rattle.dma_work.specs.inner.Published.{SnapshotState};
 
-    ghost Value = { Reached };
+    ghost Value = { SnapshotState };
 
-    ghost view = { λ f. record { log = f.seen.book; ticks = f.seen.log } };
+    ghost view = { λ s. record { log = s.seen.book; ticks = s.seen.log } };
 
-    ghost invariant = { λ f. f.len ≡ length f.seen.log };
+    ghost invariant = { λ s. (s.len ≡ length s.seen.log)
+        × (s.last ≡ slice_get s.seen.log (s.len - 1)) };
 }
 
-impl Front {
-    /// How many ticks it has.
-    pub(crate) fn len(&self) -> u64
+impl Snapshot {
+    /// Returns the number of ticks.
+    pub fn len(&self) -> u64
         ensures { result ≡ length self.now.ticks }
     {
         self.len
     }
 
-    /// Whether it is no longer than another. Of two beginnings of one log the shorter begins the longer.
-    pub(crate) fn is_within(&self, other: &Front) -> bool
+    /// Returns a copy.
+    pub fn copy(&self) -> Snapshot
+        ensures { result ≡ self.now }
+    {
+        Snapshot {
+            len: self.len,
+            last: self.last,
+            seen: self.seen.again(),
+        }
+    }
+
+    /// Returns whether this snapshot of a log is no longer than another one. The shorter of two begins the longer.
+    pub fn is_within(&self, other: &Snapshot) -> bool
         requires { self.now.log ≡ other.now.log }
-        ensures told { IsTrue result ↔ (length self.now.ticks ≤ length other.now.ticks) }
+        ensures len { IsTrue result ↔ (length self.now.ticks ≤ length other.now.ticks) }
         ensures within { IsTrue result → StartsWith other.now.ticks self.now.ticks }
         ensures longer { result ≡ false → StartsWith self.now.ticks other.now.ticks }
     {
@@ -94,85 +154,83 @@ impl Front {
         self.len <= other.len
     }
 
-    /// A copy.
-    pub(crate) fn again(&self) -> Front
-        ensures { result ≡ self.now }
+    /// Returns whether this snapshot of a log begins the list of an earlier one with the next tick, if any.
+    pub fn is_within_next(&self, before: &Snapshot, next: Option<Tick>) -> bool
+        requires { self.now.log ≡ before.now.log }
+        ensures { IsTrue result → StartsWith (before.now.ticks ++ those next) self.now.ticks }
     {
-        Front {
-            len: self.len,
-            seen: self.seen.again(),
-        }
+        self.is_within(before) || (self.len == before.len + 1 && self.last == next)
     }
 }
 
-/// The log, with the right to add to it.
+/// The log, with the right to add ticks. Contracts see all of its ticks.
 #[derive(Drop)]
 pub(crate) struct TickLog {
     head: Word<Tick, u64, Law>,
-    front: Front,
+    all: Snapshot,
 }
 
 impl Model for TickLog {
     ghost use Rattle.std.specs.Prelude.{◌≡◌};
-    ghost use Rattle.dma_work.specs.inner.Log.{Reached, head_of};
+    ghost use Rattle.dma_work.specs.inner.Published.{SnapshotState, head_of};
 
-    ghost Value = { Reached };
+    ghost Value = { SnapshotState };
 
-    ghost view = { λ l. l.front };
+    ghost view = { λ l. l.all };
 
-    ghost invariant = { λ l. l.head ≡ head_of l.front.log };
+    ghost invariant = { λ l. l.head ≡ head_of l.all.log };
 }
 
 impl TickLog {
-    /// A log with no tick.
-    pub(crate) fn new() -> TickLog
+    /// Returns a log with no ticks.
+    pub fn new() -> TickLog
         ensures { result.ticks ≡ [] }
     {
         let (seen, mut first, _second) = Seen::open(Start::alone(), 0, 0);
         TickLog {
             head: Word::tracked(0, &mut first),
-            front: Front { len: 0, seen },
+            all: Snapshot {
+                len: 0,
+                last: None,
+                seen,
+            },
         }
     }
 
-    /// All of it.
-    pub(crate) fn front(&self) -> &Front
-        ensures { result.now ≡ self.now }
+    /// Returns a snapshot of the log as it is.
+    pub fn snapshot(&self) -> Snapshot
+        ensures { result ≡ self.now }
     {
-        &self.front
+        self.all.copy()
     }
 
-    /// Adds a tick. It would wait for ever where another had added one, which none can, since the word is this value's own.
-    pub(crate) fn record<R: Wait>(&mut self, rt: &R, tick: Tick)
+    /// Adds a tick. It would wait forever if another thread had added one, but the word is private to this value.
+    pub fn record<R: Wait>(&mut self, rt: &R, tick: Tick)
         requires { length self.old.ticks < 18446744073709551615 }
-        ensures { self.new ≡ record { log = self.old.log; ticks = self.old.ticks ++ tick ∷ [] } }
+        ensures { self.new ≡ with_tick self.old tick }
     {
-        self.front = added(rt, &self.head, &self.front, tick);
+        self.all = added(rt, &self.head, &self.all, tick);
     }
 }
 
-// The log with one tick more.
-fn added<R: Wait>(rt: &R, head: &Word<Tick, u64, Law>, front: &Front, tick: Tick) -> Front
-    requires head { head.now ≡ head_of front.now.log }
-    requires few { length front.now.ticks < 18446744073709551615 }
-    ensures { result ≡ record { log = front.now.log; ticks = front.now.ticks ++ tick ∷ [] } }
+// Adds a tick to the log, and returns all of it.
+fn added<R: Wait>(rt: &R, head: &Word<Tick, u64, Law>, all: &Snapshot, tick: Tick) -> Snapshot
+    requires head { head.now ≡ head_of all.now.log }
+    requires few { length all.now.ticks < 18446744073709551615 }
+    ensures { result ≡ with_tick all.now tick }
 {
-    let mut offer: Offer<Tick, u64, Law, Nothing> = front.seen.plain::<Nothing, Tick, Add>(&tick);
-    let mut pen = front.seen.no_pen();
-    let mut seen = front.seen.again();
-    let found = head.compare_exchange::<Add, Nothing>(
-        front.len,
-        front.len + 1,
-        &mut seen,
-        &mut offer,
-        &mut pen,
-    );
-    if found != front.len {
+    let mut offer: Offer<Tick, u64, Law, Law> = all.seen.plain::<Law, Tick, Law>(&tick);
+    let mut pen = all.seen.no_pen();
+    let mut seen = all.seen.again();
+    let next = all.len + 1;
+    let found = head.compare_exchange::<Law, _>(all.len, next, &mut seen, &mut offer, &mut pen);
+    if found != all.len {
         for _ in rt.forever() {}
         unreachable!()
     }
-    Front {
-        len: front.len + 1,
+    Snapshot {
+        len: next,
+        last: Some(tick),
         seen,
     }
 }

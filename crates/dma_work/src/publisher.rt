@@ -1,159 +1,337 @@
-//! The writer of what readers see, with the log of its ticks.
+//! An engine with the publisher of its ticks, the writer of what status readers see.
 
-ghost use Rattle.std.specs.Prelude.{◌≡◌, ◌<◌, ◌≤◌, ◌^◌, [], ◌∷◌, Some, IfSome, IfOk, IsTrue, false, drop, length};
+ghost use Rattle.std.specs.Prelude.{◌≡◌, ◌<◌, ◌≤◌, ◌↔◌, ◌^◌, [], ◌∷◌, ◌++◌, Some, IfSome, OnSome, IfOk, IfErr, OnOk, IsTrue, true, false, drop, length, vec_len};
+ghost use Rattle.std.specs.List.{All};
 ghost use Rattle.left_right.specs.Sides.{view};
-ghost use Rattle.dma_work.specs.inner.Log.{Reached};
-ghost use Rattle.dma_work.specs.inner.Posted.{HasActed, Later, Publication, newest, reached, with_ticks};
-ghost use Rattle.dma_work.specs.Ticks.{board_from};
+ghost use Rattle.dma_engine.specs.Answer.{StepAnswers};
+ghost use Rattle.dma_engine.specs.Laws.{ticks_in};
+ghost use Rattle.dma_engine.specs.Ticks.{ticks_of};
+ghost use Rattle.dma_engine.specs.Turn.{ends, turn};
+ghost use Rattle.dma_work.specs.Known.{Known, knows};
+ghost use Rattle.dma_work.specs.Laws.{AreCounts};
+ghost use Rattle.dma_work.specs.inner.Published.{HasActed, Later, board_and, board_with, newest, snapshot_of};
+ghost use Rattle.dma_work.specs.Ticks.{base_of, board_from};
 
-use crate::board::Board;
-use crate::counts::Counts;
-use crate::log::{Front, TickLog};
-use crate::rule::{BoardReader, BoardWriter, Look};
-use crate::tick::Tick;
-use crate::ticket::Told;
+use crate::board::{Board, BoardWriter, Counts, Published};
+use crate::log::{Change, Snapshot, Tick, TickLog};
+use crate::reader::StatusReader;
 use atomic_table::{Join, Split};
 use core::mem::replace_with;
-use dma_engine::Engine;
-use std::alloc::{AllocError, Global};
+use dma_engine::{Engine, EngineFault, Entry, Turn};
+use std::alloc::Global;
 use std::marker::Model;
 use std::sync::Wait;
 
-// What the writer has seen is told, and a reader takes it over.
-struct Note;
-
-impl Split<Option<Board>> for Note {
+// A new reader takes over what the writer has seen.
+impl Split<Option<Board>> for Published {
     ghost left = { λ v. v };
 
     ghost right = { λ v. v };
 }
 
-impl Join<Option<Board>> for Note {
+impl Join<Option<Board>> for Published {
     ghost use Rattle.std.specs.Prelude.{None};
 
-    ghost both = { λ v told. told };
+    ghost both = { λ v seen. seen };
 
     ghost spent = { None };
 }
 
-/// It publishes a list of ticks, one more at a time. Contracts see what is published, and what is to be published next.
+/// Publishes a list of ticks, one more at a time.
 pub(crate) struct Publisher {
     writer: BoardWriter,
     log: TickLog,
+    // the ticks that were published before those of the engine's history
+    before: Snapshot,
 }
 
 impl Model for Publisher {
     ghost use Rattle.std.specs.Prelude.{◌≡◌, Some, drop};
     ghost use Rattle.left_right.specs.Sides.{view as seen_by};
-    ghost use Rattle.dma_work.specs.inner.Posted.{Publication, reached};
+    ghost use Rattle.dma_work.specs.inner.Published.{PublisherState, snapshot_of};
 
-    ghost Value = { Publication };
+    ghost Value = { PublisherState };
 
-    ghost view = { λ p. record { shown = p.writer.desk.shown.value; pending = drop p.writer.behind p.writer.log.items } };
+    ghost view = { λ p. record {
+      shown = p.writer.desk.shown.value;
+      pending = drop p.writer.behind p.writer.log.items;
+      before = p.before.ticks;
+    } };
 
-    ghost invariant = { λ p. (p.log ≡ reached p.writer.desk.shown.value)
+    ghost invariant = { λ p. (p.log ≡ snapshot_of p.writer.desk.shown.value)
         × (seen_by p.writer.desk.place ≡ Some (p.writer.desk.shown.value)) };
 }
 
-// The same writer, with nothing pending.
+// Publishes what is pending.
 fn shown<R: Wait>(rt: &R, writer: BoardWriter) -> BoardWriter
-    requires { Later writer.desk.shown.value (newest writer.desk.shown.value (drop writer.behind writer.log.items)) }
-    ensures shown { result.desk.shown.value ≡ newest writer.desk.shown.value (drop writer.behind writer.log.items) }
+    requires { Later writer.desk.shown.value
+        (newest writer.desk.shown.value (drop writer.behind writer.log.items)) }
+    ensures shown { result.desk.shown.value
+        ≡ newest writer.desk.shown.value (drop writer.behind writer.log.items) }
     ensures pending { drop result.behind result.log.items ≡ [] }
     ensures seen { view result.desk.place ≡ Some (result.desk.shown.value) }
 {
-    let (writer, published) = writer.publish_as::<Look, R>(rt);
+    let (writer, published) = writer.publish_as::<Published, R>(rt);
     published.unwrap();
     writer
 }
 
+// Records the tick of an entry, if it has one, and adds it to the counts.
+fn record_one<R: Wait>(rt: &R, log: &mut TickLog, counts: &mut Counts, entry: &Entry)
+    requires { length log.old.ticks < 18446744073709551615 }
+    ensures log { log.new
+        ≡ record { log = log.old.log; ticks = log.old.ticks ++ ticks_of (entry.now ∷ []) } }
+    ensures counts { counts.new ≡ board_from counts.old (ticks_of (entry.now ∷ [])) }
+{
+    if let Some(tick) = Tick::of(entry) {
+        log.record(rt, tick);
+        counts.add(tick);
+    }
+}
+
+// Records the ticks of an engine's history. Returns the counts that they sum up to from these on.
+fn record_all<R: Wait>(rt: &R, log: &mut TickLog, base: Counts, engine: &Engine) -> Counts
+    requires { log.old.ticks ≡ [] }
+    ensures log { log.new ≡ record { log = log.old.log; ticks = ticks_of engine.now.view.history } }
+    ensures counts { result ≡ board_from base log.new.ticks }
+    ensures small { AreCounts (base_of engine.now.view) }
+{
+    let mut counts = base;
+    let history = engine.history();
+    for index in 0..history.len() {
+        record_one(rt, log, &mut counts, &history[index]);
+    }
+    counts
+}
+
 impl Publisher {
-    /// It publishes the log as it is, to as many readers as there are places. None where memory is refused.
-    pub(crate) fn new<R: Wait>(
-        rt: &R,
-        alloc: Global,
-        base: Counts,
-        counts: Counts,
-        log: TickLog,
-        places: usize,
-    ) -> Option<Publisher>
-        requires counts { counts ≡ board_from base log.ticks }
-        requires places { (0 < places) × (places < 2 ^ 32) }
-        ensures { IfSome result (λ p. p ≡ record { shown = record { base = base; ticks = log.ticks; log = log.log }; pending = [] }) }
+    /// Publishes the ticks of an engine's history to as many readers as there are places. Returns `None` if it is out
+    /// of memory.
+    pub fn new<R: Wait>(rt: &R, alloc: Global, engine: &Engine, places: usize) -> Option<Publisher>
+        requires { (0 < places) × (places < 2 ^ 32) }
+        ensures shown { IfSome result (λ p. (p.shown.base ≡ base_of engine.now.view)
+            × (p.shown.ticks ≡ ticks_of engine.now.view.history)) }
+        ensures rest { IfSome result (λ p. (p.pending ≡ []) × (p.before ≡ [])) }
+        ensures small { OnSome result (AreCounts (base_of engine.now.view)) }
     {
-        let first = Board::new(base, counts, log.front());
-        let second = first.again();
-        let same = first.again();
+        let mut log = TickLog::new();
+        let before = log.snapshot();
+        let base = Counts::at_base(engine);
+        let counts = record_all(rt, &mut log, base, engine);
+        let first = Board::new(base, counts, log.snapshot(), None);
+        let (second, same) = (first.copy(), first.copy());
         let Ok(mut writer) = BoardWriter::new(alloc, first, second, places) else {
             return None;
         };
-        // The writer has then seen the list, and can tell of it.
+        // The writer has then seen the board, and can pass that on to readers.
         let Ok(()) = writer.append(same) else {
             writer.take(rt);
             return None;
         };
         let writer = shown(rt, writer);
-        Some(Publisher { writer, log })
+        Some(Publisher {
+            writer,
+            log,
+            before,
+        })
     }
 
-    /// A reader that has seen what is published. An error where no place for it is free, or its count of owners is full.
-    pub(crate) fn reader(&mut self) -> Result<BoardReader, AllocError>
-        ensures seen { IfOk result (λ r. view r.place ≡ Some (self.old.shown)) }
+    /// Returns a reader that has seen what is published, or `None` if no place for it is free or its count of owners is
+    /// full.
+    pub fn reader(&mut self) -> Option<StatusReader>
+        ensures seen { IfSome result (λ r.
+            r ≡ knows self.old.shown.base self.old.shown.log self.old.shown.ticks) }
         ensures same { self.new ≡ self.old }
     {
-        let mut reader = self.writer.factory().reader()?;
-        reader.learn::<Note>(self.writer.tell::<Note>());
-        Ok(reader)
+        let mut reader = self.writer.factory().reader().ok()?;
+        reader.learn::<Published>(self.writer.tell::<Published>());
+        Some(StatusReader::new(reader, self.log.snapshot()))
     }
 
-    /// All ticks of the log.
-    pub(crate) fn front(&self) -> Front
-        ensures { result ≡ reached (self.now.shown) }
-    {
-        self.log.front().again()
-    }
-
-    /// Makes ready to publish one tick more, and says whether there was memory for it. There is none where 2^64 - 1 ticks are
-    /// published.
-    pub(crate) fn ready(&mut self, tick: Tick) -> bool
+    /// Allocates what it takes to publish one more tick, and returns whether it could. It can't if it is out of memory,
+    /// or has published 2^64 - 1 ticks.
+    pub fn ready(&mut self, tick: Tick) -> bool
         requires { self.old.pending ≡ [] }
         ensures few { IsTrue result → length self.new.shown.ticks < 18446744073709551615 }
-        ensures ready { IsTrue result → self.new ≡ record { shown = self.old.shown; pending = with_ticks self.old.shown (tick ∷ []) ∷ [] } }
-        ensures not { result ≡ false → self.new ≡ self.old }
+        ensures ready { IsTrue result
+            → self.new ≡ record (self.old) { pending = board_with self.old.shown tick ∷ [] } }
+        ensures same { result ≡ false → self.new ≡ self.old }
     {
-        if self.log.front().len() == u64::MAX {
+        let before = self.log.snapshot();
+        if before.len() == u64::MAX {
             return false;
         }
-        let next = self.writer.published().next(self.log.front(), tick);
+        let next = self.writer.published().next(before, tick);
         self.writer.append(next).is_ok()
     }
 
-    /// Publishes the tick that was made ready, then records it in the log. The engine, whose history follows the ticks of
-    /// `_before`, has acted by then. It waits for readers that still look at the board before the last one.
-    pub(crate) fn publish<R: Wait>(
-        &mut self,
-        rt: &R,
-        tick: Tick,
-        _before: &Front,
-        _engine: &Engine,
-    ) -> Told
-        requires pending { self.old.pending ≡ with_ticks self.old.shown (tick ∷ []) ∷ [] }
+    /// Publishes the tick that was made ready, then records it in the log, and returns a snapshot. The engine has acted
+    /// by then. It waits for readers that still look at the board before the last one.
+    pub fn publish<R: Wait>(&mut self, rt: &R, tick: Tick, _engine: &Engine) -> Snapshot
+        requires pending { self.old.pending ≡ board_with self.old.shown tick ∷ [] }
         requires few { length self.old.shown.ticks < 18446744073709551615 }
-        requires acted { HasActed _before.now _engine.now.view self.old.shown tick }
-        ensures published { self.new ≡ record { shown = with_ticks self.old.shown (tick ∷ []); pending = [] } }
-        ensures told { result ≡ reached (self.new.shown) }
+        requires acted { HasActed self.old _engine.now.view tick }
+        ensures published { self.new
+            ≡ record (self.old) { shown = board_with self.old.shown tick; pending = [] } }
+        ensures snapshot { result ≡ snapshot_of self.new.shown }
     {
-        let before = self.log.front().again();
         replace_with(&mut self.writer, rt, |writer, rt| {
             (shown(rt, writer), ())
         });
         self.log.record(rt, tick);
-        Told::new(before, tick, self.log.front())
+        self.log.snapshot()
+    }
+
+    /// Takes a step of an engine that finishes a cookie, and publishes it. It allocates first, so that nothing changes
+    /// if it is out of memory.
+    pub fn step(&mut self, rt: &impl Wait, engine: &mut Engine, ch: u8) -> Result<Turn, EngineFault>
+        requires ends { ends (turn engine.old.view ch).0 ≡ true }
+        requires pending { self.old.pending ≡ [] }
+        requires shown { self.old.before ++ ticks_of engine.old.view.history
+            ≡ self.old.shown.ticks }
+        ensures answer { StepAnswers engine.old.view ch result engine.new.view }
+        ensures published { self.new
+            ≡ record (self.old) { shown = board_and self.old.shown (ticks_in ch result) } }
+    {
+        let tick = Tick::new(ch, Change::Finished(1));
+        if engine.make_room(ch).is_err() || !self.ready(tick) {
+            return Err(EngineFault::NoMemory);
+        }
+        let Ok(turn) = engine.step(ch) else {
+            unreachable!();
+        };
+        self.publish(rt, tick, engine);
+        Ok(turn)
+    }
+
+    /// Begins another history. What was published comes before its ticks.
+    pub fn begin_again(&mut self)
+        ensures { self.new ≡ record (self.old) { before = self.old.shown.ticks } }
+    {
+        self.before = self.log.snapshot();
     }
 
     /// Ends it. Readers see nothing from then on.
-    pub(crate) fn end<R: Wait>(self, rt: &R) {
-        let Publisher { writer, log: _ } = self;
+    pub fn end<R: Wait>(self, rt: &R) {
+        let Publisher {
+            writer,
+            log: _,
+            before: _,
+        } = self;
         writer.take(rt);
     }
+}
+
+/// The maximum number of status readers (profile).
+pub const MAX_READERS: usize = 8;
+
+/// An engine, and a publisher that has published the ticks of its history. A `Desk` or a `Shared` is made of it.
+pub struct Parts {
+    pub(crate) engine: Engine,
+    pub(crate) publisher: Publisher,
+}
+
+impl Model for Parts {
+    ghost use Rattle.std.specs.Prelude.{◌≡◌, []};
+    ghost use Rattle.dma_engine.specs.Ticks.{ticks_of};
+    ghost use Rattle.dma_work.specs.Desk.{PartsState};
+    ghost use Rattle.dma_work.specs.Laws.{AreCounts};
+    ghost use Rattle.dma_work.specs.Ticks.{base_of};
+
+    ghost Value = { PartsState };
+
+    ghost view = { λ p. record {
+      engine = p.engine;
+      base = p.publisher.shown.base;
+      log = p.publisher.shown.log;
+    } };
+
+    ghost invariant = { λ p.
+        (p.publisher.shown.ticks ≡ ticks_of p.engine.view.history)
+        × (p.publisher.shown.base ≡ base_of p.engine.view)
+        × (p.publisher.pending ≡ [])
+        × (p.publisher.before ≡ [])
+        × AreCounts p.publisher.shown.base };
+}
+
+/// Why no parts were made.
+#[derive(Clone, Copy, Debug, PartialEq, Eq)]
+pub enum ShareFaultKind {
+    /// More than [`MAX_READERS`] readers were requested.
+    BadReaders,
+    /// No place for a reader was free.
+    NoReader,
+    /// Out of memory.
+    NoMemory,
+}
+
+/// No parts were made of an engine.
+#[derive(Drop)]
+pub struct ShareFault {
+    /// Why.
+    pub fault: ShareFaultKind,
+    /// The engine, as it was.
+    pub engine: Engine,
+}
+
+impl Parts {
+    /// Publishes the ticks of the engine's history, and returns `readers` readers that have seen them.
+    ///
+    /// The fault is `BadReaders` above [`MAX_READERS`], else `NoMemory`, or `NoReader` if no place for a reader was
+    /// free.
+    pub fn new<R: Wait>(
+        rt: &R,
+        alloc: Global,
+        engine: Engine,
+        readers: usize,
+    ) -> Result<(Parts, Vec<StatusReader>), ShareFault>
+        ensures engine { IfOk result (λ r. r.0.engine ≡ engine) }
+        ensures base { IfOk result (λ r. r.0.base ≡ base_of engine.view) }
+        ensures counts { IfOk result (λ r. AreCounts r.0.base) }
+        ensures count { IfOk result (λ r. (vec_len r.1 ≡ readers) × (readers ≤ 8)) }
+        ensures readers { IfOk result (λ r. All (λ (s : Known).
+            s ≡ knows r.0.base r.0.log (ticks_of engine.view.history)) r.1.items) }
+        ensures fault { IfErr result (λ f. (f.fault ≡ ShareFaultKind.BadReaders) ↔ (8 < readers)) }
+        ensures back { IfErr result (λ f. f.engine ≡ engine) }
+    {
+        match published(rt, alloc, &engine, readers) {
+            Ok((publisher, readers)) => Ok((Parts { engine, publisher }, readers)),
+            Err(fault) => Err(ShareFault { fault, engine }),
+        }
+    }
+}
+
+// Publishes the ticks of an engine's history, and returns `count` readers that have seen them.
+fn published<R: Wait>(
+    rt: &R,
+    alloc: Global,
+    engine: &Engine,
+    count: usize,
+) -> Result<(Publisher, Vec<StatusReader>), ShareFaultKind>
+    ensures shown { IfOk result (λ r. (r.0.shown.base ≡ base_of engine.now.view)
+        × (r.0.shown.ticks ≡ ticks_of engine.now.view.history)) }
+    ensures rest { IfOk result (λ r. (r.0.pending ≡ []) × (r.0.before ≡ [])) }
+    ensures small { OnOk result (AreCounts (base_of engine.now.view)) }
+    ensures count { IfOk result (λ r. (vec_len r.1 ≡ count) × (count ≤ 8)) }
+    ensures readers { IfOk result (λ r. All (λ (s : Known).
+        s ≡ knows r.0.shown.base r.0.shown.log r.0.shown.ticks) r.1.items) }
+    ensures fault { IfErr result (λ f. (f ≡ ShareFaultKind.BadReaders) ↔ (8 < count)) }
+{
+    if count > MAX_READERS {
+        return Err(ShareFaultKind::BadReaders);
+    }
+    let Ok(mut readers) = Vec::with_capacity(alloc, count) else {
+        return Err(ShareFaultKind::NoMemory);
+    };
+    let Some(mut publisher) = Publisher::new(rt, alloc, engine, count.max(1)) else {
+        return Err(ShareFaultKind::NoMemory);
+    };
+    for made in 0..count {
+        let Some(reader) = publisher.reader() else {
+            publisher.end(rt);
+            return Err(ShareFaultKind::NoReader);
+        };
+        readers.push_reserved(reader);
+    }
+    Ok((publisher, readers))
 }

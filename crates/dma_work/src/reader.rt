@@ -1,56 +1,110 @@
-//! A reader of statuses, off the lock.
+//! Readers of statuses, which take no lock, and the tickets that they learn.
 
 ghost use Rattle.std.specs.Prelude.{◌≡◌, ◌⊎◌, Some, IfSome};
 ghost use Rattle.left_right.specs.Sides.{view};
-ghost use Rattle.dma_work.specs.inner.Seen.{known_by, seen_list};
-ghost use Rattle.dma_work.specs.inner.Posted.{Later};
-ghost use Rattle.dma_work.specs.Ticks.{StartsWith, status_after};
+ghost use Rattle.dma_work.specs.inner.Published.{Later, known_by, seen_board};
+ghost use Rattle.dma_work.specs.Ticks.{AreFinished, IsGiven, StartsWith, status_after};
 
-use crate::names::DeskName;
-use crate::rule::{BoardReader, Look};
-use crate::ticket::{Ticket, Told};
+use crate::board::{BoardReader, Published};
+use crate::desk::DeskName;
+use crate::log::Snapshot;
 use core::mem::replace_with;
 use dma_engine::Status;
-use std::marker::Model;
+use std::marker::{Model, PhantomData};
 
-/// It asks how far a cookie is and waits for nobody. Contracts see the ticks that it has seen, and those that it was told
-/// of.
+/// A published list of ticks. Contracts see its ticks.
+#[derive(Drop)]
+pub struct Ticket<N: DeskName> {
+    list: Snapshot,
+    of: PhantomData<N>,
+}
+
+impl<N: DeskName> Model for Ticket<N> {
+    ghost use Rattle.std.specs.Prelude.{◌≡◌, List};
+    ghost use Rattle.dma_engine.specs.Ticks.{Tick as EngineTick};
+
+    ghost Value = { List EngineTick };
+
+    ghost view = { λ t. t.list.ticks };
+
+    ghost invariant = { λ t. t.list.log ≡ N.log };
+}
+
+impl<N: DeskName> Ticket<N> {
+    pub(crate) fn new(list: Snapshot) -> Ticket<N>
+        requires { list.log ≡ N.log }
+        ensures { result ≡ list.ticks }
+    {
+        Ticket {
+            list,
+            of: PhantomData,
+        }
+    }
+}
+
+/// What an accepted submit returns. In the ticket's list the cookie is given.
+#[derive(Drop)]
+pub struct Receipt<N: DeskName> {
+    /// The channel.
+    pub ch: u8,
+    /// The cookie.
+    pub cookie: u32,
+    /// The published list.
+    pub ticket: Ticket<N>,
+    pub ghost used: { IsGiven N.base ticket ch cookie },
+}
+
+/// What an accepted terminate returns. In the ticket's list each cookie of the channel up to `through` is given and
+/// finished.
+#[derive(Drop)]
+pub struct Closed<N: DeskName> {
+    /// The channel.
+    pub ch: u8,
+    /// The number of cookies that were aborted.
+    pub count: u32,
+    /// The last cookie that the channel has given, or 0 if it has given none.
+    pub through: u32,
+    /// The published list.
+    pub ticket: Ticket<N>,
+    pub ghost finished: { AreFinished N.base ticket ch through },
+}
+
+/// Returns the status of cookies and waits for nobody. Contracts see the ticks that it has seen, and those that it has
+/// learnt.
 #[derive(Drop)]
 pub struct StatusReader {
     reader: BoardReader,
-    longest: Told,
+    learnt: Snapshot,
 }
 
 impl Model for StatusReader {
     ghost use Rattle.std.specs.Prelude.{◌≡◌, Some};
     ghost use Rattle.left_right.specs.Sides.{view as seen_by};
     ghost use Rattle.dma_work.specs.Known.{Known};
-    ghost use Rattle.dma_work.specs.inner.Seen.{known_by, seen_list};
+    ghost use Rattle.dma_work.specs.inner.Published.{known_by, seen_board};
 
     ghost Value = { Known };
 
-    ghost view = { λ r. known_by (seen_list (seen_by r.reader.place)) r.longest };
+    ghost view = { λ r. known_by (seen_board (seen_by r.reader.place)) r.learnt };
 
-    ghost invariant = { λ r. (seen_by r.reader.place ≡ Some (seen_list (seen_by r.reader.place))) × ((seen_list (seen_by r.reader.place)).log ≡ r.longest.log) };
+    ghost invariant = { λ r. (seen_by r.reader.place ≡ Some (seen_board (seen_by r.reader.place)))
+        × ((seen_board (seen_by r.reader.place)).log ≡ r.learnt.log) };
 }
 
-// Asks with the reader, and gives it back.
-fn look(reader: BoardReader, longest: &Told, ch: u8, cookie: u32) -> (BoardReader, Option<Status>)
-    requires there { view reader.place ≡ Some (seen_list (view reader.place)) }
-    requires log { (seen_list (view reader.place)).log ≡ longest.now.log }
-    ensures there { view result.0.place ≡ Some (seen_list (view result.0.place)) }
-    ensures later { Later (seen_list (view reader.place)) (seen_list (view result.0.place)) }
-    ensures covers { IfSome result.1 (λ s. StartsWith (seen_list (view result.0.place)).ticks longest.now.ticks) }
-    ensures some { IfSome result.1 (λ s. s ≡ status_after (seen_list (view result.0.place)).base (seen_list (view result.0.place)).ticks ch cookie) }
+// Returns the status of a cookie on the board that is published, if the board begins with a list.
+fn look(reader: BoardReader, list: &Snapshot, ch: u8, cookie: u32) -> (BoardReader, Option<Status>)
+    requires there { view reader.place ≡ Some (seen_board (view reader.place)) }
+    requires log { (seen_board (view reader.place)).log ≡ list.now.log }
+    ensures there { view result.0.place ≡ Some (seen_board (view result.0.place)) }
+    ensures later { Later (seen_board (view reader.place)) (seen_board (view result.0.place)) }
+    ensures covers { IfSome result.1 (λ s.
+        StartsWith (seen_board (view result.0.place)).ticks list.now.ticks) }
+    ensures some { IfSome result.1 (λ s. s ≡ status_after (seen_board (view result.0.place)).base
+        (seen_board (view result.0.place)).ticks ch cookie) }
 {
-    match reader.enter_as::<Look>() {
+    match reader.enter_as::<Published>() {
         Ok(reading) => {
-            let board = reading.get();
-            let status = if board.covers(longest) {
-                Some(board.status(ch, cookie))
-            } else {
-                None
-            };
+            let status = reading.get().status(list, ch, cookie);
             (reading.leave(), status)
         }
         Err(reader) => (reader, None),
@@ -58,16 +112,17 @@ fn look(reader: BoardReader, longest: &Told, ch: u8, cookie: u32) -> (BoardReade
 }
 
 impl StatusReader {
-    /// A reader that has seen what its place has, and was told the same.
-    pub(crate) fn new(reader: BoardReader, longest: Told) -> StatusReader
-        requires there { view reader.place ≡ Some (seen_list (view reader.place)) }
-        requires log { (seen_list (view reader.place)).log ≡ longest.log }
-        ensures { result ≡ known_by (seen_list (view reader.place)) longest }
+    /// Returns a reader that has learnt a snapshot of the log of the board that it has seen.
+    pub(crate) fn new(reader: BoardReader, learnt: Snapshot) -> StatusReader
+        requires there { view reader.place ≡ Some (seen_board (view reader.place)) }
+        requires log { (seen_board (view reader.place)).log ≡ learnt.log }
+        ensures { result ≡ known_by (seen_board (view reader.place)) learnt }
     {
-        StatusReader { reader, longest }
+        StatusReader { reader, learnt }
     }
 
-    /// Takes in a ticket: what is told from then on is of lists that begin with the ticket's. N names this reader's list.
+    /// Learns a ticket: from then on each status is that of a list which begins with the ticket's. N names this
+    /// reader's list.
     pub fn learn<N: DeskName>(&mut self, ticket: Ticket<N>)
         requires { (N.log ≡ self.old.log) × (N.base ≡ self.old.base) }
         ensures seen { self.new ≡ record (self.old) { learnt = self.new.learnt } }
@@ -76,13 +131,17 @@ impl StatusReader {
         ensures before { StartsWith self.new.learnt self.old.learnt }
         ensures ticket { StartsWith self.new.learnt ticket }
     {
-        self.longest.learn(ticket.into_told());
+        let Ticket { list, .. } = ticket;
+        if self.learnt.is_within(&list) {
+            self.learnt = list;
+        }
     }
 
-    /// How far a cookie is after some published ticks, which begin with all that this reader saw or learnt before, and which
-    /// it has then seen. None may come once the desk was ended, and comes at no other time (which tests show).
+    /// Returns the status of a cookie after some published ticks, which begin with all that this reader has seen or
+    /// learnt, and which it has seen from then on. It may return `None` once the desk has ended, and does so at no
+    /// other time, as tests show.
     ///
-    /// It waits for nobody and takes no memory.
+    /// It waits for nobody and allocates nothing.
     pub fn status(&mut self, ch: u8, cookie: u32) -> Option<Status>
         ensures same { self.new ≡ record (self.old) { seen = self.new.seen } }
         ensures later { StartsWith self.new.seen self.old.seen }
@@ -91,8 +150,8 @@ impl StatusReader {
     {
         replace_with(
             &mut self.reader,
-            (&self.longest, ch, cookie),
-            |reader, (longest, ch, cookie)| look(reader, longest, ch, cookie),
+            (&self.learnt, ch, cookie),
+            |reader, (learnt, ch, cookie)| look(reader, learnt, ch, cookie),
         )
     }
 }

@@ -1,13 +1,260 @@
-//! The worker of a desk: it is lent the desk for one step at each of its turns.
+//! Workers: the tallies of their steps, the turns of their jobs, and the worker that borrows a desk for each step.
 
-ghost use Rattle.std.specs.Prelude.{◌≡◌};
+ghost use Rattle.std.specs.Prelude.{◌≡◌, ◌+◌, ◌<◌, ◌≤◌, ◌↔◌, IfSome, IsSome, IsTrue, false};
+ghost use Rattle.dma_engine.specs.Laws.{finishes_in, steps_in};
+ghost use Rattle.dma_work.specs.Desk.{AddUp, Differ, counted, new_tally, stepped_book};
+ghost use Rattle.dma_work.specs.Rotation.{StepsInTurn, rotation};
 
-use crate::desk::{Desk, Tally};
-use crate::lending::{Borrower, Lender};
-use crate::names::DeskName;
-use crate::turns::Stepper;
+use crate::desk::{Desk, DeskName};
+use dma_engine::{EngineFault, Turn};
 use std::marker::{Model, PhantomData};
-use std::sync::Wait;
+use std::sync::{Mutex, MutexGuard, Wait};
+
+/// What was done through a desk.
+#[derive(Clone, Copy, Debug, Default, PartialEq, Eq)]
+pub struct Totals {
+    /// The number of steps that executed an instruction or finished a cookie.
+    pub steps: u64,
+    /// The number of cookies that steps finished.
+    pub finished: u64,
+    /// The number of cookies that terminates ended.
+    pub terminated: u64,
+}
+
+/// A worker's counts of the steps that took it. They are 0 at first, only a desk's step raises them, and it can't be
+/// copied.
+#[derive(Drop)]
+pub struct Tally {
+    worker: u32,
+    turns: u64,
+    counts: Totals,
+}
+
+impl Model for Tally {
+    ghost use Rattle.std.specs.Prelude.{◌≤◌};
+    ghost use Rattle.dma_work.specs.Desk.{TallyCounts};
+
+    ghost Value = { TallyCounts };
+
+    ghost view = { λ t. record {
+      worker = t.worker;
+      turns = t.turns;
+      steps = t.counts.steps;
+      finishes = t.counts.finished;
+    } };
+
+    ghost invariant = { λ t. (t.counts.steps ≤ t.turns) × (t.counts.finished ≤ t.turns) };
+}
+
+impl Tally {
+    /// Returns a tally with nothing counted.
+    pub(crate) fn new(worker: u32) -> Tally
+        ensures { result ≡ new_tally worker }
+    {
+        Tally {
+            worker,
+            turns: 0,
+            counts: Totals::default(),
+        }
+    }
+
+    /// Counts one more turn, with its result.
+    pub(crate) fn count(&mut self, answer: &Result<Turn, EngineFault>)
+        requires { self.old.turns < 18446744073709551615 }
+        ensures { self.new ≡ counted answer.now self.old }
+    {
+        self.turns += 1;
+        self.counts.count(answer);
+    }
+
+    /// Returns the worker's number.
+    pub fn worker(&self) -> u32
+        ensures { result ≡ self.now.worker }
+    {
+        self.worker
+    }
+
+    /// Returns the number of steps that took it.
+    pub fn turns(&self) -> u64
+        ensures { result ≡ self.now.turns }
+    {
+        self.turns
+    }
+
+    /// Returns the number of these steps that executed an instruction or finished a cookie.
+    pub fn steps(&self) -> u64
+        ensures { result ≡ self.now.steps }
+    {
+        self.counts.steps
+    }
+
+    /// Returns the number of these steps that finished a cookie.
+    pub fn finishes(&self) -> u64
+        ensures { result ≡ self.now.finishes }
+    {
+        self.counts.finished
+    }
+}
+
+impl Totals {
+    /// Counts what the result of a step adds: a step for `Moved`, and a step and a finished cookie for `Finished`.
+    pub(crate) fn count(&mut self, answer: &Result<Turn, EngineFault>)
+        requires steps { self.old.steps + steps_in answer.now < 18446744073709551616 }
+        requires finished { self.old.finished + finishes_in answer.now < 18446744073709551616 }
+        ensures { self.new ≡ stepped_book self.old answer.now }
+    {
+        match answer {
+            Ok(Turn::Moved) => self.steps += 1,
+            Ok(Turn::Finished { .. }) => {
+                self.steps += 1;
+                self.finished += 1;
+            }
+            _ => {}
+        }
+    }
+
+    /// Returns whether the tallies' steps and finishes add up to these.
+    pub(crate) fn are_sums_of(&self, tallies: &[Tally]) -> bool
+        ensures yes { IsTrue result → AddUp tallies.now self.now }
+        ensures no { result ≡ false → Differ tallies.now self.now }
+    {
+        // What is left is subtracted from, since a sum could wrap.
+        let (mut steps, mut finishes) = (self.steps, self.finished);
+        for tally in tallies {
+            if steps < tally.counts.steps || finishes < tally.counts.finished {
+                return false;
+            }
+            steps -= tally.counts.steps;
+            finishes -= tally.counts.finished;
+        }
+        steps == 0 && finishes == 0
+    }
+}
+
+/// The channels that a worker steps in rotation, and its number of turns.
+#[derive(Clone, Copy, Debug)]
+pub struct Job {
+    /// The first channel.
+    pub first: u8,
+    /// The last channel, at most 7.
+    pub last: u8,
+    /// The number of turns.
+    pub turns: u64,
+    ghost in_order: { first ≤ last },
+    ghost in_range: { last ≤ 7 },
+}
+
+impl Job {
+    /// Returns a job for the channels from `first` to `last`, or `None` unless `first` is at most `last` and `last` at
+    /// most 7.
+    pub fn new(first: u8, last: u8, turns: u64) -> Option<Job>
+        ensures there { IsSome result ↔ ((first ≤ last) × (last ≤ 7)) }
+        ensures some { IfSome result
+            (λ j. (j.first ≡ first) × (j.last ≡ last) × (j.turns ≡ turns)) }
+    {
+        if first <= last && last <= 7 {
+            Some(Job { first, last, turns })
+        } else {
+            None
+        }
+    }
+}
+
+/// What a worker passes before each of its turns, without the lock. It may wait.
+pub trait Gate: Sync {
+    /// Called when worker `worker` is about to take its turn `n`, the first of which is 1.
+    fn turn<R: Wait>(&self, rt: &R, worker: u32, n: u64);
+}
+
+/// A gate that never waits.
+#[derive(Clone, Copy, Debug)]
+pub struct NoGate;
+
+impl Gate for NoGate {
+    /// Returns at once.
+    fn turn<R: Wait>(&self, _rt: &R, _worker: u32, _n: u64) {}
+}
+
+/// Takes the turns of a worker, each of which steps one channel. Contracts see its worker's number, how many turns it
+/// took, and what a turn of a channel does to it.
+pub trait Stepper {
+    ghost use Rattle.std.specs.Prelude.{ℕ};
+
+    ghost worker: { Self → ℕ };
+
+    ghost taken: { Self → ℕ };
+
+    ghost acts: { Self → ℕ → Self → Type 0 };
+
+    /// Returns the worker's number.
+    fn worker(&self) -> u32
+        ensures { result ≡ worker self.now };
+
+    /// Takes a turn, which steps a channel. It took fewer than 2^64 - 1 before.
+    fn turn<R: Wait>(&mut self, rt: &R, ch: u8)
+        requires { taken self.old < 18446744073709551615 }
+        ensures worker { worker self.new ≡ worker self.old }
+        ensures taken { taken self.new ≡ taken self.old + 1 }
+        ensures acts { acts self.old ch self.new };
+}
+
+/// Takes the job's turns, with those taken before at most 2^64 - 1. In each it passes the gate, and then lets the
+/// stepper step one channel, the job's channels in rotation from the first (profile). The stepper does nothing else.
+pub fn work<R: Wait, S: Stepper, G: Gate>(rt: &R, stepper: &mut S, job: Job, gate: &G)
+    requires { S.taken stepper.old + job.turns < 18446744073709551616 }
+    ensures worker { S.worker stepper.new ≡ S.worker stepper.old }
+    ensures taken { S.taken stepper.new ≡ S.taken stepper.old + job.turns }
+    ensures acts { StepsInTurn S.acts
+        (rotation job.first job.last job.turns) stepper.old stepper.new }
+{
+    let worker = stepper.worker();
+    let mut ch = job.first;
+    for n in 0..job.turns {
+        gate.turn(rt, worker, n + 1);
+        stepper.turn(rt, ch);
+        ch = if ch < job.last { ch + 1 } else { job.first };
+    }
+}
+
+/// Uses a value that is lent to it. Contracts see when it can, and what it then does to itself and the value.
+pub trait Borrower<D> {
+    ghost can: { Self → Type 0 };
+
+    ghost does: { Self → D → Self → D → Type 0 };
+
+    /// Uses the value.
+    fn borrow<R: Wait>(&mut self, rt: &R, lent: &mut D)
+        requires { can self.old }
+        ensures { does self.old lent.old self.new lent.new };
+}
+
+/// Lends a value. Contracts see which value it lends, and which it gets back.
+pub trait Lender<D> {
+    ghost lends: { Self → D → D → Self → Type 0 };
+
+    /// Lends the value to a borrower, once.
+    fn lend<R: Wait, B: Borrower<D>>(&mut self, rt: &R, to: &mut B)
+        requires { B.can to.old }
+        ensures { (d : D) × (e : D) × lends self.old d e self.new × B.does to.old d to.new e };
+}
+
+/// Lends the value behind a lock, which it takes for the time of the use.
+#[derive_where(Clone, Copy)]
+pub struct Locked<'a, D> {
+    pub(crate) lock: &'a Mutex<D>,
+}
+
+impl<'a, D> Lender<D> for Locked<'a, D> {
+    // A lock hides which value it has.
+    ghost lends = { λ before lent back after. Unit {0} };
+
+    /// Takes the lock, lends the value, and releases the lock.
+    fn lend<R: Wait, B: Borrower<D>>(&mut self, rt: &R, to: &mut B) {
+        let mut value = self.lock.lock(rt);
+        to.borrow(rt, &mut value);
+        MutexGuard::unlock(value);
+    }
+}
 
 // One step of a channel, counted in a tally.
 #[derive(Drop)]
@@ -30,8 +277,8 @@ impl<N: DeskName> Borrower<Desk<N>> for StepAt {
     }
 }
 
-/// Steps a desk that it is lent at each turn, and has the tally of these steps. A refused step changes nothing but the
-/// tally's turns.
+/// Steps a desk that is lent to it at each turn, and has the tally of these steps. A refused step changes nothing but
+/// the tally's turns.
 #[derive(Drop)]
 pub struct Worker<N: DeskName, L> {
     lender: L,
@@ -48,17 +295,15 @@ impl<N: DeskName, L> Model for Worker<N, L> {
 }
 
 impl<N: DeskName, L: Lender<Desk<N>>> Worker<N, L> {
-    /// A worker that took no turn yet.
+    /// Returns a worker that has taken no turn.
     pub fn new(lender: L, worker: u32) -> Worker<N, L>
         ensures lender { result.lender ≡ lender }
-        ensures tally { result.tally ≡ record { worker = worker; turns = 0; steps = 0; finishes = 0 } }
+        ensures tally { result.tally ≡ new_tally worker }
     {
+        let tally = Tally::new(worker);
         Worker {
             lender,
-            step: StepAt {
-                ch: 0,
-                tally: Tally::new(worker),
-            },
+            step: StepAt { ch: 0, tally },
             of: PhantomData,
         }
     }
@@ -69,12 +314,7 @@ impl<N: DeskName, L: Lender<Desk<N>>> Worker<N, L> {
         L: Drop,
         ensures { result ≡ self.tally }
     {
-        let Worker {
-            lender: _,
-            step,
-            of: _,
-        } = self;
-        step.tally
+        self.step.tally
     }
 }
 
@@ -91,7 +331,7 @@ impl<N: DeskName, L: Lender<Desk<N>>> Stepper for Worker<N, L> {
         self.step.tally.worker()
     }
 
-    /// Is lent the desk, and steps its channel.
+    /// Borrows the desk, and steps its channel.
     fn turn<R: Wait>(&mut self, rt: &R, ch: u8) {
         self.step.ch = ch;
         self.lender.lend(rt, &mut self.step);

@@ -1,94 +1,96 @@
 -- What the lines of a race script may print.
-use Rattle.std.proofs.Common.{◌≡◌, ◌≢◌, ℕ, ◌+◌, ◌<◌, ◌≤◌, List, [], ◌∷◌, ◌++◌, length, take, drop, get_or, codes, suc, Option, Some, None, Result, Ok, Err, lit<, inl, refl, ap, sym, subst, ◌∙◌, arith, append_assoc}
+use Rattle.std.proofs.Common.{◌≡◌, ◌≢◌, ℕ, ◌+◌, List, [], ◌∷◌, ◌++◌, length, take, drop, get_or, codes, inr, suc, Option, Some, None, Result, Ok, Err, lit<, inl, refl, ap, sym, subst, ◌∙◌, arith, append_assoc}
 use Rattle.std.specs.List.{All}
 use Rattle.std.proofs.Math.Seq.{drop-append_seam, take-append_seam, take-append-add}
-use Rattle.std.proofs.lemmas.List.{append-nil, length-append, length-map, map-append, take-append-drop, take-append-le, take_all, take_more, take-map}
+use Rattle.std.proofs.lemmas.List.{append-nil, length-append, length-map, map-append, take-append-le, take_all, take-map}
 use Rattle.std.proofs.lemmas.List.Elements.{All-drop, All-head, All-tail}
-use Rattle.std.specs.Prelude.{MatchOption}
+use Rattle.std.proofs.lemmas.Result.{on_err_weaker, on_ok_weaker}
+use Rattle.std.specs.Prelude.{IfOk, MatchOption, OnErr, OnOk}
 use Rattle.dma_mem.specs.declared.transfer.TransferFault.{TransferFault}
-use Rattle.dma_mem.specs.declared.transfer.TransferFault.TheVariants as transfers
+use Rattle.dma_mem.specs.Places.{Descriptor}
 use Rattle.dma_script.specs.declared.plan.TransferLine.{TransferLine}
 use Rattle.dma_mem.specs.Refusals.{refusal_of}
 use Rattle.dma_engine.specs.declared.call.Call.{Call}
 use Rattle.dma_engine.specs.declared.call.Call.TheVariants as calls
 use Rattle.dma_engine.specs.declared.call.Reply.{Reply}
-use Rattle.dma_engine.specs.declared.call.Reply.TheVariants.{Refused}
+use Rattle.dma_engine.specs.declared.call.Reply.TheVariants.{Refused, State}
 use Rattle.dma_engine.specs.declared.fault.EngineFault.TheVariants.{NoMemory}
-use Rattle.dma_engine.specs.Answer.{CallAnswers, answer}
+use Rattle.dma_engine.specs.Answer.{CallAnswers, status_in}
 use Rattle.dma_engine.specs.View.{View, new_view}
-use Rattle.dma_script.specs.Command.{AppendsGroups, MayAppend, MayComplete, printed_text, refusal, text_of}
-use Rattle.dma_script.specs.Printing.{fault_line}
+use Rattle.dma_script.specs.Command.{Answers, AppendsGroups, MayAppend, MayComplete, Printed, printed_text, refusal, text_of}
+use Rattle.dma_script.specs.Lines.{Gives}
+use Rattle.dma_script.specs.Printing.{error_line, fault_line}
+use Rattle.dma_script.specs.declared.fault.ReadError.{ReadError}
+use Rattle.dma_script.specs.declared.fault.ReadError.TheVariants as script_errors
 use Rattle.dma_script.specs.Race.{IsEarly, race_script_of}
 use Rattle.dma_script.specs.declared.fault.Fault.{Fault}
 use Rattle.dma_script.specs.declared.race.RaceScript.{RaceScript}
 use Rattle.dma_script.specs.declared.statements.Statement.{Statement}
-use Rattle.dma_script.specs.declared.statements.Statement.TheVariants.{Write, Read, Copy, Fill, Submit, Issue, Pause, Resume, Terminate, Step, Status, Result as Outcome, Mark, Unmark, Raise, Checkpoint, Totals}
+use Rattle.dma_script.specs.declared.statements.Statement.TheVariants.{Copy, Fill, Submit, Step, Status}
 use Rattle.dma_commands.specs.Printed.{call_line, refused_line, transfer_fault_name}
-use Rattle.dma_commands.specs.Run.{Answered, call_answer, lines_answered, unless_unfit}
+use Rattle.dma_commands.specs.Laws.{call_of}
+use Rattle.dma_commands.specs.Run.{Answered, call_answer, line_answer, lines_answered, unless_unfit}
 use Rattle.dma_commands.specs.Transfers.{transfer_of}
 use Rattle.dmasim.specs.Race.{EachPrints, EarlyPrints, RacePrints, alone, go_line, race_may_print, race_prints_of, missing_tally, no_reader, raced_refused, raced_whole, whole}
-use Rattle.dmasim.specs.inner.RaceSteps.{PrintsAll, PrintsCall, PrintsEarly, PrintsFirst, PrintsGo, PrintsMissing, PrintsRefusal, PrintsTotals}
+use Rattle.dmasim.specs.inner.RaceSteps.{PrintsAll, PrintsEarly, PrintsFirst, PrintsGo, PrintsMissing, PrintsRefusal, PrintsTotals, RunsEarly}
 use Rattle.dma_script.specs.Interpreted.{ActsInTurn, PrintsLine, PrintsLines, StopsAtALine}
 use Rattle.dma_script.proofs.InterpretedLemmas.{printed_text-append, text_after}
+use Rattle.dma_commands.proofs.PlanLemmas.{nothing}
+use Rattle.dma_commands.proofs.RunLemmas.{line_of_call}
 use Rattle.dma_commands.proofs.Served.{served-one}
 
 -- ---- one line
 
--- A call that was answered through the desk, and was not out of memory, printed its line.
-pub told_so : (call : Call) (reply : Reply) (v w : View) (old new : List ℕ) → CallAnswers v call reply w → (reply ≢ Refused NoMemory) × (new ≡ old ++ text_of (call_line call reply ∷ [])) → PrintsCall call old new
-told_so call reply v w old new is prints =
-    let same : (reply, w) ≡ answer v call = served-one v call reply w prints.0 is in
-    record { view = v; line = call_line call reply; told = ap (λ (a : Reply × View). call_line call a.0 ∷ []) (sym same); text = prints.1 }
+-- a line that may be printed was printed, or nothing was
+pub early_runs : {A E : Type 0} (s : Statement) (result : Result A E) (line old new : List ℕ) → OnOk result (EarlyPrints s line) → OnOk result (new ≡ old ++ text_of (line ∷ [])) → OnErr result (new ≡ old) → RunsEarly s result old new
+early_runs s (Ok a) line old new allowed prints kept = record { ok = record { line = line; allowed = allowed; text = prints }; err = tt }
+early_runs s (Err e) line old new allowed prints kept = record { ok = tt; err = kept }
 
--- The same by the text that was printed.
-pub early_call : (s : Statement) (call : Call) → ((v : View) (line : List ℕ) → (call_answer v call).0 ≡ line ∷ [] → EarlyPrints s line) → (reply reply' : Reply) (v w : View) (old new : List ℕ) → reply' ≡ reply → CallAnswers v call reply w → (reply' ≢ Refused NoMemory) × (new ≡ old ++ text_of (call_line call reply' ∷ [])) → PrintsEarly s old new
-early_call s call is_line reply reply' v w old new same is prints =
-    let one = told_so call reply' v w old new (subst (λ r. CallAnswers v call r w) (sym same) is) prints in
-    record { line = one.line; allowed = is_line one.view one.line one.told; text = one.text }
+-- A call was answered through the desk, and its line was printed.
+pub call_early : {A E : Type 0} (s : Statement) (call : Call) (reply : Reply) (v w : View) (result : Result A E) (old new : List ℕ) → ((line : List ℕ) → (call_answer v call).0 ≡ line ∷ [] → EarlyPrints s line) → CallAnswers v call reply w → OnOk result (reply ≢ Refused NoMemory) → OnOk result (new ≡ old ++ text_of (call_line call reply ∷ [])) → OnErr result (new ≡ old) → RunsEarly s result old new
+call_early s call reply v w result old new is_line is served prints kept =
+    early_runs s result (call_line call reply) old new
+    (on_ok_weaker result (λ other. is_line _ (ap (λ (a : Reply × View). call_line call a.0 ∷ []) (sym (served-one v call reply w other is)))) served) prints kept
 
 -- a line to print to the view of some new engine
 abbrev some_view : View
 some_view = new_view 1 1
 
+-- A line with one call prints the line of its call.
+pub one_call : (s : Statement) (call : Call) (v : View) (line : List ℕ) → call_of s ≡ call ∷ [] → (call_answer v call).0 ≡ line ∷ [] → EarlyPrints s line
+one_call (Status ch cookie) call v line is e =
+    let status = status_in v ch cookie in
+    let same : calls.Status ch cookie ≡ call = cc in
+    let one : call_line (calls.Status ch cookie) (State status) ∷ [] ≡ line ∷ [] = ap (λ (c : Call). (call_answer v c).0) same ∙ e in
+    inr (status, let l : line ≡ call_line (calls.Status ch cookie) (State status) = cc in l)
+one_call s call v line is e = (v, ap (λ (a : Answered). a.0) (line_of_call v s call is) ∙ e)
+
+-- A submit line whose transfer breaks no rule prints the line of its call.
+pub fit_call : (ch : ℕ) (words : TransferLine) (t : Descriptor) (v : View) (line : List ℕ) → t ≡ transfer_of words → refusal_of t ≡ None → (call_answer v (calls.Submit ch t)).0 ≡ line ∷ [] → EarlyPrints (Submit ch words) line
+fit_call ch words t v line is fits e =
+    (v, subst (λ u. (unless_unfit (refusal_of u) v (call_answer v (calls.Submit ch u))).0 ≡ line ∷ []) is (rw fits e))
+
+-- A submit line whose transfer breaks a rule.
+pub unfit_early : {A E : Type 0} (ch : ℕ) (words : TransferLine) (e : TransferFault) (result : Result A E) (old new : List ℕ) → refusal_of (transfer_of words) ≡ Some e → OnOk result (new ≡ old ++ text_of (refused_line (transfer_fault_name e) ∷ [])) → OnErr result (new ≡ old) → RunsEarly (Submit ch words) result old new
+unfit_early ch words e result old new is prints kept =
+    let t = transfer_of words in
+    early_runs (Submit ch words) result (refused_line (transfer_fault_name e)) old new
+    (on_ok_weaker result (λ _. (some_view, ap (λ fault. (unless_unfit fault some_view (call_answer some_view (calls.Submit ch t))).0) is)) prints) prints kept
+
 submit_some : (fault : Option TransferFault) (answered : Answered) (line : List ℕ) → answered.0 ≡ line ∷ [] → (one : List ℕ) × ((unless_unfit fault some_view answered).0 ≡ one ∷ [])
 submit_some None answered line is = (line, is)
 submit_some (Some fault) answered line is = (refused_line (transfer_fault_name fault), refl)
 
--- A submit line whose transfer breaks a rule.
-pub unfit_early : (ch : ℕ) (line : TransferLine) (e : TransferFault) (old new : List ℕ) → refusal_of (transfer_of line) ≡ Some e → (e ≢ transfers.NoMemory) × (new ≡ old ++ text_of (refused_line (transfer_fault_name e) ∷ [])) → PrintsEarly (Submit ch line) old new
-unfit_early ch line e old new is prints =
-    let t = transfer_of line in
-    record {
-      line = refused_line (transfer_fault_name e);
-      allowed = (some_view, ap (λ fault. (unless_unfit fault some_view (call_answer some_view (calls.Submit ch t))).0) is);
-      text = prints.1;
-    }
-
-of_call : (call : Call) → List ℕ
-of_call call = call_line call (answer some_view call).0
-
 -- Each line that is allowed before `go` may print something.
 early_some : (statement : Statement) → IsEarly statement → (line : List ℕ) × EarlyPrints statement line
-unfolding of_call
-early_some (Write addr bytes) early = (of_call (calls.Write addr bytes), (some_view, refl))
-early_some (Read segment) early = (of_call (calls.Read segment.addr segment.len), (some_view, refl))
 early_some (Copy lists) early = absurd early
 early_some (Fill src dst) early = absurd early
-early_some (Submit ch transfer) early =
-    let one = submit_some (refusal_of (transfer_of transfer)) (call_answer some_view (calls.Submit ch (transfer_of transfer))) (of_call (calls.Submit ch (transfer_of transfer))) refl in
-    (one.0, (some_view, one.1))
-early_some (Issue ch) early = (of_call (calls.Issue ch), (some_view, refl))
-early_some (Pause ch) early = absurd early
-early_some (Resume ch) early = absurd early
-early_some (Terminate ch) early = (of_call (calls.Terminate ch), (some_view, refl))
 early_some (Step ch count) early = absurd early
+early_some (Submit ch transfer) early =
+    let one = submit_some (refusal_of (transfer_of transfer)) (call_answer some_view (calls.Submit ch (transfer_of transfer))) _ refl in
+    (one.0, (some_view, one.1))
 early_some (Status ch cookie) early = (codes "status none", inl refl)
-early_some (Outcome ch cookie) early = (of_call (calls.Result ch cookie), (some_view, refl))
-early_some (Mark kind segment) early = absurd early
-early_some Unmark early = absurd early
-early_some (Raise event) early = absurd early
-early_some Checkpoint early = absurd early
-early_some Totals early = absurd early
+early_some s early = (get_or (line_answer some_view s).0 0 [], (some_view, refl))
 
 -- ---- the lines before `go`
 
@@ -113,8 +115,10 @@ abbrev pub ActsEarly : {S : Type 0} → S → Statement → List (List ℕ) → 
 ActsEarly found statement group left = (line : List ℕ) × (group ≡ line ∷ []) × EarlyPrints statement line
 
 -- one of them
-pub early_line : {S : Type 0} (found left : S) (statement : Statement) (old new : List ℕ) → PrintsEarly statement old new → PrintsLine (ActsEarly found statement) left old new
-early_line found left statement old new one = record { group = one.line ∷ []; acted = (one.line, refl, one.allowed); text = one.text }
+pub early_line : {S A E : Type 0} (found left : S) (s ran : Statement) (result : Result A E) (old new : List ℕ) → s ≡ ran → RunsEarly ran result old new → OnOk result (PrintsLine (ActsEarly found s) left old new)
+early_line found left s ran result old new is runs =
+    on_ok_weaker result
+    (λ (one : PrintsEarly ran old new). record { group = one.line ∷ []; acted = (one.line, refl, subst (λ x. EarlyPrints x one.line) (sym is) one.allowed); text = one.text }) runs.ok
 
 -- what lines before `go` print that are executed one after another
 early-in_turn : {S : Type 0} (statements : List Statement) (found left : S) (groups : List (List (List ℕ))) → ActsInTurn ActsEarly statements found groups left → (early : List (List ℕ)) × EachPrints statements early × (groups ≡ alone early)
@@ -190,27 +194,26 @@ complete_read input read old new is status complete = subst (λ r. MayComplete (
 pub append_read : (input : List ℕ) (read : Result RaceScript Fault) (old new : List ℕ) → race_script_of input ≡ read → MayAppend (race_prints_of read) old new → MayAppend (race_may_print input) old new
 append_read input read old new is some = subst (λ r. MayAppend (race_prints_of r) old new) (sym is) some
 
--- A script with a fault prints it.
-pub fault_complete : (fault : Fault) (old new : List ℕ) → new ≡ old ++ text_of (fault_line fault ∷ []) → MayComplete (λ p. p ≡ refusal (fault_line fault)) 1 old new
-fault_complete fault old new printed = record {
-  printed = refusal (fault_line fault);
-  allowed = refl;
-  ends = refl;
-  whole = text_after old old new [] (fault_line fault ∷ []) (sym (append-nil old)) printed;
-}
+-- An answer that may be printed.
+pub may_complete : {E : Type 0} (may : Printed → Type 0) (printed : Printed) (result : Result ℕ E) (old new : List ℕ) → may printed → Answers printed result old new → IfOk result (λ status. MayComplete may status old new)
+may_complete may printed (Ok status) old new allowed a = record { printed = printed; allowed = allowed; ends = a.status; whole = a.text }
+may_complete may printed (Err e) old new allowed a = tt
+
+pub may_append : {E : Type 0} (may : Printed → Type 0) (printed : Printed) (result : Result ℕ E) (old new : List ℕ) → may printed → Answers printed result old new → OnErr result (MayAppend may old new)
+may_append may printed result old new allowed a = on_err_weaker result (λ first. record { printed = printed; allowed = allowed; first = first }) a.refused
+
+-- A script that was not read.
+pub race_refused : {E : Type 0} (input : List ℕ) (error : ReadError Fault) (result : Result ℕ E) (old new : List ℕ) → Gives (λ (script : RaceScript). script) (Err error) (race_script_of input) → Answers (refusal (error_line error)) result old new → OnOk result (error ≢ script_errors.NoMemory) → IfOk result (λ status. MayComplete (race_may_print input) status old new) × OnErr result (MayAppend (race_may_print input) old new)
+race_refused input (script_errors.Fault fault) result old new is answers printed =
+    let allowed : race_may_print input (refusal (fault_line fault)) = rw is refl in
+    (may_complete (race_may_print input) _ result old new allowed answers, may_append (race_may_print input) _ result old new allowed answers)
+race_refused input script_errors.NoMemory (Ok status) old new is answers printed = absurd (printed refl)
+race_refused input script_errors.NoMemory (Err e) old new is answers printed =
+    (tt, subst (MayAppend (race_may_print input) old) (sym (nothing _ old new answers.refused)) (race_some input old))
 
 -- Out of memory before anything was printed.
 pub none_append : (script : RaceScript) (old : List ℕ) → MayAppend (RacePrints script) old old
 none_append script old = record { printed = raced_refused [] (codes "NoReader"); allowed = no_reader refl; first = record { count = 0; some_left = lit< tt; whole = sym (append-nil old) } }
-
--- A script without a place for its reader.
-pub unread_complete : (script : RaceScript) (old new : List ℕ) → PrintsRefusal (codes "NoReader") old new → MayComplete (RacePrints script) 1 old new
-unread_complete script old new printed = record {
-  printed = raced_refused [] (codes "NoReader");
-  allowed = no_reader refl;
-  ends = refl;
-  whole = text_after old old new [] (refused_line (codes "NoReader") ∷ []) (sym (append-nil old)) printed;
-}
 
 -- A script of which a tally is missing.
 pub missing_complete : (script : RaceScript) (old new : List ℕ) → PrintsMissing script.before.statements old new → MayComplete (RacePrints script) 1 old new
@@ -243,7 +246,7 @@ go_then : (early : List (List ℕ)) (line : List ℕ) (after : List (List (List 
 go_then early line after = append_assoc (alone early) ((line ∷ []) ∷ []) after
 
 -- All lines were executed.
-pub whole_complete : (script : RaceScript) (v : View) (old mid new : List ℕ) → PrintsGo script.before.statements v old mid → new ≡ mid ++ printed_text (lines_answered v script.after) → MayComplete (RacePrints script) 0 old new
+whole_complete : (script : RaceScript) (v : View) (old mid new : List ℕ) → PrintsGo script.before.statements v old mid → new ≡ mid ++ printed_text (lines_answered v script.after) → MayComplete (RacePrints script) 0 old new
 whole_complete script v old mid new go printed =
     let front = alone go.early ++ (go_line go.steps go.finished ∷ []) ∷ [] in
     let after = lines_answered v script.after in
@@ -255,6 +258,11 @@ whole_complete script v old mid new go printed =
           printed ∙ ap (λ o. o ++ printed_text after) go.text ∙ append_assoc old (printed_text front) (printed_text after)
           ∙ ap (λ t. old ++ t) (sym (printed_text-append front after)) ∙ ap (λ g. old ++ printed_text g) (go_then go.early (go_line go.steps go.finished) after);
     }
+
+-- All lines after `go` were executed, or one was out of memory.
+pub whole_answer : {E : Type 0} (script : RaceScript) (v : View) (old mid new : List ℕ) (result : Result ℕ E) → PrintsGo script.before.statements v old mid → Answers (record { groups = lines_answered v script.after; status = 0 }) result mid new → IfOk result (λ status. MayComplete (RacePrints script) status old new)
+whole_answer script v old mid new (Ok status) go a = subst (λ n. MayComplete (RacePrints script) n old new) (sym a.status) (whole_complete script v old mid new go a.text)
+whole_answer script v old mid new (Err e) go a = tt
 
 -- Out of memory after `go`.
 pub whole_append : (script : RaceScript) (v : View) (old mid new : List ℕ) → PrintsGo script.before.statements v old mid → AppendsGroups (lines_answered v script.after) mid new → MayAppend (RacePrints script) old new

@@ -1,16 +1,16 @@
 //! Selects a command by its word and runs it over a reader and a writer.
-ghost use Rattle.std.specs.Prelude.{◌≡◌, ◌≤◌, ◌+◌, ◌∷◌, [], None, IfSome};
-ghost use Rattle.dma_script.specs.Command.{Wrote, failures, longest_input, text_of};
-ghost use Rattle.dmasim.specs.CommandLine.{SubcommandEnds, WordEnds, subcommand_of, usage};
+ghost use Rattle.std.specs.Prelude.{◌≡◌, ◌≤◌, ◌+◌, None, IfSome};
+ghost use Rattle.dma_script.specs.Command.{failures, longest_input};
+ghost use Rattle.dmasim.specs.CommandLine.{SubcommandEnds, WordEnds, subcommand_of};
 
 use crate::race::race_script;
 use dma_commands::asm::asm_main;
 use dma_commands::dis::dis_main;
 use dma_commands::plan::plan_main;
 use dma_commands::run::run_script;
-use dma_script::command::FAULT;
+use dma_script::command::finish;
 use dma_script::input::Source;
-use dma_script::output::{Sink, write_output};
+use dma_script::output::Sink;
 use std::alloc::Global;
 use std::sync::Wait;
 use std::thread::Threads;
@@ -69,16 +69,6 @@ fn serve_subcommand<R: Threads + Wait + Sync, I: Source, W: Sink>(
     }
 }
 
-/// Prints the usage, and returns the status 2 of a wrong command line, or 1 if the writer fails.
-fn push_usage<W: Sink>(writer: &mut W) -> u8
-    ensures { Wrote (failures W.has_failed writer.old writer.new) (W.contents writer.old) (W.contents writer.new) (text_of (usage ∷ [])) 2 result }
-{
-    match write_output(writer, b"usage: dmasim asm|dis|plan|run|race\n") {
-        Ok(()) => WRONG_ARGUMENTS,
-        Err(_) => FAULT,
-    }
-}
-
 /// Runs the command that a word names, and returns its exit status. For any other word it reads nothing, prints the
 /// usage, and returns 2, or 1 if the writer fails.
 pub fn serve_word<R: Threads + Wait + Sync, I: Source, W: Sink>(
@@ -96,6 +86,10 @@ pub fn serve_word<R: Threads + Wait + Sync, I: Source, W: Sink>(
 {
     match subcommand_of(word) {
         Some(subcommand) => serve_subcommand(rt, alloc, subcommand, reader, writer),
-        None => push_usage(writer),
+        None => finish(
+            writer,
+            b"usage: dmasim asm|dis|plan|run|race\n",
+            WRONG_ARGUMENTS,
+        ),
     }
 }

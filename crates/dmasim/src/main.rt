@@ -1,7 +1,7 @@
 //! The program `dmasim`: `race`, the threads, and the command line.
 //!
-//! Proved: each word is its command, any other word prints the usage (`serve_word`); what `race` prints may be printed for
-//! its input (`race_script`). Not proved: `main`, which parses the command line.
+//! Proved: each word is its command, any other word prints the usage (`serve_word`); what `race` prints may be printed
+//! for its input (`race_script`). Not proved: `main`, which parses the command line.
 #![tactic(auto)]
 
 mod command_line;

@@ -13,19 +13,16 @@ ghost use Rattle.dmasim.specs.Race.{RacePrints, go_line, race_may_print};
 mod early;
 
 use crate::race::early::run_early_statements;
-use dma_commands::printing::{push_refused, push_worded};
 use dma_commands::run::run_statements;
 use dma_engine::{Engine, NewFault, NoMemory};
-use dma_script::command::{FAULT, OpenCommand, SUCCESS, serve_open};
-use dma_script::fault::ScriptError;
+use dma_script::command::{FAULT, OpenCommand, refuse, serve_open};
 use dma_script::input::Source;
 use dma_script::output::Sink;
-use dma_script::printing::{push_fault, push_line};
+use dma_script::printing::print_line;
 use dma_script::race::{JobLine, MAX_JOBS, RaceScript, read_race_script};
 use dma_script::statements::Statements;
 use dma_work::{
-    DeskName, Job, MissingTally, NoGate, Parts, ShareFaultKind, Shared, StatusReader, Tally,
-    run_workers, settle,
+    DeskName, Job, NoGate, Parts, ShareFaultKind, Shared, StatusReader, Tally, run_workers, settle,
 };
 use std::alloc::{AllocError, Global};
 use std::marker::Brand;
@@ -50,7 +47,8 @@ fn jobs_of(alloc: Global, lines: &[JobLine]) -> Result<Vec<Job>, AllocError>
 /// Returns a new engine as the memory line describes it. Fails if memory runs out.
 fn engine_of(alloc: Global, script: &RaceScript) -> Result<Engine, AllocError>
     requires { IsWithin script.now.before }
-    ensures { IfOk result (λ engine. engine.view ≡ new_view script.now.before.size script.now.before.channels) }
+    ensures { IfOk result (λ engine.
+        engine.view ≡ new_view script.now.before.size script.now.before.channels) }
 {
     match Engine::new(alloc, script.before.size, script.before.channels as u8) {
         Ok(engine) => Ok(engine),
@@ -83,22 +81,10 @@ fn until_go<N: DeskName + Send + Sync, R: Threads + Wait + Sync>(
     }
 }
 
-/// Appends `go steps N finished N`, or nothing.
-fn push_go(alloc: Global, out: &mut Vec<u8>, steps: u64, finished: u64) -> Result<(), AllocError>
-    ensures ok { OnOk result (out.new.items ≡ out.old.items ++ text_of (go_line steps finished ∷ [])) }
-    ensures err { OnErr result (out.new.items ≡ out.old.items) }
-{
-    let mut line = Vec::new(alloc);
-    push_worded(&mut line, "go steps ", steps)?;
-    push_worded(&mut line, " finished ", finished)?;
-    push_line(out, &line)
-}
-
 /// Compares the tallies with the book, appends the line of `go` and returns the engine. If a tally is missing, it
 /// appends the refusal and returns `None`. If memory runs out it fails and appends nothing.
 fn settled<N: DeskName, R: Wait>(
     rt: &R,
-    alloc: Global,
     shared: Shared<N>,
     tallies: Vec<Tally>,
     out: &mut Vec<u8>,
@@ -111,17 +97,15 @@ fn settled<N: DeskName, R: Wait>(
 {
     match settle(rt, shared, tallies) {
         Ok((engine, totals)) => {
-            push_go(alloc, out, totals.steps, totals.finished)?;
+            print_line(
+                out,
+                &("go steps ", totals.steps, " finished ", totals.finished),
+            )?;
             Ok(Some(engine))
         }
         Err(missing) => {
-            let MissingTally {
-                shared,
-                tallies: _,
-                book: _,
-            } = missing;
-            shared.close(rt);
-            push_refused("MissingTally", out)?;
+            missing.close(rt);
+            print_line(out, &"refused MissingTally")?;
             Ok(None)
         }
     }
@@ -134,7 +118,8 @@ fn parts_of<R: Wait>(
     alloc: Global,
     engine: Engine,
 ) -> Result<Option<(Parts, StatusReader)>, AllocError>
-    ensures { IfOk result (λ made. IfSome made (λ p. (p.0.engine ≡ engine) × (p.0.log ≡ p.1.log) × (p.0.base ≡ p.1.base))) }
+    ensures { IfOk result (λ made. IfSome made
+        (λ p. (p.0.engine ≡ engine) × (p.0.log ≡ p.1.log) × (p.0.base ≡ p.1.base))) }
 {
     match Parts::new(rt, alloc, engine, 1) {
         Ok((parts, mut readers)) => {
@@ -174,7 +159,7 @@ fn raced<N: DeskName + Send + Sync, R: Threads + Wait + Sync>(
 {
     let shared = Shared::<N>::new(parts);
     match until_go(rt, alloc, &shared, reader, lines, jobs, out) {
-        Ok(tallies) => settled(rt, alloc, shared, tallies, out),
+        Ok(tallies) => settled(rt, shared, tallies, out),
         Err(error) => {
             shared.close(rt);
             Err(error)
@@ -190,22 +175,19 @@ fn run_race<R: Threads + Wait + Sync>(
     out: &mut Vec<u8>,
 ) -> Result<u8, AllocError>
     requires { IsRace script }
-    ensures complete { IfOk result (λ status. MayComplete (RacePrints script) status out.old.items out.new.items) }
+    ensures complete { IfOk result
+        (λ status. MayComplete (RacePrints script) status out.old.items out.new.items) }
     ensures refused { OnErr result (MayAppend (RacePrints script) out.old.items out.new.items) }
 {
     let engine = engine_of(alloc, &script)?;
     let jobs = jobs_of(alloc, script.jobs.as_slice())?;
     let Some((parts, reader)) = parts_of(rt, alloc, engine)? else {
-        push_refused("NoReader", out)?;
-        return Ok(FAULT);
+        return refuse(out, &"refused NoReader");
     };
     let RaceScript { before, after, .. } = script;
     let lines = before.statements;
     match raced::<Brand, _>(rt, alloc, parts, reader, lines, &jobs, out)? {
-        Some(mut engine) => {
-            run_statements(alloc, &mut engine, after, out)?;
-            Ok(SUCCESS)
-        }
+        Some(mut engine) => run_statements(alloc, &mut engine, after, out),
         None => Ok(FAULT),
     }
 }
@@ -233,11 +215,7 @@ impl OpenCommand for Race {
     ) -> Result<u8, AllocError> {
         match read_race_script(alloc, input) {
             Ok(script) => run_race(rt, alloc, script, out),
-            Err(ScriptError::Fault(fault)) => {
-                push_fault(alloc, out, fault)?;
-                Ok(FAULT)
-            }
-            Err(ScriptError::NoMemory) => Err(AllocError),
+            Err(error) => refuse(out, &error),
         }
     }
 

@@ -46,7 +46,7 @@ impl Machine {
         &mut self.ram[at..at + len]
     }
 
-    // Starts the channel at a program in RAM, for the guest. If no program is there, the first step fails as on a
+    // Starts the channel at a program in RAM, for the guest. Without a program, the first step fails as on a
     // DMA-330.
     fn go(&mut self, addr: u32) -> Result<(), Error> {
         self.channel.load_from(&[Region::new(RAM_BASE, &mut self.ram)], addr)

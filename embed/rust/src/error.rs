@@ -213,7 +213,7 @@ impl fmt::Display for Error {
             Error::BadEvent => "an event is above 31",
             Error::NoProgram => "the channel has no program",
             Error::OutOfMemoryRange => "a range ends above the memory's size",
-            Error::Busy { .. } => "a running transfer is in the way",
+            Error::Busy { .. } => "a running transfer conflicts",
             Error::NoChannel => "there is no such channel",
             Error::CookiesSpent => "the channel has given its last cookie",
             Error::StepsSpent => "the step count is at its end",

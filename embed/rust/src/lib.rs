@@ -200,12 +200,12 @@ pub enum RunEnd {
 
 // Returns what a number that the library wrote means. The library writes no other numbers.
 fn named<T: Copy>(names: &[T], number: u32) -> T {
-    *names.get(number as usize).unwrap_or_else(|| unreachable!("the library told the number {number}"))
+    *names.get(number as usize).unwrap_or_else(|| unreachable!("the library wrote the number {number}"))
 }
 
 // Returns a channel or an event, which the library writes as 32 bits.
 fn small(number: u32) -> u8 {
-    u8::try_from(number).unwrap_or_else(|_| unreachable!("the library told the number {number}"))
+    u8::try_from(number).unwrap_or_else(|_| unreachable!("the library wrote the number {number}"))
 }
 
 fn number_of(kind: MarkKind) -> u32 {
@@ -521,7 +521,7 @@ pub fn run_program(program: &[u8], memory: &mut [u8], limit: u32) -> Result<RunE
         2 => RunEnd::OutOfTurns,
         3 => RunEnd::Waiting { event: small(end.event) },
         4 => RunEnd::Fault { fault: fault_of(end.fault), pc: end.pc },
-        number => unreachable!("the library told the number {number}"),
+        number => unreachable!("the library wrote the number {number}"),
     })
 }
 

@@ -148,7 +148,7 @@ fn files_below(folder: &Path, found: &mut Vec<PathBuf>) {
 
 fn calls_of_library() -> Calls {
     let mut files = Vec::new();
-    for folder in ["crates/dma_ffi/src", "crates/dma_mem/src"] {
+    for folder in ["crates/dma_ffi/src", "crates/dma_engine/src", "crates/dma_mem/src"] {
         files_below(&repository().join(folder), &mut files);
     }
     let texts: Vec<String> = files.iter().map(|file| without_comments(&text_of(file))).collect();

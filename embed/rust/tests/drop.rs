@@ -8,7 +8,7 @@ const MIB: usize = 1 << 20;
 
 /// Returns the size of this process's pages in memory, in KiB, as Linux counts them.
 fn resident() -> usize {
-    let status = fs::read_to_string("/proc/self/status").expect("Linux tells of a process");
+    let status = fs::read_to_string("/proc/self/status").expect("Linux reports on a process");
     let line = status.lines().find(|line| line.starts_with("VmRSS:")).expect("its pages");
     line.split_whitespace().nth(1).and_then(|count| count.parse().ok()).expect("a number of KiB")
 }

@@ -67,7 +67,7 @@ fn all_is_copied(controller: &mut Controller) -> Result<bool, Error> {
 
 #[test]
 fn threads_share_a_controller_behind_a_lock() {
-    let shared = Mutex::new(opened().expect("memory is there"));
+    let shared = Mutex::new(opened().expect("memory is available"));
     let all_begin = Barrier::new(usize::from(CHANNELS));
     let copied = Some(Outcome { result: TransferResult::NoError, residue: 0 });
     thread::scope(|scope| {

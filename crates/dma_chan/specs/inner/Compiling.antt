@@ -1,7 +1,10 @@
 -- Definitions for the contracts of the compiler's parts.
-use Rattle.std.specs.Prelude.{ℕ, ◌+◌, ◌^◌, ◌<◌, ◌≤◌, List, [], ◌∷◌, length}
+use Rattle.std.specs.Prelude.{◌≡◌, ℕ, ◌+◌, ◌^◌, ◌<◌, ◌≤◌, List, [], ◌∷◌, ◌++◌, length, not}
+use Rattle.dma_insn.specs.ControlWord.{beat_bytes}
 use Rattle.dma_mem.specs.declared.segment.Segment.{Segment}
-use Rattle.dma_chan.specs.Tree.{Tree, unrolled}
+use Rattle.dma_chan.specs.declared.compile.Beat.{Beat}
+use Rattle.dma_chan.specs.Compiled.{control_word}
+use Rattle.dma_chan.specs.Tree.{Tree, bytes_of, unrolled}
 
 -- how many bytes a list of segments has
 abbrev pub byte_count : List Segment → ℕ
@@ -15,3 +18,11 @@ IsRange s = (0 < s.len) × (s.addr + s.len ≤ 2 ^ 32)
 -- how many instructions running a tree executes
 unfoldable pub cost_of : Tree → ℕ
 cost_of t = length (unrolled t)
+
+-- The bytes of a tree are appended.
+abbrev pub Appends : List ℕ → List ℕ → Tree → Type 0
+Appends old new t = new ≡ old ++ bytes_of t
+
+-- the control word of bursts of k such beats
+abbrev pub word_of : Beat → ℕ → ℕ
+word_of b k = control_word (not b.source_rises) (beat_bytes b.size) k

@@ -1,6 +1,8 @@
 //! Memory that a channel keeps for the longest program.
 
-ghost use Rattle.std.specs.Prelude.{◌≡◌, ◌≤◌, length, nat_lt, if◌then◌else◌, None, IsNone, IfSome, IfOk, IfErr, OnOk, OnErr, vec_capacity};
+ghost use Rattle.std.specs.Prelude.{◌≡◌, ◌≤◌, length, None, IsNone, IfSome, IfOk, IfErr, OnOk, OnErr, vec_capacity};
+ghost use Rattle.dma_insn.specs.AssemblyText.{most_bytes};
+ghost use Rattle.dma_chan.specs.Programs.{program_fault};
 ghost use Rattle.dma_chan.specs.Channel.{unloaded, loaded};
 
 use crate::channel::Channel;
@@ -9,9 +11,9 @@ use std::alloc::{AllocError, Global};
 
 // Unloads a program. If its bytes were in the room, the room is kept.
 pub(super) fn put_away(program: &mut Option<Program>, room: &mut Option<Vec<u8>>)
-    requires { IfSome room.old (λ room. 8192 ≤ vec_capacity room) }
+    requires { IfSome room.old (λ room. most_bytes ≤ vec_capacity room) }
     ensures program { program.new ≡ None }
-    ensures room { IfSome room.new (λ room. 8192 ≤ vec_capacity room) }
+    ensures room { IfSome room.new (λ room. most_bytes ≤ vec_capacity room) }
 {
     if let Some(program) = program.take() {
         if let Ok(free) = program.into_room() {
@@ -37,8 +39,8 @@ impl Channel {
     /// The error is `ProgramTooLong` above [`MAX_BYTES`], else `NoMemory`. Nothing changes on an error.
     pub fn load_bytes(&mut self, alloc: Global, bytes: &[u8]) -> Result<(), ProgramFault>
         ensures ok { OnOk result (self.new ≡ loaded (record { bytes = bytes.now; cost = None })) }
-        ensures fits { OnOk result (length bytes.now ≤ 8192) }
-        ensures err { IfErr result (λ fault. fault ≡ (if nat_lt 8192 (length bytes.now) then ProgramFault.ProgramTooLong else ProgramFault.NoMemory)) }
+        ensures fits { OnOk result (length bytes.now ≤ most_bytes) }
+        ensures err { IfErr result (λ fault. fault ≡ program_fault bytes.now) }
         ensures unchanged { OnErr result (self.new ≡ self.old) }
     {
         let program = self.program_of(alloc, bytes)?;
@@ -54,8 +56,8 @@ impl Channel {
         bytes: &[u8],
     ) -> Result<Program, ProgramFault>
         ensures ok { IfOk result (λ program. program ≡ record { bytes = bytes.now; cost = None }) }
-        ensures fits { OnOk result (length bytes.now ≤ 8192) }
-        ensures err { IfErr result (λ fault. fault ≡ (if nat_lt 8192 (length bytes.now) then ProgramFault.ProgramTooLong else ProgramFault.NoMemory)) }
+        ensures fits { OnOk result (length bytes.now ≤ most_bytes) }
+        ensures err { IfErr result (λ fault. fault ≡ program_fault bytes.now) }
         ensures unchanged { OnErr result (self.new ≡ self.old) }
     {
         if bytes.len() > MAX_BYTES {
@@ -70,7 +72,7 @@ impl Channel {
     // Returns the room, if there is one, and removes it from the channel. If the loaded program is in the room, it is
     // unloaded.
     fn take_room(&mut self) -> Option<Vec<u8>>
-        ensures room { IfSome result (λ room. 8192 ≤ vec_capacity room) }
+        ensures room { IfSome result (λ room. most_bytes ≤ vec_capacity room) }
         ensures none { IsNone result → self.new ≡ self.old }
     {
         let Some(program) = self.program.take() else {

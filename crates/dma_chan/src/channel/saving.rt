@@ -1,37 +1,30 @@
 //! Saves a channel, and restores it.
 
 ghost use Rattle.std.specs.Prelude.{◌≡◌, ◌≤◌, ◌++◌, length, drop, nat_le, is_some, Err, IsNone, IfSome, MatchResult, OnOk, OnErr};
+ghost use Rattle.dma_insn.specs.AssemblyText.{most_bytes};
 ghost use Rattle.dma_chan.specs.Channel.{ChannelValue, code_of};
-ghost use Rattle.dma_chan.specs.Saved.{head_of, saved, IsChannelValue, IsSave};
+ghost use Rattle.dma_chan.specs.Exec.{buffer_size};
+ghost use Rattle.dma_chan.specs.Saved.{head_of, most_saved, saved, IsChannelValue, IsSave};
 ghost use Rattle.dma_chan.specs.inner.Saves.{channel_in, FitsIn};
 
 use crate::channel::Channel;
-use crate::save::RestoreFault;
-use crate::save::head::{CHECKSUM_LEN, HEAD_LEN, Head};
-use crate::save::writing::{SaveBytes, write};
+use crate::save::head::Head;
+use crate::save::{RestoreFault, SaveBytes, write};
 use std::alloc::{AllocError, Global};
 
 impl Channel {
-    /// Returns the length of the channel's save in bytes, at most [`MAX_SAVE`](crate::save::MAX_SAVE).
-    pub fn save_len(&self) -> usize
-        ensures len { result ≡ length (saved self.now) }
-        ensures limit { result ≤ 8500 }
-    {
-        HEAD_LEN + self.buffer.len() + self.program_bytes().len() + CHECKSUM_LEN
-    }
-
-    /// Writes the channel's save to the front of `out`, and returns its length in bytes. If `out` is shorter, it
-    /// returns `None` and writes nothing.
+    /// Writes the channel's save to the front of `out`, and returns its length in bytes, at most
+    /// [`MAX_SAVE`](crate::save::MAX_SAVE). If `out` is shorter, it returns `None` and writes nothing.
     pub fn save(&self, out: &mut [u8]) -> Option<usize>
         ensures bytes { IfSome result (λ n. out.new ≡ saved self.now ++ drop n out.old) }
         ensures len { IfSome result (λ n. n ≡ length (saved self.now)) }
-        ensures limit { length (saved self.now) ≤ 8500 }
+        ensures limit { length (saved self.now) ≤ most_saved }
         ensures room { is_some result ≡ nat_le (length (saved self.now)) (length out.old) }
         ensures unchanged { IsNone result → out.new ≡ out.old }
         ensures channel { IsChannelValue self.now }
     {
         let bytes = self.saved_bytes();
-        let len = self.save_len();
+        let len = bytes.len();
         if out.len() < len {
             return None;
         }
@@ -69,7 +62,7 @@ impl Channel {
     // Returns the bytes of the program. Without a program there are none.
     fn program_bytes(&self) -> &[u8]
         ensures value { result.now ≡ code_of self.now }
-        ensures limit { length result.now ≤ 8192 }
+        ensures limit { length result.now ≤ most_bytes }
     {
         match &self.program {
             Some(program) => program.bytes(),
@@ -80,7 +73,7 @@ impl Channel {
     // Returns the head of the channel's save.
     fn head(&self) -> Head
         ensures head { result ≡ head_of self.now }
-        ensures buffer { length self.now.buffer ≤ 256 }
+        ensures buffer { length self.now.buffer ≤ buffer_size }
     {
         let cost = match &self.program {
             Some(program) => program.cost(),
@@ -99,7 +92,7 @@ impl Channel {
 
     // Returns the channel's save.
     fn saved_bytes(&self) -> SaveBytes
-        ensures bytes { result ≡ saved self.now }
+        ensures bytes { result.items ≡ saved self.now }
         ensures channel { IsChannelValue self.now }
     {
         let head = self.head();

@@ -11,14 +11,14 @@ ghost use Rattle.dma_chan.specs.inner.Saves.{buffer_in, program_in, channel_in, 
 use crate::bursts::BUFFER_SIZE;
 use crate::exec::Registers;
 use crate::program::MAX_BYTES;
-use crate::save::writing::write;
+use crate::save::write;
 use dma_insn::control::ControlWord;
 
 // The length of a head in bytes.
-pub const HEAD_LEN: usize = 48;
+const HEAD_LEN: usize = 48;
 
 // The length of the checksum in bytes.
-pub const CHECKSUM_LEN: usize = 4;
+const CHECKSUM_LEN: usize = 4;
 
 // The bytes at the start of every save. The last one is the version.
 pub const MAGIC: [u8; 8] = [100, 109, 97, 51, 51, 48, 0, 1];
@@ -63,7 +63,8 @@ fn u64_at(save: &[u8], at: usize) -> u64
 
 // Returns the cost that these two fields encode.
 fn cost_of(flag_byte: u8, number: u32) -> Option<u32>
-    ensures { (cost : Option ℕ) → flag_byte ≡ flag (is_some cost) → number ≡ unwrap_or cost 0 → result ≡ cost }
+    ensures { (cost : Option ℕ) → flag_byte ≡ flag (is_some cost) → number ≡ unwrap_or cost 0
+        → result ≡ cost }
 {
     if flag_byte != 0 { Some(number) } else { None }
 }
@@ -91,7 +92,8 @@ impl Head {
     // Returns the head of these bytes if they are a save. For other bytes the result may be a head too.
     fn read(save: &[u8]) -> Option<Head>
         requires { 48 ≤ length save.now }
-        ensures { (h : Head) (rest : List ℕ) → HasHeadRanges h → save.now ≡ head_bytes h ++ rest → result ≡ Some h }
+        ensures { (h : Head) (rest : List ℕ) → HasHeadRanges h → save.now ≡ head_bytes h ++ rest
+            → result ≡ Some h }
     {
         let Some(registers) = registers_in(save) else {
             return None;

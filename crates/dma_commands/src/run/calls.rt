@@ -1,32 +1,50 @@
 //! The lines of a script that make one call, and `totals`.
-#![tactic(auto, using(crate::proofs::Begun::begins_more, crate::proofs::Begun::begins_pushed, crate::proofs::Begun::begins_same, crate::proofs::Begun::line_ends, crate::proofs::Begun::line_gone))]
-
-ghost use Rattle.std.specs.Prelude.{◌≡◌, ◌≢◌, ◌++◌, ◌∷◌, [], OnOk, OnErr, IfOk, length};
+ghost use Rattle.std.specs.Prelude.{◌≡◌, ◌≢◌, ◌++◌, ◌∷◌, [], OnOk, OnErr, IfOk, IfErr, count_by, is_some};
+ghost use Rattle.std.specs.List.{range_with_len};
 ghost use Rattle.dma_engine.specs.Answer.{CallAnswers, answer};
-ghost use Rattle.dma_engine.specs.View.{object_of, running};
+ghost use Rattle.dma_engine.specs.View.{channels, running_on};
 ghost use Rattle.dma_script.specs.Command.{text_of};
-ghost use Rattle.dma_commands.specs.Printed.{Begins, refused_line, transfer_fault_name};
-ghost use Rattle.dma_commands.specs.inner.RunSteps.{AnswersLine, read_at};
-ghost use Rattle.dma_commands.specs.Run.{call_answer, submit_answer, totals_line, totals_of};
+ghost use Rattle.dma_commands.specs.inner.RunSteps.{RunsLine, read_at};
+ghost use Rattle.dma_commands.specs.Laws.{call_of};
+ghost use Rattle.dma_commands.specs.Run.{call_answer, line_answer, submit_answer, totals_of};
 
-use crate::printing::{
-    end_line, push_cookie, push_issued, push_read, push_refused, push_refused_call, push_told,
-    push_worded, rule_name,
-};
+use crate::printing::Shown;
 use crate::transfers::transfer_of;
 use dma_engine::{Call, Engine, EngineFault, Entry, Reply};
 use dma_mem::lists::Bytes;
 use dma_mem::segment::Segment;
-use dma_mem::transfer::{Transfer, TransferFault};
-use dma_script::apart::Apart;
 use dma_script::plan::TransferLine;
-use dma_script::printing::push_line;
+use dma_script::printing::print_line;
+use dma_script::statements::Statement;
+use dma_text::text::{Address, SpacedBytes};
 use std::alloc::AllocError;
+
+/// Returns the call of a line that makes exactly one call, or any other line unchanged.
+pub fn call_of(statement: Statement) -> Result<Call, Statement>
+    ensures ok { IfOk result (λ call. call_of statement ≡ call ∷ []) }
+    ensures err { IfErr result (λ line. (line ≡ statement) × (call_of statement ≡ [])) }
+{
+    match statement {
+        Statement::Write { addr, bytes } => Ok(Call::Write { addr, bytes }),
+        Statement::Read(Segment { addr, len }) => Ok(Call::Read { addr, len }),
+        Statement::Issue { ch } => Ok(Call::Issue { ch }),
+        Statement::Pause { ch } => Ok(Call::Pause { ch }),
+        Statement::Resume { ch } => Ok(Call::Resume { ch }),
+        Statement::Terminate { ch } => Ok(Call::Terminate { ch }),
+        Statement::Status { ch, cookie } => Ok(Call::Status { ch, cookie }),
+        Statement::Result { ch, cookie } => Ok(Call::Result { ch, cookie }),
+        Statement::Mark { kind, segment } => Ok(Call::Mark { kind, segment }),
+        Statement::Unmark => Ok(Call::Unmark),
+        Statement::Raise { event } => Ok(Call::Raise { event }),
+        Statement::Checkpoint => Ok(Call::Checkpoint),
+        line => Err(line),
+    }
+}
 
 /// Makes one call and returns its reply. Fails with `AllocError` if the call is out of memory.
 pub(crate) fn reply_to(engine: &mut Engine, call: &Call) -> Result<Reply, AllocError>
-    ensures answer { IfOk result (λ reply. (reply, engine.new.view) ≡ answer engine.old.view call.now) }
-    ensures refused { OnErr result (CallAnswers engine.old.view call.now (Reply.Refused EngineFault.NoMemory) engine.new.view) }
+    ensures answer { IfOk result
+        (λ reply. (reply, engine.new.view) ≡ answer engine.old.view call.now) }
 {
     match engine.carry_out(call) {
         Reply::Refused(EngineFault::NoMemory) => Err(AllocError),
@@ -34,34 +52,39 @@ pub(crate) fn reply_to(engine: &mut Engine, call: &Call) -> Result<Reply, AllocE
     }
 }
 
-/// Makes one call and appends its line, or appends nothing and fails if memory runs out.
+/// Executes a line that makes one call. Not inlined into `run_statement`, because these lines are rare and the locals
+/// of all arms of a `match` are cleared whichever arm is taken.
 #[inline(never)]
 pub(crate) fn answer_call(
     engine: &mut Engine,
-    call: &Call,
+    statement: Statement,
     out: &mut Vec<u8>,
 ) -> Result<(), AllocError>
-    ensures ok { OnOk result (AnswersLine (call_answer engine.old.view call.now) engine.new.view out.old.items out.new.items) }
-    ensures err { OnErr result (out.new.items ≡ out.old.items) }
+    requires { call_of statement ≢ [] }
+    ensures { RunsLine (line_answer engine.old.view statement) engine.new.view
+        result out.old.items out.new.items }
 {
-    let reply = reply_to(engine, call)?;
-    push_told(call, &reply, out)
+    let Ok(call) = call_of(statement) else {
+        unreachable!();
+    };
+    let reply = engine.carry_out(&call);
+    print_line(out, &Shown((&call, &reply)))
 }
 
 /// Executes `write ADDR HEX`. The bytes are moved into the history.
 #[inline(never)]
-pub(crate) fn write_line(
+pub(crate) fn answer_write(
     engine: &mut Engine,
     addr: u32,
     bytes: Bytes,
     out: &mut Vec<u8>,
 ) -> Result<(), AllocError>
-    ensures ok { OnOk result (AnswersLine (call_answer engine.old.view (Call.Write addr bytes)) engine.new.view out.old.items out.new.items) }
-    ensures err { OnErr result (out.new.items ≡ out.old.items) }
+    ensures { RunsLine (call_answer engine.old.view (Call.Write addr bytes)) engine.new.view
+        result out.old.items out.new.items }
 {
     match engine.write_owned(addr, bytes) {
-        Ok(()) => push_line(out, b"ok"),
-        Err(fault) => push_refused_call(fault, out),
+        Ok(()) => print_line(out, &"ok"),
+        Err(fault) => print_line(out, &("refused ", Shown(fault))),
     }
 }
 
@@ -78,108 +101,68 @@ fn read_at(history: &[Entry], place: usize) -> &[u8]
 
 /// Executes `read SEG`. The bytes are printed from the history, which keeps them.
 #[inline(never)]
-pub(crate) fn read_line(
+pub(crate) fn answer_read(
     engine: &mut Engine,
     segment: Segment,
     out: &mut Vec<u8>,
 ) -> Result<(), AllocError>
-    ensures ok { OnOk result (AnswersLine (call_answer engine.old.view (Call.Read segment.addr segment.len)) engine.new.view out.old.items out.new.items) }
-    ensures err { OnErr result (out.new.items ≡ out.old.items) }
+    ensures { RunsLine
+        (call_answer engine.old.view (Call.Read segment.addr segment.len)) engine.new.view
+        result out.old.items out.new.items }
 {
+    let Segment { addr, len } = segment;
     let place = engine.history().len();
-    match engine.read_back(segment.addr, segment.len) {
-        Ok(()) => push_read(segment.addr, read_at(engine.history(), place), out),
-        Err(fault) => push_refused_call(fault, out),
-    }
-}
-
-/// Appends the line for a transfer that breaks a rule. Fails with `AllocError`, and appends nothing, if memory runs
-/// out or if the fault itself is `NoMemory`, which ends the script.
-pub fn push_unfit(fault: TransferFault, out: &mut Vec<u8>) -> Result<(), AllocError>
-    ensures ok { OnOk result ((fault ≢ TransferFault.NoMemory) × (out.new.items ≡ out.old.items ++ text_of (refused_line (transfer_fault_name fault) ∷ []))) }
-    ensures err { OnErr result (out.new.items ≡ out.old.items) }
-{
-    push_refused(rule_name(fault)?, out)
-}
-
-/// Submits a transfer to a channel, and appends `cookie N` or the refusal.
-fn submit(
-    engine: &mut Engine,
-    ch: u8,
-    transfer: Transfer,
-    out: &mut Vec<u8>,
-) -> Result<(), AllocError>
-    ensures ok { OnOk result (AnswersLine (call_answer engine.old.view (Call.Submit ch transfer)) engine.new.view out.old.items out.new.items) }
-    ensures err { OnErr result (out.new.items ≡ out.old.items) }
-{
-    match engine.submit(ch, transfer) {
-        Ok(cookie) => push_cookie(cookie, out),
-        Err(refused) => push_refused_call(refused.fault, out),
+    match engine.read_back(addr, len) {
+        Ok(()) => {
+            let bytes = SpacedBytes(read_at(engine.history(), place));
+            print_line(out, &("read 0x", Address(addr), bytes))
+        }
+        Err(fault) => print_line(out, &("refused ", Shown(fault))),
     }
 }
 
 /// Executes `submit CH LIST to LIST [wait E] [signal E]` or `submit CH fill ADDR to LIST [wait E] [signal E]`.
 #[inline(never)]
-pub(crate) fn submit_line(
+pub(crate) fn answer_submit(
     engine: &mut Engine,
     ch: u8,
-    words: Apart<TransferLine>,
+    words: TransferLine,
     out: &mut Vec<u8>,
 ) -> Result<(), AllocError>
-    ensures ok { OnOk result (AnswersLine (submit_answer engine.old.view ch words) engine.new.view out.old.items out.new.items) }
-    ensures err { OnErr result (out.new.items ≡ out.old.items) }
+    ensures { RunsLine (submit_answer engine.old.view ch words) engine.new.view
+        result out.old.items out.new.items }
 {
-    match transfer_of(words.into_inner()) {
-        Ok(transfer) => submit(engine, ch, transfer, out),
-        Err(fault) => push_unfit(fault, out),
-    }
-}
-
-/// Executes `issue CH`.
-#[inline(never)]
-pub(crate) fn issue_line(engine: &mut Engine, ch: u8, out: &mut Vec<u8>) -> Result<(), AllocError>
-    ensures ok { OnOk result (AnswersLine (call_answer engine.old.view (Call.Issue ch)) engine.new.view out.old.items out.new.items) }
-    ensures err { OnErr result (out.new.items ≡ out.old.items) }
-{
-    match engine.issue(ch) {
-        Ok(count) => push_issued(count, out),
-        Err(fault) => push_refused_call(fault, out),
+    let transfer = match transfer_of(words) {
+        Ok(transfer) => transfer,
+        Err(fault) => return print_line(out, &("refused ", Shown(fault))),
+    };
+    match engine.submit(ch, transfer) {
+        Ok(cookie) => print_line(out, &("cookie ", cookie)),
+        Err(refused) => print_line(out, &("refused ", Shown(refused.fault))),
     }
 }
 
 /// Returns the number of running transfers.
 fn running_count(engine: &Engine) -> usize
-    ensures { result ≡ length (running (object_of engine.now.view) engine.now.view.schedule) }
+    ensures { result ≡ count_by (λ ch. is_some (running_on engine.now.view ch))
+        (range_with_len 0 (channels engine.now.view)) }
 {
-    let mut count = 0usize;
-    for ch in 0..engine.channels() {
-        if engine.running(ch).is_some() {
-            count += 1;
-        }
-    }
-    count
-}
-
-/// Appends `totals entries N steps N running N`.
-fn push_totals(line: &mut Vec<u8>, entries: u64, steps: u64, running: u64) -> Result<(), AllocError>
-    ensures ok { OnOk result (line.new.items ≡ line.old.items ++ totals_line entries steps running) }
-    ensures begins { Begins line.new.items line.old.items }
-{
-    push_worded(line, "totals entries ", entries)?;
-    push_worded(line, " steps ", steps)?;
-    push_worded(line, " running ", running)
+    (0..engine.channels())
+        .filter(|ch| engine.running(*ch).is_some())
+        .count()
 }
 
 /// Executes `totals`.
 #[inline(never)]
 pub(crate) fn answer_totals(engine: &Engine, out: &mut Vec<u8>) -> Result<(), AllocError>
-    ensures ok { OnOk result (out.new.items ≡ out.old.items ++ text_of (totals_of engine.now.view ∷ [])) }
-    ensures err { OnErr result (out.new.items ≡ out.old.items) }
+    ensures { RunsLine (line_answer engine.now.view Statement.Totals) engine.now.view
+        result out.old.items out.new.items }
 {
-    let entries = engine.history().len();
-    let steps = engine.steps();
-    let running = running_count(engine);
-    let start = out.len();
-    let parts = push_totals(out, entries as u64, steps, running as u64);
-    end_line(out, start, parts)
+    let counts = (
+        "totals entries ",
+        engine.history().len(),
+        " steps ",
+        engine.steps(),
+    );
+    print_line(out, &(counts, " running ", running_count(engine)))
 }

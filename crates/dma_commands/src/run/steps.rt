@@ -1,19 +1,19 @@
 //! The `step` lines of a script. Equal consecutive answers are counted and printed as one line.
-#![tactic(auto, using(crate::proofs::Begun::begins_more, crate::proofs::Begun::begins_pushed, crate::proofs::Begun::begins_same, crate::proofs::Begun::line_ends, crate::proofs::Begun::line_gone))]
 
-ghost use Rattle.std.specs.Prelude.{◌≡◌, ◌≢◌, ◌≤◌, ◌<◌, ◌+◌, ◌++◌, ◌∷◌, [], List, ℕ, OnOk, OnErr, IfOk, IsTrue, Err, map, replicate};
+ghost use Rattle.std.specs.Prelude.{◌≡◌, ◌≢◌, ◌≤◌, ◌<◌, ◌+◌, ◌++◌, ◌∷◌, [], List, ℕ, OnOk, OnErr, IfOk, IsTrue, Err, is_some, map, replicate, if◌then◌else◌};
 ghost use Rattle.dma_engine.specs.Answer.{answers, reply_of};
 ghost use Rattle.dma_engine.specs.Room.{IsIdle};
 ghost use Rattle.dma_engine.specs.declared.call.Call.TheVariants as calls;
 ghost use Rattle.dma_script.specs.Command.{text_of};
-ghost use Rattle.dma_commands.specs.Printed.{Begins, reply_text};
-ghost use Rattle.dma_commands.specs.inner.Counting.{text_with};
-ghost use Rattle.dma_commands.specs.inner.RunSteps.{AnswersLine};
+ghost use Rattle.dma_commands.specs.Printed.{reply_text};
+ghost use Rattle.dma_commands.specs.inner.Counting.{start_replies, text_with};
+ghost use Rattle.dma_commands.specs.inner.RunSteps.{RunsLine};
 ghost use Rattle.dma_commands.specs.Run.{step_answer, step_line};
 
-use crate::printing::{end_line, push_reply, push_text, push_turned, push_worded};
-use dma_engine::advance::{Advanced, advance};
+use crate::printing::Shown;
 use dma_engine::{Engine, EngineFault, Reply, Turn};
+use dma_script::printing::print_line;
+use dma_text::text::{Text, print};
 use std::alloc::{AllocError, Global};
 use std::mem;
 
@@ -44,8 +44,11 @@ impl StepLines {
 
     /// Appends the line of the last answer to `lines`, if an answer was counted. Fails if memory runs out.
     fn end_line(&mut self, ch: u8) -> Result<(), AllocError>
-        ensures none { OnOk result (self.old.count ≡ 0 → self.new.lines.items ≡ self.old.lines.items) }
-        ensures line { OnOk result (0 < self.old.count → self.new.lines.items ≡ self.old.lines.items ++ text_of (step_line ch (self.old.last.items, self.old.count) ∷ [])) }
+        ensures none { OnOk result
+            (self.old.count ≡ 0 → self.new.lines.items ≡ self.old.lines.items) }
+        ensures line { OnOk result
+            (0 < self.old.count → self.new.lines.items ≡ self.old.lines.items
+            ++ text_of (step_line ch (self.old.last.items, self.old.count) ∷ [])) }
         ensures last { self.new.last.items ≡ self.old.last.items }
         ensures count { self.new.count ≡ self.old.count }
         ensures next { self.new.next.items ≡ self.old.next.items }
@@ -53,25 +56,25 @@ impl StepLines {
         if self.count == 0 {
             return Ok(());
         }
-        push_worded(&mut self.lines, "step ", u64::from(ch))?;
-        push_text(&mut self.lines, " ")?;
-        self.lines.extend_from_slice(&self.last)?;
-        push_worded(&mut self.lines, " x", u64::from(self.count))?;
-        push_text(&mut self.lines, "\n")
+        let line = (("step ", ch, " ", self.last.as_slice()), " x", self.count);
+        print_line(&mut self.lines, &line)
     }
 
     /// Adds `many` equal answers. Fails if memory runs out.
     fn take(&mut self, ch: u8, reply: &Reply, many: u32) -> Result<(), AllocError>
         requires { self.old.count + many ≤ 4294967295 }
-        ensures text { OnOk result ((rest : List (List ℕ)) → text_with ch self.new.lines.items self.new.last.items self.new.count rest
-            ≡ text_with ch self.old.lines.items self.old.last.items self.old.count (replicate many (reply_text reply.now) ++ rest)) }
+        ensures text { OnOk result
+            ((rest : List (List ℕ))
+            → text_with ch self.new.lines.items self.new.last.items self.new.count rest
+            ≡ text_with ch self.old.lines.items self.old.last.items self.old.count
+            (replicate many (reply_text reply.now) ++ rest)) }
         ensures count { OnOk result (self.new.count ≤ self.old.count + many) }
     {
         if many == 0 {
             return Ok(());
         }
         self.next.clear();
-        push_reply(&mut self.next, reply)?;
+        Shown(reply).push(&mut self.next)?;
         if self.last.as_slice() == self.next.as_slice() {
             self.count += many;
             return Ok(());
@@ -81,11 +84,30 @@ impl StepLines {
         self.count = many;
         Ok(())
     }
+
+    /// Adds the answer to a step that started this cookie, if any. Fails if memory runs out.
+    fn take_start(&mut self, ch: u8, started: Option<u32>) -> Result<(), AllocError>
+        requires { self.old.count + (if is_some started then 1 else 0) ≤ 4294967295 }
+        ensures text { OnOk result
+            ((rest : List (List ℕ))
+            → text_with ch self.new.lines.items self.new.last.items self.new.count rest
+            ≡ text_with ch self.old.lines.items self.old.last.items self.old.count
+            (map reply_text (start_replies started) ++ rest)) }
+        ensures count { OnOk result
+            (self.new.count ≤ self.old.count + (if is_some started then 1 else 0)) }
+    {
+        match started {
+            Some(cookie) => self.take(ch, &Reply::Turned(Turn::Started(cookie)), 1),
+            None => Ok(()),
+        }
+    }
 }
 
 /// Returns the reply to a step. Fails with `AllocError` if the step was out of memory.
 pub fn step_reply(turn: Result<Turn, EngineFault>) -> Result<Reply, AllocError>
-    ensures reply { IfOk result (λ reply. (reply ≡ reply_of (λ turn. Reply.Turned turn) turn) × (reply ≢ Reply.Refused EngineFault.NoMemory)) }
+    ensures reply { IfOk result
+        (λ reply. (reply ≡ reply_of (λ turn. Reply.Turned turn) turn)
+        × (reply ≢ Reply.Refused EngineFault.NoMemory)) }
     ensures refused { OnErr result (turn ≡ Err EngineFault.NoMemory) }
 {
     match turn {
@@ -106,9 +128,9 @@ fn is_idle(turn: Result<Turn, EngineFault>) -> bool
     )
 }
 
-/// Steps a channel at most `most` times, until a step doesn't move, and adds the answers. An answer that every later
-/// step repeats is counted for all remaining steps, which are not executed. Returns the number of answers that it
-/// added. Fails if memory runs out.
+/// Steps a channel at most `most` times, until a step neither starts nor moves, and adds the answers. An answer that
+/// every later step repeats is counted for all remaining steps, which are not executed. Returns the number of answers
+/// that it added. Fails if memory runs out.
 fn take_steps(
     engine: &mut Engine,
     ch: u8,
@@ -118,81 +140,35 @@ fn take_steps(
     requires some { 0 < most }
     requires few { told.old.count + most ≤ 4294967295 }
     ensures many { IfOk result (λ many. (0 < many) × (many ≤ most)) }
-    ensures view { IfOk result (λ many. engine.new.view ≡ (answers engine.old.view (replicate many (calls.Step ch))).1) }
-    ensures text { IfOk result (λ many. (rest : List (List ℕ)) → text_with ch told.new.lines.items told.new.last.items told.new.count rest
-        ≡ text_with ch told.old.lines.items told.old.last.items told.old.count (map reply_text (answers engine.old.view (replicate many (calls.Step ch))).0 ++ rest)) }
+    ensures view { IfOk result
+        (λ many. engine.new.view ≡ (answers engine.old.view (replicate many (calls.Step ch))).1) }
+    ensures text { IfOk result
+        (λ many. (rest : List (List ℕ))
+        → text_with ch told.new.lines.items told.new.last.items told.new.count rest
+        ≡ text_with ch told.old.lines.items told.old.last.items told.old.count
+        (map reply_text (answers engine.old.view (replicate many (calls.Step ch))).0 ++ rest)) }
     ensures count { IfOk result (λ many. told.new.count ≤ told.old.count + many) }
 {
-    let Advanced { moved, last } = advance(engine, ch, most);
-    told.take(ch, &Reply::Turned(Turn::Moved), moved)?;
-    let Some(last) = last else {
-        return Ok(moved);
+    let steps = engine.advance(ch, most);
+    told.take_start(ch, steps.started)?;
+    told.take(ch, &Reply::Turned(Turn::Moved), steps.moved)?;
+    let before = steps.steps_before();
+    let Some(last) = steps.last else {
+        return Ok(before);
     };
     let reply = step_reply(last)?;
-    let many = if is_idle(last) { most - moved } else { 1 };
+    let many = if is_idle(last) { most - before } else { 1 };
     told.take(ch, &reply, many)?;
-    Ok(moved + many)
+    Ok(before + many)
 }
 
-/// Steps a channel `count` times, and stores the printed lines in `told`. Fails if memory runs out.
-#[inline(never)]
-fn step_text(
-    engine: &mut Engine,
-    ch: u8,
-    count: u32,
-    told: &mut StepLines,
-) -> Result<(), AllocError>
-    ensures text { OnOk result (told.new.lines.items ≡ text_of (step_answer engine.old.view ch count).0) }
-    ensures view { OnOk result (engine.new.view ≡ (step_answer engine.old.view ch count).1) }
-{
-    told.lines.clear();
-    told.count = 0;
-    let mut left = count;
-    while left > 0 {
-        let many = take_steps(engine, ch, left, told)?;
-        left -= many;
-    }
-    told.end_line(ch)?;
-    Ok(())
-}
-
-/// Fails with `AllocError` if the step was out of memory.
-fn unless_refused_memory(turned: Result<Turn, EngineFault>) -> Result<(), AllocError>
-    ensures { OnOk result (reply_of (λ turn. Reply.Turned turn) turned ≢ Reply.Refused EngineFault.NoMemory) }
-{
-    match turned {
-        Ok(_) => Ok(()),
-        Err(EngineFault::NoMemory) => Err(AllocError),
-        Err(_) => Ok(()),
-    }
-}
-
-/// Appends the line of one step, without its line feed. If memory runs out, it fails and a part of the line may
-/// remain.
-fn push_one_step(
-    line: &mut Vec<u8>,
-    ch: u8,
-    turned: Result<Turn, EngineFault>,
-) -> Result<(), AllocError>
-    ensures ok { OnOk result (line.new.items ≡ line.old.items ++ step_line ch (reply_text (reply_of (λ turn. Reply.Turned turn) turned), 1)) }
-    ensures begins { Begins line.new.items line.old.items }
-{
-    push_worded(line, "step ", u64::from(ch))?;
-    push_text(line, " ")?;
-    push_turned(line, turned)?;
-    push_text(line, " x1")
-}
-
-/// Executes a `step` line of one step, whose printed line ends with `x1`. The line is appended directly to the output.
+/// Executes a `step` line of one step. The line is appended directly to the output.
 fn answer_step(engine: &mut Engine, ch: u8, out: &mut Vec<u8>) -> Result<(), AllocError>
-    ensures ok { OnOk result (AnswersLine (step_answer engine.old.view ch 1) engine.new.view out.old.items out.new.items) }
-    ensures err { OnErr result (out.new.items ≡ out.old.items) }
+    ensures { RunsLine (step_answer engine.old.view ch 1) engine.new.view
+        result out.old.items out.new.items }
 {
     let turned = engine.step(ch);
-    unless_refused_memory(turned)?;
-    let start = out.len();
-    let parts = push_one_step(out, ch, turned);
-    end_line(out, start, parts)
+    print_line(out, &(("step ", ch, " ", Shown(turned)), " x", 1u32))
 }
 
 /// Executes `step CH [N]`. No step allocates memory for its answer, and the steps after one that changed nothing are
@@ -202,16 +178,21 @@ pub fn answer_steps(
     engine: &mut Engine,
     ch: u8,
     count: u32,
-    told: &mut StepLines,
+    steps: &mut StepLines,
     out: &mut Vec<u8>,
 ) -> Result<(), AllocError>
-    ensures ok { OnOk result (AnswersLine (step_answer engine.old.view ch count) engine.new.view out.old.items out.new.items) }
-    ensures err { OnErr result (out.new.items ≡ out.old.items) }
+    ensures { RunsLine (step_answer engine.old.view ch count) engine.new.view
+        result out.old.items out.new.items }
 {
     if count == 1 {
         return answer_step(engine, ch, out);
     }
-    step_text(engine, ch, count, told)?;
-    out.extend_from_slice(&told.lines)?;
-    Ok(())
+    steps.lines.clear();
+    steps.count = 0;
+    let mut left = count;
+    while left > 0 {
+        left -= take_steps(engine, ch, left, steps)?;
+    }
+    steps.end_line(ch)?;
+    print(out, &steps.lines.as_slice())
 }

@@ -1,5 +1,5 @@
 -- Transfers in a base and in a history.
-use Rattle.std.specs.Prelude.{ℕ, ◌-◌, if◌then◌else◌, nat_lt, Option, Some, None, List, ◌++◌, length, map, slice_get, slice_index}
+use Rattle.std.specs.Prelude.{ℕ, ◌+◌, ◌-◌, drop, if◌then◌else◌, nat_lt, Option, Some, None, List, ◌++◌, length, map, slice_get, slice_index}
 use Rattle.dma_mem.specs.Places.{Descriptor}
 use Rattle.dma_engine.specs.declared.entry.Entry.{Entry}
 use Rattle.dma_engine.specs.declared.entry.Entry.TheVariants.{Submitted}
@@ -29,6 +29,14 @@ given_by _ = None
 abbrev pub transfer_at : List Descriptor → List Entry → List ℕ → ℕ → Option Descriptor
 transfer_at kept history indices n =
     if nat_lt n (length kept) then slice_get kept n else given_by (slice_get history (slice_index indices (n - length kept)))
+
+-- the transfers of a queue's unfinished cookies
+abbrev pub unfinished_in : Queue → List Descriptor → List Entry → List Descriptor
+unfinished_in q kept history = drop (length q.outcomes.items) (transfers_in kept history q.indices.items)
+
+-- the number of a queue's cookies that the base and the history give, and of those forgotten
+abbrev pub known_with : List Descriptor → Queue → ℕ
+known_with kept q = q.forgotten + length kept + length q.indices.items
 
 -- the issued front of a queue
 abbrev pub front_in : Queue → List Descriptor → List Entry → Option Descriptor

@@ -1,5 +1,5 @@
 -- The invariant of an engine: its parts match its view.
-use Rattle.std.specs.Prelude.{◌≡◌, ℕ, ◌+◌, ◌<◌, Bool, false, Option, Some, None, List, [], length, map, take, slice_get, slice_index, slice_index_or, IfSome, IsSomeAnd}
+use Rattle.std.specs.Prelude.{◌≡◌, ℕ, ◌+◌, ◌-◌, ◌<◌, ◌++◌, ◌∷◌, Bool, false, Option, Some, None, List, [], length, map, take, slice_get, slice_index, slice_index_or, IfSome, IsSomeAnd}
 use Rattle.std.specs.Option.{option_map}
 use Rattle.dma_chan.specs.Channel.{ChannelValue, loaded, unloaded as no_program}
 use Rattle.dma_chan.specs.Compiled.{compiled}
@@ -9,8 +9,9 @@ use Rattle.dma_mem.specs.Marking.{MarkList}
 use Rattle.dma_mem.specs.Places.{Descriptor, destinations}
 use Rattle.dma_engine.specs.declared.entry.Entry.{Entry}
 use Rattle.dma_engine.specs.declared.entry.Entry.TheVariants.{Submitted}
+use Rattle.dma_engine.specs.declared.outcome.Outcome.{Outcome}
 use Rattle.dma_engine.specs.declared.queue.Queue.{Queue}
-use Rattle.dma_engine.specs.declared.ranges.Ranges.{Ranges}
+use Rattle.dma_engine.specs.declared.access.Ranges.{Ranges}
 use Rattle.dma_engine.specs.Object.{Object, ChannelState, channel, front, no_transfer, used}
 use Rattle.dma_engine.specs.inner.Ranges.{AreOfRunning}
 use Rattle.dma_engine.specs.View.{View, ChannelSchedule, RunningTransfer, IsSound, object_of, memory_of, runs}
@@ -64,6 +65,24 @@ new_queue =
 abbrev pub queue_started : Queue → Descriptor → Ranges → Queue
 queue_started q t r = record q { channel = loaded (compiled t); ranges = Some r }
 
+-- a queue on which nothing runs
+abbrev pub queue_stopped : Queue → Queue
+queue_stopped q = record q { channel = record (q.channel) { program = None }; ranges = None }
+
+-- a queue whose front has finished with this outcome
+abbrev pub queue_finished : Queue → ℕ → Outcome → Bool → Queue
+queue_finished q spare outcome halted =
+    record q { outcomes = record { items = q.outcomes.items ++ outcome ∷ []; spare = spare }; halted = halted; channel = record (q.channel) { program = None }; ranges = None }
+
+-- a queue whose unfinished cookies all have these outcomes
+abbrev pub queue_terminated : Queue → ℕ → List Outcome → ℕ → Queue
+queue_terminated q spare outcomes issued =
+    record q { outcomes = record { items = q.outcomes.items ++ outcomes; spare = spare }; issued = issued; paused = false; halted = false; channel = record (q.channel) { program = None }; ranges = None }
+
+-- how many cookies of a queue aren't finished
+abbrev pub unfinished_of : Queue → ℕ
+unfinished_of q = q.given - q.forgotten - length q.outcomes.items
+
 -- the loaded program, if any, is that of the channel's front, and the machine has executed `taken` instructions of it
 -- over this memory
 abbrev pub IsRun : List ℕ → ChannelValue → ChannelState → Type 0
@@ -85,7 +104,7 @@ pub record IsQueue (ch : ℕ) (kept : List Descriptor) (history : List Entry) (m
   pub given : q.given ≡ used c
   pub many : length c.submitted ≡ length kept + length q.indices.items
   pub first : take (length kept) c.submitted ≡ kept
-  pub stands : (k : ℕ) → k < length q.indices.items →
+  pub indexed : (k : ℕ) → k < length q.indices.items →
       (cookie : ℕ) × (slice_get history (slice_index q.indices.items k)
       ≡ Some (Submitted ch (slice_index_or c.submitted (length kept + k) no_transfer) cookie))
   pub outcomes : q.outcomes.items ≡ c.outcomes

@@ -2,7 +2,7 @@
 use Rattle.std.specs.Prelude.{Option, Some, None}
 use Rattle.dma_mem.specs.Places.{Descriptor}
 use Rattle.dma_mem.specs.Ranges.{HasSources, SameAddresses}
-use Rattle.dma_engine.specs.declared.ranges.Ranges.{Ranges}
+use Rattle.dma_engine.specs.declared.access.Ranges.{Ranges}
 use Rattle.dma_engine.specs.View.{RunningTransfer}
 
 -- The ranges have exactly the addresses that a transfer reads, and exactly those that it writes.

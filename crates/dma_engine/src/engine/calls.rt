@@ -1,7 +1,7 @@
 //! Executes a call that is given as a value, and returns its reply.
 
 ghost use Rattle.std.specs.Prelude.{◌≡◌};
-ghost use Rattle.dma_engine.specs.Answer.{CallAnswers, reply_of};
+ghost use Rattle.dma_engine.specs.Answer.{CallAnswers, count_reply, done_reply};
 
 use crate::call::{Call, Reply};
 use crate::engine::Engine;
@@ -42,7 +42,7 @@ impl Engine {
 
 // Returns the reply to a call whose only result is that it was done.
 fn done_or_refused(outcome: Result<(), EngineFault>) -> Reply
-    ensures { result ≡ reply_of (λ _. Reply.Done) outcome }
+    ensures { result ≡ done_reply outcome }
 {
     match outcome {
         Ok(()) => Reply::Done,
@@ -52,7 +52,7 @@ fn done_or_refused(outcome: Result<(), EngineFault>) -> Reply
 
 // Returns the reply to a call that returns a count.
 fn counted_or_refused(outcome: Result<u32, EngineFault>) -> Reply
-    ensures { result ≡ reply_of (λ count. Reply.Count count) outcome }
+    ensures { result ≡ count_reply outcome }
 {
     match outcome {
         Ok(count) => Reply::Count(count),

@@ -4,16 +4,16 @@ ghost use Rattle.std.specs.Prelude.{◌≡◌, ◌+◌, ◌<◌, ◌≤◌, None
 ghost use Rattle.std.specs.List.{All};
 ghost use Rattle.dma_engine.specs.Object.{base_from, channel, forget, no_transfer};
 ghost use Rattle.dma_engine.specs.View.{channels, object_of, schedule_at};
-ghost use Rattle.dma_engine.specs.Answer.{CallAnswers, first_running, reply_of};
+ghost use Rattle.dma_engine.specs.Answer.{CallAnswers, done_reply, first_running};
 ghost use Rattle.dma_engine.specs.Room.{HasGivenBack};
 ghost use Rattle.dma_engine.specs.inner.Holds.{queue_forgotten};
 
+use crate::access::Access;
 use crate::base::{Base, BaseChannel};
 use crate::call::{Call, Reply};
 use crate::engine::Engine;
 use crate::fault::EngineFault;
 use crate::queue::{Queue, transfer_at};
-use crate::way::Way;
 use dma_mem::transfer::Transfer;
 use std::alloc::{AllocError, Global};
 
@@ -28,12 +28,13 @@ impl Engine {
     /// The error is the first that applies of `Running` if a transfer runs, naming the one on the lowest such channel,
     /// and `NoMemory`. Nothing changes on an error.
     pub fn checkpoint(&mut self) -> Result<(), EngineFault>
-        ensures answer { CallAnswers self.old.view Call.Checkpoint (reply_of (λ _. Reply.Done) result) self.new.view }
+        ensures answer { CallAnswers self.old.view Call.Checkpoint (done_reply result)
+            self.new.view }
         ensures memory { self.new.memory ≡ self.old.memory }
         ensures room { IfOk result (λ _. HasGivenBack self.new) }
         ensures same { OnErr result (self.new ≡ self.old) }
     {
-        if let Some((ch, cookie)) = self.first_in_the_way(&Way::Checkpoint) {
+        if let Some((ch, cookie)) = self.first_conflict(&Access::Checkpoint) {
             return Err(EngineFault::Running { ch, cookie });
         }
         let base = self.next_base()?;
@@ -74,12 +75,7 @@ impl Engine {
     {
         let queue = &self.queues[index];
         let unfinished = self.unfinished_copies(index)?;
-        Ok(BaseChannel::of(
-            queue.forgotten + queue.outcomes.len() as u32,
-            queue.issued,
-            queue.halted,
-            unfinished,
-        ))
+        Ok(BaseChannel::of(queue.finished(), queue.issued, queue.halted, unfinished))
     }
 
     // Returns copies of the unfinished transfers of a channel, in the order of their cookies.
@@ -101,7 +97,8 @@ impl Engine {
     fn transfer(&self, index: usize, n: usize) -> &Transfer
         requires there { index < channels self.now.view }
         requires given { n < length (channel (object_of self.now.view) index).submitted }
-        ensures { result.now ≡ slice_index_or (channel (object_of self.now.view) index).submitted n no_transfer }
+        ensures { result.now
+            ≡ slice_index_or (channel (object_of self.now.view) index).submitted n no_transfer }
     {
         let kept = self.base.kept(index);
         let queue = &self.queues[index];
@@ -114,7 +111,7 @@ impl Engine {
 
 // Removes from all queues the outcomes of finished cookies and the indices into the history.
 fn forget_all(queues: &mut [Queue], alloc: Global)
-    requires { All (λ q. q.forgotten + length q.outcomes.items ≤ 4294967295) queues.old }
+    requires { All (λ q. q.forgotten + length q.outcomes.items ≤ u32.MAX) queues.old }
     ensures { queues.new ≡ map queue_forgotten queues.old }
 {
     for queue in queues {

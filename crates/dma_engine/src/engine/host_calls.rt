@@ -1,15 +1,15 @@
 //! The calls of the host on memory, marks and flags.
 
 ghost use Rattle.std.specs.Prelude.{◌≡◌, ◌≢◌, ◌+◌, ◌≤◌, ℕ, IfErr, IfOk, None, OnErr, OnOk, take, drop, length};
-ghost use Rattle.dma_engine.specs.Answer.{CallAnswers, read_fault, reply_of, write_fault};
+ghost use Rattle.dma_engine.specs.Answer.{CallAnswers, bytes_in, done_reply, read_fault, reply_of, write_fault};
 ghost use Rattle.dma_engine.specs.View.{object_of, size};
-ghost use Rattle.dma_engine.specs.Room.{HasRoom, KeepsRoom};
+ghost use Rattle.dma_engine.specs.Room.{HasMemory, HasRoom, KeepsRoom};
 
+use crate::access::Access;
 use crate::call::{Call, Reply};
 use crate::engine::Engine;
 use crate::entry::{Entry, Signaller};
 use crate::fault::EngineFault;
-use crate::way::Way;
 use dma_mem::lists::Bytes;
 use dma_mem::marks::{MarkKind, Marks};
 use dma_mem::memory::Memory;
@@ -26,7 +26,8 @@ impl Engine {
     /// The error is the first that applies of `OutOfMemoryRange`, `Busy` if a running transfer reads or writes an
     /// address of the range, and `NoMemory`.
     pub fn write(&mut self, addr: u32, bytes: &[u8]) -> Result<(), EngineFault>
-        ensures answer { CallAnswers self.old.view (Call.Write addr bytes.now) (reply_of (λ _. Reply.Done) result) self.new.view }
+        ensures answer { CallAnswers self.old.view (Call.Write addr bytes.now) (done_reply result)
+            self.new.view }
         ensures kept { OnErr result (KeepsRoom self.old self.new) }
     {
         self.check_write(addr, bytes)?;
@@ -36,7 +37,8 @@ impl Engine {
 
     /// Writes bytes like `write`, but moves them into the history without a copy. On an error the bytes are dropped.
     pub fn write_owned(&mut self, addr: u32, bytes: Bytes) -> Result<(), EngineFault>
-        ensures answer { CallAnswers self.old.view (Call.Write addr bytes) (reply_of (λ _. Reply.Done) result) self.new.view }
+        ensures answer { CallAnswers self.old.view (Call.Write addr bytes) (done_reply result)
+            self.new.view }
         ensures kept { OnErr result (KeepsRoom self.old self.new) }
     {
         self.check_write(addr, bytes.as_slice())?;
@@ -46,7 +48,8 @@ impl Engine {
     // Fails if a write is refused for any reason other than memory.
     fn check_write(&self, addr: u32, bytes: &[u8]) -> Result<(), EngineFault>
         ensures free { OnOk result (write_fault self.now.view addr (length bytes.now) ≡ None) }
-        ensures err { IfErr result (λ fault. CallAnswers self.now.view (Call.Write addr bytes.now) (Reply.Refused fault) self.now.view) }
+        ensures err { IfErr result (λ fault. CallAnswers self.now.view (Call.Write addr bytes.now)
+            (Reply.Refused fault) self.now.view) }
     {
         if addr as usize + bytes.len() > self.size as usize {
             return Err(EngineFault::OutOfMemoryRange);
@@ -55,7 +58,7 @@ impl Engine {
             addr,
             len: bytes.len() as u32,
         };
-        match self.first_in_the_way(&Way::Write(range)) {
+        match self.first_conflict(&Access::Write(range)) {
             Some((ch, cookie)) => Err(EngineFault::Busy { ch, cookie }),
             None => Ok(()),
         }
@@ -64,7 +67,8 @@ impl Engine {
     // Executes a write that was checked. It fails only when out of memory.
     fn write_checked(&mut self, addr: u32, bytes: Bytes) -> Result<(), EngineFault>
         requires { write_fault self.old.view addr (length bytes) ≡ None }
-        ensures answer { CallAnswers self.old.view (Call.Write addr bytes) (reply_of (λ _. Reply.Done) result) self.new.view }
+        ensures answer { CallAnswers self.old.view (Call.Write addr bytes) (done_reply result)
+            self.new.view }
         ensures kept { OnErr result (KeepsRoom self.old self.new) }
     {
         self.history.reserve(1)?;
@@ -80,7 +84,8 @@ impl Engine {
     /// The error is the first that applies of `OutOfMemoryRange`, `Busy` if a running transfer writes an address of the
     /// range, and `NoMemory`.
     pub fn read(&mut self, addr: u32, len: u32) -> Result<Bytes, EngineFault>
-        ensures answer { CallAnswers self.old.view (Call.Read addr len) (reply_of (λ bytes. Reply.Bytes bytes) result) self.new.view }
+        ensures answer { CallAnswers self.old.view (Call.Read addr len)
+            (reply_of (λ bytes. Reply.Bytes bytes) result) self.new.view }
         ensures kept { OnErr result (KeepsRoom self.old self.new) }
     {
         self.check_read(addr, len)?;
@@ -94,7 +99,8 @@ impl Engine {
 
     /// Reads bytes like `read`, but returns no copy of them. They are in the history's last entry.
     pub fn read_back(&mut self, addr: u32, len: u32) -> Result<(), EngineFault>
-        ensures answer { CallAnswers self.old.view (Call.Read addr len) (reply_of (λ _. Reply.Bytes (take len (drop addr (object_of self.old.view).image))) result) self.new.view }
+        ensures answer { CallAnswers self.old.view (Call.Read addr len)
+            (reply_of (λ _. Reply.Bytes (bytes_in self.old.view addr len)) result) self.new.view }
         ensures kept { OnErr result (KeepsRoom self.old self.new) }
     {
         self.check_read(addr, len)?;
@@ -106,7 +112,8 @@ impl Engine {
 
     /// Reads bytes like `read`, into all of `out`. On an error `out` is unchanged.
     pub fn read_into(&mut self, addr: u32, out: &mut [u8]) -> Result<(), EngineFault>
-        ensures answer { CallAnswers self.old.view (Call.Read addr (length out.old)) (reply_of (λ _. Reply.Bytes out.new) result) self.new.view }
+        ensures answer { CallAnswers self.old.view (Call.Read addr (length out.old))
+            (reply_of (λ _. Reply.Bytes out.new) result) self.new.view }
         ensures same { OnErr result (out.new ≡ out.old) }
         ensures kept { OnErr result (KeepsRoom self.old self.new) }
     {
@@ -126,13 +133,14 @@ impl Engine {
     fn check_read(&self, addr: u32, len: u32) -> Result<(), EngineFault>
         ensures free { OnOk result (read_fault self.now.view addr len ≡ None) }
         ensures within { OnOk result (addr + len ≤ size self.now.view) }
-        ensures err { IfErr result (λ fault. CallAnswers self.now.view (Call.Read addr len) (Reply.Refused fault) self.now.view) }
+        ensures err { IfErr result (λ fault. CallAnswers self.now.view (Call.Read addr len)
+            (Reply.Refused fault) self.now.view) }
     {
         if addr as usize + len as usize > self.size as usize {
             return Err(EngineFault::OutOfMemoryRange);
         }
         let range = Segment { addr, len };
-        match self.first_in_the_way(&Way::Read(range)) {
+        match self.first_conflict(&Access::Read(range)) {
             Some((ch, cookie)) => Err(EngineFault::Busy { ch, cookie }),
             None => Ok(()),
         }
@@ -143,7 +151,8 @@ impl Engine {
     ///
     /// The error is `BadRange` if the range is empty or ends above the last address, else `NoMemory`.
     pub fn mark(&mut self, kind: MarkKind, segment: Segment) -> Result<(), EngineFault>
-        ensures answer { CallAnswers self.old.view (Call.Mark kind segment) (reply_of (λ _. Reply.Done) result) self.new.view }
+        ensures answer { CallAnswers self.old.view (Call.Mark kind segment) (done_reply result)
+            self.new.view }
         ensures kept { OnErr result (KeepsRoom self.old self.new) }
     {
         if segment.len == 0 {
@@ -162,7 +171,7 @@ impl Engine {
     ///
     /// The error is `NoMemory`.
     pub fn unmark(&mut self) -> Result<(), EngineFault>
-        ensures answer { CallAnswers self.old.view Call.Unmark (reply_of (λ _. Reply.Done) result) self.new.view }
+        ensures answer { CallAnswers self.old.view Call.Unmark (done_reply result) self.new.view }
         ensures kept { OnErr result (KeepsRoom self.old self.new) }
     {
         self.history.reserve(1)?;
@@ -175,8 +184,9 @@ impl Engine {
     ///
     /// The error is `BadEvent` if the event is above 31, else `NoMemory`.
     pub fn raise(&mut self, event: u8) -> Result<(), EngineFault>
-        ensures answer { CallAnswers self.old.view (Call.Raise event) (reply_of (λ _. Reply.Done) result) self.new.view }
-        ensures room { (ch : ℕ) → HasRoom self.old ch → IfErr result (λ fault. fault ≢ EngineFault.NoMemory) }
+        ensures answer { CallAnswers self.old.view (Call.Raise event) (done_reply result)
+            self.new.view }
+        ensures room { (ch : ℕ) → HasRoom self.old ch → HasMemory result }
         ensures kept { OnErr result (KeepsRoom self.old self.new) }
     {
         if event > LAST_EVENT {

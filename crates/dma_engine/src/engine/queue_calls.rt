@@ -4,8 +4,8 @@ ghost use Rattle.std.specs.Prelude.{◌≡◌, ◌≢◌, ◌+◌, Ok, IfOk, IfE
 ghost use Rattle.dma_mem.specs.Rules.{IsTransfer};
 ghost use Rattle.dma_engine.specs.Object.{channel, used};
 ghost use Rattle.dma_engine.specs.View.{object_of};
-ghost use Rattle.dma_engine.specs.Answer.{CallAnswers, reply_of, checked, channel_fault, submit_fault, submit_reply};
-ghost use Rattle.dma_engine.specs.Room.{HasRoom, KeepsRoom};
+ghost use Rattle.dma_engine.specs.Answer.{CallAnswers, channel_fault, count_reply, done_reply, next_cookie, submit_reply};
+ghost use Rattle.dma_engine.specs.Room.{HasMemory, HasRoom, KeepsRoom};
 
 use crate::call::{Call, Reply};
 use crate::engine::Engine;
@@ -20,7 +20,7 @@ impl Engine {
     /// Returns the cookie that `submit` would return, or the fault that `submit` would report before `NoMemory`.
     /// Nothing changes.
     pub fn check_submit(&self, ch: u8, transfer: &Transfer) -> Result<u32, EngineFault>
-        ensures told { result ≡ checked (submit_fault self.now.view ch transfer.now) (used (channel (object_of self.now.view) ch) + 1) }
+        ensures checked { result ≡ next_cookie self.now.view ch transfer.now }
         ensures rules { OnOk result (IsTransfer transfer.now) }
     {
         let index = self.index_of(ch)?;
@@ -40,9 +40,11 @@ impl Engine {
     /// The fault is the first that applies of `NoChannel`, `OutOfMemoryRange` if a segment ends above the memory's
     /// size, `CookiesSpent` and `NoMemory`. The error returns the transfer.
     pub fn submit(&mut self, ch: u8, transfer: Transfer) -> Result<u32, SubmitFault>
-        ensures answer { CallAnswers self.old.view (Call.Submit ch transfer) (submit_reply result) self.new.view }
+        ensures answer { CallAnswers self.old.view (Call.Submit ch transfer) (submit_reply result)
+            self.new.view }
         ensures back { IfErr result (λ refused. refused.transfer ≡ transfer) }
-        ensures room { HasRoom self.old ch → IfErr result (λ refused. refused.fault ≢ EngineFault.NoMemory) }
+        ensures room { HasRoom self.old ch
+            → IfErr result (λ refused. refused.fault ≢ EngineFault.NoMemory) }
         ensures kept { OnErr result (KeepsRoom self.old self.new) }
     {
         match self.check_submit(ch, &transfer) {
@@ -53,11 +55,13 @@ impl Engine {
 
     // Submits a transfer that was checked, with its cookie. It fails only when out of memory.
     fn submit_here(&mut self, ch: u8, transfer: Transfer, cookie: u32) -> Result<u32, SubmitFault>
-        requires told { Ok cookie ≡ checked (submit_fault self.old.view ch transfer) (used (channel (object_of self.old.view) ch) + 1) }
+        requires checked { Ok cookie ≡ next_cookie self.old.view ch transfer }
         requires rules { IsTransfer transfer }
-        ensures answer { CallAnswers self.old.view (Call.Submit ch transfer) (submit_reply result) self.new.view }
+        ensures answer { CallAnswers self.old.view (Call.Submit ch transfer) (submit_reply result)
+            self.new.view }
         ensures back { IfErr result (λ refused. refused.transfer ≡ transfer) }
-        ensures room { HasRoom self.old ch → IfErr result (λ refused. refused.fault ≢ EngineFault.NoMemory) }
+        ensures room { HasRoom self.old ch
+            → IfErr result (λ refused. refused.fault ≢ EngineFault.NoMemory) }
         ensures kept { OnErr result (KeepsRoom self.old self.new) }
     {
         let Ok(()) = self.history.reserve(1) else {
@@ -65,9 +69,10 @@ impl Engine {
         };
         let index = self.history.len();
         let queue = &mut self.queues[usize::from(ch)];
-        let Ok(()) = queue.indices.add(index) else {
+        let Ok(()) = queue.indices.make_room(1) else {
             return Err(SubmitFault::no_memory(transfer));
         };
+        queue.indices.add(index);
         queue.given = cookie;
         self.history.push_reserved(Entry::Submitted {
             ch,
@@ -81,18 +86,10 @@ impl Engine {
     pub(super) fn submit_copy(&mut self, ch: u8, transfer: &Transfer) -> Reply
         ensures { CallAnswers self.old.view (Call.Submit ch transfer.now) result self.new.view }
     {
-        match self.check_submit(ch, transfer) {
-            Ok(cookie) => self.submit_checked(ch, transfer, cookie),
-            Err(fault) => Reply::Refused(fault),
-        }
-    }
-
-    // Submits a copy of a transfer that was checked, with its cookie. It fails only when out of memory.
-    fn submit_checked(&mut self, ch: u8, transfer: &Transfer, cookie: u32) -> Reply
-        requires told { Ok cookie ≡ checked (submit_fault self.old.view ch transfer.now) (used (channel (object_of self.old.view) ch) + 1) }
-        requires rules { IsTransfer transfer.now }
-        ensures { CallAnswers self.old.view (Call.Submit ch transfer.now) result self.new.view }
-    {
+        let cookie = match self.check_submit(ch, transfer) {
+            Ok(cookie) => cookie,
+            Err(fault) => return Reply::Refused(fault),
+        };
         let Ok(copy) = transfer.try_copy() else {
             return Reply::Refused(EngineFault::NoMemory);
         };
@@ -106,8 +103,9 @@ impl Engine {
     ///
     /// The error is `NoChannel`, else `NoMemory`.
     pub fn issue(&mut self, ch: u8) -> Result<u32, EngineFault>
-        ensures answer { CallAnswers self.old.view (Call.Issue ch) (reply_of (λ count. Reply.Count count) result) self.new.view }
-        ensures room { HasRoom self.old ch → IfErr result (λ fault. fault ≢ EngineFault.NoMemory) }
+        ensures answer { CallAnswers self.old.view (Call.Issue ch) (count_reply result)
+            self.new.view }
+        ensures room { HasRoom self.old ch → HasMemory result }
         ensures kept { OnErr result (KeepsRoom self.old self.new) }
     {
         let index = self.index_of(ch)?;
@@ -125,7 +123,8 @@ impl Engine {
     ///
     /// The error is `NoChannel`.
     pub fn pause(&mut self, ch: u8) -> Result<(), EngineFault>
-        ensures answer { CallAnswers self.old.view (Call.Pause ch) (reply_of (λ _. Reply.Done) result) self.new.view }
+        ensures answer { CallAnswers self.old.view (Call.Pause ch) (done_reply result)
+            self.new.view }
         ensures kept { KeepsRoom self.old self.new }
     {
         self.set_paused(ch, true)
@@ -136,7 +135,8 @@ impl Engine {
     ///
     /// The error is `NoChannel`.
     pub fn resume(&mut self, ch: u8) -> Result<(), EngineFault>
-        ensures answer { CallAnswers self.old.view (Call.Resume ch) (reply_of (λ _. Reply.Done) result) self.new.view }
+        ensures answer { CallAnswers self.old.view (Call.Resume ch) (done_reply result)
+            self.new.view }
         ensures kept { KeepsRoom self.old self.new }
     {
         self.set_paused(ch, false)
@@ -144,7 +144,8 @@ impl Engine {
 
     // Sets whether a channel is paused.
     fn set_paused(&mut self, ch: u8, paused: bool) -> Result<(), EngineFault>
-        ensures answer { CallAnswers self.old.view (if paused then Call.Pause ch else Call.Resume ch) (reply_of (λ _. Reply.Done) result) self.new.view }
+        ensures answer { CallAnswers self.old.view
+            (if paused then Call.Pause ch else Call.Resume ch) (done_reply result) self.new.view }
         ensures kept { KeepsRoom self.old self.new }
     {
         let index = self.index_of(ch)?;
@@ -159,8 +160,9 @@ impl Engine {
     ///
     /// The error is `NoChannel`, else `NoMemory`.
     pub fn terminate(&mut self, ch: u8) -> Result<u32, EngineFault>
-        ensures answer { CallAnswers self.old.view (Call.Terminate ch) (reply_of (λ count. Reply.Count count) result) self.new.view }
-        ensures room { HasRoom self.old ch → IfErr result (λ fault. fault ≢ EngineFault.NoMemory) }
+        ensures answer { CallAnswers self.old.view (Call.Terminate ch) (count_reply result)
+            self.new.view }
+        ensures room { HasRoom self.old ch → HasMemory result }
         ensures kept { OnErr result (KeepsRoom self.old self.new) }
     {
         let index = self.index_of(ch)?;
@@ -184,8 +186,9 @@ impl Engine {
         ensures memory { self.new.memory ≡ self.old.memory }
         ensures made { OnOk result (HasRoom self.new ch) }
         ensures answer { IfOk result (λ _. channel_fault self.old.view ch ≡ None) }
-        ensures err { IfErr result (λ fault. fault ≡ unwrap_or (channel_fault self.old.view ch) EngineFault.NoMemory) }
-        ensures room { HasRoom self.old ch → IfErr result (λ fault. fault ≢ EngineFault.NoMemory) }
+        ensures err { IfErr result
+            (λ fault. fault ≡ unwrap_or (channel_fault self.old.view ch) EngineFault.NoMemory) }
+        ensures room { HasRoom self.old ch → HasMemory result }
         ensures kept { KeepsRoom self.old self.new }
     {
         let index = self.index_of(ch)?;

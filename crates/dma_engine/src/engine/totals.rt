@@ -21,7 +21,7 @@ fn kept_by(entry: &Entry) -> usize
 
 // Returns how many bytes these entries keep, or `u64::MAX` if there are more.
 fn kept_in(history: &[Entry]) -> u64
-    ensures { result ≡ min (kept_bytes history.now) 18446744073709551615 }
+    ensures { result ≡ min (kept_bytes history.now) u64.MAX }
 {
     let mut kept = 0u64;
     for index in 0..history.len() {
@@ -34,7 +34,7 @@ impl Engine {
     /// Returns how many bytes the history keeps for writes and reads, or `u64::MAX` if there are more. It looks at
     /// every entry.
     pub fn history_bytes(&self) -> u64
-        ensures { result ≡ min (kept_bytes self.now.view.history) 18446744073709551615 }
+        ensures { result ≡ min (kept_bytes self.now.view.history) u64.MAX }
     {
         kept_in(self.history())
     }

@@ -1,9 +1,10 @@
 -- What the last of several consecutive steps did.
 use Rattle.std.specs.Prelude.{ℕ, zero, suc, Option, Some}
+use Rattle.std.specs.Option.{option_map}
 use Rattle.dma_engine.specs.declared.turn.Turn.{Turn}
-use Rattle.dma_engine.specs.declared.turn.Turn.TheVariants.{Moved}
+use Rattle.dma_engine.specs.declared.turn.Turn.TheVariants.{Started, Moved}
 
--- What the last step did, once n more steps have moved: the former answer if n is 0, else `Moved`.
-abbrev pub after_moves : ℕ → Option Turn → Option Turn
-after_moves zero last = last
-after_moves (suc n) last = Some Moved
+-- What the last step did of a start, if any, and of steps that moved after it.
+abbrev pub turn_before : Option ℕ → ℕ → Option Turn
+turn_before started zero = option_map Started started
+turn_before started (suc moved) = Some Moved

@@ -1,8 +1,9 @@
 -- How a transfer keeps its sources.
-use Rattle.std.specs.Prelude.{List, [], ◌∷◌, Bool, true, false}
+use Rattle.std.specs.Prelude.{ℕ, List, [], ◌∷◌, Bool, true, false, Option}
 use Rattle.dma_mem.specs.declared.segment.Segment.{Segment}
 use Rattle.dma_mem.specs.declared.transfer.Origin.{Origin}
 use Rattle.dma_mem.specs.declared.transfer.Origin.TheVariants as origins
+use Rattle.dma_mem.specs.Places.{Descriptor}
 
 -- the segments, whether there is a list of them or one place
 abbrev pub segments_of : Origin → List Segment
@@ -13,3 +14,8 @@ segments_of (origins.Place segment) = segment ∷ []
 abbrev pub is_place : Origin → Bool
 is_place (origins.List segments) = false
 is_place (origins.Place segment) = true
+
+-- what contracts see of a transfer that is stored like this
+abbrev pub descriptor_of : Origin → List Segment → Option ℕ → Option ℕ → Descriptor
+descriptor_of src dst wait signal =
+    record { fill = is_place src; src = segments_of src; dst = dst; wait = wait; signal = signal }

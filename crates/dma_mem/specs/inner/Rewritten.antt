@@ -1,9 +1,9 @@
 -- Regions of a caller's memory, by index, and after a write to them.
-use Rattle.std.specs.Prelude.{◌≡◌, ℕ, ◌+◌, ◌≤◌, List, [], length, map, slice_index_or, IsTrue}
+use Rattle.std.specs.Prelude.{◌≡◌, ℕ, ◌+◌, ◌≤◌, List, [], length, slice_index_or, IsTrue}
 use Rattle.dma_mem.specs.declared.regions.Region.{Region}
 use Rattle.dma_mem.specs.Image.{put, bytes_at}
 use Rattle.dma_mem.specs.Lent.{Avoids}
-use Rattle.dma_mem.specs.Regions.{Piece, end_of, pieces_of, in_order, image_of, gaps_of}
+use Rattle.dma_mem.specs.Regions.{Piece, end_of, pieces_of, in_order, image_of, gaps_of, names_of}
 
 -- what is at an index past the last piece
 abbrev pub nowhere : Piece
@@ -11,10 +11,6 @@ nowhere = record { addr = 0; bytes = [] }
 
 abbrev pub piece_at : List Piece → ℕ → Piece
 piece_at ps k = slice_index_or ps k nowhere
-
--- the names of the loans of regions
-abbrev pub names_of : List Region → List ℕ
-names_of regions = map (λ r. r.bytes.ghost_name) regions
 
 -- The piece at an index has the `len` addresses from `addr` on.
 pub record Holds (ps : List Piece) (index addr len : ℕ) : Type 0 where

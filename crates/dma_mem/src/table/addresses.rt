@@ -1,19 +1,21 @@
-//! A table by addresses: page after page, each of 4,096 bytes. The loops over pages are out of line: a burst mostly lies on
-//! one page, and a channel's loop of instructions has no room for them.
+//! A table by addresses: page after page, each of 4,096 bytes. The loops over pages are out of line: a burst mostly
+//! lies on one page, and a channel's loop of instructions has no room for them.
 
-ghost use Rattle.std.specs.Prelude.{◌≡◌, ◌≢◌, ℕ, ◌+◌, ◌*◌, ◌/◌, ◌%◌, ◌<◌, ◌≤◌, ◌++◌, ◌^◌, length, slice_index, true, false, IfOk, IfSome, IsSome, OnOk, OnErr};
-ghost use Rattle.dma_mem.specs.Image.{put, bytes_at};
-ghost use Rattle.dma_mem.specs.inner.PageTable.{page_at, image_of};
+ghost use Rattle.std.specs.Prelude.{◌≡◌, ℕ, ◌+◌, ◌*◌, ◌%◌, ◌<◌, ◌≤◌, ◌++◌, ◌^◌, length, true, false, IfOk, IfSome, IsSome, OnOk, OnErr};
+ghost use Rattle.dma_mem.specs.Pages.{page_size};
+ghost use Rattle.dma_mem.specs.inner.PageTable.{page_at, AreBytesFrom, IsPageOutside, PutsBytes, RangeMade, RangeMissing, SameBytes, SameLengths};
 
-use crate::table::{PAGE_SIZE, Table, shown};
+use crate::memory::PAGE_SIZE;
+use crate::table::{Table, shown};
 use std::alloc::{AllocError, Global};
 
 impl Table {
     /// Returns the `len` bytes from `start` on, where they are on one page.
     pub(crate) fn part(&self, start: usize, len: usize) -> Option<&[u8]>
         requires { start + len < 2 ^ 33 }
-        ensures bytes { IfSome result (λ part. (length part.now ≡ len) × ((k : ℕ) → k < length part.now → slice_index part.now k ≡ slice_index (page_at self.now ((start + k) / 4096)) ((start + k) % 4096))) }
-        ensures some { start % 4096 + len ≤ 4096 → IsSome result }
+        ensures bytes { IfSome result
+            (λ part. (length part.now ≡ len) × AreBytesFrom self.now start part.now) }
+        ensures some { start % page_size + len ≤ page_size → IsSome result }
     {
         let offset = start % PAGE_SIZE;
         if offset + len > PAGE_SIZE {
@@ -27,7 +29,7 @@ impl Table {
     #[inline(never)]
     pub(crate) fn read(&self, start: usize, buf: &mut [u8])
         requires { start + length buf.old < 2 ^ 33 }
-        ensures { (k : ℕ) → k < length buf.new → slice_index buf.new k ≡ slice_index (page_at self.now ((start + k) / 4096)) ((start + k) % 4096) }
+        ensures { AreBytesFrom self.now start buf.new }
     {
         let mut done = 0;
         while done < buf.len() {
@@ -40,7 +42,7 @@ impl Table {
         }
     }
 
-    /// A list of the `len` bytes from `start` on: none of them is cleared before it is copied.
+    /// Returns a list of the `len` bytes from `start` on: none of them is cleared before it is copied.
     pub(crate) fn to_vec(
         &self,
         alloc: Global,
@@ -48,7 +50,8 @@ impl Table {
         len: usize,
     ) -> Result<Vec<u8>, AllocError>
         requires { start + len < 2 ^ 33 }
-        ensures { IfOk result (λ list. (length list.items ≡ len) × ((k : ℕ) → k < length list.items → slice_index list.items k ≡ slice_index (page_at self.now ((start + k) / 4096)) ((start + k) % 4096))) }
+        ensures { IfOk result
+            (λ list. (length list.items ≡ len) × AreBytesFrom self.now start list.items) }
     {
         let mut list = Vec::with_capacity(alloc, len)?;
         while list.len() < len {
@@ -65,14 +68,16 @@ impl Table {
     #[inline(never)]
     pub(crate) fn make(&mut self, start: usize, end: usize) -> Result<(), AllocError>
         requires order { start ≤ end }
-        requires within { end ≤ 4096 * length self.old }
+        requires within { end ≤ page_size * length self.old }
         requires limit { end < 2 ^ 33 }
         ensures count { length self.new ≡ length self.old }
-        ensures made { OnOk result ((a : ℕ) → start ≤ a → a < end → 0 < length (page_at self.new (a / 4096))) }
-        ensures short { OnErr result ((a : ℕ) × (start ≤ a) × (a < end) × (length (page_at self.new (a / 4096)) ≡ 0)) }
-        ensures bytes { (p k : ℕ) → slice_index (page_at self.new p) k ≡ slice_index (page_at self.old p) k }
-        ensures kept { (p : ℕ) → 0 < length (page_at self.old p) → page_at self.new p ≡ page_at self.old p }
-        ensures others { (p : ℕ) → ((a : ℕ) → start ≤ a → a < end → a / 4096 ≢ p) → page_at self.new p ≡ page_at self.old p }
+        ensures made { OnOk result (RangeMade self.new start end) }
+        ensures short { OnErr result (RangeMissing self.new start end) }
+        ensures bytes { (p : ℕ) → SameBytes (page_at self.old p) (page_at self.new p) }
+        ensures kept { (p : ℕ) → 0 < length (page_at self.old p)
+            → page_at self.new p ≡ page_at self.old p }
+        ensures others { (p : ℕ) → IsPageOutside p start end
+            → page_at self.new p ≡ page_at self.old p }
     {
         if start == end {
             return Ok(());
@@ -83,12 +88,12 @@ impl Table {
         Ok(())
     }
 
-    /// Whether the pages of the addresses from `start` to before `end` are made.
+    /// Returns whether the pages of the addresses from `start` to before `end` are made.
     pub(crate) fn are_made(&self, start: usize, end: usize) -> bool
         requires order { start < end }
         requires limit { end < 2 ^ 33 }
-        ensures yes { result ≡ true → (a : ℕ) → start ≤ a → a < end → 0 < length (page_at self.now (a / 4096)) }
-        ensures no { result ≡ false → (a : ℕ) × (start ≤ a) × (a < end) × (length (page_at self.now (a / 4096)) ≡ 0) }
+        ensures yes { result ≡ true → RangeMade self.now start end }
+        ensures no { result ≡ false → RangeMissing self.now start end }
     {
         for number in start / PAGE_SIZE..(end - 1) / PAGE_SIZE + 1 {
             if self.page(number).is_empty() {
@@ -102,10 +107,10 @@ impl Table {
     #[inline(never)]
     fn put(&mut self, start: usize, bytes: &[u8])
         requires limit { start + length bytes.now < 2 ^ 33 }
-        requires made { (a : ℕ) → start ≤ a → a < start + length bytes.now → 0 < length (page_at self.old (a / 4096)) }
-        ensures len { (p : ℕ) → length (page_at self.new p) ≡ length (page_at self.old p) }
+        requires made { RangeMade self.old start (start + length bytes.now) }
+        ensures len { SameLengths self.old self.new }
         ensures count { length self.new ≡ length self.old }
-        ensures image { (size : ℕ) → image_of size self.new ≡ put (image_of size self.old) (bytes_at start bytes.now) }
+        ensures image { PutsBytes self.old self.new start bytes.now }
     {
         let mut done = 0;
         while done < bytes.len() {
@@ -117,14 +122,14 @@ impl Table {
         }
     }
 
-    /// Puts the bytes of two slices, those of the second behind those of the first, at `start` and after it, on pages that
-    /// are made: one look-up where they are on one page.
+    /// Puts the bytes of two slices, those of the second behind those of the first, at `start` and after it, on pages
+    /// that are made: one look-up where they are on one page.
     pub(crate) fn put_parts(&mut self, start: usize, front: &[u8], back: &[u8])
         requires limit { start + length front.now + length back.now < 2 ^ 33 }
-        requires made { (a : ℕ) → start ≤ a → a < start + length front.now + length back.now → 0 < length (page_at self.old (a / 4096)) }
-        ensures len { (p : ℕ) → length (page_at self.new p) ≡ length (page_at self.old p) }
+        requires made { RangeMade self.old start (start + length front.now + length back.now) }
+        ensures len { SameLengths self.old self.new }
         ensures count { length self.new ≡ length self.old }
-        ensures image { (size : ℕ) → image_of size self.new ≡ put (image_of size self.old) (bytes_at start (front.now ++ back.now)) }
+        ensures image { PutsBytes self.old self.new start (front.now ++ back.now) }
     {
         let offset = start % PAGE_SIZE;
         let len = front.len() + back.len();
@@ -138,15 +143,17 @@ impl Table {
 
     /// Puts the bytes at `start` and after it, and makes their pages first: one look-up where they are on one page.
     pub(crate) fn write(&mut self, start: usize, bytes: &[u8]) -> Result<(), AllocError>
-        requires within { start + length bytes.now ≤ 4096 * length self.old }
+        requires within { start + length bytes.now ≤ page_size * length self.old }
         requires limit { start + length bytes.now < 2 ^ 33 }
         ensures count { length self.new ≡ length self.old }
-        ensures made { OnOk result ((a : ℕ) → start ≤ a → a < start + length bytes.now → 0 < length (page_at self.new (a / 4096))) }
-        ensures short { OnErr result ((a : ℕ) × (start ≤ a) × (a < start + length bytes.now) × (length (page_at self.new (a / 4096)) ≡ 0)) }
-        ensures ok { OnOk result ((size : ℕ) → image_of size self.new ≡ put (image_of size self.old) (bytes_at start bytes.now)) }
-        ensures err { OnErr result ((p k : ℕ) → slice_index (page_at self.new p) k ≡ slice_index (page_at self.old p) k) }
+        ensures made { OnOk result (RangeMade self.new start (start + length bytes.now)) }
+        ensures short { OnErr result (RangeMissing self.new start (start + length bytes.now)) }
+        ensures ok { OnOk result (PutsBytes self.old self.new start bytes.now) }
+        ensures err { OnErr result
+            ((p : ℕ) → SameBytes (page_at self.old p) (page_at self.new p)) }
         ensures kept { (p : ℕ) → 0 < length (page_at self.old p) → 0 < length (page_at self.new p) }
-        ensures others { (p : ℕ) → ((a : ℕ) → start ≤ a → a < start + length bytes.now → a / 4096 ≢ p) → length (page_at self.new p) ≡ length (page_at self.old p) }
+        ensures others { (p : ℕ) → IsPageOutside p start (start + length bytes.now)
+            → length (page_at self.new p) ≡ length (page_at self.old p) }
     {
         if bytes.is_empty() {
             return Ok(());

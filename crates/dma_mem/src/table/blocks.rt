@@ -1,17 +1,19 @@
 //! Copies and fills of blocks of bytes, whose destination is on pages that are made.
 
-ghost use Rattle.std.specs.Prelude.{◌≡◌, ℕ, ◌+◌, ◌/◌, ◌%◌, ◌<◌, ◌≤◌, ◌⊎◌, ◌^◌, length, slice_set};
+ghost use Rattle.std.specs.Prelude.{◌≡◌, ◌+◌, ◌%◌, ◌<◌, ◌≤◌, ◌⊎◌, ◌^◌, length, slice_set};
 ghost use Rattle.dma_mem.specs.inner.Blocks.{copied, filled, CopiesBlock, FillsBlock};
-ghost use Rattle.dma_mem.specs.inner.PageTable.{page_at};
+ghost use Rattle.dma_mem.specs.Pages.{page_size};
+ghost use Rattle.dma_mem.specs.inner.PageTable.{page_at, page_of, RangeMade, SameLengths};
 
-use crate::table::{GROUP_SIZE, Group, PAGE_SIZE, Page, Table, put_bytes, shown};
+use crate::memory::PAGE_SIZE;
+use crate::table::{GROUP_SIZE, Group, Page, Table, put_bytes, shown};
 use std::mem;
 
 // Returns how many of the `len` bytes from `start` on lie on the page of the first.
 fn on_one_page(start: usize, len: usize) -> usize
     ensures most { result ≤ len }
     ensures some { 0 < len → 0 < result }
-    ensures fits { start % 4096 + result ≤ 4096 }
+    ensures fits { start % page_size + result ≤ page_size }
 {
     len.min(PAGE_SIZE - start % PAGE_SIZE)
 }
@@ -25,8 +27,8 @@ pub(crate) fn copy_bytes(all: &mut [u8], from: usize, to: usize, len: usize)
     all.copy_within(from..from + len, to);
 }
 
-// Copies the `len` bytes of a slice from `from` on to the places from `to` on, where the two ranges share no place: as one
-// block, while `copy_bytes` copies byte by byte.
+// Copies the `len` bytes of a slice from `from` on to the places from `to` on, where the two ranges share no place: as
+// one block, while `copy_bytes` copies byte by byte.
 pub(crate) fn copy_bytes_apart(all: &mut [u8], from: usize, to: usize, len: usize)
     requires source { from + len ≤ length all.old }
     requires within { to + len ≤ length all.old }
@@ -54,9 +56,9 @@ impl Page {
     // Copies the `len` bytes of the page from `from` on to the places from `to` on.
     fn copy_within(&mut self, from: usize, to: usize, len: usize)
         requires made { 0 < length self.old }
-        requires source { from + len ≤ 4096 }
-        requires within { to + len ≤ 4096 }
-        ensures whole { length self.new ≡ 4096 }
+        requires source { from + len ≤ page_size }
+        requires within { to + len ≤ page_size }
+        ensures whole { length self.new ≡ page_size }
         ensures len { length self.new ≡ length self.old }
         ensures bytes { self.new ≡ copied self.old from to len }
     {
@@ -66,8 +68,8 @@ impl Page {
     // Sets the `len` bytes of the page from an offset on to one byte.
     fn fill(&mut self, offset: usize, len: usize, byte: u8)
         requires made { 0 < length self.old }
-        requires fits { offset + len ≤ 4096 }
-        ensures whole { length self.new ≡ 4096 }
+        requires fits { offset + len ≤ page_size }
+        ensures whole { length self.new ≡ page_size }
         ensures len { length self.new ≡ length self.old }
         ensures bytes { self.new ≡ filled self.old offset len byte }
     {
@@ -88,9 +90,10 @@ impl Group {
     // Sets the `len` bytes from an offset on of a page that is made to one byte.
     fn fill(&mut self, index: usize, offset: usize, len: usize, byte: u8)
         requires made { 0 < length (page_at self.old index) }
-        requires fits { offset + len ≤ 4096 }
-        ensures whole { length (page_at self.old index) ≡ 4096 }
-        ensures new { self.new ≡ slice_set self.old index (filled (page_at self.old index) offset len byte) }
+        requires fits { offset + len ≤ page_size }
+        ensures whole { length (page_at self.old index) ≡ page_size }
+        ensures new { self.new
+            ≡ slice_set self.old index (filled (page_at self.old index) offset len byte) }
     {
         let page = &mut self.pages[index];
         page.fill(offset, len, byte);
@@ -102,10 +105,10 @@ impl Table {
     //
     // The destination's page is taken out of the table for the copy, so that the source's page can be read in place.
     fn copy_on_pages(&mut self, from: usize, to: usize, len: usize)
-        requires source { from % 4096 + len ≤ 4096 }
-        requires within { to % 4096 + len ≤ 4096 }
-        requires made { 0 < length (page_at self.old (to / 4096)) }
-        ensures len { (p : ℕ) → length (page_at self.new p) ≡ length (page_at self.old p) }
+        requires source { from % page_size + len ≤ page_size }
+        requires within { to % page_size + len ≤ page_size }
+        requires made { 0 < length (page_of self.old to) }
+        ensures len { SameLengths self.old self.new }
         ensures count { length self.new ≡ length self.old }
         ensures image { CopiesBlock self.old self.new from to len }
     {
@@ -122,15 +125,15 @@ impl Table {
         self.groups[number / GROUP_SIZE].replace(number % GROUP_SIZE, page);
     }
 
-    /// Copies the `len` bytes from address `from` on to the addresses from `to` on, whose pages are made. The two ranges share
-    /// no address.
+    /// Copies the `len` bytes from address `from` on to the addresses from `to` on, whose pages are made. The two
+    /// ranges share no address.
     #[inline(never)]
     pub(crate) fn copy_apart(&mut self, from: usize, to: usize, len: usize)
         requires source { from + len < 2 ^ 33 }
         requires limit { to + len < 2 ^ 33 }
-        requires made { (a : ℕ) → to ≤ a → a < to + len → 0 < length (page_at self.old (a / 4096)) }
+        requires made { RangeMade self.old to (to + len) }
         requires apart { (from + len ≤ to) ⊎ (to + len ≤ from) }
-        ensures len { (p : ℕ) → length (page_at self.new p) ≡ length (page_at self.old p) }
+        ensures len { SameLengths self.old self.new }
         ensures count { length self.new ≡ length self.old }
         ensures image { CopiesBlock self.old self.new from to len }
     {
@@ -145,9 +148,9 @@ impl Table {
 
     // Sets `len` bytes that lie on one page, which is made, to one byte.
     fn fill_on_page(&mut self, start: usize, len: usize, byte: u8)
-        requires within { start % 4096 + len ≤ 4096 }
-        requires made { 0 < length (page_at self.old (start / 4096)) }
-        ensures len { (p : ℕ) → length (page_at self.new p) ≡ length (page_at self.old p) }
+        requires within { start % page_size + len ≤ page_size }
+        requires made { 0 < length (page_of self.old start) }
+        ensures len { SameLengths self.old self.new }
         ensures count { length self.new ≡ length self.old }
         ensures image { FillsBlock self.old self.new start len byte }
     {
@@ -160,8 +163,8 @@ impl Table {
     #[inline(never)]
     pub(crate) fn fill(&mut self, start: usize, len: usize, byte: u8)
         requires limit { start + len < 2 ^ 33 }
-        requires made { (a : ℕ) → start ≤ a → a < start + len → 0 < length (page_at self.old (a / 4096)) }
-        ensures len { (p : ℕ) → length (page_at self.new p) ≡ length (page_at self.old p) }
+        requires made { RangeMade self.old start (start + len) }
+        ensures len { SameLengths self.old self.new }
         ensures count { length self.new ≡ length self.old }
         ensures image { FillsBlock self.old self.new start len byte }
     {

@@ -1,7 +1,7 @@
 //! The rules of a transfer, tested one after another.
 
 ghost use Rattle.std.specs.Prelude.{◌≡◌, ◌+◌, ◌<◌, ◌≤◌, All, IfOk, IfErr, MatchResult, length, OnOk};
-ghost use Rattle.dma_mem.specs.Places.{Descriptor, filling, places, range_of, share};
+ghost use Rattle.dma_mem.specs.Places.{Descriptor, filling, most_segments, places, range_of, share};
 ghost use Rattle.dma_mem.specs.Meeting.{meets};
 ghost use Rattle.std.specs.List.{list_any};
 ghost use Rattle.std.specs.List.Sorted.{IsNonDecreasingBy};
@@ -9,81 +9,81 @@ ghost use Rattle.dma_mem.specs.declared.segment.Segment.{Segment};
 ghost use Rattle.dma_mem.specs.inner.Checking.{may_differ};
 ghost use Rattle.dma_mem.specs.Refusals.{refusal_of, refusal_of_fill, overlap_of, total, some_meet, meets_any, has_empty_segment, has_wrapping_segment, is_bad_event};
 
-use crate::ordered::{any_meets_ordered, end_of, sort_by_address};
+use crate::ordered::{any_meets_ordered, sort_by_address};
 use crate::segment::{Segment, meets};
 use crate::transfer::{LAST_EVENT, MAX_BYTES, MAX_SEGMENTS, TransferFault};
 
 /// One past the last address (PL330 manual, 32-bit address registers).
 const END_OF_ADDRESSES: u64 = 4_294_967_296;
 
-// Whether a segment of the list has no byte.
+// Returns whether a segment of the list has no byte.
 fn has_empty_segment(list: &[Segment]) -> bool
     ensures { result ≡ has_empty_segment list.now }
 {
     list.iter().any(|s| s.len == 0)
 }
 
-// Whether a segment of the list ends above the last address.
+// Returns whether a segment of the list ends above the last address.
 fn has_wrapping_segment(list: &[Segment]) -> bool
     ensures { result ≡ has_wrapping_segment list.now }
 {
-    list.iter().any(|s| u64::from(s.addr) + u64::from(s.len) > END_OF_ADDRESSES)
+    list.iter().any(|s| s.end() > END_OF_ADDRESSES)
 }
 
-// How many bytes a list has.
+// Returns how many bytes a list has.
 fn total(list: &[Segment]) -> u64
-    requires { length list.now ≤ 64 }
+    requires { length list.now ≤ most_segments }
     ensures { result ≡ total list.now }
 {
     list.iter().map(|s| u64::from(s.len)).sum()
 }
 
-// Whether the segment meets one of the others.
+// Returns whether the segment meets one of the others.
 fn meets_one(s: Segment, others: &[Segment]) -> bool
     ensures { result ≡ list_any (meets s) others.now }
 {
     others.iter().any(|other| meets(s, *other))
 }
 
-// Whether a segment of the list meets one of the others.
+// Returns whether a segment of the list meets one of the others.
 fn meets_any(list: &[Segment], others: &[Segment]) -> bool
     ensures { result ≡ meets_any list.now others.now }
 {
     list.iter().any(|s| meets_one(*s, others))
 }
 
-// Whether the list has an address of the segment.
+// Returns whether the list has an address of the segment.
 pub(crate) fn meets_list(s: Segment, list: &[Segment]) -> bool
     ensures { result ≡ share (range_of s) (places list.now) }
 {
     meets_one(s, list)
 }
 
-// Whether the lists have an address in common.
+// Returns whether the lists have an address in common.
 pub(crate) fn lists_meet(list: &[Segment], others: &[Segment]) -> bool
     ensures { result ≡ share (places list.now) (places others.now) }
 {
     meets_any(list, others)
 }
 
-// Whether two of the segments meet, which are in the order of their first addresses: then two neighbours do.
+// Returns whether two of the segments meet, which are in the order of their first addresses: then two neighbours do.
 fn neighbours_meet(sorted: &[Segment]) -> bool
     requires filled { All (λ s. 0 < s.len) sorted.now }
     requires rising { IsNonDecreasingBy (λ (s : Segment). s.addr) sorted.now }
     ensures { result ≡ some_meet sorted.now }
 {
     for next in 1..sorted.len() {
-        if u64::from(sorted[next].addr) < end_of(sorted[next - 1]) {
+        if u64::from(sorted[next].addr) < sorted[next - 1].end() {
             return true;
         }
     }
     false
 }
 
-// How the lists overlap: two destinations meet, or else a source meets one. The destinations are sorted on the stack, so
-// that this takes no memory and each question a binary search.
+// Returns how the lists overlap: two destinations meet, or else a source meets one. The destinations are sorted on the
+// stack, so that this takes no memory and each question a binary search.
 fn overlap_of_many(src: &[Segment], dst: &[Segment]) -> Option<TransferFault>
-    requires few { length dst.now ≤ 64 }
+    requires few { length dst.now ≤ most_segments }
     requires filled { All (λ s. 0 < s.len) dst.now }
     ensures { result ≡ overlap_of src.now dst.now }
 {
@@ -100,9 +100,9 @@ fn overlap_of_many(src: &[Segment], dst: &[Segment]) -> Option<TransferFault>
     }
 }
 
-// The same, without the sort where there is one destination.
+// Returns the same, without the sort where there is one destination.
 fn overlap(src: &[Segment], dst: &[Segment]) -> Option<TransferFault>
-    requires few { length dst.now ≤ 64 }
+    requires few { length dst.now ≤ most_segments }
     requires filled { All (λ s. 0 < s.len) dst.now }
     ensures { result ≡ overlap_of src.now dst.now }
 {
@@ -112,21 +112,22 @@ fn overlap(src: &[Segment], dst: &[Segment]) -> Option<TransferFault>
     meets_any(src, dst).then_some(TransferFault::SourceMeetsDestination)
 }
 
-// Whether the event is above the last.
+// Returns whether the event is above the last.
 fn is_bad_event(event: Option<u8>) -> bool
     ensures { result ≡ is_bad_event event }
 {
     event.is_some_and(|e| e > LAST_EVENT)
 }
 
-// Which totals the two lists of a transfer may have: a copy's are the same, and the one byte of a fill goes to any number.
+// Which totals the two lists of a transfer may have: a copy's are the same, and the one byte of a fill goes to any
+// number.
 #[derive(Clone, Copy, PartialEq, Eq)]
 pub(crate) enum Totals {
     Same,
     Any,
 }
 
-// How many bytes a transfer of these lists copies, or a fill, or the first refusal that holds.
+// Returns how many bytes a transfer of these lists copies, or a fill, or the first refusal that holds.
 pub(crate) fn checked_len(
     totals: Totals,
     src: &[Segment],
@@ -134,8 +135,15 @@ pub(crate) fn checked_len(
     wait: Option<u8>,
     signal: Option<u8>,
 ) -> Result<u32, TransferFault>
-    ensures { let t : Descriptor = record { fill = may_differ totals; src = src.now; dst = dst.now; wait = wait; signal = signal } in
-        MatchResult result (λ len. (refusal_of t ≡ None) × (len ≡ total dst.now)) (λ fault. refusal_of t ≡ Some fault) }
+    ensures { let t : Descriptor = record {
+      fill = may_differ totals;
+      src = src.now;
+      dst = dst.now;
+      wait = wait;
+      signal = signal;
+    } in
+        MatchResult result (λ len. (refusal_of t ≡ None) × (len ≡ total dst.now))
+        (λ fault. refusal_of t ≡ Some fault) }
 {
     if src.is_empty() || dst.is_empty() {
         return Err(TransferFault::EmptyList);
@@ -172,7 +180,8 @@ pub(crate) fn checked_fill(
     wait: Option<u8>,
     signal: Option<u8>,
 ) -> Result<u32, TransferFault>
-    ensures len { IfOk result (λ len. (refusal_of (filling src dst.now wait signal) ≡ None) × (len ≡ total dst.now)) }
+    ensures len { IfOk result (λ len. (refusal_of (filling src dst.now wait signal) ≡ None)
+        × (len ≡ total dst.now)) }
     ensures accepted { OnOk result (refusal_of_fill src dst.now wait signal ≡ None) }
     ensures err { IfErr result (λ fault. refusal_of_fill src dst.now wait signal ≡ Some fault) }
 {

@@ -1,8 +1,8 @@
 -- Ticks as the code keeps them.
-use Rattle.std.specs.Prelude.{ℕ, Option, Some, None, List, [], ◌∷◌}
+use Rattle.std.specs.Prelude.{ℕ}
 use Rattle.dma_engine.specs.Ticks.{Tick, Submitted, Finished as TickFinished}
-use Rattle.dma_work.specs.declared.tick.Change.{Change}
-use Rattle.dma_work.specs.declared.tick.Change.TheVariants.{Given, Finished}
+use Rattle.dma_work.specs.declared.log.Change.{Change}
+use Rattle.dma_work.specs.declared.log.Change.TheVariants.{Given, Finished}
 
 -- a channel and what happened on it, as a tick of the engine's history
 abbrev pub tick_of : ℕ → Change → Tick
@@ -18,8 +18,3 @@ channel_of (TickFinished ch count) = ch
 abbrev pub change_of : Tick → Change
 change_of (Submitted ch) = Given
 change_of (TickFinished ch count) = Finished count
-
--- a list of one tick, or of none
-abbrev pub those : Option Tick → List Tick
-those (Some t) = t ∷ []
-those None = []

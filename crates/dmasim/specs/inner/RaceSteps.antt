@@ -1,25 +1,21 @@
 -- What the parts of a race script print.
-use Rattle.std.specs.Prelude.{◌≡◌, ℕ, ◌≤◌, List, [], ◌∷◌, ◌++◌, take, length, codes}
-use Rattle.dma_engine.specs.declared.call.Call.{Call}
+use Rattle.std.specs.Prelude.{◌≡◌, ℕ, ◌≤◌, List, [], ◌∷◌, ◌++◌, take, length, codes, OnErr, OnOk, Result}
 use Rattle.dma_engine.specs.View.{View}
 use Rattle.dma_script.specs.Command.{printed_text, text_of}
 use Rattle.dma_script.specs.declared.statements.Statement.{Statement}
 use Rattle.dma_commands.specs.Printed.{refused_line}
 use Rattle.dmasim.specs.Race.{EachPrints, EarlyPrints, Leaves, alone, go_line}
-use Rattle.dma_commands.specs.Run.{call_answer}
-
--- The line of a call is appended, with the answer of an engine with some view.
-pub record PrintsCall (call : Call) (old new : List ℕ) : Type 0 where
-  pub view : View
-  pub line : List ℕ
-  pub told : (call_answer view call).0 ≡ line ∷ []
-  pub text : new ≡ old ++ text_of (line ∷ [])
 
 -- A line that this line before `go` may print is appended.
 pub record PrintsEarly (statement : Statement) (old new : List ℕ) : Type 0 where
   pub line : List ℕ
   pub allowed : EarlyPrints statement line
   pub text : new ≡ old ++ text_of (line ∷ [])
+
+-- How a line before `go` runs: a line that it may print is appended, or it is out of memory and nothing is appended.
+pub record RunsEarly {A E : Type 0} (statement : Statement) (result : Result A E) (old new : List ℕ) : Type 0 where
+  pub ok : OnOk result (PrintsEarly statement old new)
+  pub err : OnErr result (new ≡ old)
 
 -- The first `count` of the lines before `go` have appended lines that they may print; the other lines may print
 -- something too.

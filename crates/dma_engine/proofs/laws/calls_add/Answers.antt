@@ -1,5 +1,5 @@
 use Rattle.dma_engine.proofs.CallLists.{answers-extend, chain-extends}
-use Rattle.dma_engine.proofs.AnswerCounts.{quiet_calls_keep, steps_add, ends_as_told}
+use Rattle.dma_engine.proofs.AnswerCounts.{quiet_calls_keep, steps_add, ends_as_reported}
 use Rattle.dma_engine.proofs.Checkpoint.{checkpoints_keep}
 use Rattle.dma_engine.proofs.OutcomesStay.{kept}
 use Rattle.dma_engine.proofs.CookieCounts.{submits_give, terminates_finish}
@@ -15,5 +15,5 @@ returns c =
       submit = submits_give;
       terminate = terminates_finish;
       step = steps_add;
-      ends = ends_as_told;
+      ends = ends_as_reported;
     }

@@ -1,73 +1,41 @@
-use Rattle.std.proofs.Common.{◌≡◌, ◌+◌, ◌-◌, ◌∙◌, Some, Result, Ok, Err, ap, sym, arith, inl, inr, refl}
+use Rattle.std.proofs.Common.{◌≡◌, ◌∙◌, Option, Some, Result, Ok, Err, ap, sym, refl, arith}
+use Rattle.dma_engine.specs.Advance.{steps_before}
 use Rattle.dma_engine.specs.declared.fault.EngineFault.{EngineFault}
 use Rattle.dma_engine.specs.declared.turn.Turn.{Turn}
-use Rattle.dma_ffi.specs.inner.InRow.{after_moves}
-use Rattle.dma_ffi.proofs.StepRows.{row_none, row_ok, row_err, first_refused, takes_then}
+use Rattle.dma_ffi.proofs.StepRows.{first_refused, takes_all, takes_last, takes_to_refusal}
 use Rattle.dma_ffi.proofs.steps.take_steps.Goals as goal
 
 pub returns-in-None : goal.returns-in-None
 returns-in-None c =
-    let l = c.loop-count in
-    let advanced = c.advance-advanced.result in
-    let new = c.advance-advanced.new.engine.view in
-    let row = row_none c.args.engine.now.view l.engine.view new c.args.ch l.count l.last advanced c.in-None.is l.invariant.row l.invariant.goes c.advance-advanced.ensures.answers in
-    let all : advanced.moved ≡ c.args.most - l.count = rw c.in-None.is at c.advance-advanced.ensures.all refl in
-    rw c.after_moves-last.ensures (record {
-      row = row;
-      few = omega (arith, all);
-      stops = inl (omega (arith, all));
-    })
+    let a = c.advance-steps.result in
+    let all : steps_before a ≡ c.args.most = rw c.in-None.is at c.advance-steps.ensures.all refl in
+    rw (c.steps_before-count.ensures, c.turn_before-last.ensures) (takes_all c.args.engine.now.view c.advance-steps.new.self.view c.args.ch c.args.most a c.advance-steps.ensures.answers c.in-None.is all)
 
-pub returns-then-not-goes_on : goal.returns-then-not-goes_on
-returns-then-not-goes_on c =
-    let l = c.loop-count in
-    let advanced = c.advance-advanced.result in
+pub returns-in-Some-Ok : goal.returns-in-Some-Ok
+returns-in-Some-Ok c =
+    let a = c.advance-steps.result in
     let turn = c.in-Some-Ok.turn in
-    let new = c.advance-advanced.new.engine.view in
     let what : c.in-Some-Ok.field-0 ≡ Ok turn = rw c.in-Some-Ok.is at c.in-Some-Ok.field-0-is in
-    let is : advanced.last ≡ Some (Ok turn) = c.in-Some-Ok.is ∙ ap (λ (x : Result Turn EngineFault). Some x) what in
-    let less = rw is at c.advance-advanced.ensures.other in
-    record {
-      row = row_ok c.args.engine.now.view l.engine.view new c.args.ch l.count l.last advanced turn is l.invariant.row l.invariant.goes c.advance-advanced.ensures.answers;
-      few = omega (arith, less.0);
-      stops = inr (inl (sym c.if-not-goes_on.ensures));
-    }
-
-pub returns-then-count-eq0 : goal.returns-then-count-eq0
-returns-then-count-eq0 c =
-    let l = c.loop-count in
-    let advanced = c.advance-advanced.result in
-    let fault = c.in-Some-Err.fault in
-    let new = c.advance-advanced.new.engine.view in
-    let what : c.in-Some-Err.field-0 ≡ Err fault = rw c.in-Some-Err.is at c.in-Some-Err.field-0-is in
-    let is : advanced.last ≡ Some (Err fault) = c.in-Some-Err.is ∙ ap (λ (x : Result Turn EngineFault). Some x) what in
-    let refused = row_err c.args.engine.now.view l.engine.view new c.args.ch l.count l.last advanced fault is l.invariant.row l.invariant.goes c.advance-advanced.ensures.answers in
-    (omega arith, first_refused c.args.engine.now.view new c.args.ch (l.count + advanced.moved) (after_moves advanced.moved l.last) fault c.if-count-eq0.true refused)
+    let is : a.last ≡ Some (Ok turn) = c.in-Some-Ok.is ∙ ap (λ (x : Result Turn EngineFault). Some x) what in
+    let less = rw is at c.advance-steps.ensures.other in
+    rw c.steps_before-count.ensures (takes_last c.args.engine.now.view c.advance-steps.new.self.view c.args.ch c.args.most a turn c.advance-steps.ensures.answers is less.0 less.1)
 
 pub returns-in-Some-Err : goal.returns-in-Some-Err
 returns-in-Some-Err c =
-    let l = c.loop-count in
-    let advanced = c.advance-advanced.result in
+    let a = c.advance-steps.result in
     let fault = c.in-Some-Err.fault in
-    let new = c.advance-advanced.new.engine.view in
     let what : c.in-Some-Err.field-0 ≡ Err fault = rw c.in-Some-Err.is at c.in-Some-Err.field-0-is in
-    let is : advanced.last ≡ Some (Err fault) = c.in-Some-Err.is ∙ ap (λ (x : Result Turn EngineFault). Some x) what in
-    let less = rw is at c.advance-advanced.ensures.other in
-    let refused = row_err c.args.engine.now.view l.engine.view new c.args.ch l.count l.last advanced fault is l.invariant.row l.invariant.goes c.advance-advanced.ensures.answers in
-    rw c.after_moves-last.ensures
-    (takes_then c.args.engine.now.view new c.args.ch c.args.most (l.count + advanced.moved) (after_moves advanced.moved l.last) fault (omega (arith, c.if-count-eq0.false)) (omega (arith, less.0)) refused)
+    let is : a.last ≡ Some (Err fault) = c.in-Some-Err.is ∙ ap (λ (x : Result Turn EngineFault). Some x) what in
+    let less = rw is at c.advance-steps.ensures.other in
+    let few = less.0 in
+    (omega (arith, few), first_refused c.args.engine.now.view c.advance-steps.new.self.view c.args.ch a fault c.advance-steps.ensures.answers is (sym c.steps_before-count.ensures ∙ c.if-count-eq0.true))
 
-pub loop-count-preserved : goal.loop-count-preserved
-loop-count-preserved c =
-    let l = c.loop-count in
-    let advanced = c.advance-advanced.result in
-    let turn = c.in-Some-Ok.turn in
-    let new = c.advance-advanced.new.engine.view in
-    let what : c.in-Some-Ok.field-0 ≡ Ok turn = rw c.in-Some-Ok.is at c.in-Some-Ok.field-0-is in
-    let is : advanced.last ≡ Some (Ok turn) = c.in-Some-Ok.is ∙ ap (λ (x : Result Turn EngineFault). Some x) what in
-    let less = rw is at c.advance-advanced.ensures.other in
-    record {
-      row = row_ok c.args.engine.now.view l.engine.view new c.args.ch l.count l.last advanced turn is l.invariant.row l.invariant.goes c.advance-advanced.ensures.answers;
-      goes = sym c.if-not-goes_on.ensures;
-      few = omega (arith, less.0);
-    }
+pub returns-in-Some-Err-2 : goal.returns-in-Some-Err-2
+returns-in-Some-Err-2 c =
+    let a = c.advance-steps.result in
+    let fault = c.in-Some-Err.fault in
+    let what : c.in-Some-Err.field-0 ≡ Err fault = rw c.in-Some-Err.is at c.in-Some-Err.field-0-is in
+    let is : a.last ≡ Some (Err fault) = c.in-Some-Err.is ∙ ap (λ (x : Result Turn EngineFault). Some x) what in
+    let less = rw is at c.advance-steps.ensures.other in
+    let count = c.steps_before-count.ensures in
+    rw (count, c.turn_before-last.ensures) (takes_to_refusal c.args.engine.now.view c.advance-steps.new.self.view c.args.ch c.args.most a fault c.advance-steps.ensures.answers is (omega (arith, count, c.if-count-eq0.false)) less.0)

@@ -7,7 +7,7 @@ use Rattle.dma_insn.proofs.assembler.read_text.Given as goal
 abbrev pub invariant-loop-rest : goal.invariant-loop-rest
 invariant-loop-rest l = record {
   counted : l.number + length l.rest ≤ length l.text;
-  reads : after_lines l.number l.program (text_lines l.rest) ≡ assembled l.text;
+  reads : after_lines l.number l.program.items (text_lines l.rest) ≡ assembled l.text;
 }
 
 abbrev pub decreases-loop-rest : goal.decreases-loop-rest

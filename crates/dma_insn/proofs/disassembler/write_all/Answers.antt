@@ -5,7 +5,7 @@ use Rattle.dma_insn.proofs.disassembler.write_all.Goals as goal
 pub loop-offset-preserved : goal.loop-offset-preserved
 loop-offset-preserved c = record {
   within = omega (arith, c.in-Ok.ensures.within);
-  front = written_step c.args.bytes.now _ _ c.loop-offset.offset c.in-Ok.insn c.in-Ok.count c.loop-offset.invariant.front c.in-Ok.ensures.found c.in-Ok-push_line.ensures;
+  front = written_step c.args.bytes.now _ _ c.loop-offset.offset c.in-Ok.insn c.in-Ok.count c.loop-offset.invariant.front c.in-Ok.ensures.found c.in-Ok-push.ensures.ok;
 }
 
 pub returns-clause-text : goal.returns-clause-text

@@ -9,8 +9,8 @@ found c = record {
   front = omega (arith, c.begun_below-first.ensures.bound, ap length c.deref.ensures.value);
   bound = omega (arith, c.ended_by-past.ensures.bound, ap length c.deref-2.ensures.value);
   begins = subst (λ xs. BeginBelow c.args.segment.addr xs c.begun_below-first.result) c.deref.ensures.value c.begun_below-first.ensures.first;
-  ends = subst (λ end. EndBy end c.args.ranges.now.items c.ended_by-past.result) c.end_of.ensures
-      (subst (λ xs. EndBy c.end_of.result xs c.ended_by-past.result) c.deref-2.ensures.value c.ended_by-past.ensures.first);
+  ends = subst (λ end. EndBy end c.args.ranges.now.items c.ended_by-past.result) c.end.ensures
+      (subst (λ xs. EndBy c.end.result xs c.ended_by-past.result) c.deref-2.ensures.value c.ended_by-past.ensures.first);
 }
 
 pub returns-then-segment-eq0-clause-ok : goal.returns-then-segment-eq0-clause-ok

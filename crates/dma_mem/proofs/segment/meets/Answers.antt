@@ -12,22 +12,22 @@ returns-then-a-eq0-clause-value c =
       | then-a-eq0-via-else-a-eq0+then-b-eq0 w ↦ sym (ranges_apart a.addr a.len b.addr b.len (λ x i j k l. omega arith))
     ]
 
-pub returns-then-from-end_of_b-clause-value : goal.returns-then-from-end_of_b-clause-value
-returns-then-from-end_of_b-clause-value c =
+pub returns-then-from-end-clause-value : goal.returns-then-from-end-clause-value
+returns-then-from-end-clause-value c =
     let a = c.args.a in
     let b = c.args.b in
     ranges_tested a.addr a.len b.addr b.len _ _ (omega arith) (omega arith) (omega arith) (omega arith) (omega arith)
 
-pub returns-then-from-end_of_b-clause-fact : goal.returns-then-from-end_of_b-clause-fact
-returns-then-from-end_of_b-clause-fact c =
-    share-iff _ _ _ (returns-then-from-end_of_b-clause-value c)
+pub returns-then-from-end-clause-fact : goal.returns-then-from-end-clause-fact
+returns-then-from-end-clause-fact c =
+    share-iff _ _ _ (returns-then-from-end-clause-value c)
 
-pub returns-else-from-end_of_b-clause-value : goal.returns-else-from-end_of_b-clause-value
-returns-else-from-end_of_b-clause-value c =
+pub returns-else-from-end-clause-value : goal.returns-else-from-end-clause-value
+returns-else-from-end-clause-value c =
     let a = c.args.a in
     let b = c.args.b in
     ranges_past a.addr a.len b.addr b.len _ _ (omega arith) (omega arith) (omega arith)
 
-pub returns-else-from-end_of_b-clause-fact : goal.returns-else-from-end_of_b-clause-fact
-returns-else-from-end_of_b-clause-fact c =
-    share-iff _ _ _ (returns-else-from-end_of_b-clause-value c)
+pub returns-else-from-end-clause-fact : goal.returns-else-from-end-clause-fact
+returns-else-from-end-clause-fact c =
+    share-iff _ _ _ (returns-else-from-end-clause-value c)

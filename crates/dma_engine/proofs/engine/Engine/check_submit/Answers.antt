@@ -9,8 +9,8 @@ use Rattle.dma_engine.proofs.Queues.{many-queues, holds-at, queue-there}
 use Rattle.dma_engine.proofs.Sizes.{size-is}
 use Rattle.dma_engine.proofs.engine.Engine.check_submit.Goals as goal
 
-pub returns-then-not-lies_below-clause-told : goal.returns-then-not-lies_below-clause-told
-returns-then-not-lies_below-clause-told c =
+pub returns-then-not-lies_below-clause-checked : goal.returns-then-not-lies_below-clause-checked
+returns-then-not-lies_below-clause-checked c =
     let p = parts_of c.self.inside in
     let v = c.args.self.now.view in
     let is : view_of p ≡ v = ap (λ (s : EngineState). s.view) c.self.view_is in
@@ -18,8 +18,8 @@ returns-then-not-lies_below-clause-told c =
     let out : lies_below c.args.transfer.now (size v) ≡ false = ap (lies_below c.args.transfer.now) (sym (size-is p c.self.invariant ∙ ap size is)) ∙ sym c.if-not-lies_below.ensures.below in
     check-out v c.args.ch (used (channel (object_of v) c.args.ch) + 1) c.args.transfer.now there out
 
-pub returns-then-given-ge-LAST_COOKIE-clause-told : goal.returns-then-given-ge-LAST_COOKIE-clause-told
-returns-then-given-ge-LAST_COOKIE-clause-told c =
+pub returns-then-given-ge-LAST_COOKIE-clause-checked : goal.returns-then-given-ge-LAST_COOKIE-clause-checked
+returns-then-given-ge-LAST_COOKIE-clause-checked c =
     let p = parts_of c.self.inside in
     let v = c.args.self.now.view in
     let i = c.in_ok-index.index in
@@ -32,8 +32,8 @@ returns-then-given-ge-LAST_COOKIE-clause-told c =
     let given : q.given ≡ used (channel (object_of v) i) = at.tied.given ∙ ap (λ (w : View). used (channel (object_of w) i)) is in
     rw (← c.in_ok-index.ensures.there.0) (check-spent v i _ c.args.transfer.now there below (omega (arith, given, c.if-given-ge-LAST_COOKIE.true)))
 
-pub returns-clause-told : goal.returns-clause-told
-returns-clause-told c =
+pub returns-clause-checked : goal.returns-clause-checked
+returns-clause-checked c =
     let p = parts_of c.self.inside in
     let v = c.args.self.now.view in
     let i = c.in_ok-index.index in

@@ -4,18 +4,10 @@ use Rattle.dma_engine.specs.inner.Inside.{parts_of}
 use Rattle.dma_engine.proofs.Boards.{queue-small}
 use Rattle.dma_engine.proofs.engine.Engine.finished.Goals as goal
 
-pub overflow_cast-result : goal.overflow_cast-result
-overflow_cast-result c =
+pub finished-requires : goal.finished-requires
+finished-requires c =
     let queues = c.self.inside.queues.items in
     let found = rw c.deref.ensures.value at c.in-Some.ensures.lookup in
     let less : c.from.result < length queues = ltb-true c.from.result (length queues) (sym found.0) in
     let small = queue-small (parts_of c.self.inside) c.self.invariant c.from.result c.in-Some.queue.now less found.1 in
-    omega (arith, small, c.len.ensures)
-
-pub overflow_add-result : goal.overflow_add-result
-overflow_add-result c =
-    let queues = c.self.inside.queues.items in
-    let found = rw c.deref.ensures.value at c.in-Some.ensures.lookup in
-    let less : c.from.result < length queues = ltb-true c.from.result (length queues) (sym found.0) in
-    let small = queue-small (parts_of c.self.inside) c.self.invariant c.from.result c.in-Some.queue.now less found.1 in
-    omega (arith, small, c.len.ensures)
+    omega (arith, small)

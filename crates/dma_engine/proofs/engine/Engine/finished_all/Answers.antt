@@ -14,16 +14,16 @@ overflow_add-all c =
     let p = parts_of c.self.inside in
     let i = c.loop-index.index in
     let less : i < length p.queues = omega (arith, c.loop-index-test.true, c.len-index-end.ensures, c.self.inside.queues.ok.0) in
-    let small = queue-small p c.self.invariant i c.index-cookies.result.now less c.index-cookies.ensures in
-    omega (arith, few-queues p c.self.invariant, less, small.0, small.1, c.len.ensures, c.from.ensures, c.loop-index.invariant.1)
+    let small = queue-small p c.self.invariant i c.index.result.now less c.index.ensures in
+    omega (arith, few-queues p c.self.invariant, less, small.0, small.1, c.finished.ensures, c.from-all.ensures, c.loop-index.invariant.1)
 
-pub overflow_add-finished : goal.overflow_add-finished
-overflow_add-finished c =
+pub finished-requires : goal.finished-requires
+finished-requires c =
     let p = parts_of c.self.inside in
     let i = c.loop-index.index in
     let less : i < length p.queues = omega (arith, c.loop-index-test.true, c.len-index-end.ensures, c.self.inside.queues.ok.0) in
-    let small = queue-small p c.self.invariant i c.index-cookies.result.now less c.index-cookies.ensures in
-    omega (arith, small.0, small.1, c.len.ensures, c.from.ensures)
+    let small = queue-small p c.self.invariant i c.index.result.now less c.index.ensures in
+    omega (arith, small.0, small.1)
 
 pub loop-index-preserved : goal.loop-index-preserved
 loop-index-preserved c =
@@ -31,11 +31,11 @@ loop-index-preserved c =
     let v = c.args.self.now.view in
     let i = c.loop-index.index in
     let less : i < length p.queues = omega (arith, c.loop-index-test.true, c.len-index-end.ensures, c.self.inside.queues.ok.0) in
-    let small = queue-small p c.self.invariant i c.index-cookies.result.now less c.index-cookies.ensures in
-    let at = holds-at p c.self.invariant i c.index-cookies.result.now less c.index-cookies.ensures in
+    let small = queue-small p c.self.invariant i c.index.result.now less c.index.ensures in
+    let at = holds-at p c.self.invariant i c.index.result.now less c.index.ensures in
     let many = many-queues p c.self.invariant ∙ ap (λ (s : EngineState). length (object_of s.view).channels) c.self.view_is in
-    let q = c.index-cookies.result.now in
+    let q = c.index.result.now in
     let now : q.forgotten + length q.outcomes.items ≡ finished (channel (object_of (view_of p)) i) = omega (arith, at.tied.forgotten, ap length at.tied.outcomes) in
     let here : q.forgotten + length q.outcomes.items ≡ finished (channel (object_of v) i) = now ∙ ap (λ (s : EngineState). finished (channel (object_of s.view) i)) c.self.view_is in
     let more = sum_by_more finished (object_of v).channels i empty_channel (omega (arith, less, many)) in
-    (omega (arith, more, here, c.len.ensures, c.from.ensures, c.loop-index.invariant.0), omega (arith, small.0, small.1, c.len.ensures, c.from.ensures, c.loop-index.invariant.1))
+    (omega (arith, more, here, c.finished.ensures, c.from-all.ensures, c.loop-index.invariant.0), omega (arith, small.0, small.1, c.finished.ensures, c.from-all.ensures, c.loop-index.invariant.1))

@@ -1,14 +1,14 @@
 use Rattle.std.proofs.Common.{◌≡◌, ◌+◌, ◌<◌, ◌∙◌, None, Some, arith, length, ap}
 use Rattle.std.specs.Option.{option_map}
 use Rattle.dma_mem.specs.Places.{Descriptor}
-use Rattle.dma_engine.specs.inner.Due.{front_told}
+use Rattle.dma_engine.specs.inner.Due.{front_with_cookie}
 use Rattle.dma_engine.specs.inner.Found.{front_in}
 use Rattle.dma_engine.specs.inner.Holds.{view_of}
 use Rattle.dma_engine.specs.inner.Inside.{parts_of}
 use Rattle.dma_engine.specs.Object.{channel, finished, issued_front}
 use Rattle.dma_engine.specs.View.{EngineState, object_of}
 use Rattle.dma_engine.proofs.Boards.{queue-small}
-use Rattle.dma_engine.proofs.InTheWay.{few-issued, front_found}
+use Rattle.dma_engine.proofs.Conflicts.{few-issued, front_found}
 use Rattle.dma_engine.proofs.Queues.{holds-at, many-queues}
 use Rattle.dma_engine.proofs.Sizes.{many-channels}
 use Rattle.dma_engine.proofs.engine.Engine.front.Goals as goal
@@ -27,13 +27,13 @@ front_in-requires c =
     let less : c.args.index < length p.queues = omega (arith, asked, many-queues p c.self.invariant) in
     rw c.kept.ensures (few-issued p c.self.invariant c.args.index c.index-queue.result.now less c.index-queue.ensures)
 
-pub overflow_cast-cookie : goal.overflow_cast-cookie
-overflow_cast-cookie c =
+pub finished-cookie-requires : goal.finished-cookie-requires
+finished-cookie-requires c =
     let p = parts_of c.self.inside in
     let asked = rw (← c.self.view_is) at c.requires in
     let less : c.args.index < length p.queues = omega (arith, asked, many-queues p c.self.invariant) in
     let small = queue-small p c.self.invariant c.args.index c.index-queue.result.now less c.index-queue.ensures in
-    omega (arith, small, c.len.ensures)
+    omega (arith, small)
 
 pub overflow_add-cookie : goal.overflow_add-cookie
 overflow_add-cookie c =
@@ -41,15 +41,7 @@ overflow_add-cookie c =
     let asked = rw (← c.self.view_is) at c.requires in
     let less : c.args.index < length p.queues = omega (arith, asked, many-queues p c.self.invariant) in
     let small = queue-small p c.self.invariant c.args.index c.index-queue.result.now less c.index-queue.ensures in
-    omega (arith, small, c.len.ensures)
-
-pub overflow_add-cookie-2 : goal.overflow_add-cookie-2
-overflow_add-cookie-2 c =
-    let p = parts_of c.self.inside in
-    let asked = rw (← c.self.view_is) at c.requires in
-    let less : c.args.index < length p.queues = omega (arith, asked, many-queues p c.self.invariant) in
-    let small = queue-small p c.self.invariant c.args.index c.index-queue.result.now less c.index-queue.ensures in
-    omega (arith, small, c.len.ensures)
+    omega (arith, small, c.finished-cookie.ensures)
 
 pub returns-in_default : goal.returns-in_default
 returns-in_default c =
@@ -61,7 +53,7 @@ returns-in_default c =
     let less : i < length p.queues = omega (arith, asked, many-queues p c.self.invariant) in
     let told : None ≡ front_in q (channel p.base i).submitted p.history = rw (c.kept.ensures, c.deref.ensures.value) at c.in_default.ensures in
     let none : None ≡ issued_front s = told ∙ front_found p c.self.invariant i q less c.index-queue.ensures in
-    ap (option_map (λ (t : Descriptor). (t, finished s + 1))) none ∙ ap (λ (s : EngineState). front_told (channel (object_of s.view) i)) c.self.view_is
+    ap (option_map (λ (t : Descriptor). (t, finished s + 1))) none ∙ ap (λ (s : EngineState). front_with_cookie (channel (object_of s.view) i)) c.self.view_is
 
 pub returns : goal.returns
 returns c =
@@ -75,6 +67,6 @@ returns c =
     let at = holds-at p c.self.invariant i q less c.index-queue.ensures in
     let told : Some t ≡ front_in q (channel p.base i).submitted p.history = rw (c.kept.ensures, c.deref.ensures.value) at c.in-Some.ensures in
     let some : Some t ≡ issued_front s = told ∙ front_found p c.self.invariant i q less c.index-queue.ensures in
-    let number : q.forgotten + c.len.result + 1 ≡ finished s + 1 = omega (arith, c.len.ensures, at.tied.forgotten, ap length at.tied.outcomes) in
+    let number : c.finished-cookie.result + 1 ≡ finished s + 1 = omega (arith, c.finished-cookie.ensures, at.tied.forgotten, ap length at.tied.outcomes) in
     ap (λ n. Some (t, n)) number ∙ ap (option_map (λ (u : Descriptor). (u, finished s + 1))) some
-    ∙ ap (λ (s : EngineState). front_told (channel (object_of s.view) i)) c.self.view_is
+    ∙ ap (λ (s : EngineState). front_with_cookie (channel (object_of s.view) i)) c.self.view_is

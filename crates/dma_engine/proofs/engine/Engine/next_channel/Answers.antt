@@ -4,18 +4,10 @@ use Rattle.dma_engine.proofs.Boards.{queue-small}
 use Rattle.dma_engine.proofs.Queues.{many-queues}
 use Rattle.dma_engine.proofs.engine.Engine.next_channel.Goals as goal
 
-pub overflow_cast-len : goal.overflow_cast-len
-overflow_cast-len c =
+pub finished-requires : goal.finished-requires
+finished-requires c =
     let p = parts_of c.self.inside in
     let there = rw (← c.self.view_is) at c.requires.there in
     let less : c.args.index < length p.queues = omega (arith, there, many-queues p c.self.invariant) in
     let small = queue-small p c.self.invariant c.args.index c.index-queue.result.now less c.index-queue.ensures in
-    omega (arith, small, c.len.ensures)
-
-pub overflow_add-queue : goal.overflow_add-queue
-overflow_add-queue c =
-    let p = parts_of c.self.inside in
-    let there = rw (← c.self.view_is) at c.requires.there in
-    let less : c.args.index < length p.queues = omega (arith, there, many-queues p c.self.invariant) in
-    let small = queue-small p c.self.invariant c.args.index c.index-queue.result.now less c.index-queue.ensures in
-    omega (arith, small, c.len.ensures)
+    omega (arith, small)

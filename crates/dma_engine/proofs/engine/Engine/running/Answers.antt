@@ -4,19 +4,12 @@ use Rattle.dma_engine.proofs.Boards.{queue-small}
 use Rattle.dma_engine.proofs.Endings.{stored-small}
 use Rattle.dma_engine.proofs.engine.Engine.running.Goals as goal
 
-pub overflow_cast-cookie : goal.overflow_cast-cookie
-overflow_cast-cookie c =
+pub finished-cookie-requires : goal.finished-cookie-requires
+finished-cookie-requires c =
     let p = parts_of c.self.inside in
     let less : c.from-index.result < length p.queues = omega (arith, c.if-index-len.false, c.len.ensures, c.self.inside.queues.ok.0) in
     let small = queue-small p c.self.invariant c.from-index.result c.index-queue.result.now less c.index-queue.ensures in
-    omega (arith, small, c.len-2.ensures)
-
-pub overflow_add-cookie : goal.overflow_add-cookie
-overflow_add-cookie c =
-    let p = parts_of c.self.inside in
-    let less : c.from-index.result < length p.queues = omega (arith, c.if-index-len.false, c.len.ensures, c.self.inside.queues.ok.0) in
-    let small = queue-small p c.self.invariant c.from-index.result c.index-queue.result.now less c.index-queue.ensures in
-    omega (arith, small, c.len-2.ensures)
+    omega (arith, small)
 
 pub overflow_cast-stored : goal.overflow_cast-stored
 overflow_cast-stored c =
@@ -25,9 +18,9 @@ overflow_cast-stored c =
     let small = stored-small p c.self.invariant c.from-index.result c.index-queue.result.now less c.index-queue.ensures (sym c.if-not-is_loaded.ensures) in
     omega (arith, small.0, c.stored-stored.ensures)
 
-pub overflow_add-cookie-2 : goal.overflow_add-cookie-2
-overflow_add-cookie-2 c =
+pub overflow_add-cookie : goal.overflow_add-cookie
+overflow_add-cookie c =
     let p = parts_of c.self.inside in
     let less : c.from-index.result < length p.queues = omega (arith, c.if-index-len.false, c.len.ensures, c.self.inside.queues.ok.0) in
     let small = queue-small p c.self.invariant c.from-index.result c.index-queue.result.now less c.index-queue.ensures in
-    omega (arith, small, c.len-2.ensures)
+    omega (arith, small, c.finished-cookie.ensures)

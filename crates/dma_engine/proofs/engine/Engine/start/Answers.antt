@@ -6,7 +6,7 @@ use Rattle.dma_chan.proofs.ReadyLaws.{on_pages}
 use Rattle.dma_engine.specs.declared.call.Call.TheVariants.{Step}
 use Rattle.dma_engine.specs.declared.fault.EngineFault.TheVariants.{NoMemory}
 use Rattle.dma_engine.specs.declared.call.Reply.TheVariants.{Turned}
-use Rattle.dma_engine.specs.inner.Due.{front_told}
+use Rattle.dma_engine.specs.inner.Due.{front_with_cookie}
 use Rattle.dma_engine.specs.inner.Found.{front_in}
 use Rattle.dma_engine.specs.inner.Holds.{Parts, view_of}
 use Rattle.dma_engine.specs.inner.Inside.{parts_of}
@@ -15,7 +15,7 @@ use Rattle.dma_engine.specs.Room.{HasRoom}
 use Rattle.dma_engine.specs.View.{EngineState, object_of}
 use Rattle.dma_engine.proofs.CallCases.{refusal}
 use Rattle.dma_engine.proofs.Changes.{holds-pages}
-use Rattle.dma_engine.proofs.InTheWay.{few-issued, front_found}
+use Rattle.dma_engine.proofs.Conflicts.{few-issued, front_found}
 use Rattle.dma_engine.proofs.Queues.{front_known, many-queues}
 use Rattle.dma_engine.proofs.Starts.{front-below, front-told, held-answers, holds-started, now-started, start-answers, start-starved, way-clear}
 use Rattle.dma_engine.proofs.Sizes.{many-channels}
@@ -28,12 +28,12 @@ kept-requires c =
     let less : c.from-index.result < length p.queues = omega (arith, asked.0, c.from-index.ensures, many-queues p c.self.invariant) in
     omega (arith, less, many-queues p c.self.invariant, many-channels p.base p.history)
 
-pub returns-in-Some-first_in_the_way-clause-answer : goal.returns-in-Some-first_in_the_way-clause-answer
-returns-in-Some-first_in_the_way-clause-answer c =
+pub returns-in-Some-first_conflict-clause-answer : goal.returns-in-Some-first_conflict-clause-answer
+returns-in-Some-first_conflict-clause-answer c =
     let v = c.args.self.now.view in
     let told = rw c.from-index.ensures at c.in-Some.ensures in
     let front = front-told (issued_front (channel (object_of v) c.args.ch)) c.in-Some.transfer.now c.in-Some.cookie (finished (channel (object_of v) c.args.ch) + 1) told in
-    held-answers v c.args.ch c.in-Some-first_in_the_way.ch c.in-Some-first_in_the_way.cookie c.in-Some.transfer.now c.requires front.0 c.in-Some-first_in_the_way.ensures
+    held-answers v c.args.ch c.in-Some-first_conflict.ch c.in-Some-first_conflict.cookie c.in-Some.transfer.now c.requires front.0 c.in-Some-first_conflict.ensures
 
 pub start-requires-clause-issued : goal.start-requires-clause-issued
 start-requires-clause-issued c =
@@ -50,7 +50,7 @@ start-requires-clause-front c =
     let asked = rw (← c.self.view_is) at c.requires in
     let less : c.args.ch < length p.queues = omega (arith, asked.0, many-queues p c.self.invariant) in
     let read = rw c.from-index.ensures at c.index_mut-queue.ensures.value in
-    let told : Some (c.in-Some.transfer.now, c.in-Some.cookie) ≡ front_told (channel (object_of (view_of p)) c.args.ch) = rw (c.from-index.ensures, ← c.self.view_is) at c.in-Some.ensures in
+    let told : Some (c.in-Some.transfer.now, c.in-Some.cookie) ≡ front_with_cookie (channel (object_of (view_of p)) c.args.ch) = rw (c.from-index.ensures, ← c.self.view_is) at c.in-Some.ensures in
     let front = front-told (issued_front (channel (object_of (view_of p)) c.args.ch)) c.in-Some.transfer.now c.in-Some.cookie (finished (channel (object_of (view_of p)) c.args.ch) + 1) told in
     rw (c.kept.ensures, c.from-index.ensures, c.deref.ensures.value) (ap is_some (front_found p c.self.invariant c.args.ch q less read ∙ front.0))
 
@@ -62,7 +62,7 @@ start-requires-clause-below c =
     let asked = rw (← c.self.view_is) at c.requires in
     let less : c.args.ch < length p.queues = omega (arith, asked.0, many-queues p c.self.invariant) in
     let read = rw c.from-index.ensures at c.index_mut-queue.ensures.value in
-    let told : Some (t, c.in-Some.cookie) ≡ front_told (channel (object_of (view_of p)) c.args.ch) = rw (c.from-index.ensures, ← c.self.view_is) at c.in-Some.ensures in
+    let told : Some (t, c.in-Some.cookie) ≡ front_with_cookie (channel (object_of (view_of p)) c.args.ch) = rw (c.from-index.ensures, ← c.self.view_is) at c.in-Some.ensures in
     let front = front-told (issued_front (channel (object_of (view_of p)) c.args.ch)) t c.in-Some.cookie (finished (channel (object_of (view_of p)) c.args.ch) + 1) told in
     let is : front_in q c.kept.result.now c.deref.result.now ≡ Some t = rw (c.kept.ensures, c.from-index.ensures, c.deref.ensures.value) (front_found p c.self.invariant c.args.ch q less read ∙ front.0) in
     let known = front_known (channel (object_of (view_of p)) c.args.ch) t front.0 in
@@ -83,7 +83,7 @@ returns-in_err-start-clause-answer c =
     let same : slice_set p.queues c.from-index.result c.start.new.self ≡ p.queues = ap (slice_set p.queues c.from-index.result) (c.in_err-start.ensures.refused ∙ c.index_mut-queue.ensures.value) ∙ set-get_or p.queues c.from-index.result c.index_mut-queue.result.now in
     let front = front-told (issued_front (channel (object_of v) ch)) t c.in-Some.cookie (finished (channel (object_of v) ch) + 1) (rw c.from-index.ensures at c.in-Some.ensures) in
     refusal (λ turn. Turned turn) v _ (Step ch) NoMemory c.from_residual.result c.from_residual.ensures.1
-    (start-starved v _ ch t c.requires front.0 (way-clear v t c.in_default-first_in_the_way.ensures) (rw same (ap (λ (s : EngineState). s.view) c.self.view_is)))
+    (start-starved v _ ch t c.requires front.0 (way-clear v t c.in_default-first_conflict.ensures) (rw same (ap (λ (s : EngineState). s.view) c.self.view_is)))
 
 pub returns-in_err-start-clause-kept : goal.returns-in_err-start-clause-kept
 returns-in_err-start-clause-kept c = λ _ ch room.
@@ -102,9 +102,9 @@ invariant_of-self-2 c =
     let asked = rw (← c.self.view_is) at c.requires in
     let less : ch < length p.queues = omega (arith, asked.0, many-queues p c.self.invariant) in
     let read = rw c.from-index.ensures at c.index_mut-queue.ensures.value in
-    let told : Some (t, c.in-Some.cookie) ≡ front_told (channel (object_of v) ch) = rw (c.from-index.ensures, ← c.self.view_is) at c.in-Some.ensures in
+    let told : Some (t, c.in-Some.cookie) ≡ front_with_cookie (channel (object_of v) ch) = rw (c.from-index.ensures, ← c.self.view_is) at c.in-Some.ensures in
     let front = front-told (issued_front (channel (object_of v) ch)) t c.in-Some.cookie (finished (channel (object_of v) ch) + 1) told in
-    let none = way-clear v t (rw (← c.self.view_is) at c.in_default-first_in_the_way.ensures) in
+    let none = way-clear v t (rw (← c.self.view_is) at c.in_default-first_conflict.ensures) in
     let is : front_in q c.kept.result.now c.deref.result.now ≡ Some t = rw (c.kept.ensures, c.from-index.ensures, c.deref.ensures.value) (front_found p c.self.invariant ch q less read ∙ front.0) in
     let started = now-started q c.start.new.self t (rw is at (c.in_ok-start.ensures.started)) in
     let pages = on_pages c.start.new.memory (destinations t) (rw is at (c.in_ok-start.ensures.pages)) in
@@ -122,9 +122,9 @@ returns-clause-answer c =
     let asked = rw (← c.self.view_is) at c.requires in
     let less : ch < length p.queues = omega (arith, asked.0, many-queues p c.self.invariant) in
     let read = rw c.from-index.ensures at c.index_mut-queue.ensures.value in
-    let told : Some (t, c.in-Some.cookie) ≡ front_told (channel (object_of v) ch) = rw (c.from-index.ensures, ← c.self.view_is) at c.in-Some.ensures in
+    let told : Some (t, c.in-Some.cookie) ≡ front_with_cookie (channel (object_of v) ch) = rw (c.from-index.ensures, ← c.self.view_is) at c.in-Some.ensures in
     let front = front-told (issued_front (channel (object_of v) ch)) t c.in-Some.cookie (finished (channel (object_of v) ch) + 1) told in
-    let none = way-clear v t (rw (← c.self.view_is) at c.in_default-first_in_the_way.ensures) in
+    let none = way-clear v t (rw (← c.self.view_is) at c.in_default-first_conflict.ensures) in
     let is : front_in q c.kept.result.now c.deref.result.now ≡ Some t = rw (c.kept.ensures, c.from-index.ensures, c.deref.ensures.value) (front_found p c.self.invariant ch q less read ∙ front.0) in
     let started = now-started q c.start.new.self t (rw is at (c.in_ok-start.ensures.started)) in
     rw (← c.self.view_is, started.is, c.from-index.ensures)

@@ -3,4 +3,4 @@ use Rattle.dma_engine.proofs.engine.Engine.submit.Goals as goal
 
 pub returns-in-Err-clause-answer : goal.returns-in-Err-clause-answer
 returns-in-Err-clause-answer c =
-    submit-checked c.args.self.now.view c.args.ch _ c.args.transfer c.in-Err.fault c.in-Err.ensures.told
+    submit-checked c.args.self.now.view c.args.ch _ c.args.transfer c.in-Err.fault c.in-Err.ensures.checked

@@ -1,4 +1,4 @@
-use Rattle.std.proofs.Common.{◌≡◌, ◌+◌, ◌<◌, ◌∙◌, ap, subst, length, arith, refl, true, ℕ}
+use Rattle.std.proofs.Common.{◌≡◌, ◌+◌, ◌<◌, ◌∙◌, ◌++◌, ◌∷◌, [], List, ap, subst, length, arith, refl, true, ℕ}
 use Rattle.dma_mem.specs.Places.{lies_below}
 use Rattle.dma_engine.specs.declared.entry.Entry.TheVariants.{Submitted}
 use Rattle.dma_engine.specs.Answer.{submit_fault}
@@ -20,8 +20,8 @@ invariant_of-self-2 c =
     let i = c.from.result in
     let q = c.index_mut-queue.result.now in
     let is : view_of p ≡ v = ap (λ (s : EngineState). s.view) c.self.view_is in
-    let none = checked-none (submit_fault v c.args.ch t) _ c.args.cookie c.requires.told in
-    let number = checked-cookie (submit_fault v c.args.ch t) _ c.args.cookie c.requires.told in
+    let none = checked-none (submit_fault v c.args.ch t) _ c.args.cookie c.requires.checked in
+    let number = checked-cookie (submit_fault v c.args.ch t) _ c.args.cookie c.requires.checked in
     let free = submit-open v c.args.ch t none in
     let less : i < length p.queues = omega (arith, many-queues p c.self.invariant, ap channels is, free.0, c.from.ensures) in
     let at = holds-at p c.self.invariant i q less c.index_mut-queue.ensures.value in
@@ -31,7 +31,8 @@ invariant_of-self-2 c =
     let cookie : q.given + 1 ≡ c.args.cookie = omega (arith, many, number) in
     let holds = holds-submitted p i c.add.new.self.spare c.args.cookie t q c.self.invariant less c.index_mut-queue.ensures.value (subst (λ (n : ℕ). Allows (object_of (view_of p)) (Submitted i t n)) cookie allowed) in
     let index : c.len-index.result ≡ length p.history = omega (arith, c.len-index.ensures, c.reserve.new.self.ok.0, ap length c.reserve.ensures.items) in
-    rw (c.push_reserved.ensures.items, c.in-Ok-add.ensures.added, index, c.reserve.ensures.items, ← c.from.ensures) holds
+    let added : c.add.new.self ≡ record { items = q.indices.items ++ c.len-index.result ∷ []; spare = c.add.new.self.spare } = ap (λ (l : List ℕ). record { items = l; spare = c.add.new.self.spare }) (c.add.ensures.items ∙ ap (λ (l : List ℕ). l ++ c.len-index.result ∷ []) c.make_room.ensures.items) in
+    rw (c.push_reserved.ensures.items, added, index, c.reserve.ensures.items, ← c.from.ensures) holds
 
 pub returns-clause-answer : goal.returns-clause-answer
 returns-clause-answer c =
@@ -41,8 +42,8 @@ returns-clause-answer c =
     let i = c.from.result in
     let q = c.index_mut-queue.result.now in
     let is : view_of p ≡ v = ap (λ (s : EngineState). s.view) c.self.view_is in
-    let none = checked-none (submit_fault v c.args.ch t) _ c.args.cookie c.requires.told in
-    let number = checked-cookie (submit_fault v c.args.ch t) _ c.args.cookie c.requires.told in
+    let none = checked-none (submit_fault v c.args.ch t) _ c.args.cookie c.requires.checked in
+    let number = checked-cookie (submit_fault v c.args.ch t) _ c.args.cookie c.requires.checked in
     let free = submit-open v c.args.ch t none in
     let less : i < length p.queues = omega (arith, many-queues p c.self.invariant, ap channels is, free.0, c.from.ensures) in
     let entry = Submitted c.args.ch t c.args.cookie in

@@ -10,10 +10,10 @@ use Rattle.std.proofs.Crossing.{frees}
 use Rattle.dma_ffi.specs.declared.marked_channel.MarkedChannel.{MarkedChannel}
 use Rattle.dma_ffi.specs.contracts.marked_channel.MarkedChannel.{the_row as R}
 use Rattle.dma_ffi.proofs.marked_channel.MarkedChannel.TheSendSync.{the_send as channel_send}
-use Rattle.dma_ffi.specs.inner.OwnedChannel.{heap_handle, owned}
+use Rattle.dma_ffi.specs.inner.Owned.{heap_handle, owned}
 use Rattle.dma_ffi.specs.contracts.channel_pointer.ChannelPointer.{the_row}
 
-owned_keyless : (p : Ptr) (value : Option MarkedChannel) → Keyless (owned p value)
+owned_keyless : (p : Ptr) (value : Option MarkedChannel) → Keyless (owned R p value)
 owned_keyless p None = tt
 owned_keyless null_ptr (Some x) = (tt, frees.frees heap_handle (raw (lone R.mir)) null_ptr)
 owned_keyless (block_ptr b o) (Some x) = (part_keyless R channel_send full_share x b o, frees.frees heap_handle (raw (lone R.mir)) (block_ptr b o))

@@ -22,9 +22,9 @@ use Rattle.std.proofs.raw_atomic.Walks.{proved_at, leaves}
 use Rattle.std.specs.contracts.alloc.Global.{the_row as Z}
 use Rattle.std.proofs.alloc.Global.TheLaws.{the_row_laws as LZ}
 use Rattle.std.specs.contracts.impls.GlobalAllocator.TheImpl.{ghosts as g}
-use Rattle.box_pointer.proofs.Values.{both, pointer_good, pointer_in}
+use Rattle.dma_ffi.proofs.BoxValues.{both, pointer_good, pointer_in}
 use Rattle.dma_ffi.specs.contracts.marked_channel.MarkedChannel.{the_row as R}
-use Rattle.dma_ffi.proofs.ChannelValues.{alone, alone_typed, heap, raw_out, some_of}
+use Rattle.dma_ffi.proofs.Values.{alone, alone_typed, heap, raw_out, some_of}
 use Rattle.dma_ffi.specs.contracts.channel_pointer.ChannelPointer.{the_row as Row}
 use Rattle.dma_ffi.specs.contracts.channel_pointer.ChannelPointer.into_pointer.{ended, clauses}
 use Rattle.dma_ffi.specs.contracts.channel_pointer.ChannelPointer.into_pointer.Key.{name as #self}
@@ -39,7 +39,7 @@ into_pointer_spec 𝓤 𝓛 𝓜 𝓡 wired =
     let v = z.0.3.0 in let a = z.0.3.1.0 in let Post : Val → SProp 𝓤 = (walk_of 𝓛 ended hs c).post z in let Run : List Val → SProp 𝓤 = λ ws. WpFn 𝓤 H 𝓣.C 𝓣.Λ fn ws Post in
     qed 𝓛 ((raw (alive 𝓛 ended.signature z.0.0 z.0.1) ⊛ ‵ (owns (types_at ended.signature.params z.0.0) z.0.3 z.0.4)) ∷ raw (fact 𝓤 (IsSome v.value)) ∷ []) ∵ move ! (1 ∷ []) $ heard ! (IsSome v.value) (λ is.
     let x = (some_of v.value is).0 in let told : v.value ≡ Some x = (some_of v.value is).1 in
-    split ! $ move ! (1 ∷ []) $ fsplit3 ! $ raw_out ! v x told z.0.4.0 (λ b o e ws. move ! (1 ∷ []) $ handle_tells heap ! a z.0.4.1.0 (λ h ea fits.
+    split ! $ move ! (1 ∷ []) $ fsplit3 ! $ raw_out R ! v.at v.value x told z.0.4.0 (λ b o e ws. move ! (1 ∷ []) $ handle_tells heap ! a z.0.4.1.0 (λ h ea fits.
     let us : List Val = alone (vptr b o) ∷ h ∷ [] in let out : Val = both (vptr b o) h in
     suffices ! (Run us) (subst (λ (rs : List Val). ent 𝓤 (Run us) (Run rs)) (sym (λ i. ws i ++ (ea i ++ []))) (id⊢ 𝓤 (Run us))) $
     enter ! 𝓣.C 𝓣.Λ fn us Post $ alloc_all ! (λ l. pass_all ! refl (alone_typed (block_ptr b o), (fits, tt)) $

@@ -13,7 +13,7 @@ use Rattle.dma_engine.proofs.engine.Engine.TheSendSync.{the_send as engine_send}
 use Rattle.dma_ffi.specs.inner.Owned.{heap_handle, owned}
 use Rattle.dma_ffi.specs.contracts.engine_pointer.EnginePointer.{the_row}
 
-owned_keyless : (p : Ptr) (value : Option EngineState) → Keyless (owned p value)
+owned_keyless : (p : Ptr) (value : Option EngineState) → Keyless (owned R p value)
 owned_keyless p None = tt
 owned_keyless null_ptr (Some x) = (tt, frees.frees heap_handle (raw (lone R.mir)) null_ptr)
 owned_keyless (block_ptr b o) (Some x) = (part_keyless R engine_send full_share x b o, frees.frees heap_handle (raw (lone R.mir)) (block_ptr b o))

@@ -17,6 +17,7 @@ use denote.Steps.{nothing}
 use denote.Triple.Entry.{alive}
 use denote.Triple.Walked.{Stays, walk_of}
 use Rattle.std.proofs.raw_atomic.Walks.{proved_at, leaves}
+use Rattle.dma_engine.specs.contracts.engine.Engine.{the_row as R}
 use Rattle.dma_ffi.proofs.Values.{alone, alone_typed, raw_none}
 use Rattle.dma_ffi.specs.contracts.engine_pointer.EnginePointer.empty.{ended, clauses}
 use Rattle.dma_ffi.specs.contracts.engine_pointer.EnginePointer.empty.Key.{name as #self}
@@ -34,5 +35,5 @@ empty_spec 𝓤 𝓛 𝓜 𝓡 wired =
     sets ! (agg ! (and_then ! (lit ! tt) (no_more !))) refl (alone_typed null_ptr) $
     returns ! (look_at ! 0 refl) $ free_all ! refl $
     -- [the tokens; nothing]
-    raw_none ! $ use0 𝓛 (raw (fact 𝓤 (None ≡ None))) (fact_i 𝓤 (None ≡ None) (emp 𝓤) refl) $ nothing ! $
+    raw_none R ! $ use0 𝓛 (raw (fact 𝓤 (None ≡ None))) (fact_i 𝓤 (None ≡ None) (emp 𝓤) refl) $ nothing ! $
     keep ! (3 ∷ 0 ∷ 2 ∷ 1 ∷ []) $ by ! (leaves 𝓛 ended hs c z out (record { at = null_ptr; value = None }) tt tt)))

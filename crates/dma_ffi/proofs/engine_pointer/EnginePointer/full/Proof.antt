@@ -23,7 +23,7 @@ use Rattle.std.proofs.raw_atomic.Walks.{proved_at, leaves}
 use Rattle.std.specs.contracts.alloc.Global.{the_row as Z}
 use Rattle.std.proofs.alloc.Global.TheLaws.{the_row_laws as LZ}
 use Rattle.std.specs.contracts.impls.GlobalAllocator.TheImpl.{ghosts as g}
-use Rattle.box_pointer.proofs.Values.{both, Pointer, pointer_good, pointer_out}
+use Rattle.dma_ffi.proofs.BoxValues.{both, Pointer, pointer_good, pointer_out}
 use Rattle.dma_engine.specs.contracts.engine.Engine.{the_row as R}
 use Rattle.dma_ffi.proofs.Values.{alone, alone_typed, raw_in}
 use Rattle.dma_ffi.specs.contracts.engine_pointer.EnginePointer.full.{ended, clauses}
@@ -46,5 +46,5 @@ full_spec 𝓤 𝓛 𝓜 𝓡 wired =
     sets ! (of_opd ! (get ! refl)) refl (tt, tt) $ sets ! (agg ! (and_then ! (get ! refl) (no_more !))) refl (alone_typed (block_ptr b o)) $
     returns ! (look_at ! 0 refl) $ free_all ! refl $
     -- [the box; the handle; nothing; the tokens]
-    raw_in ! b o v.value $ use0 𝓛 (raw (fact 𝓤 (Some v.value ≡ Some v.value))) (fact_i 𝓤 (Some v.value ≡ Some v.value) (emp 𝓤) refl) $ nothing ! $ nothing ! $ fjoin ! $
+    raw_in R ! b o v.value $ use0 𝓛 (raw (fact 𝓤 (Some v.value ≡ Some v.value))) (fact_i 𝓤 (Some v.value ≡ Some v.value) (emp 𝓤) refl) $ nothing ! $ nothing ! $ fjoin ! $
     keep ! (5 ∷ 0 ∷ 2 ∷ 1 ∷ []) $ by ! (leaves 𝓛 ended hs c z out (record { at = block_ptr b o; value = Some v.value }) (tt, tt) (tt, tt)))))

@@ -1,9 +1,14 @@
-use Rattle.std.proofs.Common.{arith}
+use Rattle.std.proofs.Common.{Ok, arith, rules}
+use Rattle.dma_insn.specs.ControlWord.{control_of}
 use Rattle.dma_insn.proofs.ControlLaws.{if_fields, if_back}
 use Rattle.dma_insn.proofs.control.Control.from_bits.Goals as goal
 
 pub returns-clause-fields : goal.returns-clause-fields
-returns-clause-fields c = if_fields c.args.bits c.read.result c.read.ensures
+unfolding control_of
+returns-clause-fields c =
+    if_fields c.args.bits (Ok (record { src = c.in-Some-Some.src; dst = c.in-Some-Some.dst })) (search rules)
 
 pub returns-clause-back : goal.returns-clause-back
-returns-clause-back c = if_back c.args.bits c.read.result (omega arith) c.read.ensures
+unfolding control_of
+returns-clause-back c =
+    if_back c.args.bits (Ok (record { src = c.in-Some-Some.src; dst = c.in-Some-Some.dst })) (omega arith) (search rules)

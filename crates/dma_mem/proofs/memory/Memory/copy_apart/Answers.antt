@@ -1,17 +1,12 @@
-use Rattle.std.proofs.Common.{take, drop, ap, sym, ◌∙◌, subst, arith}
-use Rattle.std.specs.List.{range_with_len}
+use Rattle.std.proofs.Common.{take, drop, ap, ◌∙◌, arith}
 use Rattle.dma_mem.specs.Image.{put, bytes_at}
-use Rattle.dma_mem.specs.Pages.{Paged, AllMade}
-use Rattle.dma_mem.specs.inner.PageTable.{paged}
-use Rattle.dma_mem.proofs.PageImages.{size_seen, made_of-same, pages_of_all}
+use Rattle.dma_mem.specs.Pages.{Paged}
+use Rattle.dma_mem.proofs.PageImages.{size_seen, made_of-same, pages_seen}
 use Rattle.dma_mem.proofs.memory.Memory.copy_apart.Goals as goal
 
 pub copy_apart-requires-clause-made : goal.copy_apart-requires-clause-made
 copy_apart-requires-clause-made c =
-    let size = c.self.inside.size in
-    let pages = c.self.inside.table in
-    let all : AllMade (paged size pages) (range_with_len c.args.to c.args.len) = subst (λ (m : Paged). AllMade m (range_with_len c.args.to c.args.len)) (sym c.self.view_is) c.requires.made in
-    pages_of_all size pages c.args.to c.args.len all
+    pages_seen c.self.inside.size c.self.inside.table c.args.self.now c.args.to c.args.len c.self.view_is c.requires.made
 
 pub returns-clause-image : goal.returns-clause-image
 returns-clause-image c =

@@ -1,8 +1,6 @@
-use Rattle.std.proofs.Common.{◌+◌, length, ap, sym, ◌∙◌, subst, arith}
-use Rattle.std.specs.List.{range_with_len}
-use Rattle.dma_mem.specs.Pages.{Paged, AllMade}
-use Rattle.dma_mem.specs.inner.PageTable.{paged}
-use Rattle.dma_mem.proofs.PageImages.{size_seen, made_of-same, pages_of_all}
+use Rattle.std.proofs.Common.{◌+◌, length, ap, ◌∙◌, arith}
+use Rattle.dma_mem.specs.Pages.{Paged}
+use Rattle.dma_mem.proofs.PageImages.{size_seen, made_of-same, pages_seen}
 use Rattle.dma_mem.proofs.memory.Memory.write_parts.Goals as goal
 
 pub put_parts-requires-clause-limit : goal.put_parts-requires-clause-limit
@@ -11,12 +9,8 @@ put_parts-requires-clause-limit c =
     omega (arith, long, c.requires.within, c.self.invariant)
 
 pub put_parts-requires-clause-made : goal.put_parts-requires-clause-made
-put_parts-requires-clause-made c =
-    let size = c.self.inside.size in
-    let pages = c.self.inside.table in
-    let len = length c.args.front.now + length c.args.back.now in
-    let all : AllMade (paged size pages) (range_with_len c.args.addr len) = subst (λ (m : Paged). AllMade m (range_with_len c.args.addr len)) (sym c.self.view_is) c.requires.made in
-    λ a low high. pages_of_all size pages c.args.addr len all a low (omega arith)
+put_parts-requires-clause-made c = λ a low high.
+    pages_seen c.self.inside.size c.self.inside.table c.args.self.now c.args.addr (length c.args.front.now + length c.args.back.now) c.self.view_is c.requires.made a low (omega arith)
 
 pub returns-clause-made : goal.returns-clause-made
 returns-clause-made c =

@@ -1,58 +1,51 @@
-use Rattle.std.proofs.Common.{◌≡◌, ◌++◌, length, get_or, ◌/◌, refl, ap, ◌∙◌, arith}
-use Rattle.dma_mem.specs.inner.PageTable.{flat}
-use Rattle.dma_mem.proofs.PageTables.{page_at-flat_same, length-flat_set, within_pages, page_found, group_within, others_kept}
+use Rattle.std.proofs.Common.{◌≡◌, ◌<◌, ◌/◌, ◌%◌, length, get_or, set, refl, ap, ◌++◌, ◌∙◌, arith}
 use Rattle.std.specs.Prelude.{unwrap_or, nat_eq}
 use Rattle.std.specs.Map.{lookup}
 use Rattle.dma_mem.specs.Image.{bytes_at}
+use Rattle.dma_mem.specs.inner.PageTable.{flat, page_at}
+use Rattle.dma_mem.proofs.PageTables.{page_at-flat_same, length-flat_set, page_found, group_within, others_kept, within_pages}
 use Rattle.dma_mem.proofs.table.Table.put_in_page.Goals as goal
+use Rattle.dma_mem.proofs.table.Table.put_in_page.Goals.{After-put}
 
 pub index_mut-group-requires : goal.index_mut-group-requires
 index_mut-group-requires c =
-    let v : flat c.self.inside.groups.items ≡ c.args.self.now = c.self.view_is in
-    omega (arith, group_within c.self.inside.groups.items c.args.self.now c.args.number v (within_pages _ _ c.requires.made), c.self.inside.groups.ok)
+    omega (arith, group_within c.self.inside.groups.items c.args.self.now c.args.number c.self.view_is (within_pages _ _ c.requires.made), c.self.inside.groups.ok)
+
+-- the page's group is in the table
+within : (c : After-put) → c.args.number / 1024 < length c.self.inside.groups.items
+within c = group_within c.self.inside.groups.items c.args.self.now c.args.number c.self.view_is (within_pages _ _ c.requires.made)
+
+-- the page, before the call in its group and in the table
+found : (c : After-put) → page_at c.index_mut-group.result.now (c.args.number % 1024) ≡ page_at c.args.self.now c.args.number
+found c =
+    page_found c.self.inside.groups.items c.args.self.now c.args.number c.args.number c.index_mut-group.result.now c.self.view_is c.index_mut-group.ensures.value (within c) refl
+
+-- the page, after the call in the table and in its group
+stored : (c : After-put) → page_at (flat (set c.self.inside.groups.items (c.args.number / 1024) c.put.new.self)) c.args.number ≡ page_at c.put.new.self (c.args.number % 1024)
+stored c = page_at-flat_same c.self.inside.groups.items (c.args.number / 1024) c.args.number c.put.new.self (within c) refl
 
 pub returns-clause-count : goal.returns-clause-count
 returns-clause-count c =
-    let v : flat c.self.inside.groups.items ≡ c.args.self.now = c.self.view_is in
-    length-flat_set c.self.inside.groups.items (c.args.number / 1024) c.put.new.self ∙ ap length v
+    length-flat_set c.self.inside.groups.items (c.args.number / 1024) c.put.new.self ∙ ap length (let v : flat c.self.inside.groups.items ≡ c.args.self.now = c.self.view_is in v)
 
 pub returns-clause-others : goal.returns-clause-others
 returns-clause-others c =
-    let groups = c.self.inside.groups.items in
-    let n = c.args.number in
-    let group = c.index_mut-group.result.now in
-    let v : flat groups ≡ c.args.self.now = c.self.view_is in
-    let h = group_within groups c.args.self.now n v (within_pages _ _ c.requires.made) in
-    others_kept groups c.args.self.now n group c.put.new.self v c.index_mut-group.ensures.value h c.put.ensures.others
+    let here = (goal.at.returns-clause-others c).After-put in
+    others_kept c.self.inside.groups.items c.args.self.now c.args.number c.index_mut-group.result.now c.put.new.self c.self.view_is c.index_mut-group.ensures.value (within here) c.put.ensures.others
 
 pub returns-clause-bytes : goal.returns-clause-bytes
 returns-clause-bytes c =
-    let groups = c.self.inside.groups.items in
-    let n = c.args.number in
-    let group = c.index_mut-group.result.now in
-    let v : flat groups ≡ c.args.self.now = c.self.view_is in
-    let h = group_within groups c.args.self.now n v (within_pages _ _ c.requires.made) in
-    let found = page_found groups c.args.self.now n n group v c.index_mut-group.ensures.value h refl in
-    let laid = c.put.ensures.bytes in
+    let here = (goal.at.returns-clause-bytes c).After-put in
     λ k.
-    ap (λ x. get_or x k 0) (page_at-flat_same groups (n / 1024) n c.put.new.self h refl)
-    ∙ laid k
-    ∙ ap (λ x. unwrap_or (lookup (nat_eq k) (bytes_at c.args.offset (c.args.front.now ++ c.args.back.now))) (get_or x k 0)) found
+    ap (λ x. get_or x k 0) (stored here) ∙ c.put.ensures.bytes k
+    ∙ ap (λ x. unwrap_or (lookup (nat_eq k) (bytes_at c.args.offset (c.args.front.now ++ c.args.back.now))) (get_or x k 0)) (found here)
 
 pub returns-clause-len : goal.returns-clause-len
 returns-clause-len c =
-    let groups = c.self.inside.groups.items in
-    let n = c.args.number in
-    let group = c.index_mut-group.result.now in
-    let v : flat groups ≡ c.args.self.now = c.self.view_is in
-    let h = group_within groups c.args.self.now n v (within_pages _ _ c.requires.made) in
-    ap length (page_at-flat_same groups (n / 1024) n c.put.new.self h refl) ∙ c.put.ensures.len ∙ ap length (page_found groups c.args.self.now n n group v c.index_mut-group.ensures.value h refl)
+    let here = (goal.at.returns-clause-len c).After-put in
+    ap length (stored here) ∙ c.put.ensures.len ∙ ap length (found here)
 
 pub put-requires-clause-made : goal.put-requires-clause-made
 put-requires-clause-made c =
-    let groups = c.self.inside.groups.items in
-    let n = c.args.number in
-    let group = c.index_mut-group.result.now in
-    let v : flat groups ≡ c.args.self.now = c.self.view_is in
-    let h = group_within groups c.args.self.now n v (within_pages _ _ c.requires.made) in
-    rw (page_found groups c.args.self.now n n group v c.index_mut-group.ensures.value h refl) c.requires.made
+    let h = group_within c.self.inside.groups.items c.args.self.now c.args.number c.self.view_is (within_pages _ _ c.requires.made) in
+    rw (page_found c.self.inside.groups.items c.args.self.now c.args.number c.args.number c.index_mut-group.result.now c.self.view_is c.index_mut-group.ensures.value h refl) c.requires.made

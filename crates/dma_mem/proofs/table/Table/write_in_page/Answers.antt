@@ -1,69 +1,61 @@
-use Rattle.std.proofs.Common.{◌≡◌, length, get_or, ◌/◌, refl, ap, sym, ◌∙◌, arith}
+use Rattle.std.proofs.Common.{◌≡◌, ◌<◌, ◌/◌, ◌%◌, ℕ, length, get_or, set, refl, ap, sym, ◌∙◌, arith}
 use Rattle.std.proofs.lemmas.Result.{on_ok_weaker, on_err_weaker}
-use Rattle.dma_mem.specs.inner.PageTable.{flat}
-use Rattle.dma_mem.proofs.PageTables.{page_at-flat_same, length-flat_set, page_found, group_within, put_back, others_kept}
 use Rattle.std.specs.Prelude.{unwrap_or, nat_eq}
 use Rattle.std.specs.Map.{lookup}
 use Rattle.dma_mem.specs.Image.{bytes_at}
+use Rattle.dma_mem.specs.inner.PageTable.{flat, page_at}
+use Rattle.dma_mem.proofs.PageTables.{page_at-flat_same, length-flat_set, page_found, group_within, put_back, others_kept}
 use Rattle.dma_mem.proofs.table.Table.write_in_page.Goals as goal
+use Rattle.dma_mem.proofs.table.Table.write_in_page.Goals.{After-write}
 
 pub index_mut-group-requires : goal.index_mut-group-requires
 index_mut-group-requires c =
-    let v : flat c.self.inside.groups.items ≡ c.args.self.now = c.self.view_is in
-    omega (arith, group_within c.self.inside.groups.items c.args.self.now c.args.number v c.requires.within, c.self.inside.groups.ok)
+    omega (arith, group_within c.self.inside.groups.items c.args.self.now c.args.number c.self.view_is c.requires.within, c.self.inside.groups.ok)
+
+-- the page's group is in the table
+within : (c : After-write) → c.args.number / 1024 < length c.self.inside.groups.items
+within c = group_within c.self.inside.groups.items c.args.self.now c.args.number c.self.view_is c.requires.within
+
+-- the page, before the call in its group and in the table
+found : (c : After-write) → page_at c.index_mut-group.result.now (c.args.number % 1024) ≡ page_at c.args.self.now c.args.number
+found c =
+    page_found c.self.inside.groups.items c.args.self.now c.args.number c.args.number c.index_mut-group.result.now c.self.view_is c.index_mut-group.ensures.value (within c) refl
+
+-- the page, after the call in the table and in its group
+stored : (c : After-write) → page_at (flat (set c.self.inside.groups.items (c.args.number / 1024) c.write.new.self)) c.args.number ≡ page_at c.write.new.self (c.args.number % 1024)
+stored c = page_at-flat_same c.self.inside.groups.items (c.args.number / 1024) c.args.number c.write.new.self (within c) refl
 
 pub returns-clause-count : goal.returns-clause-count
 returns-clause-count c =
-    let v : flat c.self.inside.groups.items ≡ c.args.self.now = c.self.view_is in
-    length-flat_set c.self.inside.groups.items (c.args.number / 1024) c.write.new.self ∙ ap length v
+    length-flat_set c.self.inside.groups.items (c.args.number / 1024) c.write.new.self ∙ ap length (let v : flat c.self.inside.groups.items ≡ c.args.self.now = c.self.view_is in v)
 
 pub returns-clause-others : goal.returns-clause-others
 returns-clause-others c =
-    let groups = c.self.inside.groups.items in
-    let n = c.args.number in
-    let group = c.index_mut-group.result.now in
-    let v : flat groups ≡ c.args.self.now = c.self.view_is in
-    let h = group_within groups c.args.self.now n v c.requires.within in
-    others_kept groups c.args.self.now n group c.write.new.self v c.index_mut-group.ensures.value h c.write.ensures.others
+    let here = (goal.at.returns-clause-others c).After-write in
+    others_kept c.self.inside.groups.items c.args.self.now c.args.number c.index_mut-group.result.now c.write.new.self c.self.view_is c.index_mut-group.ensures.value (within here) c.write.ensures.others
+
+-- where the group has the same pages, the table has
+back : (c : After-write) → ((p : ℕ) → page_at c.write.new.self p ≡ page_at c.index_mut-group.result.now p) → flat (set c.self.inside.groups.items (c.args.number / 1024) c.write.new.self) ≡ c.args.self.now
+back c = put_back c.self.inside.groups.items c.args.self.now c.args.number c.index_mut-group.result.now c.write.new.self c.self.view_is c.index_mut-group.ensures.value (within c)
 
 pub returns-clause-whole : goal.returns-clause-whole
 returns-clause-whole c =
-    let groups = c.self.inside.groups.items in
-    let n = c.args.number in
-    let group = c.index_mut-group.result.now in
-    let v : flat groups ≡ c.args.self.now = c.self.view_is in
-    let h = group_within groups c.args.self.now n v c.requires.within in
-    let e = page_at-flat_same groups (n / 1024) n c.write.new.self h refl in
-    on_ok_weaker c.write.result (λ w. ap length e ∙ w) c.write.ensures.whole
+    let here = (goal.at.returns-clause-whole c).After-write in
+    on_ok_weaker c.write.result (λ w. ap length (stored here) ∙ w) c.write.ensures.whole
 
 pub returns-clause-short : goal.returns-clause-short
 returns-clause-short c =
-    let groups = c.self.inside.groups.items in
-    let n = c.args.number in
-    let group = c.index_mut-group.result.now in
-    let v : flat groups ≡ c.args.self.now = c.self.view_is in
-    let h = group_within groups c.args.self.now n v c.requires.within in
-    let found = page_found groups c.args.self.now n n group v c.index_mut-group.ensures.value h refl in
-    on_err_weaker c.write.result (λ none. ap length (sym found) ∙ none) c.write.ensures.short
+    let here = (goal.at.returns-clause-short c).After-write in
+    on_err_weaker c.write.result (λ none. ap length (sym (found here)) ∙ none) c.write.ensures.short
 
 pub returns-clause-err : goal.returns-clause-err
 returns-clause-err c =
-    let groups = c.self.inside.groups.items in
-    let n = c.args.number in
-    let group = c.index_mut-group.result.now in
-    let v : flat groups ≡ c.args.self.now = c.self.view_is in
-    let h = group_within groups c.args.self.now n v c.requires.within in
-    on_err_weaker c.write.result (λ same. put_back groups c.args.self.now n group c.write.new.self v c.index_mut-group.ensures.value h same) c.write.ensures.err
+    let here = (goal.at.returns-clause-err c).After-write in
+    on_err_weaker c.write.result (back here) c.write.ensures.err
 
 pub returns-clause-bytes : goal.returns-clause-bytes
 returns-clause-bytes c =
-    let groups = c.self.inside.groups.items in
-    let n = c.args.number in
-    let group = c.index_mut-group.result.now in
-    let v : flat groups ≡ c.args.self.now = c.self.view_is in
-    let h = group_within groups c.args.self.now n v c.requires.within in
-    let found = page_found groups c.args.self.now n n group v c.index_mut-group.ensures.value h refl in
+    let here = (goal.at.returns-clause-bytes c).After-write in
     on_ok_weaker c.write.result (λ laid. λ k.
-    ap (λ x. get_or x k 0) (page_at-flat_same groups (n / 1024) n c.write.new.self h refl)
-    ∙ laid k
-    ∙ ap (λ x. unwrap_or (lookup (nat_eq k) (bytes_at c.args.offset c.args.bytes.now)) (get_or x k 0)) found) c.write.ensures.bytes
+    ap (λ x. get_or x k 0) (stored here) ∙ laid k
+    ∙ ap (λ x. unwrap_or (lookup (nat_eq k) (bytes_at c.args.offset c.args.bytes.now)) (get_or x k 0)) (found here)) c.write.ensures.bytes

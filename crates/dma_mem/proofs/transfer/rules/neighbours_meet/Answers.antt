@@ -4,13 +4,13 @@ use Rattle.dma_mem.proofs.RangeSets.{nowhere}
 use Rattle.dma_mem.proofs.NeighboursMeet.{none_overlap, some_overlap}
 use Rattle.dma_mem.proofs.transfer.rules.neighbours_meet.Goals as goal
 
-pub returns-then-from-end_of : goal.returns-then-from-end_of
-returns-then-from-end_of c =
+pub returns-then-from-end : goal.returns-then-from-end
+returns-then-from-end c =
     let sorted = c.args.sorted.now in
     let n = c.loop-next.next in
     let before : n - 1 + 1 ≡ n = omega (arith, c.loop-next.auto.next) in
     sym (some_overlap sorted (n - 1) nowhere c.requires.filled c.requires.rising (omega (arith, c.loop-next-test.true, before))
-    (omega (arith, c.if-from-end_of.true, c.end_of.ensures, c.from.ensures, ap (λ k. (get_or sorted k nowhere).addr) before)))
+    (omega (arith, c.if-from-end.true, c.end.ensures, c.from.ensures, ap (λ k. (get_or sorted k nowhere).addr) before)))
 
 pub loop-next-preserved : goal.loop-next-preserved
 loop-next-preserved c = λ k h.
@@ -21,7 +21,7 @@ loop-next-preserved c = λ k h.
       | inr high ↦
           let at : n ≡ k + 1 = omega arith in
           let before : n - 1 ≡ k = omega arith in
-          omega (arith, c.if-from-end_of.false, c.end_of.ensures, c.from.ensures, ap (λ i. (get_or sorted i nowhere).addr) at, ap (λ i. (get_or sorted i nowhere).addr + (get_or sorted i nowhere).len) before)
+          omega (arith, c.if-from-end.false, c.end.ensures, c.from.ensures, ap (λ i. (get_or sorted i nowhere).addr) at, ap (λ i. (get_or sorted i nowhere).addr + (get_or sorted i nowhere).len) before)
     ]
 
 pub returns : goal.returns

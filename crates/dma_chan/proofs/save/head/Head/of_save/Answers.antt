@@ -29,7 +29,7 @@ returns-then-eq-clause-found c =
     let save = c.args.save.now in
     let head = c.in-Some.head in
     let written : c.as_slice.result.now ≡ sealed (head_bytes head ++ (buffer_in save head ++ []) ++ program_in save head) =
-    rw (c.as_slice.ensures, c.write-again.ensures.bytes, c.buffer_of.ensures, c.program_of.ensures) refl in
+    rw (c.as_slice.ensures.value, c.write-again.ensures.bytes, c.buffer_of.ensures, c.program_of.ensures) refl in
     let same = (slice_eq-Decides Decides-eqb _ _ _ c.eq.ensures).0 c.if-eq.true in
     sym same ∙ written ∙ sealed_is_saved save head (c.fits.ensures.0 c.if-not-fits.false)
 
@@ -53,5 +53,5 @@ returns-else-eq-clause-only c d v e =
     let parts = saved_parts d save v e in
     let found = c.in-Some.ensures (head_of d) (rest_of d) (head_ranges d v) (e ∙ saved_rest d) in
     let head : c.in-Some.head ≡ head_of d = cc found in
-    let same : c.as_slice.result.now ≡ save = rw (c.as_slice.ensures, c.write-again.ensures.bytes, c.buffer_of.ensures, c.program_of.ensures, head) parts.again in
+    let same : c.as_slice.result.now ≡ save = rw (c.as_slice.ensures.value, c.write-again.ensures.bytes, c.buffer_of.ensures, c.program_of.ensures, head) parts.again in
     cc ((slice_eq-Decides Decides-eqb _ _ _ c.eq.ensures).1 same, c.if-eq.false)

@@ -9,7 +9,7 @@ pub returns-then-eq-clause-text : goal.returns-then-eq-clause-text
 returns-then-eq-clause-text c =
     let self = c.args.self.now in
     let text = reply_text c.args.reply.now in
-    let next = c.as_slice-2.ensures.value ∙ c.in_ok-push_reply.ensures.ok ∙ ap (λ l. l ++ text) c.clear.ensures.items in
+    let next = c.as_slice-2.ensures.value ∙ c.in_ok-push.ensures.ok ∙ ap (λ l. l ++ text) c.clear.ensures.items in
     let same : bytes_eq self.last.items text ≡ true =
     ap (λ l. bytes_eq l text) (sym c.as_slice.ensures.value) ∙ ap (bytes_eq c.as_slice.result.now) (sym next) ∙ sym c.eq.ensures ∙ c.if-eq.true in
     λ rest. take-equal c.args.ch self.lines.items self.last.items self.count c.args.many text rest same
@@ -18,7 +18,7 @@ pub returns-clause-text : goal.returns-clause-text
 returns-clause-text c =
     let self = c.args.self.now in
     let text = reply_text c.args.reply.now in
-    let pushed = c.in_ok-push_reply.ensures.ok ∙ ap (λ l. l ++ text) c.clear.ensures.items in
+    let pushed = c.in_ok-push.ensures.ok ∙ ap (λ l. l ++ text) c.clear.ensures.items in
     let other : bytes_eq self.last.items text ≡ false =
     ap (λ l. bytes_eq l text) (sym c.as_slice.ensures.value) ∙ ap (bytes_eq c.as_slice.result.now) (sym (c.as_slice-2.ensures.value ∙ pushed)) ∙ sym c.eq.ensures ∙ c.if-eq.false in
     let last = ap (λ v. v.items) c.swap.ensures.x_after ∙ c.in_ok-end_line.ensures.next ∙ pushed in

@@ -1,0 +1,48 @@
+use Rattle.std.proofs.Common.{◌≡◌, ◌≤◌, ◌+◌, ◌-◌, ◌++◌, [], ◌∙◌, List, ℕ, ap, map, arith, refl}
+use Rattle.std.specs.Prelude.{replicate}
+use Rattle.std.proofs.lemmas.List.{append-nil}
+use Rattle.std.proofs.lemmas.Result.{on_ok_weaker}
+use Rattle.dma_engine.specs.declared.call.Call.TheVariants.{Step}
+use Rattle.dma_engine.specs.Answer.{answers}
+use Rattle.dma_script.specs.Command.{text_of}
+use Rattle.dma_commands.specs.Printed.{reply_text}
+use Rattle.dma_commands.specs.Run.{step_answer, step_lines}
+use Rattle.dma_commands.proofs.RunLemmas.{printed_runs}
+use Rattle.dma_commands.proofs.StepLemmas.{ended, more-view, more-texts}
+use Rattle.dma_commands.proofs.run.steps.answer_steps.Goals as goal
+
+pub loop-left-preserved : goal.loop-left-preserved
+loop-left-preserved c =
+    let v = c.args.engine.now.view in
+    let w = c.loop-left.engine.view in
+    let step = Step c.args.ch in
+    let inv = c.loop-left.invariant in
+    let left = c.loop-left.left in
+    let many = c.in_ok-left.field-0 in
+    let within : many ≤ left = c.in_ok-left.ensures.many.1 in
+    let sum : (c.args.count - left) + many ≡ c.args.count - (left - many) = omega (arith, within, inv.left) in
+    record {
+      left = omega (arith, inv.left);
+      counted = omega (arith, c.in_ok-left.ensures.count, inv.counted, within, inv.left);
+      view = c.in_ok-left.ensures.view ∙ more-view v w step _ (c.args.count - left) many _ sum inv.view refl;
+      text = λ rest. c.in_ok-left.ensures.text rest ∙ inv.text _
+          ∙ ap (λ l. text_of (step_lines c.args.ch l)) (more-texts v w step _ (c.args.count - left) many _ rest sum inv.view refl);
+    }
+
+pub returns : goal.returns
+returns c =
+    let v = c.args.engine.now.view in
+    let ch = c.args.ch in
+    let steps = c.loop-left.steps in
+    let out = c.args.out.now.items in
+    let result = c.print.result in
+    let print = c.print.ensures in
+    let none : c.args.count - c.loop-left.left ≡ c.args.count = omega (arith, c.loop-left-test.false) in
+    let lines =
+    ended ch steps.lines.items c.end_line.new.self.lines.items steps.last.items steps.count c.in_ok-end_line.ensures.none c.in_ok-end_line.ensures.line
+    ∙ c.loop-left.invariant.text []
+    ∙ ap (λ (k : ℕ). text_of (step_lines ch (map reply_text (answers v (replicate k (Step ch))).0 ++ []))) none
+    ∙ ap (λ l. text_of (step_lines ch l)) (append-nil (map reply_text (answers v (replicate c.args.count (Step ch))).0)) in
+    let view = c.loop-left.invariant.view ∙ ap (λ (k : ℕ). (answers v (replicate k (Step ch))).1) none in
+    printed_runs (step_answer v ch c.args.count) c.loop-left.engine.view result out c.print.new.out.items (on_ok_weaker result (λ _. view) print.ok)
+    (on_ok_weaker result (λ p. p ∙ ap (λ (l : List ℕ). out ++ l) (c.as_slice.ensures.value ∙ lines)) print.ok) print.err

@@ -1,0 +1,75 @@
+use Rattle.std.proofs.Common.{rules, ◌≡◌, ◌<◌, ◌+◌, ap, sym, ◌∙◌, subst, arith, length, Option}
+use Rattle.dma_engine.specs.declared.access.Ranges.{Ranges}
+use Rattle.dma_engine.specs.inner.Holds.{view_of}
+use Rattle.dma_engine.specs.inner.Inside.{parts_of}
+use Rattle.dma_engine.specs.Object.{channel, finished}
+use Rattle.dma_engine.specs.inner.Ranges.{AreOfRunning}
+use Rattle.dma_engine.specs.View.{EngineState, object_of, channels, runs}
+use Rattle.dma_engine.specs.inner.Accesses.{named, conflicts}
+use Rattle.dma_engine.proofs.Boards.{queue-small}
+use Rattle.dma_engine.proofs.Conflicts.{way-here, passed-over, nothing-there}
+use Rattle.dma_engine.proofs.Queues.{holds-at, many-queues}
+use Rattle.dma_engine.proofs.Sizes.{few-queues}
+use Rattle.dma_engine.proofs.WhatRuns.{find-none_more, find-all}
+use Rattle.dma_engine.proofs.engine.Engine.first_conflict.Goals as goal
+use Rattle.dma_engine.proofs.engine.Engine.first_conflict.Goals.{in-Some+else-conflicts_with, in_default}
+
+pub overflow_cast-result : goal.overflow_cast-result
+overflow_cast-result c =
+    let few = few-queues (parts_of c.self.inside) c.self.invariant in
+    omega (arith, few, c.loop-index-test.true, c.len-index-end.ensures, c.self.inside.queues.ok.0)
+
+pub finished-cookie-requires : goal.finished-cookie-requires
+finished-cookie-requires c =
+    let p = parts_of c.self.inside in
+    let less : c.loop-index.index < length p.queues = omega (arith, c.loop-index-test.true, c.len-index-end.ensures, c.self.inside.queues.ok.0) in
+    let small = queue-small p c.self.invariant c.loop-index.index c.index-queue.result.now less c.index-queue.ensures in
+    omega (arith, small)
+
+pub overflow_add-cookie : goal.overflow_add-cookie
+overflow_add-cookie c =
+    let p = parts_of c.self.inside in
+    let less : c.loop-index.index < length p.queues = omega (arith, c.loop-index-test.true, c.len-index-end.ensures, c.self.inside.queues.ok.0) in
+    let small = queue-small p c.self.invariant c.loop-index.index c.index-queue.result.now less c.index-queue.ensures in
+    omega (arith, small, c.finished-cookie.ensures)
+
+pub returns-then-conflicts_with : goal.returns-then-conflicts_with
+returns-then-conflicts_with c =
+    let p = parts_of c.self.inside in
+    let v = c.args.self.now.view in
+    let i = c.loop-index.index in
+    let q = c.index-queue.result.now in
+    let inside : i < length p.queues = omega (arith, c.loop-index-test.true, c.len-index-end.ensures, c.self.inside.queues.ok.0) in
+    let many = many-queues p c.self.invariant ∙ ap (λ (s : EngineState). channels s.view) c.self.view_is in
+    let less : i < length (object_of v).channels = omega (arith, many, inside) in
+    let at = holds-at p c.self.invariant i q inside c.index-queue.ensures in
+    let done : c.finished-cookie.result ≡ finished (channel (object_of (view_of p)) i) = omega (arith, c.finished-cookie.ensures, at.tied.forgotten, ap length at.tied.outcomes) in
+    let number : c.finished-cookie.result + 1 ≡ finished (channel (object_of v) i) + 1 = ap (λ n. n + 1) (done ∙ ap (λ (s : EngineState). finished (channel (object_of s.view) i)) c.self.view_is) in
+    let kept = subst (λ (s : EngineState). AreOfRunning q.ranges (runs (object_of s.view) s.view.schedule i)) c.self.view_is at.ranges in
+    let there = subst (λ (o : Option Ranges). AreOfRunning o (runs (object_of v) v.schedule i)) c.in-Some.is kept in
+    search (rules, way-here (conflicts c.args.access.now) (object_of v) v.schedule i (c.finished-cookie.result + 1) c.in-Some.ranges less c.loop-index.invariant there number c.if-conflicts_with.ensures)
+
+pub loop-index-preserved : goal.loop-index-preserved
+loop-index-preserved c =
+    let p = parts_of c.self.inside in
+    let v = c.args.self.now.view in
+    let test = conflicts c.args.access.now in
+    let i = c.loop-index.index in
+    let q = c.index-queue.result.now in
+    let x = runs (object_of v) v.schedule i in
+    let inside : i < length p.queues = omega (arith, c.loop-index-test.true, c.len-index-end.ensures, c.self.inside.queues.ok.0) in
+    let at = holds-at p c.self.invariant i q inside c.index-queue.ensures in
+    let kept = subst (λ (s : EngineState). AreOfRunning q.ranges (runs (object_of s.view) s.view.schedule i)) c.self.view_is at.ranges in
+    find-none_more (λ r. test r.transfer) (object_of v) v.schedule i c.loop-index.invariant
+    (elim c.match-queue.branch [
+      | in-Some+else-conflicts_with w ↦ passed-over test x w.in-Some.ranges (subst (λ (o : Option Ranges). AreOfRunning o x) w.in-Some.is kept) w.if-conflicts_with.ensures
+      | in_default w ↦ nothing-there test x (subst (λ (o : Option Ranges). AreOfRunning o x) w.in_default.is kept)
+    ])
+
+pub returns : goal.returns
+returns c =
+    let v = c.args.self.now.view in
+    let test = conflicts c.args.access.now in
+    let many = many-queues (parts_of c.self.inside) c.self.invariant ∙ ap (λ (s : EngineState). channels s.view) c.self.view_is in
+    let all : length (object_of v).channels ≡ c.loop-index.index = omega (arith, many, c.loop-index-test.false, c.len-index-end.ensures, c.self.inside.queues.ok.0) in
+    sym (ap named (find-all (λ r. test r.transfer) (object_of v) v.schedule c.loop-index.index all c.loop-index.invariant))

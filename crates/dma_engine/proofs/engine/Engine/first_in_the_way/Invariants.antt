@@ -1,9 +1,0 @@
-use Rattle.std.proofs.Common.{◌≡◌, None, find}
-use Rattle.dma_engine.specs.View.{object_of}
-use Rattle.dma_engine.specs.inner.Ways.{is_in_the_way}
-use Rattle.dma_engine.proofs.WhatRuns.{below}
-use Rattle.dma_engine.proofs.engine.Engine.first_in_the_way.Given as goal
-
-abbrev pub invariant-loop-index : goal.invariant-loop-index
-invariant-loop-index l =
-    find (λ r. is_in_the_way l.way r.transfer) (below (object_of l.self.view) l.self.view.schedule l.index) ≡ None

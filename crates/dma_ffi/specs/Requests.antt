@@ -1,0 +1,262 @@
+-- What a call from C on a controller returns and writes: one definition for all calls.
+use Rattle.std.specs.Prelude.{◌≡◌, ◌≢◌, ℕ, ◌<◌, ◌≤◌, ◌⊎◌, zero, suc, Bool, true, false, ℤ, Option, None, Some, IsSomeAnd, MatchOption, Result, Ok, Err, List, length, min, unwrap_or}
+use Rattle.dma_mem.specs.Places.{Descriptor, filling}
+use Rattle.dma_mem.specs.Refusals.{refusal_of, refusal_of_fill}
+use Rattle.dma_mem.specs.declared.marks.MarkKind.{MarkKind}
+use Rattle.dma_mem.specs.declared.segment.Segment.{Segment}
+use Rattle.dma_mem.specs.declared.transfer.TransferFault.{TransferFault}
+use Rattle.dma_mem.specs.declared.transfer.TransferFault.TheVariants as transfers
+use Rattle.dma_engine.specs.declared.call.Call.{Call}
+use Rattle.dma_engine.specs.declared.call.Call.TheVariants.{Submit, Status as StatusOf, Result as ResultOf, Mark, Checkpoint}
+use Rattle.dma_engine.specs.declared.call.Reply.{Reply}
+use Rattle.dma_engine.specs.declared.call.Reply.TheVariants.{Bytes, Cookie, Count, Result as Resulted, Refused}
+use Rattle.dma_engine.specs.declared.fault.EngineFault.{EngineFault}
+use Rattle.dma_engine.specs.declared.fault.NewFault.TheVariants as engines
+use Rattle.dma_engine.specs.declared.turn.Running.{Running}
+use Rattle.dma_engine.specs.declared.turn.Turn.{Turn}
+use Rattle.dma_engine.specs.Object.{channel, unfinished}
+use Rattle.dma_engine.specs.Advance as steps
+use Rattle.dma_engine.specs.History.{kept_bytes}
+use Rattle.dma_engine.specs.View.{View, EngineState, object_of, running, running_on, new_fault, new_view}
+use Rattle.dma_engine.specs.Answer.{CallAnswers, StepAnswers}
+use Rattle.dma_engine.specs.Room.{HasGivenBack}
+use Rattle.dma_ffi.specs.declared.steps.Taken.{Taken}
+use Rattle.dma_ffi.specs.declared.reports.DmaConflict.{DmaConflict}
+use Rattle.dma_ffi.specs.declared.reports.DmaOutcome.{DmaOutcome}
+use Rattle.dma_ffi.specs.declared.reports.DmaReport.{DmaReport}
+use Rattle.dma_ffi.specs.Codes.{ok_code, not_open, already_open, bad_kind, not_running, new_code, transfer_code, reply_code, mark_kind}
+use Rattle.dma_ffi.specs.Reports.{conflict_of, outcome_of, report_of}
+
+-- ---- requests and answers
+
+-- A value that an engine has.
+pub data Value : Type 0 where
+  -- what runs on a channel, if anything
+  runs : Option Running → Value
+  -- a number
+  numbered : ℕ → Value
+
+-- What the controller answers.
+pub data Answer : Type 0 where
+  -- there is no engine
+  closed : Answer
+  -- the engine's reply to a call
+  replied : Reply → Answer
+  -- no transfer was made, because of this broken rule or because memory ran out
+  unfit : TransferFault → Answer
+  -- no kind of mark has this number
+  no_kind : Answer
+  -- this many steps were taken, and the last one did this
+  stepped : ℕ → Option Turn → Answer
+  -- a value
+  known : Value → Answer
+
+-- What C requests from a controller.
+pub data Request : Type 0 where
+  -- a call of the engine
+  ask_call : Call → Request
+  -- a mark of the kind that has this number
+  ask_mark : ℕ → Segment → Request
+  -- the submit of a copy to a channel
+  ask_copy : ℕ → Descriptor → Request
+  -- the submit of a fill to a channel: the address of its byte, its destinations, and the events that it waits for and
+  -- signals
+  ask_fill : ℕ → ℕ → List Segment → Option ℕ → Option ℕ → Request
+  -- steps of a channel, at most this many
+  ask_steps : ℕ → ℕ → Request
+  -- a value that the engine has
+  ask_value : (View → Value) → Request
+
+-- what runs on a channel
+abbrev pub the_run : ℕ → View → Value
+the_run ch v = runs (running_on v ch)
+
+-- the number of unfinished cookies of a channel
+abbrev pub the_unfinished : ℕ → View → Value
+the_unfinished ch v = numbered (unfinished (channel (object_of v) ch))
+
+-- the number of a channel's cookies whose results were forgotten by checkpoints
+abbrev pub the_forgotten : ℕ → View → Value
+the_forgotten ch v = numbered (channel (object_of v) ch).forgotten
+
+-- the step count
+abbrev pub the_steps : View → Value
+the_steps v = numbered v.steps
+
+-- the number of entries in the history
+abbrev pub the_history_entries : View → Value
+the_history_entries v = numbered (length v.history)
+
+-- the number of bytes that the history keeps, of writes and of reads
+abbrev pub the_history_bytes : View → Value
+the_history_bytes v = numbered (min (kept_bytes v.history) 18446744073709551615)
+
+-- the number of running transfers
+abbrev pub the_running_count : View → Value
+the_running_count v = numbered (length (running (object_of v) v.schedule))
+
+-- the copy of these sources to these destinations, with the events that it waits for and signals
+abbrev pub copying : List Segment → List Segment → Option ℕ → Option ℕ → Descriptor
+copying src dst wait signal = record { fill = false; src = src; dst = dst; wait = wait; signal = signal }
+
+-- ---- steps in a row
+
+-- Whether a further step is taken: none was taken before, or the last one started a transfer or moved.
+abbrev pub goes_on : Option Turn → Bool
+goes_on None = true
+goes_on (Some turn) = steps.goes_on (Ok turn)
+
+-- The channel takes this many steps, one after another, and none is refused. Each step but the last starts a transfer
+-- or moves. `last` is what the last step did, or none without a step, and `w` is the view after the steps.
+abbrev pub InARow : View → ℕ → ℕ → Option Turn → View → Type 0
+InARow v ch zero last w = (last ≡ None) × (w ≡ v)
+InARow v ch (suc n) last w =
+    (u : View) × (before : Option Turn) × (turn : Turn) × InARow v ch n before u × (goes_on before ≡ true)
+    × StepAnswers u ch (Ok turn) w × (last ≡ Some turn)
+
+-- The next step of a channel is refused, and changes nothing.
+abbrev pub RefusesStep : View → ℕ → Type 0
+RefusesStep v ch = (fault : EngineFault) × StepAnswers v ch (Err fault) v
+
+-- A call takes `taken` of at most `most` steps of a channel. It stops at `most` steps; or after a step that neither
+-- started a transfer nor moved; or, after at least one step, before a step that is refused.
+pub record TakesSteps (v : View) (ch most taken : ℕ) (last : Option Turn) (w : View) : Type 0 where
+  pub row : InARow v ch taken last w
+  pub few : taken ≤ most
+  pub stops : (taken ≡ most) ⊎ ((goes_on last ≡ false) ⊎ ((0 < taken) × RefusesStep w ch))
+
+-- ---- how an engine answers
+
+-- The answer is the engine's reply to a call.
+abbrev pub Replies : View → Call → Answer → View → Type 0
+Replies v call answer w = (reply : Reply) × (answer ≡ replied reply) × CallAnswers v call reply w
+
+-- The answer to a mark: `no_kind` for a number without a kind, and the view is unchanged; else the engine's reply.
+abbrev pub AnswersMark : View → Option MarkKind → Segment → Answer → View → Type 0
+AnswersMark v None range answer w = (answer ≡ no_kind) × (w ≡ v)
+AnswersMark v (Some kind) range answer w = Replies v (Mark kind range) answer w
+
+-- The answer to a submit: `unfit` with the transfer's refusal, or with `NoMemory` if it has none, and the view is
+-- unchanged; or the engine's reply, only for a transfer without a refusal.
+abbrev pub AnswersSubmit : View → ℕ → Option TransferFault → Descriptor → Answer → View → Type 0
+AnswersSubmit v ch refusal t answer w =
+    ((answer ≡ unfit (unwrap_or refusal transfers.NoMemory)) × (w ≡ v))
+    ⊎ ((refusal ≡ None) × Replies v (Submit ch t) answer w)
+
+-- The answer to steps: the refusal of the first step, only if `most` isn't 0; or the steps that were taken.
+abbrev pub AnswersSteps : View → ℕ → ℕ → Answer → View → Type 0
+AnswersSteps v ch most (replied (Refused fault)) w = (0 < most) × StepAnswers v ch (Err fault) w
+AnswersSteps v ch most (stepped taken last) w = TakesSteps v ch most taken last w
+AnswersSteps v ch most _ w = ⊥
+
+-- An engine with the view `v` may give this answer to the request, and then has the view `w`.
+abbrev pub Answers : View → Request → Answer → View → Type 0
+Answers v (ask_call call) answer w = Replies v call answer w
+Answers v (ask_mark kind range) answer w = AnswersMark v (mark_kind kind) range answer w
+Answers v (ask_copy ch t) answer w = AnswersSubmit v ch (refusal_of t) t answer w
+Answers v (ask_fill ch src dst wait signal) answer w =
+    AnswersSubmit v ch (refusal_of_fill src dst wait signal) (filling src dst wait signal) answer w
+Answers v (ask_steps ch most) answer w = AnswersSteps v ch most answer w
+Answers v (ask_value value) answer w = (answer ≡ known (value v)) × (w ≡ v)
+
+-- the answer to steps: those that were taken, or the refusal of the first
+abbrev pub steps_answer : Result Taken EngineFault → Answer
+steps_answer (Ok taken) = stepped taken.count taken.last
+steps_answer (Err fault) = replied (Refused fault)
+
+-- ---- what a call returns and writes
+
+-- the code of an answer
+abbrev pub code_of : Answer → ℤ
+code_of closed = not_open
+code_of (replied reply) = reply_code reply
+code_of (unfit fault) = transfer_code fault
+code_of no_kind = bad_kind
+code_of (known (runs None)) = not_running
+code_of (known (runs (Some running))) = ok_code
+code_of (stepped taken last) = ok_code
+code_of (known (numbered number)) = ok_code
+
+-- What a call writes: the values of its output arguments before and after the call.
+pub data Written : Type 0 where
+  nothing : Written
+  a_number : ℕ → ℕ → Written
+  a_conflict : DmaConflict → DmaConflict → Written
+  bytes_or_conflict : List ℕ → List ℕ → DmaConflict → DmaConflict → Written
+  an_outcome : DmaOutcome → DmaOutcome → Written
+  a_run : Running → Running → Written
+  a_report : DmaReport → DmaReport → Written
+
+-- The number in the answer, or the former value if the answer has none.
+abbrev pub number_in : Answer → ℕ → ℕ
+number_in (replied (Cookie cookie)) before = cookie
+number_in (replied (Count count)) before = count
+number_in (known (numbered number)) before = number
+number_in _ before = before
+
+-- The bytes in the answer, or the former bytes if the answer has none.
+abbrev pub bytes_in : Answer → List ℕ → List ℕ
+bytes_in (replied (Bytes bytes)) before = bytes
+bytes_in _ before = before
+
+-- The transfer that a `Busy` or `Running` refusal names, or the former value for any other answer.
+abbrev pub conflict_in : Answer → DmaConflict → DmaConflict
+conflict_in (replied (Refused fault)) before = conflict_of {A = Unit {0}} (Err fault) before
+conflict_in _ before = before
+
+-- The outcome in the answer, or the former value if the answer has none.
+abbrev pub outcome_in : Answer → DmaOutcome → DmaOutcome
+outcome_in (replied (Resulted (Some outcome))) before = outcome_of outcome
+outcome_in _ before = before
+
+-- What runs, or the former value if nothing does.
+abbrev pub run_in : Answer → Running → Running
+run_in (known (runs (Some running))) before = running
+run_in _ before = before
+
+-- The report of the steps, or the former value if the answer isn't about steps that were taken.
+abbrev pub report_in : Answer → DmaReport → DmaReport
+report_in (stepped taken last) before = report_of taken last
+report_in _ before = before
+
+-- Each output argument has the answer's value for it after the call, or its former value if the answer has none.
+abbrev pub IsWritten : Answer → Written → Type 0
+IsWritten answer nothing = Unit {0}
+IsWritten answer (a_number before after) = after ≡ number_in answer before
+IsWritten answer (a_conflict before after) = after ≡ conflict_in answer before
+IsWritten answer (bytes_or_conflict before after c d) = (after ≡ bytes_in answer before) × (d ≡ conflict_in answer c)
+IsWritten answer (an_outcome before after) = after ≡ outcome_in answer before
+IsWritten answer (a_run before after) = after ≡ run_in answer before
+IsWritten answer (a_report before after) = after ≡ report_in answer before
+
+-- What a call does to the engine's whole state, beyond its view. A request for a status, a result or a value doesn't
+-- change the state, and neither does a refused checkpoint. After a checkpoint that succeeds the lists have no spare
+-- capacity.
+abbrev pub Leaves : Request → ℤ → EngineState → EngineState → Type 0
+Leaves (ask_call (StatusOf ch cookie)) code e e' = e' ≡ e
+Leaves (ask_call (ResultOf ch cookie)) code e e' = e' ≡ e
+Leaves (ask_value value) code e e' = e' ≡ e
+Leaves (ask_call Checkpoint) code e e' = (code ≡ ok_code → HasGivenBack e') × (code ≢ ok_code → e' ≡ e)
+Leaves _ code e e' = Unit {0}
+
+-- What a call from C on a controller returns and writes. The controller holds the first engine before the call and the
+-- second one after it. Without an engine each request is answered by `closed`, and there is no engine afterwards. With
+-- an engine, the engine gives some answer to the request, the code and what is written are those of this answer, and
+-- the controller still has an engine afterwards.
+unfoldable pub Returns : Option EngineState → Request → ℤ → Written → Option EngineState → Type 0
+Returns None request code written new = (new ≡ None) × (code ≡ code_of closed) × IsWritten closed written
+Returns (Some e) request code written new =
+    IsSomeAnd new (λ e'. (answer : Answer) × Answers e.view request answer e'.view × (code ≡ code_of answer)
+    × IsWritten answer written × Leaves request code e e')
+
+-- ---- an engine made
+
+-- What opening a controller with this memory size and number of channels returns. If the controller has an engine:
+-- `already_open`, and the engine is unchanged. Else, without an engine afterwards: the code of the first fault of
+-- these arguments, or of `NoMemory` if they have none. Else `ok_code`, only for arguments without a fault, and the
+-- controller has a new engine.
+abbrev pub Opens : Option EngineState → ℕ → ℕ → ℤ → Option EngineState → Type 0
+Opens (Some e) size channels code new = (code ≡ already_open) × (new ≡ Some e)
+Opens None size channels code new =
+    MatchOption new (code ≡ new_code (unwrap_or (new_fault size channels) engines.NoMemory))
+    (λ e. (code ≡ ok_code) × (new_fault size channels ≡ None) × (e.view ≡ new_view size channels))

@@ -1,0 +1,179 @@
+-- What holds of each script that is read.
+use Rattle.std.proofs.Common.{◌≡◌, ℕ, ◌+◌, ◌≤◌, Bool, true, false, ◌&&◌, nat_le, nat_lt, if◌then◌else◌, List, [], ◌∷◌, length, length-append, refl, subst, arith, Option, Some, None, IfSome, Result, Ok, Err, IfOk}
+use Rattle.std.specs.List.{All, list_all}
+use Rattle.std.specs.Option.{ok_or}
+use Rattle.std.specs.Str.Lines.{lines}
+use Rattle.std.proofs.lemmas.Bool.{and_parts, leb-true, ltb-true}
+use Rattle.std.proofs.lemmas.List.Elements.{All-push, All-nil}
+use Rattle.dma_script.specs.Words.{is_plain, words_of}
+use Rattle.dma_script.specs.Lines.{◌>>=◌, Gives, after_line, after_lines, at_line, is_skipped}
+use Rattle.dma_script.specs.Arguments.{end_cause, ended, next_of, number_from, number_or_zero, rest_of, unless, unread}
+use Rattle.dma_script.specs.Statements.{IsWithin, is_memory, keyword_of, memory_line, first_line, later_line, next_line, run_step, run_script_of}
+use Rattle.dma_script.specs.Race.{IsEarly, IsJob, IsRace, RaceRead, behind_memory, is_early, job_line, line_after_go, line_beside_go, nothing_read, race_keyword_of, race_step, race_script_of, where_holds}
+use Rattle.dma_script.specs.declared.fault.Cause.{Cause}
+use Rattle.dma_script.specs.declared.fault.Cause.TheVariants.{Command, First, Range}
+use Rattle.dma_script.specs.declared.fault.ReadError.{ReadError}
+use Rattle.dma_script.specs.declared.statements.Keyword.{Keyword}
+use Rattle.dma_script.specs.declared.statements.Keyword.TheVariants as keywords
+use Rattle.dma_script.specs.declared.statements.RunScript.{RunScript}
+use Rattle.dma_script.specs.declared.statements.Statement.{Statement}
+use Rattle.dma_script.specs.declared.race.JobLine.{JobLine}
+use Rattle.dma_script.specs.declared.race.RaceKeyword.{RaceKeyword}
+use Rattle.dma_script.specs.declared.race.RaceKeyword.TheVariants.{Line, Job, Go}
+
+-- ---- what holds of each value of a result
+
+then_holds : {A B E : Type 0} (Q : A → Type 0) (P : B → Type 0) (r : Result A E) (f : A → Result B E) → IfOk r Q → ((a : A) → Q a → IfOk (f a) P) → IfOk (r >>= f) P
+then_holds Q P (Ok a) f q h = h a q
+then_holds Q P (Err e) f q h = tt
+
+bind_holds : {A B E : Type 0} (P : B → Type 0) (r : Result A E) (f : A → Result B E) → ((a : A) → IfOk (f a) P) → IfOk (r >>= f) P
+bind_holds P (Ok a) f h = h a
+bind_holds P (Err e) f h = tt
+
+end_holds : {A : Type 0} (P : A → Type 0) (cause : Option Cause) (a : A) → P a → IfOk (unless cause >>= (λ done. Ok a)) P
+end_holds P None a h = h
+end_holds P (Some cause) a h = tt
+
+some_holds : {A E : Type 0} (P : A → Type 0) (o : Option A) (e : E) → IfSome o P → IfOk (ok_or o e) P
+some_holds P None e h = tt
+some_holds P (Some a) e h = h
+
+where_true : (b : Bool) (cause : Cause) → IfOk (where_holds b cause) (λ _. b ≡ true)
+where_true true cause = refl
+where_true false cause = tt
+
+-- The same of a value that a function returned.
+pub given_holds : {A E : Type 0} (P : A → Type 0) (result : Result A (ReadError E)) (gives : Result A E) → Gives (λ a. a) result gives → IfOk gives P → IfOk result P
+given_holds P (Ok a) gives is h = subst (λ g. IfOk g P) is h
+given_holds P (Err e) gives is h = tt
+
+-- ---- the lines of a script
+
+line_holds : {S : Type 0} (P : S → Type 0) (skipped plain : Bool) (read : S) (stepped : Result S Cause) (cause : Cause) → P read → IfOk stepped P → IfOk (if skipped then Ok read else (if plain then stepped else Err cause)) P
+line_holds P true plain read stepped cause h s = h
+line_holds P false true read stepped cause h s = s
+line_holds P false false read stepped cause h s = tt
+
+at_holds : {S : Type 0} (P : S → Type 0) (n : ℕ) (r : Result S Cause) → IfOk r P → IfOk (at_line n r) P
+at_holds P n (Ok a) h = h
+at_holds P n (Err cause) h = tt
+
+-- What each step keeps holds of what the lines of a script give.
+lines_hold : {S : Type 0} (step : S → List (List ℕ) → Result S Cause) (P : S → Type 0) → ((read : S) (words : List (List ℕ)) → P read → IfOk (step read words) P) → (n : ℕ) (read : S) (rest : List (List ℕ)) → P read → IfOk (after_lines step n read rest) P
+lines_hold step P more n read [] h = h
+lines_hold step P more n read (line ∷ rest) h =
+    then_holds P P (at_line (n + 1) (after_line step read line)) (λ next. after_lines step (n + 1) next rest)
+    (at_holds P (n + 1) (after_line step read line) (line_holds P (is_skipped (words_of line)) (list_all is_plain line) read (step read (words_of line)) _ h (more read (words_of line) h)))
+    (λ next is. lines_hold step P more (n + 1) next rest is)
+
+-- ---- run scripts
+
+value_within : (low high n : ℕ) (a b : Bool) → nat_le low n ≡ a → nat_le n high ≡ b → low ≤ high → (low ≤ (if a && b then n else low)) × ((if a && b then n else low) ≤ high)
+value_within low high n true true x y l = (leb-true low n x, leb-true n high y)
+value_within low high n true false x y l = (omega arith, l)
+value_within low high n false b x y l = (omega arith, l)
+
+-- what holds of a script with lines before `go`
+abbrev IsBefore : RunScript → Type 0
+IsBefore script = IsWithin script × All IsEarly script.statements
+
+is_before : (size channels : ℕ) → (1 ≤ size) × (size ≤ 4294963200) → (1 ≤ channels) × (channels ≤ 8) → IsBefore (record { size = size; channels = channels; statements = [] })
+is_before size channels s c = ((s.0, s.1, c.0, c.1), All-nil IsEarly)
+
+memory_holds : (words : List (List ℕ)) → IfOk (memory_line words) IsBefore
+memory_holds words =
+    let size = value_within 1 4294963200 (number_or_zero (next_of words)) _ _ refl refl (omega arith) in
+    let channels = value_within 1 8 (number_or_zero (next_of (rest_of words))) _ _ refl refl (omega arith) in
+    end_holds IsBefore _ _ (is_before _ _ size channels)
+
+first_holds : (keyword : Keyword) (words : List (List ℕ)) → IfOk (first_line keyword words) IsBefore
+first_holds keyword words = elim (is_memory keyword) as (λ b. IfOk (if b then memory_line words else Err First) IsBefore) [ true ↦ memory_holds words | false ↦ tt ]
+
+abbrev ReadWithin : Option RunScript → Type 0
+ReadWithin read = IfSome read IsWithin
+
+next_within : (read : Option RunScript) (keyword : Keyword) (words : List (List ℕ)) → ReadWithin read → IfOk (next_line read keyword words) ReadWithin
+next_within None keyword words h = then_holds IsBefore ReadWithin (first_line keyword words) (λ script. Ok (Some script)) (first_holds keyword words) (λ script is. is.0)
+next_within (Some script) keyword words h = bind_holds ReadWithin (later_line keyword words) _ (λ statement. h)
+
+run_within : (read : Option RunScript) (words : List (List ℕ)) → ReadWithin read → IfOk (run_step read words) ReadWithin
+run_within read [] h = tt
+run_within read (word ∷ words) h = bind_holds ReadWithin (ok_or (keyword_of word) _) _ (λ keyword. next_within read keyword words h)
+
+-- The memory line of a run script is in range.
+pub run_script_within : (input : List ℕ) → IfOk (run_script_of input) IsWithin
+run_script_within input = then_holds ReadWithin IsWithin (after_lines run_step 0 None (lines input)) _ (lines_hold run_step ReadWithin run_within 0 None (lines input) tt) (λ read h. some_holds IsWithin read _ h)
+
+-- ---- race scripts
+
+-- A line whose keyword is allowed before `go` is a statement that is allowed there.
+later_early : (keyword : Keyword) (words : List (List ℕ)) → is_early keyword ≡ true → IfOk (later_line keyword words) IsEarly
+later_early keywords.Memory words early = tt
+later_early keywords.Write words early = end_holds IsEarly _ _ (tt {0})
+later_early keywords.Read words early = end_holds IsEarly _ _ (tt {0})
+later_early keywords.Copy words early = absurd cc
+later_early keywords.Fill words early = absurd cc
+later_early keywords.Submit words early = end_holds IsEarly _ _ (tt {0})
+later_early keywords.Issue words early = end_holds IsEarly _ _ (tt {0})
+later_early keywords.Pause words early = absurd cc
+later_early keywords.Resume words early = absurd cc
+later_early keywords.Terminate words early = end_holds IsEarly _ _ (tt {0})
+later_early keywords.Step words early = absurd cc
+later_early keywords.Status words early = end_holds IsEarly _ _ (tt {0})
+later_early keywords.Result words early = end_holds IsEarly _ _ (tt {0})
+later_early keywords.Mark words early = absurd cc
+later_early keywords.Unmark words early = absurd cc
+later_early keywords.Raise words early = absurd cc
+later_early keywords.Checkpoint words early = absurd cc
+later_early keywords.Totals words early = absurd cc
+
+-- what holds of a race script that was read so far
+abbrev IsRead : RaceRead → Type 0
+IsRead read = IfSome read.before IsBefore × All IsJob read.jobs × (length read.jobs ≤ 16)
+
+abbrev ReadBefore : Option RunScript → Type 0
+ReadBefore read = IfSome read IsBefore
+
+next_early : (keyword : Keyword) (words : List (List ℕ)) (read : Option RunScript) → is_early keyword ≡ true → ReadBefore read → IfOk (next_line read keyword words) ReadBefore
+next_early keyword words None early h = then_holds IsBefore ReadBefore (first_line keyword words) (λ script. Ok (Some script)) (first_holds keyword words) (λ script is. is)
+next_early keyword words (Some script) early h =
+    then_holds IsEarly ReadBefore (later_line keyword words) _ (later_early keyword words early) (λ statement is. (h.0, All-push IsEarly script.statements statement h.1 is))
+
+early_holds : (read : RaceRead) (keyword : Keyword) (words : List (List ℕ)) (early : Bool) → is_early keyword ≡ early → IsRead read → IfOk (if early then (next_line read.before keyword words >>= (λ before. let next : RaceRead = record read { before = before } in Ok next)) else Err Command) IsRead
+early_holds read keyword words true early h = then_holds ReadBefore IsRead (next_line read.before keyword words) _ (next_early keyword words read.before early h.0) (λ before is. (is, h.1, h.2))
+early_holds read keyword words false early h = tt
+
+is_job : (first last turns : ℕ) → (nat_le first last && nat_le last 7) ≡ true → IsJob (record { first = first; last = last; turns = turns })
+is_job first last turns is = let parts = and_parts (nat_le first last) (nat_le last 7) is in (leb-true first last parts.0, leb-true last 7 parts.1)
+
+numbers_hold : (cause : Option Cause) (first last turns : ℕ) → IfOk (unless cause >>= (λ done. where_holds (nat_le first last && nat_le last 7) Range >>= (λ in_range. let job : JobLine = record { first = first; last = last; turns = turns } in Ok job))) IsJob
+numbers_hold (Some cause) first last turns = tt
+numbers_hold None first last turns = then_holds (λ _. (nat_le first last && nat_le last 7) ≡ true) IsJob (where_holds (nat_le first last && nat_le last 7) Range) _ (where_true (nat_le first last && nat_le last 7) Range) (λ u is. is_job first last turns is)
+
+job_holds : (words : List (List ℕ)) → IfOk (job_line words) IsJob
+job_holds words =
+    let first = number_from (unread words) in
+    let last = number_from first.1 in
+    let turns = number_from last.1 in
+    numbers_hold (end_cause turns.1) first.0 last.0 turns.0
+
+beside_holds : (after : Option (List Statement)) (read : RaceRead) (keyword : RaceKeyword) (words : List (List ℕ)) → IsRead read → IfOk (line_beside_go after read keyword words) IsRead
+beside_holds None read (Line keyword) words h = early_holds read keyword words (is_early keyword) refl h
+beside_holds None read Job words h =
+    bind_holds IsRead (behind_memory read.before) _ (λ behind. then_holds IsJob IsRead (job_line words) _ (job_holds words) (λ job is.
+    then_holds (λ _. nat_lt (length read.jobs) 16 ≡ true) IsRead (where_holds (nat_lt (length read.jobs) 16) _) _ (where_true (nat_lt (length read.jobs) 16) _) (λ u few.
+    (h.0, All-push IsJob read.jobs job h.1 is, omega (arith, length-append read.jobs (job ∷ []), ltb-true (length read.jobs) 16 few)))))
+beside_holds None read Go words h = bind_holds IsRead (behind_memory read.before) _ (λ behind. bind_holds IsRead (ended (unread words)) _ (λ done. h))
+beside_holds (Some after) read keyword words h = bind_holds IsRead (line_after_go keyword words) _ (λ statement. h)
+
+race_holds : (read : RaceRead) (words : List (List ℕ)) → IsRead read → IfOk (race_step read words) IsRead
+race_holds read [] h = tt
+race_holds read (word ∷ words) h = bind_holds IsRead (ok_or (race_keyword_of word) _) _ (λ keyword. beside_holds read.after read keyword words h)
+
+-- A race script is as `IsRace` says.
+pub race_script_within : (input : List ℕ) → IfOk (race_script_of input) IsRace
+race_script_within input =
+    then_holds IsRead IsRace (after_lines race_step 0 nothing_read (lines input)) _ (lines_hold race_step IsRead race_holds 0 nothing_read (lines input) (tt, All-nil IsJob, omega arith)) (λ read h.
+    then_holds IsBefore IsRace (ok_or read.before _) _ (some_holds IsBefore read.before _ h.0) (λ before is.
+    bind_holds IsRace (ok_or read.after _) _ (λ after. record { memory = is.0; early = is.1; jobs = h.1; few = h.2 })))

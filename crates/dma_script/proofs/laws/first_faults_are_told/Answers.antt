@@ -1,5 +1,0 @@
-use Rattle.dma_script.proofs.FaultLemmas.{first_faults_are_told}
-use Rattle.dma_script.proofs.laws.first_faults_are_told.Goals as goal
-
-pub returns : goal.returns
-returns c = first_faults_are_told

@@ -1,0 +1,19 @@
+-- Lines that are begun at the end of a list, and then ended or removed.
+use Rattle.std.proofs.Common.{◌≡◌, ℕ, ◌≤◌, List, [], ◌∷◌, ◌++◌, length, take, refl, ap, sym, subst, ◌∙◌, arith, take_all}
+use Rattle.std.proofs.Math.Seq.{take-append_seam}
+use Rattle.std.proofs.lemmas.List.{length-take, take-take}
+use Rattle.dma_text.specs.Text.{Begins}
+
+-- nothing was appended
+pub begins_same : (old new : List ℕ) → new ≡ old → Begins new old
+begins_same old new same = record { front_is = ap (take (length old)) same ∙ take_all (length old) old (omega arith) }
+
+-- something was appended
+pub begins_appended : (old new more : List ℕ) → new ≡ old ++ more → Begins new old
+begins_appended old new more is = record { front_is = ap (take (length old)) is ∙ take-append_seam old more }
+
+-- one more part was appended
+pub begins_more : (old middle new : List ℕ) → Begins middle old → Begins new middle → Begins new old
+begins_more old middle new first more =
+    let within : length old ≤ length middle = omega (arith, ap length first.front_is, length-take (length old) middle) in
+    record { front_is = sym (take-take (length old) (length middle) new within) ∙ ap (take (length old)) more.front_is ∙ first.front_is }

@@ -1,0 +1,6 @@
+-- Bytes that are appended.
+use Rattle.std.specs.Prelude.{◌≡◌, ℕ, List, length, take}
+
+-- The list `whole` begins with all of `front`.
+pub record Begins (whole front : List ℕ) : Type 0 where
+  pub front_is : take (length front) whole ≡ front

@@ -1,0 +1,30 @@
+use Rattle.std.proofs.Common.{◌≡◌, ◌<◌, ◌≤◌, ℕ, length}
+use Rattle.std.specs.Prelude.{slice_index_or, vec_len, vec_capacity}
+use Rattle.dma_work.specs.declared.worker.Job.{Job}
+use Rattle.dma_work.specs.declared.shared.Begun.{Begun}
+use Rattle.dma_work.specs.inner.Begun.{IsBegun, IsOf}
+use Rattle.dma_work.specs.Desk.{TallyCounts}
+use Rattle.dma_work.proofs.shared.Crew.work_all.Given as goal
+
+abbrev pub invariant-loop-start : goal.invariant-loop-start
+invariant-loop-start g l = record {
+  count : vec_len l.begun ≡ l.start;
+  room : length l.jobs ≤ vec_capacity l.begun;
+  begun : (k : ℕ) (b : Begun) (j : Job) → k < l.start → IsBegun (slice_index_or l.begun.items k b) k (slice_index_or l.jobs k j).turns;
+}
+
+abbrev pub invariant-loop-here : goal.invariant-loop-here
+invariant-loop-here g l = record {
+  count : vec_len l.begun ≡ length l.jobs;
+  owed : (k : ℕ) (b : Begun) (j : Job) → k < l.here → IsOf (slice_index_or l.begun.items k b) k (slice_index_or l.jobs k j).turns;
+  begun : (k : ℕ) (b : Begun) (j : Job) → k < length l.jobs → l.here ≤ k → IsBegun (slice_index_or l.begun.items k b) k (slice_index_or l.jobs k j).turns;
+}
+
+abbrev pub invariant-loop-last : goal.invariant-loop-last
+invariant-loop-last g l = record {
+  count : vec_len l.begun ≡ length l.jobs;
+  ended : vec_len l.tallies ≡ l.last;
+  room : length l.jobs ≤ vec_capacity l.tallies;
+  owed : (k : ℕ) (b : Begun) (j : Job) → k < length l.jobs → l.last ≤ k → IsOf (slice_index_or l.begun.items k b) k (slice_index_or l.jobs k j).turns;
+  tallies : (k : ℕ) (t : TallyCounts) (j : Job) → k < l.last → ((slice_index_or l.tallies.items k t).worker ≡ k) × ((slice_index_or l.tallies.items k t).turns ≡ (slice_index_or l.jobs k j).turns);
+}

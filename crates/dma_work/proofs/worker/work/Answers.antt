@@ -1,0 +1,24 @@
+use Rattle.std.proofs.Common.{◌∙◌, arith, subst, add-one}
+use Rattle.dma_work.specs.Rotation.{channel_at, rotation}
+use Rattle.dma_work.proofs.Rotations.{channel_again, channel_next, one_more}
+use Rattle.dma_work.proofs.worker.work.Goals as goal
+use Rattle.dma_work.proofs.worker.work.Goals.{then-ch-job, else-ch-job}
+
+pub loop-n-preserved : goal.loop-n-preserved
+loop-n-preserved g c =
+    let first = c.args.job.first in
+    let last = c.args.job.last in
+    let n = c.loop-n.n in
+    let i = c.loop-n.invariant in
+    let Acts = g.S.Stepper.acts in
+    let here : Acts c.loop-n.stepper (channel_at first last n) c.turn-in-loop-n.new.self =
+    subst (λ ch. Acts c.loop-n.stepper ch c.turn-in-loop-n.new.self) {y = channel_at first last n} i.there c.turn-in-loop-n.ensures.acts in
+    record {
+      worker = c.turn-in-loop-n.ensures.worker ∙ i.worker;
+      there = elim c.if-ch-job.branch [
+        | then-ch-job w ↦ w.ch-is ∙ channel_next first last n c.loop-n.ch c.args.job.in_order i.there (omega (arith, w.if-ch-job.true))
+        | else-ch-job w ↦ w.ch-is ∙ channel_again first last n c.loop-n.ch c.args.job.in_order i.there (omega (arith, w.if-ch-job.false))
+      ];
+      acts = rw add-one (one_more Acts (rotation first last n) (channel_at first last n) c.args.stepper.now c.loop-n.stepper c.turn-in-loop-n.new.self i.acts here);
+      taken = omega (arith, c.turn-in-loop-n.ensures.taken, i.taken);
+    }

@@ -1,0 +1,105 @@
+-- The log of ticks, what is published of it, and what readers have seen.
+use Rattle.std.specs.Prelude.{ℕ, ◌≡◌, ◌==◌, true, Option, Some, None, List, [], ◌∷◌, ◌++◌, length, IfSome, MatchBool}
+use Rattle.std.specs.List.{fold}
+use mathlib.Core.Option.{some}
+use lib.ListN.{get_elem?}
+use Rattle.logbook.specs.Pages.{Cell, Step, View, Book, Named}
+use Rattle.dma_engine.specs.Ticks.{Board, Tick, ticks_of}
+use Rattle.dma_engine.specs.View.{View as EngineView}
+use Rattle.dma_work.specs.Ticks.{StartsWith}
+use Rattle.dma_work.specs.Known.{Known}
+
+-- ---- the log
+
+-- A snapshot of a log: the log, and the ticks that it had.
+pub record SnapshotState : Type 0 where
+  pub log : Book
+  pub ticks : List Tick
+
+-- a list of one tick, or of none
+abbrev pub those : Option Tick → List Tick
+those (Some t) = t ∷ []
+those None = []
+
+-- the snapshot with one more tick
+abbrev pub with_tick : SnapshotState → Tick → SnapshotState
+with_tick s t = record s { ticks = s.ticks ++ t ∷ [] }
+
+-- The rule of a log: its first word is the number of ticks. (A log has two words; this one keeps the second at 0.)
+abbrev pub IsCounted : List Cell → List Tick → Type 0
+IsCounted cells ticks = cells ≡ (length ticks, true) ∷ (0, true) ∷ []
+
+-- the first word of a log
+abbrev pub head_of : Book → Named
+head_of b = record { tracked = true; key = 0; book = b }
+
+-- What an exchange shows: if it found the number that it sought, the tick follows all that had been seen; else the log
+-- is longer.
+abbrev pub Adds : Step Tick → View Tick ℕ → ℕ → View Tick ℕ → Type 0
+Adds s v found w = MatchBool (found == s.old) (w.0 ≡ v.0 ++ s.ask ∷ []) (length w.0 ≡ found)
+
+-- ---- boards
+
+-- A published board: the counts that it begins with, its ticks, and the log that records them.
+pub record BoardState : Type 0 where
+  pub base : Board
+  pub ticks : List Tick
+  pub log : Book
+
+-- the board with more ticks
+abbrev pub board_and : BoardState → List Tick → BoardState
+board_and b more = record b { ticks = b.ticks ++ more }
+
+-- the board with one more tick
+abbrev pub board_with : BoardState → Tick → BoardState
+board_with b t = board_and b (t ∷ [])
+
+-- A board at a later time begins with what it was.
+pub record Later (old new : BoardState) : Type 0 where
+  pub base : new.base ≡ old.base
+  pub log : new.log ≡ old.log
+  pub ticks : StartsWith new.ticks old.ticks
+
+-- the last of the boards that are to be published next, or the one that is published
+abbrev pub newest : BoardState → List BoardState → BoardState
+newest b next = fold (λ (x : BoardState) (y : BoardState). y) b next
+
+-- a snapshot of a board's log that has the board's ticks
+abbrev pub snapshot_of : BoardState → SnapshotState
+snapshot_of b = record { log = b.log; ticks = b.ticks }
+
+-- A publisher: the board that is published, those that are to be published next, and the ticks that were published before
+-- those of the engine's history.
+pub record PublisherState : Type 0 where
+  pub shown : BoardState
+  pub pending : List BoardState
+  pub before : List Tick
+
+-- The engine has acted: its history has the ticks that are published, and one more.
+abbrev pub HasActed : PublisherState → EngineView → Tick → Type 0
+HasActed p v t = p.before ++ ticks_of v.history ≡ p.shown.ticks ++ t ∷ []
+
+-- ---- the rule of what is published: it only grows, and begins with all that anyone has seen
+
+-- The board that the writer or a reader has seen, if any, was this one at an earlier time.
+abbrev pub IsSeen : BoardState → Option BoardState → Type 0
+IsSeen b view = IfSome view (λ seen. Later seen b)
+
+-- Each view was this board at an earlier time.
+abbrev pub Keeps : BoardState → List (Option BoardState) → Type 0
+Keeps b views = (seat : ℕ) (view : Option BoardState) → get_elem? views seat ≡ some view → IsSeen b view
+
+-- Who looks at a board or publishes one has then seen it, and it is a later time of what was seen before.
+abbrev pub Sees : Option BoardState → BoardState → BoardState → Option BoardState → Type 0
+Sees before old new after = IsSeen new before × (after ≡ Some new)
+
+-- ---- readers
+
+-- the board that was seen, or an empty one
+abbrev pub seen_board : Option BoardState → BoardState
+seen_board (Some b) = b
+seen_board None = record { base = []; ticks = []; log = record { number = 0; log_name = 0; cells_name = 0 } }
+
+-- what a reader knows that has seen this board and learnt this snapshot
+abbrev pub known_by : BoardState → SnapshotState → Known
+known_by b learnt = record { base = b.base; log = b.log; seen = b.ticks; learnt = learnt.ticks }
