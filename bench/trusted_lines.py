@@ -97,8 +97,8 @@ class Source:
 def cited_in(source, text):
     """Returns the names and the operators in a text of a file."""
     operators = [name for name in (*source.imports, *source.blocks) if name.startswith("◌")]
-    stand = {*text.split(), ">>="} if "←" in text else {*text.split()}
-    return WORD.findall(LABEL.sub("", text)) + [name for name in operators if name.strip("◌") in stand]
+    words = {*text.split(), ">>="} if "←" in text else {*text.split()}
+    return WORD.findall(LABEL.sub("", text)) + [name for name in operators if name.strip("◌") in words]
 
 
 def contract_of(text, function, wanted):
@@ -109,7 +109,7 @@ def contract_of(text, function, wanted):
 
 
 def resolved(files, at, word):
-    """Returns the file and the name of the block that a word of a file names, if it names one of the repository."""
+    """Returns the file and the name of the block that a word of a file names; None if it names none of the repository."""
     target, name = at, word
     while name not in files[target].blocks:
         path, declared = files[target].imports.get(name, ("", ""))
@@ -154,14 +154,14 @@ def total(found, folder):
 
 
 def rows_that_differ(found):
-    """Returns the rows that differ between the table in docs/TRUST.md and the headline, or that one of them lacks."""
+    """Returns the rows in which the table in docs/TRUST.md and the headline differ."""
     wanted = {}
     for at, (blocks, size) in part(found, "specs").items():
         wanted[str(at.relative_to(CRATES))] = f"{sum(code for code, _ in blocks.values())} of {size}"
     rows = re.findall(r"^\| \d+ \| `(\S+)` \| (\d+) \| (\d+) \|", (TOP / "docs/TRUST.md").read_text(), re.M)
-    told = {at: f"{code} of {size}" for at, code, size in rows}
-    differ = (at for at in {**wanted, **told} if wanted.get(at) != told.get(at))
-    return [f"{at}: {told.get(at)} in the table, {wanted.get(at)} in the tree" for at in differ]
+    counted = {at: f"{code} of {size}" for at, code, size in rows}
+    differ = (at for at in {**wanted, **counted} if wanted.get(at) != counted.get(at))
+    return [f"{at}: {counted.get(at)} in the table, {wanted.get(at)} in the tree" for at in differ]
 
 
 def tens(lines):

@@ -1,6 +1,6 @@
 #!/bin/sh
 # Builds and runs the tests of the library for C and Rust, and adds up their counts. `make check` calls it with the
-# compilers (CC, CXX, CARGO) and the archive (LIB). A part whose compiler is missing is left out, and a line says so.
+# compilers (CC, CXX, CARGO) and the archive (LIB). If a compiler is missing, its part is left out, and a line says so.
 set -u
 cd "$(dirname "$0")" || exit 2
 out=out/check
@@ -34,8 +34,7 @@ try() {
     fi
 }
 
-# make_it NAME COMMAND..: builds what later checks run; counts one failure if the build fails, and nothing if it
-# succeeds
+# make_it NAME COMMAND..: builds a program that later checks run; counts one failure if the build fails, else nothing
 make_it() {
     name=$1
     shift
@@ -83,7 +82,7 @@ example() {
     "$@" >"$out/printed" && diff "$out/printed" c/example.txt
 }
 
-# readme FLAG..: succeeds if the README's lines of C, compiled with these flags, copy what they say
+# readme FLAG..: succeeds if the README's lines of C compile with these flags, and copy the bytes that they write
 readme() {
     {
         printf '#include "dma330.h"\n#include <string.h>\nint main(void)\n{\n    uint8_t out[5];\n'
@@ -93,8 +92,7 @@ readme() {
     $CC -std=c99 -Wall -Wextra -Werror -o "$out/readme" "$out/readme.c" "$@" && "$out/readme"
 }
 
-# flags PREFIX: prints the flags to compile and link with from dma330.pc of this prefix, by pkg-config if it is
-# installed
+# flags PREFIX: prints the flags in dma330.pc of this prefix, with pkg-config if it is installed
 flags() {
     if has pkg-config; then
         PKG_CONFIG_PATH=$1/lib/pkgconfig pkg-config --cflags --libs dma330
@@ -144,7 +142,7 @@ in_c() {
     make_it "$set texts.c" "$@" -o "$to/texts" c/texts.c "$LIB" && count "$set texts.c" "$last_line" "$to/texts"
 }
 
-# with_sanitizers: does the same with sanitizers, if the compiler has them and its programs can run with them here
+# with_sanitizers: does the same with sanitizers, if the compiler has them and programs with them run here
 with_sanitizers() {
     sanitizers="-fsanitize=address,undefined -fno-sanitize-recover=all -fno-omit-frame-pointer"
     printf 'int main(void)\n{\n    return 0;\n}\n' >"$out/probe.c"
@@ -203,7 +201,7 @@ cargo_in() {
 if ! has "$CARGO"; then
     echo "there is no $CARGO: the tests in Rust are left out"
 elif ! has cc; then
-    echo "there is no cc, by which Rust links: the tests in Rust are left out"
+    echo "there is no cc, with which Rust links: the tests in Rust are left out"
 else
     count "Rust tests" "$cargo_lines" cargo_in test --offline --quiet --no-fail-fast
     try "Rust example emulator" example cargo_in run --offline --quiet --example emulator

@@ -1,11 +1,11 @@
-/* Checks that each call of dma330.h is in the library, and that the library is that of this header. The header itself
- * asserts the sizes. */
+/* Checks that each call of dma330.h is in the library, and that both have the same version. The header itself asserts the
+ * sizes. */
 #include "dma330.h"
 
 #include <stdio.h>
 #include <string.h>
 
-/* A declaration without code in the library is an error of the linker. */
+/* The linker fails if a call that the header declares is not in the library. */
 typedef void (*any_call)(void);
 
 extern const any_call all_calls[];
@@ -31,7 +31,7 @@ int main(void)
     size_t count = sizeof all_calls / sizeof all_calls[0];
     size_t length = 0;
     if (dma330_version(version, sizeof version, &length) != DMA330_OK || strcmp(version, DMA330_VERSION) != 0) {
-        printf("the library is not that of this header, which is %s\n", DMA330_VERSION);
+        printf("the library's version is not that of the header, %s\n", DMA330_VERSION);
         return 1;
     }
     printf("%s, %lu calls\n", version, (unsigned long)count);

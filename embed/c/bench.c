@@ -65,13 +65,13 @@ static void load(dma330_controller *controller, long copies)
     expect(dma330_issue(controller, 0, &issued) == DMA330_OK, "not issued");
 }
 
-/* Steps until there is nothing more to do. */
+/* Steps until all copies are finished. */
 static void step_all(dma330_controller *controller, uint32_t most, measured *m)
 {
     dma330_report report;
     begin(m);
     do {
-        expect(dma330_step(controller, 0, most, &report) == DMA330_OK, "a step was refused");
+        expect(dma330_step(controller, 0, most, &report) == DMA330_OK, "a step failed");
         m->steps += report.taken;
         m->calls++;
     } while (report.turn != DMA330_NOTHING);
@@ -112,7 +112,7 @@ int main(int count, char **words)
     copies = atol(words[2]);
     for (n = 0; n < MIB; n++)
         from[n] = (uint8_t)(n % 251);
-    memset(to, 1, MIB); /* makes its pages before they are timed */
+    memset(to, 1, MIB); /* so that its pages exist before the timing begins */
     if (most == 0)
         copy_all(copies, &m);
     else

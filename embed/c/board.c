@@ -10,7 +10,7 @@ enum {
     INTEN = 0x020,         /* bit n: DMASEV n raises the interrupt n, else the event n */
     INT_EVENT_RIS = 0x024, /* bit n: the event or the interrupt n is set */
     INTMIS = 0x028,        /* bit n: the interrupt n is set */
-    INTCLR = 0x02C,        /* writing bit n clears the interrupt n; of an event it does nothing */
+    INTCLR = 0x02C,        /* writing bit n clears the interrupt n, but not the event n */
     FSRD = 0x030,          /* bit 0: the manager is faulting */
     FSRC = 0x034,          /* bit n: channel n is faulting */
     FTRD = 0x038,          /* why the manager is, or was, faulting */
@@ -69,8 +69,8 @@ static void fail(board_thread *t, uint32_t why)
 
 /* Makes one call of the library, which ends after the first DMASEV. Returns how many steps it took, and whether the
  * last one raised an interrupt. The channel sees only the flags of events: those that INTEN makes interrupts are for
- * the guest's processor. The library has all 32 events; here an instruction with one that the chip doesn't have is a
- * fault. */
+ * the guest's processor. The library has all 32 events; here an instruction with an event that the chip doesn't have
+ * fails. */
 static uint32_t call_channel(board *b, unsigned channel, uint32_t most, bool *is_raised)
 {
     board_state *s = &b->state;
@@ -100,8 +100,8 @@ static uint32_t call_channel(board *b, unsigned channel, uint32_t most, bool *is
     return r.taken;
 }
 
-/* A DMASEV that raises an interrupt is followed by the program's DMAEND, and no call ends between them: a driver
- * assumes that its interrupt handler finds the channel stopped (Linux's starts no program on a channel that isn't). */
+/* If the last step is a DMASEV that raises an interrupt, takes one more, which mostly is the program's DMAEND: a driver's
+ * interrupt handler expects the channel to be stopped (Linux's starts no program on a channel that isn't). */
 bool board_step(board *b, unsigned channel, uint32_t most)
 {
     board_thread *t = &b->state.threads[channel];
@@ -120,8 +120,8 @@ bool board_step(board *b, unsigned channel, uint32_t most)
 /* ---- the debug instruction ---- */
 
 /* Executes a DMAGO, which does nothing to a channel that isn't stopped. The length of a program is unknown (a 0 among
- * its bytes may be part of a number), so the library takes the bytes of RAM from its address on. If there are none, the
- * first step fails. */
+ * its bytes may be part of a number), so the library takes the bytes of RAM from its address on. If RAM doesn't have the
+ * address, the first step fails. */
 static void go(board *b, uint32_t channel, bool nonsecure)
 {
     board_state *s = &b->state;
@@ -178,7 +178,7 @@ static uint32_t faulting_channels(const board *b)
     return faulting;
 }
 
-/* The registers that each channel has. */
+/* Reads a register that each channel has. */
 static uint32_t read_channel(board *b, uint32_t offset)
 {
     uint32_t n = offset < CSR ? (offset - FTR) / 4 : offset < SAR ? (offset - CSR) / 8 : (offset - SAR) / 0x20;
@@ -268,7 +268,7 @@ bool board_open(board *b, const board_config *g, dma330_region *regions, size_t 
     for (unsigned n = 0; n < g->channels; n++)
         if (dma330_channel_open(&b->channels[n]) != DMA330_OK ||
             dma330_channel_step(&b->channels[n], regions, region_count, &flags, 0, &r) != DMA330_NO_PROGRAM) {
-            board_close(b); /* out of memory, or the step, which does nothing else, finds the regions invalid */
+            board_close(b); /* out of memory, or the regions, which are all that this step tests, are invalid */
             return false;
         }
     return true;

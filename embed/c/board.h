@@ -3,8 +3,8 @@
  * is an example: the channels are proved, board.h and board.c are not.
  *
  * The emulator calls board_read and board_write for the guest's accesses to the registers and board_step for each channel's
- * turns, and sets its interrupt lines from board_irqs and board_irq_abort after each of these calls. Calls for a board, and
- * accesses to its RAM, come one after another.
+ * turns, and sets its interrupt lines from board_irqs and board_irq_abort after each of these calls. No two
+ * calls for a board, or accesses to its RAM, overlap in time.
  *
  * Not modelled:
  * - peripherals, and the instructions that a channel of dma330.h doesn't know (docs/FORMATS.md): they fail with undef_instr;
@@ -12,12 +12,13 @@
  * - the manager's program at boot, the watchdog, and a thread's states that take time on a chip (as 'cache miss');
  * - access rights: the secure states can be read, but the only thing that they forbid is that a non-secure manager
  *   starts a secure channel;
- * - a buffer that the channels share: each has 256 bytes. A channel's registers are 0 after a DMAGO;
+ * - a buffer that the channels share: each has its own 256 bytes;
+ * - registers that keep their values at a DMAGO: it sets them to 0;
  * - changes of a program while it runs: its bytes, 8192 at most, are read by the DMAGO.
  *
  * What the guest uses, and what the board does:
  * - DMAGO by DBGINST0, DBGINST1, DBGCMD: dma330_channel_load_from its address, and steps from then on; nothing if
- *   the channel isn't stopped. A load that returns a code shows as a fetch fault. DMAKILL: dma330_channel_stop.
+ *   the channel isn't stopped. A load that fails shows as a fetch fault. DMAKILL: dma330_channel_stop.
  *   DMASEV: sets the event's flag.
  * - SAR, DAR, CCR, LC0, LC1: dma330_channel_registers. A load sets CCR to 0, where the chip has 0x00800200.
  * - CSR, CPC, FTR, FSRC: the last report. CPC is the program's address plus pc. CSR bits 8:4 are the event that is
@@ -30,16 +31,16 @@
  *
  * What a turn of a channel means:
  * - MOVED: CSR bits 3:0 are 1 (executing); it continues in the next round.
- * - SIGNALLED: the same; an interrupt's flag is put aside, and the remaining steps are taken.
+ * - SIGNALLED: the same; an interrupt's flag is hidden from the channels, and the remaining steps are taken.
  * - WAITING: 4 (waiting for an event); the others are stepped, and this one again in the next round.
  * - ENDED: 0 (stopped).
  * - FAULT, NO_STEP: 15 (faulting) until a DMAKILL, with a bit in FTR and irq_abort: undefined instruction 0,
  *   operand 1, MFIFO 12, store data 13, fetch 16, write 17, read 18, and for NO_STEP lockup 31.
- * An event that isn't below the modelled chip's number of events becomes an invalid operand: its flag is cleared,
- * and after SIGNALLED the CPC is set back by 2.
+ * An event that the modelled chip doesn't have is an invalid operand: its flag is cleared, and after SIGNALLED the
+ * CPC is set back by 2.
  *
- * Channels don't know interrupts. A channel gets the flags of events alone, so that DMAWFE doesn't take an
- * interrupt. A round doesn't end between a DMASEV that raises an interrupt and the next instruction, mostly the
+ * A channel of dma330.h has events and no interrupts. It gets only the flags of events, so that DMAWFE doesn't take
+ * an interrupt. A round doesn't end between a DMASEV that raises an interrupt and the next instruction, mostly the
  * DMAEND, since a driver's handler expects its channel to be stopped: if the DMASEV was the last of `most` steps,
  * one more is taken. The lines are set after each round and each write of the guest. A snapshot has each channel's
  * save, program address, status, fault and awaited event, the marks that the model made (here none), and INTEN,
@@ -105,8 +106,8 @@ uint32_t board_read(board *b, uint32_t offset);
 void board_write(board *b, uint32_t offset, uint32_t value);
 
 /* Takes at most `most` steps of a channel, and stops after one that ends, waits or fails. Takes one more if the last of
- * `most` steps raised an interrupt. Returns whether the channel is to be stepped again. This includes a channel that
- * waits for an event, though it doesn't go on before another channel, or the guest, signals the event. */
+ * `most` steps raised an interrupt. Returns whether the channel is to be stepped again: also a channel that waits for
+ * an event, which another channel or the guest signals. */
 bool board_step(board *b, unsigned channel, uint32_t most);
 
 /* Return the lines irq[31:0] and irq_abort. irq[n] is high until the guest clears interrupt n, irq_abort until the

@@ -19,7 +19,7 @@ static void has_its_registers(void)
     check(get(&m, 0xE00) == (7 << 4 | 31 << 17) && get(&m, 0xE0C) == 0, "eight channels and 32 events", 0);
     check(get(&m, 0xE04) == 0x75 && get(&m, 0xE14) == 0x07FF7F74, "the instruction cache, the bus and the buffer", 0);
     check(id_at(0xFE0) == 0x00341330 && id_at(0xFF0) == 0xB105F00D, "the ids", 0);
-    check(get(&m, 0xFF1) == 0 && get(&m, 0x1000) == 0 && get(&m, 0xFFFFFFFC) == 0, "what is no register", 0);
+    check(get(&m, 0xFF1) == 0 && get(&m, 0x1000) == 0 && get(&m, 0xFFFFFFFC) == 0, "an address without a register", 0);
     tear_down(&m);
 }
 

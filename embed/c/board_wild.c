@@ -14,7 +14,7 @@ static uint32_t any(uint32_t *seed, uint32_t below)
     return *seed % below;
 }
 
-/* Returns an address near a border of RAM, or anything. */
+/* Returns an address near a border of RAM, or any address. */
 static uint32_t any_address(uint32_t *seed)
 {
     static const uint32_t borders[] = {LOW, NEXT, NEXT_END, FAR, FAR_END, 0};
@@ -58,7 +58,7 @@ static uint32_t any_place(uint32_t *seed)
     return places[any(seed, 6)];
 }
 
-/* Writes a program of at most 1,000 bytes at one of these places, all of which RAM has. */
+/* Writes a program of at most 1,000 bytes at one of these places in RAM. */
 static void write_program(uint32_t *seed)
 {
     uint32_t at = any_place(seed);
@@ -158,7 +158,7 @@ static void restores_anything(void)
         for (channel = 0; channel < 4; channel++)
             board_step(&m.board, channel, 100);
     }
-    check(is_reset, "one that refuses is as after a reset", 0);
+    check(is_reset, "a board that can't be restored is as after a reset", 0);
     board_reset(&m.board);
     check_work(&m, 0, "it works after damaged ones", 0);
     tear_down(&m);

@@ -1,6 +1,6 @@
 /* Runs each row of channels.txt in three ways: as it is; with a call for each single step, before which the channel is
- * saved and another one restored; and without memory after dma330_channel_open, except for a call that may be out of
- * memory. Also checks that a call that fails writes nothing and changes no register, that each call has failed with
+ * saved and restored as another one; and with a heap whose allocations all fail, until a call that may be out of memory
+ * is made again. Also checks that a call that fails writes nothing and changes no register, that each call has failed with
  * each code that dma330.h names for it, and that nothing is leaked. Link it with
  * -Wl,--wrap=malloc,--wrap=realloc,--wrap=free */
 #include "heap.h"
@@ -20,17 +20,17 @@ static void count(int holds, const char *title, const char *line, const char *an
     passed += holds;
     failed += !holds;
     if (!holds)
-        printf("WRONG, way %d: %s: %s: answered %s\n", (int)way, title, line, answer);
+        printf("WRONG, way %d: %s: %s: the answer is %s\n", (int)way, title, line, answer);
 }
 
-static int is_empty; /* the heap refuses all requests */
+static int is_failing; /* whether all allocations fail */
 
-int refuses(void)
+int allocation_fails(void)
 {
-    return is_empty;
+    return is_failing;
 }
 
-/* ---- a channel, and the memory and the flags of its caller ---- */
+/* ---- a channel, and its caller's memory and flags ---- */
 
 static dma330_channel channel;
 static uint8_t ram[RAM_BYTES];
@@ -38,9 +38,9 @@ static dma330_region regions[MOST_REGIONS];
 static uint32_t flags;
 static dma330_segment marks[MOST_MARKS];
 static uint32_t kinds[MOST_MARKS];
-static uint8_t kept[DMA330_MAX_SAVE];
-static size_t region_count, mark_count, kept_len;
-static arguments asked;
+static uint8_t saved[DMA330_MAX_SAVE];
+static size_t region_count, mark_count, saved_len;
+static arguments given;
 
 /* The outputs of calls. */
 static struct {
@@ -48,7 +48,7 @@ static struct {
     dma330_registers registers;
     size_t len;
     uint8_t save[1 << 14];
-} told, blank;
+} outputs, blank;
 
 static void set_regions(const dma330_segment *list, size_t list_count)
 {
@@ -75,113 +75,113 @@ static uint8_t *byte_at(uint32_t addr)
 }
 
 /* Replaces the channel with another one that has its save and its marks. */
-static int goes_on_in_another(void)
+static int replace_channel(void)
 {
     static uint8_t save[DMA330_MAX_SAVE];
     dma330_channel next = DMA330_CHANNEL_INIT;
     size_t len = 0, n;
-    int is_well = dma330_channel_save(&channel, save, sizeof save, &len) == DMA330_OK && len <= sizeof save &&
-                  dma330_channel_open(&next) == DMA330_OK && dma330_channel_restore(&next, save, len) == DMA330_OK;
+    int is_ok = dma330_channel_save(&channel, save, sizeof save, &len) == DMA330_OK && len <= sizeof save &&
+                dma330_channel_open(&next) == DMA330_OK && dma330_channel_restore(&next, save, len) == DMA330_OK;
     for (n = 0; n < mark_count; n++)
-        is_well = is_well && dma330_channel_mark(&next, kinds[n], marks[n]) == DMA330_OK;
+        is_ok = is_ok && dma330_channel_mark(&next, kinds[n], marks[n]) == DMA330_OK;
     dma330_channel_close(&channel);
     channel = next;
-    return is_well;
+    return is_ok;
 }
 
 /* ---- the calls ---- */
 
-#define ASK(name, call, with) \
-    static int32_t ask_##name(void) \
+#define INVOKE(name, call, with) \
+    static int32_t invoke_##name(void) \
     { \
         return dma330_channel_##call with; \
     }
-ASK(open, open, (&channel))
-ASK(load_copy, load_copy, (&channel, asked.src, asked.src_count, asked.dst, asked.dst_count, asked.wait, asked.signal))
-ASK(load_fill, load_fill, (&channel, asked.numbers[0], asked.dst, asked.dst_count, asked.wait, asked.signal))
-ASK(load_program, load_program, (&channel, asked.bytes, asked.len))
-ASK(load_from, load_from, (&channel, regions, region_count, asked.numbers[0]))
-ASK(stop, stop, (&channel))
-ASK(registers, registers, (&channel, &told.registers))
-ASK(restore, restore, (&channel, kept, kept_len))
-ASK(restore_bytes, restore, (&channel, asked.bytes, asked.len))
+INVOKE(open, open, (&channel))
+INVOKE(load_copy, load_copy, (&channel, given.src, given.src_count, given.dst, given.dst_count, given.wait, given.signal))
+INVOKE(load_fill, load_fill, (&channel, given.numbers[0], given.dst, given.dst_count, given.wait, given.signal))
+INVOKE(load_program, load_program, (&channel, given.bytes, given.len))
+INVOKE(load_from, load_from, (&channel, regions, region_count, given.numbers[0]))
+INVOKE(stop, stop, (&channel))
+INVOKE(registers, registers, (&channel, &outputs.registers))
+INVOKE(restore, restore, (&channel, saved, saved_len))
+INVOKE(restore_bytes, restore, (&channel, given.bytes, given.len))
 
-static int32_t ask_close(void)
+static int32_t invoke_close(void)
 {
     dma330_channel_close(&channel);
     mark_count = 0;
     return DMA330_OK;
 }
 
-static int32_t ask_load_text(void)
+static int32_t invoke_load_text(void)
 {
     static uint8_t program[DMA330_MAX_PROGRAM];
     size_t len = 0, place = 0;
-    is_empty = 0;
-    if (dma330_assemble(asked.text, asked.text_len, program, sizeof program, &len, &place) != DMA330_OK)
-        bad_line("no program", asked.text);
-    is_empty = way == WITHOUT_MEMORY;
+    is_failing = 0;
+    if (dma330_assemble(given.text, given.text_len, program, sizeof program, &len, &place) != DMA330_OK)
+        bad_line("no program", given.text);
+    is_failing = way == WITHOUT_MEMORY;
     return dma330_channel_load_program(&channel, program, len);
 }
 
-static int32_t ask_step(void)
+static int32_t invoke_step(void)
 {
-    uint32_t taken = 0, most = asked.numbers[0];
+    uint32_t taken = 0, most = given.numbers[0];
     int32_t code;
     if (way != SAVED || !channel.is_open)
-        return dma330_channel_step(&channel, regions, region_count, &flags, most, &told.report);
+        return dma330_channel_step(&channel, regions, region_count, &flags, most, &outputs.report);
     do {
-        if (!goes_on_in_another())
+        if (!replace_channel())
             return DMA330_BAD_SAVE;
-        code = dma330_channel_step(&channel, regions, region_count, &flags, most > 0, &told.report);
+        code = dma330_channel_step(&channel, regions, region_count, &flags, most > 0, &outputs.report);
         if (code != DMA330_OK)
             return code;
-        taken += told.report.taken;
-        if (told.report.turn == DMA330_CHANNEL_NO_STEP && taken > 0)
-            told.report.turn = DMA330_CHANNEL_MOVED; /* the one before */
-    } while (told.report.turn == DMA330_CHANNEL_MOVED && told.report.taken > 0 && taken < most);
-    told.report.taken = taken;
+        taken += outputs.report.taken;
+        if (outputs.report.turn == DMA330_CHANNEL_NO_STEP && taken > 0)
+            outputs.report.turn = DMA330_CHANNEL_MOVED; /* what the step before it did */
+    } while (outputs.report.turn == DMA330_CHANNEL_MOVED && outputs.report.taken > 0 && taken < most);
+    outputs.report.taken = taken;
     return code;
 }
 
-static int32_t ask_mark(void)
+static int32_t invoke_mark(void)
 {
-    dma330_segment range = {asked.numbers[1], asked.numbers[2]};
-    int32_t code = dma330_channel_mark(&channel, asked.numbers[0], range);
-    kinds[mark_count] = asked.numbers[0];
+    dma330_segment range = {given.numbers[1], given.numbers[2]};
+    int32_t code = dma330_channel_mark(&channel, given.numbers[0], range);
+    kinds[mark_count] = given.numbers[0];
     marks[mark_count] = range;
     mark_count += code == DMA330_OK;
     return code;
 }
 
-static int32_t ask_unmark(void)
+static int32_t invoke_unmark(void)
 {
     mark_count = 0;
     return dma330_channel_unmark(&channel);
 }
 
-/* Saves the channel, and keeps the save. Checks that it needs exactly as many bytes as its length. */
-static int32_t ask_save(void)
+/* Saves the channel to `saved`. Checks that a buffer with one byte less than the save is too small. */
+static int32_t invoke_save(void)
 {
-    int32_t code = dma330_channel_save(&channel, told.save, asked.numbers[0], &told.len);
+    int32_t code = dma330_channel_save(&channel, outputs.save, given.numbers[0], &outputs.len);
     if (code != DMA330_OK)
         return code;
-    if (told.len > sizeof kept ||
-        dma330_channel_save(&channel, told.save, told.len - 1, &kept_len) != DMA330_BUFFER_TOO_SMALL)
+    if (outputs.len > sizeof saved ||
+        dma330_channel_save(&channel, outputs.save, outputs.len - 1, &saved_len) != DMA330_BUFFER_TOO_SMALL)
         return DMA330_BAD_SAVE;
-    return dma330_channel_save(&channel, kept, told.len, &kept_len);
+    return dma330_channel_save(&channel, saved, outputs.len, &saved_len);
 }
 
 /* Restores each beginning of the save, and the save with each byte changed. Returns the last code other than BAD_SAVE,
  * or BAD_SAVE. */
-static int32_t ask_restore_damaged(void)
+static int32_t invoke_restore_damaged(void)
 {
     int32_t code, answer = DMA330_BAD_SAVE;
     size_t n;
-    for (n = 0; n < 2 * kept_len; n++) {
-        kept[n / 2] ^= 0x10;
-        code = dma330_channel_restore(&channel, kept, n % 2 ? n / 2 : kept_len);
-        kept[n / 2] ^= 0x10;
+    for (n = 0; n < 2 * saved_len; n++) {
+        saved[n / 2] ^= 0x10;
+        code = dma330_channel_restore(&channel, saved, n % 2 ? n / 2 : saved_len);
+        saved[n / 2] ^= 0x10;
         if (code != DMA330_BAD_SAVE)
             answer = code;
     }
@@ -195,30 +195,30 @@ static int32_t ask_restore_damaged(void)
 static const struct call {
     const char *name;
     const char *shape;
-    int32_t (*ask)(void);
+    int32_t (*invoke)(void);
     const char *codes;
 } calls[] = {
-    {"open", "", ask_open, "OK ALREADY_OPEN NO_MEMORY"},
-    {"close", "", ask_close, "OK"},
-    {"load_copy", "sd", ask_load_copy, "OK NOT_OPEN " LISTS "TOTALS_DIFFER BAD_EVENT NO_MEMORY"},
-    {"load_fill", "nd", ask_load_fill, "OK NOT_OPEN " LISTS "BAD_EVENT NO_MEMORY"},
-    {"load_program", "b", ask_load_program, "OK NOT_OPEN PROGRAM_TOO_LONG"},
-    {"load_text", "t", ask_load_text, "OK"},
-    {"load_from", "n", ask_load_from, "OK NOT_OPEN BAD_REGIONS"},
-    {"step", "n", ask_step, "OK NOT_OPEN BAD_REGIONS NO_PROGRAM"},
-    {"stop", "", ask_stop, "OK NOT_OPEN"},
-    {"registers", "", ask_registers, "OK NOT_OPEN"},
-    {"mark", "knn", ask_mark, "OK NOT_OPEN BAD_KIND BAD_RANGE NO_MEMORY"},
-    {"unmark", "", ask_unmark, "OK NOT_OPEN"},
-    {"save", "n", ask_save, "OK NOT_OPEN BUFFER_TOO_SMALL"},
-    {"restore", "", ask_restore, "OK NOT_OPEN"},
-    {"restore_bytes", "b", ask_restore_bytes, "OK BAD_SAVE"},
-    {"restore_damaged", "", ask_restore_damaged, "BAD_SAVE"},
+    {"open", "", invoke_open, "OK ALREADY_OPEN NO_MEMORY"},
+    {"close", "", invoke_close, "OK"},
+    {"load_copy", "sd", invoke_load_copy, "OK NOT_OPEN " LISTS "TOTALS_DIFFER BAD_EVENT NO_MEMORY"},
+    {"load_fill", "nd", invoke_load_fill, "OK NOT_OPEN " LISTS "BAD_EVENT NO_MEMORY"},
+    {"load_program", "b", invoke_load_program, "OK NOT_OPEN PROGRAM_TOO_LONG"},
+    {"load_text", "t", invoke_load_text, "OK"},
+    {"load_from", "n", invoke_load_from, "OK NOT_OPEN BAD_REGIONS"},
+    {"step", "n", invoke_step, "OK NOT_OPEN BAD_REGIONS NO_PROGRAM"},
+    {"stop", "", invoke_stop, "OK NOT_OPEN"},
+    {"registers", "", invoke_registers, "OK NOT_OPEN"},
+    {"mark", "knn", invoke_mark, "OK NOT_OPEN BAD_KIND BAD_RANGE NO_MEMORY"},
+    {"unmark", "", invoke_unmark, "OK NOT_OPEN"},
+    {"save", "n", invoke_save, "OK NOT_OPEN BUFFER_TOO_SMALL"},
+    {"restore", "", invoke_restore, "OK NOT_OPEN"},
+    {"restore_bytes", "b", invoke_restore_bytes, "OK BAD_SAVE"},
+    {"restore_damaged", "", invoke_restore_damaged, "BAD_SAVE"},
 };
 
 enum { CALLS = sizeof calls / sizeof calls[0] };
 
-static unsigned char answered[CALLS][MOST_CODES];
+static unsigned char returned[CALLS][MOST_CODES];
 
 static void compare_codes(void)
 {
@@ -226,7 +226,7 @@ static void compare_codes(void)
     for (n = 0; n < CALLS; n++)
         for (code = 0; all_codes[code].name != NULL; code++) {
             const char *name = all_codes[code].name;
-            int may = has_word(calls[n].codes, name), has = answered[n][code];
+            int may = has_word(calls[n].codes, name), has = returned[n][code];
             if ((may || has) && strcmp(name, "NO_MEMORY") != 0)
                 count(may == has, "all codes", calls[n].name, name);
         }
@@ -234,104 +234,104 @@ static void compare_codes(void)
 
 /* ---- rows ---- */
 
-static void say_report(answer *said, const dma330_channel_report *r)
+static void append_report(answer *to, const dma330_channel_report *r)
 {
     static const named turns[] = {
         {0, "NO_STEP"}, {1, "MOVED"}, {2, "WAITING"}, {3, "ENDED"}, {4, "FAULT"}, {5, "SIGNALLED"}, NO_MORE
     };
-    say(said, " %lu %s", (unsigned long)r->taken, name_of(turns, r->turn));
+    append(to, " %lu %s", (unsigned long)r->taken, name_of(turns, r->turn));
     if (r->turn == DMA330_CHANNEL_WAITING || r->turn == DMA330_CHANNEL_SIGNALLED || r->event != 0)
-        say(said, " %lu", (unsigned long)r->event);
+        append(to, " %lu", (unsigned long)r->event);
     if (r->turn == DMA330_CHANNEL_FAULT || r->fault != 0)
-        say(said, " %s", name_of(faults, r->fault));
-    say(said, " at %lu", (unsigned long)r->pc);
+        append(to, " %s", name_of(faults, r->fault));
+    append(to, " at %lu", (unsigned long)r->pc);
 }
 
-static void say_registers(answer *said, const dma330_registers *r)
+static void append_registers(answer *to, const dma330_registers *r)
 {
-    say(said, " %lu 0x%08lX 0x%08lX 0x%08lX %d %d %d %lu %lu", (unsigned long)r->pc, (unsigned long)r->sar,
+    append(to, " %lu 0x%08lX 0x%08lX 0x%08lX %d %d %d %lu %lu", (unsigned long)r->pc, (unsigned long)r->sar,
         (unsigned long)r->dar, (unsigned long)r->ccr, r->lc0, r->lc1, r->is_loaded, (unsigned long)r->taken,
         (unsigned long)r->stored);
 }
 
-/* Makes a call, and makes it again if it is out of memory and may be. Returns whether calls that fail write nothing and
- * change no register. */
+/* Makes a call, and makes it again with a working heap if it may be out of memory and is. Returns whether the calls that
+ * failed wrote nothing and changed no register. */
 static int make_call(const struct call *c, int32_t *code)
 {
     static dma330_registers before, after;
-    int is_well = 1, is_again;
+    int is_ok = 1, is_again;
     memset(&blank, UNWRITTEN, sizeof blank);
     do {
         int32_t was = dma330_channel_registers(&channel, &before);
-        memcpy(&told, &blank, sizeof told);
-        *code = c->ask();
-        is_again = is_empty && *code == DMA330_NO_MEMORY && has_word(c->codes, "NO_MEMORY");
-        is_empty = 0;
+        memcpy(&outputs, &blank, sizeof outputs);
+        *code = c->invoke();
+        is_again = is_failing && *code == DMA330_NO_MEMORY && has_word(c->codes, "NO_MEMORY");
+        is_failing = 0;
         if (*code >= 0)
             break;
-        is_well = is_well && memcmp(&told, &blank, sizeof told) == 0 && dma330_channel_registers(&channel, &after) == was &&
-                  (was != DMA330_OK || memcmp(&before, &after, sizeof before) == 0);
+        is_ok = is_ok && memcmp(&outputs, &blank, sizeof outputs) == 0 && dma330_channel_registers(&channel, &after) == was &&
+                (was != DMA330_OK || memcmp(&before, &after, sizeof before) == 0);
     } while (is_again);
     if (index_of(*code) >= 0)
-        answered[c - calls][index_of(*code)] = 1;
-    return is_well;
+        returned[c - calls][index_of(*code)] = 1;
+    return is_ok;
 }
 
-/* Runs a line of the caller's own. Returns whether the line is one. */
-static int is_the_callers(const char *word, const char *rest, answer *said)
+/* Runs a line that is no call, but an act of the caller. Returns whether it is one. */
+static int run_act(const char *word, const char *rest, answer *to)
 {
-    static const char *const own[] = {"regions", "s", "poke", "nb", "peek", "nn", "equal", "nnn", "raise", "n", "flags", "",
-                                      "saved", ""};
-    const uint32_t *numbers = asked.numbers;
+    static const char *const acts[] = {"regions", "s", "poke", "nb", "peek", "nn", "equal", "nnn", "raise", "n", "flags", "",
+                                       "saved", ""};
+    const uint32_t *numbers = given.numbers;
     uint32_t n;
     int line = 0;
-    while (line < 14 && strcmp(own[line], word) != 0)
+    while (line < 14 && strcmp(acts[line], word) != 0)
         line += 2;
     if (line == 14)
         return 0;
-    read_arguments(own[line + 1], rest, &asked);
-    say(said, "OK");
+    read_arguments(acts[line + 1], rest, &given);
+    append(to, "OK");
     if (line == 0)
-        set_regions(asked.src, asked.src_count);
-    for (n = 0; line == 2 && n < asked.len; n++)
-        *byte_at(numbers[0] + n) = asked.bytes[n];
+        set_regions(given.src, given.src_count);
+    for (n = 0; line == 2 && n < given.len; n++)
+        *byte_at(numbers[0] + n) = given.bytes[n];
     for (n = 0; line == 4 && n < numbers[1]; n++)
-        asked.bytes[n] = *byte_at(numbers[0] + n);
-    say_bytes(said, line == 4 ? asked.bytes : kept, line == 4 ? numbers[1] : line == 12 ? kept_len : 0);
+        given.bytes[n] = *byte_at(numbers[0] + n);
+    append_bytes(to, line == 4 ? given.bytes : saved, line == 4 ? numbers[1] : line == 12 ? saved_len : 0);
     if (line == 6 && memcmp(byte_at(numbers[0]), byte_at(numbers[1]), numbers[2]) != 0)
-        say(said, ", but not equal");
+        append(to, ", but not equal");
     if (line == 8)
         flags |= (uint32_t)1 << numbers[0];
     if (line == 10)
-        say(said, " 0x%08lX", (unsigned long)flags);
+        append(to, " 0x%08lX", (unsigned long)flags);
     return 1;
 }
 
-static void play_row(const group *of, const row *next)
+static void run_row(const group *of, const row *next)
 {
     static char text[ANSWER_ROOM];
-    answer said = {text, sizeof text};
+    answer to = {text, sizeof text};
     const char *rest = next->line;
     const struct call *c = calls;
     char word[32];
-    int is_well = 1;
+    int is_ok = 1;
     int32_t code;
     text[0] = '\0';
     next_word(&rest, word, sizeof word);
-    if (!is_the_callers(word, rest, &said)) {
+    if (!run_act(word, rest, &to)) {
         while (strcmp(c->name, word) != 0)
             if (++c == calls + CALLS)
                 bad_line("no call", word);
-        read_arguments(c->shape, rest, &asked);
-        is_empty = way == WITHOUT_MEMORY;
-        is_well = make_call(c, &code);
-        say(&said, "%s", code_name(code));
-        if (code == DMA330_OK && c->ask == ask_step)
-            say_report(&said, &told.report);
-        if (code == DMA330_OK && c->ask == ask_registers)
-            say_registers(&said, &told.registers);
+        read_arguments(c->shape, rest, &given);
+        is_failing = way == WITHOUT_MEMORY;
+        is_ok = make_call(c, &code);
+        append(&to, "%s", code_name(code));
+        if (code == DMA330_OK && c->invoke == invoke_step)
+            append_report(&to, &outputs.report);
+        if (code == DMA330_OK && c->invoke == invoke_registers)
+            append_registers(&to, &outputs.registers);
     }
-    count(is_well && strcmp(text, next->answer) == 0, of->title, next->line, text);
+    count(is_ok && strcmp(text, next->answer) == 0, of->title, next->line, text);
 }
 
 int main(int words_count, char **words)
@@ -342,11 +342,11 @@ int main(int words_count, char **words)
         for (of = groups; of->title != NULL; of++) {
             int n;
             flags = 0;
-            region_count = mark_count = kept_len = 0;
+            region_count = mark_count = saved_len = 0;
             for (n = 0; n < of->count; n++)
-                play_row(of, &of->rows[n]);
+                run_row(of, &of->rows[n]);
             dma330_channel_close(&channel);
-            count(live_blocks == 0, of->title, "blocks that are leaked", "");
+            count(live_blocks == 0, of->title, "leaked blocks", "");
         }
     }
     compare_codes();

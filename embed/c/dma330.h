@@ -4,16 +4,17 @@
  * - A dma330_controller is DMA330_CONTROLLER_INIT (zeros) before its first call. Its members are the library's. An open one is
  *   not copied; it may be moved, and its old place is zeroed before it is used again.
  * - One call at a time uses it. Threads that share one take turns by a lock.
- * - No pointer is null, not even one to no elements, and no two of a call overlap, except lists that are only read. While a
- *   call runs, nobody else writes what its pointers point to, or reads what it writes.
+ * - No pointer is null, not even one to zero elements. No two pointers of a call overlap, except lists that are only read.
+ *   While a call runs, nobody else writes what its pointers point to, or reads what it writes.
  *
- * A call returns DMA330_OK, or the first code that applies of those that its comment lists, in their order. A refused call
+ * A call returns DMA330_OK or a code. Its comment lists its codes in the order in which they are tested; the first that
+ * applies is returned. DMA330_NOT_OPEN comes before all others. A refused call, which returns a code other than DMA330_OK,
  * changes nothing and writes no output, except `*place` where the code has a place, and `*conflict` for DMA330_BUSY and
- * DMA330_RUNNING. DMA330_NOT_OPEN comes before all others.
+ * DMA330_RUNNING.
  *
  * Further duties: 32 KiB of stack are free; no call comes from a signal handler or from the child of a fork of a program with
  * threads; malloc, realloc and free are one allocator. Addresses and lengths of segments have 32 bits, channels and events 8:
- * test a guest's number before you narrow it. Of a list longer than 64 segments, 65 are enough to be refused. */
+ * test a guest's number before you narrow it. A list of more than 64 segments may be cut to 65, which is refused too. */
 #ifndef DMA330_H
 #define DMA330_H
 
@@ -142,14 +143,14 @@ typedef struct dma330_run_end {
     uint32_t pc;    /* of DMA330_END_FAULT: the offset of the instruction */
 } dma330_run_end;
 
-/* What the last of some steps did. A halted channel reports DMA330_HALTED, paused or not; a paused one DMA330_PAUSED,
- * whatever it has to do. */
+/* What the last of some steps did. A halted channel reports DMA330_HALTED, paused or not; a paused one reports
+ * DMA330_PAUSED, whatever its next step is. */
 enum dma330_turn {
     DMA330_NO_STEP = 0,  /* no step was requested */
     DMA330_STARTED = 1,  /* the channel's next transfer began to run */
     DMA330_MOVED = 2,    /* one instruction was executed */
     DMA330_NOTHING = 3,  /* no transfer is issued and unfinished */
-    DMA330_HELD = 4,     /* the next transfer can't start: it conflicts with a running one, of several that on the lowest channel */
+    DMA330_HELD = 4,     /* the next transfer conflicts with a running one: of several, that on the lowest channel */
     DMA330_WAITING = 5,  /* for an event whose flag is clear */
     DMA330_PAUSED = 6,   /* until dma330_resume or dma330_terminate */
     DMA330_HALTED = 7,   /* by a transfer that failed, until dma330_terminate */
@@ -174,7 +175,7 @@ enum dma330_result_code {
     DMA330_ABORTED = 3       /* by dma330_terminate */
 };
 
-/* How far a cookie is; one that isn't issued yet is in progress, and one that failed or was aborted is complete. */
+/* The state of a cookie. One that isn't issued yet is in progress; one that failed or was aborted is complete. */
 enum dma330_state { DMA330_UNKNOWN = 0, DMA330_IN_PROGRESS = 1, DMA330_COMPLETE = 2 };
 
 enum dma330_mark_kind { DMA330_MARK_READING = 0, DMA330_MARK_WRITING = 1 };
@@ -198,7 +199,7 @@ enum dma330_code {
     DMA330_OK = 0,
     DMA330_NOT_OPEN = -1,             /* the controller or the channel is zeroed or closed */
     DMA330_ALREADY_OPEN = -2,         /* dma330_open or dma330_channel_open of one that is open */
-    DMA330_NO_MEMORY = -3,            /* malloc or realloc refused */
+    DMA330_NO_MEMORY = -3,            /* malloc or realloc returned NULL */
     DMA330_BAD_EVENT = -4,            /* an event is above 31 */
     DMA330_BAD_KIND = -5,             /* a kind of mark is neither 0 nor 1 */
     DMA330_NO_RESULT = -6,            /* the cookie hasn't finished, was never given, or its result is forgotten */
@@ -236,20 +237,20 @@ enum dma330_code {
 
 /* ---- a controller and its memory ---- */
 
-/* Opens a controller with a memory of `size` zeros and with `channels` channels: ALREADY_OPEN, BAD_CHANNELS,
+/* Opens a controller with a memory of `size` zeros and with `channels` channels. Codes: ALREADY_OPEN, BAD_CHANNELS,
  * SIZE_OUT_OF_RANGE, NO_MEMORY. */
 int32_t dma330_open(dma330_controller *controller, uint32_t size, uint8_t channels) DMA330_NO_NULLS;
 
 /* Frees what an open controller holds; it may be opened again. Does nothing if it isn't open. */
 void dma330_close(dma330_controller *controller) DMA330_NO_NULLS;
 
-/* Writes bytes into the memory from an address on, marked or not: OUT_OF_MEMORY_RANGE, BUSY where a running transfer reads or
- * writes one of the addresses, NO_MEMORY. */
+/* Writes bytes into the memory from an address on, marked or not. Codes: OUT_OF_MEMORY_RANGE, BUSY if a running transfer
+ * reads or writes one of the addresses, NO_MEMORY. */
 int32_t dma330_write(dma330_controller *controller, uint32_t addr, const uint8_t *bytes, size_t len,
                      dma330_conflict *conflict) DMA330_NO_NULLS;
 
-/* Reads `len` bytes of the memory from an address on, marked or not: OUT_OF_MEMORY_RANGE, BUSY where a running transfer
- * writes one of the addresses, NO_MEMORY. The history keeps the bytes too: read gigabytes in parts. */
+/* Reads `len` bytes of the memory from an address on, marked or not. The history keeps a copy of them, so read gigabytes in
+ * parts. Codes: OUT_OF_MEMORY_RANGE, BUSY if a running transfer writes one of the addresses, NO_MEMORY. */
 int32_t dma330_read(dma330_controller *controller, uint32_t addr, uint8_t *out, size_t len,
                     dma330_conflict *conflict) DMA330_NO_NULLS;
 
@@ -258,7 +259,7 @@ int32_t dma330_read(dma330_controller *controller, uint32_t addr, uint8_t *out, 
 /* Queues a copy of the source list's bytes to the places of the destination list on a channel, and writes its cookie, 1 for
  * the first of the channel. It waits for the event `wait` before it begins, and signals `signal` once all is stored. It
  * doesn't start before dma330_issue. A halted channel accepts it, and dma330_terminate aborts it with the rest. Each rule is
- * tested over both lists before the next: EMPTY_LIST, TOO_MANY_SEGMENTS, EMPTY_SEGMENT, SEGMENT_WRAPS, TOTALS_DIFFER,
+ * tested over both lists before the next. Codes: EMPTY_LIST, TOO_MANY_SEGMENTS, EMPTY_SEGMENT, SEGMENT_WRAPS, TOTALS_DIFFER,
  * TOO_LONG, DESTINATIONS_MEET, SOURCE_MEETS_DESTINATION, BAD_EVENT, NO_MEMORY, NO_CHANNEL, OUT_OF_MEMORY_RANGE,
  * COOKIES_SPENT, NO_MEMORY. */
 int32_t dma330_submit(dma330_controller *controller, uint8_t channel, const dma330_segment *src, size_t src_count,
@@ -271,22 +272,23 @@ int32_t dma330_submit_fill(dma330_controller *controller, uint8_t channel, uint3
                            size_t dst_count, int32_t wait, int32_t signal, uint32_t *cookie) DMA330_NO_NULLS;
 
 /* Allows all submitted transfers of a channel to start, and writes how many were not allowed before. It adds an entry to the
- * history even where it writes 0: NO_CHANNEL, NO_MEMORY. */
+ * history even if that number is 0. Codes: NO_CHANNEL, NO_MEMORY. */
 int32_t dma330_issue(dma330_controller *controller, uint8_t channel, uint32_t *count) DMA330_NO_NULLS;
 
-/* Pauses a channel, paused or not: its steps do nothing until dma330_resume: NO_CHANNEL. */
+/* Pauses a channel, paused or not: its steps do nothing until dma330_resume or dma330_terminate. Codes: NO_CHANNEL. */
 int32_t dma330_pause(dma330_controller *controller, uint8_t channel) DMA330_NO_NULLS;
 
-/* Ends the pause of a channel: NO_CHANNEL. */
+/* Ends the pause of a channel. Codes: NO_CHANNEL. */
 int32_t dma330_resume(dma330_controller *controller, uint8_t channel) DMA330_NO_NULLS;
 
 /* Aborts all unfinished transfers of a channel, issued or not, ends its pause and its halt, and writes the number of aborted
- * transfers; one that failed isn't counted. Stored bytes stay stored, and raised events stay raised: NO_CHANNEL, NO_MEMORY. */
+ * transfers; one that failed isn't counted. Stored bytes stay stored, and raised events stay raised. Codes: NO_CHANNEL,
+ * NO_MEMORY. */
 int32_t dma330_terminate(dma330_controller *controller, uint8_t channel, uint32_t *count) DMA330_NO_NULLS;
 
-/* Steps a channel up to `most` times, or until a step neither starts nor moves. Returns the refusal of the first step:
- * NO_CHANNEL, STEPS_SPENT, NO_MEMORY. If a later step is refused, the report has the steps before it, with DMA330_OK, and
- * the next call tries that step again. With `most` 0 the only refusal is NOT_OPEN. */
+/* Steps a channel up to `most` times, or until a step neither starts nor moves. Codes, of the first step: NO_CHANNEL,
+ * STEPS_SPENT, NO_MEMORY. If a later step is refused, the call returns DMA330_OK with a report of the steps before it, and
+ * the next call tries that step again. With `most` 0 the only code is NOT_OPEN. */
 int32_t dma330_step(dma330_controller *controller, uint8_t channel, uint32_t most, dma330_report *report) DMA330_NO_NULLS;
 
 /* ---- readings ---- */
@@ -295,50 +297,50 @@ int32_t dma330_step(dma330_controller *controller, uint8_t channel, uint32_t mos
  * channel that doesn't exist, is DMA330_UNKNOWN. */
 int32_t dma330_status(dma330_controller *controller, uint8_t channel, uint32_t cookie) DMA330_NO_NULLS;
 
-/* Writes how a cookie finished: NO_RESULT. */
+/* Writes how a cookie finished. Codes: NO_RESULT. */
 int32_t dma330_result(dma330_controller *controller, uint8_t channel, uint32_t cookie,
                       dma330_outcome *outcome) DMA330_NO_NULLS;
 
-/* Writes the transfer that runs on a channel: NOT_RUNNING. */
+/* Writes the transfer that runs on a channel. Codes: NOT_RUNNING. */
 int32_t dma330_running(dma330_controller *controller, uint8_t channel, dma330_run *running) DMA330_NO_NULLS;
 
-/* Counts the unfinished cookies of a channel: 0 for a channel that doesn't exist. */
+/* Writes the number of unfinished cookies of a channel, 0 for a channel that doesn't exist. */
 int32_t dma330_unfinished(dma330_controller *controller, uint8_t channel, uint32_t *count) DMA330_NO_NULLS;
 
-/* Counts the cookies of a channel, from cookie 1 on, whose results checkpoints have forgotten: 0 for a channel that doesn't
- * exist. */
+/* Writes how many cookies of a channel, from cookie 1 on, have results that checkpoints have forgotten; 0 for a channel that
+ * doesn't exist. */
 int32_t dma330_forgotten(dma330_controller *controller, uint8_t channel, uint32_t *count) DMA330_NO_NULLS;
 
-/* Counts the steps that moved or finished, on all channels since the controller was opened. Steps that started a transfer or
- * did nothing count in `taken` alone. */
+/* Writes the number of steps that moved or finished, on all channels since the controller was opened. Steps that started a
+ * transfer or did nothing count in `taken` alone. */
 int32_t dma330_steps(dma330_controller *controller, uint64_t *steps) DMA330_NO_NULLS;
 
-/* Counts the entries of the history: one for each accepted write, read, submit, issue, terminate, mark, unmark and raise, and
- * in steps for each wait that passes, each signal and each finish. */
+/* Writes the number of entries of the history: one for each accepted write, read, submit, issue, terminate, mark, unmark and
+ * raise, and for each wait that passes, each signal and each finish. */
 int32_t dma330_history_entries(dma330_controller *controller, uint64_t *count) DMA330_NO_NULLS;
 
-/* Counts the bytes of writes and reads that the history keeps, in time proportional to its entries. */
+/* Writes the number of bytes of writes and reads that the history keeps, in time proportional to its entries. */
 int32_t dma330_history_bytes(dma330_controller *controller, uint64_t *count) DMA330_NO_NULLS;
 
-/* Counts the running transfers of all channels. */
+/* Writes the number of running transfers of all channels. */
 int32_t dma330_running_count(dma330_controller *controller, uint32_t *count) DMA330_NO_NULLS;
 
 /* ---- marks, events, the history ---- */
 
-/* Marks a range, inside the memory or not: bursts that read it or write it, by `kind`, fail from then on: BAD_KIND,
+/* Marks a range, inside the memory or not: bursts that read it or write it, by `kind`, fail from then on. Codes: BAD_KIND,
  * BAD_RANGE, NO_MEMORY. */
 int32_t dma330_mark(dma330_controller *controller, uint32_t kind, dma330_segment range) DMA330_NO_NULLS;
 
-/* Removes all marks: NO_MEMORY. */
+/* Removes all marks. Codes: NO_MEMORY. */
 int32_t dma330_unmark(dma330_controller *controller) DMA330_NO_NULLS;
 
 /* Sets the flag of an event of the controller, which stays set until a transfer that waits for it passes and clears it. To
  * clear one, run a fill of one byte that waits for it; if a step reports DMA330_WAITING, the flag was clear, and a terminate
- * removes the fill: BAD_EVENT, NO_MEMORY. */
+ * removes the fill. Codes: BAD_EVENT, NO_MEMORY. */
 int32_t dma330_raise(dma330_controller *controller, uint8_t event) DMA330_NO_NULLS;
 
 /* Drops the history and the results of finished transfers, and frees their memory. It first needs memory for a copy of the
- * pages in use: RUNNING, NO_MEMORY. */
+ * pages in use. Codes: RUNNING, NO_MEMORY. */
 int32_t dma330_checkpoint(dma330_controller *controller, dma330_conflict *conflict) DMA330_NO_NULLS;
 
 /* ---- a channel over the caller's memory ----
@@ -349,14 +351,14 @@ int32_t dma330_checkpoint(dma330_controller *controller, dma330_conflict *confli
  * close fails with NOT_OPEN if the channel isn't open; a call that fails changes nothing. An open channel has room for the
  * longest program, so load_program, load_from and restore allocate nothing (tested, not proved). */
 
-/* Opens a channel without a program and without marks, with room for the longest program: ALREADY_OPEN, NO_MEMORY. */
+/* Opens a channel without a program and without marks, with room for the longest program. Codes: ALREADY_OPEN, NO_MEMORY. */
 int32_t dma330_channel_open(dma330_channel *channel) DMA330_NO_NULLS;
 
 /* Frees what an open channel holds; it may be opened again. Does nothing if it isn't open. */
 void dma330_channel_close(dma330_channel *channel) DMA330_NO_NULLS;
 
-/* Loads the program of a copy in place of the one before, and sets registers and counts to 0 and empties the buffer: the
- * codes of dma330_submit up to the first NO_MEMORY. */
+/* Loads the program of a copy in place of the one before, sets registers and counts to 0, and empties the buffer. Codes:
+ * those of dma330_submit up to the first NO_MEMORY. */
 int32_t dma330_channel_load_copy(dma330_channel *channel, const dma330_segment *src, size_t src_count,
                                  const dma330_segment *dst, size_t dst_count, int32_t wait, int32_t signal) DMA330_NO_NULLS;
 
@@ -364,20 +366,20 @@ int32_t dma330_channel_load_copy(dma330_channel *channel, const dma330_segment *
 int32_t dma330_channel_load_fill(dma330_channel *channel, uint32_t src, const dma330_segment *dst, size_t dst_count,
                                  int32_t wait, int32_t signal) DMA330_NO_NULLS;
 
-/* Loads a program's bytes in the same way. They are copied: PROGRAM_TOO_LONG, NO_MEMORY. */
+/* Loads a copy of a program's bytes in the same way. Codes: PROGRAM_TOO_LONG, NO_MEMORY. */
 int32_t dma330_channel_load_program(dma330_channel *channel, const uint8_t *program, size_t len) DMA330_NO_NULLS;
 
 /* Loads the program that begins at `addr` of the memory in the same way: the bytes from there to the end of the region, 8192
  * at most, or none if no region has the address; the first step then fails with DMA330_INSTR_FETCH_ERR. A call that fails
- * keeps the program before: BAD_REGIONS, NO_MEMORY. */
+ * keeps the program before. Codes: BAD_REGIONS, NO_MEMORY. */
 int32_t dma330_channel_load_from(dma330_channel *channel, const dma330_region *regions, size_t region_count,
                                  uint32_t addr) DMA330_NO_NULLS;
 
 /* Takes at most `most` steps over the regions and the flags of events 0 to 31, which are the bits of `*flags`. It ends after
- * a step that doesn't move or that sets a flag, so that the caller can raise an interrupt: BAD_REGIONS, NO_PROGRAM. Loads
+ * a step that doesn't move or that sets a flag, so that the caller can raise an interrupt. Loads
  * outside the regions fail with DMA330_DATA_READ_ERR, stores with DMA330_DATA_WRITE_ERR. The array of regions isn't written,
  * only their bytes. A burst may cross from one region into one that touches it. The library keeps no fault: the next step
- * tries the instruction again, so a model stops stepping a channel that failed. */
+ * tries the instruction again, so a model stops stepping a channel that failed. Codes: BAD_REGIONS, NO_PROGRAM. */
 int32_t dma330_channel_step(dma330_channel *channel, dma330_region *regions, size_t region_count, uint32_t *flags,
                             uint32_t most, dma330_channel_report *report) DMA330_NO_NULLS;
 
@@ -387,17 +389,18 @@ int32_t dma330_channel_stop(dma330_channel *channel) DMA330_NO_NULLS;
 /* Writes the registers and counts. */
 int32_t dma330_channel_registers(dma330_channel *channel, dma330_registers *registers) DMA330_NO_NULLS;
 
-/* Marks a range, inside the memory or not: loads or stores of this channel there, by `kind`, fail from then on: BAD_KIND,
- * BAD_RANGE, NO_MEMORY. */
+/* Marks a range, inside the memory or not: loads or stores of this channel there, by `kind`, fail from then on. Codes:
+ * BAD_KIND, BAD_RANGE, NO_MEMORY. */
 int32_t dma330_channel_mark(dma330_channel *channel, uint32_t kind, dma330_segment range) DMA330_NO_NULLS;
 
 /* Removes the marks of this channel. */
 int32_t dma330_channel_unmark(dma330_channel *channel) DMA330_NO_NULLS;
 
-/* Writes the whole channel, except its marks, as bytes, and their number, DMA330_MAX_SAVE at most: BUFFER_TOO_SMALL. */
+/* Writes the whole channel, except its marks, as bytes, and their number, at most DMA330_MAX_SAVE. Codes:
+ * BUFFER_TOO_SMALL. */
 int32_t dma330_channel_save(dma330_channel *channel, uint8_t *out, size_t room, size_t *len) DMA330_NO_NULLS;
 
-/* Makes the channel the one that was saved. A save holds no marks; those of this channel stay: BAD_SAVE, NO_MEMORY. */
+/* Makes the channel the one that was saved. A save holds no marks; those of this channel stay. Codes: BAD_SAVE, NO_MEMORY. */
 int32_t dma330_channel_restore(dma330_channel *channel, const uint8_t *save, size_t len) DMA330_NO_NULLS;
 
 /* ---- without a controller ----
@@ -418,23 +421,24 @@ int32_t dma330_channel_restore(dma330_channel *channel, const uint8_t *save, siz
  *
  * A program that waits has DMAWFE 3, or DMAWFE 3 invalid, and one that signals DMASEV 3. */
 
-/* Writes DMA330_VERSION and a zero byte, and its length without that byte: BUFFER_TOO_SMALL. */
+/* Writes DMA330_VERSION and a zero byte, and its length without that byte. Codes: BUFFER_TOO_SMALL. */
 int32_t dma330_version(char *out, size_t room, size_t *len) DMA330_NO_NULLS;
 
 /* Runs a program alone over the caller's memory, without marks and with all flags clear, for at most `limit` instructions,
- * and writes how it ended: SIZE_OUT_OF_RANGE, PROGRAM_TOO_LONG, NO_MEMORY. The program may not lie inside the memory. */
+ * and writes how it ended. The program may not lie inside the memory. Codes: SIZE_OUT_OF_RANGE, PROGRAM_TOO_LONG,
+ * NO_MEMORY. */
 int32_t dma330_run_program(const uint8_t *program, size_t len, uint8_t *memory, size_t size, uint32_t limit,
                            dma330_run_end *end) DMA330_NO_NULLS;
 
-/* Assembles a text, and writes the program's bytes and their number. For a fault `*place` is its line, from 1; a line that
- * goes past 8192 bytes is one: BAD_MNEMONIC, BAD_OPERAND, NUMBER_OUT_OF_RANGE, PROGRAM_TOO_LONG; NO_MEMORY,
- * BUFFER_TOO_SMALL. */
+/* Assembles a text, and writes the program's bytes and their number. Codes for a faulty line, whose number from 1 is then in
+ * `*place`: BAD_MNEMONIC, BAD_OPERAND, NUMBER_OUT_OF_RANGE, and PROGRAM_TOO_LONG if the line goes past 8192 bytes. Other
+ * codes: NO_MEMORY, BUFFER_TOO_SMALL. */
 int32_t dma330_assemble(const char *text, size_t text_len, uint8_t *out, size_t room, size_t *len,
                         size_t *place) DMA330_NO_NULLS;
 
-/* Disassembles a program, and writes its text, each line ended by a line feed, without a zero byte, and its length. For a
- * fault `*place` is the offset of the first bytes that begin no instruction: CUT_INSTRUCTION, UNKNOWN_INSTRUCTION, BAD_FIELD;
- * NO_MEMORY, BUFFER_TOO_SMALL. */
+/* Disassembles a program, and writes its text and the text's length. Each line ends with a line feed; no zero byte follows.
+ * Codes for bytes that begin no instruction, the first offset of which is then in `*place`: CUT_INSTRUCTION,
+ * UNKNOWN_INSTRUCTION, BAD_FIELD. Other codes: NO_MEMORY, BUFFER_TOO_SMALL. */
 int32_t dma330_disassemble(const uint8_t *program, size_t len, char *out, size_t room, size_t *text_len,
                            size_t *place) DMA330_NO_NULLS;
 

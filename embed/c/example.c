@@ -5,11 +5,11 @@
 #include <stdio.h>
 #include <stdlib.h>
 
-/* Ends the program if a call was refused, which nothing here expects. */
+/* Ends the program if a call failed, which no call here should. */
 static void expect_ok(int32_t code, const char *call)
 {
     if (code != DMA330_OK) {
-        fprintf(stderr, "%s was refused: %ld\n", call, (long)code);
+        fprintf(stderr, "%s failed: %ld\n", call, (long)code);
         exit(1);
     }
 }
@@ -113,7 +113,7 @@ static uint32_t read_register(device *dev, uint8_t channel, uint32_t which)
     return dev->registers[channel][which];
 }
 
-static void tell(device *dev, uint8_t channel, const dma330_report *report)
+static void print_turn(device *dev, uint8_t channel, const dma330_report *report)
 {
     if (report->turn == DMA330_WAITING && dev->last_turns[channel] != DMA330_WAITING)
         printf("channel %d waits for event %lu\n", channel, (unsigned long)report->event);
@@ -129,7 +129,7 @@ static void turn(device *dev)
     for (channel = 0; channel < CHANNELS; channel++) {
         dma330_report report;
         expect_ok(dma330_step(&dev->controller, channel, STEPS_OF_A_TURN, &report), "dma330_step");
-        tell(dev, channel, &report);
+        print_turn(dev, channel, &report);
     }
 }
 

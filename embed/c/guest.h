@@ -29,18 +29,19 @@ typedef struct machine {
     board board;
     dma330_region regions[3];
     uint8_t bytes[ALL_BYTES];
-    uint8_t wanted[ALL_BYTES]; /* what a test wants them to become */
+    uint8_t wanted[ALL_BYTES]; /* what a test expects them to become */
 } machine;
 
-/* Fill RAM with a pattern and open the board; check that nothing but RAM was written, and close the board. */
+/* set_up fills RAM with a pattern and opens the board. tear_down checks that nothing but RAM was written, and closes
+ * the board. */
 void set_up(machine *m, unsigned channels, unsigned events, bool nonsecure);
 void tear_down(machine *m);
 
 /* Returns the byte at an address of RAM, in a machine's bytes or in the wanted ones. */
 uint8_t *byte_at(uint8_t bytes[ALL_BYTES], uint32_t addr);
 
-/* want_ram sets the wanted bytes to those of RAM now. want_copy copies blocks of 512 bytes in them, one after
- * another. */
+/* want_ram sets the wanted bytes to those that RAM has now. want_copy copies blocks of 512 bytes within the wanted bytes,
+ * one after another. */
 void want_ram(machine *m);
 void want_copy(machine *m, uint32_t src, uint32_t dst, uint32_t blocks);
 bool is_ram_wanted(const machine *m);

@@ -13,14 +13,14 @@ void __wrap_free(void *block);
 
 void *__wrap_malloc(size_t size)
 {
-    void *made = refuses() ? NULL : __real_malloc(size);
+    void *made = allocation_fails() ? NULL : __real_malloc(size);
     live_blocks += made != NULL;
     return made;
 }
 
 void *__wrap_realloc(void *block, size_t size)
 {
-    void *made = refuses() ? NULL : __real_realloc(block, size);
+    void *made = allocation_fails() ? NULL : __real_realloc(block, size);
     live_blocks += made != NULL && block == NULL;
     return made;
 }

@@ -20,38 +20,38 @@ static const named ends[] = {
     NAMED_END(ENDED), NAMED_END(OUT_OF_TURNS), NAMED_END(WAITING), NAMED_END(FAULT), NO_MORE
 };
 
-/* ---- an answer's words ---- */
+/* ---- the text of a turn ---- */
 
-static void say_turn(answer *said, const dma330_report *report)
+static void append_turn(answer *to, const dma330_report *report)
 {
-    say(said, "%s", name_of(turns, report->turn));
+    append(to, "%s", name_of(turns, report->turn));
     switch (report->turn) {
     case DMA330_STARTED:
-        say(said, " %lu", (unsigned long)report->cookie);
+        append(to, " %lu", (unsigned long)report->cookie);
         break;
     case DMA330_HELD:
-        say(said, " %lu %lu", (unsigned long)report->channel, (unsigned long)report->cookie);
+        append(to, " %lu %lu", (unsigned long)report->channel, (unsigned long)report->cookie);
         break;
     case DMA330_WAITING:
-        say(said, " %lu", (unsigned long)report->event);
+        append(to, " %lu", (unsigned long)report->event);
         break;
     case DMA330_FINISHED:
-        say(said, " %lu %s %lu", (unsigned long)report->cookie, name_of(results, report->result),
+        append(to, " %lu %s %lu", (unsigned long)report->cookie, name_of(results, report->result),
             (unsigned long)report->residue);
         break;
     }
 }
 
-/* ---- the calls, each by its arguments ---- */
+/* ---- the calls, with the arguments of a line ---- */
 
 typedef struct call {
     const char *name;
     const char *shape;
-    int32_t (*ask)(player *p, const arguments *a, outputs *o);
-    void (*tell)(answer *said, const arguments *a, const outputs *o);
+    int32_t (*invoke)(runner *p, const arguments *a, outputs *o);
+    void (*print)(answer *to, const arguments *a, const outputs *o);
 } call;
 
-static int32_t ask_open(player *p, const arguments *a, outputs *o)
+static int32_t invoke_open(runner *p, const arguments *a, outputs *o)
 {
     int32_t code = dma330_open(&p->controller, a->numbers[0], (uint8_t)a->numbers[1]);
     (void)o;
@@ -60,19 +60,19 @@ static int32_t ask_open(player *p, const arguments *a, outputs *o)
     return code;
 }
 
-static int32_t ask_close(player *p, const arguments *a, outputs *o)
+static int32_t invoke_close(runner *p, const arguments *a, outputs *o)
 {
     (void)a, (void)o;
     dma330_close(&p->controller);
     return DMA330_OK;
 }
 
-static int32_t ask_write(player *p, const arguments *a, outputs *o)
+static int32_t invoke_write(runner *p, const arguments *a, outputs *o)
 {
     return dma330_write(&p->controller, a->numbers[0], a->bytes, a->len, &o->conflict);
 }
 
-static int32_t ask_read(player *p, const arguments *a, outputs *o)
+static int32_t invoke_read(runner *p, const arguments *a, outputs *o)
 {
     int32_t code = dma330_read(&p->controller, a->numbers[0], o->bytes, a->numbers[1], &o->conflict);
     if (code == DMA330_OK)
@@ -80,46 +80,46 @@ static int32_t ask_read(player *p, const arguments *a, outputs *o)
     return code;
 }
 
-static int32_t ask_submit(player *p, const arguments *a, outputs *o)
+static int32_t invoke_submit(runner *p, const arguments *a, outputs *o)
 {
     return dma330_submit(&p->controller, a->channel, a->src, a->src_count, a->dst, a->dst_count, a->wait, a->signal,
                          &o->number);
 }
 
-static int32_t ask_fill(player *p, const arguments *a, outputs *o)
+static int32_t invoke_fill(runner *p, const arguments *a, outputs *o)
 {
     return dma330_submit_fill(&p->controller, a->channel, a->numbers[0], a->dst, a->dst_count, a->wait, a->signal,
                               &o->number);
 }
 
-static int32_t ask_issue(player *p, const arguments *a, outputs *o)
+static int32_t invoke_issue(runner *p, const arguments *a, outputs *o)
 {
     return dma330_issue(&p->controller, a->channel, &o->number);
 }
 
-static int32_t ask_pause(player *p, const arguments *a, outputs *o)
+static int32_t invoke_pause(runner *p, const arguments *a, outputs *o)
 {
     (void)o;
     return dma330_pause(&p->controller, a->channel);
 }
 
-static int32_t ask_resume(player *p, const arguments *a, outputs *o)
+static int32_t invoke_resume(runner *p, const arguments *a, outputs *o)
 {
     (void)o;
     return dma330_resume(&p->controller, a->channel);
 }
 
-static int32_t ask_terminate(player *p, const arguments *a, outputs *o)
+static int32_t invoke_terminate(runner *p, const arguments *a, outputs *o)
 {
     return dma330_terminate(&p->controller, a->channel, &o->number);
 }
 
-static int32_t ask_step(player *p, const arguments *a, outputs *o)
+static int32_t invoke_step(runner *p, const arguments *a, outputs *o)
 {
     return dma330_step(&p->controller, a->channel, a->numbers[0], &o->report);
 }
 
-static int32_t ask_status(player *p, const arguments *a, outputs *o)
+static int32_t invoke_status(runner *p, const arguments *a, outputs *o)
 {
     int32_t state = dma330_status(&p->controller, a->channel, a->numbers[0]);
     if (state >= 0)
@@ -127,33 +127,33 @@ static int32_t ask_status(player *p, const arguments *a, outputs *o)
     return state < 0 ? state : DMA330_OK;
 }
 
-static int32_t ask_result(player *p, const arguments *a, outputs *o)
+static int32_t invoke_result(runner *p, const arguments *a, outputs *o)
 {
     return dma330_result(&p->controller, a->channel, a->numbers[0], &o->outcome);
 }
 
-static int32_t ask_running(player *p, const arguments *a, outputs *o)
+static int32_t invoke_running(runner *p, const arguments *a, outputs *o)
 {
     return dma330_running(&p->controller, a->channel, &o->run);
 }
 
-static int32_t ask_unfinished(player *p, const arguments *a, outputs *o)
+static int32_t invoke_unfinished(runner *p, const arguments *a, outputs *o)
 {
     return dma330_unfinished(&p->controller, a->channel, &o->number);
 }
 
-static int32_t ask_forgotten(player *p, const arguments *a, outputs *o)
+static int32_t invoke_forgotten(runner *p, const arguments *a, outputs *o)
 {
     return dma330_forgotten(&p->controller, a->channel, &o->number);
 }
 
-static int32_t ask_steps(player *p, const arguments *a, outputs *o)
+static int32_t invoke_steps(runner *p, const arguments *a, outputs *o)
 {
     (void)a;
     return dma330_steps(&p->controller, &o->wide);
 }
 
-static int32_t ask_mark(player *p, const arguments *a, outputs *o)
+static int32_t invoke_mark(runner *p, const arguments *a, outputs *o)
 {
     dma330_segment range;
     (void)o;
@@ -162,154 +162,154 @@ static int32_t ask_mark(player *p, const arguments *a, outputs *o)
     return dma330_mark(&p->controller, a->numbers[0], range);
 }
 
-static int32_t ask_unmark(player *p, const arguments *a, outputs *o)
+static int32_t invoke_unmark(runner *p, const arguments *a, outputs *o)
 {
     (void)a, (void)o;
     return dma330_unmark(&p->controller);
 }
 
-static int32_t ask_raise(player *p, const arguments *a, outputs *o)
+static int32_t invoke_raise(runner *p, const arguments *a, outputs *o)
 {
     (void)o;
     return dma330_raise(&p->controller, (uint8_t)a->numbers[0]);
 }
 
-static int32_t ask_checkpoint(player *p, const arguments *a, outputs *o)
+static int32_t invoke_checkpoint(runner *p, const arguments *a, outputs *o)
 {
     (void)a;
     return dma330_checkpoint(&p->controller, &o->conflict);
 }
 
-static int32_t ask_version(player *p, const arguments *a, outputs *o)
+static int32_t invoke_version(runner *p, const arguments *a, outputs *o)
 {
     (void)p;
     return dma330_version((char *)o->bytes, a->numbers[0], &o->len);
 }
 
-static int32_t ask_run_program(player *p, const arguments *a, outputs *o)
+static int32_t invoke_run_program(runner *p, const arguments *a, outputs *o)
 {
     return dma330_run_program(a->bytes, a->len, p->ram, a->numbers[0], a->numbers[1], &o->end);
 }
 
-static int32_t ask_assemble(player *p, const arguments *a, outputs *o)
+static int32_t invoke_assemble(runner *p, const arguments *a, outputs *o)
 {
     (void)p;
     return dma330_assemble(a->text, a->text_len, o->bytes, a->numbers[0], &o->len, &o->place);
 }
 
-static int32_t ask_disassemble(player *p, const arguments *a, outputs *o)
+static int32_t invoke_disassemble(runner *p, const arguments *a, outputs *o)
 {
     (void)p;
     return dma330_disassemble(a->bytes, a->len, (char *)o->bytes, a->numbers[0], &o->len, &o->place);
 }
 
-/* ---- their answers after OK ---- */
+/* ---- the text of what a call writes ---- */
 
-static void tell_nothing(answer *said, const arguments *a, const outputs *o)
+static void print_nothing(answer *to, const arguments *a, const outputs *o)
 {
-    (void)said, (void)a, (void)o;
+    (void)to, (void)a, (void)o;
 }
 
-static void tell_number(answer *said, const arguments *a, const outputs *o)
+static void print_number(answer *to, const arguments *a, const outputs *o)
 {
     (void)a;
-    say(said, " %lu", (unsigned long)o->number);
+    append(to, " %lu", (unsigned long)o->number);
 }
 
-static void tell_steps(answer *said, const arguments *a, const outputs *o)
+static void print_steps(answer *to, const arguments *a, const outputs *o)
 {
     (void)a;
-    say(said, " %lu", (unsigned long)o->wide);
+    append(to, " %lu", (unsigned long)o->wide);
 }
 
-static void tell_state(answer *said, const arguments *a, const outputs *o)
+static void print_state(answer *to, const arguments *a, const outputs *o)
 {
     (void)a;
-    say(said, " %s", name_of(states, o->number));
+    append(to, " %s", name_of(states, o->number));
 }
 
-static void tell_bytes(answer *said, const arguments *a, const outputs *o)
+static void print_bytes(answer *to, const arguments *a, const outputs *o)
 {
     (void)a;
-    say_bytes(said, o->bytes, o->len);
+    append_bytes(to, o->bytes, o->len);
 }
 
-static void tell_outcome(answer *said, const arguments *a, const outputs *o)
+static void print_outcome(answer *to, const arguments *a, const outputs *o)
 {
     (void)a;
-    say(said, " %s %lu", name_of(results, o->outcome.result), (unsigned long)o->outcome.residue);
+    append(to, " %s %lu", name_of(results, o->outcome.result), (unsigned long)o->outcome.residue);
 }
 
-static void tell_run(answer *said, const arguments *a, const outputs *o)
+static void print_run(answer *to, const arguments *a, const outputs *o)
 {
     (void)a;
-    say(said, " %lu %lu", (unsigned long)o->run.cookie, (unsigned long)o->run.stored);
+    append(to, " %lu %lu", (unsigned long)o->run.cookie, (unsigned long)o->run.stored);
 }
 
-static void tell_report(answer *said, const arguments *a, const outputs *o)
+static void print_report(answer *to, const arguments *a, const outputs *o)
 {
     (void)a;
-    say(said, " %lu ", (unsigned long)o->report.taken);
-    say_turn(said, &o->report);
+    append(to, " %lu ", (unsigned long)o->report.taken);
+    append_turn(to, &o->report);
 }
 
-static void tell_end(answer *said, const arguments *a, const outputs *o)
+static void print_end(answer *to, const arguments *a, const outputs *o)
 {
     (void)a;
-    say(said, " %s", name_of(ends, o->end.end));
+    append(to, " %s", name_of(ends, o->end.end));
     if (o->end.end == DMA330_END_ENDED)
-        say(said, " %lu", (unsigned long)o->end.turns);
+        append(to, " %lu", (unsigned long)o->end.turns);
     if (o->end.end == DMA330_END_WAITING)
-        say(said, " %lu", (unsigned long)o->end.event);
+        append(to, " %lu", (unsigned long)o->end.event);
     if (o->end.end == DMA330_END_FAULT)
-        say(said, " %s %lu", name_of(faults, o->end.fault), (unsigned long)o->end.pc);
+        append(to, " %s %lu", name_of(faults, o->end.fault), (unsigned long)o->end.pc);
 }
 
 /* Writes text with " /" for a line feed. */
-static void tell_text(answer *said, const arguments *a, const outputs *o)
+static void print_text(answer *to, const arguments *a, const outputs *o)
 {
     size_t n;
     (void)a;
     for (n = 0; n < o->len; n++) {
         const char *before = n == 0 || o->bytes[n - 1] == '\n' ? " " : "";
         if (o->bytes[n] == '\n')
-            say(said, " /");
+            append(to, " /");
         else
-            say(said, "%s%c", before, o->bytes[n]);
+            append(to, "%s%c", before, o->bytes[n]);
     }
 }
 
 static const call calls[] = {
-    {"open", "nn", ask_open, tell_nothing},
-    {"close", "", ask_close, tell_nothing},
-    {"write", "nb", ask_write, tell_nothing},
-    {"read", "nn", ask_read, tell_bytes},
-    {"submit", "csd", ask_submit, tell_number},
-    {"submit_fill", "cnd", ask_fill, tell_number},
-    {"issue", "c", ask_issue, tell_number},
-    {"pause", "c", ask_pause, tell_nothing},
-    {"resume", "c", ask_resume, tell_nothing},
-    {"terminate", "c", ask_terminate, tell_number},
-    {"step", "cn", ask_step, tell_report},
-    {"status", "cn", ask_status, tell_state},
-    {"result", "cn", ask_result, tell_outcome},
-    {"running", "c", ask_running, tell_run},
-    {"unfinished", "c", ask_unfinished, tell_number},
-    {"forgotten", "c", ask_forgotten, tell_number},
-    {"steps", "", ask_steps, tell_steps},
-    {"mark", "knn", ask_mark, tell_nothing},
-    {"unmark", "", ask_unmark, tell_nothing},
-    {"raise", "n", ask_raise, tell_nothing},
-    {"checkpoint", "", ask_checkpoint, tell_nothing},
-    {"version", "n", ask_version, tell_text},
-    {"run_program", "nnb", ask_run_program, tell_end},
-    {"assemble", "nt", ask_assemble, tell_bytes},
-    {"disassemble", "nb", ask_disassemble, tell_text},
+    {"open", "nn", invoke_open, print_nothing},
+    {"close", "", invoke_close, print_nothing},
+    {"write", "nb", invoke_write, print_nothing},
+    {"read", "nn", invoke_read, print_bytes},
+    {"submit", "csd", invoke_submit, print_number},
+    {"submit_fill", "cnd", invoke_fill, print_number},
+    {"issue", "c", invoke_issue, print_number},
+    {"pause", "c", invoke_pause, print_nothing},
+    {"resume", "c", invoke_resume, print_nothing},
+    {"terminate", "c", invoke_terminate, print_number},
+    {"step", "cn", invoke_step, print_report},
+    {"status", "cn", invoke_status, print_state},
+    {"result", "cn", invoke_result, print_outcome},
+    {"running", "c", invoke_running, print_run},
+    {"unfinished", "c", invoke_unfinished, print_number},
+    {"forgotten", "c", invoke_forgotten, print_number},
+    {"steps", "", invoke_steps, print_steps},
+    {"mark", "knn", invoke_mark, print_nothing},
+    {"unmark", "", invoke_unmark, print_nothing},
+    {"raise", "n", invoke_raise, print_nothing},
+    {"checkpoint", "", invoke_checkpoint, print_nothing},
+    {"version", "n", invoke_version, print_text},
+    {"run_program", "nnb", invoke_run_program, print_end},
+    {"assemble", "nt", invoke_assemble, print_bytes},
+    {"disassemble", "nb", invoke_disassemble, print_text},
 };
 
 enum { CALLS = sizeof calls / sizeof calls[0] };
 
-static unsigned char answered[CALLS][MOST_CODES];
+static unsigned char returned[CALLS][MOST_CODES];
 
 static const call *call_of(const char *name)
 {
@@ -321,21 +321,21 @@ static const call *call_of(const char *name)
     return NULL;
 }
 
-int has_answered(const char *name, const char *code)
+int has_returned(const char *name, const char *code)
 {
     int n;
     for (n = 0; all_codes[n].name != NULL; n++)
         if (strcmp(all_codes[n].name, code) == 0)
-            return answered[call_of(name) - calls][n];
+            return returned[call_of(name) - calls][n];
     bad_line("no code", code);
     return 0;
 }
 
-/* ---- the rules that every call must keep ---- */
+/* ---- rules for every call ---- */
 
 enum { UNWRITTEN = 0xA5 };
 
-static void wrong(player *p, const call *c, const char *what)
+static void wrong(runner *p, const call *c, const char *what)
 {
     printf("WRONG: %s %s\n", c->name, what);
     p->wrongs++;
@@ -351,73 +351,74 @@ static int is_unwritten(const void *from, size_t len)
     return memcmp(from, &blank, len) == 0;
 }
 
-/* Returns whether the code has a place in the call's input. */
-static int names_a_place(const call *c, int32_t code)
+/* Returns whether the call writes a place in its input with this code. */
+static int has_place(const call *c, int32_t code)
 {
-    return code <= DMA330_BAD_MNEMONIC || (code == DMA330_PROGRAM_TOO_LONG && c->ask == ask_assemble);
+    return code <= DMA330_BAD_MNEMONIC || (code == DMA330_PROGRAM_TOO_LONG && c->invoke == invoke_assemble);
 }
 
-/* Returns whether the code has a running transfer. */
-static int names_a_conflict(int32_t code)
+/* Returns whether a call writes a conflicting transfer with this code. */
+static int has_conflict(int32_t code)
 {
     return code == DMA330_BUSY || code == DMA330_RUNNING;
 }
 
-/* Return whether each member is 0 that doesn't belong to the turn, or to the end. */
-static int has_zeros_elsewhere(const dma330_report *r)
+/* Return whether all members that the turn, or the end, doesn't have are 0. */
+static int other_members_are_0(const dma330_report *r)
 {
     int finished = r->turn == DMA330_FINISHED, held = r->turn == DMA330_HELD;
     return (held || r->channel == 0) && (held || finished || r->turn == DMA330_STARTED || r->cookie == 0) &&
            (r->turn == DMA330_WAITING || r->event == 0) && (finished || (r->result == 0 && r->residue == 0));
 }
 
-static int ends_with_zeros_elsewhere(const dma330_run_end *e)
+static int other_members_of_end_are_0(const dma330_run_end *e)
 {
     int faulted = e->end == DMA330_END_FAULT;
     return (e->end == DMA330_END_ENDED || e->turns == 0) && (e->end == DMA330_END_WAITING || e->event == 0) &&
            (faulted || (e->fault == 0 && e->pc == 0));
 }
 
-static void check_outputs(player *p, const call *c, int32_t code, outputs *o)
+static void check_outputs(runner *p, const call *c, int32_t code, outputs *o)
 {
     size_t place = o->place;
     dma330_conflict conflict = o->conflict;
     size_t used;
     if (index_of(code) < 0)
-        wrong(p, c, "answered a code that the header hasn't");
-    if (names_a_place(c, code))
+        wrong(p, c, "returned a code that the header doesn't have");
+    if (has_place(c, code))
         memset(&o->place, UNWRITTEN, sizeof o->place);
-    if (names_a_conflict(code))
+    if (has_conflict(code))
         memset(&o->conflict, UNWRITTEN, sizeof o->conflict);
     if (!is_unwritten(&o->place, sizeof o->place))
-        wrong(p, c, "wrote a place that its code doesn't name");
+        wrong(p, c, "wrote a place, which its code doesn't have");
     if (!is_unwritten(&o->conflict, sizeof o->conflict))
-        wrong(p, c, "wrote a conflict that its code doesn't name");
+        wrong(p, c, "wrote a conflict, which its code doesn't have");
     if (code < 0 && !is_unwritten(o, sizeof *o))
-        wrong(p, c, "was refused and wrote an output");
+        wrong(p, c, "failed and wrote an output");
     o->place = place;
     o->conflict = conflict;
     if (code < 0)
         return;
-    used = is_unwritten(&o->len, sizeof o->len) ? 0 : o->len + (c->ask == ask_version);
+    used = is_unwritten(&o->len, sizeof o->len) ? 0 : o->len + (c->invoke == invoke_version);
     if (!is_unwritten(o->bytes + used, MOST_BYTES - used))
         wrong(p, c, "wrote past its reported length");
-    if (c->ask == ask_version && o->bytes[o->len] != '\0')
-        wrong(p, c, "wrote no zero byte behind it");
-    if (c->ask == ask_step && !has_zeros_elsewhere(&o->report))
+    if (c->invoke == invoke_version && o->bytes[o->len] != '\0')
+        wrong(p, c, "wrote no zero byte after the version");
+    if (c->invoke == invoke_step && !other_members_are_0(&o->report))
         wrong(p, c, "set a member that its turn does not have");
-    if (c->ask == ask_run_program && !ends_with_zeros_elsewhere(&o->end))
+    if (c->invoke == invoke_run_program && !other_members_of_end_are_0(&o->end))
         wrong(p, c, "set a member that its end does not have");
 }
 
+/* Returns whether a call of step was out of memory after some of its steps. */
 static int is_cut_short(const call *c, int32_t code, const arguments *a, const dma330_report *report)
 {
-    return c->ask == ask_step && code == DMA330_OK && report->taken < a->numbers[0] &&
+    return c->invoke == invoke_step && code == DMA330_OK && report->taken < a->numbers[0] &&
            (report->turn == DMA330_STARTED || report->turn == DMA330_MOVED);
 }
 
-/* Makes a call, and makes it again if memory was refused and the player has a `refused`. */
-static int32_t make_call(player *p, const call *c)
+/* Makes a call, and makes it again after it was out of memory, if the runner has an `on_no_memory`. */
+static int32_t make_call(runner *p, const call *c)
 {
     uint32_t taken = 0;
     for (;;) {
@@ -428,92 +429,92 @@ static int32_t make_call(player *p, const call *c)
             return DMA330_OK;
         }
         p->calls++;
-        memset(&p->told, UNWRITTEN, sizeof p->told);
-        code = c->ask(p, &p->asked, &p->told);
-        check_outputs(p, c, code, &p->told);
+        memset(&p->outputs, UNWRITTEN, sizeof p->outputs);
+        code = c->invoke(p, &p->arguments, &p->outputs);
+        check_outputs(p, c, code, &p->outputs);
         if (index_of(code) >= 0)
-            answered[c - calls][index_of(code)] = 1;
-        is_cut = is_cut_short(c, code, &p->asked, &p->told.report);
-        if (!p->refused || (code != DMA330_NO_MEMORY && !is_cut)) {
-            p->told.report.taken += taken;
+            returned[c - calls][index_of(code)] = 1;
+        is_cut = is_cut_short(c, code, &p->arguments, &p->outputs.report);
+        if (!p->on_no_memory || (code != DMA330_NO_MEMORY && !is_cut)) {
+            p->outputs.report.taken += taken;
             return code;
         }
-        p->refused(p, is_cut ? &p->told.report : NULL);
+        p->on_no_memory(p, is_cut ? &p->outputs.report : NULL);
         if (is_cut) {
-            taken += p->told.report.taken;
-            p->asked.numbers[0] -= p->told.report.taken;
+            taken += p->outputs.report.taken;
+            p->arguments.numbers[0] -= p->outputs.report.taken;
         }
     }
 }
 
-static void carry_out_call(player *p, const call *c, const char *rest, answer *said)
+static void carry_out_call(runner *p, const call *c, const char *rest, answer *to)
 {
     int32_t code;
-    read_arguments(c->shape, rest, &p->asked);
+    read_arguments(c->shape, rest, &p->arguments);
     code = make_call(p, c);
     if (p->is_stopped)
         return;
-    say(said, "%s", code_name(code));
+    append(to, "%s", code_name(code));
     if (code == DMA330_OK)
-        c->tell(said, &p->asked, &p->told);
-    else if (names_a_place(c, code))
-        say(said, " %lu", (unsigned long)p->told.place);
-    else if (names_a_conflict(code))
-        say(said, " %lu %lu", (unsigned long)p->told.conflict.channel, (unsigned long)p->told.conflict.cookie);
+        c->print(to, &p->arguments, &p->outputs);
+    else if (has_place(c, code))
+        append(to, " %lu", (unsigned long)p->outputs.place);
+    else if (has_conflict(code))
+        append(to, " %lu %lu", (unsigned long)p->outputs.conflict.channel, (unsigned long)p->outputs.conflict.cookie);
 }
 
 /* Takes steps of a channel, each with a call of its own, and writes equal answers in a row once, with their number. */
-static void carry_out_single(player *p, const char *rest, answer *said)
+static void carry_out_single(runner *p, const char *rest, answer *to)
 {
     const call *step = call_of("step");
     char last[64] = "";
     unsigned long count = 0, left;
-    read_arguments("cn", rest, &p->asked);
-    for (left = p->asked.numbers[0]; left > 0; left--) {
+    read_arguments("cn", rest, &p->arguments);
+    for (left = p->arguments.numbers[0]; left > 0; left--) {
         char now[64];
         answer turn = {now, sizeof now};
         int32_t code;
-        p->asked.numbers[0] = 1;
+        p->arguments.numbers[0] = 1;
         code = make_call(p, step);
         if (p->is_stopped)
             return;
         if (code == DMA330_OK)
-            say_turn(&turn, &p->told.report);
+            append_turn(&turn, &p->outputs.report);
         else
-            say(&turn, "%s", code_name(code));
+            append(&turn, "%s", code_name(code));
         if (count > 0 && strcmp(now, last) != 0) {
-            say(said, "%s x%lu, ", last, count);
+            append(to, "%s x%lu, ", last, count);
             count = 0;
         }
         strcpy(last, now);
         count++;
     }
-    say(said, "%s x%lu", last, count);
+    append(to, "%s x%lu", last, count);
 }
 
-void make_player(player *p)
+void make_runner(runner *p)
 {
     memset(p, 0, sizeof *p);
     p->stop_at = -1;
 }
 
-void carry_out(player *p, const char *line, char *text)
+void carry_out(runner *p, const char *line, char *text)
 {
-    answer said = {text, ANSWER_ROOM};
+    answer to = {text, ANSWER_ROOM};
     char word[32];
     text[0] = '\0';
     next_word(&line, word, sizeof word);
     if (strcmp(word, "single") == 0) {
-        carry_out_single(p, line, &said);
+        carry_out_single(p, line, &to);
     } else if (strcmp(word, "poke") == 0) {
-        read_arguments("nb", line, &p->asked);
-        memcpy(p->ram + p->asked.numbers[0], p->asked.bytes, p->asked.len);
-        say(&said, "OK");
+        read_arguments("nb", line, &p->arguments);
+        memcpy(p->ram + p->arguments.numbers[0], p->arguments.bytes, p->arguments.len);
+        append(&to, "OK");
     } else if (strcmp(word, "peek") == 0) {
-        read_arguments("nn", line, &p->asked);
-        say(&said, "OK");
-        say_bytes(&said, p->ram + p->asked.numbers[0], p->asked.numbers[1]);
+        read_arguments("nn", line, &p->arguments);
+        append(&to, "OK");
+        append_bytes(&to, p->ram + p->arguments.numbers[0], p->arguments.numbers[1]);
     } else {
-        carry_out_call(p, call_of(word), line, &said);
+        carry_out_call(p, call_of(word), line, &to);
     }
 }

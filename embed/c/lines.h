@@ -6,7 +6,7 @@
 
 enum { RAM_BYTES = 1 << 16, ANSWER_ROOM = 4096 };
 
-/* Whatever a call may write. */
+/* Everything that a call may write. */
 typedef struct outputs {
     uint32_t number;
     uint64_t wide;
@@ -20,29 +20,29 @@ typedef struct outputs {
     uint8_t bytes[MOST_BYTES];
 } outputs;
 
-/* The state of a run of lines. make_player makes one. */
-typedef struct player {
+/* The state of a run of lines. make_runner makes one. */
+typedef struct runner {
     dma330_controller controller;
     uint32_t size;          /* of the controller's memory */
-    uint8_t ram[RAM_BYTES]; /* over which programs are run alone */
-    arguments asked;
-    outputs told;
+    uint8_t ram[RAM_BYTES]; /* the memory of programs that are run alone */
+    arguments arguments;
+    outputs outputs;
     long calls;    /* the number of calls made */
     long stop_at;  /* the most calls to make, or -1 for no limit */
     int is_stopped;
-    int wrongs;    /* the number of failed checks that every call must pass, whatever it answers */
-    /* Called when memory was refused: without a report if the call returned NO_MEMORY, with one if it stopped after the
-     * steps of the report. The call is then made again. If NULL, NO_MEMORY is an answer like any other. */
-    void (*refused)(struct player *player, const dma330_report *cut_short);
-} player;
+    int wrongs;    /* the number of broken rules for every call */
+    /* Called after a call that was out of memory, which is then made again: without a report if the call returned
+     * NO_MEMORY, with one if it ended after the steps of the report. If this is NULL, no call is made again. */
+    void (*on_no_memory)(struct runner *runner, const dma330_report *cut_short);
+} runner;
 
-/* Makes a player with a controller that isn't open. */
-void make_player(player *p);
+/* Makes a runner with a controller that isn't open. */
+void make_runner(runner *p);
 
 /* Runs a line, and writes its answer. */
-void carry_out(player *p, const char *line, char *answer);
+void carry_out(runner *p, const char *line, char *answer);
 
 /* Returns whether a call has returned a code since the program began. */
-int has_answered(const char *call, const char *code);
+int has_returned(const char *call, const char *code);
 
 #endif

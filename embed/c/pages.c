@@ -1,5 +1,5 @@
 /* Checks which pages a controller makes: at a start those of the transfer's destinations, and none in the steps after it. It
- * counts the bytes that the library asks for: a page has 4,096, everything else here is smaller. Link it with
+ * counts the bytes that the library requests: a page has 4,096, everything else here is smaller. Link it with
  * -Wl,--wrap=malloc,--wrap=realloc */
 #include "dma330.h"
 
@@ -37,12 +37,12 @@ static void is_right(int holds, const char *what)
         failed++, printf("WRONG: %s\n", what);
 }
 
-/* Returns how many whole pages of bytes a call for `most` steps asks for. */
+/* Returns how many whole pages of bytes a call of `most` steps requests. */
 static size_t pages_of_steps(dma330_controller *controller, uint32_t most)
 {
     dma330_report report;
     requested = 0;
-    is_right(dma330_step(controller, 0, most, &report) == DMA330_OK, "a step was refused");
+    is_right(dma330_step(controller, 0, most, &report) == DMA330_OK, "a step failed");
     return requested / PAGE;
 }
 
@@ -53,7 +53,7 @@ static void submit(dma330_controller *controller, uint32_t from, uint32_t to)
     uint32_t cookie, count;
     is_right(dma330_submit(controller, 0, &src, 1, &dst, 1, DMA330_NO_EVENT, DMA330_NO_EVENT, &cookie) == DMA330_OK &&
                  dma330_issue(controller, 0, &count) == DMA330_OK,
-             "a copy was refused");
+             "a copy failed");
 }
 
 int main(void)
@@ -62,10 +62,10 @@ int main(void)
     dma330_controller controller = DMA330_CONTROLLER_INIT;
     dma330_conflict conflict;
     is_right(dma330_open(&controller, 1 << 20, 1) == DMA330_OK, "no controller");
-    is_right(dma330_write(&controller, 0x80000, bytes, 4, &conflict) == DMA330_OK, "a write was refused");
+    is_right(dma330_write(&controller, 0x80000, bytes, 4, &conflict) == DMA330_OK, "a write failed");
 
     submit(&controller, 0x80000, 0x80010);
-    is_right(pages_of_steps(&controller, 1) == 0, "a start makes a page, though its destination's page is made");
+    is_right(pages_of_steps(&controller, 1) == 0, "a start makes a page, though its destination's page exists");
     is_right(pages_of_steps(&controller, 100) == 0, "steps make a page");
 
     submit(&controller, 0x10000, 0x80020);

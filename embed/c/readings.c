@@ -45,12 +45,12 @@ int are_same(const readings *a, const readings *b)
     if (a->steps_code != b->steps_code || a->steps != b->steps)
         printf("steps differ\n");
     if (a->running_code != b->running_code || a->running_count != b->running_count)
-        printf("how many run differs\n");
+        printf("the numbers of running transfers differ\n");
     for (channel = 0; channel < READ_CHANNELS; channel++)
         if (memcmp(&a->channels[channel], &b->channels[channel], sizeof a->channels[channel]) != 0)
             printf("the readings of channel %d differ\n", channel);
     if (memcmp(a->piece_codes, b->piece_codes, sizeof a->piece_codes) != 0)
-        printf("which bytes are busy differs\n");
+        printf("the busy bytes differ\n");
     if (memcmp(a->low, b->low, LOW_BYTES) != 0 || memcmp(a->high, b->high, HIGH_BYTES) != 0)
         printf("bytes differ\n");
     return 0;

@@ -6,7 +6,7 @@
 
 enum { READ_CHANNELS = DMA330_MAX_CHANNELS + 1, READ_COOKIES = 6, LOW_BYTES = 0x4000, HIGH_BYTES = 0x40, PIECE = 0x40 };
 
-/* A member is 0 if its call was refused, or if there is nothing to read. */
+/* A member is 0 if its call failed, or has nothing to read. */
 typedef struct readings {
     int32_t steps_code;
     uint64_t steps;
@@ -26,7 +26,7 @@ typedef struct readings {
     uint8_t high[HIGH_BYTES]; /* the last ones */
 } readings;
 
-/* Takes the readings of a controller whose memory has `size` bytes, without the bytes that a running transfer writes.
+/* Takes the readings of a controller whose memory has `size` bytes, except the bytes that a running transfer writes.
  * It adds reads to the history, so the history's counts of entries and bytes are not among the readings. */
 void take_readings(dma330_controller *controller, uint32_t size, readings *out);
 

@@ -10,9 +10,9 @@ static char characters[MOST_CHARACTERS];
 static row rows[MOST_ROWS];
 static group groups[MOST_GROUPS + 1];
 
-static void no_row(const char *why, const char *line)
+static void bad_row(const char *why, const char *line)
 {
-    fprintf(stderr, "no row: %s: %s\n", why, line);
+    fprintf(stderr, "not a row: %s: %s\n", why, line);
     exit(2);
 }
 
@@ -21,10 +21,10 @@ static void read_characters(const char *path)
     FILE *file = fopen(path, "rb");
     size_t count;
     if (!file)
-        no_row("cannot be read", path);
+        bad_row("cannot be read", path);
     count = fread(characters, 1, MOST_CHARACTERS - 1, file);
     if (count == MOST_CHARACTERS - 1 || ferror(file) || fclose(file) != 0)
-        no_row("cannot be read whole", path);
+        bad_row("cannot be read whole", path);
     characters[count] = '\0';
 }
 
@@ -35,7 +35,7 @@ static void split(row *made, char *line)
     for (at = line; (at = strstr(at, " = ")) != NULL; at++)
         last = at;
     if (!last)
-        no_row("it has no answer", line);
+        bad_row("it has no answer", line);
     *last = '\0';
     made->line = line;
     made->answer = last + 3;
@@ -52,7 +52,7 @@ const group *read_groups(const char *path)
             groups[group_count++].rows = rows + row_count;
         } else if (line[0] != '#') {
             if (group_count == 0 || row_count == MOST_ROWS)
-                no_row("it is in no group, or there are too many", line);
+                bad_row("no group has begun, or there are too many rows", line);
             split(&rows[row_count++], line);
             groups[group_count - 1].count++;
         }

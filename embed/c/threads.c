@@ -32,15 +32,15 @@ static void expect(int holds, const char *what)
 
 static void take(board *b)
 {
-    expect(pthread_mutex_lock(&b->lock) == 0, "the lock isn't had");
+    expect(pthread_mutex_lock(&b->lock) == 0, "the lock can't be taken");
 }
 
 static void give(board *b)
 {
-    expect(pthread_mutex_unlock(&b->lock) == 0, "the lock isn't given back");
+    expect(pthread_mutex_unlock(&b->lock) == 0, "the lock can't be released");
 }
 
-/* Makes one copy upward within the region of the processor, which takes the lock again and again. */
+/* Copies one block upward within the processor's region. It takes and releases the lock several times. */
 static void copy_upward(const processor *p, uint32_t n)
 {
     const uint32_t from = p->channel * (uint32_t)REGION + n * COPY;
@@ -58,8 +58,8 @@ static void copy_upward(const processor *p, uint32_t n)
         take(p->board);
         expect(dma330_step(&p->board->dma, p->channel, MOST, &report) == DMA330_OK, "not stepped");
         expect(report.turn == DMA330_STARTED || report.turn == DMA330_MOVED || report.turn == DMA330_FINISHED,
-               "it doesn't go on");
-        expect(rounds++ < ROUNDS, "it doesn't end");
+               "the copy doesn't go on");
+        expect(rounds++ < ROUNDS, "the copy doesn't end");
         state = dma330_status(&p->board->dma, p->channel, cookie);
         give(p->board);
     } while (state == DMA330_IN_PROGRESS);
@@ -135,7 +135,7 @@ int main(void)
     for (channel = 0; channel < THREADS; channel++)
         expect(pthread_join(threads[channel], NULL) == 0, "a thread isn't joined");
     expect(pthread_create(&last, NULL, end, &b) == 0 && pthread_join(last, NULL) == 0, "no last thread");
-    expect(pthread_mutex_destroy(&b.lock) == 0 && pthread_barrier_destroy(&b.start) == 0, "a lock stays");
+    expect(pthread_mutex_destroy(&b.lock) == 0 && pthread_barrier_destroy(&b.start) == 0, "a lock isn't destroyed");
     printf("%d copies of %d threads behind one lock\n", THREADS * COPIES, THREADS);
     return 0;
 }

@@ -1,5 +1,5 @@
-/* Checks what dma330_history_entries, dma330_history_bytes and dma330_running_count write. The reads of readings.c are
- * entries too, so no row of rows.txt has the first two. */
+/* Checks what dma330_history_entries, dma330_history_bytes and dma330_running_count write. Rows of
+ * rows.txt can't test the first two, since readings.c adds reads to the history. */
 #include "dma330.h"
 
 #include <stdio.h>
@@ -51,7 +51,7 @@ int main(void)
     has("once it is open", 0, 0, 0);
     failed += dma330_write(&dma, 0x10, bytes, 3, &conflict) != DMA330_OK ||
               dma330_write(&dma, 0xFF, bytes, 3, &conflict) == DMA330_OK;
-    has("after a write, and one that failed", 1, 3, 0);
+    has("after a write, and another that failed", 1, 3, 0);
     failed += dma330_read(&dma, 0x10, out, 5, &conflict) != DMA330_OK;
     has("after a read", 2, 8, 0);
     start(0, 0x20, 0x30);

@@ -1,5 +1,5 @@
-/* Runs each row of rows.txt, and checks that a refused call changes no reading, and that every call has returned every
- * code that the header names for it. Also checks what no row covers: programs cut at each byte, and lengths above 32
+/* Runs each row of rows.txt, and checks that a call that fails changes no reading, and that every call has returned
+ * every code that the header names for it. Also checks what no row covers: programs cut at each byte, and lengths above 32
  * bits. */
 #define _DEFAULT_SOURCE
 #include "lines.h"
@@ -23,29 +23,29 @@ static int is_right(int holds)
 
 /* ---- the rows ---- */
 
-static player walker;
+static runner walker;
 
-/* Runs a row, and checks its answer, and that a refused call changes no reading. */
+/* Runs a row. Checks its answer, and that a call that fails changes no reading. */
 static void walk_row(const group *of, const row *next)
 {
     static char answer[ANSWER_ROOM];
     static readings before, after;
     long wrongs = walker.wrongs;
-    int is_refused, stays;
+    int has_failed, is_unchanged;
     take_readings(&walker.controller, walker.size, &before);
     carry_out(&walker, next->line, answer);
     take_readings(&walker.controller, walker.size, &after);
-    is_refused = strncmp(next->answer, "OK", 2) != 0 && strncmp(next->line, "single", 6) != 0;
-    stays = !is_refused || are_same(&before, &after);
-    if (!is_right(strcmp(answer, next->answer) == 0 && stays && walker.wrongs == wrongs))
-        printf("WRONG: %s: %s: answered %s, and not %s%s\n", of->title, next->line, answer, next->answer,
-               stays ? "" : ", and changed a reading");
+    has_failed = strncmp(next->answer, "OK", 2) != 0 && strncmp(next->line, "single", 6) != 0;
+    is_unchanged = !has_failed || are_same(&before, &after);
+    if (!is_right(strcmp(answer, next->answer) == 0 && is_unchanged && walker.wrongs == wrongs))
+        printf("WRONG: %s: %s: the answer is %s, not %s%s\n", of->title, next->line, answer, next->answer,
+               is_unchanged ? "" : ", and a reading changed");
 }
 
 static void walk(const group *of)
 {
     int n;
-    make_player(&walker);
+    make_runner(&walker);
     for (n = 0; n < of->count; n++)
         walk_row(of, &of->rows[n]);
     dma330_close(&walker.controller);
@@ -58,7 +58,7 @@ static void walk(const group *of)
 static const struct {
     const char *call;
     const char *codes;
-} answers[] = {
+} codes_of_calls[] = {
     {"open", "OK ALREADY_OPEN BAD_CHANNELS SIZE_OUT_OF_RANGE"},
     {"close", "OK"},
     {"write", "OK NOT_OPEN OUT_OF_MEMORY_RANGE BUSY"},
@@ -93,17 +93,17 @@ static void compare_codes(const char *call, const char *codes)
     const named *code;
     for (code = all_codes; code->name != NULL; code++) {
         int may = has_word(codes, code->name);
-        int has = has_answered(call, code->name);
+        int has = has_returned(call, code->name);
         if ((may || has) && !is_right(may == has))
-            printf("WRONG: %s %s %s\n", call, has ? "answered" : "never answered", code->name);
+            printf("WRONG: %s %s %s\n", call, has ? "returned" : "never returned", code->name);
     }
 }
 
 static void compare_all_codes(void)
 {
     size_t n;
-    for (n = 0; n < sizeof answers / sizeof answers[0]; n++)
-        compare_codes(answers[n].call, answers[n].codes);
+    for (n = 0; n < sizeof codes_of_calls / sizeof codes_of_calls[0]; n++)
+        compare_codes(codes_of_calls[n].call, codes_of_calls[n].codes);
 }
 
 /* ---- a program cut at each byte ---- */
@@ -155,7 +155,7 @@ static void run_whole_program(void)
 
 /* ---- lengths above 32 bits, whose low halves alone would be accepted ---- */
 
-static void lend_long_lengths(uint8_t *bytes, size_t len)
+static void call_channel_with_long_lengths(uint8_t *bytes, size_t len)
 {
     dma330_channel channel = DMA330_CHANNEL_INIT;
     dma330_region region = {0, NULL, 0};
@@ -172,7 +172,7 @@ static void lend_long_lengths(uint8_t *bytes, size_t len)
     dma330_channel_close(&channel);
 }
 
-static void ask_with_long_lengths(void)
+static void call_with_long_lengths(void)
 {
     const size_t len = ((size_t)1 << 32) + 8;
     const uint8_t end_of_program = 0;
@@ -191,7 +191,7 @@ static void ask_with_long_lengths(void)
         printf("WRONG: a write of more than 4 GiB\n");
     if (!is_right(dma330_run_program(&end_of_program, 1, bytes, len, 10, &end) == DMA330_SIZE_OUT_OF_RANGE))
         printf("WRONG: a program over more than 4 GiB\n");
-    lend_long_lengths(bytes, len);
+    call_channel_with_long_lengths(bytes, len);
     dma330_close(&controller);
     munmap(bytes, len);
 }
@@ -204,7 +204,7 @@ int main(int count, char **words)
     compare_all_codes();
     run_cut_programs();
     run_whole_program();
-    ask_with_long_lengths();
+    call_with_long_lengths();
     printf("%ld passed, %ld failed\n", passed, failed);
     return failed != 0;
 }

@@ -47,11 +47,11 @@ int index_of(int32_t code)
     return -1;
 }
 
-/* ---- a line's words ---- */
+/* ---- the words of a line ---- */
 
 void bad_line(const char *why, const char *what)
 {
-    fprintf(stderr, "no line of a script: %s: %s\n", why, what);
+    fprintf(stderr, "not a line of rows: %s: %s\n", why, what);
     exit(2);
 }
 
@@ -184,7 +184,7 @@ static void expect_word(const char **at, const char *wanted)
     char word[32];
     next_word(at, word, sizeof word);
     if (strcmp(word, wanted) != 0)
-        bad_line("another word was wanted", wanted);
+        bad_line("the line lacks the word", wanted);
 }
 
 static void next_events(const char **at, arguments *a)
@@ -252,33 +252,33 @@ int has_word(const char *words, const char *code)
     return 0;
 }
 
-/* ---- an answer's words ---- */
+/* ---- the words of an answer ---- */
 
-void say(answer *said, const char *format, ...)
+void append(answer *to, const char *format, ...)
 {
     va_list rest;
     int len;
     va_start(rest, format);
-    len = vsnprintf(said->at, said->room, format, rest);
+    len = vsnprintf(to->at, to->room, format, rest);
     va_end(rest);
-    if (len < 0 || (size_t)len >= said->room)
+    if (len < 0 || (size_t)len >= to->room)
         bad_line("the answer is too long", format);
-    said->at += len;
-    said->room -= (size_t)len;
+    to->at += len;
+    to->room -= (size_t)len;
 }
 
-void say_bytes(answer *said, const uint8_t *bytes, size_t len)
+void append_bytes(answer *to, const uint8_t *bytes, size_t len)
 {
     size_t n = 1;
     if (len == 0)
         return;
-    say(said, " ");
+    append(to, " ");
     while (n < len && bytes[n] == bytes[0])
         n++;
     if (n == len && len > 16) {
-        say(said, "%02X*%lu", bytes[0], (unsigned long)len);
+        append(to, "%02X*%lu", bytes[0], (unsigned long)len);
         return;
     }
     for (n = 0; n < len; n++)
-        say(said, "%02X", bytes[n]);
+        append(to, "%02X", bytes[n]);
 }

@@ -44,7 +44,7 @@ typedef struct arguments {
     size_t text_len;
 } arguments;
 
-/* Ends the program because the file is wrong. */
+/* Ends the program because a line of the file is wrong. */
 void bad_line(const char *why, const char *what);
 
 /* Reads the next word, which is empty at the end. */
@@ -63,9 +63,10 @@ typedef struct answer {
     size_t room;
 } answer;
 
-void say(answer *said, const char *format, ...);
+/* Adds text to an answer, as printf formats it. */
+void append(answer *to, const char *format, ...);
 
-/* Writes bytes as pairs of digits, more than 16 equal ones as XX*N. */
-void say_bytes(answer *said, const uint8_t *bytes, size_t len);
+/* Adds bytes as pairs of digits, more than 16 equal ones as XX*N. */
+void append_bytes(answer *to, const uint8_t *bytes, size_t len);
 
 #endif

@@ -1,6 +1,6 @@
 //! Measures steps, with and without a desk.
 
-ghost use Rattle.std.specs.Prelude.{◌<◌, length};
+ghost use Rattle.std.specs.Prelude.{◌<◌, ◌^◌, length};
 ghost use Rattle.dma_work.specs.Desk.{Names};
 
 use crate::plan::{Measured, Times, since};
@@ -69,7 +69,7 @@ pub fn time_workers<N: DeskName + Send + Sync, R: Threads + Wait + Clock + CpuCl
     parts: Parts,
     jobs: &[Job],
 ) -> Option<Measured>
-    requires few { length jobs.now < 4294967296 }
+    requires few { length jobs.now < 2 ^ 32 }
     requires parts { Names N.steps N.finished N.base N.log parts }
 {
     let shared = Shared::<N>::new(parts);

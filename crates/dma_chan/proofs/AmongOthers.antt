@@ -56,7 +56,7 @@ keeps_image (LpEnd c b) reads writes marks m f = refl
 
 -- ---- images that have the same bytes at some places
 
--- the same bytes put into both leave the same byte at an address of both at which they had the same
+-- if two images have the same byte at an address, they still do after the same bytes are put into both
 put-agrees : (x y : List ℕ) (es : List (ℕ × ℕ)) (a : ℕ) → a < length x → a < length y → get_or x a 0 ≡ get_or y a 0 → get_or (put x es) a 0 ≡ get_or (put y es) a 0
 put-agrees x y es a in_x in_y same = get_or-put x es a in_x ∙ ap (unwrap_or (lookup (nat_eq a) es)) same ∙ sym (get_or-put y es a in_y)
 
@@ -122,10 +122,10 @@ module _ (t : Descriptor) (marks : MarkList) (first : List ℕ) (h : IsTransfer 
 
   -- one instruction, and what others do after it
   pub next : (n : ℕ) (m : Shared) (c d : ChannelValue) (other : List ℕ) → Among t first n m.image c → (step_of marks c m.image m.flags).0 ≡ Moved → d ≡ stepped marks c m.image m.flags → ((a : ℕ) → Touches t a → get_or other a 0 ≡ get_or (step_of marks c m.image m.flags).1.image a 0) → lies_below t (length other) ≡ true → Among t first (n + 1) other d
-  next n m c d other w moved goes spared fits =
+  next n m c d other w moved goes unchanged fits =
       let st : StepAgrees t n marks m c = step_is t n marks m c h w.fits w.at in
       let moves : (step_at t n marks m).0 ≡ Moved = sym st.turn ∙ moved in
-      let kept : (a : ℕ) → Touches t a → get_or other a 0 ≡ get_or (step_at t n marks m).1.image a 0 = λ a touches. spared a touches ∙ ap (λ (i : List ℕ). get_or i a 0) st.image in
+      let kept : (a : ℕ) → Touches t a → get_or other a 0 ≡ get_or (step_at t n marks m).1.image a 0 = λ a touches. unchanged a touches ∙ ap (λ (i : List ℕ). get_or i a 0) st.image in
       record {
         at = subst (λ (e : ChannelValue). IsAt t (n + 1) other e) (sym goes) (survives t (n + 1) (step_at t n marks m).1.image other (stepped marks c m.image m.flags) (st.goes_on moves) (λ a i. kept a (inl i)));
         same = λ a touches. kept a touches ∙ left_same n m c w moves a touches;
@@ -151,4 +151,4 @@ copies_among_others t marks channel image flags h run a touches =
         let less : n + 1 < cost t = omega arith in
         let e : n + 1 ≡ suc n = omega arith in
         subst (λ (k : ℕ). Among t (image 0) k (image k) (channel k)) e
-        (next t (marks n) (image 0) h (run.below 0 (omega arith)) n m (channel n) (channel (n + 1)) (image (n + 1)) (along n (omega arith)) (run.moves n less) (run.goes_on n less) (λ b i. run.spared n b less i) (run.below (n + 1) less))
+        (next t (marks n) (image 0) h (run.below 0 (omega arith)) n m (channel n) (channel (n + 1)) (image (n + 1)) (along n (omega arith)) (run.moves n less) (run.goes_on n less) (λ b i. run.unchanged n b less i) (run.below (n + 1) less))

@@ -20,8 +20,8 @@ use Rattle.dma_chan.specs.Exec.{ChangesNothing}
 use Rattle.dma_chan.specs.Channel.{ChannelValue, loaded, ahead_of, step_of, stepped}
 use Rattle.dma_chan.specs.Compiled.{compiled, cost}
 use Rattle.dma_chan.specs.Traffic.{burst, member, stored_after, read_places, written_places}
-use Rattle.dma_chan.specs.Layer.{Shared, step_at, StepAgrees, Tells}
-use Rattle.dma_chan.specs.Stepping.{Stand, answer_at, left_at, after_steps, goes_on_after, TakesSteps}
+use Rattle.dma_chan.specs.Layer.{Shared, step_at, StepAgrees, AnswerImplies}
+use Rattle.dma_chan.specs.Stepping.{Machine, answer_at, after_step, after_steps, goes_on_after, TakesSteps}
 use Rattle.dma_chan.proofs.SteppedOver.{is_still, was_moved}
 use Rattle.dma_chan.specs.Others.{Misses, Touches, CalledAmongOthers, CallsCopyAmongOthers}
 use Rattle.dma_chan.specs.inner.At.{IsAt}
@@ -31,7 +31,7 @@ use Rattle.dma_chan.proofs.CopyAlone.{laid_over, laid_over_none, laid_over_all}
 use Rattle.dma_chan.proofs.OthersKept.{writes_no_other}
 use Rattle.dma_chan.proofs.AmongOthers.{Among, keeps_image, next}
 
--- no mark lies at some of these places where none lies at any
+-- if no mark lies at any of these places, none lies at some of them
 none_met : (kind : MarkKind) (marks : MarkList) (places : List ℕ) (k n : ℕ) → ((a : ℕ) → Contains places a → is_marked kind marks a ≡ false) → meets_mark kind marks (take n (drop k places)) ≡ false
 unfolding meets_mark
 none_met kind marks places k n none =
@@ -43,21 +43,21 @@ none_met kind marks places k n none =
 -- ---- the state after calls
 
 -- the program is not finished: n instructions were executed
-abbrev pub Runs : Descriptor → List ℕ → Stand → Type 0
+abbrev pub Runs : Descriptor → List ℕ → Machine → Type 0
 Runs t first u = (n : ℕ) × Among t first n u.image u.channel
 
 -- the program has ended, and all bytes are copied
-pub record IsDone (t : Descriptor) (first : List ℕ) (u : Stand) : Type 0 where
+pub record IsDone (t : Descriptor) (first : List ℕ) (u : Machine) : Type 0 where
   pub dropped : u.channel.program ≡ None
   pub all : (a : ℕ) → Touches t a → get_or u.image a 0 ≡ get_or (laid first t (size_of t)) a 0
 
 -- the state after a step, by its answer
-abbrev pub Leads : Descriptor → List ℕ → Option ChanTurn → Stand → Type 0
+abbrev pub Leads : Descriptor → List ℕ → Option ChanTurn → Machine → Type 0
 Leads t first (Some Ended) w = IsDone t first w
 Leads t first turn w = Runs t first w
 
 -- a channel into which the transfer's program was just loaded, over the first memory
-pub at_first : (t : Descriptor) (first : List ℕ) (u : Stand) → IsTransfer t → lies_below t (length first) ≡ true → u.channel ≡ loaded (compiled t) → u.image ≡ first → Runs t first u
+pub at_first : (t : Descriptor) (first : List ℕ) (u : Machine) → IsTransfer t → lies_below t (length first) ≡ true → u.channel ≡ loaded (compiled t) → u.image ≡ first → Runs t first u
 at_first t first u h below channels images = (
   0,
   record {
@@ -68,7 +68,7 @@ at_first t first u h below channels images = (
 )
 
 -- a channel that still has a program is not finished
-goes : (t : Descriptor) (first : List ℕ) (last : Option ChanTurn) (v : Stand) → Leads t first last v → IsSome v.channel.program → Runs t first v
+goes : (t : Descriptor) (first : List ℕ) (last : Option ChanTurn) (v : Machine) → Leads t first last v → IsSome v.channel.program → Runs t first v
 goes t first None v r some = r
 goes t first (Some Moved) v r some = r
 goes t first (Some (Waiting x)) v r some = r
@@ -76,31 +76,31 @@ goes t first (Some (Fault kind)) v r some = r
 goes t first (Some Ended) v d some = absurd (let bad = d.dropped in let w = some in grind arith)
 
 -- what others do between two calls
-pub survived : (t : Descriptor) (first : List ℕ) (v w : Stand) → Runs t first v → w.channel ≡ v.channel → ((a : ℕ) → Touches t a → get_or w.image a 0 ≡ get_or v.image a 0) → lies_below t (length w.image) ≡ true → Runs t first w
-survived t first v w r same spared fits = (
+pub survived : (t : Descriptor) (first : List ℕ) (v w : Machine) → Runs t first v → w.channel ≡ v.channel → ((a : ℕ) → Touches t a → get_or w.image a 0 ≡ get_or v.image a 0) → lies_below t (length w.image) ≡ true → Runs t first w
+survived t first v w r same unchanged fits = (
   r.0,
   record {
-    at = subst (λ (c : ChannelValue). IsAt t r.0 w.image c) (sym same) (survives t r.0 v.image w.image v.channel r.1.at (λ a i. spared a (inl i)));
-    same = λ a touches. spared a touches ∙ r.1.same a touches;
+    at = subst (λ (c : ChannelValue). IsAt t r.0 w.image c) (sym same) (survives t r.0 v.image w.image v.channel r.1.at (λ a i. unchanged a (inl i)));
+    same = λ a touches. unchanged a touches ∙ r.1.same a touches;
     fits = fits;
   },
 )
 
 -- with the same marks in all steps
 module _ (t : Descriptor) (marks : MarkList) (first : List ℕ) (h : IsTransfer t) (below : lies_below t (length first) ≡ true) where
-  pub agrees : (n : ℕ) (u : Stand) → Among t first n u.image u.channel → StepAgrees t n marks (record { image = u.image; flags = u.flags }) u.channel
+  pub agrees : (n : ℕ) (u : Machine) → Among t first n u.image u.channel → StepAgrees t n marks (record { image = u.image; flags = u.flags }) u.channel
   agrees n u w = step_is t n marks (record { image = u.image; flags = u.flags }) u.channel h w.fits w.at
 
-  moved_on : (n : ℕ) (u : Stand) → Among t first n u.image u.channel → answer_at marks u ≡ Moved → Among t first (n + 1) (left_at marks u).image (left_at marks u).channel
+  moved_on : (n : ℕ) (u : Machine) → Among t first n u.image u.channel → answer_at marks u ≡ Moved → Among t first (n + 1) (after_step marks u).image (after_step marks u).channel
   moved_on n u w moved =
       next t marks first h below n (record { image = u.image; flags = u.flags }) u.channel (stepped marks u.channel u.image u.flags) (step_of marks u.channel u.image u.flags).1.image w moved refl (λ a touches. refl) (subst (λ (k : ℕ). lies_below t k ≡ true) (sym (writes_no_other marks u.channel u.image u.flags).size) w.fits)
 
-  ended : (n : ℕ) (u : Stand) → Among t first n u.image u.channel → answer_at marks u ≡ Ended → IsDone t first (left_at marks u)
+  ended : (n : ℕ) (u : Machine) → Among t first n u.image u.channel → answer_at marks u ≡ Ended → IsDone t first (after_step marks u)
   ended n u w over =
       let m : Shared = record { image = u.image; flags = u.flags } in
       let st = agrees n u w in
       let ends : (step_at t n marks m).0 ≡ Ended = sym st.turn ∙ over in
-      let is_end : member t n ≡ End = subst (λ (x : ChanTurn). Tells t n marks m x) ends (turn_reports t n marks m) in
+      let is_end : member t n ≡ End = subst (λ (x : ChanTurn). AnswerImplies t n marks m x) ends (turn_reports t n marks m) in
       let no_store : member t n ≢ St = λ e. let bad : End ≡ St = sym is_end ∙ e in cc in
       let last : n + 1 ≡ cost t = (shape_is t h).end_only n (w.at.within) is_end in
       let place : n ≡ cost t - 1 = omega arith in
@@ -113,17 +113,17 @@ module _ (t : Descriptor) (marks : MarkList) (first : List ℕ) (h : IsTransfer 
             ∙ ap (λ (i : List ℕ). get_or i a 0) (laid_over_all first t (size_of t));
       }
 
-  still : (n : ℕ) (u : Stand) → Among t first n u.image u.channel → ChangesNothing (answer_at marks u) → Runs t first (left_at marks u)
-  still n u w nothing = (n, subst (λ (v : Stand). Among t first n v.image v.channel) (sym (is_still marks u nothing)) w)
+  still : (n : ℕ) (u : Machine) → Among t first n u.image u.channel → ChangesNothing (answer_at marks u) → Runs t first (after_step marks u)
+  still n u w nothing = (n, subst (λ (v : Machine). Among t first n v.image v.channel) (sym (is_still marks u nothing)) w)
 
-  one : (n : ℕ) (u : Stand) (turn : ChanTurn) → Among t first n u.image u.channel → answer_at marks u ≡ turn → Leads t first (Some turn) (left_at marks u)
+  one : (n : ℕ) (u : Machine) (turn : ChanTurn) → Among t first n u.image u.channel → answer_at marks u ≡ turn → Leads t first (Some turn) (after_step marks u)
   one n u Moved w e = (n + 1, moved_on n u w e)
   one n u Ended w e = ended n u w e
   one n u (Waiting x) w e = still n u w (subst ChangesNothing (sym e) tt)
   one n u (Fault kind) w e = still n u w (subst ChangesNothing (sym e) tt)
 
   -- after steps of which each moved
-  pub many : (j : ℕ) (s : Stand) → Runs t first s → ((k : ℕ) → k < suc j → goes_on_after marks s k ≡ true) → Runs t first (after_steps marks s j)
+  pub many : (j : ℕ) (s : Machine) → Runs t first s → ((k : ℕ) → k < suc j → goes_on_after marks s k ≡ true) → Runs t first (after_steps marks s j)
   many zero s r moves = r
   many (suc j) s r moves =
       let u = after_steps marks s j in
@@ -131,28 +131,28 @@ module _ (t : Descriptor) (marks : MarkList) (first : List ℕ) (h : IsTransfer 
       (w.0 + 1, moved_on w.0 u w.1 (was_moved (ahead_of u.channel) (answer_at marks u) (moves (suc j) (omega arith))))
 
   -- what a call leads to
-  pub call : (s v : Stand) (most taken : ℕ) (last : Option ChanTurn) → Runs t first s → TakesSteps marks s most taken last v → Leads t first last v
+  pub call : (s v : Machine) (most taken : ℕ) (last : Option ChanTurn) → Runs t first s → TakesSteps marks s most taken last v → Leads t first last v
   call s v most zero last r steps =
-      subst (λ (o : Option ChanTurn). Leads t first o v) (sym steps.answer) (subst (Runs t first) (sym steps.leaves) r)
+      subst (λ (o : Option ChanTurn). Leads t first o v) (sym steps.answer) (subst (Runs t first) (sym steps.ends_at) r)
   call s v most (suc p) last r steps =
       let u = after_steps marks s p in
       let w = many p s r steps.moves in
-      subst (λ (o : Option ChanTurn). Leads t first o v) (sym steps.answer) (subst (Leads t first (Some (answer_at marks u))) (sym steps.leaves) (one w.0 u (answer_at marks u) w.1 refl))
+      subst (λ (o : Option ChanTurn). Leads t first o v) (sym steps.answer) (subst (Leads t first (Some (answer_at marks u))) (sym steps.ends_at) (one w.0 u (answer_at marks u) w.1 refl))
 
   -- where no mark lies at what the transfer touches, the last step of a call doesn't fail
   no_fault : (n : ℕ) (m : Shared) (kind : FaultKind) → Misses marks t → (step_at t n marks m).0 ≢ Fault kind
-  no_fault n m kind none e = told kind (subst (λ (x : ChanTurn). Tells t n marks m x) e (turn_reports t n marks m))
+  no_fault n m kind none e = no_such kind (subst (λ (x : ChanTurn). AnswerImplies t n marks m x) e (turn_reports t n marks m))
     where
-      told : (k : FaultKind) → ¬ Tells t n marks m (Fault k)
-      told DataReadErr w = let bad : false ≡ true = sym (none_met Reading marks (sources t) (stored_after t n) (burst t n) none.reads) ∙ w.1 in cc
-      told DataWriteErr w = let bad : false ≡ true = sym (none_met Writing marks (destinations t) (stored_after t n) (burst t n) none.writes) ∙ w.1 in cc
-      told UndefInstr w = w
-      told OperandInvalid w = w
-      told MfifoErr w = w
-      told StDataUnavailable w = w
-      told InstrFetchErr w = w
+      no_such : (k : FaultKind) → ¬ AnswerImplies t n marks m (Fault k)
+      no_such DataReadErr w = let bad : false ≡ true = sym (none_met Reading marks (sources t) (stored_after t n) (burst t n) none.reads) ∙ w.1 in cc
+      no_such DataWriteErr w = let bad : false ≡ true = sym (none_met Writing marks (destinations t) (stored_after t n) (burst t n) none.writes) ∙ w.1 in cc
+      no_such UndefInstr w = w
+      no_such OperandInvalid w = w
+      no_such MfifoErr w = w
+      no_such StDataUnavailable w = w
+      no_such InstrFetchErr w = w
 
-  pub call_fails : (s v : Stand) (most taken : ℕ) (last : Option ChanTurn) (kind : FaultKind) → Misses marks t → Runs t first s → TakesSteps marks s most taken last v → last ≢ Some (Fault kind)
+  pub call_fails : (s v : Machine) (most taken : ℕ) (last : Option ChanTurn) (kind : FaultKind) → Misses marks t → Runs t first s → TakesSteps marks s most taken last v → last ≢ Some (Fault kind)
   call_fails s v most zero last kind none r steps e = let bad : None ≡ Some (Fault kind) = sym steps.answer ∙ e in cc
   call_fails s v most (suc p) last kind none r steps e =
       let u = after_steps marks s p in
@@ -163,7 +163,7 @@ module _ (t : Descriptor) (marks : MarkList) (first : List ℕ) (h : IsTransfer 
 
 -- ---- along the calls
 
-module _ (t : Descriptor) (marks : ℕ → MarkList) (calls : ℕ) (before after : ℕ → Stand) (last : ℕ → Option ChanTurn) (h : IsTransfer t) (run : CalledAmongOthers t marks calls before after last) where
+module _ (t : Descriptor) (marks : ℕ → MarkList) (calls : ℕ) (before after : ℕ → Machine) (last : ℕ → Option ChanTurn) (h : IsTransfer t) (run : CalledAmongOthers t marks calls before after last) where
   abbrev first : List ℕ
   first = (before 0).image
 
@@ -182,7 +182,7 @@ module _ (t : Descriptor) (marks : ℕ → MarkList) (calls : ℕ) (before after
       let some : IsSome (after k).channel.program = subst (λ (c : ChannelValue). IsSome c.program) (run.goes_on k less) (run.is_loaded (k + 1) less) in
       let led = leads k here (along k here) in
       subst (λ (j : ℕ). Runs t first (before j)) e
-      (survived t first (after k) (before (k + 1)) (goes t first (last k) (after k) led some) (run.goes_on k less) (λ a i. run.spared k a less i) (run.below (k + 1) less))
+      (survived t first (after k) (before (k + 1)) (goes t first (last k) (after k) led some) (run.goes_on k less) (λ a i. run.unchanged k a less i) (run.below (k + 1) less))
 
   pub copied : (k a : ℕ) → k < calls → last k ≡ Some Ended → Touches t a → get_or (after k).image a 0 ≡ get_or (laid first t (size_of t)) a 0
   copied k a l over touches = (subst (λ (o : Option ChanTurn). Leads t first o (after k)) over (leads k l (along k l))).all a touches

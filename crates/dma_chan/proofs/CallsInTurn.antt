@@ -23,7 +23,7 @@ use Rattle.dma_chan.specs.Channel.{ChannelValue}
 use Rattle.dma_chan.specs.Programs.{ProgramValue}
 use Rattle.dma_chan.specs.Traffic.{member, burst, stored_after, read_places, written_places}
 use Rattle.dma_chan.specs.Layer.{Shared, effect_of}
-use Rattle.dma_chan.specs.Stepping.{Stand, left_at, after_steps, goes_on_after, TakesSteps}
+use Rattle.dma_chan.specs.Stepping.{Machine, after_step, after_steps, goes_on_after, TakesSteps}
 use Rattle.dma_chan.specs.Others.{Misses, Touches}
 use Rattle.dma_chan.specs.InTurn.{AreTogether, CalledInTurn, ChannelsCopyInTurn}
 use Rattle.dma_chan.proofs.ShapeLaws.{is_store}
@@ -55,25 +55,25 @@ effect_spares i reads writes marks m a outside =
     ]
 
 module _ (t : Descriptor) (marks : MarkList) (first : List ℕ) (h : IsTransfer t) (below : lies_below t (length first) ≡ true) where
-  step_spares : (n : ℕ) (u : Stand) (a : ℕ) → Among t first n u.image u.channel → ¬ Contains (destinations t) a → get_or (left_at marks u).image a 0 ≡ get_or u.image a 0
+  step_spares : (n : ℕ) (u : Machine) (a : ℕ) → Among t first n u.image u.channel → ¬ Contains (destinations t) a → get_or (after_step marks u).image a 0 ≡ get_or u.image a 0
   step_spares n u a w outside =
       let m : Shared = record { image = u.image; flags = u.flags } in
       let not_written : ¬ Contains (written_places t n) a = λ i. outside (Contains-drop (stored_after t n) (destinations t) a (Contains-take (burst t n) (drop (stored_after t n) (destinations t)) a i)) in
       ap (λ (x : List ℕ). get_or x a 0) (agrees t marks first h below n u w).image
       ∙ effect_spares (member t n) (read_places t n) (written_places t n) marks m a not_written
 
-  steps_spare : (j : ℕ) (s : Stand) (a : ℕ) → Runs t first s → ((k : ℕ) → k < j → goes_on_after marks s k ≡ true) → ¬ Contains (destinations t) a → get_or (after_steps marks s j).image a 0 ≡ get_or s.image a 0
+  steps_spare : (j : ℕ) (s : Machine) (a : ℕ) → Runs t first s → ((k : ℕ) → k < j → goes_on_after marks s k ≡ true) → ¬ Contains (destinations t) a → get_or (after_steps marks s j).image a 0 ≡ get_or s.image a 0
   steps_spare zero s a r moves outside = refl
   steps_spare (suc j) s a r moves outside =
       let u = after_steps marks s j in
       let w = many t marks first h below j s r moves in
       step_spares w.0 u a w.1 outside ∙ steps_spare j s a r (λ k l. moves k (omega arith)) outside
 
-  pub call_spares : (s v : Stand) (most taken : ℕ) (last : Option ChanTurn) (a : ℕ) → Runs t first s → TakesSteps marks s most taken last v → ¬ Contains (destinations t) a → get_or v.image a 0 ≡ get_or s.image a 0
+  pub call_spares : (s v : Machine) (most taken : ℕ) (last : Option ChanTurn) (a : ℕ) → Runs t first s → TakesSteps marks s most taken last v → ¬ Contains (destinations t) a → get_or v.image a 0 ≡ get_or s.image a 0
   call_spares s v most taken last a r steps outside =
-      ap (λ (u : Stand). get_or u.image a 0) steps.leaves ∙ steps_spare taken s a r steps.moves outside
+      ap (λ (u : Machine). get_or u.image a 0) steps.ends_at ∙ steps_spare taken s a r steps.moves outside
 
--- what a transfer touches, another that is free of it doesn't write
+-- a transfer that is free of another writes no address that the other touches
 free_outside : (t u : Descriptor) (a : ℕ) → is_free_of u t ≡ true → Touches t a → ¬ Contains (destinations u) a
 free_outside t u a free touched =
     let apart = is_free_of-true u t free in
@@ -84,16 +84,16 @@ not_none o some e = let bad = e in let w = some in grind arith
 
 -- ---- along the calls
 
-module _ (transfers : ℕ → Descriptor) (count : ℕ) (marks : ℕ → MarkList) (calls : ℕ) (who : ℕ → ℕ) (channels : ℕ → ℕ → ChannelValue) (before after : ℕ → Stand) (last : ℕ → Option ChanTurn) (together : AreTogether transfers count) (run : CalledInTurn transfers count marks calls who channels before after last) where
+module _ (transfers : ℕ → Descriptor) (count : ℕ) (marks : ℕ → MarkList) (calls : ℕ) (who : ℕ → ℕ) (channels : ℕ → ℕ → ChannelValue) (before after : ℕ → Machine) (last : ℕ → Option ChanTurn) (together : AreTogether transfers count) (run : CalledInTurn transfers count marks calls who channels before after last) where
   abbrev first : List ℕ
   first = (before 0).image
 
   -- a channel is not finished with its transfer's program
-  abbrev Goes : ℕ → Stand → Type 0
+  abbrev Goes : ℕ → Machine → Type 0
   Goes ch u = Runs (transfers ch) first u
 
   -- a channel before a call
-  abbrev found : ℕ → ℕ → Stand
+  abbrev found : ℕ → ℕ → Machine
   found k ch = record { channel = channels k ch; image = (before k).image; flags = (before k).flags }
 
   -- it is not finished, or it has ended
@@ -109,11 +109,11 @@ module _ (transfers : ℕ → Descriptor) (count : ℕ) (marks : ℕ → MarkLis
 
   -- the channel of a call is not finished
   caller : (k : ℕ) → k < calls → Is k (who k) → Goes (who k) (before k)
-  caller k l (inl r) = (r.0, subst (λ (c : ChannelValue). Among (transfers (who k)) first r.0 (before k).image c) (sym (run.finds k l)) r.1)
-  caller k l (inr none) = absurd (not_none (before k).channel.program (run.is_loaded k l) (ap (λ (c : ChannelValue). c.program) (run.finds k l) ∙ none))
+  caller k l (inl r) = (r.0, subst (λ (c : ChannelValue). Among (transfers (who k)) first r.0 (before k).image c) (sym (run.channel k l)) r.1)
+  caller k l (inr none) = absurd (not_none (before k).channel.program (run.is_loaded k l) (ap (λ (c : ChannelValue). c.program) (run.channel k l) ∙ none))
 
   -- after the call it is not finished, or it has ended
-  either_way : (ch : ℕ) (o : Option ChanTurn) (v : Stand) → Leads (transfers ch) first o v → Goes ch v ⊎ (v.channel.program ≡ None)
+  either_way : (ch : ℕ) (o : Option ChanTurn) (v : Machine) → Leads (transfers ch) first o v → Goes ch v ⊎ (v.channel.program ≡ None)
   either_way ch None v r = inl r
   either_way ch (Some Moved) v r = inl r
   either_way ch (Some (Waiting x)) v r = inl r
@@ -125,21 +125,21 @@ module _ (transfers : ℕ → Descriptor) (count : ℕ) (marks : ℕ → MarkLis
       let s = run.steps k l in
       call (transfers (who k)) (marks k) first (its_rules k l) (its_below k l) (before k) (after k) s.0 s.1 (last k) r s.2
 
-  -- the channel of the call, as the next call finds it
+  -- the channel of the call, as it is at the next call
   own : (k : ℕ) → k < calls → k + 1 < calls → Goes (who k) (after k) ⊎ ((after k).channel.program ≡ None) → Is (k + 1) (who k)
   own k l less (inl r) =
       let w = run.within k l in
-      inl (survived (transfers (who k)) first (after k) (found (k + 1) (who k)) r (run.leaves k l) (λ a i. run.spared k (who k) a less w i) (run.below (k + 1) (who k) less w))
-  own k l less (inr none) = inr (ap (λ (c : ChannelValue). c.program) (run.leaves k l) ∙ none)
+      inl (survived (transfers (who k)) first (after k) (found (k + 1) (who k)) r (run.updates k l) (λ a i. run.unchanged k (who k) a less w i) (run.below (k + 1) (who k) less w))
+  own k l less (inr none) = inr (ap (λ (c : ChannelValue). c.program) (run.updates k l) ∙ none)
 
-  -- any other one
+  -- any other channel
   other : (k ch : ℕ) → k < calls → k + 1 < calls → ch < count → ch ≢ who k → Goes (who k) (before k) → Is k ch → Is (k + 1) ch
   other k ch l less within ne r (inl q) =
       let w = run.within k l in
       let s = run.steps k l in
       let free = together.free (who k) ch w within (λ e. ne (sym e)) in
       let spares : (a : ℕ) → Touches (transfers ch) a → get_or (before (k + 1)).image a 0 ≡ get_or (before k).image a 0 = λ a i.
-      run.spared k ch a less within i
+      run.unchanged k ch a less within i
       ∙ call_spares (transfers (who k)) (marks k) first (its_rules k l) (its_below k l) (before k) (after k) s.0 s.1 (last k) a r s.2 (free_outside (transfers ch) (transfers (who k)) a free i) in
       inl (survived (transfers ch) first (found k ch) (found (k + 1) ch) q (run.others k ch l ne) spares (run.below (k + 1) ch less within))
   other k ch l less within ne r (inr none) = inr (ap (λ (c : ChannelValue). c.program) (run.others k ch l ne) ∙ none)

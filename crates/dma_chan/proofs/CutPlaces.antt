@@ -1,4 +1,5 @@
--- Two lists of segments, cut into pieces: they have the places of both lists in order, and there are fewer than segments.
+-- Two lists of segments, cut into pieces. The pieces have the places of both lists, in order, and there are fewer pieces
+-- than segments.
 use Rattle.std.proofs.Common.{◌≡◌, ℕ, zero, suc, ◌+◌, ◌-◌, ◌^◌, ◌≤◌, ◌<◌, Bool, true, false, cond, ltb, List, [], ◌∷◌, ◌++◌, length, refl, sym, ap, ◌∙◌, arith, append_assoc, append-nil, length-append}
 use Rattle.std.specs.List.{AllByRecursion, range_with_len}
 use Rattle.std.proofs.lemmas.Bool.{ltb-true, ltb-false}
@@ -18,8 +19,8 @@ range-add a (suc m) n =
     let f : a + 1 + m ≡ a + suc m = omega arith in
     ap (range_with_len a) e ∙ ap (λ (xs : List ℕ). a ∷ xs) (range-add (a + 1) m n ∙ ap (λ (k : ℕ). range_with_len (a + 1) m ++ range_with_len k n) f)
 
--- how far a source address moves over n bytes, and the addresses that n bytes are read from: one after the other, and of a
--- fill the first again
+-- how far a source address moves over n bytes, and the addresses that n bytes are read from: consecutive addresses, or in
+-- a fill the first address n times
 abbrev pub way : Bool → ℕ → ℕ
 way false n = n
 way true n = 0
@@ -73,7 +74,7 @@ all-append : (a b : List Piece) → AllByRecursion IsPiece a → AllByRecursion 
 all-append [] b f g = g
 all-append (p ∷ a) b f g = (f.0, all-append a b f.1 g)
 
--- what one source segment makes
+-- the pieces of one source segment
 record Cut (a n : ℕ) (ds : List Segment) (r : List Piece × List Segment) : Type 0 where
   sources : read_by r.0 ≡ range_with_len a n
   destinations : written_by r.0 ++ places r.1 ≡ places ds
@@ -127,7 +128,7 @@ cut_right a n (d ∷ ds) some below fits enough all =
       last = λ z. omega arith;
     }))
 
--- what all make
+-- the pieces of all source segments
 pub record Pieces (ss ds : List Segment) (ps : List Piece) : Type 0 where
   pub sources : read_by ps ≡ places ss
   pub destinations : written_by ps ≡ places ds

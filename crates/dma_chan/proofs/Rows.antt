@@ -4,6 +4,7 @@ use Rattle.dma_mem.specs.Places.{Descriptor, filling}
 use Rattle.dma_insn.specs.AssemblyText.{most_bytes}
 use Rattle.dma_insn.specs.declared.assembler.TheConstants.{MAX_BYTES}
 use Rattle.dma_chan.specs.declared.bursts.TheConstants.{BUFFER_SIZE}
+use Rattle.dma_chan.specs.Bursts.{burst_at}
 use Rattle.dma_chan.specs.Exec.{buffer_size}
 use Rattle.dma_chan.specs.Compiled.{beat_of, parts, members, cost, compiled, most_compiled}
 use Rattle.dma_chan.specs.Traffic.{read_len, write_len}
@@ -27,9 +28,11 @@ cost_limit = refl
 -- ---- bursts by their control word: 16 beats of 16 bytes are the most, a beat of one byte the least
 
 most_bytes_of_a_burst : read_len 249 ≡ 256
+unfolding burst_at
 most_bytes_of_a_burst = refl
 
 least_bytes_of_a_burst : write_len 0 ≡ 1
+unfolding burst_at
 least_bytes_of_a_burst = refl
 
 -- ---- a program

@@ -6,8 +6,8 @@ use Rattle.std.specs.Prelude.{is_some, IfSome}
 use Rattle.std.specs.Int.{w32, to_le_bytes}
 use Rattle.dma_chan.specs.declared.save.head.Head.{Head}
 use Rattle.dma_chan.specs.Programs.{ProgramValue}
-use Rattle.dma_chan.specs.Channel.{ChannelValue, bytes_of_program, code_of}
-use Rattle.dma_chan.specs.Saved.{AreBytes, IsLoadedAt, IsChannelValue, checksum, sealed, cost_of, head_of, head_bytes, register_bytes, saved}
+use Rattle.dma_chan.specs.Channel.{cost_of_program, ChannelValue, bytes_of_program, code_of}
+use Rattle.dma_chan.specs.Saved.{AreBytes, IsLoadedAt, IsChannelValue, checksum, sealed, head_of, head_bytes, register_bytes, saved}
 use Rattle.dma_chan.specs.inner.Saves.{buffer_in, program_in, channel_in, HasHeadRanges, LoadsWhole, FitsIn}
 
 pub head_len : (h : Head) → length (head_bytes h) ≡ 48
@@ -20,7 +20,7 @@ is_loaded_again : (b : Bool) (p : ProgramValue) → is_some (cond b (Some p) Non
 is_loaded_again true p = refl
 is_loaded_again false p = refl
 
-cost_again : (b : Bool) (h : Head) (bytes : List ℕ) → LoadsWhole b h → cost_of (cond b (Some (record { bytes = bytes; cost = h.cost })) None) ≡ h.cost
+cost_again : (b : Bool) (h : Head) (bytes : List ℕ) → LoadsWhole b h → cost_of_program (cond b (Some (record { bytes = bytes; cost = h.cost })) None) ≡ h.cost
 cost_again true h bytes l = refl
 cost_again false h bytes l = sym l.0
 
@@ -52,11 +52,11 @@ sealed_is_saved save h f =
 
 -- ---- from the channel to the parts
 
-program_again : (p : Option ProgramValue) → cond (is_some p) (Some (record { bytes = bytes_of_program p; cost = cost_of p })) None ≡ p
+program_again : (p : Option ProgramValue) → cond (is_some p) (Some (record { bytes = bytes_of_program p; cost = cost_of_program p })) None ≡ p
 program_again None = refl
 program_again (Some p) = refl
 
-cost_fits : (pc : ℕ) (p : Option ProgramValue) → IfSome p (IsLoadedAt pc) → IfSome (cost_of p) (λ n. n < 2 ^ 32)
+cost_fits : (pc : ℕ) (p : Option ProgramValue) → IfSome p (IsLoadedAt pc) → IfSome (cost_of_program p) (λ n. n < 2 ^ 32)
 cost_fits pc None l = tt
 cost_fits pc (Some p) l = l.cost
 
@@ -64,7 +64,7 @@ code_fits : (pc : ℕ) (p : Option ProgramValue) → IfSome p (IsLoadedAt pc) �
 code_fits pc None l = omega arith
 code_fits pc (Some p) l = l.limit
 
-loads_whole : (p : Option ProgramValue) (h : Head) → IfSome p (IsLoadedAt h.registers.pc) → h.cost ≡ cost_of p → h.program_len ≡ length (bytes_of_program p)
+loads_whole : (p : Option ProgramValue) (h : Head) → IfSome p (IsLoadedAt h.registers.pc) → h.cost ≡ cost_of_program p → h.program_len ≡ length (bytes_of_program p)
     → LoadsWhole (is_some p) h
 loads_whole None h l cost len = (cost, len)
 loads_whole (Some p) h l cost len = omega (arith, l.offset)
@@ -142,6 +142,6 @@ bytes_append (x ∷ xs) ys h g zero = h zero
 bytes_append (x ∷ xs) ys h g (suc k) = bytes_append xs ys (λ j. h (suc j)) g k
 
 pub loaded_at : (p : Option ProgramValue) (pc : ℕ) → length (bytes_of_program p) ≤ 8192 → AreBytes (bytes_of_program p)
-    → (p ≢ None → pc ≤ length (bytes_of_program p)) → IfSome (cost_of p) (λ n. n < 2 ^ 32) → IfSome p (IsLoadedAt pc)
+    → (p ≢ None → pc ≤ length (bytes_of_program p)) → IfSome (cost_of_program p) (λ n. n < 2 ^ 32) → IfSome p (IsLoadedAt pc)
 loaded_at None pc limit bytes offset cost = tt
 loaded_at (Some p) pc limit bytes offset cost = record { limit = limit; bytes = bytes; offset = offset (λ e. absurd cc); cost = cost }

@@ -13,7 +13,8 @@ use Rattle.dma_chan.specs.Programs.{ProgramValue}
 
 -- ---- pieces
 
--- The pieces of n source bytes from address a, cut at the ends of the destinations; and the rest of the destinations.
+-- The pieces of n source bytes from address a, cut at the ends of the destinations, and the part of the destinations
+-- that is left.
 abbrev pub cut_one : ℕ → ℕ → List Segment → List Piece × List Segment
 cut_one a n [] = ([], [])
 cut_one a n (d ∷ ds) =
@@ -49,13 +50,13 @@ pieces_of t = if t.fill then fill_pieces t.src t.dst else pieces t.src t.dst
 abbrev pub fits : ℕ → Piece → Bool
 fits b p = p.src % b == 0 && p.dst % b == 0 && nat_le b p.len
 
--- the bytes of a beat of a piece: the largest of 16, 8, 4, 2, 1 that fits, and in a fill 1
+-- how many bytes a beat of a piece has: the largest of 16, 8, 4, 2 and 1 that fits, and in a fill 1
 unfoldable pub beat_of : Piece → ℕ
 beat_of p =
     if p.fill then 1 else (
     if fits 16 p then 16 else (if fits 8 p then 8 else (if fits 4 p then 4 else (if fits 2 p then 2 else 1))))
 
--- the code of a beat's size in the control word (PL330 manual, channel control register)
+-- the number that encodes a beat's size in the control word (PL330 manual, channel control register)
 abbrev pub size_code : ℕ → ℕ
 size_code b = if b == 16 then 4 else (if b == 8 then 3 else (if b == 4 then 2 else (if b == 2 then 1 else 0)))
 
@@ -86,8 +87,8 @@ bursts q =
 abbrev pub under : ℕ → Tree → Tree
 under w t = Then (One (Mov Ccr w)) t
 
--- n bytes starting at the addresses in the registers: bursts of 16 beats of b bytes, then one burst of the full beats
--- left, then one of the bytes left
+-- n bytes starting at the addresses in the registers: bursts of 16 beats of b bytes, then one burst of the remaining
+-- full beats, then one burst of the remaining bytes, with beats of 1 byte
 unfoldable pub parts : Bool → ℕ → ℕ → Tree
 parts fill b n =
     let q = n / (16 * b) in
@@ -98,13 +99,9 @@ parts fill b n =
     ∷ where_some m (under (control_word fill b m) body)
     ∷ where_some t (under (control_word fill 1 t) body) ∷ [])
 
--- the code of a piece with beats of b bytes: it sets both addresses and then moves the bytes
-abbrev pub piece_code : ℕ → Piece → Tree
-piece_code b p = Then (One (Mov Sar p.src)) (Then (One (Mov Dar p.dst)) (parts p.fill b p.len))
-
--- The code of a piece with the beats of `beat_of`.
+-- the code of a piece: it sets both addresses, and then moves the bytes with the beats of `beat_of`
 abbrev pub piece_tree : Piece → Tree
-piece_tree p = piece_code (beat_of p) p
+piece_tree p = Then (One (Mov Sar p.src)) (Then (One (Mov Dar p.dst)) (parts p.fill (beat_of p) p.len))
 
 -- the DMAWFE of an event, with the invalid flag clear, or nothing without an event
 abbrev pub wait_tree : Option ℕ → Tree

@@ -1,4 +1,4 @@
--- Programs of one channel of a PL330 controller, and the machine that runs them.
+-- Programs of one channel of a PL330 controller, and what executing them does.
 pub mod Bursts
 pub mod Next
 pub mod Exec

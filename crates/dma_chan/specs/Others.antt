@@ -11,14 +11,14 @@ use Rattle.dma_chan.specs.declared.turn.ChanTurn.TheVariants.{Moved, Ended, Faul
 use Rattle.dma_chan.specs.declared.turn.FaultKind.{FaultKind}
 use Rattle.dma_chan.specs.Channel.{ChannelValue, loaded, step_of, stepped}
 use Rattle.dma_chan.specs.Compiled.{cost, compiled}
-use Rattle.dma_chan.specs.Stepping.{Stand, TakesSteps}
+use Rattle.dma_chan.specs.Stepping.{Machine, TakesSteps}
 use Rattle.dma_chan.specs.NextWrites.{written_next}
 
 -- whether a transfer reads or writes an address
 abbrev pub Touches : Descriptor → ℕ → Type 0
 Touches t a = Contains (sources t) a ⊎ Contains (destinations t) a
 
--- No mark lies at what a transfer touches: no address that it reads is marked for loads, and no address that it writes
+-- No mark lies at an address that a transfer touches: none that it reads is marked for loads, and none that it writes
 -- is marked for stores.
 pub record Misses (marks : MarkList) (t : Descriptor) : Type 0 where
   pub reads : (a : ℕ) → Contains (sources t) a → is_marked Reading marks a ≡ false
@@ -26,19 +26,19 @@ pub record Misses (marks : MarkList) (t : Descriptor) : Type 0 where
 
 -- A channel executes a transfer's program up to its DMAEND. `channel n` is the channel before instruction number n,
 -- which is executed with these marks and flags and with a memory that contains the transfer's ranges. Between two
--- instructions others may write any byte that the transfer neither reads nor writes, change the memory's size, and
--- change the flags and the marks in any way.
+-- instructions others may write any byte that the transfer neither reads nor writes, and may change the memory's size,
+-- any flag and any mark.
 pub record RunsAmongOthers (t : Descriptor) (marks : ℕ → MarkList) (channel : ℕ → ChannelValue)
     (image : ℕ → List ℕ) (flags : ℕ → List Bool) : Type 0 where
   pub begins : channel 0 ≡ loaded (compiled t)
   pub below : (n : ℕ) → n < cost t → lies_below t (length (image n)) ≡ true
   pub moves : (n : ℕ) → n + 1 < cost t → (step_of (marks n) (channel n) (image n) (flags n)).0 ≡ Moved
   pub goes_on : (n : ℕ) → n + 1 < cost t → channel (n + 1) ≡ stepped (marks n) (channel n) (image n) (flags n)
-  pub spared : (n a : ℕ) → n + 1 < cost t → Touches t a →
+  pub unchanged : (n a : ℕ) → n + 1 < cost t → Touches t a →
       slice_index (image (n + 1)) a ≡ slice_index (step_of (marks n) (channel n) (image n) (flags n)).1.image a
 
--- Before DMAEND, every address that the transfer touches has the byte that one simultaneous copy of all its bytes, made
--- in the memory at the start, leaves there.
+-- Before DMAEND, each address that the transfer touches has the same byte as after one simultaneous copy of all the
+-- transfer's bytes in the memory at the start.
 abbrev pub CopiesAmongOthers : Type 0
 CopiesAmongOthers =
     (t : Descriptor) (marks : ℕ → MarkList) (channel : ℕ → ChannelValue) (image : ℕ → List ℕ) (flags : ℕ → List Bool) →
@@ -61,8 +61,8 @@ WritesNoOther =
 
 -- Calls on a channel that starts with a transfer's program. Each call has its own marks, its program is loaded, and its
 -- memory contains the transfer's ranges. It executes steps from `before` to `after`. Between two calls others may write
--- any byte that the transfer neither reads nor writes, change the memory's size, and change the flags in any way.
-pub record CalledAmongOthers (t : Descriptor) (marks : ℕ → MarkList) (calls : ℕ) (before after : ℕ → Stand)
+-- any byte that the transfer neither reads nor writes, and may change the memory's size and any flag.
+pub record CalledAmongOthers (t : Descriptor) (marks : ℕ → MarkList) (calls : ℕ) (before after : ℕ → Machine)
     (last : ℕ → Option ChanTurn) : Type 0 where
   pub begins : (before 0).channel ≡ loaded (compiled t)
   pub is_loaded : (k : ℕ) → k < calls → IsSome (before k).channel.program
@@ -70,20 +70,21 @@ pub record CalledAmongOthers (t : Descriptor) (marks : ℕ → MarkList) (calls 
   pub steps : (k : ℕ) → k < calls →
       (most : ℕ) × (taken : ℕ) × TakesSteps (marks k) (before k) most taken (last k) (after k)
   pub goes_on : (k : ℕ) → k + 1 < calls → (before (k + 1)).channel ≡ (after k).channel
-  pub spared : (k a : ℕ) → k + 1 < calls → Touches t a →
+  pub unchanged : (k a : ℕ) → k + 1 < calls → Touches t a →
       slice_index (before (k + 1)).image a ≡ slice_index (after k).image a
 
--- The result of such calls. After a call that ends, every address that the transfer touches has the byte that one
--- simultaneous copy of all its bytes, made in the memory before the first call, leaves there. And a call doesn't fail
--- if none of its marks lies at what the transfer touches.
-pub record CallsCopy (t : Descriptor) (marks : ℕ → MarkList) (calls : ℕ) (before after : ℕ → Stand)
+-- The result of calls, of which call number k executes steps of the program of transfer `t k`. After a call that ends,
+-- each address that its transfer touches has the same byte as after one simultaneous copy of all the transfer's bytes
+-- in the memory before the first call. And a call doesn't fail if none of its marks lies at an address that its
+-- transfer touches.
+pub record CallsCopy (t : ℕ → Descriptor) (marks : ℕ → MarkList) (calls : ℕ) (before after : ℕ → Machine)
     (last : ℕ → Option ChanTurn) : Type 0 where
-  pub copies : (k a : ℕ) → k < calls → last k ≡ Some Ended → Touches t a →
-      slice_index (after k).image a ≡ slice_index (laid (before 0).image t (size_of t)) a
-  pub never_fails : (k : ℕ) (kind : FaultKind) → k < calls → Misses (marks k) t → last k ≢ Some (Fault kind)
+  pub copies : (k a : ℕ) → k < calls → last k ≡ Some Ended → Touches (t k) a →
+      slice_index (after k).image a ≡ slice_index (laid (before 0).image (t k) (size_of (t k))) a
+  pub never_fails : (k : ℕ) (kind : FaultKind) → k < calls → Misses (marks k) (t k) → last k ≢ Some (Fault kind)
 
--- Calls among others have this result.
+-- Calls among others have the result of `CallsCopy`, each for the same transfer.
 abbrev pub CallsCopyAmongOthers : Type 0
 CallsCopyAmongOthers =
-    (t : Descriptor) (marks : ℕ → MarkList) (calls : ℕ) (before after : ℕ → Stand) (last : ℕ → Option ChanTurn) →
-    IsTransfer t → CalledAmongOthers t marks calls before after last → CallsCopy t marks calls before after last
+    (t : Descriptor) (marks : ℕ → MarkList) (calls : ℕ) (before after : ℕ → Machine) (last : ℕ → Option ChanTurn) →
+    IsTransfer t → CalledAmongOthers t marks calls before after last → CallsCopy (λ k. t) marks calls before after last

@@ -1,12 +1,12 @@
 -- The bytes of a saved channel. Numbers of several bytes are little-endian.
-use Rattle.std.specs.Prelude.{◌≡◌, ℕ, ◌+◌, ◌*◌, ◌%◌, ◌^◌, ◌<◌, ◌≤◌, IsTrue, is_some, unwrap_or, List, [], ◌∷◌, ◌++◌, length, slice_index, Option, Some, None, IfSome}
+use Rattle.std.specs.Prelude.{◌≡◌, ℕ, ◌+◌, ◌*◌, ◌%◌, ◌^◌, ◌<◌, ◌≤◌, IsTrue, is_some, unwrap_or, List, [], ◌∷◌, ◌++◌, length, slice_index, Option, IfSome}
 use Rattle.dma_insn.specs.AssemblyText.{most_bytes}
 use Rattle.std.specs.Int.{w16, w32, w64, to_le_bytes}
 use Rattle.dma_insn.specs.ControlWord.{flag, is_control}
 use Rattle.dma_chan.specs.declared.exec.Registers.{Registers}
 use Rattle.dma_chan.specs.declared.save.head.Head.{Head}
 use Rattle.dma_chan.specs.Programs.{ProgramValue}
-use Rattle.dma_chan.specs.Channel.{ChannelValue, code_of}
+use Rattle.dma_chan.specs.Channel.{ChannelValue, code_of, cost_of_program}
 
 -- ---- what every channel satisfies
 
@@ -68,11 +68,6 @@ magic = 100 ∷ 109 ∷ 97 ∷ 51 ∷ 51 ∷ 48 ∷ 0 ∷ 1 ∷ []
 abbrev pub cost_bytes : Option ℕ → List ℕ
 cost_bytes cost = flag (is_some cost) ∷ to_le_bytes w32 (unwrap_or cost 0)
 
--- the cost of a program, or None if no compiled program is loaded
-abbrev pub cost_of : Option ProgramValue → Option ℕ
-cost_of None = None
-cost_of (Some p) = p.cost
-
 -- the values in the head of a channel's save
 abbrev pub head_of : ChannelValue → Head
 head_of c = record {
@@ -80,7 +75,7 @@ head_of c = record {
   taken = c.taken;
   stored = c.stored;
   is_loaded = is_some c.program;
-  cost = cost_of c.program;
+  cost = cost_of_program c.program;
   buffer_len = length c.buffer;
   program_len = length (code_of c);
 }

@@ -1,5 +1,5 @@
 -- Definitions that no reader of a public law has to trust: how a channel stores its value, how far it is in a
--- transfer's program, and what the contracts of private functions use.
+-- transfer's program, and what contracts of private functions cite.
 pub mod Fields
 pub mod Rooms
 pub mod Saves

@@ -1,6 +1,6 @@
 //! The bursts of a channel: loads from memory into its buffer, and stores from its buffer to memory.
 
-ghost use Rattle.std.specs.Prelude.{◌≡◌, ℕ, ◌+◌, ◌-◌, ◌*◌, ◌/◌, ◌%◌, ◌≤◌, ◌<◌, ◌^◌, ◌++◌, min, IsTrue, IfSome, IsNone, IfOk, OnOk, OnErr, Some, Bool, true, false, List, length, take, drop, replicate};
+ghost use Rattle.std.specs.Prelude.{◌≡◌, ◌+◌, ◌*◌, ◌≤◌, ◌<◌, ◌++◌, IsTrue, IsNone, Bool, List, length, take, drop, replicate};
 ghost use Rattle.std.specs.List.{flat_map};
 ghost use Rattle.circular_buffer.specs.Buffer.{buffer as ring};
 ghost use Rattle.dma_insn.specs.declared.insn.Insn.TheVariants.{Ld, St};
@@ -8,12 +8,10 @@ ghost use Rattle.dma_insn.specs.AssemblyText.{most_bytes};
 ghost use Rattle.dma_insn.specs.ControlWord.{beat_bytes};
 ghost use Rattle.dma_mem.specs.Image.{put};
 ghost use Rattle.dma_mem.specs.Lent.{Avoids, with_gaps};
-ghost use Rattle.dma_mem.specs.Places.{range_of};
-ghost use Rattle.dma_mem.specs.Pages.{Paged, AllMade, Keeps, MakesNoOther};
-ghost use Rattle.dma_chan.specs.Bursts.{burst_len, touched, left_by, advance, reaches};
-ghost use Rattle.dma_chan.specs.inner.Spans.{span_of, rounds_of};
+ghost use Rattle.dma_chan.specs.Bursts.{burst_len, touched, writes_of, advance, reaches};
+ghost use Rattle.dma_chan.specs.inner.Spans.{span_of, rounds_of, LieIn};
 ghost use Rattle.dma_chan.specs.Exec.{source_of, destination_of, act, buffer_size, read_at, state};
-ghost use Rattle.dma_chan.specs.Ready.{none_missing, IsMadeIfSome};
+ghost use Rattle.dma_chan.specs.Ready.{none_missing};
 ghost use Rattle.dma_chan.specs.inner.Acts.{FaultsWith};
 
 use crate::exec::Registers;
@@ -137,10 +135,8 @@ fn may_touch<M: Ram>(kind: MarkKind, marks: &Marks, memory: &M, burst: Burst) ->
     requires limit { (burst.size ≤ 16) × (burst.beats ≤ 16) }
     ensures exact { result ≡ reaches kind (with_gaps (M.loan memory.now) marks.now)
         (length (M.paged memory.now).image) (touched burst) }
-    ensures within { IsTrue result
-        → burst.addr + span_of burst ≤ length (M.paged memory.now).image }
-    ensures below { IsTrue result → burst.addr + span_of burst < 2 ^ 32 }
-    ensures clear { IsTrue result → Avoids (M.loan memory.now).gaps burst.addr (span_of burst) }
+    ensures lie { IsTrue result
+        → LieIn (M.loan memory.now) (M.paged memory.now) burst.addr (span_of burst) }
 {
     let span = burst.span();
     if memory.clear(span) < span.len {
@@ -198,8 +194,8 @@ fn load_span<M: Ram>(
     put_rounds(buffer, bytes, burst.rounds());
 }
 
-// Returns the fault of DMALD, or `None` if it moves. Without a fault the buffer has room for its bytes, and it may
-// touch its addresses.
+// Returns the fault of DMALD. If it is `None`, the buffer has room for the bytes of the burst, and the burst may touch
+// its addresses.
 pub(crate) fn load_fault<M: Ram>(
     marks: &Marks,
     registers: &Registers,
@@ -214,12 +210,8 @@ pub(crate) fn load_fault<M: Ram>(
     ensures reaches { IsNone result → IsTrue (reaches MarkKind.Reading
         (with_gaps (M.loan memory.now) marks.now) (length (M.paged memory.now).image)
         (touched (source_of registers.now))) }
-    ensures within { IsNone result
-        → registers.now.sar + span_of (source_of registers.now)
-        ≤ length (M.paged memory.now).image }
-    ensures below { IsNone result → registers.now.sar + span_of (source_of registers.now) < 2 ^ 32 }
-    ensures clear { IsNone result
-        → Avoids (M.loan memory.now).gaps registers.now.sar (span_of (source_of registers.now)) }
+    ensures lie { IsNone result → LieIn (M.loan memory.now) (M.paged memory.now)
+        registers.now.sar (span_of (source_of registers.now)) }
 {
     let burst = source_burst(registers);
     if buffer.len() + burst.len() as usize > BUFFER_SIZE {
@@ -279,7 +271,7 @@ fn past<'a>(front: &'a [u8], back: &'a [u8], count: usize) -> (&'a [u8], &'a [u8
     (&front[of_front..], &back[count - of_front..])
 }
 
-// Stores the oldest bytes of the buffer as a burst. Bytes that the burst would itself overwrite are not written.
+// Stores the oldest bytes of the buffer as a burst. Bytes that a later beat would overwrite are not written.
 fn store_span<M: Ram>(burst: Burst, buffer: &mut HeapCircularBuffer<u8>, memory: &mut M)
     requires some { (1 ≤ burst.size) × (1 ≤ burst.beats) }
     requires limit { (burst.size ≤ 16) × (burst.beats ≤ 16) }
@@ -288,7 +280,7 @@ fn store_span<M: Ram>(burst: Burst, buffer: &mut HeapCircularBuffer<u8>, memory:
     requires clear { Avoids (M.loan memory.old).gaps burst.addr (span_of burst) }
     requires ready { IsTrue (none_missing (M.paged memory.old) (touched burst)) }
     ensures written { (M.paged memory.new).image ≡ put (M.paged memory.old).image
-        (left_by burst (take (burst_len burst) buffer.old.items)) }
+        (writes_of burst (take (burst_len burst) buffer.old.items)) }
     ensures pages { (M.paged memory.new).made ≡ (M.paged memory.old).made }
     ensures taken { buffer.new
         ≡ ring (drop (burst_len burst) buffer.old.items) buffer.old.capacity }
@@ -302,7 +294,7 @@ fn store_span<M: Ram>(burst: Burst, buffer: &mut HeapCircularBuffer<u8>, memory:
     buffer.truncate_front(buffer.len() - len);
 }
 
-// Returns the fault of DMAST, or `None` if it moves. Without a fault the buffer has enough bytes, and it may touch its
+// Returns the fault of DMAST. If it is `None`, the buffer has the bytes of the burst, and the burst may touch its
 // addresses.
 pub(crate) fn store_fault<M: Ram>(
     marks: &Marks,
@@ -317,14 +309,8 @@ pub(crate) fn store_fault<M: Ram>(
     ensures reaches { IsNone result → IsTrue (reaches MarkKind.Writing
         (with_gaps (M.loan memory.now) marks.now) (length (M.paged memory.now).image)
         (touched (destination_of registers.now))) }
-    ensures within { IsNone result
-        → registers.now.dar + span_of (destination_of registers.now)
-        ≤ length (M.paged memory.now).image }
-    ensures below { IsNone result
-        → registers.now.dar + span_of (destination_of registers.now) < 2 ^ 32 }
-    ensures clear { IsNone result
-        → Avoids (M.loan memory.now).gaps registers.now.dar
-        (span_of (destination_of registers.now)) }
+    ensures lie { IsNone result → LieIn (M.loan memory.now) (M.paged memory.now)
+        registers.now.dar (span_of (destination_of registers.now)) }
 {
     let burst = destination_burst(registers);
     if buffer.len() < burst.len() as usize {

@@ -24,7 +24,7 @@ const PIECE_BYTES: usize = 58;
 // The number of bytes of a wait, a signal and the end together.
 const OTHER_BYTES: usize = 5;
 
-// A beat of a piece: its size in bytes, and whether the source address rises past them. In a fill it doesn't.
+// A beat of a piece: its size in bytes, and whether the source address rises from beat to beat. In a fill it doesn't.
 #[derive(Clone, Copy)]
 struct Beat {
     size: BeatSize,
@@ -38,7 +38,7 @@ pub struct NoMemory;
 
 impl From<AllocError> for NoMemory {
     // Converts the error of any allocation.
-    fn from(_refused: AllocError) -> NoMemory {
+    fn from(_error: AllocError) -> NoMemory {
         NoMemory
     }
 }

@@ -6,7 +6,7 @@ ghost use Rattle.dma_insn.specs.Spelling.{spelling};
 ghost use Rattle.dma_insn.specs.declared.insn.Insn.TheVariants.{Mov, Lp, LpEnd, Sev, Wfe};
 ghost use Rattle.dma_chan.specs.Exec.{buffer_size, counter_of, act, state};
 ghost use Rattle.dma_chan.specs.inner.Acts.{FaultsAnywhere, FaultsAt, FaultsWith, SetsFlags, SetsRegisters};
-ghost use Rattle.dma_chan.specs.Ready.{finds_pages};
+ghost use Rattle.dma_chan.specs.Ready.{is_ready};
 ghost use Rattle.dma_mem.specs.Lent.{with_gaps};
 
 use crate::bursts::{load_burst, load_fault, store_burst, store_fault};
@@ -198,7 +198,7 @@ pub(crate) fn execute<M: Ram>(
     requires pc { registers.old.pc + len ≤ most_bytes }
     requires capacity { buffer.old.capacity ≡ buffer_size }
     requires block { length block.old ≡ buffer_size }
-    requires ready { IsTrue (finds_pages (Ok insn) registers.old (M.paged memory.old)) }
+    requires ready { IsTrue (is_ready (Ok insn) registers.old (M.paged memory.old)) }
     ensures exact { act (with_gaps (M.loan memory.old) marks.now) insn
         (state registers.old buffer.old.items (M.paged memory.old).image events.old)
         ≡ (result, state registers.new buffer.new.items (M.paged memory.new).image events.new) }

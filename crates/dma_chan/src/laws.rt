@@ -12,12 +12,13 @@ pub fn runs_in_step()
     ensures ahead { AheadIs }
     ensures left { LeftIs }
     ensures step { StepIs }
-    ensures tells { TurnReports }
+    ensures reports { TurnReports }
     ensures survives { Survives }
 {}
 
-/// If all destinations of a transfer lie on pages, each instruction of its program finds the pages that it writes.
-pub fn finds_its_pages()
+/// If all destinations of a transfer lie on made pages, each instruction of its program is ready: the pages that it
+/// writes are made.
+pub fn is_ready_on_pages()
     ensures { ReadyIs }
 {}
 
@@ -54,8 +55,8 @@ pub fn channels_copy_in_turn()
     ensures { ChannelsCopyInTurn }
 {}
 
-/// Over regions that contain what a transfer touches, no gap lies there. So the calls of [`calls_copy_among_others`]
-/// don't fail at a gap.
+/// If regions contain all addresses that a transfer touches, no gap between them lies at one of these addresses. So the
+/// calls of [`calls_copy_among_others`] don't fail at a gap.
 pub fn gaps_miss()
     ensures { GapsMiss }
 {}

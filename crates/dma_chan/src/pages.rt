@@ -28,9 +28,10 @@ fn part_below<M: Ram>(span: Segment, memory: &M) -> Segment
     }
 }
 
-// Returns whether a store finds the pages that it writes.
-pub(crate) fn store_finds_pages<M: Ram>(registers: &Registers, memory: &M) -> bool
-    ensures { result ≡ none_missing (M.paged memory.now) (touched (destination_of registers.now)) }
+// Returns whether all pages that a store writes are made.
+pub(crate) fn store_is_ready<M: Ram>(registers: &Registers, memory: &M) -> bool
+    ensures { result
+        ≡ none_missing (M.paged memory.now) (touched (destination_of registers.now)) }
 {
     let part = part_below(destination_burst(registers).span(), memory);
     memory.made(part)
@@ -60,7 +61,7 @@ fn first_page(segment: Segment) -> Option<u32>
 
 // Makes the pages that a store writes, and returns a page that is known to be made, if any. If the store lies on the
 // page `known`, the memory isn't asked. The page returned is usually that of the store, because the next store usually
-// lies on the same page.
+// lies on it too.
 //
 // The error is `NoMemory`. Some pages may have been made then.
 pub(crate) fn prepare_store<M: Ram>(

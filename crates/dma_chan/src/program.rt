@@ -1,6 +1,6 @@
 //! Programs.
 
-ghost use Rattle.std.specs.Prelude.{◌≡◌, ◌≤◌, ◌<◌, length, None, Some, IfOk, IfErr, OnOk, vec_capacity};
+ghost use Rattle.std.specs.Prelude.{◌≡◌, ◌≤◌, ◌<◌, length, None, IfOk, IfErr, OnOk, vec_capacity};
 ghost use Rattle.dma_insn.specs.AssemblyText.{most_bytes};
 ghost use Rattle.dma_chan.specs.Programs.{program_fault};
 
@@ -43,7 +43,8 @@ impl Program {
     ///
     /// The error is `ProgramTooLong` above [`MAX_BYTES`], else `NoMemory`.
     pub fn from_bytes(alloc: Global, bytes: &[u8]) -> Result<Program, ProgramFault>
-        ensures ok { IfOk result (λ program. program ≡ record { bytes = bytes.now; cost = None }) }
+        ensures ok { IfOk result
+            (λ program. program ≡ record { bytes = bytes.now; cost = None }) }
         ensures fits { OnOk result (length bytes.now ≤ most_bytes) }
         ensures err { IfErr result (λ fault. fault ≡ program_fault bytes.now) }
     {
@@ -71,7 +72,7 @@ impl Program {
         }
     }
 
-    // Returns the channel's room that holds the program. The error is the program, if it is in no room.
+    // Returns the memory of the room that the program's bytes are in. If they are in no room, the error is the program.
     pub(crate) fn into_room(self) -> Result<Vec<u8>, Program>
         ensures room { IfOk result (λ room. most_bytes ≤ vec_capacity room) }
         ensures none { IfErr result (λ program. program ≡ self) }

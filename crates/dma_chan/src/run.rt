@@ -34,8 +34,8 @@ pub enum RunEnd {
 pub enum RunFault {
     #[error("the program has more than {} bytes", crate::program::MAX_BYTES)]
     ProgramTooLong,
-    /// A page that the next instruction, a store, writes could not be allocated. `turns` instructions were executed
-    /// before it, and their stores stay in memory.
+    /// A page that a store writes could not be allocated. `turns` instructions were executed before that store, and
+    /// what they stored stays in memory.
     #[error("out of memory for a page, after {turns} instructions")]
     PageRefused { turns: u32 },
     /// An allocation failed before any instruction was executed.
@@ -105,8 +105,9 @@ fn run_on<M: Ram>(
 /// clear, for at most `limit` instructions. The pages that a store writes are made just before it is executed, and no
 /// others. They stay made.
 ///
-/// The error is `ProgramTooLong` above [`MAX_BYTES`](crate::program::MAX_BYTES), else `NoMemory`; nothing has run in
-/// either case. Or it is `PageRefused`: then memory contains the stores of the instructions before the one that failed.
+/// The error is `ProgramTooLong` above [`MAX_BYTES`](crate::program::MAX_BYTES), or `NoMemory`; then nothing has run.
+/// Or it is `PageRefused`; then memory contains the stores of all instructions before the one whose page could not
+/// be allocated.
 pub fn run_program<M: Ram>(
     alloc: Global,
     bytes: &[u8],

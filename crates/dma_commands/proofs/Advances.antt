@@ -21,7 +21,7 @@ use Rattle.dma_engine.proofs.IdleSteps.{idle_steps_stay}
 use Rattle.dma_commands.specs.inner.Counting.{start_replies}
 use Rattle.dma_commands.proofs.Served.{AreServed, answers-append, served-all, served-one}
 
--- ---- an idle answer comes again
+-- ---- an idle answer is repeated
 
 again : (v : View) (call : Call) (reply : Reply) (n : ℕ) → (reply, v) ≡ answer v call → answers v (replicate n call) ≡ (replicate n reply, v)
 again v call reply zero is = refl

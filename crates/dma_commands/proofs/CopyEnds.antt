@@ -23,11 +23,11 @@ use Rattle.dma_engine.specs.declared.entry.Signaller.TheVariants.{Channel}
 use Rattle.dma_engine.specs.declared.fault.EngineFault.TheVariants.{NoChannel, OutOfMemoryRange, CookiesSpent}
 use Rattle.dma_engine.specs.Object.{Object, ChannelState, after, channel, finished, used, empty_channel, issued_front, is_set, unfinished, last_cookie, with_channel, with_flag, with_transfer}
 use Rattle.dma_engine.specs.View.{View, RunningTransfer, channels, idle, object_of, schedule_at, size}
-use Rattle.dma_engine.specs.Turn.{Stepped, front_turn, first_conflicting, insn_turn, last_step, moves_on, start_turn, turn, with_entry, with_taken}
+use Rattle.dma_engine.specs.Turn.{Stepped, front_turn, first_conflicting, insn_turn, last_step, next_moved, start_turn, turn, with_entry, with_taken}
 use Rattle.dma_engine.specs.Answer.{answer, cause, reply_of, unless}
 use Rattle.dma_engine.proofs.Boards.{with_channel-at}
 use Rattle.dma_engine.proofs.Histories.{object_after-append}
-use Rattle.dma_commands.specs.Run.{most_steps, CopiesEnd, goes_on, is_in_use, stepped_through}
+use Rattle.dma_commands.specs.Run.{most_steps, CopiesEnd, goes_on, is_in_use, stepped_to_end}
 
 -- ---- a view in which channel 0 runs a transfer
 
@@ -48,7 +48,7 @@ either P false x y f g = g
 taken-at : (u : View) (k : Option ℕ) → 0 < length u.schedule → (schedule_at (with_taken u 0 k) 0).taken ≡ k
 taken-at u k there = ap (λ s. s.taken) (get_or-set_same u.schedule 0 (record (schedule_at u 0) { taken = k }) idle there)
 
-moved-on : (u : View) (t : Descriptor) (k : ℕ) → 0 < length u.schedule → issued_front (channel (object_of u) 0) ≡ Some t → k + 1 < cost t → GoesOn t k (moves_on u 0 k)
+moved-on : (u : View) (t : Descriptor) (k : ℕ) → 0 < length u.schedule → issued_front (channel (object_of u) 0) ≡ Some t → k + 1 < cost t → GoesOn t k (next_moved u 0 k)
 moved-on u t k there front less = λ _. (
   less,
   record {
@@ -131,23 +131,23 @@ step-goes v t k rules at = stepped-by (GoesOn t k) v (Some t) (Some k) (quiet-go
 -- ---- all steps
 
 abbrev Ends : ℕ → View → Type 0
-Ends n v = goes_on (stepped_through n v).0 ≡ false
+Ends n v = goes_on (stepped_to_end n v).0 ≡ false
 
 -- where the only step doesn't go on, and where the others end if the first one goes on
 ends-last : (v : View) → goes_on (answer v (calls.Step 0)).0 ≡ false → Ends zero v
-unfolding stepped_through
+unfolding stepped_to_end
 ends-last v off = off
 
-ends-by : (n : ℕ) (a : Reply × View) → (goes_on a.0 ≡ true → Ends n a.1) → goes_on (if goes_on a.0 then stepped_through n a.1 else a).0 ≡ false
+ends-by : (n : ℕ) (a : Reply × View) → (goes_on a.0 ≡ true → Ends n a.1) → goes_on (if goes_on a.0 then stepped_to_end n a.1 else a).0 ≡ false
 ends-by n a more =
-    let by : (b : Bool) → goes_on a.0 ≡ b → goes_on (if b then stepped_through n a.1 else a).0 ≡ false = λ b. elim b as (λ b. goes_on a.0 ≡ b → goes_on (if b then stepped_through n a.1 else a).0 ≡ false) [
+    let by : (b : Bool) → goes_on a.0 ≡ b → goes_on (if b then stepped_to_end n a.1 else a).0 ≡ false = λ b. elim b as (λ b. goes_on a.0 ≡ b → goes_on (if b then stepped_to_end n a.1 else a).0 ≡ false) [
       | true ↦ λ on. more on
       | false ↦ λ off. off
     ] in
     by (goes_on a.0) refl
 
 ends-next : (n : ℕ) (v : View) → (goes_on (answer v (calls.Step 0)).0 ≡ true → Ends n (answer v (calls.Step 0)).1) → Ends (suc n) v
-unfolding stepped_through
+unfolding stepped_to_end
 ends-next n v more = ends-by n (answer v (calls.Step 0)) more
 
 never : (b : Bool) → (b ≡ true → ⊥) → b ≡ false

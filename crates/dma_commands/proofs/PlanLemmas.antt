@@ -15,7 +15,7 @@ use Rattle.dma_script.specs.declared.plan.PlanLine.{PlanLine}
 use Rattle.dma_commands.specs.Planned.{transfer_printed, plan_printed, plan_printed_of}
 use Rattle.dma_commands.specs.Transfers.{transfer_of}
 
--- there is one group, for the program or the fault
+-- one group is printed, for the program or the fault
 pub transfer_printed-some : (line : PlanLine) (unfit : Option TransferFault) → 0 < length (transfer_printed line unfit).groups
 transfer_printed-some line None = zero-lt-suc _
 transfer_printed-some line (Some fault) = zero-lt-suc _

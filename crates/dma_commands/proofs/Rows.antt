@@ -73,8 +73,8 @@ calls_read (Err fault) = []
 
 -- what these replies print, to the calls of what is read
 abbrev groups_read : Result RunScript Fault → List Reply → List (List (List ℕ))
-groups_read (Ok script) told = (printed_from script told).groups
-groups_read (Err fault) told = []
+groups_read (Ok script) replies = (printed_from script replies).groups
+groups_read (Err fault) replies = []
 
 -- One copy is submitted, and then channel 0 is in use.
 abbrev some_lines : List ℕ

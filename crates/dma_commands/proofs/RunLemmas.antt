@@ -27,7 +27,7 @@ use Rattle.dma_script.specs.declared.statements.Statement.TheVariants.{Write, Re
 use Rattle.dma_text.specs.Digits.{hex_digits, spaced_bytes}
 use Rattle.dma_commands.specs.Printed.{call_line, fault_text, transfer_fault_name, refused_line}
 use Rattle.dma_commands.specs.Laws.{call_of}
-use Rattle.dma_commands.specs.Run.{Answered, call_answer, copied, copied_after, is_in_use, line_answer, lines_answered, most_steps, stepped_through, through_line, told, unless_unfit}
+use Rattle.dma_commands.specs.Run.{Answered, call_answer, copied, copied_after, is_in_use, line_answer, lines_answered, most_steps, stepped_to_end, last_answer_line, one_line, unless_invalid}
 use Rattle.dma_commands.specs.inner.RunSteps.{RunsLine, read_at, read_in}
 use Rattle.dma_commands.proofs.Served.{refused-served, served-one}
 
@@ -41,7 +41,7 @@ printed_runs answered w (Err e) out out' acts prints kept = record { ok = tt; er
 -- the line of a call and its reply
 pub call_runs : {A E : Type 0} (v w : View) (call : Call) (reply : Reply) (result : Result A E) (out out' : List ℕ) → CallAnswers v call reply w → OnOk result (reply ≢ Refused NoMemory) → OnOk result (out' ≡ out ++ text_of (call_line call reply ∷ [])) → OnErr result (out' ≡ out) → RunsLine (call_answer v call) w result out out'
 call_runs {A = A} {E = E} v w call reply (Ok a) out out' is served prints kept =
-    subst (λ (x : Reply × View). RunsLine {A = A} {E = E} (told (call_line call x.0) x.1) w (Ok a) out out') (served-one v call reply w served is) (printed_runs {A = A} {E = E} (told (call_line call reply) w) w (Ok a) out out' refl prints tt)
+    subst (λ (x : Reply × View). RunsLine {A = A} {E = E} (one_line (call_line call x.0) x.1) w (Ok a) out out') (served-one v call reply w served is) (printed_runs {A = A} {E = E} (one_line (call_line call reply) w) w (Ok a) out out' refl prints tt)
 call_runs v w call reply (Err e) out out' is served prints kept = record { ok = tt; err = kept }
 
 -- the answer of the first call, if any
@@ -72,12 +72,12 @@ line_of_call v Checkpoint call is = ap (first_answer v) is
 -- ---- a transfer's rules
 
 -- a transfer that breaks a rule
-pub unfit_runs : {A E : Type 0} (v : View) (fault : Option TransferFault) (e : TransferFault) (answered : Answered) (result : Result A E) (out out' : List ℕ) → fault ≡ Some e → OnOk result (out' ≡ out ++ text_of (refused_line (transfer_fault_name e) ∷ [])) → OnErr result (out' ≡ out) → RunsLine (unless_unfit fault v answered) v result out out'
+pub unfit_runs : {A E : Type 0} (v : View) (fault : Option TransferFault) (e : TransferFault) (answered : Answered) (result : Result A E) (out out' : List ℕ) → fault ≡ Some e → OnOk result (out' ≡ out ++ text_of (refused_line (transfer_fault_name e) ∷ [])) → OnErr result (out' ≡ out) → RunsLine (unless_invalid fault v answered) v result out out'
 unfit_runs v fault e answered result out out' is prints kept =
-    rw is (printed_runs (told (refused_line (transfer_fault_name e)) v) v result out out' (on_ok_weaker result (λ _. refl) prints) prints kept)
+    rw is (printed_runs (one_line (refused_line (transfer_fault_name e)) v) v result out out' (on_ok_weaker result (λ _. refl) prints) prints kept)
 
 -- a transfer that breaks none
-pub fit_runs : {A E : Type 0} (v w : View) (fault : Option TransferFault) (answered : Answered) (result : Result A E) (out out' : List ℕ) → fault ≡ None → RunsLine answered w result out out' → RunsLine (unless_unfit fault v answered) w result out out'
+pub fit_runs : {A E : Type 0} (v w : View) (fault : Option TransferFault) (answered : Answered) (result : Result A E) (out out' : List ℕ) → fault ≡ None → RunsLine answered w result out out' → RunsLine (unless_invalid fault v answered) w result out out'
 fit_runs v w fault answered result out out' none runs = rw none runs
 
 -- ---- reads
@@ -101,26 +101,26 @@ read_runs v w addr n bytes result out out' is prints kept =
 -- ---- copies
 
 -- channel 0 in use or not
-pub where_used : (start : List ℕ) (v : View) (t : Descriptor) → is_in_use v ≡ true → copied start v t ≡ told (refused_line (codes "ChannelInUse")) v
-where_used start v t used = ap (λ b. if b then told (refused_line (codes "ChannelInUse")) v else copied_after start (answer v (SubmitCall 0 t))) used
+pub where_used : (start : List ℕ) (v : View) (t : Descriptor) → is_in_use v ≡ true → copied start v t ≡ one_line (refused_line (codes "ChannelInUse")) v
+where_used start v t used = ap (λ b. if b then one_line (refused_line (codes "ChannelInUse")) v else copied_after start (answer v (SubmitCall 0 t))) used
 
 pub where_free : (start : List ℕ) (v : View) (t : Descriptor) → is_in_use v ≡ false → copied start v t ≡ copied_after start (answer v (SubmitCall 0 t))
-where_free start v t free = ap (λ b. if b then told (refused_line (codes "ChannelInUse")) v else copied_after start (answer v (SubmitCall 0 t))) free
+where_free start v t free = ap (λ b. if b then one_line (refused_line (codes "ChannelInUse")) v else copied_after start (answer v (SubmitCall 0 t))) free
 
 -- the submit of a copy was refused
 pub refused_copy_runs : {A E : Type 0} (start : List ℕ) (v w : View) (t : Descriptor) (fault : EngineFault) (result : Result A E) (out out' : List ℕ) → CallAnswers v (SubmitCall 0 t) (Refused fault) w → OnOk result (fault ≢ NoMemory) → OnOk result (out' ≡ out ++ text_of (refused_line (fault_text fault) ∷ [])) → OnErr result (out' ≡ out) → RunsLine (copied_after start (answer v (SubmitCall 0 t))) w result out out'
 refused_copy_runs {A = A} {E = E} start v w t fault (Ok a) out out' is served prints kept =
     subst (λ (x : Reply × View). RunsLine {A = A} {E = E} (copied_after start x) w (Ok a) out out') (served-one v (SubmitCall 0 t) (Refused fault) w (refused-served fault served) is)
-    (printed_runs {A = A} {E = E} (told (refused_line (fault_text fault)) w) w (Ok a) out out' refl prints tt)
+    (printed_runs {A = A} {E = E} (one_line (refused_line (fault_text fault)) w) w (Ok a) out out' refl prints tt)
 refused_copy_runs start v w t fault (Err e) out out' is served prints kept = record { ok = tt; err = kept }
 
 -- a copy was submitted, issued and stepped through
-pub copy_runs : {A E : Type 0} (start : List ℕ) (v u x w : View) (t : Descriptor) (cookie : ℕ) (issued last : Reply) (result : Result A E) (out out' : List ℕ) → (Cookie cookie, u) ≡ answer v (SubmitCall 0 t) → (issued, x) ≡ answer u (IssueCall 0) → (last, w) ≡ stepped_through most_steps x → OnOk result (out' ≡ out ++ text_of (through_line start last ∷ [])) → OnErr result (out' ≡ out) → RunsLine (copied_after start (answer v (SubmitCall 0 t))) w result out out'
+pub copy_runs : {A E : Type 0} (start : List ℕ) (v u x w : View) (t : Descriptor) (cookie : ℕ) (issued last : Reply) (result : Result A E) (out out' : List ℕ) → (Cookie cookie, u) ≡ answer v (SubmitCall 0 t) → (issued, x) ≡ answer u (IssueCall 0) → (last, w) ≡ stepped_to_end most_steps x → OnOk result (out' ≡ out ++ text_of (last_answer_line start last ∷ [])) → OnErr result (out' ≡ out) → RunsLine (copied_after start (answer v (SubmitCall 0 t))) w result out out'
 copy_runs {A = A} {E = E} start v u x w t cookie issued last result out out' submitted is steps prints kept =
-    let through = steps ∙ ap (λ (a : Reply × View). stepped_through most_steps a.1) is in
+    let through = steps ∙ ap (λ (a : Reply × View). stepped_to_end most_steps a.1) is in
     subst (λ (a : Reply × View). RunsLine {A = A} {E = E} (copied_after start a) w result out out') submitted
-    (subst (λ (a : Reply × View). RunsLine {A = A} {E = E} (told (through_line start a.0) a.1) w result out out') through
-    (printed_runs (told (through_line start last) w) w result out out' (on_ok_weaker result (λ _. refl) prints) prints kept))
+    (subst (λ (a : Reply × View). RunsLine {A = A} {E = E} (one_line (last_answer_line start a.0) a.1) w result out out') through
+    (printed_runs (one_line (last_answer_line start last) w) w result out out' (on_ok_weaker result (λ _. refl) prints) prints kept))
 
 -- ---- what runs
 

@@ -13,9 +13,9 @@ use Rattle.dma_engine.specs.Answer.{answer, answers}
 use Rattle.dma_script.specs.declared.statements.Statement.{Statement}
 use Rattle.dma_script.specs.declared.statements.Statement.TheVariants.{Write, Read, Copy, Fill, Submit, Issue, Pause, Resume, Terminate, Step, Status, Result as Outcome, Mark, Unmark, Raise, Checkpoint, Totals}
 use Rattle.dma_commands.specs.Printed.{refused_line, reply_text}
-use Rattle.dma_commands.specs.Run.{Answered, call_answer, carried_through, copied, copied_after, goes_on, is_in_use, is_refused, line_answer, lines_answered, most_steps, plain_copy, plain_fill, stepped_through, through_line, told, unless_unfit}
+use Rattle.dma_commands.specs.Run.{Answered, call_answer, issued_and_stepped, copied, copied_after, goes_on, is_in_use, is_refused, line_answer, lines_answered, most_steps, plain_copy, plain_fill, stepped_to_end, last_answer_line, one_line, unless_invalid}
 use Rattle.dma_commands.specs.Transfers.{transfer_of}
-use Rattle.dma_commands.specs.Laws.{call_lines, calls_after, calls_in, calls_of, carrying_calls, groups_from, if_fit, last_of, lines_from, rule_or, steps_taken, through_calls, through_lines, view_after}
+use Rattle.dma_commands.specs.Laws.{call_lines, calls_after, calls_in, calls_of, issue_and_step_calls, groups_from, if_valid, last_of, lines_from, rule_or, steps_taken, transfer_calls, transfer_lines, view_after}
 use Rattle.dma_commands.proofs.Served.{answers-append}
 
 -- ---- a copy's steps
@@ -25,7 +25,7 @@ abbrev step_replies : ℕ → View → List Reply × View
 step_replies n v = answers v (replicate n (calls.Step 0))
 
 -- what the steps after a first answer make of it, by whether the copy goes on
-step_more : (n : ℕ) (first : Reply × View) (b : Bool) → stepped_through n first.1 ≡ (let q = step_replies (steps_taken n first.1) first.1 in (last_of first.0 q.0, q.1)) → (if b then stepped_through n first.1 else first) ≡ (let q = answers first.1 (replicate (if b then steps_taken n first.1 else 0) (calls.Step 0)) in (last_of first.0 q.0, q.1))
+step_more : (n : ℕ) (first : Reply × View) (b : Bool) → stepped_to_end n first.1 ≡ (let q = step_replies (steps_taken n first.1) first.1 in (last_of first.0 q.0, q.1)) → (if b then stepped_to_end n first.1 else first) ≡ (let q = answers first.1 (replicate (if b then steps_taken n first.1 else 0) (calls.Step 0)) in (last_of first.0 q.0, q.1))
 step_more n first true more = more
 step_more n first false more = refl
 
@@ -34,8 +34,8 @@ one-more n w true = refl
 one-more n w false = refl
 
 -- the last of a copy's steps is where it ends
-pub steps_end : (n : ℕ) (v : View) (before : Reply) → stepped_through n v ≡ (let q = step_replies (steps_taken n v) v in (last_of before q.0, q.1))
-unfolding stepped_through steps_taken
+pub steps_end : (n : ℕ) (v : View) (before : Reply) → stepped_to_end n v ≡ (let q = step_replies (steps_taken n v) v in (last_of before q.0, q.1))
+unfolding stepped_to_end steps_taken
 steps_end zero v before = refl
 steps_end (suc n) v before =
     let first = answer v (calls.Step 0) in
@@ -47,22 +47,22 @@ steps_end (suc n) v before =
 
 -- what a copy prints for its replies, and the view after them
 abbrev through_made : List ℕ → List Reply × View → Answered
-through_made start a = (through_lines start a.0, a.1)
+through_made start a = (transfer_lines start a.0, a.1)
 
 abbrev with_first : Reply → List Reply × View → List Reply × View
 with_first reply rest = (reply ∷ rest.0, rest.1)
 
 -- an issue and its steps
-carried_is : (start : List ℕ) (v : View) (submitted : Reply) → carried_through start v ≡ through_made start (with_first submitted (answers v (carrying_calls v)))
+carried_is : (start : List ℕ) (v : View) (submitted : Reply) → issued_and_stepped start v ≡ through_made start (with_first submitted (answers v (issue_and_step_calls v)))
 carried_is start v submitted =
     let issued = answer v (calls.Issue 0) in
-    ap (λ (last : Reply × View). told (through_line start last.0) last.1) (steps_end most_steps issued.1 issued.0)
+    ap (λ (last : Reply × View). one_line (last_answer_line start last.0) last.1) (steps_end most_steps issued.1 issued.0)
 
-after_is : (start : List ℕ) (s : Reply × View) (b : Bool) → (if b then told (reply_text s.0) s.1 else carried_through start s.1) ≡ through_made start (with_first s.0 (answers s.1 (if b then [] else carrying_calls s.1)))
+after_is : (start : List ℕ) (s : Reply × View) (b : Bool) → (if b then one_line (reply_text s.0) s.1 else issued_and_stepped start s.1) ≡ through_made start (with_first s.0 (answers s.1 (if b then [] else issue_and_step_calls s.1)))
 after_is start s true = refl
 after_is start s false = carried_is start s.1 s.0
 
-copied_is : (start : List ℕ) (v : View) (t : Descriptor) (b : Bool) → (if b then told (refused_line (codes "ChannelInUse")) v else copied_after start (answer v (calls.Submit 0 t))) ≡ through_made start (answers v (if b then [] else calls.Submit 0 t ∷ calls_after (answer v (calls.Submit 0 t))))
+copied_is : (start : List ℕ) (v : View) (t : Descriptor) (b : Bool) → (if b then one_line (refused_line (codes "ChannelInUse")) v else copied_after start (answer v (calls.Submit 0 t))) ≡ through_made start (answers v (if b then [] else calls.Submit 0 t ∷ calls_after (answer v (calls.Submit 0 t))))
 copied_is start v t true = refl
 copied_is start v t false =
     let s = answer v (calls.Submit 0 t) in after_is start s (is_refused s.0)
@@ -71,11 +71,11 @@ copied_is start v t false =
 abbrev rule_made : Option TransferFault → (List Reply → List (List ℕ)) → List Reply × View → Answered
 rule_made fault lines a = (rule_or fault (lines a.0), a.1)
 
-through_is : (start : List ℕ) (v : View) (t : Descriptor) (fault : Option TransferFault) → unless_unfit fault v (copied start v t) ≡ rule_made fault (through_lines start) (answers v (if_fit fault (through_calls v t)))
+through_is : (start : List ℕ) (v : View) (t : Descriptor) (fault : Option TransferFault) → unless_invalid fault v (copied start v t) ≡ rule_made fault (transfer_lines start) (answers v (if_valid fault (transfer_calls v t)))
 through_is start v t None = copied_is start v t (is_in_use v)
 through_is start v t (Some fault) = refl
 
-submit_is : (v : View) (ch : ℕ) (t : Descriptor) (fault : Option TransferFault) → unless_unfit fault v (call_answer v (calls.Submit ch t)) ≡ rule_made fault (call_lines (calls.Submit ch t ∷ [])) (answers v (if_fit fault (calls.Submit ch t ∷ [])))
+submit_is : (v : View) (ch : ℕ) (t : Descriptor) (fault : Option TransferFault) → unless_invalid fault v (call_answer v (calls.Submit ch t)) ≡ rule_made fault (call_lines (calls.Submit ch t ∷ [])) (answers v (if_valid fault (calls.Submit ch t ∷ [])))
 submit_is v ch t None = refl
 submit_is v ch t (Some fault) = refl
 

@@ -17,11 +17,11 @@ use Rattle.dma_engine.specs.declared.entry.Entry.TheVariants.{Submitted}
 use Rattle.dma_engine.specs.View.{IsSound, View, object_of}
 use Rattle.dma_engine.specs.Answer.{answer, answers, submit_fault, unless}
 use Rattle.dma_engine.specs.Laws.{CallsStaySound, NewViewsAreSound}
-use Rattle.dma_engine.proofs.JoinedCalls.{answers_are_answers, answers_despite_memory}
+use Rattle.dma_engine.proofs.JoinedCalls.{answers_are_answers, answers_unless_no_memory}
 use Rattle.dma_script.specs.declared.statements.Statement.{Statement}
 use Rattle.dma_script.specs.declared.statements.Statement.TheVariants.{Write, Read, Copy, Fill, Submit, Issue, Pause, Resume, Terminate, Step, Status, Result as Outcome, Mark, Unmark, Raise, Checkpoint, Totals}
-use Rattle.dma_commands.specs.Run.{CopiesEnd, goes_on, is_in_use, most_steps, plain_copy, plain_fill, stepped_through}
-use Rattle.dma_commands.specs.Laws.{AreWhole, CopiesAreWhole, IsWhole, IsWholeCopy, StepsEnd, calls_after, calls_in, calls_of, if_fit, opening_of, script_calls, steps_taken, through_calls, view_after}
+use Rattle.dma_commands.specs.Run.{CopiesEnd, goes_on, is_in_use, most_steps, plain_copy, plain_fill, stepped_to_end}
+use Rattle.dma_commands.specs.Laws.{AreWhole, CopiesAreWhole, IsWhole, IsWholeCopy, StepsEnd, calls_after, calls_in, calls_of, if_valid, opening_of, script_calls, steps_taken, transfer_calls, view_after}
 use Rattle.dma_commands.proofs.ScriptCalls.{first-replies, later-replies, one-more}
 use Rattle.dma_commands.proofs.ScriptSubmits.{copy-byte, fill-byte, line-made}
 use Rattle.dma_commands.proofs.ScriptsWithin.{can-be-made, script_within}
@@ -33,13 +33,13 @@ one-step-more reply [] on ends = absurd ends
 one-step-more reply (next ∷ rest) on ends = (on, ends)
 
 -- the steps after a first answer, by whether the copy goes on after it
-steps-by : (n : ℕ) (first : Reply × View) (b : Bool) → goes_on first.0 ≡ b → goes_on (if b then stepped_through n first.1 else first).0 ≡ false → (goes_on (stepped_through n first.1).0 ≡ false → StepsEnd (answers first.1 (replicate (steps_taken n first.1) (calls.Step 0))).0) → StepsEnd (first.0 ∷ (answers first.1 (replicate (if b then steps_taken n first.1 else 0) (calls.Step 0))).0)
+steps-by : (n : ℕ) (first : Reply × View) (b : Bool) → goes_on first.0 ≡ b → goes_on (if b then stepped_to_end n first.1 else first).0 ≡ false → (goes_on (stepped_to_end n first.1).0 ≡ false → StepsEnd (answers first.1 (replicate (steps_taken n first.1) (calls.Step 0))).0) → StepsEnd (first.0 ∷ (answers first.1 (replicate (if b then steps_taken n first.1 else 0) (calls.Step 0))).0)
 steps-by n first false off ends more = off
 steps-by n first true on ends more =
     one-step-more first.0 (answers first.1 (replicate (steps_taken n first.1) (calls.Step 0))).0 on (more ends)
 
-steps-end : (n : ℕ) (v : View) → goes_on (stepped_through n v).0 ≡ false → StepsEnd (answers v (replicate (steps_taken n v) (calls.Step 0))).0
-unfolding stepped_through steps_taken
+steps-end : (n : ℕ) (v : View) → goes_on (stepped_to_end n v).0 ≡ false → StepsEnd (answers v (replicate (steps_taken n v) (calls.Step 0))).0
+unfolding stepped_to_end steps_taken
 steps-end zero v ends = ends
 steps-end (suc n) v ends =
     let first = answer v (calls.Step 0) in
@@ -62,12 +62,12 @@ used-or-not : (v : View) (cs : List Call) (b : Bool) → is_in_use v ≡ b → (
 used-or-not v cs true is whole = tt
 used-or-not v cs false is whole = whole is
 
-through-whole : CopiesEnd → (v : View) (t : Descriptor) → IsSound v → IsTransfer t → IsWholeCopy (answers v (through_calls v t)).0
+through-whole : CopiesEnd → (v : View) (t : Descriptor) → IsSound v → IsTransfer t → IsWholeCopy (answers v (transfer_calls v t)).0
 through-whole ends v t sound rules =
     used-or-not v (calls.Submit 0 t ∷ calls_after (answer v (calls.Submit 0 t))) (is_in_use v) refl
     (λ free. submitted-whole ends v t (submit_fault v 0 t) sound rules free refl)
 
-fit-whole : CopiesEnd → (v : View) (t : Descriptor) (fault : Option TransferFault) → IsSound v → HasOneByte t → refusal_of t ≡ fault → IsWholeCopy (answers v (if_fit fault (through_calls v t))).0
+fit-whole : CopiesEnd → (v : View) (t : Descriptor) (fault : Option TransferFault) → IsSound v → HasOneByte t → refusal_of t ≡ fault → IsWholeCopy (answers v (if_valid fault (transfer_calls v t))).0
 fit-whole ends v t None sound one fits = through-whole ends v t sound (IsTransfer-from_no_refusal t one fits)
 fit-whole ends v t (Some fault) sound one is = tt
 
@@ -112,5 +112,5 @@ copies_are_whole ends opens stay input script replies left read served made =
     let v = opening_of script in
     let cs = script_calls script in
     let sound : IsSound v = opens script.size script.channels (can-be-made script (script_within input script read)) in
-    subst (λ (x : List Reply × View). AreWhole v script.statements x.0) (sym (answers_despite_memory v left cs replies served made))
+    subst (λ (x : List Reply × View). AreWhole v script.statements x.0) (sym (answers_unless_no_memory v left cs replies served made))
     (lines-whole ends stay v script.statements sound)

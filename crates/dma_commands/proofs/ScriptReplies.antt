@@ -10,7 +10,7 @@ use Rattle.dma_engine.specs.declared.fault.EngineFault.{EngineFault}
 use Rattle.dma_engine.specs.declared.fault.EngineFault.TheVariants.{NoMemory}
 use Rattle.dma_engine.specs.View.{View}
 use Rattle.dma_engine.specs.Answer.{AreAnswers, CallAnswers, answer, answers, checkpoint_fault, checkpointed, is_started, stores_base, takes_memory, unless}
-use Rattle.dma_engine.proofs.JoinedCalls.{answer_is_one, answers_are_answers, answers_despite_memory}
+use Rattle.dma_engine.proofs.JoinedCalls.{answer_is_one, answers_are_answers, answers_unless_no_memory}
 use Rattle.dma_script.specs.Statements.{run_script_of}
 use Rattle.dma_script.specs.declared.statements.RunScript.{RunScript}
 use Rattle.dma_commands.specs.Run.{Answered, printed, printed_of}
@@ -102,4 +102,4 @@ scripts_print_replies input script replies left read served made =
     let v = opening_of script in
     let cs = script_calls script in
     printed-is input script read
-    ∙ ap (λ (x : List Reply × View). printed_from script x.0) (sym (answers_despite_memory v left cs replies served made))
+    ∙ ap (λ (x : List Reply × View). printed_from script x.0) (sym (answers_unless_no_memory v left cs replies served made))

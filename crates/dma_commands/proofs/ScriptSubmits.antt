@@ -19,7 +19,7 @@ use Rattle.dma_script.specs.declared.statements.Statement.{Statement}
 use Rattle.dma_script.specs.declared.statements.Statement.TheVariants.{Write, Read, Copy, Fill, Submit, Issue, Pause, Resume, Terminate, Step, Status, Result as Outcome, Mark, Unmark, Raise, Checkpoint, Totals}
 use Rattle.dma_commands.specs.Run.{is_in_use, is_refused, most_steps, plain_copy, plain_fill}
 use Rattle.dma_commands.specs.Transfers.{transfer_from, transfer_of}
-use Rattle.dma_commands.specs.Laws.{calls_after, calls_in, calls_of, carrying_calls, if_fit, steps_taken, through_calls, view_after}
+use Rattle.dma_commands.specs.Laws.{calls_after, calls_in, calls_of, issue_and_step_calls, if_valid, steps_taken, transfer_calls, view_after}
 
 -- ---- lists of which all can be made
 
@@ -59,17 +59,17 @@ line-byte (origins.List src) dst wait signal = copy-byte src dst wait signal
 line-byte (origins.Place src) dst wait signal = λ _. (src, refl)
 
 -- the calls of a transfer that is made where it breaks no rule
-fit-made : (t : Descriptor) (fault : Option TransferFault) (cs : List Call) → HasOneByte t → refusal_of t ≡ fault → (IsTransfer t → All IsCall cs) → All IsCall (if_fit fault cs)
+fit-made : (t : Descriptor) (fault : Option TransferFault) (cs : List Call) → HasOneByte t → refusal_of t ≡ fault → (IsTransfer t → All IsCall cs) → All IsCall (if_valid fault cs)
 fit-made t None cs one none made = made (IsTransfer-from_no_refusal t one none)
 fit-made t (Some fault) cs one some made = none-made
 
-through-made : (v : View) (t : Descriptor) → IsTransfer t → All IsCall (through_calls v t)
+through-made : (v : View) (t : Descriptor) → IsTransfer t → All IsCall (transfer_calls v t)
 through-made v t rules =
     let s = answer v (calls.Submit 0 t) in
     let w = (answer s.1 (calls.Issue 0)).1 in
     either (is_in_use v) [] (calls.Submit 0 t ∷ calls_after s) none-made
     (one-before (calls.Submit 0 t) (calls_after s) rules
-    (either (is_refused s.0) [] (carrying_calls s.1) none-made
+    (either (is_refused s.0) [] (issue_and_step_calls s.1) none-made
     (one-before (calls.Issue 0) (replicate (steps_taken most_steps w) (calls.Step 0)) tt
     (equal-calls (steps_taken most_steps w) (calls.Step 0) tt))))
 
@@ -78,10 +78,10 @@ line-made v (Write addr bytes) = alone (calls.Write addr bytes) tt
 line-made v (Read segment) = alone (calls.Read segment.addr segment.len) tt
 line-made v (Copy lists) =
     let t = plain_copy lists.src lists.dst in
-    fit-made t (refusal_of t) (through_calls v t) (copy-byte lists.src lists.dst None None) refl (through-made v t)
+    fit-made t (refusal_of t) (transfer_calls v t) (copy-byte lists.src lists.dst None None) refl (through-made v t)
 line-made v (Fill src dst) =
     let t = plain_fill src dst in
-    fit-made t (refusal_of t) (through_calls v t) (fill-byte src dst) refl (through-made v t)
+    fit-made t (refusal_of t) (transfer_calls v t) (fill-byte src dst) refl (through-made v t)
 line-made v (Submit ch line) =
     let t = transfer_of line in
     fit-made t (refusal_of t) (calls.Submit ch t ∷ []) (line-byte line.src line.dst line.wait line.signal) refl (alone (calls.Submit ch t))

@@ -1,4 +1,4 @@
--- Runs of equal answers, and the lines of those before.
+-- Runs of equal answers, and the lines of the runs before the last.
 use Rattle.std.proofs.Common.{◌≡◌, ◌≢◌, ℕ, ◌+◌, ◌<◌, List, [], ◌∷◌, ◌++◌, map, Bool, true, false, refl, ap, sym, subst, ◌∙◌, zero, suc, add-one, append_assoc, arith, codes, lit<}
 use Rattle.std.specs.Prelude.{Result, decimal, replicate}
 use Rattle.std.specs.Str.{bytes_eq}

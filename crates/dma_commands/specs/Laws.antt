@@ -18,7 +18,7 @@ use Rattle.dma_script.specs.declared.statements.RunScript.{RunScript}
 use Rattle.dma_script.specs.declared.statements.Statement.{Statement}
 use Rattle.dma_script.specs.declared.statements.Statement.TheVariants.{Write, Read, Copy, Fill, Submit, Issue, Pause, Resume, Terminate, Step, Status, Result as Outcome, Mark, Unmark, Raise, Checkpoint, Totals}
 use Rattle.dma_commands.specs.Printed.{call_line, refused_line, reply_text, transfer_fault_name}
-use Rattle.dma_commands.specs.Run.{goes_on, is_in_use, is_refused, line_answer, most_steps, plain_copy, plain_fill, printed, step_lines, through_line, totals_of}
+use Rattle.dma_commands.specs.Run.{goes_on, is_in_use, is_refused, line_answer, most_steps, plain_copy, plain_fill, printed, step_lines, last_answer_line, totals_of}
 use Rattle.dma_commands.specs.Transfers.{transfer_of}
 
 -- ---- the calls of a line
@@ -41,9 +41,9 @@ call_of Checkpoint = calls.Checkpoint ∷ []
 call_of _ = []
 
 -- These calls for a transfer that breaks no rule; no call for one that does.
-abbrev pub if_fit : Option TransferFault → List Call → List Call
-if_fit None calls = calls
-if_fit (Some fault) calls = []
+abbrev pub if_valid : Option TransferFault → List Call → List Call
+if_valid None calls = calls
+if_valid (Some fault) calls = []
 
 -- How many steps of channel 0 a copy or a fill takes: up to the first whose answer is neither Started nor Moved, and
 -- at most n + 1 for the argument n.
@@ -54,29 +54,29 @@ steps_taken (suc n) v =
     if goes_on first.0 then suc (steps_taken n first.1) else 1
 
 -- The calls that issue channel 0 and then step it.
-abbrev pub carrying_calls : View → List Call
-carrying_calls v = calls.Issue 0 ∷ replicate (steps_taken most_steps (answer v (calls.Issue 0)).1) (calls.Step 0)
+abbrev pub issue_and_step_calls : View → List Call
+issue_and_step_calls v = calls.Issue 0 ∷ replicate (steps_taken most_steps (answer v (calls.Issue 0)).1) (calls.Step 0)
 
 -- The calls of a copy or a fill after its submit: none if the submit is refused, else the issue and the steps.
 abbrev pub calls_after : Reply × View → List Call
-calls_after submitted = if is_refused submitted.0 then [] else carrying_calls submitted.1
+calls_after submitted = if is_refused submitted.0 then [] else issue_and_step_calls submitted.1
 
 -- The calls of a copy or a fill whose transfer meets its rules: none if channel 0 is in use, else the submit to
 -- channel 0 and the calls after it.
-abbrev pub through_calls : View → Descriptor → List Call
-through_calls v t = if is_in_use v then [] else calls.Submit 0 t ∷ calls_after (answer v (calls.Submit 0 t))
+abbrev pub transfer_calls : View → Descriptor → List Call
+transfer_calls v t = if is_in_use v then [] else calls.Submit 0 t ∷ calls_after (answer v (calls.Submit 0 t))
 
 -- The calls of a line, in order, on an engine with this view. Only those of a copy and a fill depend on the view.
 abbrev pub calls_of : View → Statement → List Call
 calls_of v (Copy lists) =
     let t = plain_copy lists.src lists.dst in
-    if_fit (refusal_of t) (through_calls v t)
+    if_valid (refusal_of t) (transfer_calls v t)
 calls_of v (Fill src dst) =
     let t = plain_fill src dst in
-    if_fit (refusal_of t) (through_calls v t)
+    if_valid (refusal_of t) (transfer_calls v t)
 calls_of v (Submit ch line) =
     let t = transfer_of line in
-    if_fit (refusal_of t) (calls.Submit ch t ∷ [])
+    if_valid (refusal_of t) (calls.Submit ch t ∷ [])
 calls_of v (Step ch count) = replicate count (calls.Step ch)
 calls_of v line = call_of line
 
@@ -108,16 +108,16 @@ last_of reply (next ∷ rest) = last_of next rest
 
 -- What a copy or a fill whose transfer meets its rules prints, by the replies to its calls: `refused ChannelInUse`
 -- without any reply, the submit's reply if it is the only one, else `start` followed by the last reply.
-abbrev pub through_lines : List ℕ → List Reply → List (List ℕ)
-through_lines start [] = refused_line (codes "ChannelInUse") ∷ []
-through_lines start (submitted ∷ []) = reply_text submitted ∷ []
-through_lines start (submitted ∷ issued ∷ steps) = through_line start (last_of issued steps) ∷ []
+abbrev pub transfer_lines : List ℕ → List Reply → List (List ℕ)
+transfer_lines start [] = refused_line (codes "ChannelInUse") ∷ []
+transfer_lines start (submitted ∷ []) = reply_text submitted ∷ []
+transfer_lines start (submitted ∷ issued ∷ steps) = last_answer_line start (last_of issued steps) ∷ []
 
 -- What a line prints, computed from the replies to its calls alone.
 abbrev pub reply_lines : Statement → List Reply → List (List ℕ)
 reply_lines (Copy lists) replies =
-    rule_or (refusal_of (plain_copy lists.src lists.dst)) (through_lines (codes "copy ") replies)
-reply_lines (Fill src dst) replies = rule_or (refusal_of (plain_fill src dst)) (through_lines (codes "fill ") replies)
+    rule_or (refusal_of (plain_copy lists.src lists.dst)) (transfer_lines (codes "copy ") replies)
+reply_lines (Fill src dst) replies = rule_or (refusal_of (plain_fill src dst)) (transfer_lines (codes "fill ") replies)
 reply_lines (Submit ch line) replies =
     let t = transfer_of line in
     rule_or (refusal_of t) (call_lines (calls.Submit ch t ∷ []) replies)

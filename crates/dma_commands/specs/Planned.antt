@@ -13,8 +13,8 @@ use Rattle.dma_commands.specs.Printed.{transfer_fault_name}
 use Rattle.dma_commands.specs.Transfers.{transfer_of}
 
 -- `line N: NAME`
-abbrev pub unfit_line : ℕ → TransferFault → List ℕ
-unfit_line line fault = codes "line " ++ decimal line ++ codes ": " ++ transfer_fault_name fault
+abbrev pub invalid_line : ℕ → TransferFault → List ℕ
+invalid_line line fault = codes "line " ++ decimal line ++ codes ": " ++ transfer_fault_name fault
 
 -- `cost N` for a program with a cost, else no line
 abbrev pub cost_lines : Option ℕ → List (List ℕ)
@@ -29,7 +29,7 @@ program_printed program =
 -- What is printed for a transfer: its program, with status 0, or the first rule that it breaks, as a refusal.
 abbrev pub transfer_printed : PlanLine → Option TransferFault → Printed
 transfer_printed line None = record { groups = program_printed (compiled (transfer_of line.transfer)) ∷ []; status = 0 }
-transfer_printed line (Some fault) = refusal (unfit_line line.line fault)
+transfer_printed line (Some fault) = refusal (invalid_line line.line fault)
 
 -- What is printed for a parsed line, or for an input with a fault.
 abbrev pub plan_printed_of : Result PlanLine Fault → Printed

@@ -30,22 +30,22 @@ abbrev pub Answered : Type 0
 Answered = List (List ℕ) × View
 
 -- one line, and the view after it
-abbrev pub told : List ℕ → View → Answered
-told line v = (line ∷ [], v)
+abbrev pub one_line : List ℕ → View → Answered
+one_line line v = (line ∷ [], v)
 
 -- a script line that makes one call
 abbrev pub call_answer : View → Call → Answered
-call_answer v call = told (call_line call (answer v call).0) (answer v call).1
+call_answer v call = one_line (call_line call (answer v call).0) (answer v call).1
 
 -- prints the rule that the transfer breaks and doesn't change the view; if it breaks none, this answer
-abbrev pub unless_unfit : Option TransferFault → View → Answered → Answered
-unless_unfit (Some fault) v answered = told (refused_line (transfer_fault_name fault)) v
-unless_unfit None v answered = answered
+abbrev pub unless_invalid : Option TransferFault → View → Answered → Answered
+unless_invalid (Some fault) v answered = one_line (refused_line (transfer_fault_name fault)) v
+unless_invalid None v answered = answered
 
 -- a submit line: checks the transfer's own rules, then makes the call
 abbrev pub submit_answer : View → ℕ → TransferLine → Answered
 submit_answer v ch line =
-    unless_unfit (refusal_of (transfer_of line)) v (call_answer v (calls.Submit ch (transfer_of line)))
+    unless_invalid (refusal_of (transfer_of line)) v (call_answer v (calls.Submit ch (transfer_of line)))
 
 -- ---- step lines
 
@@ -89,24 +89,24 @@ goes_on _ = false
 
 -- Steps channel 0 until an answer is neither Started nor Moved, and at most n + 1 times for the argument n. The result
 -- is the last answer and the view after it.
-unfoldable pub stepped_through : ℕ → View → Reply × View
-stepped_through zero v = answer v (calls.Step 0)
-stepped_through (suc n) v =
+unfoldable pub stepped_to_end : ℕ → View → Reply × View
+stepped_to_end zero v = answer v (calls.Step 0)
+stepped_to_end (suc n) v =
     let first = answer v (calls.Step 0) in
-    if goes_on first.0 then stepped_through n first.1 else first
+    if goes_on first.0 then stepped_to_end n first.1 else first
 
 -- `copy ANSWER` or `fill ANSWER`, where `start` is `copy ` or `fill `
-abbrev pub through_line : List ℕ → Reply → List ℕ
-through_line start reply = start ++ reply_text reply
+abbrev pub last_answer_line : List ℕ → Reply → List ℕ
+last_answer_line start reply = start ++ reply_text reply
 
 -- the limit for `stepped_through` in a copy or a fill; it cuts none of them off (`CopiesEnd`)
 abbrev pub most_steps : ℕ
 most_steps = 524288
 
 -- Issues channel 0, steps it with `stepped_through`, and prints the last answer.
-abbrev pub carried_through : List ℕ → View → Answered
-carried_through start v =
-    let last = stepped_through most_steps (answer v (calls.Issue 0)).1 in told (through_line start last.0) last.1
+abbrev pub issued_and_stepped : List ℕ → View → Answered
+issued_and_stepped start v =
+    let last = stepped_to_end most_steps (answer v (calls.Issue 0)).1 in one_line (last_answer_line start last.0) last.1
 
 -- whether a reply is a refusal
 abbrev pub is_refused : Reply → Bool
@@ -116,13 +116,13 @@ is_refused _ = false
 -- a copy or a fill after its submit: prints a refusal of the submit, else issues channel 0 and steps it
 abbrev pub copied_after : List ℕ → Reply × View → Answered
 copied_after start after =
-    if is_refused after.0 then told (reply_text after.0) after.1 else carried_through start after.1
+    if is_refused after.0 then one_line (reply_text after.0) after.1 else issued_and_stepped start after.1
 
 -- a copy or a fill whose transfer meets its rules: prints `refused ChannelInUse` and changes nothing if channel 0 is
 -- in use, else submits the transfer to channel 0 and continues with `copied_after`
 abbrev pub copied : List ℕ → View → Descriptor → Answered
 copied start v t =
-    if is_in_use v then told (refused_line (codes "ChannelInUse")) v else copied_after start (answer v (calls.Submit 0 t))
+    if is_in_use v then one_line (refused_line (codes "ChannelInUse")) v else copied_after start (answer v (calls.Submit 0 t))
 
 -- the transfer of a copy line, which neither waits nor signals
 abbrev pub plain_copy : List Segment → List Segment → Descriptor
@@ -133,16 +133,16 @@ abbrev pub plain_fill : ℕ → List Segment → Descriptor
 plain_fill src dst = filling src dst None None
 
 -- a copy or a fill line whose printed answer begins with `start`: checks the transfer's own rules first
-abbrev pub through_answer : View → List ℕ → Descriptor → Answered
-through_answer v start t = unless_unfit (refusal_of t) v (copied start v t)
+abbrev pub transfer_answer : View → List ℕ → Descriptor → Answered
+transfer_answer v start t = unless_invalid (refusal_of t) v (copied start v t)
 
 -- a copy line
 abbrev pub copy_answer : View → List Segment → List Segment → Answered
-copy_answer v src dst = through_answer v (codes "copy ") (plain_copy src dst)
+copy_answer v src dst = transfer_answer v (codes "copy ") (plain_copy src dst)
 
 -- a fill line
 abbrev pub fill_answer : View → ℕ → List Segment → Answered
-fill_answer v src dst = through_answer v (codes "fill ") (plain_fill src dst)
+fill_answer v src dst = transfer_answer v (codes "fill ") (plain_fill src dst)
 
 -- If channel 0 of a sound view isn't in use, and a transfer that meets its rules is submitted to it with success and
 -- issued, then the last answer of `stepped_through most_steps` is neither Started nor Moved. So `most_steps` cuts off
@@ -151,7 +151,7 @@ abbrev pub CopiesEnd : Type 0
 CopiesEnd =
     (v : View) (t : Descriptor) (cookie : ℕ) (w : View) → IsSound v → IsTransfer t → is_in_use v ≡ false →
     answer v (calls.Submit 0 t) ≡ (Cookie cookie, w) →
-    goes_on (stepped_through most_steps (answer w (calls.Issue 0)).1).0 ≡ false
+    goes_on (stepped_to_end most_steps (answer w (calls.Issue 0)).1).0 ≡ false
 
 -- ---- whole scripts
 
@@ -182,7 +182,7 @@ line_answer v (Mark kind segment) = call_answer v (calls.Mark kind segment)
 line_answer v Unmark = call_answer v calls.Unmark
 line_answer v (Raise event) = call_answer v (calls.Raise event)
 line_answer v Checkpoint = call_answer v calls.Checkpoint
-line_answer v Totals = told (totals_of v) v
+line_answer v Totals = one_line (totals_of v) v
 
 -- what each line prints: the first runs on this view, each other on the view after the line before it
 abbrev pub lines_answered : View → List Statement → List (List (List ℕ))

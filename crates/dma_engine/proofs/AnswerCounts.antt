@@ -20,9 +20,9 @@ use Rattle.dma_engine.specs.declared.turn.Turn.TheVariants.{Nothing, Held, Start
 use Rattle.dma_engine.specs.Object.{Object, ChannelState, after, channel, empty_channel, with_channel, with_flag, with_front_laid, with_outcome, with_all_aborted, finished, finished_all, unfinished, used, front_of, outcome_of, aborted}
 use Rattle.dma_engine.specs.Ticks.{Submitted, Finished, ticks_of}
 use Rattle.dma_engine.specs.View.{View, object_of, channels}
-use Rattle.dma_engine.specs.Turn.{Stepped, turn, ends, moves_on, finishes, with_entry}
+use Rattle.dma_engine.specs.Turn.{Stepped, turn, ends, next_moved, finishes, with_entry}
 use Rattle.dma_engine.specs.Answer.{CallAnswers, answer, unless, write_fault, read_fault, submit_fault, channel_fault, mark_fault, raise_fault, with_pause, terminated, done_on}
-use Rattle.dma_engine.specs.Laws.{Adds, Still, IsQuiet, QuietCallsKeep, StepsAdd, EndsByTurn, ticks_in, steps_in, finishes_in}
+use Rattle.dma_engine.specs.Laws.{Adds, SameCounts, IsQuiet, QuietCallsKeepCounts, StepsAdd, EndsByTurn, ticks_in, steps_in, finishes_in}
 use Rattle.dma_engine.proofs.Endings.{length-aborted}
 use Rattle.dma_engine.proofs.Histories.{object_after-append}
 use Rattle.dma_engine.proofs.Turns.{answer-is, step-is, turn-cases}
@@ -53,9 +53,9 @@ finished-same o ch c e =
     ∙ ap sum (map-set finished o.channels ch c ∙ ap (slice_set (map finished o.channels) ch) (e ∙ sym (get_or-map finished o.channels ch empty_channel)) ∙ set-get_or (map finished o.channels) ch 0)
     ∙ sum-map finished o.channels
 
--- ---- what stays
+-- ---- what an answer keeps
 
-same : (v : View) → Still v v
+same : (v : View) → SameCounts v v
 same v = record { ticks = refl; steps = refl; finished = refl }
 
 -- an entry that gives no cookie and finishes none
@@ -93,14 +93,14 @@ quiet-after o Unmarked q = refl
 pub object-one : (v : View) (e : Entry) → object_of (with_entry v e) ≡ after (object_of v) e
 object-one v e = object_after-append v.base v.history (e ∷ [])
 
-entry-still : (v : View) (e : Entry) → IsQuietEntry e → Still v (with_entry v e)
+entry-still : (v : View) (e : Entry) → IsQuietEntry e → SameCounts v (with_entry v e)
 entry-still v e q = record {
   ticks = ticks-append v.history (e ∷ []) ∙ ap (λ l. ticks_of v.history ++ l) (quiet-ticks e q) ∙ append-nil (ticks_of v.history);
   steps = refl;
   finished = ap finished_all (object-one v e) ∙ quiet-after (object_of v) e q;
 }
 
-unless-still : (v : View) (f : Option EngineFault) (x : Reply × View) → Still v x.1 → Still v (unless f v x).1
+unless-still : (v : View) (f : Option EngineFault) (x : Reply × View) → SameCounts v x.1 → SameCounts v (unless f v x).1
 unless-still v None x h = h
 unless-still v (Some fault) x h = same v
 
@@ -117,7 +117,7 @@ answered v w call reply P o h a = elim (answer-is v w call reply a) [
 
 -- ---- the calls that give no cookie and finish none
 
-call-still : (v : View) (call : Call) → IsQuiet call → Still v (answer v call).1
+call-still : (v : View) (call : Call) → IsQuiet call → SameCounts v (answer v call).1
 call-still v (Write addr bytes) q = unless-still v (write_fault v addr (length bytes)) _ (entry-still v (Wrote addr bytes) tt)
 call-still v (Read addr len) q = unless-still v (read_fault v addr len) _ (entry-still v (ReadBack addr _) tt)
 call-still v (Submit ch t) q = absurd q
@@ -133,8 +133,8 @@ call-still v Unmark q = entry-still v Unmarked tt
 call-still v (Raise event) q = unless-still v (raise_fault event) _ (entry-still v (Signalled Host event) tt)
 call-still v Checkpoint q = absurd q
 
-pub quiet_calls_keep : QuietCallsKeep
-quiet_calls_keep v w call reply q h = answered v w call reply (Still v) (same v) (call-still v call q) h
+pub quiet_calls_keep_counts : QuietCallsKeepCounts
+quiet_calls_keep_counts v w call reply q h = answered v w call reply (SameCounts v) (same v) (call-still v call q) h
 
 -- ---- a step
 
@@ -146,9 +146,9 @@ Deed v ch (Ok (FinishedTurn cookie result residue), w) =
     × (finished_all (object_of w) ≡ finished_all (object_of v) + 1) × (length w.history ≡ length v.history + 1)
 Deed v ch (Ok Moved, w) =
     (ticks_of w.history ≡ ticks_of v.history) × (w.steps ≡ v.steps + 1) × (finished_all (object_of w) ≡ finished_all (object_of v))
-Deed v ch (_, w) = Still v w
+Deed v ch (_, w) = SameCounts v w
 
-entry-moves : (v : View) (ch n : ℕ) (e : Entry) → IsQuietEntry e → Deed v ch (moves_on (with_entry v e) ch n)
+entry-moves : (v : View) (ch n : ℕ) (e : Entry) → IsQuietEntry e → Deed v ch (next_moved (with_entry v e) ch n)
 entry-moves v ch n e q = let s = entry-still v e q in (s.ticks, refl, s.finished)
 
 finish-deed : (v : View) (ch n : ℕ) (t : Descriptor) (how : TransResult) → ch < channels v → Deed v ch (finishes v ch t n how)
@@ -174,7 +174,7 @@ turn-deed v ch = turn-cases v ch (Deed v ch) (record {
 
 -- ---- what a step adds
 
-still-adds : (v w : View) → Still v w → Adds v w [] 0 0
+still-adds : (v w : View) → SameCounts v w → Adds v w [] 0 0
 still-adds v w s = record {
   ticks = s.ticks ∙ sym (append-nil (ticks_of v.history));
   steps = omega (arith, s.steps);

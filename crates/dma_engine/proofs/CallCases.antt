@@ -34,9 +34,9 @@ starved v call reply w e is more =
     (takes, refl)
 
 -- a result that is an error, which is this fault
-pub refusal : {T : Type 0} (told : T → Reply) (v w : View) (call : Call) (fault : EngineFault) (r : Result T EngineFault) → IsErrAnd r (λ e. e ≡ fault) → CallAnswers v call (Refused fault) w → CallAnswers v call (reply_of told r) w
-refusal told v w call fault (Ok x) h a = absurd h
-refusal told v w call fault (Err e) h a = rw h a
+pub refusal : {T : Type 0} (reply : T → Reply) (v w : View) (call : Call) (fault : EngineFault) (r : Result T EngineFault) → IsErrAnd r (λ e. e ≡ fault) → CallAnswers v call (Refused fault) w → CallAnswers v call (reply_of reply r) w
+refusal reply v w call fault (Ok x) h a = absurd h
+refusal reply v w call fault (Err e) h a = rw h a
 
 -- ---- a running transfer that conflicts
 

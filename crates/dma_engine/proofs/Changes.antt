@@ -17,7 +17,7 @@ use Rattle.dma_engine.specs.declared.entry.Entry.{Entry}
 use Rattle.dma_engine.specs.declared.queue.Queue.{Queue}
 use Rattle.dma_engine.specs.Object.{Object, ChannelState, channel, empty_channel, after, Allows, front}
 use Rattle.dma_engine.specs.History.{object_after, IsLegal}
-use Rattle.dma_engine.specs.View.{View, ChannelSchedule, RunningTransfer, Fits, Agrees, AreFree, IsSound, runs_there, runs, idle, object_of, memory_of, memory_shown}
+use Rattle.dma_engine.specs.View.{View, ChannelSchedule, RunningTransfer, Fits, Agrees, AreFree, IsSound, running_in, runs, idle, object_of, memory_of, memory_shown}
 use Rattle.dma_engine.specs.inner.Ranges.{AreOfRunning}
 use Rattle.dma_engine.specs.inner.Holds.{Holds, IsPrepared, IsQueue, IsRun, Parts, view_of, schedule_of}
 use Rattle.dma_engine.proofs.Histories.{object_after-append, IsLegal-append}
@@ -98,7 +98,7 @@ holds-entered p e memory events marks h w =
     let o = object_of v in
     let step : object_of u ≡ after o e = object_after-append v.base p.history (e ∷ []) in
     let channels = ap (λ (x : Object). x.channels) step ∙ w.stay in
-    let same : (ch : ℕ) → runs (object_of u) u.schedule ch ≡ runs o v.schedule ch = λ ch. ap (λ l. runs_there ch (slice_index_or l ch empty_channel) (slice_index_or v.schedule ch idle).taken) channels in
+    let same : (ch : ℕ) → runs (object_of u) u.schedule ch ≡ runs o v.schedule ch = λ ch. ap (λ l. running_in ch (slice_index_or l ch empty_channel) (slice_index_or v.schedule ch idle).taken) channels in
     record {
       sound = record {
         opens = h.sound.opens;
@@ -119,7 +119,7 @@ holds-entered p e memory events marks h w =
 
 -- ---- pages
 
--- a transfer that finds its pages finds them where more are made
+-- a transfer whose destinations lie on made pages keeps them when more pages are made
 pub prepared-more : (made more : List Bool) (x : Option RunningTransfer) → ((page : ℕ) → slice_index_or made page false ≡ true → slice_index_or more page false ≡ true) → IsPrepared made x → IsPrepared more x
 prepared-more made more None keeps h = tt
 prepared-more made more (Some r) keeps h = λ a i. keeps (a / 4096) (h a i)
@@ -139,13 +139,13 @@ holds-pages p more h keeps = record {
 
 -- ---- one channel changes
 
-pub runs-here : (o : Object) (s : List ChannelSchedule) (ch : ℕ) (x : ChannelSchedule) → ch < length s → runs o (slice_set s ch x) ch ≡ runs_there ch (channel o ch) x.taken
-runs-here o s ch x less = ap (λ (y : ChannelSchedule). runs_there ch (channel o ch) y.taken) (get_or-set_same s ch x idle less)
+pub runs-here : (o : Object) (s : List ChannelSchedule) (ch : ℕ) (x : ChannelSchedule) → ch < length s → runs o (slice_set s ch x) ch ≡ running_in ch (channel o ch) x.taken
+runs-here o s ch x less = ap (λ (y : ChannelSchedule). running_in ch (channel o ch) y.taken) (get_or-set_same s ch x idle less)
 
 pub runs-other : (o p : Object) (s : List ChannelSchedule) (ch c : ℕ) (x : ChannelSchedule) → c ≢ ch → channel p c ≡ channel o c → runs p (slice_set s ch x) c ≡ runs o s c
 runs-other o p s ch c x differs same =
-    ap (λ (y : ChannelSchedule). runs_there c (channel p c) y.taken) (get_or-set_other s ch c x idle differs)
-    ∙ ap (λ d. runs_there c d (slice_index_or s c idle).taken) same
+    ap (λ (y : ChannelSchedule). running_in c (channel p c) y.taken) (get_or-set_other s ch c x idle differs)
+    ∙ ap (λ d. running_in c d (slice_index_or s c idle).taken) same
 
 -- the object and the schedule after a change at one channel
 pub record FitsStill (o p : Object) (s : List ChannelSchedule) (ch : ℕ) (x : ChannelSchedule) : Type 0 where
@@ -153,7 +153,7 @@ pub record FitsStill (o p : Object) (s : List ChannelSchedule) (ch : ℕ) (x : C
   pub many : length p.channels ≡ length o.channels
   pub others : (c : ℕ) → c ≢ ch → channel p c ≡ channel o c
   pub agrees : Agrees (channel p ch) x.taken
-  pub free : (d : ℕ) → d < length o.channels → d ≢ ch → AreFree (runs_there ch (channel p ch) x.taken) (runs o s d)
+  pub free : (d : ℕ) → d < length o.channels → d ≢ ch → AreFree (running_in ch (channel p ch) x.taken) (runs o s d)
 
 pub fits-changed : (o p : Object) (s : List ChannelSchedule) (ch : ℕ) (x : ChannelSchedule) → Fits o s → FitsStill o p s ch x → Fits p (slice_set s ch x)
 fits-changed o p s ch x h w =
@@ -194,15 +194,15 @@ view-changed p ch q memory events history steps =
 -- the conditions for the object after the new history
 pub record ChangesTo (p : Parts) (ch : ℕ) (q : Queue) (memory : List ℕ) (flags : List Bool) (history : List Entry) (o : Object) : Type 0 where
   pub legal : IsLegal (view_of p).base history
-  pub leaves : object_after (view_of p).base history ≡ o
+  pub becomes : object_after (view_of p).base history ≡ o
   pub grows : (k : ℕ) (e : Entry) → slice_get p.history k ≡ Some e → slice_get history k ≡ Some e
   pub fits : FitsStill (object_of (view_of p)) o (view_of p).schedule ch (schedule_of q)
   pub shown : memory ≡ memory_shown o (slice_set (view_of p).schedule ch (schedule_of q))
   pub events : flags ≡ o.events
   pub marks : (object_of (view_of p)).marks ≡ o.marks
   pub tied : IsQueue ch (channel p.base ch).submitted history memory q (channel o ch)
-  pub prepared : IsPrepared p.made (runs_there ch (channel o ch) (schedule_of q).taken)
-  pub ranges : AreOfRunning q.ranges (runs_there ch (channel o ch) (schedule_of q).taken)
+  pub prepared : IsPrepared p.made (running_in ch (channel o ch) (schedule_of q).taken)
+  pub ranges : AreOfRunning q.ranges (running_in ch (channel o ch) (schedule_of q).taken)
   pub machines : (c : ℕ) (d : Queue) → c < length p.queues → c ≢ ch →
       IsRun p.memory (slice_index_or p.queues c d).channel (channel (object_of (view_of p)) c) →
       IsRun memory (slice_index_or p.queues c d).channel (channel (object_of (view_of p)) c)
@@ -217,28 +217,28 @@ holds-changed p ch q memory events history steps o h less w =
       opens = h.sound.opens;
       makes = h.sound.makes;
       legal = w.legal;
-      fits = rw w.leaves (fits-changed (object_of v) o v.schedule ch (schedule_of q) h.sound.fits w.fits);
+      fits = rw w.becomes (fits-changed (object_of v) o v.schedule ch (schedule_of q) h.sound.fits w.fits);
     } in
-    let leaves : object_of (view_of r) ≡ o = ap object_of (sym is) ∙ w.leaves in
+    let becomes : object_of (view_of r) ≡ o = ap object_of (sym is) ∙ w.becomes in
     let x : ChannelSchedule = schedule_of q in
     let within : ch < length v.schedule = omega (arith, h.sound.fits.many, w.fits.there) in
     let runs_new : ℕ → Option RunningTransfer = runs (object_of (view_of r)) (view_of r).schedule in
-    let new : (c : ℕ) → runs_new c ≡ runs o (slice_set v.schedule ch x) c = λ c. ap (λ (y : View). runs (object_of y) y.schedule c) (sym is) ∙ ap (λ (y : Object). runs y (slice_set v.schedule ch x) c) w.leaves in
-    let here : (c : ℕ) → c ≡ ch → runs_new c ≡ runs_there ch (channel o ch) x.taken = λ c e. new c ∙ ap (runs o (slice_set v.schedule ch x)) e ∙ runs-here o v.schedule ch x within in
+    let new : (c : ℕ) → runs_new c ≡ runs o (slice_set v.schedule ch x) c = λ c. ap (λ (y : View). runs (object_of y) y.schedule c) (sym is) ∙ ap (λ (y : Object). runs y (slice_set v.schedule ch x) c) w.becomes in
+    let here : (c : ℕ) → c ≡ ch → runs_new c ≡ running_in ch (channel o ch) x.taken = λ c e. new c ∙ ap (runs o (slice_set v.schedule ch x)) e ∙ runs-here o v.schedule ch x within in
     let elsewhere : (c : ℕ) → c ≢ ch → runs_new c ≡ runs (object_of v) v.schedule c = λ c f. new c ∙ runs-other (object_of v) o v.schedule ch c x f (w.fits.others c f) in
     record {
       sound = subst IsSound is sound;
-      shown = w.shown ∙ ap (λ x. memory_shown x (slice_set v.schedule ch (schedule_of q))) (sym w.leaves) ∙ ap memory_of is;
-      events = w.events ∙ ap (λ (x : Object). x.events) (sym leaves);
-      marks = h.marks ∙ w.marks ∙ ap (λ (x : Object). x.marks) (sym leaves);
+      shown = w.shown ∙ ap (λ x. memory_shown x (slice_set v.schedule ch (schedule_of q))) (sym w.becomes) ∙ ap memory_of is;
+      events = w.events ∙ ap (λ (x : Object). x.events) (sym becomes);
+      marks = h.marks ∙ w.marks ∙ ap (λ (x : Object). x.marks) (sym becomes);
       size = h.size;
       each = λ c d l. elim (cases_eq c ch) [
-        | inl e ↦ rw (e, leaves, get_or-set_same p.queues ch q d less) w.tied
+        | inl e ↦ rw (e, becomes, get_or-set_same p.queues ch q d less) w.tied
         | inr f ↦
             let l' : c < length p.queues = omega (arith, l, length-set p.queues ch q) in
             let old = h.each c d l' in
             let kept = queue-kept c (channel p.base c).submitted p.history history p.memory memory (slice_index_or p.queues c d) (channel (object_of v) c) w.grows (w.machines c d l' f old.machine) old in
-            rw (leaves, get_or-set_other p.queues ch c q d f, w.fits.others c f) kept
+            rw (becomes, get_or-set_other p.queues ch c q d f, w.fits.others c f) kept
       ];
       prepared = λ c. elim (cases_eq c ch) [
         | inl e ↦ subst (IsPrepared p.made) (sym (here c e)) w.prepared

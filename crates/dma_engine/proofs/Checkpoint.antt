@@ -21,7 +21,7 @@ use Rattle.dma_engine.specs.Laws.{CheckpointsKeep}
 use Rattle.dma_engine.specs.Room.{no_room}
 use Rattle.dma_engine.specs.inner.Inside.{queue_room}
 use Rattle.dma_engine.specs.inner.Ranges.{AreOfRunning}
-use Rattle.dma_engine.specs.View.{View, ChannelSchedule, RunningTransfer, Agrees, Fits, runs, runs_there, running, idle, object_of, memory_of, IsSound, with_stored}
+use Rattle.dma_engine.specs.View.{View, ChannelSchedule, RunningTransfer, Agrees, Fits, runs, running_in, running, idle, object_of, memory_of, IsSound, with_stored}
 use Rattle.dma_engine.specs.Ticks.{board_of, counts_of}
 use Rattle.dma_engine.specs.inner.Holds.{Holds, IsPrepared, IsQueue, IsRun, Parts, view_of, schedule_of, taken_of, queue_forgotten}
 use Rattle.dma_engine.proofs.Boards.{counted-at, counted-base, counted-object}
@@ -52,7 +52,7 @@ none-taken o s ch h none less =
       | Some n ↦ λ e.
           let agrees : Agrees c (Some n) = rw e at (h.each ch less) in
           let f = front_where c _ agrees.1 in
-          let is : runs o s ch ≡ Some (record { ch = ch; cookie = finished c + 1; transfer = f.transfer; taken = n }) = ap (runs_there ch c) e ∙ runs_front ch c f.transfer n f.is in
+          let is : runs o s ch ≡ Some (record { ch = ch; cookie = finished c + 1; transfer = f.transfer; taken = n }) = ap (running_in ch c) e ∙ runs_front ch c f.transfer n f.is in
           absurd (true≢false (find-none_at (λ (r : RunningTransfer). true) o s ch _ less none is))
     ] in
     by _ refl
@@ -177,7 +177,7 @@ holds-next p h none =
     let s = v.schedule in
     let is = view-next p in
     let many : length (base_from o).channels ≡ length o.channels = length-map o.channels forget in
-    let rest : (x : Object) (ch : ℕ) → runs x s ch ≡ None = λ x ch. ap (runs_there ch (channel x ch)) (nothing-taken o s ch h.sound.fits none) in
+    let rest : (x : Object) (ch : ℕ) → runs x s ch ≡ None = λ x ch. ap (running_in ch (channel x ch)) (nothing-taken o s ch h.sound.fits none) in
     let later : (ch : ℕ) → runs (object_of (view_of (parts_forgotten p))) (view_of (parts_forgotten p)).schedule ch ≡ None = λ ch.
     ap (λ (w : View). runs (object_of w) w.schedule ch) is ∙ rest (base_from o) ch in
     let same : running o s ≡ running (base_from o) s = sym (running-same o (base_from o) s s (sym many) (λ c l. rest (base_from o) c ∙ sym (rest o c))) in
@@ -226,7 +226,7 @@ set-next [] i q d h e = absurd (omega arith)
 set-next (x ∷ xs) zero q d h e = ap (λ y. y ∷ xs) e
 set-next (x ∷ xs) (suc i) q d h e = ap (λ l. queue_forgotten x ∷ l) (set-next xs i q d (omega arith) e)
 
--- ---- a checkpoint gives the room back
+-- ---- a checkpoint frees the room
 
 pub no-room-next : (qs : List Queue) (ch : ℕ) → slice_index_or (map queue_room (map queue_forgotten qs)) ch no_room ≡ no_room
 no-room-next [] ch = refl

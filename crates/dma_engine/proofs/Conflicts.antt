@@ -11,7 +11,7 @@ use Rattle.dma_engine.specs.declared.queue.Queue.{Queue}
 use Rattle.dma_engine.specs.declared.access.Ranges.{Ranges}
 use Rattle.dma_engine.specs.inner.Ranges.{AreOfRunning, HasRangesOf}
 use Rattle.dma_engine.specs.Object.{Object, ChannelState, channel, front, issued_front, finished, no_transfer, used}
-use Rattle.dma_engine.specs.View.{ChannelSchedule, RunningTransfer, object_of, runs, runs_there, running, idle}
+use Rattle.dma_engine.specs.View.{ChannelSchedule, RunningTransfer, object_of, runs, running_in, running, idle}
 use Rattle.dma_engine.specs.inner.Accesses.{named}
 use Rattle.dma_engine.specs.inner.Found.{front_in, transfer_at}
 use Rattle.dma_engine.specs.inner.Holds.{Holds, Parts, view_of, taken_of}
@@ -93,12 +93,12 @@ taken-none m h =
 pub runs_none : (p : Parts) → Holds p → (ch : ℕ) (q : Queue) → ch < length p.queues → q ≡ slice_index_or p.queues ch q → is_some q.channel.program ≡ false → None ≡ runs (object_of (view_of p)) (view_of p).schedule ch
 runs_none p h ch q less read unloaded =
     let at = holds-at p h ch q less read in
-    sym (at.runs_is ∙ ap (runs_there ch (channel (object_of (view_of p)) ch)) (taken-none q.channel unloaded))
+    sym (at.runs_is ∙ ap (running_in ch (channel (object_of (view_of p)) ch)) (taken-none q.channel unloaded))
 
 -- ---- the first transfer that conflicts
 
 -- a running transfer is named by its channel and the cookie of the front
-runs-named : (ch : ℕ) (c : ChannelState) (taken : Option ℕ) (r : RunningTransfer) → runs_there ch c taken ≡ Some r → (r.ch ≡ ch) × (r.cookie ≡ finished c + 1)
+runs-named : (ch : ℕ) (c : ChannelState) (taken : Option ℕ) (r : RunningTransfer) → running_in ch c taken ≡ Some r → (r.ch ≡ ch) × (r.cookie ≡ finished c + 1)
 runs-named ch c None r h = absurd cc
 runs-named ch c (Some n) r h =
     let by : (o : Option Descriptor) → option_map (λ t. record { ch = ch; cookie = finished c + 1; transfer = t; taken = n }) o ≡ Some r → (r.ch ≡ ch) × (r.cookie ≡ finished c + 1) = λ o. elim o as (λ o. option_map (λ t. record { ch = ch; cookie = finished c + 1; transfer = t; taken = n }) o ≡ Some r → (r.ch ≡ ch) × (r.cookie ≡ finished c + 1)) [

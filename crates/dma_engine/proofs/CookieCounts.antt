@@ -18,7 +18,7 @@ use Rattle.dma_engine.specs.declared.outcome.TransResult.{TransResult}
 use Rattle.dma_engine.specs.declared.outcome.TransResult.TheVariants.{NoError, ReadFailed, WriteFailed, Aborted}
 use Rattle.dma_engine.specs.Answer.{CallAnswers, answer, unless, cause, channel_fault, done_on, submit_fault, terminated}
 use Rattle.dma_engine.specs.History.{IsLegal}
-use Rattle.dma_engine.specs.Laws.{SubmitsGive, TerminatesFinish, BoardsCount, StatusByTicks, BoardsOpen, TicksAreFew, TicksAreThere}
+use Rattle.dma_engine.specs.Laws.{SubmitsAdd, TerminatesAdd, BoardsCount, StatusByTicks, BaseCountsBounded, TicksAtMostEntries, TicksNameChannels}
 use Rattle.dma_engine.specs.Object.{Allows, FrontIs, Object, after, channel, empty_channel, used, finished, unfinished, aborted, with_transfer, with_all_aborted}
 use Rattle.dma_engine.specs.Ticks.{Counts, Finished, Submitted, counts_of, tick_channel, ticks_of}
 use Rattle.dma_engine.specs.Turn.{with_entry}
@@ -32,8 +32,8 @@ use Rattle.dma_engine.proofs.Sizes.{made, many-after as channels-after, many-cha
 -- ---- a reply that is no refusal
 
 no-refusal : (f : Option EngineFault) (v w : View) (x : Reply × View) (reply : Reply) → ((fault : EngineFault) → reply ≡ Refused fault → ⊥) → (reply, w) ≡ unless f v x → f ≡ None
-no-refusal None v w x reply told h = refl
-no-refusal (Some fault) v w x reply told h = absurd (told fault (ap (λ (y : Reply × View). y.0) h))
+no-refusal None v w x reply is_answer h = refl
+no-refusal (Some fault) v w x reply is_answer h = absurd (is_answer fault (ap (λ (y : Reply × View). y.0) h))
 
 -- ---- a submit
 
@@ -43,9 +43,9 @@ given v w ch k t none h =
     let c = channel (object_of v) ch in
     let e = SubmittedEntry ch t (used c + 1) in
     let less = (submit-open v ch t none).0 in
-    let told : answer v (Submit ch t) ≡ (Cookie (used c + 1), with_entry v e) = rw none refl in
-    let number : k ≡ used c + 1 = let both : Cookie k ≡ Cookie (used c + 1) = ap (λ (x : Reply × View). x.0) (h ∙ told) in cc in
-    let is : w ≡ with_entry v e = ap (λ (x : Reply × View). x.1) (h ∙ told) in
+    let is_answer : answer v (Submit ch t) ≡ (Cookie (used c + 1), with_entry v e) = rw none refl in
+    let number : k ≡ used c + 1 = let both : Cookie k ≡ Cookie (used c + 1) = ap (λ (x : Reply × View). x.0) (h ∙ is_answer) in cc in
+    let is : w ≡ with_entry v e = ap (λ (x : Reply × View). x.1) (h ∙ is_answer) in
     let many : channels w ≡ channels v = ap channels is ∙ ap (λ (o : Object). length o.channels) (object-one v e) ∙ channels-after (object_of v) e in
     let more : used (with_transfer c t) ≡ used c + 1 = omega (arith, length_push c.submitted t) in (
       number,
@@ -54,8 +54,8 @@ given v w ch k t none h =
       omega (arith, many, less),
     )
 
-pub submits_give : SubmitsGive
-submits_give v w ch cookie t h =
+pub submits_add : SubmitsAdd
+submits_add v w ch cookie t h =
     let none = no-refusal (submit_fault v ch t) v w _ (Cookie cookie) (λ fault e. absurd cc) h in
     let s = submitted v w ch cookie t none h in
     let g = given v w ch cookie t none h in (
@@ -83,16 +83,16 @@ closes v w ch n none h =
     let done = done_on v ch in
     let e = TerminatedEntry ch done (unfinished c) in
     let less = inside v ch none in
-    let told : answer v (Terminate ch) ≡ (Count (unfinished c), terminated v ch) = rw none refl in
-    let is : w ≡ terminated v ch = ap (λ (x : Reply × View). x.1) (h ∙ told) in
-    let leaves : object_of w ≡ after o e = ap object_of is ∙ object-one v e in
-    let here : channel (object_of w) ch ≡ with_all_aborted c done = ap (λ x. channel x ch) leaves ∙ get_or-set_same o.channels ch (with_all_aborted c done) empty_channel less in
+    let is_answer : answer v (Terminate ch) ≡ (Count (unfinished c), terminated v ch) = rw none refl in
+    let is : w ≡ terminated v ch = ap (λ (x : Reply × View). x.1) (h ∙ is_answer) in
+    let becomes : object_of w ≡ after o e = ap object_of is ∙ object-one v e in
+    let here : channel (object_of w) ch ≡ with_all_aborted c done = ap (λ x. channel x ch) becomes ∙ get_or-set_same o.channels ch (with_all_aborted c done) empty_channel less in
     let more = length-append c.outcomes (aborted done (drop (length c.outcomes) c.submitted)) in
-    let many : channels w ≡ channels v = ap (λ (x : Object). length x.channels) leaves ∙ channels-after o e in
+    let many : channels w ≡ channels v = ap (λ (x : Object). length x.channels) becomes ∙ channels-after o e in
     (omega (arith, ap used here, ap finished here, more, length-aborted done (drop (length c.outcomes) c.submitted), length-drop (length c.outcomes) c.submitted), omega (arith, many, less))
 
-pub terminates_finish : TerminatesFinish
-terminates_finish v w ch count h =
+pub terminates_add : TerminatesAdd
+terminates_add v w ch count h =
     let none = no-refusal (channel_fault v ch) v w _ (Count count) (λ fault e. absurd cc) h in
     let s = closed v w ch count none (inside v ch none) h in
     let c = closes v w ch count none h in (
@@ -114,8 +114,8 @@ status_by_ticks v ch cookie h =
     let counted : AreCounted v.base = counted-base v.base h.opens in
     status-by-board v ch cookie counted h.legal
 
-pub boards_open : BoardsOpen
-boards_open v h =
+pub base_counts_bounded : BaseCountsBounded
+base_counts_bounded v h =
     let many : channels v ≡ length v.base.channels = channels-object v.base v.history in
     let counted : AreCounted v.base = counted-base v.base h.opens in (
       omega (arith, many, length-map v.base.channels counts_of),
@@ -153,18 +153,18 @@ ticks-there n o (TerminatedEntry ch done count ∷ es) many h = All-cons (λ t. 
 ticks-there n o (Marked kind segment ∷ es) many h = ticks-there n (after o (Marked kind segment)) es (channels-after o (Marked kind segment) ∙ many) h.1
 ticks-there n o (Unmarked ∷ es) many h = ticks-there n (after o Unmarked) es (channels-after o Unmarked ∙ many) h.1
 
-pub ticks_are_there : TicksAreThere
-ticks_are_there v h = ticks-there (channels v) v.base v.history (sym (channels-object v.base v.history)) h.legal
+pub ticks_name_channels : TicksNameChannels
+ticks_name_channels v h = ticks-there (channels v) v.base v.history (sym (channels-object v.base v.history)) h.legal
 
-pub ticks_are_few : TicksAreFew
-ticks_are_few [] = omega arith
-ticks_are_few (Wrote addr bytes ∷ es) = omega (arith, ticks_are_few es)
-ticks_are_few (ReadBack addr bytes ∷ es) = omega (arith, ticks_are_few es)
-ticks_are_few (SubmittedEntry ch t cookie ∷ es) = omega (arith, ticks_are_few es)
-ticks_are_few (Issued ch ∷ es) = omega (arith, ticks_are_few es)
-ticks_are_few (Passed ch event ∷ es) = omega (arith, ticks_are_few es)
-ticks_are_few (Signalled by event ∷ es) = omega (arith, ticks_are_few es)
-ticks_are_few (FinishedEntry ch result done ∷ es) = omega (arith, ticks_are_few es)
-ticks_are_few (TerminatedEntry ch done count ∷ es) = omega (arith, ticks_are_few es)
-ticks_are_few (Marked kind segment ∷ es) = omega (arith, ticks_are_few es)
-ticks_are_few (Unmarked ∷ es) = omega (arith, ticks_are_few es)
+pub ticks_at_most_entries : TicksAtMostEntries
+ticks_at_most_entries [] = omega arith
+ticks_at_most_entries (Wrote addr bytes ∷ es) = omega (arith, ticks_at_most_entries es)
+ticks_at_most_entries (ReadBack addr bytes ∷ es) = omega (arith, ticks_at_most_entries es)
+ticks_at_most_entries (SubmittedEntry ch t cookie ∷ es) = omega (arith, ticks_at_most_entries es)
+ticks_at_most_entries (Issued ch ∷ es) = omega (arith, ticks_at_most_entries es)
+ticks_at_most_entries (Passed ch event ∷ es) = omega (arith, ticks_at_most_entries es)
+ticks_at_most_entries (Signalled by event ∷ es) = omega (arith, ticks_at_most_entries es)
+ticks_at_most_entries (FinishedEntry ch result done ∷ es) = omega (arith, ticks_at_most_entries es)
+ticks_at_most_entries (TerminatedEntry ch done count ∷ es) = omega (arith, ticks_at_most_entries es)
+ticks_at_most_entries (Marked kind segment ∷ es) = omega (arith, ticks_at_most_entries es)
+ticks_at_most_entries (Unmarked ∷ es) = omega (arith, ticks_at_most_entries es)

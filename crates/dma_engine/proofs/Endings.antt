@@ -1,4 +1,4 @@
--- What an engine keeps where a channel is terminated, or its front finishes.
+-- What an engine keeps when a channel is terminated or its front finishes.
 use Rattle.std.proofs.Common.{◌≡◌, ◌≢◌, ℕ, ◌+◌, ◌-◌, ◌<◌, ◌≤◌, List, [], ◌∷◌, ◌++◌, length, map, take, drop, Some, None, Bool, true, false, refl, ap, sym, ◌∙◌, arith, inl, inr, zero, suc, add-one}
 use Rattle.std.specs.Prelude.{slice_index_or, slice_set, is_some, ◌==◌, if◌then◌else◌, unwrap_or}
 use Rattle.std.proofs.lemmas.Bool.{cases_eq, eq-eqb, ne_eqb}
@@ -16,7 +16,7 @@ use Rattle.dma_engine.specs.declared.outcome.TransResult.{TransResult}
 use Rattle.dma_engine.specs.declared.outcome.TransResult.TheVariants.{Aborted}
 use Rattle.dma_engine.specs.declared.queue.Queue.{Queue}
 use Rattle.dma_engine.specs.Object.{Object, ChannelState, Allows, after, channel, empty_channel, front, front_of, no_transfer, finished, unfinished, with_outcome, with_all_aborted, outcome_of, aborted, is_failure}
-use Rattle.dma_engine.specs.View.{View, ChannelSchedule, RunningTransfer, runs, runs_there, memory_shown, object_of, channels}
+use Rattle.dma_engine.specs.View.{View, ChannelSchedule, RunningTransfer, runs, running_in, memory_shown, object_of, channels}
 use Rattle.dma_engine.specs.Answer.{done_by, done_on, terminated}
 use Rattle.dma_engine.specs.inner.Holds.{Holds, Parts, view_of, schedule_of, queue_finished, queue_terminated}
 use Rattle.dma_engine.proofs.Changes.{changed, changed_view, view-changed, holds-changed, runs-here, runs-other}
@@ -42,7 +42,7 @@ laid-nothing image t = put-nil image
 pub front-is : (c : ChannelState) (t : Descriptor) → front c ≡ Some t → front_of c ≡ t
 front-is c t h = ap (λ o. unwrap_or o no_transfer) h
 
--- ---- a queue whose front, or all, is over
+-- ---- a queue whose front, or all of whose cookies, have finished
 
 -- a transfer's first bytes laid and its channel unloaded show the memory as it was
 pub shown-over : (p : Parts) → Holds p → (ch : ℕ) (q : Queue) (o : Object) (x : ChannelSchedule) → ch < length p.queues → q ≡ slice_index_or p.queues ch q → length o.channels ≡ channels (view_of p) → ((c : ℕ) → c ≢ ch → channel o c ≡ channel (object_of (view_of p)) c) → x.taken ≡ None → o.image ≡ laid (object_of (view_of p)).image (front_of (channel (object_of (view_of p)) ch)) (done_on (view_of p) ch) → p.memory ≡ memory_shown o (slice_set (view_of p).schedule ch x)
@@ -53,7 +53,7 @@ shown-over p h ch q o x less read many others none image =
     let t = slice_set s ch x in
     let at = holds-at p h ch q less read in
     let within : ch < length s = omega (arith, h.sound.fits.many, at.there) in
-    let now : runs o t ch ≡ None = runs-here o s ch x within ∙ ap (runs_there ch (channel o ch)) none in
+    let now : runs o t ch ≡ None = runs-here o s ch x within ∙ ap (running_in ch (channel o ch)) none in
     let rest : (c : ℕ) → c ≢ ch → runs old s c ≡ runs o t c = λ c d. sym (runs-other old o s ch c x d (others c d)) in
     let by : (b : Bool) → is_some q.channel.program ≡ b → memory_shown old s ≡ memory_shown o t = λ b. elim b as (λ b. is_some q.channel.program ≡ b → memory_shown old s ≡ memory_shown o t) [
       | true ↦ λ loaded.
@@ -63,7 +63,7 @@ shown-over p h ch q o x less read many others none image =
           let free = free-others old s ch here h.sound.fits at.there r.runs_is in
           sym (shown-ended ch old o s t here (record { channels = sym many; there = at.there; others = rest }) r.runs_is now laid_is (All-append (λ y. IsFree here.transfer y.transfer) (below old s ch) (above old s ch) free.0 free.1))
       | false ↦ λ unloaded.
-          let before : runs old s ch ≡ None = at.runs_is ∙ ap (runs_there ch (channel old ch)) (taken-none q.channel unloaded) in
+          let before : runs old s ch ≡ None = at.runs_is ∙ ap (running_in ch (channel old ch)) (taken-none q.channel unloaded) in
           let nothing : o.image ≡ old.image = image ∙ ap (λ y. laid old.image (front_of (channel old ch)) (done_by y)) before ∙ laid-nothing old.image (front_of (channel old ch)) in
           let same = running-same old o s t (sym many) (λ c l. elim (cases_eq c ch) [ inl e ↦ rw e (now ∙ sym before) | inr d ↦ sym (rest c d) ]) in
           shown-both old o s t (sym nothing) (sym same)
@@ -90,7 +90,7 @@ holds-terminated p ch spare count issued q outcomes h less read all_of many numb
     let all : length w.channels ≡ length o.channels = length-set o.channels ch (with_all_aborted c done) in
     holds-changed p ch r p.memory p.events history p.steps w h less (record {
       legal = IsLegal-append v.base p.history (e ∷ []) h.sound.legal ((at.there, number, stored-there v ch h.sound at.there), tt);
-      leaves = object_after-append v.base p.history (e ∷ []);
+      becomes = object_after-append v.base p.history (e ∷ []);
       grows = λ k y. slice_get-push p.history e y k;
       fits = record { there = at.there; many = all; others = other; agrees = rw here (refl, refl); free = λ d l k. tt };
       shown = shown-over p h ch q w x less read all other refl refl;
@@ -121,7 +121,7 @@ view-terminated p ch spare count issued q outcomes number =
 -- ---- a finish
 
 pub holds-finished : (p : Parts) (ch spare steps : ℕ) (result : TransResult) (q : Queue) (outcome : Outcome) (halted : Bool) → Holds p → ch < length p.queues → q ≡ slice_index_or p.queues ch q → let c = channel (object_of (view_of p)) ch in let done = done_on (view_of p) ch in outcome ≡ outcome_of result (front_of c) done → halted ≡ is_failure result → Allows (object_of (view_of p)) (Finished ch result done) → Holds (changed p ch (queue_finished q spare outcome halted) p.memory p.events (p.history ++ Finished ch result done ∷ []) steps)
-holds-finished p ch spare steps result q outcome halted h less read told fails allowed =
+holds-finished p ch spare steps result q outcome halted h less read outcome_is fails allowed =
     let v : View = view_of p in
     let o = object_of v in
     let c = channel o ch in
@@ -138,7 +138,7 @@ holds-finished p ch spare steps result q outcome halted h less read told fails a
     let all : length w.channels ≡ length o.channels = length-set o.channels ch (with_outcome c result done) in
     holds-changed p ch r p.memory p.events history steps w h less (record {
       legal = IsLegal-append v.base p.history (e ∷ []) h.sound.legal (allowed, tt);
-      leaves = object_after-append v.base p.history (e ∷ []);
+      becomes = object_after-append v.base p.history (e ∷ []);
       grows = λ k y. slice_get-push p.history e y k;
       fits = record { there = at.there; many = all; others = other; agrees = rw here (refl, refl); free = λ d l k. tt };
       shown = shown-over p h ch q w x less read all other refl refl;
@@ -150,7 +150,7 @@ holds-finished p ch spare steps result q outcome halted h less read told fails a
         many = t.many;
         first = t.first;
         indexed = λ k l. let s = t.indexed k l in (s.0, slice_get-push p.history e _ _ s.1);
-        outcomes = ap (λ l. l ++ outcome ∷ []) t.outcomes ∙ ap (λ y. c.outcomes ++ y ∷ []) told;
+        outcomes = ap (λ l. l ++ outcome ∷ []) t.outcomes ∙ ap (λ y. c.outcomes ++ y ∷ []) outcome_is;
         issued = t.issued;
         halted = fails;
         machine = tt;

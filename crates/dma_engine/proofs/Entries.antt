@@ -21,7 +21,7 @@ use Rattle.dma_engine.specs.declared.fault.EngineFault.{EngineFault}
 use Rattle.dma_engine.specs.declared.fault.EngineFault.TheVariants.{OutOfMemoryRange}
 use Rattle.dma_engine.specs.declared.queue.Queue.{Queue}
 use Rattle.dma_engine.specs.Object.{Object, Allows, channel, front, finished, after}
-use Rattle.dma_engine.specs.View.{View, ChannelSchedule, RunningTransfer, running, runs, runs_there, memory_shown, object_of, size, channels}
+use Rattle.dma_engine.specs.View.{View, ChannelSchedule, RunningTransfer, running, runs, running_in, memory_shown, object_of, size, channels}
 use Rattle.dma_engine.specs.Answer.{write_fault, read_fault, busy, cause, first_running}
 use Rattle.dma_engine.specs.inner.Holds.{Holds, Parts, view_of, taken_of}
 use Rattle.dma_engine.proofs.Changes.{holds-entered, with_entry_at, run-kept}
@@ -43,7 +43,7 @@ pub runs_at : (p : Parts) → Holds p → (ch : ℕ) (q : Queue) (t : Descriptor
 runs_at p h ch q t less read loaded is =
     let at = holds-at p h ch q less read in
     let c = channel (object_of (view_of p)) ch in
-    at.runs_is ∙ ap (runs_there ch c) (taken-some q.channel loaded) ∙ runs_front ch c t q.channel.taken is
+    at.runs_is ∙ ap (running_in ch c) (taken-some q.channel loaded) ∙ runs_front ch c t q.channel.taken is
 
 -- ---- a write
 

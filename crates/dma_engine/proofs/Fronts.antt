@@ -17,7 +17,7 @@ use Rattle.dma_engine.specs.declared.outcome.TransResult.{TransResult}
 use Rattle.dma_engine.specs.declared.outcome.TransResult.TheVariants.{NoError, ReadFailed, WriteFailed, Aborted}
 use Rattle.dma_engine.specs.declared.queue.Queue.{Queue}
 use Rattle.dma_engine.specs.Object.{ChannelState, Allows, CanHaveStored, channel, front, issued_front}
-use Rattle.dma_engine.specs.View.{View, Agrees, IsSound, channels, object_of, runs_there, schedule_at}
+use Rattle.dma_engine.specs.View.{View, Agrees, IsSound, channels, object_of, running_in, schedule_at}
 use Rattle.dma_engine.specs.Answer.{done_by, done_on}
 use Rattle.dma_engine.specs.inner.Due.{Finishes}
 use Rattle.dma_engine.specs.inner.Holds.{Parts, view_of}
@@ -195,11 +195,11 @@ stored-there v ch h less =
     let by : (x : Option ℕ) → (schedule_at v ch).taken ≡ x → CanHaveStored c (done_on v ch) = λ x. elim x as (λ x. (schedule_at v ch).taken ≡ x → CanHaveStored c (done_on v ch)) [
       | None ↦ λ e.
           let agrees : Agrees c None = rw e at (h.fits.each ch less) in
-          let none : done_on v ch ≡ 0 = ap (λ x. done_by (runs_there ch c x)) e in
+          let none : done_on v ch ≡ 0 = ap (λ x. done_by (running_in ch c x)) e in
           subst (CanHaveStored c) (sym none) (nothing-stored c agrees.1)
       | Some n ↦ λ e.
           let r = runs-at v ch n h less e in
-          let some : done_on v ch ≡ stored_after r.transfer n = ap (λ x. done_by (runs_there ch c x)) e ∙ ap done_by (runs_front ch c r.transfer n r.it.is) in
+          let some : done_on v ch ≡ stored_after r.transfer n = ap (λ x. done_by (running_in ch c x)) e ∙ ap done_by (runs_front ch c r.transfer n r.it.is) in
           subst (CanHaveStored c) (sym some) (stored-may c r.transfer n r.it)
     ] in
     by _ refl

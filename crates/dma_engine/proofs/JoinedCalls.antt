@@ -7,7 +7,7 @@ use Rattle.dma_mem.specs.Places.{Descriptor, lies_below}
 use Rattle.dma_engine.specs.declared.call.Call.{Call}
 use Rattle.dma_engine.specs.declared.call.Call.TheVariants.{Write, Read, Submit, Issue, Pause, Resume, Terminate, Step, Status, Result as ResultOf, Mark, Unmark, Raise, Checkpoint}
 use Rattle.dma_engine.specs.declared.call.Reply.{Reply}
-use Rattle.dma_engine.specs.declared.call.Reply.TheVariants.{Done, Bytes, Cookie, Count, Turned, State, Result as Told, Refused}
+use Rattle.dma_engine.specs.declared.call.Reply.TheVariants.{Done, Bytes, Cookie, Count, Turned, State, Result as Resulted, Refused}
 use Rattle.dma_engine.specs.declared.entry.Entry.TheVariants.{Wrote, ReadBack, Submitted, Marked, Signalled}
 use Rattle.dma_engine.specs.declared.entry.Signaller.TheVariants.{Host}
 use Rattle.dma_engine.specs.declared.fault.EngineFault.{EngineFault}
@@ -16,7 +16,7 @@ use Rattle.dma_engine.specs.Object.{channel, last_cookie, used}
 use Rattle.dma_engine.specs.View.{View, RunningTransfer, object_of, channels, size}
 use Rattle.dma_engine.specs.Turn.{Stepped, turn, with_entry}
 use Rattle.dma_engine.specs.Answer.{CallAnswers, AreAnswers, answer, answers, busy, cause, first_running, reply_of, unless, write_fault, read_fault, submit_fault, channel_fault, mark_fault, raise_fault, checkpoint_fault}
-use Rattle.dma_engine.specs.Laws.{AnswersOne, AnswersAppend, AnswersSplit, AnswerIsOne, AnswersAreAnswers, AnswerDespiteMemory, AnswersDespiteMemory}
+use Rattle.dma_engine.specs.Laws.{AnswersOne, AnswersAppend, AnswersSplit, AnswerIsOne, AnswersAreAnswers, AnswerUnlessNoMemory, AnswersUnlessNoMemory}
 use Rattle.dma_engine.proofs.Turns.{answer-is, turn-cases}
 
 -- ---- calls in a row
@@ -52,7 +52,7 @@ by-answer v w call (Cookie n) o is = is
 by-answer v w call (Count n) o is = is
 by-answer v w call (Turned t) o is = is
 by-answer v w call (State s) o is = is
-by-answer v w call (Told x) o is = is
+by-answer v w call (Resulted x) o is = is
 by-answer v w call (Refused NoMemory) o is = absurd o
 by-answer v w call (Refused OutOfMemoryRange) o is = is
 by-answer v w call (Refused (Busy ch cookie)) o is = is
@@ -93,7 +93,7 @@ unless-other : (v : View) (f : Option EngineFault) (x : Reply × View) → IsCau
 unless-other v None x f h = h
 unless-other v (Some fault) x f h = f
 
--- ---- nor the answer of a step
+-- ---- nor is the answer of a step
 
 abbrev IsOtherStep : Stepped → Type 0
 IsOtherStep x = IsOther (reply_of Turned x.0)
@@ -138,18 +138,18 @@ pub answers_are_answers : AnswersAreAnswers
 answers_are_answers v [] = refl
 answers_are_answers v (c ∷ cs) = ((answer v c).1, answer_is_one v c, answers_are_answers (answer v c).1 cs)
 
--- ---- the only answers without an out of memory
+-- ---- answers of which none is out of memory
 
-pub answer_despite_memory : AnswerDespiteMemory
-answer_despite_memory v w call reply n h = elim (answer-is v w call reply h) [ inl none ↦ absurd (n none.0) | inr is ↦ is ]
+pub answer_unless_no_memory : AnswerUnlessNoMemory
+answer_unless_no_memory v w call reply n h = elim (answer-is v w call reply h) [ inl none ↦ absurd (n none.0) | inr is ↦ is ]
 
-pub answers_despite_memory : AnswersDespiteMemory
-answers_despite_memory v w [] [] all h = ap (λ (x : View). ([], x)) h
-answers_despite_memory v w [] (r ∷ rs) all h = absurd h
-answers_despite_memory v w (c ∷ cs) [] all h = absurd h
-answers_despite_memory v w (c ∷ cs) (r ∷ rs) all h =
+pub answers_unless_no_memory : AnswersUnlessNoMemory
+answers_unless_no_memory v w [] [] all h = ap (λ (x : View). ([], x)) h
+answers_unless_no_memory v w [] (r ∷ rs) all h = absurd h
+answers_unless_no_memory v w (c ∷ cs) [] all h = absurd h
+answers_unless_no_memory v w (c ∷ cs) (r ∷ rs) all h =
     let P : Reply → Type 0 = λ x. x ≢ Refused NoMemory in
-    let first : (r, h.0) ≡ answer v c = answer_despite_memory v h.0 c r (All-head P r rs all) h.1 in
-    let rest : (rs, w) ≡ answers h.0 cs = answers_despite_memory h.0 w cs rs (All-tail P r rs all) h.2 in
+    let first : (r, h.0) ≡ answer v c = answer_unless_no_memory v h.0 c r (All-head P r rs all) h.1 in
+    let rest : (rs, w) ≡ answers h.0 cs = answers_unless_no_memory h.0 w cs rs (All-tail P r rs all) h.2 in
     ap (λ (x : List Reply × View). (r ∷ x.0, x.1)) rest
     ∙ ap (λ (y : Reply × View). (y.0 ∷ (answers y.1 cs).0, (answers y.1 cs).1)) first

@@ -1,5 +1,5 @@
--- Lemmas on histories, on what runs, on memory, queues and counts, and on what each call changes, keeps and answers; worked
--- rows.
+-- Lemmas on histories, on what runs, on memory, queues and counts, and on what each call changes, keeps and answers;
+-- worked rows.
 pub mod Histories
 pub mod WhatRuns
 pub mod ConflictsByRanges

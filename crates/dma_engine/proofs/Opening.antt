@@ -7,7 +7,7 @@ use Rattle.std.proofs.lemmas.Bool.{cases_lt, ne_eqb, le-ltb}
 use Rattle.std.proofs.lemmas.List.{length-replicate, get_or-replicate, get_or_past}
 use Rattle.dma_mem.specs.Flags.{all_clear}
 use Rattle.dma_engine.specs.Object.{IsBase, channel, empty_channel, opening}
-use Rattle.dma_engine.specs.View.{View, ChannelSchedule, RunningTransfer, Fits, runs, runs_there, running, with_stored, memory_shown, memory_of, object_of, IsSound, idle, new_fault, new_view}
+use Rattle.dma_engine.specs.View.{View, ChannelSchedule, RunningTransfer, Fits, runs, running_in, running, with_stored, memory_shown, memory_of, object_of, IsSound, idle, new_fault, new_view}
 use Rattle.dma_engine.specs.declared.queue.Queue.{Queue}
 use Rattle.dma_engine.specs.inner.Ranges.{AreOfRunning}
 use Rattle.dma_engine.specs.inner.Holds.{Holds, IsPrepared, Parts, view_of, schedule_of, new_queue}
@@ -37,7 +37,7 @@ new-at bytes n ch = elim (cases_lt ch n) [
 ]
 
 none-runs : (bytes n ch : ℕ) → runs (opening bytes n) (replicate n idle) ch ≡ None
-none-runs bytes n ch = ap (λ (x : ChannelSchedule). runs_there ch (channel (opening bytes n) ch) x.taken) (idle-at n ch)
+none-runs bytes n ch = ap (λ (x : ChannelSchedule). running_in ch (channel (opening bytes n) ch) x.taken) (idle-at n ch)
 
 filter-none : (f : ℕ → Option RunningTransfer) (a n : ℕ) → ((c : ℕ) → f c ≡ None) → filter_map f (range_with_len a n) ≡ []
 filter-none f a zero h = refl

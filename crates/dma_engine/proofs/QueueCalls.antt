@@ -1,4 +1,4 @@
--- What an engine keeps where one channel changes and what runs doesn't: pause, resume, issue, submit.
+-- What an engine keeps when one channel changes and what runs doesn't: pause, resume, issue, submit.
 use Rattle.std.proofs.Common.{◌≡◌, ◌≢◌, ℕ, ◌+◌, ◌<◌, List, [], ◌∷◌, ◌++◌, length, map, Option, Some, None, Bool, true, false, refl, ap, sym, ◌∙◌, subst, arith, inl, inr}
 use Rattle.std.specs.Prelude.{slice_get, slice_index_or, slice_set, nat_lt, IfSome, IsSomeAnd}
 use Rattle.std.proofs.lemmas.Bool.{cases_lt, cases_eq, lt-ltb}
@@ -15,7 +15,7 @@ use Rattle.dma_engine.specs.declared.queue.Queue.{Queue}
 use Rattle.dma_engine.specs.declared.access.Ranges.{Ranges}
 use Rattle.dma_engine.specs.Object.{Object, ChannelState, Allows, after, channel, empty_channel, with_transfer, front, issued_front, no_transfer, used, finished, last_cookie}
 use Rattle.dma_engine.specs.History.{object_after, IsLegal}
-use Rattle.dma_engine.specs.View.{View, ChannelSchedule, Agrees, runs, runs_there, running, with_stored, memory_shown, object_of, channels}
+use Rattle.dma_engine.specs.View.{View, ChannelSchedule, Agrees, runs, running_in, running, with_stored, memory_shown, object_of, channels}
 use Rattle.dma_engine.specs.Turn.{with_entry}
 use Rattle.dma_engine.specs.Answer.{with_pause}
 use Rattle.dma_engine.specs.inner.Ranges.{AreOfRunning}
@@ -32,7 +32,7 @@ shown-both o p s t image runs_same = ap (λ l. over o.image (map with_stored l))
 
 pub record StaysAt (p : Parts) (ch : ℕ) (q r : Queue) (flags : List Bool) (history : List Entry) (o : Object) : Type 0 where
   pub legal : IsLegal (view_of p).base history
-  pub leaves : object_after (view_of p).base history ≡ o
+  pub becomes : object_after (view_of p).base history ≡ o
   pub grows : (k : ℕ) (e : Entry) → slice_get p.history k ≡ Some e → slice_get history k ≡ Some e
   pub image : (object_of (view_of p)).image ≡ o.image
   pub events : flags ≡ o.events
@@ -40,7 +40,7 @@ pub record StaysAt (p : Parts) (ch : ℕ) (q r : Queue) (flags : List Bool) (his
   pub many : length o.channels ≡ channels (view_of p)
   pub others : (c : ℕ) → c ≢ ch → channel o c ≡ channel (object_of (view_of p)) c
   pub agrees : Agrees (channel o ch) (schedule_of r).taken
-  pub runs_still : runs_there ch (channel o ch) (schedule_of r).taken ≡ runs_there ch (channel (object_of (view_of p)) ch) (schedule_of q).taken
+  pub runs_still : running_in ch (channel o ch) (schedule_of r).taken ≡ running_in ch (channel (object_of (view_of p)) ch) (schedule_of q).taken
   pub ranges_still : r.ranges ≡ q.ranges
   pub tied : IsQueue ch (channel p.base ch).submitted history p.memory r (channel o ch)
 
@@ -59,7 +59,7 @@ stays p ch q r flags history o h less read w =
     let same : running o (slice_set s ch x) ≡ running old s = running-same old o s (slice_set s ch x) (sym w.many) (λ c l. still c) in
     record {
       legal = w.legal;
-      leaves = w.leaves;
+      becomes = w.becomes;
       grows = w.grows;
       fits = record {
         there = at.there;
@@ -73,7 +73,7 @@ stays p ch q r flags history o h less read w =
       marks = w.marks;
       tied = w.tied;
       prepared = subst (IsPrepared p.made) (at.runs_is ∙ sym w.runs_still) (h.prepared ch);
-      ranges = subst (λ (y : Option Ranges). AreOfRunning y (runs_there ch (channel o ch) x.taken)) (sym w.ranges_still) (subst (AreOfRunning q.ranges) (at.runs_is ∙ sym w.runs_still) at.ranges);
+      ranges = subst (λ (y : Option Ranges). AreOfRunning y (running_in ch (channel o ch) x.taken)) (sym w.ranges_still) (subst (AreOfRunning q.ranges) (at.runs_is ∙ sym w.runs_still) at.ranges);
       machines = λ c d l k machine. machine;
     }
 
@@ -93,7 +93,7 @@ holds-besides p ch a b paused q h less read =
     let r = with_room_paused q a b paused in
     holds-changed p ch r p.memory p.events p.history p.steps (object_of v) h less (stays p ch q r p.events p.history (object_of v) h less read (record {
       legal = h.sound.legal;
-      leaves = refl;
+      becomes = refl;
       grows = λ k e x. x;
       image = refl;
       events = h.events;
@@ -125,7 +125,7 @@ agrees-issued c (Some n) h =
     let e : nat_lt (finished c) (used c) ≡ true = lt-ltb _ _ f.within in
     (h.0, rw (e, f.is) f.holds)
 
-pub runs-issued : (ch : ℕ) (c : ChannelState) (taken : Option ℕ) → runs_there ch (record c { issued = used c }) taken ≡ runs_there ch c taken
+pub runs-issued : (ch : ℕ) (c : ChannelState) (taken : Option ℕ) → running_in ch (record c { issued = used c }) taken ≡ running_in ch c taken
 runs-issued ch c None = refl
 runs-issued ch c (Some n) = refl
 
@@ -142,7 +142,7 @@ holds-issued p ch q n h less read all =
     let here : channel (after o e) ch ≡ record c { issued = used c } = get_or-set_same o.channels ch (record c { issued = used c }) empty_channel at.there in
     holds-changed p ch r p.memory p.events history p.steps (after o e) h less (stays p ch q r p.events history (after o e) h less read (record {
       legal = IsLegal-append v.base p.history (e ∷ []) h.sound.legal (at.there, tt);
-      leaves = object_after-append v.base p.history (e ∷ []);
+      becomes = object_after-append v.base p.history (e ∷ []);
       grows = λ k x. slice_get-push p.history e x k;
       image = refl;
       events = h.events;
@@ -150,7 +150,7 @@ holds-issued p ch q n h less read all =
       many = length-set o.channels ch _;
       others = λ d k. get_or-set_other o.channels ch d _ empty_channel k;
       agrees = rw here (agrees-issued c (schedule_of q).taken at.agrees);
-      runs_still = ap (λ x. runs_there ch x (schedule_of q).taken) here ∙ runs-issued ch c (schedule_of q).taken;
+      runs_still = ap (λ x. running_in ch x (schedule_of q).taken) here ∙ runs-issued ch c (schedule_of q).taken;
       ranges_still = refl;
       tied = rw here (record {
         forgotten = t.forgotten;
@@ -191,7 +191,7 @@ agrees-submitted c u (Some n) h =
     let e : nat_lt (finished c) c.issued ≡ true = issued-below c f.transfer f.issued in
     (h.0, rw (e, front-submitted c f.transfer u f.is) f.holds)
 
-pub runs-submitted : (ch : ℕ) (c : ChannelState) (u : Descriptor) (taken : Option ℕ) → Agrees c taken → runs_there ch (with_transfer c u) taken ≡ runs_there ch c taken
+pub runs-submitted : (ch : ℕ) (c : ChannelState) (u : Descriptor) (taken : Option ℕ) → Agrees c taken → running_in ch (with_transfer c u) taken ≡ running_in ch c taken
 runs-submitted ch c u None h = refl
 runs-submitted ch c u (Some n) h =
     let f = front_where c _ h.1 in
@@ -246,7 +246,7 @@ holds-submitted p ch spare cookie t q h less read allowed =
     let here : channel (after o e) ch ≡ with_transfer c t = get_or-set_same o.channels ch (with_transfer c t) empty_channel at.there in
     holds-changed p ch r p.memory p.events history p.steps (after o e) h less (stays p ch q r p.events history (after o e) h less read (record {
       legal = IsLegal-append v.base p.history (e ∷ []) h.sound.legal (allowed, tt);
-      leaves = object_after-append v.base p.history (e ∷ []);
+      becomes = object_after-append v.base p.history (e ∷ []);
       grows = λ k x. slice_get-push p.history e x k;
       image = refl;
       events = h.events;
@@ -254,7 +254,7 @@ holds-submitted p ch spare cookie t q h less read allowed =
       many = length-set o.channels ch _;
       others = λ d k. get_or-set_other o.channels ch d _ empty_channel k;
       agrees = rw here (agrees-submitted c t (schedule_of q).taken at.agrees);
-      runs_still = ap (λ x. runs_there ch x (schedule_of q).taken) here ∙ runs-submitted ch c t (schedule_of q).taken at.agrees;
+      runs_still = ap (λ x. running_in ch x (schedule_of q).taken) here ∙ runs-submitted ch c t (schedule_of q).taken at.agrees;
       ranges_still = refl;
       tied = rw here (queue-submitted ch spare (channel p.base ch).submitted p.history p.memory q c t cookie at.tied allowed.3);
     }))

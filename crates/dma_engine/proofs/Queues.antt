@@ -11,7 +11,7 @@ use Rattle.dma_engine.specs.declared.queue.Queue.{Queue}
 use Rattle.dma_engine.specs.Object.{ChannelState, channel, front, issued_front, no_transfer, used, finished}
 use Rattle.dma_engine.specs.inner.Found.{given_by, transfer_at}
 use Rattle.dma_engine.specs.inner.Ranges.{AreOfRunning}
-use Rattle.dma_engine.specs.View.{Agrees, runs_there, runs, idle, object_of, channels, View, ChannelSchedule}
+use Rattle.dma_engine.specs.View.{Agrees, running_in, runs, idle, object_of, channels, View, ChannelSchedule}
 use Rattle.dma_engine.specs.inner.Holds.{IsQueue, Holds, Parts, view_of, schedule_of}
 
 -- ---- the front of a channel
@@ -48,7 +48,7 @@ pub front_known : (c : ChannelState) (t : Descriptor) → issued_front c ≡ Som
 front_known c t h = front_where c (λ u. u ≡ t) (rw h refl)
 
 -- what runs at a channel whose front is known
-pub runs_front : (ch : ℕ) (c : ChannelState) (t : Descriptor) (taken : ℕ) → front c ≡ Some t → runs_there ch c (Some taken) ≡ Some (record { ch = ch; cookie = finished c + 1; transfer = t; taken = taken })
+pub runs_front : (ch : ℕ) (c : ChannelState) (t : Descriptor) (taken : ℕ) → front c ≡ Some t → running_in ch c (Some taken) ≡ Some (record { ch = ch; cookie = finished c + 1; transfer = t; taken = taken })
 runs_front ch c t taken h = rw h refl
 
 -- ---- a queue at its channel
@@ -58,7 +58,7 @@ pub record HoldsAt (p : Parts) (ch : ℕ) (q : Queue) : Type 0 where
   pub there : ch < channels (view_of p)
   pub tied : IsQueue ch (channel p.base ch).submitted p.history p.memory q (channel (object_of (view_of p)) ch)
   pub agrees : Agrees (channel (object_of (view_of p)) ch) (schedule_of q).taken
-  pub runs_is : runs (object_of (view_of p)) (view_of p).schedule ch ≡ runs_there ch (channel (object_of (view_of p)) ch) (schedule_of q).taken
+  pub runs_is : runs (object_of (view_of p)) (view_of p).schedule ch ≡ running_in ch (channel (object_of (view_of p)) ch) (schedule_of q).taken
   pub schedule_is : slice_index_or (view_of p).schedule ch idle ≡ schedule_of q
   pub ranges : AreOfRunning q.ranges (runs (object_of (view_of p)) (view_of p).schedule ch)
 
@@ -78,7 +78,7 @@ holds-at p h ch q less read =
       there = inside;
       tied = rw (← read) at (h.each ch q less);
       agrees = rw at at (h.sound.fits.each ch inside);
-      runs_is = ap (λ (s : ChannelSchedule). runs_there ch (channel (object_of v) ch) s.taken) at;
+      runs_is = ap (λ (s : ChannelSchedule). running_in ch (channel (object_of v) ch) s.taken) at;
       schedule_is = at;
       ranges = rw (← read) at (h.ranges ch q less);
     }

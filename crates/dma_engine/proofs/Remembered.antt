@@ -1,11 +1,11 @@
--- What calls remember of outcomes, checkpoints among them.
+-- Which outcomes are known after calls, checkpoints included.
 use Rattle.std.proofs.Common.{◌≡◌, ℕ, ◌-◌, ◌≤◌, List, [], ◌∷◌, Some, None, Bool, true, false, refl, ap, sym, ◌∙◌, subst, arith, inl, inr}
 use Rattle.std.specs.Prelude.{slice_get, if◌then◌else◌, nat_le}
 use Rattle.std.proofs.lemmas.Option.{slice_get_within}
 use Rattle.dma_engine.specs.declared.call.Call.{Call}
 use Rattle.dma_engine.specs.declared.call.Call.TheVariants.{Write, Read, Submit, Issue, Pause, Resume, Terminate, Step, Status, Result as ResultOf, Mark, Unmark, Raise, Checkpoint}
 use Rattle.dma_engine.specs.declared.call.Reply.{Reply}
-use Rattle.dma_engine.specs.declared.call.Reply.TheVariants.{Done, Bytes, Cookie, Count, Turned, State, Result as Told, Refused}
+use Rattle.dma_engine.specs.declared.call.Reply.TheVariants.{Done, Bytes, Cookie, Count, Turned, State, Result as Resulted, Refused}
 use Rattle.dma_engine.specs.Object.{ChannelState, channel, finished}
 use Rattle.dma_engine.specs.View.{View, object_of}
 use Rattle.dma_engine.specs.Answer.{AreAnswers, CallAnswers, Extends, Remembers, checkpoint_fault, checkpointed, is_checkpoint}
@@ -14,7 +14,7 @@ use Rattle.dma_engine.proofs.Checkpoint.{accepted, forgotten-at}
 use Rattle.dma_engine.proofs.OutcomesStay.{extends-forgotten, kept}
 
 -- After a call, each outcome is remembered or forgotten, and what was forgotten stays forgotten.
-record Leaves (v w : View) : Type 0 where
+record KeepsOutcomes (v w : View) : Type 0 where
   remembers : Remembers v w
   rises : (ch : ℕ) → (channel (object_of v) ch).forgotten ≤ (channel (object_of w) ch).forgotten
 
@@ -23,7 +23,7 @@ kept-remembers old new h ch cookie x is = inl (kept old new h ch cookie x is)
 
 -- an accepted checkpoint forgets an outcome, whose cookie is then among the forgotten ones
 forgets : (v w : View) → w ≡ checkpointed v → Remembers v w
-forgets v w is ch cookie x told =
+forgets v w is ch cookie x lost =
     let o = object_of v in
     let c = channel o ch in
     let next : (channel (object_of w) ch).forgotten ≡ finished c = ap (λ (u : View). (channel (object_of u) ch).forgotten) is ∙ ap (λ (d : ChannelState). d.forgotten) (forgotten-at o ch) in
@@ -31,7 +31,7 @@ forgets v w is ch cookie x told =
       | true ↦ λ _ e. absurd cc
       | false ↦ λ _ e. omega (arith, slice_get_within c.outcomes (cookie - c.forgotten - 1) x e)
     ] in
-    inr (omega (arith, by _ refl told, next))
+    inr (omega (arith, by _ refl lost, next))
 
 then-remembers : (u v w : View) → Remembers u v → Remembers v w → ((ch : ℕ) → (channel (object_of v) ch).forgotten ≤ (channel (object_of w) ch).forgotten) → Remembers u w
 then-remembers u v w a b rises ch cookie x is = elim (a ch cookie x is) [
@@ -39,11 +39,11 @@ then-remembers u v w a b rises ch cookie x is = elim (a ch cookie x is) [
   | inr gone ↦ inr (omega (arith, gone, rises ch))
 ]
 
-extends-leaves : (v w : View) → Extends v w → Leaves v w
-extends-leaves v w h = record { remembers = kept-remembers v w h; rises = λ ch. omega (arith, extends-forgotten v w h ch) }
+extends-keeps : (v w : View) → Extends v w → KeepsOutcomes v w
+extends-keeps v w h = record { remembers = kept-remembers v w h; rises = λ ch. omega (arith, extends-forgotten v w h ch) }
 
-checkpoint-leaves : (v w : View) → w ≡ checkpointed v → Leaves v w
-checkpoint-leaves v w is = record {
+checkpoint-keeps : (v w : View) → w ≡ checkpointed v → KeepsOutcomes v w
+checkpoint-keeps v w is = record {
   remembers = forgets v w is;
   rises = λ ch.
       let next : (channel (object_of w) ch).forgotten ≡ finished (channel (object_of v) ch) = ap (λ (u : View). (channel (object_of u) ch).forgotten) is ∙ ap (λ (d : ChannelState). d.forgotten) (forgotten-at (object_of v) ch) in
@@ -57,7 +57,7 @@ only-done Checkpoint (Cookie n) e = absurd cc
 only-done Checkpoint (Count n) e = absurd cc
 only-done Checkpoint (Turned t) e = absurd cc
 only-done Checkpoint (State s) e = absurd cc
-only-done Checkpoint (Told o) e = absurd cc
+only-done Checkpoint (Resulted o) e = absurd cc
 only-done Checkpoint (Refused f) e = absurd cc
 only-done (Write addr bytes) reply e = absurd cc
 only-done (Read addr len) reply e = absurd cc
@@ -74,27 +74,27 @@ only-done Unmark reply e = absurd cc
 only-done (Raise event) reply e = absurd cc
 
 -- one call, by whether it was an accepted checkpoint
-by-test : (v w : View) (call : Call) (reply : Reply) (b : Bool) → is_checkpoint call reply ≡ b → CallAnswers v call reply w → Leaves v w
-by-test v w call reply false e h = extends-leaves v w (answers-extend v w call reply e h)
+by-test : (v w : View) (call : Call) (reply : Reply) (b : Bool) → is_checkpoint call reply ≡ b → CallAnswers v call reply w → KeepsOutcomes v w
+by-test v w call reply false e h = extends-keeps v w (answers-extend v w call reply e h)
 by-test v w call reply true e h =
     let both = only-done call reply e in
-    let told : CallAnswers v Checkpoint Done w = subst (λ (r : Reply). CallAnswers v Checkpoint r w) both.1 (subst (λ (c : Call). CallAnswers v c reply w) both.0 h) in
-    checkpoint-leaves v w (accepted (checkpoint_fault v) v w (checkpointed v) told)
+    let lost : CallAnswers v Checkpoint Done w = subst (λ (r : Reply). CallAnswers v Checkpoint r w) both.1 (subst (λ (c : Call). CallAnswers v c reply w) both.0 h) in
+    checkpoint-keeps v w (accepted (checkpoint_fault v) v w (checkpointed v) lost)
 
-call-leaves : (v w : View) (call : Call) (reply : Reply) → CallAnswers v call reply w → Leaves v w
-call-leaves v w call reply h = by-test v w call reply (is_checkpoint call reply) refl h
+call-keeps : (v w : View) (call : Call) (reply : Reply) → CallAnswers v call reply w → KeepsOutcomes v w
+call-keeps v w call reply h = by-test v w call reply (is_checkpoint call reply) refl h
 
-chain-leaves : (v w : View) (calls : List Call) (replies : List Reply) → AreAnswers v calls replies w → Leaves v w
-chain-leaves v w [] [] h = subst (Leaves v) (sym h) (record { remembers = λ ch cookie x is. inl is; rises = λ ch. omega arith })
-chain-leaves v w [] (r ∷ rs) h = absurd h
-chain-leaves v w (c ∷ cs) [] h = absurd h
-chain-leaves v w (c ∷ cs) (r ∷ rs) h =
-    let first = call-leaves v h.0 c r h.1 in
-    let rest = chain-leaves h.0 w cs rs h.2 in
+chain-keeps : (v w : View) (calls : List Call) (replies : List Reply) → AreAnswers v calls replies w → KeepsOutcomes v w
+chain-keeps v w [] [] h = subst (KeepsOutcomes v) (sym h) (record { remembers = λ ch cookie x is. inl is; rises = λ ch. omega arith })
+chain-keeps v w [] (r ∷ rs) h = absurd h
+chain-keeps v w (c ∷ cs) [] h = absurd h
+chain-keeps v w (c ∷ cs) (r ∷ rs) h =
+    let first = call-keeps v h.0 c r h.1 in
+    let rest = chain-keeps h.0 w cs rs h.2 in
     record {
       remembers = then-remembers v h.0 w first.remembers rest.remembers rest.rises;
       rises = λ ch. omega (arith, first.rises ch, rest.rises ch);
     }
 
 pub chain-remembers : (v w : View) (calls : List Call) (replies : List Reply) → AreAnswers v calls replies w → Remembers v w
-chain-remembers v w calls replies h = (chain-leaves v w calls replies h).remembers
+chain-remembers v w calls replies h = (chain-keeps v w calls replies h).remembers

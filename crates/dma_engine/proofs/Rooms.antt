@@ -25,7 +25,7 @@ use Rattle.dma_engine.specs.inner.Found.{given_by, transfer_at, transfer_in, tra
 use Rattle.dma_engine.specs.inner.Inside.{queue_room}
 use Rattle.dma_engine.specs.Object.{Object, ChannelState, channel, no_transfer, unfinished, is_set}
 use Rattle.dma_engine.specs.Room.{no_room, room_on, KeepsRoom}
-use Rattle.dma_engine.specs.Turn.{Stepped, ends, insn_turn, front_turn, start_turn, finishes, moves_on, first_conflicting}
+use Rattle.dma_engine.specs.Turn.{Stepped, ends, insn_turn, front_turn, start_turn, finishes, next_moved, first_conflicting}
 use Rattle.dma_engine.specs.View.{View, EngineState, RunningTransfer, object_of}
 use Rattle.dma_engine.specs.inner.Holds.{Holds, IsQueue, Parts, view_of}
 use Rattle.dma_engine.proofs.Changes.{changed, view-changed, schedule-kept}
@@ -145,7 +145,7 @@ front-ends : (v : View) (ch : ℕ) (o : Option Descriptor) → false ≡ ends (f
 front-ends v ch None = refl
 front-ends v ch (Some t) = start-ends v ch (first_conflicting v t)
 
-by-mark : (b : Bool) (v : View) (ch n : ℕ) (t : Descriptor) (how : TransResult) (kind : FaultKind) (m w : Shared) → ends (if◌then◌else◌ {A = Stepped} b (finishes v ch t n how) (moves_on v ch n)).0 ≡ is_some (fault_in (if◌then◌else◌ {A = ChanTurn × Shared} b (Fault kind, m) (Moved, w)).0)
+by-mark : (b : Bool) (v : View) (ch n : ℕ) (t : Descriptor) (how : TransResult) (kind : FaultKind) (m w : Shared) → ends (if◌then◌else◌ {A = Stepped} b (finishes v ch t n how) (next_moved v ch n)).0 ≡ is_some (fault_in (if◌then◌else◌ {A = ChanTurn × Shared} b (Fault kind, m) (Moved, w)).0)
 by-mark true v ch n t how kind m w = refl
 by-mark false v ch n t how kind m w = refl
 

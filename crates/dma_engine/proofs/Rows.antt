@@ -16,7 +16,7 @@ use Rattle.dma_engine.specs.declared.entry.Signaller.TheVariants.{Host}
 use Rattle.dma_engine.specs.declared.call.Call.{Call}
 use Rattle.dma_engine.specs.declared.call.Call.TheVariants.{Write, Read, Submit, Issue, Pause, Resume, Terminate, Step, Status, Result as ResultOf, Mark, Raise, Checkpoint}
 use Rattle.dma_engine.specs.declared.call.Reply.{Reply}
-use Rattle.dma_engine.specs.declared.call.Reply.TheVariants.{Done, Bytes, Cookie, Count, Turned, State, Result as Told, Refused}
+use Rattle.dma_engine.specs.declared.call.Reply.TheVariants.{Done, Bytes, Cookie, Count, Turned, State, Result as Resulted, Refused}
 use Rattle.dma_engine.specs.declared.turn.Status.TheVariants.{Unknown, InProgress, Complete}
 use Rattle.dma_engine.specs.declared.turn.Turn.TheVariants.{Nothing, Held, Started, Moved, Waiting, Paused, Halted, Finished as TurnFinished}
 use Rattle.dma_engine.specs.declared.fault.EngineFault.TheVariants.{OutOfMemoryRange, Busy, Running, NoChannel, BadEvent, BadRange, CookiesSpent, StepsSpent}
@@ -113,13 +113,13 @@ how_far_a_cookie_is = refl
 
 -- three bytes go in bursts of two and one; the first is stored when the channel is terminated
 residues_of_a_terminate : replies 16 1 (Write 0 (17 ∷ 34 ∷ 51 ∷ []) ∷ Submit 0 (copy 0 8 3) ∷ Submit 0 (copy 0 4 2) ∷ Issue 0 ∷ Step 0 ∷ Step 0 ∷ Step 0 ∷ Step 0 ∷ Step 0 ∷ Step 0 ∷ Step 0 ∷ Terminate 0 ∷ ResultOf 0 1 ∷ ResultOf 0 2 ∷ ResultOf 0 3 ∷ Read 8 3 ∷ [])
-    ≡ Done ∷ Cookie 1 ∷ Cookie 2 ∷ Count 2 ∷ Turned (Started 1) ∷ Turned Moved ∷ Turned Moved ∷ Turned Moved ∷ Turned Moved ∷ Turned Moved ∷ Turned Moved ∷ Count 2 ∷ Told (Some (record { result = Aborted; residue = 1 })) ∷ Told (Some (record { result = Aborted; residue = 2 })) ∷ Told None ∷ Bytes (17 ∷ 34 ∷ 0 ∷ []) ∷ []
+    ≡ Done ∷ Cookie 1 ∷ Cookie 2 ∷ Count 2 ∷ Turned (Started 1) ∷ Turned Moved ∷ Turned Moved ∷ Turned Moved ∷ Turned Moved ∷ Turned Moved ∷ Turned Moved ∷ Count 2 ∷ Resulted (Some (record { result = Aborted; residue = 1 })) ∷ Resulted (Some (record { result = Aborted; residue = 2 })) ∷ Resulted None ∷ Bytes (17 ∷ 34 ∷ 0 ∷ []) ∷ []
 unfolding opening put after_moves share running member members stored_after burst meets_mark parts beat_of burst_at
 residues_of_a_terminate = refl
 
 -- a fill's two pieces are a burst each; the first is stored when the channel is terminated
 a_fill_stops_halfway : replies 16 1 (Write 0 (17 ∷ []) ∷ Submit 0 (filling 0 (record { addr = 8; len = 2 } ∷ record { addr = 12; len = 1 } ∷ []) None None) ∷ Issue 0 ∷ Step 0 ∷ Step 0 ∷ Step 0 ∷ Step 0 ∷ Step 0 ∷ Step 0 ∷ Step 0 ∷ Terminate 0 ∷ ResultOf 0 1 ∷ Read 8 5 ∷ [])
-    ≡ Done ∷ Cookie 1 ∷ Count 1 ∷ Turned (Started 1) ∷ Turned Moved ∷ Turned Moved ∷ Turned Moved ∷ Turned Moved ∷ Turned Moved ∷ Turned Moved ∷ Count 1 ∷ Told (Some (record { result = Aborted; residue = 1 })) ∷ Bytes (17 ∷ 17 ∷ 0 ∷ 0 ∷ 0 ∷ []) ∷ []
+    ≡ Done ∷ Cookie 1 ∷ Count 1 ∷ Turned (Started 1) ∷ Turned Moved ∷ Turned Moved ∷ Turned Moved ∷ Turned Moved ∷ Turned Moved ∷ Turned Moved ∷ Count 1 ∷ Resulted (Some (record { result = Aborted; residue = 1 })) ∷ Bytes (17 ∷ 17 ∷ 0 ∷ 0 ∷ 0 ∷ []) ∷ []
 unfolding opening put after_moves share running member members stored_after burst meets_mark parts beat_of burst_at
 a_fill_stops_halfway = refl
 
@@ -237,6 +237,6 @@ no_count_above_32_bits = refl
 -- a checkpoint forgets how two cookies ended, and keeps the third, which has not run; it fails with `Running` while
 -- that runs
 what_a_checkpoint_forgets : replies 16 1 (Submit 0 (copy 0 4 2) ∷ Submit 0 (copy 0 8 2) ∷ Terminate 0 ∷ Submit 0 (copy 0 4 2) ∷ Checkpoint ∷ ResultOf 0 2 ∷ Status 0 2 ∷ Status 0 3 ∷ Status 0 4 ∷ Issue 0 ∷ Submit 0 (copy 0 8 2) ∷ Step 0 ∷ Checkpoint ∷ [])
-    ≡ Cookie 1 ∷ Cookie 2 ∷ Count 2 ∷ Cookie 3 ∷ Done ∷ Told None ∷ State Complete ∷ State InProgress ∷ State Unknown ∷ Count 1 ∷ Cookie 4 ∷ Turned (Started 3) ∷ Refused (Running 0 3) ∷ []
+    ≡ Cookie 1 ∷ Cookie 2 ∷ Count 2 ∷ Cookie 3 ∷ Done ∷ Resulted None ∷ State Complete ∷ State InProgress ∷ State Unknown ∷ Count 1 ∷ Cookie 4 ∷ Turned (Started 3) ∷ Refused (Running 0 3) ∷ []
 unfolding opening put after_moves share running
 what_a_checkpoint_forgets = refl

@@ -8,7 +8,7 @@ use Rattle.dma_engine.specs.declared.call.Call.{Call}
 use Rattle.dma_engine.specs.declared.call.Reply.{Reply}
 use Rattle.dma_engine.specs.declared.entry.Entry.{Entry}
 use Rattle.dma_engine.specs.Object.{Object, Allows, after, channel, finished}
-use Rattle.dma_engine.specs.View.{View, ChannelSchedule, RunningTransfer, Agrees, AreFree, Fits, IsSound, channels, idle, object_of, runs, runs_there, schedule_at}
+use Rattle.dma_engine.specs.View.{View, ChannelSchedule, RunningTransfer, Agrees, AreFree, Fits, IsSound, channels, idle, object_of, runs, running_in, schedule_at}
 use Rattle.dma_engine.specs.Turn.{with_entry}
 use Rattle.dma_engine.specs.Answer.{CallAnswers}
 use Rattle.dma_engine.specs.Laws.{AreSoundAnswers}
@@ -68,7 +68,7 @@ queue-sound v ch e h allowed fits =
 -- ---- what fits
 
 -- where what runs on the channel stays
-pub still-fits : (v : View) (o : Object) (ch : ℕ) (x : ChannelSchedule) → IsSound v → ch < channels v → length o.channels ≡ channels v → ((c : ℕ) → c ≢ ch → channel o c ≡ channel (object_of v) c) → Agrees (channel o ch) x.taken → runs_there ch (channel o ch) x.taken ≡ runs (object_of v) v.schedule ch → FitsStill (object_of v) o v.schedule ch x
+pub still-fits : (v : View) (o : Object) (ch : ℕ) (x : ChannelSchedule) → IsSound v → ch < channels v → length o.channels ≡ channels v → ((c : ℕ) → c ≢ ch → channel o c ≡ channel (object_of v) c) → Agrees (channel o ch) x.taken → running_in ch (channel o ch) x.taken ≡ runs (object_of v) v.schedule ch → FitsStill (object_of v) o v.schedule ch x
 still-fits v o ch x h less many others agrees still = record {
   there = less;
   many = many;
@@ -102,8 +102,8 @@ moved-fits v o ch n t a b h less taken f w =
     let c = channel old ch in
     let then : RunningTransfer = record { ch = ch; cookie = finished c + 1; transfer = t; taken = n } in
     let now : RunningTransfer = record { ch = ch; cookie = finished c + 1; transfer = t; taken = n + 1 } in
-    let before : runs old v.schedule ch ≡ Some then = ap (runs_there ch c) taken ∙ runs_front ch c t n f.is in
-    let there_is : runs_there ch (channel o ch) (Some (n + 1)) ≡ Some now = ap (λ y. runs_there ch y (Some (n + 1))) w.here ∙ runs_front ch (with_flags c a b) t (n + 1) f.is in
+    let before : runs old v.schedule ch ≡ Some then = ap (running_in ch c) taken ∙ runs_front ch c t n f.is in
+    let there_is : running_in ch (channel o ch) (Some (n + 1)) ≡ Some now = ap (λ y. running_in ch y (Some (n + 1))) w.here ∙ runs_front ch (with_flags c a b) t (n + 1) f.is in
     let agrees : Agrees (channel o ch) (Some (n + 1)) = rw (w.here, f.issued) (f.goes, (w.within, w.passed, w.signalled)) in
     record {
       there = less;

@@ -21,7 +21,7 @@ use Rattle.dma_engine.specs.declared.fault.EngineFault.TheVariants.{NoMemory}
 use Rattle.dma_engine.specs.declared.queue.Queue.{Queue}
 use Rattle.dma_engine.specs.declared.turn.Turn.TheVariants.{Held, Started, Finished as TurnFinished}
 use Rattle.dma_engine.specs.Object.{ChannelState, Allows, channel, front, issued_front, finished, unfinished}
-use Rattle.dma_engine.specs.View.{View, ChannelSchedule, RunningTransfer, Agrees, AreFree, IsSound, runs, runs_there, object_of, size}
+use Rattle.dma_engine.specs.View.{View, ChannelSchedule, RunningTransfer, Agrees, AreFree, IsSound, runs, running_in, object_of, size}
 use Rattle.dma_engine.specs.Turn.{front_cookie, first_conflicting, start_turn, turn, with_entry, with_step, with_taken}
 use Rattle.dma_engine.specs.inner.Accesses.{named}
 use Rattle.dma_engine.specs.Answer.{CallAnswers, is_started, done_on, done_by}
@@ -43,9 +43,9 @@ use Rattle.dma_engine.proofs.WhatRuns.{find-none_at}
 -- ---- a start
 
 -- the front, from what was found of it
-pub front-told : (o : Option Descriptor) (u : Descriptor) (k n : ℕ) → Some (u, k) ≡ option_map {U = Descriptor × ℕ} (λ t. (t, n)) o → (o ≡ Some u) × (k ≡ n)
-front-told None u k n h = absurd cc
-front-told (Some t) u k n h =
+pub front-with-cookie : (o : Option Descriptor) (u : Descriptor) (k n : ℕ) → Some (u, k) ≡ option_map {U = Descriptor × ℕ} (λ t. (t, n)) o → (o ≡ Some u) × (k ≡ n)
+front-with-cookie None u k n h = absurd cc
+front-with-cookie (Some t) u k n h =
     let pair : Option (Descriptor × ℕ) → Descriptor × ℕ = λ x. unwrap_or x (u, k) in
     (ap (λ x. Some x) (sym (ap (λ x. (pair x).0) h)), ap (λ x. (pair x).1) h)
 
@@ -80,7 +80,7 @@ start-fits v ch t x h may some none begun =
     let is : front c ≡ Some t = (front_known c t some).is ∙ ap (λ u. Some u) (front_known c t some).holds in
     let before : Agrees c None = rw may.3 at (h.fits.each ch may.0) in
     let now : RunningTransfer = record { ch = ch; cookie = finished c + 1; transfer = t; taken = 0 } in
-    let there_is : runs_there ch c x.taken ≡ Some now = ap (runs_there ch c) begun ∙ runs_front ch c t 0 is in
+    let there_is : running_in ch c x.taken ≡ Some now = ap (running_in ch c) begun ∙ runs_front ch c t 0 is in
     let each : (d : ℕ) → d < length o.channels → (y : Option RunningTransfer) → runs o s d ≡ y → IfSome y (λ u. not (is_free_of t u.transfer) ≡ false) = λ d l y. elim y as (λ y. runs o s d ≡ y → IfSome y (λ u. not (is_free_of t u.transfer) ≡ false)) [
       | None ↦ λ _. tt
       | Some u ↦ λ e. find-none_at (λ r. not (is_free_of t r.transfer)) o s d u l none e
@@ -126,12 +126,12 @@ holds-started p ch q t u h less read may some none pages ranges =
     let good = good-front p h ch t is in
     let idle_there : (schedule_of q).taken ≡ None = sym (ap (λ (y : ChannelSchedule). y.taken) at.schedule_is) ∙ may.3 in
     let now : RunningTransfer = record { ch = ch; cookie = finished c + 1; transfer = t; taken = 0 } in
-    let there_is : runs_there ch c x.taken ≡ Some now = runs_front ch c t 0 is in
-    let rested : runs o s ch ≡ None = at.runs_is ∙ ap (runs_there ch c) idle_there in
+    let there_is : running_in ch c x.taken ≡ Some now = runs_front ch c t 0 is in
+    let rested : runs o s ch ≡ None = at.runs_is ∙ ap (running_in ch c) idle_there in
     let others : (d : ℕ) → d ≢ ch → runs o s d ≡ runs o (slice_set s ch x) d = λ d k. sym (runs-other o o s ch d x k refl) in
     holds-changed p ch r p.memory p.events p.history p.steps o h less (record {
       legal = h.sound.legal;
-      leaves = refl;
+      becomes = refl;
       grows = λ k e y. y;
       fits = start-fits v ch t x h.sound may some none refl;
       shown = h.shown ∙ sym (shown-started ch o o s (slice_set s ch x) now (record { channels = refl; there = at.there; others = others }) refl rested (runs-here o s ch x within ∙ there_is) (stored_is t good.0).none);

@@ -27,8 +27,8 @@ use Rattle.dma_engine.specs.declared.outcome.TransResult.{TransResult}
 use Rattle.dma_engine.specs.declared.outcome.TransResult.TheVariants.{NoError, ReadFailed, WriteFailed}
 use Rattle.dma_engine.specs.declared.turn.Turn.TheVariants.{Paused, Halted, Waiting}
 use Rattle.dma_engine.specs.Object.{Allows, IsMark, after, channel, empty_channel, is_set, issued_front, unfinished, used, with_all_aborted, with_outcome, with_transfer}
-use Rattle.dma_engine.specs.View.{View, ChannelSchedule, RunningTransfer, Agrees, IsSound, channels, idle, object_of, runs_there, schedule_at}
-use Rattle.dma_engine.specs.Turn.{Stepped, turn, front_turn, start_turn, insn_turn, moves_on, finishes, with_entry, with_taken, first_conflicting, last_step}
+use Rattle.dma_engine.specs.View.{View, ChannelSchedule, RunningTransfer, Agrees, IsSound, channels, idle, object_of, running_in, schedule_at}
+use Rattle.dma_engine.specs.Turn.{Stepped, turn, front_turn, start_turn, insn_turn, next_moved, finishes, with_entry, with_taken, first_conflicting, last_step}
 use Rattle.dma_engine.specs.Answer.{answer, unless, write_fault, read_fault, submit_fault, channel_fault, mark_fault, raise_fault, checkpoint_fault, checkpointed, first_running, with_pause, terminated, done_on}
 use Rattle.dma_engine.specs.Laws.{IsCall, NewViewsAreSound, AnswersStaySound, CallsStaySound}
 use Rattle.dma_engine.specs.inner.Due.{Finishes, MayStart}
@@ -52,7 +52,7 @@ record Runs (v : View) (ch n : ℕ) (t : Descriptor) : Type 0 where
   taken : (schedule_at v ch).taken ≡ Some n
   it : IsFront (channel (object_of v) ch) t n
 
-pass-sound : (v : View) (ch n event : ℕ) (t : Descriptor) (invalid : Bool) → Runs v ch n t → member t n ≡ Wfe event invalid → is_set (object_of v) event ≡ true → IsSound (moves_on (with_entry v (Passed ch event)) ch n).1
+pass-sound : (v : View) (ch n event : ℕ) (t : Descriptor) (invalid : Bool) → Runs v ch n t → member t n ≡ Wfe event invalid → is_set (object_of v) event ≡ true → IsSound (next_moved (with_entry v (Passed ch event)) ch n).1
 pass-sound v ch n event t invalid r is set =
     let o = object_of v in
     let c = channel o ch in
@@ -77,7 +77,7 @@ pass-sound v ch n event t invalid r is set =
       signalled = signalled-next c t n f not_sev within;
     }))
 
-signal-sound : (v : View) (ch n event : ℕ) (t : Descriptor) → Runs v ch n t → member t n ≡ Sev event → IsSound (moves_on (with_entry v (Signalled (Channel ch) event)) ch n).1
+signal-sound : (v : View) (ch n event : ℕ) (t : Descriptor) → Runs v ch n t → member t n ≡ Sev event → IsSound (next_moved (with_entry v (Signalled (Channel ch) event)) ch n).1
 signal-sound v ch n event t r is =
     let o = object_of v in
     let c = channel o ch in
@@ -110,7 +110,7 @@ finish-sound v ch n t how r is =
     change-sound v ch (v.steps + 1) e (record (schedule_at v ch) { taken = None }) r.sound (finish-may v ch n t how r.it is)
     (ended-fits v (after o e) ch (record (schedule_at v ch) { taken = None }) r.less (length-set o.channels ch (with_outcome c how done)) (λ k g. get_or-set_other o.channels ch k (with_outcome c how done) empty_channel g) refl agrees)
 
-plain-sound : (v : View) (ch n : ℕ) (t : Descriptor) → Runs v ch n t → ((k : ℕ) (i : Bool) → member t n ≢ Wfe k i) → ((k : ℕ) → member t n ≢ Sev k) → member t n ≢ End → IsSound (moves_on v ch n).1
+plain-sound : (v : View) (ch n : ℕ) (t : Descriptor) → Runs v ch n t → ((k : ℕ) (i : Bool) → member t n ≢ Wfe k i) → ((k : ℕ) → member t n ≢ Sev k) → member t n ≢ End → IsSound (next_moved v ch n).1
 plain-sound v ch n t r not_wfe not_sev not_end =
     let o = object_of v in
     let c = channel o ch in
@@ -133,21 +133,21 @@ if-sound true x y h g = h refl
 if-sound false x y h g = g refl
 
 -- a known instruction that neither waits, signals nor ends
-known-sound : (v : View) (ch n : ℕ) (t : Descriptor) (i : Insn) → Runs v ch n t → member t n ≡ i → ((k : ℕ) (b : Bool) → i ≢ Wfe k b) → ((k : ℕ) → i ≢ Sev k) → i ≢ End → IsSound (moves_on v ch n).1
+known-sound : (v : View) (ch n : ℕ) (t : Descriptor) (i : Insn) → Runs v ch n t → member t n ≡ i → ((k : ℕ) (b : Bool) → i ≢ Wfe k b) → ((k : ℕ) → i ≢ Sev k) → i ≢ End → IsSound (next_moved v ch n).1
 known-sound v ch n t i r is a b c = plain-sound v ch n t r (λ k x e. a k x (sym is ∙ e)) (λ k e. b k (sym is ∙ e)) (λ e. c (sym is ∙ e))
 
 insn-sound : (v : View) (ch n : ℕ) (t : Descriptor) (i : Insn) → Runs v ch n t → member t n ≡ i → IsSound (insn_turn v ch t n i).1
 insn-sound v ch n t (Wfe event invalid) r is =
-    if-sound (is_set (object_of v) event) (moves_on (with_entry v (Passed ch event)) ch n) (Ok (Waiting event), v)
+    if-sound (is_set (object_of v) event) (next_moved (with_entry v (Passed ch event)) ch n) (Ok (Waiting event), v)
     (λ set. pass-sound v ch n event t invalid r is set) (λ _. r.sound)
 insn-sound v ch n t (Sev event) r is = signal-sound v ch n event t r is
 insn-sound v ch n t End r is = finish-sound v ch n t NoError r is
 insn-sound v ch n t Ld r is =
-    if-sound (meets_mark Reading (object_of v).marks (read_places t n)) (finishes v ch t n ReadFailed) (moves_on v ch n)
+    if-sound (meets_mark Reading (object_of v).marks (read_places t n)) (finishes v ch t n ReadFailed) (next_moved v ch n)
     (λ hit. finish-sound v ch n t ReadFailed r (is, hit))
     (λ _. known-sound v ch n t Ld r is (λ k b e. absurd cc) (λ k e. absurd cc) (λ e. absurd cc))
 insn-sound v ch n t St r is =
-    if-sound (meets_mark Writing (object_of v).marks (written_places t n)) (finishes v ch t n WriteFailed) (moves_on v ch n)
+    if-sound (meets_mark Writing (object_of v).marks (written_places t n)) (finishes v ch t n WriteFailed) (next_moved v ch n)
     (λ hit. finish-sound v ch n t WriteFailed r (is, hit))
     (λ _. known-sound v ch n t St r is (λ k b e. absurd cc) (λ k e. absurd cc) (λ e. absurd cc))
 insn-sound v ch n t (Mov a b) r is = known-sound v ch n t (Mov a b) r is (λ k b e. absurd cc) (λ k e. absurd cc) (λ e. absurd cc)
@@ -209,7 +209,7 @@ submit-sound v ch t rules h none =
     queue-sound v ch e h (may.0, rules, may.1, refl, omega (arith, may.2))
     (still-fits v (after o e) ch (schedule_at v ch) h may.0 (length-set o.channels ch _) (λ d k. get_or-set_other o.channels ch d _ empty_channel k)
     (rw here (agrees-submitted c t (schedule_at v ch).taken agrees))
-    (ap (λ x. runs_there ch x (schedule_at v ch).taken) here ∙ runs-submitted ch c t (schedule_at v ch).taken agrees))
+    (ap (λ x. running_in ch x (schedule_at v ch).taken) here ∙ runs-submitted ch c t (schedule_at v ch).taken agrees))
 
 issue-sound : (v : View) (ch : ℕ) → IsSound v → ch < channels v → IsSound (with_entry v (Issued ch))
 issue-sound v ch h less =
@@ -220,7 +220,7 @@ issue-sound v ch h less =
     queue-sound v ch e h less
     (still-fits v (after o e) ch (schedule_at v ch) h less (length-set o.channels ch _) (λ d k. get_or-set_other o.channels ch d _ empty_channel k)
     (rw here (agrees-issued c (schedule_at v ch).taken (h.fits.each ch less)))
-    (ap (λ x. runs_there ch x (schedule_at v ch).taken) here ∙ runs-issued ch c (schedule_at v ch).taken))
+    (ap (λ x. running_in ch x (schedule_at v ch).taken) here ∙ runs-issued ch c (schedule_at v ch).taken))
 
 pause-sound : (v : View) (ch : ℕ) (paused : Bool) → IsSound v → ch < channels v → IsSound (with_pause v ch paused)
 pause-sound v ch paused h less =

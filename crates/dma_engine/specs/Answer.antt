@@ -1,7 +1,7 @@
 -- The answer to each call.
 use Rattle.std.specs.Prelude.{◌≡◌, ◌≤◌, ◌⊎◌, ℕ, ◌+◌, ◌-◌, if◌then◌else◌, ◌==◌, ◌||◌, Bool, true, false, nat_lt, nat_le, not, is_none, Option, Some, None, Result, Ok, Err, List, [], ◌∷◌, ◌++◌, length, take, drop, slice_get, slice_set, find}
 use Rattle.std.specs.Option.{option_map}
-use Rattle.dma_mem.specs.Places.{Descriptor, touches, writes, lies_below}
+use Rattle.dma_mem.specs.Places.{Descriptor, end_of_addresses, last_event, touches, writes, lies_below}
 use Rattle.dma_mem.specs.declared.segment.Segment.{Segment}
 use Rattle.dma_engine.specs.declared.entry.Entry.{Entry}
 use Rattle.dma_engine.specs.declared.entry.Entry.TheVariants.{Wrote, ReadBack, Submitted, Issued, Signalled, Terminated, Marked, Unmarked}
@@ -9,7 +9,7 @@ use Rattle.dma_engine.specs.declared.entry.Signaller.TheVariants.{Host}
 use Rattle.dma_engine.specs.declared.call.Call.{Call}
 use Rattle.dma_engine.specs.declared.call.Call.TheVariants.{Write, Read, Submit, Issue, Pause, Resume, Terminate, Step, Status, Result as ResultOf, Mark, Unmark, Raise, Checkpoint}
 use Rattle.dma_engine.specs.declared.call.Reply.{Reply}
-use Rattle.dma_engine.specs.declared.call.Reply.TheVariants.{Done, Bytes, Cookie, Count, Turned, State, Result as Told, Refused}
+use Rattle.dma_engine.specs.declared.call.Reply.TheVariants.{Done, Bytes, Cookie, Count, Turned, State, Result as Resulted, Refused}
 use Rattle.dma_engine.specs.declared.turn.Status.{Status as EngineStatus}
 use Rattle.dma_engine.specs.declared.turn.Status.TheVariants.{Unknown, InProgress, Complete}
 use Rattle.dma_engine.specs.declared.turn.Turn.{Turn}
@@ -18,14 +18,14 @@ use Rattle.dma_engine.specs.declared.fault.EngineFault.{EngineFault}
 use Rattle.dma_engine.specs.declared.fault.EngineFault.TheVariants.{OutOfMemoryRange, Busy, Running, NoChannel, CookiesSpent, BadEvent, BadRange, NoMemory}
 use Rattle.dma_engine.specs.declared.fault.SubmitFault.{SubmitFault}
 use Rattle.dma_engine.specs.declared.outcome.Outcome.{Outcome}
-use Rattle.dma_engine.specs.Object.{Object, base_from, channel, end_of_addresses, used, finished, unfinished, last_cookie}
+use Rattle.dma_engine.specs.Object.{Object, base_from, channel, used, finished, unfinished, last_cookie}
 use Rattle.dma_chan.specs.Traffic.{stored_after}
 use Rattle.dma_engine.specs.View.{View, RunningTransfer, object_of, schedule_at, size, channels, idle, runs, running}
 use Rattle.dma_engine.specs.Turn.{with_entry, turn}
 
 -- ---- the first cause of a refusal, if any
 
--- this cause if it holds, else the others
+-- this cause if it applies, otherwise the one that the others give
 abbrev pub cause : Bool → EngineFault → Option EngineFault → Option EngineFault
 cause holds fault others = if holds then Some fault else others
 
@@ -68,13 +68,13 @@ abbrev pub checked : Option EngineFault → ℕ → Result ℕ EngineFault
 checked None cookie = Ok cookie
 checked (Some fault) cookie = Err fault
 
--- why a mark is refused: the range is empty or ends above 2 ^ 32 (PL330 manual, 32-bit addresses)
+-- why a mark is refused: the range is empty or ends above 2^32 (PL330 manual, 32-bit addresses)
 abbrev pub mark_fault : Segment → Option EngineFault
 mark_fault s = cause (s.len == 0 || nat_lt end_of_addresses (s.addr + s.len)) BadRange None
 
 -- why a raise is refused: the event is above 31 (PL330 manual, DMASEV and DMAWFE)
 abbrev pub raise_fault : ℕ → Option EngineFault
-raise_fault event = cause (nat_lt 31 event) BadEvent None
+raise_fault event = cause (nat_lt last_event event) BadEvent None
 
 -- why a checkpoint is refused: a transfer runs, and the first one is named
 abbrev pub checkpoint_fault : View → Option EngineFault
@@ -147,7 +147,7 @@ abbrev pub submit_reply : Result ℕ SubmitFault → Reply
 submit_reply (Ok cookie) = Cookie cookie
 submit_reply (Err refused) = Refused refused.fault
 
--- the answer to a call with this fault, if any: a refusal leaves the view unchanged
+-- the answer to a call with this fault, if any: a refusal doesn't change the view
 abbrev pub unless : Option EngineFault → View → Reply × View → Reply × View
 unless (Some fault) v accepted = (Refused fault, v)
 unless None v accepted = accepted
@@ -171,7 +171,7 @@ answer v (Terminate ch) =
     unless (channel_fault v ch) v (Count (unfinished (channel (object_of v) ch)), terminated v ch)
 answer v (Step ch) = (reply_of Turned (turn v ch).0, (turn v ch).1)
 answer v (Status ch cookie) = (State (status_in v ch cookie), v)
-answer v (ResultOf ch cookie) = (Told (result_of (object_of v) ch cookie), v)
+answer v (ResultOf ch cookie) = (Resulted (result_of (object_of v) ch cookie), v)
 answer v (Mark kind segment) = unless (mark_fault segment) v (Done, with_entry v (Marked kind segment))
 answer v Unmark = (Done, with_entry v Unmarked)
 answer v (Raise event) = unless (raise_fault event) v (Done, with_entry v (Signalled Host event))
@@ -194,8 +194,8 @@ abbrev pub takes_memory : View → Call → Bool
 takes_memory v call =
     stores_base v call || (is_started (answer v call).0 || nat_lt (length v.history) (length (answer v call).1.history))
 
--- A call has this reply, and this is the view after it. A call that allocates memory may instead be out of memory; no other cause
--- applies then, and the view is unchanged.
+-- A call has this reply, and this is the view after it. A call that allocates memory may instead be out of memory; then
+-- no other cause applies, and the view is unchanged.
 abbrev pub CallAnswers : View → Call → Reply → View → Type 0
 CallAnswers old call (Refused NoMemory) new = (takes_memory old call ≡ true) × (new ≡ old)
 CallAnswers old call reply new = (reply, new) ≡ answer old call
@@ -223,7 +223,7 @@ abbrev pub has_checkpoint : List Call → List Reply → Bool
 has_checkpoint (call ∷ calls) (reply ∷ replies) = is_checkpoint call reply || has_checkpoint calls replies
 has_checkpoint _ _ = false
 
--- The history begins with the one from before, from the same base.
+-- The new history begins with the old one, and the base is the same.
 abbrev pub Extends : View → View → Type 0
 Extends old new = (new.base ≡ old.base) × ((more : List Entry) × (new.history ≡ old.history ++ more))
 

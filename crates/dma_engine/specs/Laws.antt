@@ -41,7 +41,7 @@ pub record Adds (old new : View) (more : List Tick) (moves finishes : ℕ) : Typ
   pub finished : finished_all (object_of new) ≡ finished_all (object_of old) + finishes
 
 -- The ticks, the step count and the number of finished cookies are the same.
-pub record Still (old new : View) : Type 0 where
+pub record SameCounts (old new : View) : Type 0 where
   pub ticks : ticks_of new.history ≡ ticks_of old.history
   pub steps : new.steps ≡ old.steps
   pub finished : finished_all (object_of new) ≡ finished_all (object_of old)
@@ -54,26 +54,26 @@ IsQuiet (Step ch) = ⊥
 IsQuiet Checkpoint = ⊥
 IsQuiet _ = Unit {0}
 
--- After any call that is not an accepted checkpoint, the history begins with the one from before, from the same base.
+-- After any call that is not an accepted checkpoint, the new history begins with the old one, and the base is the same.
 abbrev pub CallsExtend : Type 0
 CallsExtend =
     (v w : View) (call : Call) (reply : Reply) → is_checkpoint call reply ≡ false → CallAnswers v call reply w → Extends v w
 
 -- After a quiet call, whatever its reply, the ticks, the step count and the number of finished cookies are the same.
-abbrev pub QuietCallsKeep : Type 0
-QuietCallsKeep = (v w : View) (call : Call) (reply : Reply) → IsQuiet call → CallAnswers v call reply w → Still v w
+abbrev pub QuietCallsKeepCounts : Type 0
+QuietCallsKeepCounts = (v w : View) (call : Call) (reply : Reply) → IsQuiet call → CallAnswers v call reply w → SameCounts v w
 
 -- An accepted submit adds its tick and no step or finished cookie. Its channel exists, and its cookie, which is above
 -- 0, is the last one that the channel has given.
-abbrev pub SubmitsGive : Type 0
-SubmitsGive =
+abbrev pub SubmitsAdd : Type 0
+SubmitsAdd =
     (v w : View) (ch cookie : ℕ) (t : Descriptor) → CallAnswers v (Submit ch t) (Cookie cookie) w
     → Adds v w (Submitted ch ∷ []) 0 0 × (ch < channels w) × (0 < cookie) × (cookie ≡ used (channel (object_of w) ch))
 
 -- An accepted terminate adds its tick. It finishes as many cookies as were unfinished, and then all cookies of the
 -- channel, which exists, are finished.
-abbrev pub TerminatesFinish : Type 0
-TerminatesFinish =
+abbrev pub TerminatesAdd : Type 0
+TerminatesAdd =
     (v w : View) (ch count : ℕ) → CallAnswers v (Terminate ch) (Count count) w
     → Adds v w (Finished ch count ∷ []) 0 count × (ch < channels w) × (count ≡ unfinished (channel (object_of v) ch))
     × (used (channel (object_of w) ch) ≤ finished (channel (object_of w) ch))
@@ -98,10 +98,10 @@ CheckpointsKeep =
     → (w.history ≡ []) × (board_of w.base ≡ board_of (object_of v)) × (w.steps ≡ v.steps)
     × (finished_all (object_of w) ≡ finished_all (object_of v))
 
--- Over calls without an accepted checkpoint the history begins with the one from before, from the same base, and no
+-- After calls without an accepted checkpoint, the new history begins with the old one, the base is the same, and no
 -- known outcome changes. The calls between two checkpoints of a longer list are such a list.
-abbrev pub StretchesKeep : Type 0
-StretchesKeep =
+abbrev pub CallsKeepOutcomes : Type 0
+CallsKeepOutcomes =
     (v w : View) (calls : List Call) (replies : List Reply) → has_checkpoint calls replies ≡ false
     → AreAnswers v calls replies w → Extends v w × KeepsOutcomes v w
 
@@ -116,20 +116,20 @@ StatusByTicks =
     → status_in v ch cookie ≡ status_of (board_after (board_of v.base) (ticks_of v.history)) ch cookie
 
 -- The base of a sound view has at most 8 channels, with counts for each, and no count above the last cookie.
-abbrev pub BoardsOpen : Type 0
-BoardsOpen =
+abbrev pub BaseCountsBounded : Type 0
+BaseCountsBounded =
     (v : View) → IsSound v
     → (length (board_of v.base) ≡ channels v) × (channels v ≤ 8)
     × ((ch : ℕ)
     → ((counts (board_of v.base) ch).used ≤ last_cookie) × ((counts (board_of v.base) ch).finished ≤ last_cookie))
 
 -- Each tick of a sound view's history is that of a channel that exists.
-abbrev pub TicksAreThere : Type 0
-TicksAreThere = (v : View) → IsSound v → All (λ t. tick_channel t < channels v) (ticks_of v.history)
+abbrev pub TicksNameChannels : Type 0
+TicksNameChannels = (v : View) → IsSound v → All (λ t. tick_channel t < channels v) (ticks_of v.history)
 
 -- A history has no more ticks than entries.
-abbrev pub TicksAreFew : Type 0
-TicksAreFew = (es : List Entry) → length (ticks_of es) ≤ length es
+abbrev pub TicksAtMostEntries : Type 0
+TicksAtMostEntries = (es : List Entry) → length (ticks_of es) ≤ length es
 
 -- If the answer to a step is idle, the view is unchanged.
 abbrev pub IdleStepsStay : Type 0
@@ -197,13 +197,13 @@ abbrev pub AnswersAreAnswers : Type 0
 AnswersAreAnswers = (v : View) (calls : List Call) → AreAnswers v calls (answers v calls).0 (answers v calls).1
 
 -- A reply other than out of memory, and its view, are those with enough memory.
-abbrev pub AnswerDespiteMemory : Type 0
-AnswerDespiteMemory =
+abbrev pub AnswerUnlessNoMemory : Type 0
+AnswerUnlessNoMemory =
     (v w : View) (call : Call) (reply : Reply) → reply ≢ Refused NoMemory → CallAnswers v call reply w
     → (reply, w) ≡ answer v call
 
 -- Replies without an out of memory are those with enough memory, and so is the view after them.
-abbrev pub AnswersDespiteMemory : Type 0
-AnswersDespiteMemory =
+abbrev pub AnswersUnlessNoMemory : Type 0
+AnswersUnlessNoMemory =
     (v w : View) (calls : List Call) (replies : List Reply) → All (λ r. r ≢ Refused NoMemory) replies
     → AreAnswers v calls replies w → (replies, w) ≡ answers v calls

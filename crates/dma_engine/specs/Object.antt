@@ -1,8 +1,8 @@
--- The single-threaded object that a DMA controller is, and for each entry of its history what it requires of the object
--- and how it changes it.
+-- The single-threaded object that models a DMA controller; for each entry of its history, what the entry requires of
+-- the object and how it changes it.
 use Rattle.std.specs.Prelude.{◌≡◌, ℕ, ◌+◌, ◌-◌, ◌<◌, ◌≤◌, if◌then◌else◌, Bool, true, false, nat_lt, Option, Some, None, IsSome, IsSomeAnd, MatchOption, unwrap_or, List, [], ◌∷◌, ◌++◌, length, map, take, drop, replicate, slice_get, slice_index_or, slice_set}
 use Rattle.std.specs.List.{All, sum_by}
-use Rattle.dma_mem.specs.Places.{Descriptor, lies_below, size_of, sources, destinations}
+use Rattle.dma_mem.specs.Places.{Descriptor, end_of_addresses, last_event, lies_below, size_of, sources, destinations}
 use Rattle.dma_mem.specs.Rules.{IsTransfer}
 use Rattle.dma_mem.specs.Image.{put, bytes_at, laid}
 use Rattle.dma_mem.specs.declared.segment.Segment.{Segment}
@@ -125,11 +125,7 @@ CanHaveStored c done =
     (done ≤ size_of t) × (c.halted ≡ true → done ≡ 0) × (IsSome t.wait → c.passed ≡ false → done ≡ 0)
     × (c.signalled ≡ true → done ≡ size_of t))
 
--- one past the last address (PL330 manual, 32-bit address registers)
-abbrev pub end_of_addresses : ℕ
-end_of_addresses = 4294967296
-
--- a range that can be marked: it isn't empty, and ends at 2 ^ 32 or below
+-- a range that can be marked: it isn't empty, and ends at 2^32 or below (PL330 manual, SAR and DAR)
 abbrev pub IsMark : Segment → Type 0
 IsMark s = (0 < s.len) × (s.addr + s.len ≤ end_of_addresses)
 
@@ -148,7 +144,7 @@ Allows o (Passed ch event) =
 Allows o (Signalled (Channel ch) event) =
     FrontIs (channel o ch) (λ t.
     HasPassed (channel o ch) t × (t.signal ≡ Some event) × ((channel o ch).signalled ≡ false))
-Allows o (Signalled Host event) = event ≤ 31
+Allows o (Signalled Host event) = event ≤ last_event
 Allows o (Finished ch NoError done) =
     FrontIs (channel o ch) (λ t. HasPassed (channel o ch) t × HasSignalled (channel o ch) t × (done ≡ size_of t))
 Allows o (Finished ch ReadFailed done) = CanFail o (channel o ch) Reading sources done
@@ -213,7 +209,7 @@ with_all_aborted c done =
       halted = false;
     }
 
--- The object after an entry. Everything that isn't mentioned stays the same.
+-- The object after an entry. Everything that isn't mentioned is unchanged.
 abbrev pub after : Object → Entry → Object
 after o (Wrote addr bytes) = record o { image = put o.image (bytes_at addr bytes) }
 after o (ReadBack addr bytes) = o

@@ -22,9 +22,9 @@ pub record HasRoom (e : EngineState) (ch : ℕ) : Type 0 where
   pub cookie : 0 < (room_on e.room ch).indices
   pub outcomes : unfinished (channel (object_of e.view) ch) ≤ (room_on e.room ch).outcomes
 
--- The lists of entries, of indices and of outcomes have no room: what they don't need was freed.
-abbrev pub HasGivenBack : EngineState → Type 0
-HasGivenBack e = (e.room.entries ≡ 0) × ((ch : ℕ) → room_on e.room ch ≡ no_room)
+-- The lists of entries, indices and outcomes have no room: memory that they don't need is freed.
+abbrev pub HasNoSpare : EngineState → Type 0
+HasNoSpare e = (e.room.entries ≡ 0) × ((ch : ℕ) → room_on e.room ch ≡ no_room)
 
 -- The result of a step that changed nothing: a refusal, or a turn that neither starts, moves nor finishes.
 abbrev pub IsIdle : Result Turn EngineFault → Type 0

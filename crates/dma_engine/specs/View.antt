@@ -71,14 +71,14 @@ pub record RunningTransfer : Type 0 where
   pub taken : ℕ
 
 -- what runs on a channel in this state, if its front has executed this number of instructions
-abbrev pub runs_there : ℕ → ChannelState → Option ℕ → Option RunningTransfer
-runs_there ch c None = None
-runs_there ch c (Some taken) =
+abbrev pub running_in : ℕ → ChannelState → Option ℕ → Option RunningTransfer
+running_in ch c None = None
+running_in ch c (Some taken) =
     option_map (λ t. record { ch = ch; cookie = finished c + 1; transfer = t; taken = taken }) (front c)
 
 -- what runs on a channel
 abbrev pub runs : Object → List ChannelSchedule → ℕ → Option RunningTransfer
-runs o schedule ch = runs_there ch (channel o ch) (slice_index_or schedule ch idle).taken
+runs o schedule ch = running_in ch (channel o ch) (slice_index_or schedule ch idle).taken
 
 -- the running transfers, from the lowest channel on
 unfoldable pub running : Object → List ChannelSchedule → List RunningTransfer
@@ -88,7 +88,7 @@ running o schedule = filter_map (runs o schedule) (range_with_len 0 (length o.ch
 abbrev pub with_stored : RunningTransfer → Descriptor × ℕ
 with_stored r = (r.transfer, stored_after r.transfer r.taken)
 
--- The memory: the image, with the bytes that running transfers have stored laid over their own destinations.
+-- the memory: the image, with the bytes that running transfers have stored so far, each at its destination
 abbrev pub memory_shown : Object → List ChannelSchedule → List ℕ
 memory_shown o schedule = over o.image (map with_stored (running o schedule))
 

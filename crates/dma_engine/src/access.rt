@@ -26,7 +26,8 @@ pub enum Access<'a> {
 impl Access<'_> {
     /// Returns whether a running transfer with these ranges conflicts with `self`.
     pub fn conflicts_with(&self, ranges: &Ranges) -> bool
-        ensures { (t : Descriptor) → HasRangesOf ranges.now t → result ≡ conflicts self.now t }
+        ensures { (t : Descriptor) → HasRangesOf ranges.now t
+            → result ≡ conflicts self.now t }
     {
         let Ranges {
             sources,

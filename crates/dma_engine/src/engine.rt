@@ -32,7 +32,7 @@ mod queue_calls;
 mod steps;
 mod totals;
 
-/// The most channels that an engine has (PL330 manual, the number of channel threads is configurable).
+/// The most channels that an engine can have (PL330 manual: the number of channel threads is configurable).
 pub const MAX_CHANNELS: u8 = 8;
 
 /// Queues of transfers on channels over one memory. Contracts see its base, its history, its step count, its schedule
@@ -123,9 +123,8 @@ impl Engine {
         self.steps
     }
 
-    /// What was done since the last checkpoint, or since the engine was made, in order. The history is legal from the
-    /// base, and the memory is its image, with the bytes that running transfers have stored laid over their own
-    /// destinations.
+    /// Returns what was done since the last checkpoint, or since the engine was made, in order. The history is legal
+    /// from the base, and the memory is its image with the bytes that running transfers have stored so far.
     pub fn history(&self) -> &[Entry]
         ensures entries { result.now ≡ self.now.view.history }
         ensures sound { IsSound self.now.view }

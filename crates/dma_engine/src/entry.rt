@@ -60,7 +60,7 @@ pub enum Entry {
         /// The event.
         event: u8,
     },
-    /// The front of a channel finished, without a call to `terminate`.
+    /// The front of a channel finished by a step, not by a call to `terminate`.
     Finished {
         /// The channel.
         ch: u8,

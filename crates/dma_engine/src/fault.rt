@@ -15,7 +15,7 @@ pub enum EngineFault {
     #[error("a range ends above the memory's size")]
     OutOfMemoryRange,
     /// A running transfer conflicts with the call. The fields name the one on the lowest such channel.
-    #[error("a running transfer is in the way")]
+    #[error("a running transfer conflicts with it")]
     Busy {
         /// Its channel.
         ch: u8,

@@ -1,15 +1,15 @@
 //! Laws of the engine's answers, for the layers above. Each law is the postcondition of a function that does nothing.
 
-ghost use Rattle.dma_engine.specs.Laws.{CallsExtend, StretchesKeep, QuietCallsKeep, CheckpointsKeep, SubmitsGive, TerminatesFinish, StepsAdd, EndsByTurn, BoardsCount, StatusByTicks, BoardsOpen, TicksAreThere, TicksAreFew, IdleStepsStay, NewViewsAreSound, AnswersStaySound, CallsStaySound, AnswersOne, AnswersAppend, AnswersSplit, AnswerIsOne, AnswersAreAnswers, AnswerDespiteMemory, AnswersDespiteMemory};
+ghost use Rattle.dma_engine.specs.Laws.{CallsExtend, CallsKeepOutcomes, QuietCallsKeepCounts, CheckpointsKeep, SubmitsAdd, TerminatesAdd, StepsAdd, EndsByTurn, BoardsCount, StatusByTicks, BaseCountsBounded, TicksNameChannels, TicksAtMostEntries, IdleStepsStay, NewViewsAreSound, AnswersStaySound, CallsStaySound, AnswersOne, AnswersAppend, AnswersSplit, AnswerIsOne, AnswersAreAnswers, AnswerUnlessNoMemory, AnswersUnlessNoMemory};
 
 /// What each call adds to the ticks, to the step count and to the number of finished cookies.
 pub fn calls_add()
     ensures extends { CallsExtend }
-    ensures stretches { StretchesKeep }
-    ensures quiet { QuietCallsKeep }
+    ensures outcomes { CallsKeepOutcomes }
+    ensures quiet { QuietCallsKeepCounts }
     ensures checkpoint { CheckpointsKeep }
-    ensures submit { SubmitsGive }
-    ensures terminate { TerminatesFinish }
+    ensures submit { SubmitsAdd }
+    ensures terminate { TerminatesAdd }
     ensures step { StepsAdd }
     ensures ends { EndsByTurn }
 {}
@@ -18,9 +18,9 @@ pub fn calls_add()
 pub fn ticks_add_up()
     ensures board { BoardsCount }
     ensures status { StatusByTicks }
-    ensures opening { BoardsOpen }
-    ensures there { TicksAreThere }
-    ensures few { TicksAreFew }
+    ensures opening { BaseCountsBounded }
+    ensures there { TicksNameChannels }
+    ensures few { TicksAtMostEntries }
 {}
 
 /// A step whose answer is idle leaves the view unchanged, so the next step gives the same answer.
@@ -47,6 +47,6 @@ pub fn answers_add()
 pub fn answers_with_memory()
     ensures answer { AnswerIsOne }
     ensures answers { AnswersAreAnswers }
-    ensures only_answer { AnswerDespiteMemory }
-    ensures only_answers { AnswersDespiteMemory }
+    ensures only_answer { AnswerUnlessNoMemory }
+    ensures only_answers { AnswersUnlessNoMemory }
 {}

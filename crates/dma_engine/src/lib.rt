@@ -6,9 +6,10 @@
 //!
 //! Proved: for every list of calls and single steps ([`run::run`]) each reply is that of a single-threaded object at
 //! its place in the stored history (`answers`). The history is legal (`sound`, `views`) and, up to a checkpoint, begins
-//! with the one before (`begins`). An outcome never changes (`kept`), but a checkpoint may forget it (`remembers`). The
-//! memory is the history's image with the bytes that running transfers have stored laid over it (`memory`). Each method
-//! has the same contract for its call, and `advance` for many steps. [`laws`] lists what follows for lists of calls.
+//! with the history from before (`begins`). An outcome never changes (`kept`), but a checkpoint may forget it
+//! (`remembers`). The memory is the history's image with the bytes that running transfers have stored so far
+//! (`memory`). Each method has the same contract for its call, and `advance` for many steps. [`laws`] lists what
+//! follows for lists of calls.
 //!
 //! Not proved: that an allocation succeeds; which pages are made beyond those that are needed.
 #![tactic(auto)]

@@ -17,7 +17,10 @@ impl<T> Model for SpareVec<T> {
 
     ghost Value = { SpareList T };
 
-    ghost view = { λ l. record { items = l.items.items; spare = vec_capacity l.items - vec_len l.items } };
+    ghost view = { λ l. record {
+      items = l.items.items;
+      spare = vec_capacity l.items - vec_len l.items;
+    } };
 }
 
 impl<T> SpareVec<T> {

@@ -20,8 +20,7 @@ pub fn run(alloc: Global, engine: &mut Engine, calls: &[Call]) -> Result<Vec<Rep
     // The view is sound before and after each call.
     ensures views { IfOk result (λ replies. AreSoundAnswers engine.old.view calls.now replies.items
         engine.new.view) }
-    // If no checkpoint among the calls was accepted, the history begins with the one from before, and no outcome
-    // changes.
+    // If no checkpoint among the calls was accepted, the new history begins with the old one, and no outcome changes.
     ensures begins { IfOk result (λ replies. has_checkpoint calls.now replies.items ≡ false
         → Extends engine.old.view engine.new.view) }
     ensures kept { IfOk result (λ replies. has_checkpoint calls.now replies.items ≡ false

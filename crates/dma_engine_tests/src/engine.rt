@@ -1,5 +1,5 @@
-//! What no script asks: what an engine reports, its history, an end before its step, a transfer that is handed
-//! back, and lists of calls. The rows of `tests/run/engine_*.test` have the rest.
+//! What no script shows: what an engine reports, its history, a finish that is known before its step, a transfer that a
+//! refused submit returns, and lists of calls. The rows of `tests/run/engine_*.test` have the rest.
 
 use crate::engine_lines::Answer::{Advanced, Count, Done, Four, Refused, State, Turned};
 use crate::engine_lines::Ask::{
@@ -7,8 +7,8 @@ use crate::engine_lines::Ask::{
     Unmark, Write,
 };
 use crate::engine_lines::{
-    Answer, COPIED, CopyOfFour, READ_FAILED, answer_of, copy, engine_after, go_through, said,
-    segment, told,
+    Answer, COPIED, CopyOfFour, READ_FAILED, answer_of, copy, engine_after, execute_lines,
+    fields_of, observed, segment,
 };
 use dma_engine::call::{Call, Reply};
 use dma_engine::engine::Engine;
@@ -22,7 +22,8 @@ use std::alloc::Global;
 use std::process::Abort;
 use std::test::Fail;
 
-// Two copies on channel 0, of which the first waits and signals and is before its end, and one on channel 1.
+// Submits two copies on channel 0 and one on channel 1, and steps channel 0 until the first copy is about to finish.
+// That copy waits for an event and signals one.
 fn before_an_end(alloc: Global, engine: &mut Engine) -> Result<(), Fail> {
     let with_events = CopyOfFour(0x100, 0x200, (Some(3), Some(5)));
     let lines = [
@@ -43,10 +44,10 @@ fn before_an_end(alloc: Global, engine: &mut Engine) -> Result<(), Fail> {
         // the wait, seven instructions and the signal
         (Advance(0, 9), Advanced(None, 9, None)),
     ];
-    go_through(alloc, engine, &lines)
+    execute_lines(alloc, engine, &lines)
 }
 
-// Then its end, and that of the second.
+// Finishes the first copy and then the second.
 fn after_both_ends(alloc: Global, engine: &mut Engine) -> Result<(), Fail> {
     let lines = [
         (Advance(0, 9), Advanced(None, 0, Some(Ok(COPIED)))),
@@ -54,10 +55,10 @@ fn after_both_ends(alloc: Global, engine: &mut Engine) -> Result<(), Fail> {
         (Read(0x200, 4), Four([1, 2, 3, 4])),
         (Terminate(0), Count(1)),
     ];
-    go_through(alloc, engine, &lines)
+    execute_lines(alloc, engine, &lines)
 }
 
-fn has_that_history(engine: &Engine) -> bool {
+fn has_expected_history(engine: &Engine) -> bool {
     let wanted: [(&'static str, [u32; 3], &'static [u8]); 14] = [
         ("wrote", [0x100, 0, 0], &[1, 2, 3, 4]),
         ("marked for reads", [0x180, 2, 0], &[]),
@@ -75,16 +76,16 @@ fn has_that_history(engine: &Engine) -> bool {
         ("terminated", [0, 0, 1], &[]),
     ];
     for (entry, other) in engine.history().iter().zip(wanted.iter()) {
-        if said(entry) != *other {
+        if fields_of(entry) != *other {
             return false;
         }
     }
     engine.history().len() == wanted.len()
 }
 
-// Whether an engine reports these counts for an idle channel.
+// Returns whether an engine reports these counts for an idle channel.
 fn rests(engine: &Engine, ch: u8, counts: [u32; 5]) -> bool {
-    told(engine, ch) == (counts, [false; 3], None)
+    observed(engine, ch) == (counts, [false; 3], None)
 }
 
 #[test]
@@ -97,9 +98,9 @@ fn an_engine_reports_what_was_done(rt: HostRuntime) -> Result<(), Fail> {
         stored: 4,
     };
     let before = ([2, 0, 2, 0, 0], [false, false, true], Some(running));
-    assert!(rt; told(&engine, 0) == before);
+    assert!(rt; observed(&engine, 0) == before);
     after_both_ends(rt.alloc(), &mut engine)?;
-    assert!(rt; has_that_history(&engine));
+    assert!(rt; has_expected_history(&engine));
     assert!(rt; rests(&engine, 0, [2, 2, 0, 0, 0]));
     assert!(rt; (engine.steps(), engine.finished_all()) == (10, 2));
     assert!(rt; engine.status(0, 2) == Status::Complete);
@@ -108,7 +109,7 @@ fn an_engine_reports_what_was_done(rt: HostRuntime) -> Result<(), Fail> {
     Ok(())
 }
 
-// A checkpoint forgets it; a pause is known.
+// Checks that a checkpoint forgets the finished cookies, and that a pause is reported.
 fn forgets(rt: &impl Abort, engine: &mut Engine) {
     assert!(rt; engine.checkpoint() == Ok(()));
     assert!(rt; engine.history().is_empty());
@@ -123,7 +124,7 @@ fn forgets(rt: &impl Abort, engine: &mut Engine) {
     assert!(rt; rests(engine, 1, [1, 0, 1, 0, 1]));
 }
 
-// An engine whose one copy is issued.
+// Returns an engine with one issued copy.
 fn issued(alloc: Global) -> Result<Engine, Fail> {
     let lines = [
         (Submit(0, copy(0x100, 0x200)), Count(1)),
@@ -132,7 +133,7 @@ fn issued(alloc: Global) -> Result<Engine, Fail> {
     engine_after(alloc, 0x400, &lines)
 }
 
-// Whether steps that end nothing answer this.
+// Returns whether the next steps have these results, none of which is a finish.
 fn goes_on(engine: &mut Engine, turns: &[Turn]) -> bool {
     for turn in turns {
         if engine.ending(0) || engine.step_unless_ending(0) != Some(Ok(*turn)) {
@@ -142,7 +143,7 @@ fn goes_on(engine: &mut Engine, turns: &[Turn]) -> bool {
     true
 }
 
-// Whether the next step ends the copy so, and isn't taken unless it may.
+// Returns whether the next step finishes the copy with this result, and is taken only by `step`.
 fn ends(engine: &mut Engine, end: Turn) -> bool {
     engine.ending(0)
         && engine.step_unless_ending(0).is_none()
@@ -172,9 +173,9 @@ fn a_failing_burst_is_known_as_an_end(rt: HostRuntime) -> Result<(), Fail> {
     Ok(())
 }
 
-// The transfer that is handed back is compared where its line is carried out.
+// `go_through` compares the returned transfer with the submitted one.
 #[test]
-fn a_refused_transfer_is_handed_back(rt: HostRuntime) -> Result<(), Fail> {
+fn a_refused_submit_returns_the_transfer(rt: HostRuntime) -> Result<(), Fail> {
     let above = copy(0, 13);
     let fits = copy(0, 12);
     let is_above = Refused(EngineFault::OutOfMemoryRange);
@@ -193,7 +194,7 @@ fn a_refused_transfer_is_handed_back(rt: HostRuntime) -> Result<(), Fail> {
     Ok(())
 }
 
-// The replies to calls of the host on memory, marks and events.
+// Returns the replies to calls of the host on memory, marks and events.
 fn host_replies(alloc: Global, engine: &mut Engine) -> Result<Vec<Reply>, Fail> {
     let bytes = Bytes::from_slice(alloc, &[1, 2, 3, 4])?;
     let kind = Reading;
@@ -208,7 +209,7 @@ fn host_replies(alloc: Global, engine: &mut Engine) -> Result<Vec<Reply>, Fail> 
     Ok(run(alloc, engine, &calls).ok().ok_or("no memory")?)
 }
 
-// Those to calls that start a copy and end it, with checkpoints before and behind its end.
+// Returns the replies to calls that start and finish a copy, with checkpoints before and after its finish.
 fn copy_replies(alloc: Global, engine: &mut Engine) -> Result<Vec<Reply>, Fail> {
     let transfer = copy(0x10, 0x20).transfer(alloc)?;
     let calls = [

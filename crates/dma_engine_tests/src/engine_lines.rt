@@ -1,4 +1,4 @@
-//! Calls on an engine with what each must answer, carried out one after another, and what an engine reports.
+//! Calls on an engine with their expected answers, executed in order, and what an engine reports.
 
 use dma_engine::call::Reply;
 use dma_engine::engine::Engine;
@@ -13,14 +13,14 @@ use dma_mem::transfer::{Transfer, TransferFault};
 use std::alloc::Global;
 use std::test::Fail;
 
-/// The first cookie finishes, with all its bytes copied.
+/// The first cookie finishes with all its bytes copied.
 pub const COPIED: Turn = Turn::Finished {
     cookie: 1,
     result: TransResult::NoError,
     residue: 0,
 };
 
-/// The first cookie finishes by a load that fails, four bytes before its end.
+/// The first cookie finishes with four bytes not copied, because a load failed.
 pub const READ_FAILED: Turn = Turn::Finished {
     cookie: 1,
     result: TransResult::ReadFailed,
@@ -33,13 +33,13 @@ pub const READ_FAILED: Turn = Turn::Finished {
 pub struct CopyOfFour(pub u32, pub u32, pub (Option<u8>, Option<u8>));
 
 impl CopyOfFour {
-    /// The transfer.
+    /// Returns the transfer.
     pub fn transfer(self, alloc: Global) -> Result<Transfer, TransferFault> {
         let CopyOfFour(src, dst, (wait, signal)) = self;
         Transfer::new(alloc, &[segment(src, 4)], &[segment(dst, 4)], wait, signal)
     }
 
-    // Whether a transfer is this one.
+    // Returns whether a transfer is this one.
     fn is(self, transfer: &Transfer) -> bool {
         let CopyOfFour(src, dst, events) = self;
         transfer.src() == [segment(src, 4)].as_slice()
@@ -48,7 +48,7 @@ impl CopyOfFour {
     }
 }
 
-/// The copy that neither waits nor signals.
+/// Returns a copy that neither waits nor signals.
 pub fn copy(src: u32, dst: u32) -> CopyOfFour {
     CopyOfFour(src, dst, (None, None))
 }
@@ -63,7 +63,7 @@ pub enum Ask {
     Write(u32, &'static [u8]),
     WriteOwned(u32, &'static [u8]),
     Read(u32, u32),
-    /// A read whose bytes are looked for in the history.
+    /// A read whose bytes are taken from the history.
     ReadBack(u32, u32),
     Mark(MarkKind, Segment),
     Unmark,
@@ -76,36 +76,35 @@ pub enum Ask {
     Terminate(u8),
     MakeRoom(u8),
     Step(u8),
-    /// Steps of a channel in a row, at most this many.
+    /// Consecutive steps of a channel, at most this many.
     Advance(u8, u32),
     Checkpoint,
 }
 
-/// What a call answers.
+/// The answer to a call.
 #[derive(Clone, Copy, Debug, PartialEq)]
 pub enum Answer {
     Done,
     /// Four bytes were read.
     Four([u8; 4]),
-    /// Another number of bytes was read, or another transfer was handed back than was submitted.
+    /// Another number of bytes was read, or a refused submit returned another transfer.
     Other,
     /// A cookie, or how many cookies were issued or aborted.
     Count(u32),
     Turned(Turn),
-    /// The cookie that the first step started, if it did, how many steps moved after it, and what the step after them
-    /// answered, if there was one.
+    /// The cookie that the first step started, if any; how many steps moved after it; and the result of the step after
+    /// them, if any.
     Advanced(Option<u32>, u32, Option<Result<Turn, EngineFault>>),
     State(Status),
     Result(Option<Outcome>),
     Refused(EngineFault),
 }
 
-/// A call with what it must answer.
+/// A call with its expected answer.
 pub type Line = (Ask, Answer);
 
-/// Carries lines out. The error is that one isn't answered as it must be, or that a transfer to be submitted can't be
-/// made.
-pub fn go_through(alloc: Global, engine: &mut Engine, lines: &[Line]) -> Result<(), Fail> {
+/// Executes lines. Fails if an answer isn't the expected one, or if a transfer can't be made.
+pub fn execute_lines(alloc: Global, engine: &mut Engine, lines: &[Line]) -> Result<(), Fail> {
     for (index, (ask, wanted)) in lines.iter().enumerate() {
         let answer = answer_to(alloc, engine, *ask)?;
         if answer != *wanted {
@@ -115,14 +114,14 @@ pub fn go_through(alloc: Global, engine: &mut Engine, lines: &[Line]) -> Result<
     Ok(())
 }
 
-/// A new engine of two channels that has carried lines out.
+/// Returns a new engine of two channels that has executed lines.
 pub fn engine_after(alloc: Global, size: u32, lines: &[Line]) -> Result<Engine, Fail> {
     let mut engine = Engine::new(alloc, size, 2)?;
-    go_through(alloc, &mut engine, lines)?;
+    execute_lines(alloc, &mut engine, lines)?;
     Ok(engine)
 }
 
-/// What a call answers. The error is that a transfer to be submitted can't be made.
+/// Makes a call, and returns its answer. Fails if its transfer can't be made.
 pub fn answer_to(alloc: Global, engine: &mut Engine, ask: Ask) -> Result<Answer, Fail> {
     Ok(match ask {
         Ask::Write(addr, bytes) => done(engine.write(addr, bytes)),
@@ -194,7 +193,7 @@ fn read_back(engine: &mut Engine, addr: u32, len: u32) -> Answer {
     }
 }
 
-// What the submit of a transfer answers, which must be handed back where it is refused.
+// Returns the answer to a submit. If it is refused, it must return the transfer.
 fn submits(engine: &mut Engine, ch: u8, copy: CopyOfFour, transfer: Transfer) -> Answer {
     match engine.submit(ch, transfer) {
         Ok(cookie) => Answer::Count(cookie),
@@ -203,7 +202,7 @@ fn submits(engine: &mut Engine, ch: u8, copy: CopyOfFour, transfer: Transfer) ->
     }
 }
 
-/// What a reply says.
+/// Returns the answer that a reply gives.
 pub fn answer_of(reply: &Reply) -> Answer {
     match reply {
         Reply::Done => Answer::Done,
@@ -216,10 +215,9 @@ pub fn answer_of(reply: &Reply) -> Answer {
     }
 }
 
-/// What an engine reports about a channel: how many cookies were given, are finished, aren't, were forgotten by the
-/// last checkpoint, and had been given before it; whether the channel is paused, halted, and before an end; and what
-/// runs.
-pub fn told(engine: &Engine, ch: u8) -> ([u32; 5], [bool; 3], Option<Running>) {
+/// Returns what an engine reports about a channel: how many cookies are given, finished, unfinished, forgotten by the
+/// last checkpoint, and given before it; whether the channel is paused, halted, and about to finish; and what runs.
+pub fn observed(engine: &Engine, ch: u8) -> ([u32; 5], [bool; 3], Option<Running>) {
     let counts = [
         engine.used(ch),
         engine.finished(ch),
@@ -231,8 +229,8 @@ pub fn told(engine: &Engine, ch: u8) -> ([u32; 5], [bool; 3], Option<Running>) {
     (counts, states, engine.running(ch))
 }
 
-/// What an entry of a history says: its kind, numbers, and bytes.
-pub fn said(entry: &Entry) -> (&'static str, [u32; 3], &[u8]) {
+/// Returns an entry of a history as its kind, its numbers and its bytes.
+pub fn fields_of(entry: &Entry) -> (&'static str, [u32; 3], &[u8]) {
     match entry {
         Entry::Wrote { addr, bytes } => ("wrote", [*addr, 0, 0], bytes.as_slice()),
         Entry::ReadBack { addr, bytes } => ("read", [*addr, 0, 0], bytes.as_slice()),

@@ -1,8 +1,8 @@
-//! Calls on an engine whose memory is refused, and which are then made once more. `tests/refuse_calls` refuses each
-//! request of these tests in turn, and wants each row to meet a refusal; with ample memory none does.
+//! Calls on an engine that run out of memory, and are then made once more. `tests/refuse_calls` refuses each allocation
+//! of these tests in turn, and requires that each row meets a refusal; with ample memory none does.
 //!
-//! Beside the engine under test is another, which gets all calls but the refused one. While both report the same, that
-//! call has changed nothing; they report the same again once each got the call with memory.
+//! Another engine gets all calls but the refused one. As long as both engines report the same, the refused call has
+//! changed nothing; they report the same again once each has executed the call.
 
 use crate::engine_lines::Answer::{Advanced, Count, Done, Four, Turned};
 use crate::engine_lines::Ask::{
@@ -10,8 +10,8 @@ use crate::engine_lines::Ask::{
     SubmitOverPages, Terminate, Unmark, Write, WriteOwned,
 };
 use crate::engine_lines::{
-    Answer, Ask, COPIED, CopyOfFour, Line, READ_FAILED, answer_to, copy, engine_after, go_through,
-    said, segment, told,
+    Answer, Ask, COPIED, CopyOfFour, Line, READ_FAILED, answer_to, copy, engine_after,
+    execute_lines, fields_of, observed, segment,
 };
 use dma_engine::engine::Engine;
 use dma_engine::fault::{EngineFault, NewFault};
@@ -21,7 +21,7 @@ use std::alloc::Global;
 use std::process::Abort;
 use std::test::Fail;
 
-// Whether two engines report the same about a channel.
+// Returns whether two engines report the same about a channel.
 fn report_the_same_of(this: &Engine, that: &Engine, ch: u8) -> bool {
     for cookie in 1..5 {
         if this.status(ch, cookie) != that.status(ch, cookie)
@@ -30,13 +30,13 @@ fn report_the_same_of(this: &Engine, that: &Engine, ch: u8) -> bool {
             return false;
         }
     }
-    told(this, ch) == told(that, ch)
+    observed(this, ch) == observed(that, ch)
 }
 
-/// Whether two engines report the same, except for the bytes of their memories.
+/// Returns whether two engines report the same, except for the bytes of their memories.
 pub fn report_the_same(this: &Engine, that: &Engine) -> bool {
     for (entry, other) in this.history().iter().zip(that.history().iter()) {
-        if said(entry) != said(other) {
+        if fields_of(entry) != fields_of(other) {
             return false;
         }
     }
@@ -55,14 +55,14 @@ fn report_the_same_of_all(this: &Engine, that: &Engine) -> bool {
     true
 }
 
-/// The engine that is asked, and the one beside it.
+/// The engine under test, and the one to compare it with.
 #[derive(Drop)]
 pub struct Pair {
     pub asked: Engine,
     pub other: Engine,
 }
 
-/// Whether their memories have the same bytes, by a read of each, which both histories then have.
+/// Returns whether both memories have the same bytes. It reads both, which adds an entry to both histories.
 pub fn have_same_bytes(pair: &mut Pair) -> Result<bool, Fail> {
     let size = pair.asked.size();
     let these = pair.asked.read(0, size)?;
@@ -70,7 +70,7 @@ pub fn have_same_bytes(pair: &mut Pair) -> Result<bool, Fail> {
     Ok(these.as_slice() == those.as_slice())
 }
 
-// Ends what is unfinished on channel 0 of both, which must then report the same and have the same bytes.
+// Terminates channel 0 of both engines, which must then report the same and have the same bytes.
 fn end_alike(rt: &impl Abort, pair: &mut Pair) -> Result<(), Fail> {
     let count = pair.asked.terminate(0)?;
     assert_eq!(rt; pair.other.terminate(0)?, count);
@@ -79,10 +79,11 @@ fn end_alike(rt: &impl Abort, pair: &mut Pair) -> Result<(), Fail> {
     Ok(())
 }
 
-// A name, a call that takes memory, and what it answers where there is memory.
+// A name, a call that allocates memory, and its answer when memory doesn't run out.
 type Row = (&'static str, Ask, Answer);
 
-// Asks an engine, and again if it runs out of memory. `looks` is whether the memories are read between the two calls.
+// Makes a call on the engine under test, and again if it runs out of memory. `looks` is whether the memories are read
+// between the two calls.
 fn asked_again(
     rt: &(impl Abort + Print),
     alloc: Global,
@@ -104,7 +105,7 @@ fn asked_again(
     answer_to(alloc, &mut pair.asked, ask)
 }
 
-// Asks one of two engines that have carried lines out, and then the other.
+// Executes lines on two engines, then makes a call on one of them and then on the other.
 fn asked_after(
     rt: &(impl Abort + Print),
     alloc: Global,
@@ -116,7 +117,7 @@ fn asked_after(
     let answered = asked_again(rt, alloc, &mut pair, row, looks)?;
     let (_, ask, wanted) = row;
     assert_eq!(rt; answered, wanted);
-    go_through(alloc, &mut pair.other, &[(ask, wanted)])?;
+    execute_lines(alloc, &mut pair.other, &[(ask, wanted)])?;
     assert!(rt; report_the_same(&pair.asked, &pair.other));
     end_alike(rt, &mut pair)
 }
@@ -129,8 +130,8 @@ fn pair_after(alloc: Global, lines: &[Line]) -> Result<Pair, Fail> {
 
 #[test]
 fn calls_without_room(rt: HostRuntime) -> Result<(), Fail> {
-    // The lists have no room, since the checkpoint gave it back. Of channel 0 cookie 1 is finished, cookie 2 issued,
-    // into two pages that no write made, and cookie 3 given.
+    // The lists have no room, since the checkpoint freed it. On channel 0 cookie 1 is finished, cookie 2 is issued,
+    // with destinations on two pages that no write made, and cookie 3 is given.
     let before = [
         (Write(0x100, &[1, 2, 3, 4]), Done),
         (Submit(0, copy(0x100, 0x200)), Count(1)),
@@ -172,7 +173,7 @@ fn calls_without_room(rt: HostRuntime) -> Result<(), Fail> {
 fn steps_that_add_an_entry(rt: HostRuntime) -> Result<(), Fail> {
     let none = (None, None);
     let moved = Turn::Moved;
-    // the copy's events, the kind of the marks in its source, how many steps move before this one, and what it answers
+    // the copy's events, the kind of the marks in its source, how many steps move before this one, and its result
     let steps = [
         ("step that finishes", none, Writing, 7, COPIED),
         ("step that signals", (None, Some(7)), Writing, 7, moved),
@@ -197,7 +198,7 @@ fn steps_that_add_an_entry(rt: HostRuntime) -> Result<(), Fail> {
     Ok(())
 }
 
-// The first page exists. Where the third is refused, the second was made before it.
+// The first page exists. If the allocation of the third page is refused, the second one was already made.
 #[test]
 fn a_start_that_makes_two_pages(rt: HostRuntime) -> Result<(), Fail> {
     let before = [
@@ -217,7 +218,7 @@ fn a_start_that_makes_two_pages(rt: HostRuntime) -> Result<(), Fail> {
     Ok(())
 }
 
-// The very transfer that is handed back is submitted once more.
+// The transfer that the refused submit returned is submitted once more.
 #[test]
 fn a_transfer_is_submitted_again(rt: HostRuntime) -> Result<(), Fail> {
     println!(rt; "row Engine::submit")?;

@@ -21,7 +21,7 @@ fn copies_four_bytes(rt: &impl Abort, alloc: Global, engine: &mut Engine) -> Res
         return Err(Fail::from("submit was refused"));
     };
     engine.issue(0)?;
-    // its start, and the eight instructions of its program
+    // the start, and the eight instructions of its program
     for _ in 0..9 {
         assert_eq!(rt; engine.status(0, cookie), Status::InProgress);
         engine.step(0)?;

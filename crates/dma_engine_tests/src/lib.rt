@@ -1,6 +1,6 @@
-//! Tests of the engine and of the running controller, by what they make public: what no clause says and no row of
-//! `tests/` at the top shows. They are in a crate of their own, since the gate proves a crate that has tests once more
-//! with them.
+//! Tests of the engine and of the running controller through their public items. They cover what no clause states and
+//! no row of the top-level `tests/` shows. They have a crate of their own, because the gate proves a crate with tests
+//! once more together with its tests.
 #![tactic(auto)]
 
 #[cfg(test)]
@@ -20,7 +20,7 @@ mod turns;
 #[cfg(test)]
 mod work;
 #[cfg(test)]
-mod work_leaves;
+mod work_in_turn;
 #[cfg(test)]
 mod work_refused;
 #[cfg(test)]

@@ -1,4 +1,4 @@
-//! Threads and a gate, and a reader that asks while workers run.
+//! Threads and a gate, and a reader that requests statuses while workers run.
 
 ghost use Rattle.std.specs.Prelude.{◌≡◌, ◌<◌};
 ghost use Rattle.dma_work.specs.Desk.{Names};
@@ -14,19 +14,19 @@ use std::test::Fail;
 use std::thread;
 use std::thread::Threads;
 
-// How often a gate looks at most.
+// The most times that a gate looks for the other worker.
 const MOST_LOOKS: u64 = 20_000_000;
 
-// Holds each of two workers before each of its turns until the other has arrived too.
+// Holds each of two workers before each of its turns until the other has arrived there too.
 #[derive(Drop)]
 struct InStep {
-    // the number of the turn that each has come to
+    // the number of the turn at which each worker has arrived
     turns: Mutex<[u64; 2]>,
     is_wrong: Mutex<bool>,
 }
 
 impl InStep {
-    // Whether the other worker comes to this turn too.
+    // Returns whether the other worker arrives at this turn too.
     fn meets<R: Wait>(&self, rt: &R, other: usize, n: u64) -> bool
         requires { other < 2 }
     {
@@ -56,7 +56,7 @@ impl Gate for InStep {
     }
 }
 
-// Whether a cookie is known, and still complete where it was.
+// Returns whether a cookie is known, and still complete if it was complete before.
 fn is_known(status: Option<Status>, is_complete: &mut bool) -> bool {
     match status {
         Some(Status::Complete) => {
@@ -68,7 +68,8 @@ fn is_known(status: Option<Status>, is_complete: &mut bool) -> bool {
     }
 }
 
-// Asks often how far cookie 1 of each channel is. Whether both are known each time, and complete for good.
+// Requests the status of cookie 1 of each channel many times. Returns the reader, and whether both cookies were always
+// known and stayed complete.
 fn ask_often(mut reader: StatusReader) -> (StatusReader, bool) {
     let mut is_right = true;
     let (mut first, mut second) = (false, false);
@@ -79,7 +80,7 @@ fn ask_often(mut reader: StatusReader) -> (StatusReader, bool) {
     (reader, is_right)
 }
 
-// Runs jobs over two copies once more, since memory was refused. No job had begun then.
+// Runs jobs over two copies once more after memory ran out. No job had begun then.
 fn run_again<N: DeskName + Send + Sync, R: Threads + Wait + Sync + Abort + Print, G: Gate>(
     rt: &R,
     alloc: Global,
@@ -96,7 +97,7 @@ fn run_again<N: DeskName + Send + Sync, R: Threads + Wait + Sync + Abort + Print
     Ok(run_workers(rt, alloc, shared, &jobs, gate)?)
 }
 
-// Submits a copy to channel 0 and issues it, and the reader learns of it.
+// Submits a copy to channel 0 and issues it, and lets the reader learn its ticket.
 fn begin<N: DeskName, R: Wait>(
     rt: &R,
     alloc: Global,
@@ -112,8 +113,9 @@ fn begin<N: DeskName, R: Wait>(
     Ok(())
 }
 
-/// Two jobs pass a gate while another thread asks. Returns the totals and the number of entries. The first job makes
-/// the copy that the reader has learned of, the second one that was submitted before the desk was there.
+/// Runs two jobs with a gate while another thread requests statuses. Returns the totals and the number of entries. The
+/// first job makes the copy whose ticket the reader has learnt, the second one a copy that was submitted before the
+/// desk was made.
 pub fn raced<N: DeskName + Send + Sync, R: Threads + Wait + Sync + Abort + Print, G: Gate>(
     rt: &R,
     alloc: Global,

@@ -1,4 +1,4 @@
-//! Engines with copies on them, and what is done at a desk over one.
+//! Engines with copies on them, and scenes, which make calls on a desk over an engine.
 
 ghost use Rattle.std.specs.Prelude.{◌≡◌, IfOk};
 ghost use Rattle.dma_work.specs.Desk.{Names};
@@ -16,7 +16,7 @@ use std::process::Abort;
 use std::sync::{MutexGuard, Wait};
 use std::test::Fail;
 
-/// A copy of `len` bytes from 0x1000.
+/// Returns a copy of `len` bytes from 0x1000.
 pub fn copy(
     alloc: Global,
     len: u32,
@@ -46,7 +46,7 @@ pub fn step_often(engine: &mut Engine, steps: u32) -> Result<(), Fail> {
     Ok(())
 }
 
-/// Two channels, with a copy of four bytes issued on the second.
+/// Returns an engine of two channels, with a copy of four bytes issued on the second.
 pub fn second_issued(alloc: Global) -> Result<Engine, Fail> {
     let mut engine = Engine::new(alloc, 0x4000, 2)?;
     issued(&mut engine, 1, copy(alloc, 4, 0x3000, None, None)?)?;
@@ -62,8 +62,8 @@ fn one_of_two_copied(alloc: Global, engine: &mut Engine) -> Result<(), Fail> {
     Ok(())
 }
 
-/// An engine whose lists have no room, since a checkpoint gave it back. Of channel 0 cookie 1 is finished and cookie 2
-/// issued.
+/// Returns an engine whose lists have no room, since a checkpoint freed it. On channel 0 cookie 1 is finished and
+/// cookie 2 is issued.
 pub fn without_room(alloc: Global) -> Result<Engine, Fail> {
     let mut engine = Engine::new(alloc, 0x4000, 1)?;
     one_of_two_copied(alloc, &mut engine)?;
@@ -72,7 +72,7 @@ pub fn without_room(alloc: Global) -> Result<Engine, Fail> {
 
 // ---- desks
 
-// The parts of an engine and one of eight readers, or the engine.
+// Returns the parts of an engine and one of its eight readers.
 fn parts_of<R: Wait>(
     rt: &R,
     alloc: Global,
@@ -87,7 +87,8 @@ fn parts_of<R: Wait>(
     Ok((parts, reader))
 }
 
-/// The same, after nine readers, which are too many. Where memory is refused, they are asked for once more.
+/// Does the same as `parts_of` after a request for nine readers, which is refused. If memory runs out, it asks once
+/// more.
 pub fn with_a_reader<R: Wait + Abort + Print>(
     rt: &R,
     alloc: Global,
@@ -114,9 +115,9 @@ pub fn with_a_reader<R: Wait + Abort + Print>(
     }
 }
 
-/// What is done at a desk of its own.
+/// Calls on a desk of their own.
 pub trait Scene {
-    /// Does it.
+    /// Makes the calls.
     fn at<N: DeskName, R: Wait + Abort + Print>(
         &self,
         rt: &R,
@@ -146,7 +147,7 @@ fn at_a_desk<N: DeskName, R: Wait + Abort + Print, S: Scene>(
     Ok(engine)
 }
 
-/// Plays a scene at a desk over an engine, which it answers.
+/// Plays a scene at a desk over an engine, and returns the engine.
 pub fn play<R: Wait + Abort + Print, S: Scene>(
     rt: &R,
     alloc: Global,
@@ -163,7 +164,7 @@ pub const IN_PROGRESS: Option<Status> = Some(Status::InProgress);
 
 pub const COMPLETE: Option<Status> = Some(Status::Complete);
 
-/// What a reader sees of cookies 1 to 3 of channel 0.
+/// Returns the statuses of cookies 1 to 3 of channel 0 that a reader returns.
 pub fn seen(reader: &mut StatusReader) -> [Option<Status>; 3]
     ensures { (reader.new.log ≡ reader.old.log) × (reader.new.base ≡ reader.old.base) }
 {
@@ -174,8 +175,8 @@ pub fn seen(reader: &mut StatusReader) -> [Option<Status>; 3]
     ]
 }
 
-/// Submits a copy to channel 0 and issues it. By a function of its own, since what holds of a transfer by its type
-/// would only lengthen the proofs about readers.
+/// Submits a copy to channel 0 and issues it. It is a function of its own so that the invariant of a transfer doesn't
+/// lengthen the proofs about readers.
 pub fn submitted<N: DeskName, R: Wait>(
     rt: &R,
     alloc: Global,
@@ -202,7 +203,7 @@ pub fn worked<N: DeskName, R: Wait>(rt: &R, shared: &Shared<N>, number: u32, job
     worker.into_tally()
 }
 
-/// The totals and the number of entries, where the tallies add up.
+/// Settles a desk. Returns the totals and the number of entries, or `None` if the tallies don't add up.
 pub fn settled<N: DeskName, R: Wait>(
     rt: &R,
     shared: Shared<N>,

@@ -1,4 +1,4 @@
-//! The turns of a job by a stepper that notes the channels, and a gate that the stepper sees before each turn.
+//! The turns of a job, taken by a stepper that records the channels and checks the gate before each turn.
 
 use dma_work::{Gate, Job, Stepper, work};
 use std::sync::Wait;
@@ -7,10 +7,10 @@ use std::test::Fail;
 
 const WORKER: u32 = 5;
 
-// A gate of one worker.
+// A gate for one worker.
 #[derive(Drop)]
 struct Counted {
-    // the number of the last turn that it let through, and 2^64 - 1 once a turn was out of order or another worker's
+    // the number of the last turn that passed, or 2^64 - 1 after a turn out of order or of another worker
     passed: AtomicU64,
 }
 
@@ -28,8 +28,7 @@ impl Gate for Counted {
     }
 }
 
-// Notes the channels of its first eight turns, and whether at each turn it was that turn which the gate let through
-// last.
+// Records the channels of its first eight turns, and whether the gate let exactly that turn pass before each turn.
 #[derive(Drop)]
 struct Noted<'a> {
     gate: &'a Counted,

@@ -19,8 +19,8 @@ use std::test::Fail;
 
 // ---- a checkpoint
 
-// A checkpoint forgets one finished cookie of channel 0. The reader gets the same statuses before and after it, and
-// then the next cookie's.
+// A checkpoint forgets one finished cookie of channel 0. The reader returns the same statuses before and after it, and
+// then the status of the next cookie.
 #[derive(Clone, Copy)]
 struct Checkpoint {
     seen: [Option<Status>; 3],
@@ -47,7 +47,7 @@ impl Scene for Checkpoint {
     }
 }
 
-// Of three cookies the first was forgotten, the second was given before the engine's base, and the third since.
+// Of three cookies, the first was forgotten, the second was given before the engine's base, and the third after it.
 #[test]
 fn statuses_stay_over_a_checkpoint(rt: HostRuntime) -> Result<(), Fail> {
     let mut engine = without_room(rt.alloc())?;
@@ -62,7 +62,7 @@ fn statuses_stay_over_a_checkpoint(rt: HostRuntime) -> Result<(), Fail> {
     Ok(())
 }
 
-// The engine's own history has the finish of its one cookie.
+// The history of the engine has the finish of its one cookie.
 #[test]
 fn a_finish_before_the_desk_stays_over_a_checkpoint(rt: HostRuntime) -> Result<(), Fail> {
     let mut engine = Engine::new(rt.alloc(), 0x4000, 1)?;
@@ -77,7 +77,7 @@ fn a_finish_before_the_desk_stays_over_a_checkpoint(rt: HostRuntime) -> Result<(
     Ok(())
 }
 
-// ---- as many readers as are asked for
+// ---- the number of readers
 
 fn all_see(readers: &mut [StatusReader], wanted: [Option<Status>; 3]) -> bool {
     for reader in readers.iter_mut() {
@@ -88,8 +88,8 @@ fn all_see(readers: &mut [StatusReader], wanted: [Option<Status>; 3]) -> bool {
     true
 }
 
-// Whether a desk has a reader more, which sees what was published, once these have given their places back, and none
-// before.
+// Returns whether a desk has one more reader, which sees what is published, but only once these readers were dropped.
+// Without readers it has one at once.
 fn reads_more<N: DeskName>(desk: &mut Desk<N>, readers: Vec<StatusReader>) -> bool {
     let is_full = readers.is_empty() || desk.reader().is_none();
     drop(readers);
@@ -99,7 +99,7 @@ fn reads_more<N: DeskName>(desk: &mut Desk<N>, readers: Vec<StatusReader>) -> bo
     is_full && seen(&mut reader) == [COMPLETE, IN_PROGRESS, UNKNOWN]
 }
 
-// The same of the desk over these parts, which it ends.
+// Returns the same for a desk of these parts, and ends the desk.
 fn has_places<N: DeskName, R: Wait>(rt: &R, parts: Parts, readers: Vec<StatusReader>) -> bool
     requires { Names N.steps N.finished N.base N.log parts }
 {
@@ -126,7 +126,7 @@ fn each_reader_answers(rt: HostRuntime) -> Result<(), Fail> {
     Ok(())
 }
 
-// ---- a day at the desk
+// ---- a desk from its first call to its settlement
 
 fn list_of(alloc: Global, tally: Tally) -> Result<Vec<Tally>, AllocError> {
     let mut list = Vec::new(alloc);
@@ -134,7 +134,7 @@ fn list_of(alloc: Global, tally: Tally) -> Result<Vec<Tally>, AllocError> {
     Ok(list)
 }
 
-// The second copy is paused, started and terminated.
+// Pauses, starts and terminates the second copy.
 fn afternoon<N: DeskName, R: Wait + Abort>(
     rt: &R,
     alloc: Global,
@@ -163,9 +163,9 @@ fn afternoon<N: DeskName, R: Wait + Abort>(
     Ok(())
 }
 
-// A worker finishes the first copy, and the reader sees it though it learns of nothing; another worker finds no
-// channel. Answers the tally of each.
-fn until_evening<N: DeskName, R: Wait + Abort>(
+// A worker finishes the first copy, and the reader sees it without a further ticket; another worker steps a channel
+// that doesn't exist. Returns the tally of each.
+fn run_workers_and_terminate<N: DeskName, R: Wait + Abort>(
     rt: &R,
     alloc: Global,
     shared: &Shared<N>,
@@ -194,8 +194,8 @@ fn until_evening<N: DeskName, R: Wait + Abort>(
     Ok((list_of(alloc, busy)?, list_of(alloc, idle)?))
 }
 
-// In the evening the desk is settled without the tally of the worker that stepped, and then without that of the other.
-fn whole_day<N: DeskName, R: Wait + Abort>(
+// Settles the desk without the tally of the worker that stepped, and then without that of the other worker.
+fn run_and_settle<N: DeskName, R: Wait + Abort>(
     rt: &R,
     alloc: Global,
     parts: Parts,
@@ -211,7 +211,7 @@ fn whole_day<N: DeskName, R: Wait + Abort>(
         terminated: 1,
     };
     let shared = Shared::<N>::new(parts);
-    let (busy, idle) = match until_evening(rt, alloc, &shared, &mut reader, jobs) {
+    let (busy, idle) = match run_workers_and_terminate(rt, alloc, &shared, &mut reader, jobs) {
         Ok(tallies) => tallies,
         Err(fail) => {
             drop(shared.close(rt));
@@ -233,13 +233,13 @@ fn whole_day<N: DeskName, R: Wait + Abort>(
 }
 
 #[test]
-fn a_day_at_the_desk(rt: HostRuntime) -> Result<(), Fail> {
+fn a_desk_is_used_and_settled(rt: HostRuntime) -> Result<(), Fail> {
     let first = Job::new(0, 0, 9).ok_or("no job")?;
     // there is no channel 7
     let second = Job::new(7, 7, 3).ok_or("no job")?;
     let engine = Engine::new(rt.alloc(), 0x4000, 2)?;
     let (parts, reader) = with_a_reader(&rt, rt.alloc(), engine)?;
-    let last = whole_day::<Brand, _>(&rt, rt.alloc(), parts, reader, [first, second])?;
+    let last = run_and_settle::<Brand, _>(&rt, rt.alloc(), parts, reader, [first, second])?;
     assert!(rt; last.is_none() || last == COMPLETE);
     Ok(())
 }

@@ -1,5 +1,5 @@
-//! Calls through a desk whose memory is refused, and which are then made once more. `tests/refuse_calls` refuses each
-//! request of these tests in turn, and wants each row to meet a refusal; with ample memory none does.
+//! Calls on a desk that run out of memory, and are then made once more. `tests/refuse_calls` refuses each allocation of
+//! these tests in turn, and requires that each row meets a refusal; with ample memory none does.
 
 use crate::races::{BOTH_COPIED, raced};
 use crate::scenes::{
@@ -16,9 +16,9 @@ use std::process::Abort;
 use std::sync::Wait;
 use std::test::Fail;
 
-// ---- a call by its row
+// ---- one call in each row
 
-// A call that takes memory.
+// A call that allocates memory.
 #[derive(Clone, Copy)]
 enum Asked {
     Write,
@@ -33,10 +33,11 @@ enum Asked {
     Step,
 }
 
-// What there is after a call: the entries; the steps, finishes and terminated cookies of the book; what a reader sees.
+// What is expected after a call: the number of entries; the steps, finishes and terminated cookies of the book; what a
+// reader sees.
 type After = (usize, [u64; 3], [Option<Status>; 3]);
 
-// A call, and what there is after it.
+// A call, and what is expected after it.
 #[derive(Clone, Copy)]
 struct Row {
     name: &'static str,
@@ -44,7 +45,7 @@ struct Row {
     after: After,
 }
 
-// The same, with what the engine says of its steps, its finished cookies, and what ran and runs on channel 0.
+// The same, and the engine's step count, its finished cookies, what runs on channel 0 and the results of its cookies.
 type Facts = (After, [u64; 2], Option<Running>, [Option<Outcome>; 2]);
 
 fn facts_of<N: DeskName>(desk: &Desk<N>, reader: &mut StatusReader) -> Facts {
@@ -63,7 +64,7 @@ fn facts_of<N: DeskName>(desk: &Desk<N>, reader: &mut StatusReader) -> Facts {
     )
 }
 
-// Why a submit is refused.
+// Returns why a submit is refused, or `None` if it isn't.
 fn submit_refusal<N: DeskName, R: Wait>(
     rt: &R,
     desk: &mut Desk<N>,
@@ -75,7 +76,7 @@ fn submit_refusal<N: DeskName, R: Wait>(
     }
 }
 
-// Why a step is refused. It then counts a turn in the tally, and nothing else.
+// Returns why a step is refused, or `None` if it isn't. A refused step counts a turn in the tally, and nothing else.
 fn step_refusal<N: DeskName, R: Wait + Abort>(rt: &R, desk: &mut Desk<N>) -> Option<EngineFault> {
     let mut tally = desk.tally(7);
     let fault = desk.step(rt, 0, &mut tally).err();
@@ -89,7 +90,7 @@ const LAST: Segment = Segment {
     len: 1,
 };
 
-// Why a call is refused, none where it isn't.
+// Returns why a call is refused, or `None` if it isn't.
 fn refusal<N: DeskName, R: Wait + Abort>(
     rt: &R,
     alloc: Global,
@@ -110,7 +111,7 @@ fn refusal<N: DeskName, R: Wait + Abort>(
     })
 }
 
-// Asks a desk, and again if it runs out of memory.
+// Makes the call, and again if it runs out of memory.
 impl Scene for Row {
     fn at<N: DeskName, R: Wait + Abort + Print>(
         &self,
@@ -132,8 +133,8 @@ impl Scene for Row {
     }
 }
 
-// Plays a row over an engine. In the end, once what runs is terminated, this is the byte behind those that are copied,
-// and the first of the copied ones.
+// Plays a row over an engine, and then terminates what runs. Checks the byte after those that are copied, and the first
+// copied byte.
 fn over_an_engine<R: Wait + Abort + Print>(
     rt: &R,
     alloc: Global,
@@ -149,7 +150,7 @@ fn over_an_engine<R: Wait + Abort + Print>(
     Ok(())
 }
 
-// ---- calls that find no room in the lists
+// ---- calls for which the lists have no room
 
 #[test]
 fn calls_that_find_no_room(rt: HostRuntime) -> Result<(), Fail> {
@@ -176,7 +177,7 @@ fn calls_that_find_no_room(rt: HostRuntime) -> Result<(), Fail> {
     Ok(())
 }
 
-// ---- steps that take memory
+// ---- steps that allocate memory
 
 fn issued_without_room(engine: &mut Engine, transfer: Transfer, steps: u32) -> Result<(), Fail> {
     issued(engine, 0, transfer)?;
@@ -186,7 +187,7 @@ fn issued_without_room(engine: &mut Engine, transfer: Transfer, steps: u32) -> R
     step_often(engine, steps)
 }
 
-// An engine that has given all room back, and then takes steps of a copy with these events on channel 0. The flag of
+// Returns an engine whose lists have no room, after some steps of a copy with these events on channel 0. The flag of
 // event 3 is set.
 fn before_a_step(
     alloc: Global,
@@ -223,7 +224,7 @@ fn steps_that_take_memory(rt: HostRuntime) -> Result<(), Fail> {
 
 // ---- workers
 
-// With turns to spare: a refused step changes nothing, and is taken again in the next turn.
+// The jobs have more turns than they need: a refused step changes nothing, and is taken again in the next turn.
 #[test]
 fn workers_begin_when_asked_again(rt: HostRuntime) -> Result<(), Fail> {
     let first = Job::new(0, 0, 12).ok_or("no job")?;

@@ -1,4 +1,4 @@
-//! A copy in three bursts that is stopped through a desk after each of its instructions, and what a reader sees of it.
+//! A copy in three bursts, terminated through a desk after each of its instructions, and what a reader sees of it.
 
 use crate::scenes::{COMPLETE, Scene, play, stepped, submitted};
 use dma_engine::{Engine, Outcome, TransResult, Turn};
@@ -8,7 +8,7 @@ use std::process::Abort;
 use std::sync::Wait;
 use std::test::Fail;
 
-// Takes steps of channel 0, each of which moves.
+// Takes steps of channel 0 and checks that each moves.
 fn moved<N: DeskName, R: Wait + Abort>(rt: &R, desk: &mut Desk<N>, steps: u32) -> Result<(), Fail> {
     for _ in 0..steps {
         assert!(rt; stepped(rt, desk)? == Turn::Moved);
@@ -16,7 +16,8 @@ fn moved<N: DeskName, R: Wait + Abort>(rt: &R, desk: &mut Desk<N>, steps: u32) -
     Ok(())
 }
 
-// A copy of 300 bytes is stopped after these steps, and another is submitted. The reader learns of that alone.
+// Terminates a copy of 300 bytes after these steps and submits another one. The reader learns only the ticket of the
+// second submit.
 #[derive(Clone, Copy)]
 struct Stop {
     steps: u32,
@@ -43,7 +44,7 @@ impl Scene for Stop {
     }
 }
 
-// It is copied in bursts of 256, 32 and 12 bytes.
+// The copy is made in bursts of 256, 32 and 12 bytes.
 #[test]
 fn a_stop_after_each_instruction(rt: HostRuntime) -> Result<(), Fail> {
     // the first and the last number of instructions, and the residue

@@ -88,6 +88,6 @@ made v w (ask_value value) answer h = none_made v w answer (subst (λ (a : Answe
 
 pub calls_are_the_engines : CallsAreTheEngines
 unfolding Returns
-calls_are_the_engines e request code written (Some e') (answer, answers, is, held, leaves) =
+calls_are_the_engines e request code written (Some e') (answer, answers, is, held, effect) =
     (answer, answers, is, held, made e.view e'.view request answer answers)
 calls_are_the_engines e request code written None h = absurd h

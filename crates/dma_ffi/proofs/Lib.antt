@@ -1,8 +1,10 @@
--- The machine values of boxes and of the pointers that C keeps; what calls from C return and write, from the engine's
--- answers; which calls of the engine one call from C makes, that they can be made, and which calls many make; steps in
--- a row.
-pub mod BoxValues
+-- The machine values of boxes and of the pointers that C keeps, and the heap's allocator; what those pointers own on any
+-- thread; the cast of a reference to a struct for C; what calls from C return and write, from the engine's answers; which calls
+-- of the engine one call from C makes, that they can be made, and which calls many make; steps in a row.
 pub mod Values
+pub mod Heap
+pub mod Sends
+pub mod Casts
 pub mod Returns
 pub mod OnChannels
 pub mod CallsMade

@@ -21,14 +21,14 @@ use Rattle.dma_engine.specs.declared.turn.Running.{Running}
 use Rattle.dma_engine.specs.declared.turn.Status.{Status}
 use Rattle.dma_engine.specs.View.{View, EngineState, object_of, running_on}
 use Rattle.dma_engine.specs.Answer.{CallAnswers, reply_of, result_of, status_in}
-use Rattle.dma_engine.specs.Room.{HasGivenBack}
+use Rattle.dma_engine.specs.Room.{HasNoSpare}
 use Rattle.dma_ffi.specs.declared.reports.DmaOutcome.{DmaOutcome}
 use Rattle.dma_ffi.specs.declared.reports.DmaConflict.{DmaConflict}
 use Rattle.dma_ffi.specs.declared.reports.DmaReport.{DmaReport}
 use Rattle.dma_ffi.specs.declared.steps.Taken.{Taken}
 use Rattle.dma_ffi.specs.Codes.{answer_code, bad_kind, fault_code, found_code, mark_kind, no_result, not_running, reply_code, status_code, value_or}
 use Rattle.dma_ffi.specs.Reports.{conflict_of, outcome_of, report_of}
-use Rattle.dma_ffi.specs.Requests.{Answer, Answers, AnswersMark, AnswersSteps, AnswersSubmit, IsWritten, Leaves, Request, Returns, Value, Written, a_conflict, a_number, a_report, a_run, an_outcome, ask_call, ask_copy, ask_fill, ask_mark, ask_steps, ask_value, bytes_or_conflict, closed, code_of, conflict_in, known, no_kind, nothing, number_in, numbered, outcome_in, replied, run_in, runs, stepped, steps_answer, the_run, unfit}
+use Rattle.dma_ffi.specs.Requests.{Answer, Answers, AnswersMark, AnswersSteps, AnswersSubmit, IsWritten, EffectOf, Request, Returns, Value, Written, a_conflict, a_number, a_report, a_run, an_outcome, ask_call, ask_copy, ask_fill, ask_mark, ask_steps, ask_value, bytes_or_conflict, closed, code_of, conflict_in, known, no_kind, nothing, number_in, numbered, outcome_in, replied, run_in, runs, stepped, steps_answer, the_run, unfit}
 use Rattle.dma_ffi.specs.inner.Submits.{Submits}
 
 -- there was no engine
@@ -38,10 +38,10 @@ returns_closed None request written none is held = (refl, is, held)
 returns_closed (Some e) request written none is held = absurd (true≢false none)
 
 -- the engine gave this answer
-returns : {old : Option EngineState} {code : ℤ} (request : Request) (written : Written) (answer : Answer) (e e' : EngineState) → Some e ≡ old → Answers e.view request answer e'.view → code ≡ code_of answer → IsWritten answer written → Leaves request code e e' → Returns old request code written (Some e')
+returns : {old : Option EngineState} {code : ℤ} (request : Request) (written : Written) (answer : Answer) (e e' : EngineState) → Some e ≡ old → Answers e.view request answer e'.view → code ≡ code_of answer → IsWritten answer written → EffectOf request code e e' → Returns old request code written (Some e')
 unfolding Returns
-returns {code = code} request written answer e e' was answers is held leaves =
-    subst (λ (o : Option EngineState). Returns o request code written (Some e')) was (answer, answers, is, held, leaves)
+returns {code = code} request written answer e e' was answers is held effect =
+    subst (λ (o : Option EngineState). Returns o request code written (Some e')) was (answer, answers, is, held, effect)
 
 -- ---- calls of the engine
 
@@ -58,17 +58,17 @@ counted : (a : Result ℕ EngineFault) (before : ℕ) → value_or a before ≡ 
 counted (Ok n) before = refl
 counted (Err fault) before = refl
 
-pub returns_done : {old : Option EngineState} {code : ℤ} (e e' : EngineState) (call : Call) (a : Result (Unit {0}) EngineFault) → Some e ≡ old → CallAnswers e.view call (reply_of (λ _. Done) a) e'.view → code ≡ answer_code a → Leaves (ask_call call) code e e' → Returns old (ask_call call) code nothing (Some e')
-returns_done e e' call a was answers is leaves =
-    returns (ask_call call) nothing (replied (reply_of (λ _. Done) a)) e e' was (reply_of (λ _. Done) a, refl, answers) (is ∙ code_is (λ _. Done) (λ _. refl) a) tt leaves
+pub returns_done : {old : Option EngineState} {code : ℤ} (e e' : EngineState) (call : Call) (a : Result (Unit {0}) EngineFault) → Some e ≡ old → CallAnswers e.view call (reply_of (λ _. Done) a) e'.view → code ≡ answer_code a → EffectOf (ask_call call) code e e' → Returns old (ask_call call) code nothing (Some e')
+returns_done e e' call a was answers is effect =
+    returns (ask_call call) nothing (replied (reply_of (λ _. Done) a)) e e' was (reply_of (λ _. Done) a, refl, answers) (is ∙ code_is (λ _. Done) (λ _. refl) a) tt effect
 
-pub returns_count : {old : Option EngineState} {code : ℤ} {after : ℕ} (e e' : EngineState) (before : ℕ) (call : Call) (a : Result ℕ EngineFault) → Some e ≡ old → CallAnswers e.view call (reply_of (λ n. Count n) a) e'.view → code ≡ answer_code a → after ≡ value_or a before → Leaves (ask_call call) code e e' → Returns old (ask_call call) code (a_number before after) (Some e')
-returns_count {after = after} e e' before call a was answers is number leaves =
-    returns (ask_call call) (a_number before after) (replied (reply_of (λ n. Count n) a)) e e' was (reply_of (λ n. Count n) a, refl, answers) (is ∙ code_is (λ n. Count n) (λ n. refl) a) (number ∙ counted a before) leaves
+pub returns_count : {old : Option EngineState} {code : ℤ} {after : ℕ} (e e' : EngineState) (before : ℕ) (call : Call) (a : Result ℕ EngineFault) → Some e ≡ old → CallAnswers e.view call (reply_of (λ n. Count n) a) e'.view → code ≡ answer_code a → after ≡ value_or a before → EffectOf (ask_call call) code e e' → Returns old (ask_call call) code (a_number before after) (Some e')
+returns_count {after = after} e e' before call a was answers is number effect =
+    returns (ask_call call) (a_number before after) (replied (reply_of (λ n. Count n) a)) e e' was (reply_of (λ n. Count n) a, refl, answers) (is ∙ code_is (λ n. Count n) (λ n. refl) a) (number ∙ counted a before) effect
 
-pub returns_unless : {old : Option EngineState} {code : ℤ} {after : DmaConflict} (e e' : EngineState) (before : DmaConflict) (call : Call) (a : Result (Unit {0}) EngineFault) → Some e ≡ old → CallAnswers e.view call (reply_of (λ _. Done) a) e'.view → code ≡ answer_code a → after ≡ conflict_of a before → Leaves (ask_call call) code e e' → Returns old (ask_call call) code (a_conflict before after) (Some e')
-returns_unless {after = after} e e' before call a was answers is named leaves =
-    returns (ask_call call) (a_conflict before after) (replied (reply_of (λ _. Done) a)) e e' was (reply_of (λ _. Done) a, refl, answers) (is ∙ code_is (λ _. Done) (λ _. refl) a) (named ∙ conflict_is (λ _. Done) (λ _ d. refl) a before) leaves
+pub returns_unless : {old : Option EngineState} {code : ℤ} {after : DmaConflict} (e e' : EngineState) (before : DmaConflict) (call : Call) (a : Result (Unit {0}) EngineFault) → Some e ≡ old → CallAnswers e.view call (reply_of (λ _. Done) a) e'.view → code ≡ answer_code a → after ≡ conflict_of a before → EffectOf (ask_call call) code e e' → Returns old (ask_call call) code (a_conflict before after) (Some e')
+returns_unless {after = after} e e' before call a was answers is named effect =
+    returns (ask_call call) (a_conflict before after) (replied (reply_of (λ _. Done) a)) e e' was (reply_of (λ _. Done) a, refl, answers) (is ∙ code_is (λ _. Done) (λ _. refl) a) (named ∙ conflict_is (λ _. Done) (λ _ d. refl) a before) effect
 
 pub returns_read : {old : Option EngineState} {code : ℤ} {after : DmaConflict} (e e' : EngineState) (bytes out : List ℕ) (before : DmaConflict) (addr len : ℕ) (a : Result (Unit {0}) EngineFault) → Some e ≡ old → CallAnswers e.view (Read addr len) (reply_of (λ _. Bytes out) a) e'.view → OnErr a (out ≡ bytes) → code ≡ answer_code a → after ≡ conflict_of a before → Returns old (ask_call (Read addr len)) code (bytes_or_conflict bytes out before after) (Some e')
 returns_read {after = after} e e' bytes out before addr len (Ok u) was answers same is named =
@@ -135,12 +135,12 @@ returns_steps {after = after} e e' before ch most (Err fault) m was answers map 
 -- ---- submits
 
 -- the answer to a submit
-returns_submit : {old : Option EngineState} (code : ℤ) (after : ℕ) (request : Request) (e e' : EngineState) (before ch : ℕ) (refusal : Option TransferFault) (t : Descriptor) (made : Result Descriptor TransferFault) → ((a : Answer) → AnswersSubmit e.view ch refusal t a e'.view → Answers e.view request a e'.view) → Leaves request code e e' → IfOk made (λ x. x ≡ t) → IfOk made (λ x. refusal ≡ None) → IfErr made (λ fault. fault ≡ unwrap_or refusal transfers.NoMemory) → Some e ≡ old → Submits e.view ch made code before after e'.view → Returns old request code (a_number before after) (Some e')
-returns_submit code after request e e' before ch refusal t (Ok x) answers leaves is none err was h =
+returns_submit : {old : Option EngineState} (code : ℤ) (after : ℕ) (request : Request) (e e' : EngineState) (before ch : ℕ) (refusal : Option TransferFault) (t : Descriptor) (made : Result Descriptor TransferFault) → ((a : Answer) → AnswersSubmit e.view ch refusal t a e'.view → Answers e.view request a e'.view) → EffectOf request code e e' → IfOk made (λ x. x ≡ t) → IfOk made (λ x. refusal ≡ None) → IfErr made (λ fault. fault ≡ unwrap_or refusal transfers.NoMemory) → Some e ≡ old → Submits e.view ch made code before after e'.view → Returns old request code (a_number before after) (Some e')
+returns_submit code after request e e' before ch refusal t (Ok x) answers effect is none err was h =
     let here : Submits e.view ch (Ok t) code before after e'.view = subst (λ (d : Descriptor). Submits e.view ch (Ok d) code before after e'.view) is h in
-    returns request (a_number before after) (replied here.0) e e' was (answers (replied here.0) (inr (none, (here.0, refl, here.1)))) here.2 here.3 leaves
-returns_submit code after request e e' before ch refusal t (Err fault) answers leaves is none err was h =
-    returns request (a_number before after) (unfit fault) e e' was (answers (unfit fault) (inl (ap unfit err, h.2))) h.0 h.1 leaves
+    returns request (a_number before after) (replied here.0) e e' was (answers (replied here.0) (inr (none, (here.0, refl, here.1)))) here.2 here.3 effect
+returns_submit code after request e e' before ch refusal t (Err fault) answers effect is none err was h =
+    returns request (a_number before after) (unfit fault) e e' was (answers (unfit fault) (inl (ap unfit err, h.2))) h.0 h.1 effect
 
 pub returns_copy : (old : Option EngineState) (code : ℤ) (after : ℕ) (e e' : EngineState) (before ch : ℕ) (t t' : Descriptor) (made : Result Descriptor TransferFault) → t ≡ t' → IfOk made (λ x. x ≡ t) → IfOk made (λ x. refusal_of x ≡ None) → IfErr made (λ fault. fault ≡ unwrap_or (refusal_of t) transfers.NoMemory) → Some e ≡ old → Submits e.view ch made code before after e'.view → Returns old (ask_copy ch t') code (a_number before after) (Some e')
 returns_copy old code after e e' before ch t t' (Ok x) same is none err was h =
@@ -172,15 +172,15 @@ refused BadRange = refl
 refused (RunningOn ch cookie) = refl
 refused NoMemory = refl
 
--- what a checkpoint leaves, by its code
-leaves_checkpoint : {code : ℤ} (a : Result (Unit {0}) EngineFault) (e e' : EngineState) → IfOk a (λ _. HasGivenBack e') → OnErr a (e' ≡ e) → code ≡ answer_code a → Leaves (ask_call Checkpoint) code e e'
-leaves_checkpoint (Ok x) e e' given same is = ((λ _. given), (λ other. absurd (other is)))
-leaves_checkpoint (Err fault) e e' given same is =
+-- the effect of a checkpoint, by its code
+checkpoint_effect : {code : ℤ} (a : Result (Unit {0}) EngineFault) (e e' : EngineState) → IfOk a (λ _. HasNoSpare e') → OnErr a (e' ≡ e) → code ≡ answer_code a → EffectOf (ask_call Checkpoint) code e e'
+checkpoint_effect (Ok x) e e' given same is = ((λ _. given), (λ other. absurd (other is)))
+checkpoint_effect (Err fault) e e' given same is =
     ((λ ok. absurd (true≢false (sym (refused fault) ∙ ap is_refusal (sym is ∙ ok)))), (λ _. same))
 
-pub returns_checkpoint : {old : Option EngineState} {code : ℤ} {after : DmaConflict} (e e' : EngineState) (before : DmaConflict) (a : Result (Unit {0}) EngineFault) → Some e ≡ old → CallAnswers e.view Checkpoint (reply_of (λ _. Done) a) e'.view → IfOk a (λ _. HasGivenBack e') → OnErr a (e' ≡ e) → code ≡ answer_code a → after ≡ conflict_of a before → Returns old (ask_call Checkpoint) code (a_conflict before after) (Some e')
+pub returns_checkpoint : {old : Option EngineState} {code : ℤ} {after : DmaConflict} (e e' : EngineState) (before : DmaConflict) (a : Result (Unit {0}) EngineFault) → Some e ≡ old → CallAnswers e.view Checkpoint (reply_of (λ _. Done) a) e'.view → IfOk a (λ _. HasNoSpare e') → OnErr a (e' ≡ e) → code ≡ answer_code a → after ≡ conflict_of a before → Returns old (ask_call Checkpoint) code (a_conflict before after) (Some e')
 returns_checkpoint e e' before a was answers given same is named =
-    returns_unless e e' before Checkpoint a was answers is named (leaves_checkpoint a e e' given same is)
+    returns_unless e e' before Checkpoint a was answers is named (checkpoint_effect a e e' given same is)
 
 -- what a call on a controller returns and writes, by the engine's answer to it
 pub ruleset returned = (returns_closed, returns_done, returns_count, returns_unless, returns_status, returns_value, returns_run, returns_outcome, returns_mark, returns_no_kind, returns_checkpoint)

@@ -1,5 +1,5 @@
 -- Steps of a channel in a row.
-use Rattle.std.proofs.Common.{◌≡◌, ℕ, zero, suc, ◌+◌, ◌<◌, ◌≤◌, Option, None, Some, Result, Ok, Err, true, false, refl, sym, subst, arith, inl, inr}
+use Rattle.std.proofs.Common.{◌≡◌, ℕ, zero, suc, ◌+◌, ◌<◌, Option, None, Some, Result, Ok, Err, true, false, refl, sym, subst, arith, inl, inr}
 use Rattle.std.specs.Prelude.{if◌then◌else◌, is_some}
 use Rattle.std.specs.Option.{option_map}
 use Rattle.dma_engine.specs.declared.turn.Advanced.{Advanced}
@@ -35,7 +35,7 @@ row_moves (suc m) v u w ch n last row goes all =
     let more : suc n + suc m ≡ n + suc (suc m) = omega arith in
     subst (λ (k : ℕ). InARow v ch k (Some Moved) w) more next
 
--- the start, if there is one
+-- the start, if any
 row_start : (o : Option ℕ) (v u : View) (ch : ℕ) → TakesStep v ch (option_map (λ cookie. Ok (Started cookie)) o) u → InARow v ch (if is_some o then 1 else 0) (option_map Started o) u × (goes_on (option_map Started o) ≡ true)
 row_start None v u ch same = ((refl, same), refl)
 row_start (Some cookie) v u ch answer = ((v, None, Started cookie, (refl, refl), refl, answer, refl), refl)

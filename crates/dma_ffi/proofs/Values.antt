@@ -1,11 +1,14 @@
--- The machine values of the pointers that C keeps, at the type R of what they own.
+-- The machine values of boxes and of the pointers that C keeps, at the type R of what they own.
 use Rattle.std.proofs.Common.{◌≡◌, ℕ, List, [], ◌∷◌, ◌++◌, refl, sym, subst, lit<}
 use Rattle.std.specs.Prelude.{Option, None, Some, IsSome}
-use mathlib.Core.Bool.{true≢false}
+use mathlib.Core.Bool.{true, ◌&&◌, true≢false}
+use lib.Dec.{T}
+use denote.Param.{layout}
+use Rattle.std.proofs.ResultValues.{and_tt}
 use seplogic.Ra.Ura.{Ura}
 use mir.Syntax.{impl, tnil, dnil, tcons, ty_ptr, ty_struct}
 use mir.Raw.{raw as bare}
-use mir.Val.{Val, vptr, vstruct, vcons, vnil, of_list}
+use mir.Val.{Val, vptr, vstruct, vcons, vnil, of_list, has_ty, WT}
 use base.Fml.{Fml, fex, fsep}
 use base.Logic.{never, fst∗}
 use types.Logic.{Logic, sem}
@@ -27,12 +30,18 @@ use Rattle.dma_ffi.specs.inner.Owned.{owned, may_free}
 abbrev pub heap : Al
 heap = record { row = Z; laws = LZ; g = g; d = impl [] tnil dnil; drops = impl [] tnil dnil }
 
+-- a struct of one field
 abbrev pub alone : Val → Val
 alone v = vstruct (vcons v vnil)
 
 pub alone_typed : (p : Ptr) → Good (ty_struct [] (tcons ty_ptr tnil)) (alone (ptr_val p))
 alone_typed (block_ptr b o) = (tt, (tt, tt))
 alone_typed null_ptr = (tt, (record { fits = lit< tt }, tt))
+
+-- a box is a pointer and the handle of the heap
+pub box_good : (b o : ℕ) (h : Val) → Good (layout Z) h
+    → T (has_ty (layout Z) h && true) × WT (vstruct (vcons (vptr b o) (vcons h vnil)))
+box_good b o h fits = (and_tt (has_ty (layout Z) h) fits.0, (tt, (fits.1, tt)))
 
 pub some_of : {A : Type 0} (w : Option A) → IsSome w → (x : A) × (w ≡ Some x)
 some_of (Some x) h = (x, refl)

@@ -3,7 +3,7 @@ use Rattle.std.specs.Prelude.{◌≡◌, ℕ, ◌+◌, ◌≤◌, ◌<◌, ◌�
 use Rattle.dma_mem.specs.Flags.{flags_of}
 use Rattle.dma_mem.specs.Lent.{marks_at}
 use Rattle.dma_mem.specs.Marking.{MarkList}
-use Rattle.dma_mem.specs.Places.{Descriptor, filling}
+use Rattle.dma_mem.specs.Places.{Descriptor, end_of_addresses, filling}
 use Rattle.dma_mem.specs.Refusals.{refusal_of, refusal_of_fill}
 use Rattle.dma_mem.specs.Regions.{in_order, pieces_of, image_of, gaps_of, rest_from}
 use Rattle.dma_mem.specs.declared.marks.MarkKind.{MarkKind}
@@ -11,11 +11,12 @@ use Rattle.dma_mem.specs.declared.regions.Region.{Region}
 use Rattle.dma_mem.specs.declared.segment.Segment.{Segment}
 use Rattle.dma_mem.specs.declared.transfer.TransferFault.{TransferFault}
 use Rattle.dma_mem.specs.declared.transfer.TransferFault.TheVariants as transfers
+use Rattle.dma_insn.specs.AssemblyText.{most_bytes}
 use Rattle.dma_chan.specs.Channel.{ChannelValue, unloaded, loaded}
 use Rattle.dma_chan.specs.Compiled.{compiled}
 use Rattle.dma_chan.specs.LentRegions.{segment_of}
-use Rattle.dma_chan.specs.Saved.{IsChannelValue, IsSave, saved}
-use Rattle.dma_chan.specs.Stepping.{Stand, TakesSteps, signal_after}
+use Rattle.dma_chan.specs.Saved.{IsChannelValue, IsSave, most_saved, saved}
+use Rattle.dma_chan.specs.Stepping.{Machine, TakesSteps, signal_after}
 use Rattle.dma_chan.specs.declared.turn.ChanTurn.{ChanTurn}
 use Rattle.dma_chan.specs.declared.turn.ChanTurn.TheVariants.{Moved, Waiting, Ended, Fault}
 use Rattle.dma_chan.specs.declared.lent.Taken.{Taken}
@@ -80,9 +81,9 @@ LoadsFill src dst wait signal = LoadsTransfer (refusal_of_fill src dst wait sign
 -- bytes, and with `no_memory` only for at most 8,192; a failed call changes nothing.
 abbrev pub LoadsBytes : List ℕ → ChannelValue → ℤ → ChannelValue → Type 0
 LoadsBytes bytes c code d =
-    ((code ≡ ok_code) × (length bytes ≤ 8192) × (d ≡ loaded (record { bytes = bytes; cost = None })))
-    ⊎ (((code ≡ program_too_long) × (8192 < length bytes) × (d ≡ c))
-    ⊎ ((code ≡ no_memory) × (length bytes ≤ 8192) × (d ≡ c)))
+    ((code ≡ ok_code) × (length bytes ≤ most_bytes) × (d ≡ loaded (record { bytes = bytes; cost = None })))
+    ⊎ (((code ≡ program_too_long) × (most_bytes < length bytes) × (d ≡ c))
+    ⊎ ((code ≡ no_memory) × (length bytes ≤ most_bytes) × (d ≡ c)))
 
 -- the channel without its program; its marks, registers and counts are unchanged
 abbrev pub stopped : MarkedChannel → MarkedChannel
@@ -114,7 +115,7 @@ WritesRegisters (Some m) code before after new = (code ≡ ok_code) × (after �
 
 -- whether a range can't be marked: it is empty, or ends above 2^32
 abbrev pub is_bad_range : Segment → Bool
-is_bad_range range = range.len == 0 || nat_lt 4294967296 (range.addr + range.len)
+is_bad_range range = range.len == 0 || nat_lt end_of_addresses (range.addr + range.len)
 
 -- Marks a range for this kind. Fails with `bad_kind` if no kind has the number, with `bad_range` if the range can't be
 -- marked, or with `no_memory`; the causes are checked in this order, and a failed call changes nothing.
@@ -140,7 +141,7 @@ WritesSave None code buffer out len written new = (code ≡ not_open) × (out �
 WritesSave (Some m) code buffer out len written new =
     (code ≡ room_code (saved m.channel) buffer) × (out ≡ laid_into (saved m.channel) buffer)
     × (written ≡ where_fits (saved m.channel) buffer (length (saved m.channel)) len)
-    × (length (saved m.channel) ≤ 8500) × IsChannelValue m.channel × (new ≡ Some m)
+    × (length (saved m.channel) ≤ most_saved) × IsChannelValue m.channel × (new ≡ Some m)
 
 -- Makes the channel the one of a save: these bytes are its save, and no other value that satisfies `IsChannelValue`
 -- has this save. Fails with `bad_save` exactly if the bytes aren't a save, and with `no_memory` only if they are one; a
@@ -165,7 +166,7 @@ abbrev pub LoadsFrom : List Region → ℕ → ChannelValue → ℤ → ChannelV
 LoadsFrom regions addr c code d =
     ((code ≡ bad_regions) × (are_usable regions ≡ false) × (d ≡ c))
     ⊎ (((code ≡ ok_code) × (are_usable regions ≡ true)
-    × (d ≡ loaded (record { bytes = take 8192 (rest_from (pieces_of regions) addr); cost = None })))
+    × (d ≡ loaded (record { bytes = take most_bytes (rest_from (pieces_of regions) addr); cost = None })))
     ⊎ ((code ≡ no_memory) × (are_usable regions ≡ true) × (d ≡ c)))
 
 -- ---- steps
@@ -177,7 +178,7 @@ pub record Lent : Type 0 where
   pub flags : ℕ
 
 -- a channel over regions and flags
-abbrev pub over : MarkedChannel → List Region → ℕ → Stand
+abbrev pub over : MarkedChannel → List Region → ℕ → Machine
 over m regions flags = record { channel = m.channel; image = image_of (pieces_of regions); flags = flags_of flags }
 
 -- the marks at which the channel's bursts fail: the gaps between the regions, and the channel's own marks

@@ -3,7 +3,7 @@ use Rattle.std.specs.Prelude.{◌≡◌, ℕ, ◌<◌, ℤ, false, Option, None,
 use Rattle.std.specs.List.{All}
 use Rattle.dma_mem.specs.declared.marks.MarkKind.{MarkKind}
 use Rattle.dma_mem.specs.declared.segment.Segment.{Segment}
-use Rattle.dma_mem.specs.Places.{filling}
+use Rattle.dma_mem.specs.Places.{end_of_addresses, filling}
 use Rattle.dma_engine.specs.declared.call.Call.{Call}
 use Rattle.dma_engine.specs.declared.call.Call.TheVariants.{Submit, Step, Mark}
 use Rattle.dma_engine.specs.declared.call.Reply.{Reply}
@@ -69,7 +69,7 @@ pub record Exchange : Type 0 where
 abbrev pub CanBeRequested : Request → Type 0
 CanBeRequested (ask_call call) = IsCall call
 CanBeRequested (ask_copy ch t) = t.fill ≡ false
-CanBeRequested (ask_fill ch src dst wait signal) = src < 4294967296
+CanBeRequested (ask_fill ch src dst wait signal) = src < end_of_addresses
 CanBeRequested _ = Unit {0}
 
 -- Calls from C on one controller, one after another, each with a request that C can make. The controller has the engine

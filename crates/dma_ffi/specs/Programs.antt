@@ -2,7 +2,7 @@
 -- bytes.
 use Rattle.std.specs.Prelude.{◌≡◌, ℕ, ◌<◌, ◌≤◌, ◌⊎◌, Bool, true, false, if◌then◌else◌, nat_le, ℤ, List, [], ◌∷◌, ◌++◌, length, drop, codes}
 use Rattle.dma_mem.specs.Image.{is_size}
-use Rattle.dma_insn.specs.AssemblyText.{Assembles, IsFirstFault}
+use Rattle.dma_insn.specs.AssemblyText.{Assembles, IsFirstFault, most_bytes}
 use Rattle.dma_insn.specs.Disassembly.{Disassembles, IsDisFault}
 use Rattle.dma_insn.specs.declared.assembler.AsmFault.TheVariants as texts
 use Rattle.dma_insn.specs.declared.assembler.Cause.{Cause}
@@ -74,7 +74,7 @@ abbrev pub RunsProgram : List ℕ → ℕ → ℤ → List ℕ → List ℕ → 
 RunsProgram program limit code image left before ended =
     ((code ≡ size_out_of_range) × (is_size (length image) ≡ false) × (left ≡ image) × (ended ≡ before))
     ⊎ ((is_size (length image) ≡ true)
-    × (((code ≡ ok_code) × (length program ≤ 8192)
+    × (((code ≡ ok_code) × (length program ≤ most_bytes)
     × ((how : RunEnd) × RunsAlone program image limit how left × (ended ≡ end_of how)))
-    ⊎ (((code ≡ program_too_long) × (8192 < length program) × (left ≡ image) × (ended ≡ before))
-    ⊎ ((code ≡ no_memory) × (length program ≤ 8192) × (left ≡ image) × (ended ≡ before)))))
+    ⊎ (((code ≡ program_too_long) × (most_bytes < length program) × (left ≡ image) × (ended ≡ before))
+    ⊎ ((code ≡ no_memory) × (length program ≤ most_bytes) × (left ≡ image) × (ended ≡ before)))))

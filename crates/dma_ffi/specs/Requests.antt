@@ -19,7 +19,7 @@ use Rattle.dma_engine.specs.Advance as steps
 use Rattle.dma_engine.specs.History.{kept_bytes}
 use Rattle.dma_engine.specs.View.{View, EngineState, object_of, running, running_on, new_fault, new_view}
 use Rattle.dma_engine.specs.Answer.{CallAnswers, StepAnswers}
-use Rattle.dma_engine.specs.Room.{HasGivenBack}
+use Rattle.dma_engine.specs.Room.{HasNoSpare}
 use Rattle.dma_ffi.specs.declared.steps.Taken.{Taken}
 use Rattle.dma_ffi.specs.declared.reports.DmaConflict.{DmaConflict}
 use Rattle.dma_ffi.specs.declared.reports.DmaOutcome.{DmaOutcome}
@@ -94,10 +94,6 @@ the_history_bytes v = numbered (min (kept_bytes v.history) 18446744073709551615)
 -- the number of running transfers
 abbrev pub the_running_count : View → Value
 the_running_count v = numbered (length (running (object_of v) v.schedule))
-
--- the copy of these sources to these destinations, with the events that it waits for and signals
-abbrev pub copying : List Segment → List Segment → Option ℕ → Option ℕ → Descriptor
-copying src dst wait signal = record { fill = false; src = src; dst = dst; wait = wait; signal = signal }
 
 -- ---- steps in a row
 
@@ -232,12 +228,12 @@ IsWritten answer (a_report before after) = after ≡ report_in answer before
 -- What a call does to the engine's whole state, beyond its view. A request for a status, a result or a value doesn't
 -- change the state, and neither does a refused checkpoint. After a checkpoint that succeeds the lists have no spare
 -- capacity.
-abbrev pub Leaves : Request → ℤ → EngineState → EngineState → Type 0
-Leaves (ask_call (StatusOf ch cookie)) code e e' = e' ≡ e
-Leaves (ask_call (ResultOf ch cookie)) code e e' = e' ≡ e
-Leaves (ask_value value) code e e' = e' ≡ e
-Leaves (ask_call Checkpoint) code e e' = (code ≡ ok_code → HasGivenBack e') × (code ≢ ok_code → e' ≡ e)
-Leaves _ code e e' = Unit {0}
+abbrev pub EffectOf : Request → ℤ → EngineState → EngineState → Type 0
+EffectOf (ask_call (StatusOf ch cookie)) code e e' = e' ≡ e
+EffectOf (ask_call (ResultOf ch cookie)) code e e' = e' ≡ e
+EffectOf (ask_value value) code e e' = e' ≡ e
+EffectOf (ask_call Checkpoint) code e e' = (code ≡ ok_code → HasNoSpare e') × (code ≢ ok_code → e' ≡ e)
+EffectOf _ code e e' = Unit {0}
 
 -- What a call from C on a controller returns and writes. The controller holds the first engine before the call and the
 -- second one after it. Without an engine each request is answered by `closed`, and there is no engine afterwards. With
@@ -247,7 +243,7 @@ unfoldable pub Returns : Option EngineState → Request → ℤ → Written → 
 Returns None request code written new = (new ≡ None) × (code ≡ code_of closed) × IsWritten closed written
 Returns (Some e) request code written new =
     IsSomeAnd new (λ e'. (answer : Answer) × Answers e.view request answer e'.view × (code ≡ code_of answer)
-    × IsWritten answer written × Leaves request code e e')
+    × IsWritten answer written × EffectOf request code e e')
 
 -- ---- an engine made
 

@@ -93,13 +93,12 @@ pub extern "C" fn dma330_channel_step(
         most result report.old report.new
         (record { channel = kept.new.channel.value; regions = regions.new; flags = flags.new }) }
 {
-    if !kept.is_open() {
+    let Some(marked) = kept.as_kept().get_mut() else {
         return NOT_OPEN;
-    }
+    };
     if !are_usable(regions) {
         return BAD_REGIONS;
     }
-    let marked = kept.channel.as_mut();
     if !marked.channel.is_loaded() {
         return NO_PROGRAM;
     }

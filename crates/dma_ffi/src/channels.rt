@@ -4,9 +4,9 @@
 //! not null, and they overlap neither each other nor anything else that the call gets.
 
 ghost use Rattle.std.specs.Prelude.{◌≡◌, None};
+ghost use Rattle.dma_mem.specs.Places.{copying};
 ghost use Rattle.dma_ffi.specs.Channels.{Becomes, LoadsBytes, LoadsCopy, LoadsFill, LoadsFrom, MarksRange, OnChannel, OnOpen, Opens, Restores, WritesRegisters, WritesSave, are_usable, registers_of, stopped, unmarked};
 ghost use Rattle.dma_ffi.specs.Codes.{event_of, mark_kind};
-ghost use Rattle.dma_ffi.specs.Requests.{copying};
 ghost use Rattle.dma_ffi.specs.inner.Loads.{LoadsMade};
 
 use crate::codes::{
@@ -27,9 +27,6 @@ use std::alloc::Global;
 
 /// The maximum number of regions.
 const MAX_REGIONS: usize = 8;
-
-/// The end of the address space.
-const END_OF_ADDRESSES: u64 = 1 << 32;
 
 /// A channel's registers and counts.
 #[repr(C)]
@@ -56,6 +53,7 @@ pub struct ChannelRegisters {
 pub extern "C" fn dma330_channel_open(alloc: Global, kept: &mut KeptChannel) -> i32
     ensures { Opens kept.old.channel.value result kept.new.channel.value }
 {
+    let kept = kept.as_kept();
     if kept.is_open() {
         return ALREADY_OPEN;
     }
@@ -75,7 +73,7 @@ pub extern "C" fn dma330_channel_open(alloc: Global, kept: &mut KeptChannel) -> 
 pub extern "C" fn dma330_channel_close(alloc: Global, kept: &mut KeptChannel)
     ensures { kept.new.channel.value ≡ None }
 {
-    kept.close(alloc);
+    kept.as_kept().close(alloc);
 }
 
 // ---- programs
@@ -111,11 +109,11 @@ pub extern "C" fn dma330_channel_load_copy(
     ensures { OnChannel (LoadsCopy (copying src.now dst.now (event_of wait) (event_of signal)))
         kept.old.channel.value result kept.new.channel.value }
 {
-    if !kept.is_open() {
+    let Some(marked) = kept.as_kept().get_mut() else {
         return NOT_OPEN;
-    }
+    };
     let made = Transfer::new(alloc, src, dst, event_of(wait), event_of(signal));
-    load(alloc, &mut kept.channel.as_mut().channel, made)
+    load(alloc, &mut marked.channel, made)
 }
 
 /// Loads the program of a fill with the byte at `src` in place of the former program. A negative `wait` or `signal` is
@@ -132,11 +130,11 @@ pub extern "C" fn dma330_channel_load_fill(
     ensures { OnChannel (LoadsFill src dst.now (event_of wait) (event_of signal))
         kept.old.channel.value result kept.new.channel.value }
 {
-    if !kept.is_open() {
+    let Some(marked) = kept.as_kept().get_mut() else {
         return NOT_OPEN;
-    }
+    };
     let made = Transfer::fill(alloc, src, dst, event_of(wait), event_of(signal));
-    load(alloc, &mut kept.channel.as_mut().channel, made)
+    load(alloc, &mut marked.channel, made)
 }
 
 /// Loads these bytes as a program in place of the former program. The bytes are copied, so later changes to them have
@@ -150,10 +148,10 @@ pub extern "C" fn dma330_channel_load_program(
     ensures { OnChannel (LoadsBytes program.now) kept.old.channel.value result
         kept.new.channel.value }
 {
-    if !kept.is_open() {
+    let Some(marked) = kept.as_kept().get_mut() else {
         return NOT_OPEN;
-    }
-    match kept.channel.as_mut().channel.load_bytes(alloc, program) {
+    };
+    match marked.channel.load_bytes(alloc, program) {
         Ok(()) => OK,
         Err(fault) => code_of_program(fault),
     }
@@ -179,15 +177,15 @@ pub extern "C" fn dma330_channel_load_from(
     ensures { OnChannel (LoadsFrom regions.now addr) kept.old.channel.value result
         kept.new.channel.value }
 {
-    if !kept.is_open() {
+    let Some(marked) = kept.as_kept().get_mut() else {
         return NOT_OPEN;
-    }
+    };
     if !are_usable(regions) {
         return BAD_REGIONS;
     }
     let rest = bytes_from(regions, addr);
     let program = &rest[..MAX_BYTES.min(rest.len())];
-    match kept.channel.as_mut().channel.load_bytes(alloc, program) {
+    match marked.channel.load_bytes(alloc, program) {
         Ok(()) => OK,
         Err(_) => NO_MEMORY,
     }
@@ -198,10 +196,10 @@ pub extern "C" fn dma330_channel_load_from(
 pub extern "C" fn dma330_channel_stop(kept: &mut KeptChannel) -> i32
     ensures { Becomes stopped kept.old.channel.value result kept.new.channel.value }
 {
-    if !kept.is_open() {
+    let Some(marked) = kept.as_kept().get_mut() else {
         return NOT_OPEN;
-    }
-    kept.channel.as_mut().channel.unload();
+    };
+    marked.channel.unload();
     OK
 }
 
@@ -234,30 +232,30 @@ pub extern "C" fn dma330_channel_registers(
     ensures { WritesRegisters kept.old.channel.value result registers.old registers.new
         kept.new.channel.value }
 {
-    if !kept.is_open() {
+    let Some(marked) = kept.as_kept().get_mut() else {
         return NOT_OPEN;
-    }
-    *registers = registers_of(&kept.channel.as_mut().channel);
+    };
+    *registers = registers_of(&marked.channel);
     OK
 }
 
 /// Marks a range: kind 0 for loads of this channel, 1 for stores. Fails for any other kind, for a range that is empty
-/// or ends above the last address, or if out of memory.
+/// or ends above 2^32, or if out of memory.
 #[unsafe(no_mangle)]
 pub extern "C" fn dma330_channel_mark(kept: &mut KeptChannel, kind: u32, range: Segment) -> i32
     ensures { OnOpen (MarksRange (mark_kind kind) range) kept.old.channel.value result
         kept.new.channel.value }
 {
-    if !kept.is_open() {
+    let Some(marked) = kept.as_kept().get_mut() else {
         return NOT_OPEN;
-    }
+    };
     let Some(kind) = kind_of(kind) else {
         return BAD_KIND;
     };
-    if range.len == 0 || u64::from(range.addr) + u64::from(range.len) > END_OF_ADDRESSES {
+    if range.len == 0 || range.wraps() {
         return BAD_RANGE;
     }
-    match kept.channel.as_mut().marks.add(kind, range) {
+    match marked.marks.add(kind, range) {
         Ok(()) => OK,
         Err(_) => NO_MEMORY,
     }
@@ -268,10 +266,10 @@ pub extern "C" fn dma330_channel_mark(kept: &mut KeptChannel, kind: u32, range: 
 pub extern "C" fn dma330_channel_unmark(kept: &mut KeptChannel) -> i32
     ensures { Becomes unmarked kept.old.channel.value result kept.new.channel.value }
 {
-    if !kept.is_open() {
+    let Some(marked) = kept.as_kept().get_mut() else {
         return NOT_OPEN;
-    }
-    kept.channel.as_mut().marks.clear();
+    };
+    marked.marks.clear();
     OK
 }
 
@@ -288,14 +286,10 @@ pub extern "C" fn dma330_channel_save(
     ensures { WritesSave kept.old.channel.value result out.old out.new len.old len.new
         kept.new.channel.value }
 {
-    if !kept.is_open() {
+    let Some(marked) = kept.as_kept().get_mut() else {
         return NOT_OPEN;
-    }
-    found(
-        kept.channel.as_mut().channel.save(out),
-        len,
-        BUFFER_TOO_SMALL,
-    )
+    };
+    found(marked.channel.save(out), len, BUFFER_TOO_SMALL)
 }
 
 /// Restores the channel from a save. Its marks are unchanged. Fails if the bytes aren't a save, or if out of memory.
@@ -303,10 +297,10 @@ pub extern "C" fn dma330_channel_save(
 pub extern "C" fn dma330_channel_restore(alloc: Global, kept: &mut KeptChannel, save: &[u8]) -> i32
     ensures { OnChannel (Restores save.now) kept.old.channel.value result kept.new.channel.value }
 {
-    if !kept.is_open() {
+    let Some(marked) = kept.as_kept().get_mut() else {
         return NOT_OPEN;
-    }
-    match kept.channel.as_mut().channel.restore(alloc, save) {
+    };
+    match marked.channel.restore(alloc, save) {
         Ok(()) => OK,
         Err(RestoreFault::BadSave) => BAD_SAVE,
         Err(RestoreFault::NoMemory) => NO_MEMORY,

@@ -1,11 +1,29 @@
 //! The value that C keeps for an engine between calls.
 
-ghost use Rattle.std.specs.Prelude.{◌≡◌, ◌↔◌, IsTrue, IsSome, None, Some};
+ghost use Rattle.std.specs.Prelude.{◌≡◌, ◌↔◌, IsTrue, IsSome, Option};
+ghost use Rattle.std.specs.Borrow.{sem};
+ghost use Rattle.dma_engine.specs.View.{EngineState};
+ghost use Rattle.dma_engine.specs.contracts.engine.Engine.{the_row};
+ghost use Rattle.dma_ffi.specs.inner.Owned.{owned};
 
-use crate::box_pointer::BoxPointer;
-use crate::engine_pointer::EnginePointer;
+use crate::kept::Kept;
 use dma_engine::Engine;
-use std::alloc::Global;
+use std::marker::Model;
+
+/// The pointer that owns an engine, or nothing. An exported function takes no generic type and no pointer to an engine,
+/// so this is the [`HeapPointer`](crate::heap_pointer::HeapPointer) of an engine as a pointer to bytes.
+#[repr(C)]
+pub struct EnginePointer {
+    at: *mut u8,
+    pub ghost value: { Option EngineState },
+}
+
+impl Model for EnginePointer {
+    ghost also_owns = { λ p. owned the_row p.at p.value };
+}
+
+// What the pointer owns doesn't depend on the thread.
+unsafe impl Send for EnginePointer {}
 
 /// An engine, or none. C sets it to zeros, which mean no engine, before the first call, and doesn't read or write it
 /// otherwise. It has no `Drop`, so the compiler rejects code that drops or overwrites it.
@@ -17,32 +35,14 @@ pub struct Controller {
 }
 
 impl Controller {
-    /// Returns whether there is an engine.
-    pub fn is_open(&self) -> bool
-        ensures { IsTrue result ↔ IsSome self.now.engine.value }
-    {
-        self.is_open
-    }
+    ghost use Rattle.dma_ffi.specs.inner.Lending.{LendsController};
 
-    /// Puts an engine into a controller without one.
-    pub fn open(&mut self, engine: Box<Engine>)
-        requires { self.old.engine.value ≡ None }
-        ensures { self.new.engine.value ≡ Some engine.value }
+    /// Returns the controller as a [`Kept`], which has the same fields.
+    pub fn as_kept(&mut self) -> &mut Kept<Engine>
+        ensures* writes_back { sem 𝓛 (LendsController self.entry result) }
+        ensures value { result.now.at.value ≡ self.old.engine.value }
     {
-        let full = EnginePointer::full(BoxPointer::of(engine));
-        std::mem::replace(&mut self.engine, full).end();
-        self.is_open = true;
-    }
-
-    /// Frees the engine, if any.
-    pub fn close(&mut self, alloc: Global)
-        ensures { self.new.engine.value ≡ None }
-    {
-        if self.is_open {
-            self.is_open = false;
-            let engine = std::mem::replace(&mut self.engine, EnginePointer::empty());
-            drop(engine.into_pointer(alloc).into_box());
-        }
+        unsafe { &mut *(self as *mut Controller as *mut Kept<Engine>) }
     }
 }
 

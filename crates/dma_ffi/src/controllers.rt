@@ -3,8 +3,9 @@
 #![tactic(auto, using(crate::proofs::Returns::returned))]
 
 ghost use Rattle.std.specs.Prelude.{◌≡◌, None, length};
+ghost use Rattle.dma_mem.specs.Places.{copying};
 ghost use Rattle.dma_ffi.specs.Codes.{event_of};
-ghost use Rattle.dma_ffi.specs.Requests.{Opens, Returns, a_conflict, a_number, a_report, a_run, an_outcome, ask_call, ask_copy, ask_fill, ask_mark, ask_steps, ask_value, bytes_or_conflict, copying, nothing, the_forgotten, the_history_bytes, the_history_entries, the_run, the_running_count, the_steps, the_unfinished};
+ghost use Rattle.dma_ffi.specs.Requests.{Opens, Returns, a_conflict, a_number, a_report, a_run, an_outcome, ask_call, ask_copy, ask_fill, ask_mark, ask_steps, ask_value, bytes_or_conflict, nothing, the_forgotten, the_history_bytes, the_history_entries, the_run, the_running_count, the_steps, the_unfinished};
 ghost use Rattle.dma_ffi.specs.inner.Submits.{Submits};
 
 use crate::codes::{
@@ -30,7 +31,8 @@ pub extern "C" fn dma330_open(
 ) -> i32
     ensures { Opens controller.old.engine.value size channels result controller.new.engine.value }
 {
-    if controller.is_open() {
+    let kept = controller.as_kept();
+    if kept.is_open() {
         return ALREADY_OPEN;
     }
     let engine = match Engine::new(alloc, size, channels) {
@@ -40,7 +42,7 @@ pub extern "C" fn dma330_open(
     let Ok(engine) = Box::new(alloc, engine) else {
         return NO_MEMORY;
     };
-    controller.open(engine);
+    kept.open(engine);
     OK
 }
 
@@ -49,7 +51,7 @@ pub extern "C" fn dma330_open(
 pub extern "C" fn dma330_close(alloc: Global, controller: &mut Controller)
     ensures { controller.new.engine.value ≡ None }
 {
-    controller.close(alloc);
+    controller.as_kept().close(alloc);
 }
 
 /// Writes bytes to the memory, starting at address `addr`. If the call conflicts with a transfer, it writes that
@@ -64,10 +66,10 @@ pub extern "C" fn dma330_write(
     ensures { Returns controller.old.engine.value (ask_call (Call.Write addr bytes.now)) result
         (a_conflict conflict.old conflict.new) controller.new.engine.value }
 {
-    if !controller.is_open() {
+    let Some(engine) = controller.as_kept().get_mut() else {
         return NOT_OPEN;
-    }
-    done_unless(controller.engine.as_mut().write(addr, bytes), conflict)
+    };
+    done_unless(engine.write(addr, bytes), conflict)
 }
 
 /// Reads bytes of the memory, starting at address `addr`, until `out` is full. If the call conflicts with a transfer,
@@ -83,10 +85,10 @@ pub extern "C" fn dma330_read(
         result (bytes_or_conflict out.old out.new conflict.old conflict.new)
         controller.new.engine.value }
 {
-    if !controller.is_open() {
+    let Some(engine) = controller.as_kept().get_mut() else {
         return NOT_OPEN;
-    }
-    done_unless(controller.engine.as_mut().read_into(addr, out), conflict)
+    };
+    done_unless(engine.read_into(addr, out), conflict)
 }
 
 // Submits a transfer to a channel and writes its cookie, or returns the code of the fault for which no transfer was
@@ -124,11 +126,11 @@ pub extern "C" fn dma330_submit(
         (ask_copy ch (copying src.now dst.now (event_of wait) (event_of signal))) result
         (a_number cookie.old cookie.new) controller.new.engine.value }
 {
-    if !controller.is_open() {
+    let Some(engine) = controller.as_kept().get_mut() else {
         return NOT_OPEN;
-    }
+    };
     let made = Transfer::new(alloc, src, dst, event_of(wait), event_of(signal));
-    submit(controller.engine.as_mut(), ch, made, cookie)
+    submit(engine, ch, made, cookie)
 }
 
 /// Submits a fill to a channel, and writes its cookie. The byte at `src` is copied to every address of `dst`. A
@@ -148,11 +150,11 @@ pub extern "C" fn dma330_submit_fill(
         (ask_fill ch src dst.now (event_of wait) (event_of signal)) result
         (a_number cookie.old cookie.new) controller.new.engine.value }
 {
-    if !controller.is_open() {
+    let Some(engine) = controller.as_kept().get_mut() else {
         return NOT_OPEN;
-    }
+    };
     let made = Transfer::fill(alloc, src, dst, event_of(wait), event_of(signal));
-    submit(controller.engine.as_mut(), ch, made, cookie)
+    submit(engine, ch, made, cookie)
 }
 
 /// Issues all submitted cookies of a channel, and writes their number.
@@ -161,10 +163,10 @@ pub extern "C" fn dma330_issue(controller: &mut Controller, ch: u8, count: &mut 
     ensures { Returns controller.old.engine.value (ask_call (Call.Issue ch)) result
         (a_number count.old count.new) controller.new.engine.value }
 {
-    if !controller.is_open() {
+    let Some(engine) = controller.as_kept().get_mut() else {
         return NOT_OPEN;
-    }
-    answered(controller.engine.as_mut().issue(ch), count)
+    };
+    answered(engine.issue(ch), count)
 }
 
 /// Pauses a channel.
@@ -173,10 +175,10 @@ pub extern "C" fn dma330_pause(controller: &mut Controller, ch: u8) -> i32
     ensures { Returns controller.old.engine.value (ask_call (Call.Pause ch)) result nothing
         controller.new.engine.value }
 {
-    if !controller.is_open() {
+    let Some(engine) = controller.as_kept().get_mut() else {
         return NOT_OPEN;
-    }
-    done(controller.engine.as_mut().pause(ch))
+    };
+    done(engine.pause(ch))
 }
 
 /// Ends the pause of a channel.
@@ -185,10 +187,10 @@ pub extern "C" fn dma330_resume(controller: &mut Controller, ch: u8) -> i32
     ensures { Returns controller.old.engine.value (ask_call (Call.Resume ch)) result nothing
         controller.new.engine.value }
 {
-    if !controller.is_open() {
+    let Some(engine) = controller.as_kept().get_mut() else {
         return NOT_OPEN;
-    }
-    done(controller.engine.as_mut().resume(ch))
+    };
+    done(engine.resume(ch))
 }
 
 /// Aborts all unfinished cookies of a channel, and writes their number.
@@ -197,10 +199,10 @@ pub extern "C" fn dma330_terminate(controller: &mut Controller, ch: u8, count: &
     ensures { Returns controller.old.engine.value (ask_call (Call.Terminate ch)) result
         (a_number count.old count.new) controller.new.engine.value }
 {
-    if !controller.is_open() {
+    let Some(engine) = controller.as_kept().get_mut() else {
         return NOT_OPEN;
-    }
-    answered(controller.engine.as_mut().terminate(ch), count)
+    };
+    answered(engine.terminate(ch), count)
 }
 
 /// Takes steps of a channel, at most `most`, up to the first that neither starts a transfer nor moves, and writes a
@@ -215,10 +217,10 @@ pub extern "C" fn dma330_step(
     ensures { Returns controller.old.engine.value (ask_steps ch most) result
         (a_report report.old report.new) controller.new.engine.value }
 {
-    if !controller.is_open() {
+    let Some(engine) = controller.as_kept().get_mut() else {
         return NOT_OPEN;
-    }
-    let steps = take_steps(controller.engine.as_mut(), ch, most);
+    };
+    let steps = take_steps(engine, ch, most);
     answered(steps.map(report_of), report)
 }
 
@@ -228,10 +230,10 @@ pub extern "C" fn dma330_status(controller: &mut Controller, ch: u8, cookie: u32
     ensures { Returns controller.old.engine.value (ask_call (Call.Status ch cookie)) result nothing
         controller.new.engine.value }
 {
-    if !controller.is_open() {
+    let Some(engine) = controller.as_kept().get_mut() else {
         return NOT_OPEN;
-    }
-    code_of_status(controller.engine.as_mut().status(ch, cookie))
+    };
+    code_of_status(engine.status(ch, cookie))
 }
 
 /// Writes how a cookie finished. Fails if that isn't known.
@@ -245,10 +247,10 @@ pub extern "C" fn dma330_result(
     ensures { Returns controller.old.engine.value (ask_call (Call.Result ch cookie)) result
         (an_outcome outcome.old outcome.new) controller.new.engine.value }
 {
-    if !controller.is_open() {
+    let Some(engine) = controller.as_kept().get_mut() else {
         return NOT_OPEN;
-    }
-    let known = controller.engine.as_mut().result(ch, cookie);
+    };
+    let known = engine.result(ch, cookie);
     found(known.map(outcome_of), outcome, NO_RESULT)
 }
 
@@ -258,10 +260,10 @@ pub extern "C" fn dma330_running(controller: &mut Controller, ch: u8, run: &mut 
     ensures { Returns controller.old.engine.value (ask_value (the_run ch)) result
         (a_run run.old run.new) controller.new.engine.value }
 {
-    if !controller.is_open() {
+    let Some(engine) = controller.as_kept().get_mut() else {
         return NOT_OPEN;
-    }
-    found(controller.engine.as_mut().running(ch), run, NOT_RUNNING)
+    };
+    found(engine.running(ch), run, NOT_RUNNING)
 }
 
 /// Writes the number of unfinished cookies of a channel.
@@ -270,10 +272,10 @@ pub extern "C" fn dma330_unfinished(controller: &mut Controller, ch: u8, count: 
     ensures { Returns controller.old.engine.value (ask_value (the_unfinished ch)) result
         (a_number count.old count.new) controller.new.engine.value }
 {
-    if !controller.is_open() {
+    let Some(engine) = controller.as_kept().get_mut() else {
         return NOT_OPEN;
-    }
-    *count = controller.engine.as_mut().unfinished(ch);
+    };
+    *count = engine.unfinished(ch);
     OK
 }
 
@@ -283,10 +285,10 @@ pub extern "C" fn dma330_forgotten(controller: &mut Controller, ch: u8, count: &
     ensures { Returns controller.old.engine.value (ask_value (the_forgotten ch)) result
         (a_number count.old count.new) controller.new.engine.value }
 {
-    if !controller.is_open() {
+    let Some(engine) = controller.as_kept().get_mut() else {
         return NOT_OPEN;
-    }
-    *count = controller.engine.as_mut().forgotten(ch);
+    };
+    *count = engine.forgotten(ch);
     OK
 }
 
@@ -296,11 +298,11 @@ pub extern "C" fn dma330_mark(controller: &mut Controller, kind: u32, range: Seg
     ensures { Returns controller.old.engine.value (ask_mark kind range) result nothing
         controller.new.engine.value }
 {
-    if !controller.is_open() {
+    let Some(engine) = controller.as_kept().get_mut() else {
         return NOT_OPEN;
-    }
+    };
     match kind_of(kind) {
-        Some(kind) => done(controller.engine.as_mut().mark(kind, range)),
+        Some(kind) => done(engine.mark(kind, range)),
         None => BAD_KIND,
     }
 }
@@ -311,10 +313,10 @@ pub extern "C" fn dma330_unmark(controller: &mut Controller) -> i32
     ensures { Returns controller.old.engine.value (ask_call Call.Unmark) result nothing
         controller.new.engine.value }
 {
-    if !controller.is_open() {
+    let Some(engine) = controller.as_kept().get_mut() else {
         return NOT_OPEN;
-    }
-    done(controller.engine.as_mut().unmark())
+    };
+    done(engine.unmark())
 }
 
 /// Sets the flag of an event.
@@ -323,10 +325,10 @@ pub extern "C" fn dma330_raise(controller: &mut Controller, event: u8) -> i32
     ensures { Returns controller.old.engine.value (ask_call (Call.Raise event)) result nothing
         controller.new.engine.value }
 {
-    if !controller.is_open() {
+    let Some(engine) = controller.as_kept().get_mut() else {
         return NOT_OPEN;
-    }
-    done(controller.engine.as_mut().raise(event))
+    };
+    done(engine.raise(event))
 }
 
 /// Makes the current state the base of the history, forgets the history before it, and frees the memory that it used.
@@ -336,10 +338,10 @@ pub extern "C" fn dma330_checkpoint(controller: &mut Controller, conflict: &mut 
     ensures { Returns controller.old.engine.value (ask_call Call.Checkpoint) result
         (a_conflict conflict.old conflict.new) controller.new.engine.value }
 {
-    if !controller.is_open() {
+    let Some(engine) = controller.as_kept().get_mut() else {
         return NOT_OPEN;
-    }
-    done_unless(controller.engine.as_mut().checkpoint(), conflict)
+    };
+    done_unless(engine.checkpoint(), conflict)
 }
 
 /// Writes the step count.
@@ -348,10 +350,10 @@ pub extern "C" fn dma330_steps(controller: &mut Controller, steps: &mut u64) -> 
     ensures { Returns controller.old.engine.value (ask_value the_steps) result
         (a_number steps.old steps.new) controller.new.engine.value }
 {
-    if !controller.is_open() {
+    let Some(engine) = controller.as_kept().get_mut() else {
         return NOT_OPEN;
-    }
-    *steps = controller.engine.as_mut().steps();
+    };
+    *steps = engine.steps();
     OK
 }
 
@@ -361,10 +363,10 @@ pub extern "C" fn dma330_history_entries(controller: &mut Controller, count: &mu
     ensures { Returns controller.old.engine.value (ask_value the_history_entries) result
         (a_number count.old count.new) controller.new.engine.value }
 {
-    if !controller.is_open() {
+    let Some(engine) = controller.as_kept().get_mut() else {
         return NOT_OPEN;
-    }
-    *count = controller.engine.as_mut().history().len() as u64;
+    };
+    *count = engine.history().len() as u64;
     OK
 }
 
@@ -374,10 +376,10 @@ pub extern "C" fn dma330_history_bytes(controller: &mut Controller, count: &mut 
     ensures { Returns controller.old.engine.value (ask_value the_history_bytes) result
         (a_number count.old count.new) controller.new.engine.value }
 {
-    if !controller.is_open() {
+    let Some(engine) = controller.as_kept().get_mut() else {
         return NOT_OPEN;
-    }
-    *count = controller.engine.as_mut().history_bytes();
+    };
+    *count = engine.history_bytes();
     OK
 }
 
@@ -387,9 +389,9 @@ pub extern "C" fn dma330_running_count(controller: &mut Controller, count: &mut 
     ensures { Returns controller.old.engine.value (ask_value the_running_count) result
         (a_number count.old count.new) controller.new.engine.value }
 {
-    if !controller.is_open() {
+    let Some(engine) = controller.as_kept().get_mut() else {
         return NOT_OPEN;
-    }
-    *count = u32::from(controller.engine.as_mut().running_count());
+    };
+    *count = u32::from(engine.running_count());
     OK
 }

@@ -1,12 +1,30 @@
 //! The value that C keeps for a channel between calls.
 
-ghost use Rattle.std.specs.Prelude.{◌≡◌, ◌↔◌, IsTrue, IsSome, None, Some};
+ghost use Rattle.std.specs.Prelude.{◌≡◌, ◌↔◌, IsTrue, IsSome, Option};
+ghost use Rattle.std.specs.Borrow.{sem};
+ghost use Rattle.dma_ffi.specs.declared.marked_channel.MarkedChannel.{MarkedChannel};
+ghost use Rattle.dma_ffi.specs.contracts.marked_channel.MarkedChannel.{the_row};
+ghost use Rattle.dma_ffi.specs.inner.Owned.{owned};
 
-use crate::box_pointer::BoxPointer;
-use crate::channel_pointer::ChannelPointer;
 use crate::controller::sent;
+use crate::kept::Kept;
 use crate::marked_channel::MarkedChannel;
-use std::alloc::Global;
+use std::marker::Model;
+
+/// The pointer that owns a channel and its marks, or nothing, in the form of an
+/// [`EnginePointer`](crate::controller::EnginePointer).
+#[repr(C)]
+pub struct ChannelPointer {
+    at: *mut u8,
+    pub ghost value: { Option MarkedChannel },
+}
+
+impl Model for ChannelPointer {
+    ghost also_owns = { λ p. owned the_row p.at p.value };
+}
+
+// What the pointer owns doesn't depend on the thread.
+unsafe impl Send for ChannelPointer {}
 
 /// A channel and its marks, or none. C sets it to zeros, which mean no channel, before the first call, and doesn't read
 /// or write it otherwise. It has no `Drop`, so the compiler rejects code that drops or overwrites it.
@@ -18,32 +36,14 @@ pub struct KeptChannel {
 }
 
 impl KeptChannel {
-    /// Returns whether there is a channel.
-    pub fn is_open(&self) -> bool
-        ensures { IsTrue result ↔ IsSome self.now.channel.value }
-    {
-        self.is_open
-    }
+    ghost use Rattle.dma_ffi.specs.inner.Lending.{LendsKeptChannel};
 
-    /// Puts a channel into a value without one.
-    pub fn open(&mut self, channel: Box<MarkedChannel>)
-        requires { self.old.channel.value ≡ None }
-        ensures { self.new.channel.value ≡ Some channel.value }
+    /// Returns the channel as a [`Kept`], which has the same fields.
+    pub fn as_kept(&mut self) -> &mut Kept<MarkedChannel>
+        ensures* writes_back { sem 𝓛 (LendsKeptChannel self.entry result) }
+        ensures value { result.now.at.value ≡ self.old.channel.value }
     {
-        let full = ChannelPointer::full(BoxPointer::of(channel));
-        std::mem::replace(&mut self.channel, full).end();
-        self.is_open = true;
-    }
-
-    /// Frees the channel, if any.
-    pub fn close(&mut self, alloc: Global)
-        ensures { self.new.channel.value ≡ None }
-    {
-        if self.is_open {
-            self.is_open = false;
-            let channel = std::mem::replace(&mut self.channel, ChannelPointer::empty());
-            drop(channel.into_pointer(alloc).into_box());
-        }
+        unsafe { &mut *(self as *mut KeptChannel as *mut Kept<MarkedChannel>) }
     }
 }
 

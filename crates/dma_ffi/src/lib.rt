@@ -12,14 +12,13 @@
 //! signal handler or from the child of a fork of a process with threads. Not proved: that a close frees everything.
 #![tactic(auto)]
 
-mod box_pointer;
-mod channel_pointer;
 pub mod channel_steps;
 pub mod channels;
 mod codes;
 mod controller;
 pub mod controllers;
-mod engine_pointer;
+mod heap_pointer;
+mod kept;
 mod kept_channel;
 pub mod laws;
 mod marked_channel;

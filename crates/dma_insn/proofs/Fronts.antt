@@ -1,4 +1,4 @@
--- Fronts of bytes that are spellings joined.
+-- Fronts of bytes that are joined encodings.
 use Rattle.std.proofs.Common.{◌≡◌, ℕ, ◌+◌, ◌<◌, ◌≤◌, zero, suc, List, [], ◌∷◌, ◌++◌, length, take, drop, refl, sym, ap, ◌∙◌, subst, arith, append_assoc, append-nil, length-append, drop-drop, ◌-◌, ◌⊎◌, inl, inr}
 use Rattle.std.specs.Prelude.{Ok, Err}
 use Rattle.std.proofs.lemmas.List.{take-append-drop, take_rest, drop_all, length-drop, get_or-drop}
@@ -226,13 +226,13 @@ breaks_stops bytes b =
       longest = λ others more ranges e. longest_front b.insns others b.rest more b.in_range ranges (sym b.bytes_are ∙ e) none;
     }
 
-told : (bytes : List ℕ) → AreSpelled bytes ⊎ BreaksOff bytes → ((text : List ℕ) × Disassembles bytes text) ⊎ ((offset : ℕ) × (fault : DecodeFault) × StopsAt bytes offset fault)
-told bytes (inl s) = inl (has_text bytes s)
-told bytes (inr b) = inr (length (joined b.insns), b.fault, breaks_stops bytes b)
+one_or_other : (bytes : List ℕ) → AreSpelled bytes ⊎ BreaksOff bytes → ((text : List ℕ) × Disassembles bytes text) ⊎ ((offset : ℕ) × (fault : DecodeFault) × StopsAt bytes offset fault)
+one_or_other bytes (inl s) = inl (has_text bytes s)
+one_or_other bytes (inr b) = inr (length (joined b.insns), b.fault, breaks_stops bytes b)
 
 pub disassembly_reports : DisassemblyReports
 disassembly_reports = record {
-  one = λ bytes are. told bytes (cut (length bytes) bytes (omega arith) are);
+  one = λ bytes are. one_or_other bytes (cut (length bytes) bytes (omega arith) are);
   not_both = λ bytes text offset fault d s. stops_none bytes text offset fault s d;
   one_text = λ bytes text other p q. same_text_of bytes text other p q;
   one_way = one_way;

@@ -11,8 +11,8 @@ use Rattle.dma_insn.specs.declared.assembler.Cause.{Cause}
 use Rattle.dma_insn.specs.declared.assembler.Cause.TheVariants.{Mnemonic, Operand, Range}
 use Rattle.dma_insn.specs.declared.assembler.AsmFault.{AsmFault}
 use Rattle.dma_insn.specs.declared.assembler.AsmFault.TheVariants.{Line, ProgramTooLong, NoMemory}
-use Rattle.dma_insn.specs.AssemblyText.{text_lines, words_of, is_skipped, Statement, dmaend, dmald, dmast, dmarmb, dmawmb, dmanop, dmalp, dmalpend, dmasev, dmawfe, dmamov, IsWritten, insn_of, names, first_of, Writes, IsCause, HasCause, WritesFirst, WriteAll, joined, most_bytes, Assembles, StandsAt, IsFirstFault}
-use Rattle.dma_insn.specs.LineReading.{◌>>=◌, at_line, with_insn, line_in, after_line, after_lines, assembled, ReadingReports, AnswersAs}
+use Rattle.dma_insn.specs.AssemblyText.{text_lines, words_of, is_skipped, Statement, dmaend, dmald, dmast, dmarmb, dmawmb, dmanop, dmalp, dmalpend, dmasev, dmawfe, dmamov, IsWritten, insn_of, names, first_of, Writes, IsCause, HasCause, WritesFirst, WriteAll, joined, most_bytes, Assembles, IsLineAt, IsFirstFault}
+use Rattle.dma_insn.specs.LineReading.{◌>>=◌, at_line, with_insn, line_in, after_line, after_lines, assembled, ReadingReports, ResultIsOrNoMemory}
 use Rattle.dma_insn.proofs.LineLaws.{IsReported, line_in_reported, line_in_written}
 
 insn_err : (i : Insn) (cause : Cause) (r : Result Insn Cause) → r ≡ Ok i → r ≡ Err cause → ⊥
@@ -27,17 +27,17 @@ not_operand (Some i) e = insn_err i Operand (Ok i) refl e
 
 -- What the result of reading a line's words says about the line.
 cause_reported : (line : List ℕ) (cause : Cause) → line_in (words_of line) ≡ Err cause → IsReported (words_of line) (Err cause) → IsCause line cause
-cause_reported line Mnemonic e told = told
-cause_reported line Operand e told = (told, λ s written. not_operand (insn_of s) (sym (line_in_written (words_of line) s written) ∙ e))
-cause_reported line Range e told = told
+cause_reported line Mnemonic e reported = reported
+cause_reported line Operand e reported = (reported, λ s written. not_operand (insn_of s) (sym (line_in_written (words_of line) s written) ∙ e))
+cause_reported line Range e reported = reported
 
 cause_of : (line : List ℕ) (cause : Cause) → line_in (words_of line) ≡ Err cause → IsCause line cause
 cause_of line cause e = cause_reported line cause e (subst (IsReported (words_of line)) e (line_in_reported (words_of line)))
 
 written_by : (line : List ℕ) (i : Insn) → is_skipped line ≡ false → line_in (words_of line) ≡ Ok i → Writes line i
 written_by line i taken e =
-    let told : IsReported (words_of line) (Ok i) = subst (IsReported (words_of line)) e (line_in_reported (words_of line)) in
-    record { taken = taken; statement = told.0; words_are = told.1; insn_is = told.2 }
+    let reported : IsReported (words_of line) (Ok i) = subst (IsReported (words_of line)) e (line_in_reported (words_of line)) in
+    record { taken = taken; statement = reported.0; words_are = reported.1; insn_is = reported.2 }
 
 writes_read : (line : List ℕ) (i : Insn) → Writes line i → line_in (words_of line) ≡ Ok i
 writes_read line i h = line_in_written (words_of line) h.statement h.words_are ∙ ap (λ (o : Option Insn). ok_or o Range) h.insn_is
@@ -234,8 +234,8 @@ assembled_ok text bytes e =
     let w : Whole [] (text_lines text) bytes = subst (Outcome 0 [] (text_lines text)) e (outcome (text_lines text) 0 [] (omega arith)) in
     record { insns = w.insns; text_is = w.writes; bytes_are = w.bytes_are; fits = w.fits }
 
-stands : (text line : List ℕ) (m : ℕ) (insns : List Insn) → Place 0 [] (text_lines text) line m insns → StandsAt text line m insns
-stands text line m insns p = record {
+is_there : (text line : List ℕ) (m : ℕ) (insns : List Insn) → Place 0 [] (text_lines text) line m insns → IsLineAt text line m insns
+is_there text line m insns p = record {
   before = p.before;
   after = p.after;
   lines_are = p.lines_are;
@@ -245,8 +245,8 @@ stands text line m insns p = record {
 }
 
 first_fault : (text : List ℕ) (fault : AsmFault) → FaultOf 0 [] (text_lines text) fault → IsFirstFault text fault
-first_fault text (Line m cause) h = (h.line, h.insns, stands text h.line m h.insns h.place, h.cause_is)
-first_fault text (ProgramTooLong m) h = (h.line, h.insns, h.insn, stands text h.line m h.insns h.place, h.writes, h.long)
+first_fault text (Line m cause) h = (h.line, h.insns, is_there text h.line m h.insns h.place, h.cause_is)
+first_fault text (ProgramTooLong m) h = (h.line, h.insns, h.insn, is_there text h.line m h.insns h.place, h.writes, h.long)
 first_fault text NoMemory h = absurd h
 
 assembled_err : (text : List ℕ) (fault : AsmFault) → assembled text ≡ Err fault → IsFirstFault text fault
@@ -261,7 +261,7 @@ some_bytes text (Ok bytes) e ok = (bytes, assembled_ok text bytes e)
 some_bytes text (Err fault) e ok = absurd (not_ok fault ok)
 
 -- The clauses of `assemble`, by what reading the text gives.
-pub if_program : {X : Type 0} (view : X → List ℕ) (text : List ℕ) (r : Result X AsmFault) → AnswersAs view r (assembled text) → IfOk r (λ x. Assembles text (view x))
+pub if_program : {X : Type 0} (view : X → List ℕ) (text : List ℕ) (r : Result X AsmFault) → ResultIsOrNoMemory view r (assembled text) → IfOk r (λ x. Assembles text (view x))
 if_program view text (Ok x) h = assembled_ok text (view x) h
 if_program view text (Err fault) h = tt
 
@@ -269,7 +269,7 @@ fault_by : (text : List ℕ) (fault : AsmFault) → ((assembled text ≡ Err fau
 fault_by text fault (inl e) = assembled_err text fault e
 fault_by text fault (inr h) = subst (IsFirstFault text) (sym h.0) (some_bytes text (assembled text) refl h.1)
 
-pub if_fault : {X : Type 0} (view : X → List ℕ) (text : List ℕ) (r : Result X AsmFault) → AnswersAs view r (assembled text) → IfErr r (λ fault. IsFirstFault text fault)
+pub if_fault : {X : Type 0} (view : X → List ℕ) (text : List ℕ) (r : Result X AsmFault) → ResultIsOrNoMemory view r (assembled text) → IfErr r (λ fault. IsFirstFault text fault)
 if_fault view text (Ok x) h = tt
 if_fault view text (Err fault) h = fault_by text fault h
 
@@ -283,7 +283,7 @@ only_by : (text bytes : List ℕ) (fault : AsmFault) → assembled text ≡ Ok b
 only_by text bytes fault e (inl f) = absurd (ok_err (assembled text) bytes fault e f)
 only_by text bytes fault e (inr h) = h.0
 
-pub if_only : {X : Type 0} (view : X → List ℕ) (text : List ℕ) (r : Result X AsmFault) → AnswersAs view r (assembled text) → (bytes : List ℕ) → Assembles text bytes → MatchResult r (λ x. view x ≡ bytes) (λ fault. fault ≡ NoMemory)
+pub if_only : {X : Type 0} (view : X → List ℕ) (text : List ℕ) (r : Result X AsmFault) → ResultIsOrNoMemory view r (assembled text) → (bytes : List ℕ) → Assembles text bytes → MatchResult r (λ x. view x ≡ bytes) (λ fault. fault ≡ NoMemory)
 if_only view text (Ok x) h bytes a = ok_same (assembled text) (view x) bytes h (assembled_again text bytes a)
 if_only view text (Err fault) h bytes a = only_by text bytes fault (assembled_again text bytes a) h
 
@@ -308,21 +308,21 @@ written_name words (dmamov r v) h = rw h.words_are refl
 
 -- What a line with a cause is read as.
 cause_by : (line : List ℕ) (cause : Cause) (r : Result Insn Cause) → line_in (words_of line) ≡ r → IsReported (words_of line) r → IsCause line cause → r ≡ Err cause
-cause_by line Mnemonic (Ok i) e told h = absurd (false≢true (sym h ∙ written_name (words_of line) told.0 told.1))
-cause_by line Mnemonic (Err Mnemonic) e told h = refl
-cause_by line Mnemonic (Err Operand) e told h = absurd (false≢true (sym h ∙ told))
-cause_by line Mnemonic (Err Range) e told h = absurd (false≢true (sym h ∙ written_name (words_of line) told.0 told.1))
-cause_by line Operand (Ok i) e told h = absurd (h.1 told.0 told.1)
-cause_by line Operand (Err Mnemonic) e told h = absurd (false≢true (sym told ∙ h.0))
-cause_by line Operand (Err Operand) e told h = refl
-cause_by line Operand (Err Range) e told h = absurd (h.1 told.0 told.1)
-cause_by line Range r e told h = sym e ∙ line_in_written (words_of line) h.0 h.1 ∙ ap (λ (o : Option Insn). ok_or o Range) h.2
+cause_by line Mnemonic (Ok i) e reported h = absurd (false≢true (sym h ∙ written_name (words_of line) reported.0 reported.1))
+cause_by line Mnemonic (Err Mnemonic) e reported h = refl
+cause_by line Mnemonic (Err Operand) e reported h = absurd (false≢true (sym h ∙ reported))
+cause_by line Mnemonic (Err Range) e reported h = absurd (false≢true (sym h ∙ written_name (words_of line) reported.0 reported.1))
+cause_by line Operand (Ok i) e reported h = absurd (h.1 reported.0 reported.1)
+cause_by line Operand (Err Mnemonic) e reported h = absurd (false≢true (sym reported ∙ h.0))
+cause_by line Operand (Err Operand) e reported h = refl
+cause_by line Operand (Err Range) e reported h = absurd (h.1 reported.0 reported.1)
+cause_by line Range r e reported h = sym e ∙ line_in_written (words_of line) h.0 h.1 ∙ ap (λ (o : Option Insn). ok_or o Range) h.2
 
 cause_read : (line : List ℕ) (cause : Cause) → IsCause line cause → line_in (words_of line) ≡ Err cause
 cause_read line cause h = cause_by line cause (line_in (words_of line)) refl (line_in_reported (words_of line)) h
 
 -- The lines before a place are read as what they write.
-read_before : (text line : List ℕ) (n : ℕ) (insns : List Insn) (at : StandsAt text line n insns) → assembled text ≡ after_lines (length at.before) (joined insns) (line ∷ at.after)
+read_before : (text line : List ℕ) (n : ℕ) (insns : List Insn) (at : IsLineAt text line n insns) → assembled text ≡ after_lines (length at.before) (joined insns) (line ∷ at.after)
 read_before text line n insns at =
     let e : 0 + length at.before ≡ length at.before = omega arith in
     ap (after_lines 0 []) at.lines_are ∙ again_before at.before (line ∷ at.after) 0 [] insns at.writes at.fits

@@ -191,7 +191,7 @@ pub record Assembles (text bytes : List ℕ) : Type 0 where
   pub fits : length bytes ≤ most_bytes
 
 -- The line is line n of the text, and the lines before it write the instructions, which have at most 8,192 bytes.
-pub record StandsAt (text line : List ℕ) (n : ℕ) (insns : List Insn) : Type 0 where
+pub record IsLineAt (text line : List ℕ) (n : ℕ) (insns : List Insn) : Type 0 where
   pub before : List (List ℕ)
   pub after : List (List ℕ)
   pub lines_are : text_lines text ≡ before ++ line ∷ after
@@ -204,8 +204,8 @@ pub record StandsAt (text line : List ℕ) (n : ℕ) (insns : List Insn) : Type 
 -- `NoMemory`: the text assembles, so it has no fault.
 abbrev pub IsFirstFault : List ℕ → AsmFault → Type 0
 IsFirstFault text (faults.Line n cause) =
-    (line : List ℕ) × (insns : List Insn) × StandsAt text line n insns × HasCause line cause
+    (line : List ℕ) × (insns : List Insn) × IsLineAt text line n insns × HasCause line cause
 IsFirstFault text (faults.ProgramTooLong n) =
-    (line : List ℕ) × (insns : List Insn) × (i : Insn) × StandsAt text line n insns × Writes line i
+    (line : List ℕ) × (insns : List Insn) × (i : Insn) × IsLineAt text line n insns × Writes line i
     × (most_bytes < length (joined insns) + length (spelling i))
 IsFirstFault text faults.NoMemory = (bytes : List ℕ) × Assembles text bytes

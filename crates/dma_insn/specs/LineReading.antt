@@ -22,9 +22,9 @@ abbrev pub ◌>>=◌ : {A B E : Type 0} → Result A E → (A → Result B E) �
 (Err e) >>= f = Err e
 
 -- The result that a function returned, with `view` applied to a value, equals `read`.
-abbrev pub SeenAs : {X Y E : Type 0} → (X → Y) → Result X E → Result Y E → Type 0
-SeenAs view (Ok x) read = read ≡ Ok (view x)
-SeenAs view (Err fault) read = read ≡ Err fault
+abbrev pub ResultIs : {X Y E : Type 0} → (X → Y) → Result X E → Result Y E → Type 0
+ResultIs view (Ok x) read = read ≡ Ok (view x)
+ResultIs view (Err fault) read = read ≡ Err fault
 
 -- the words after a word, given the rest of the line: none if it is empty, else those after its first byte, a space
 abbrev pub words_after : List ℕ → List (List ℕ)
@@ -236,6 +236,6 @@ pub record ReadingReports : Type 0 where
 
 -- The result that a function returned, with `view` applied to a value, equals `read`; or it is `NoMemory`, and `read`
 -- is bytes.
-abbrev pub AnswersAs : {X : Type 0} → (X → List ℕ) → Result X AsmFault → Result (List ℕ) AsmFault → Type 0
-AnswersAs view (Ok x) read = read ≡ Ok (view x)
-AnswersAs view (Err fault) read = (read ≡ Err fault) ⊎ ((fault ≡ NoMemory) × IsOk read)
+abbrev pub ResultIsOrNoMemory : {X : Type 0} → (X → List ℕ) → Result X AsmFault → Result (List ℕ) AsmFault → Type 0
+ResultIsOrNoMemory view (Ok x) read = read ≡ Ok (view x)
+ResultIsOrNoMemory view (Err fault) read = (read ≡ Err fault) ⊎ ((fault ≡ NoMemory) × IsOk read)

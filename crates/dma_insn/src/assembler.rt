@@ -2,7 +2,7 @@
 
 ghost use Rattle.std.specs.Prelude.{◌≡◌, ℕ, List, MatchResult, IfOk, IfErr};
 ghost use Rattle.dma_insn.specs.AssemblyText.{Assembles, IsFirstFault};
-ghost use Rattle.dma_insn.specs.LineReading.{AnswersAs, ReadingReports, SeenAs, after_line, assembled};
+ghost use Rattle.dma_insn.specs.LineReading.{ResultIsOrNoMemory, ReadingReports, ResultIs, after_line, assembled};
 ghost use Rattle.dma_insn.specs.declared.assembler.AsmFault.TheVariants.{NoMemory};
 
 use crate::codec::encode;
@@ -65,7 +65,7 @@ pub fn assemble(alloc: Global, text: &[u8]) -> Result<Vec<u8>, AsmFault>
     ensures only { (bytes : List ℕ) → Assembles text.now bytes
         → MatchResult result (λ program. program.items ≡ bytes) (λ fault. fault ≡ NoMemory) }
     // The result as a function of the text, except that `NoMemory` may take the place of the bytes.
-    ensures exact { AnswersAs (λ program. program.items) result (assembled text.now) }
+    ensures exact { ResultIsOrNoMemory (λ program. program.items) result (assembled text.now) }
 {
     let program = read_text(text)?;
     let bytes = program.as_slice().to_vec(alloc)?;
@@ -81,7 +81,7 @@ pub fn reading_reports()
 
 // Assembles a whole text, line by line, without allocating.
 fn read_text(text: &[u8]) -> Result<ArrayVec<u8, MAX_BYTES>, AsmFault>
-    ensures { SeenAs (λ program. program.items) result (assembled text.now) }
+    ensures { ResultIs (λ program. program.items) result (assembled text.now) }
 {
     let mut program = ArrayVec::new();
     let mut rest = text;
@@ -98,7 +98,7 @@ fn read_text(text: &[u8]) -> Result<ArrayVec<u8, MAX_BYTES>, AsmFault>
 // Appends the instruction of line `n`, unless the line is skipped.
 #[tactic(auto, unfolding(crate::specs::LineReading::after_line))]
 fn add_line(program: &mut ArrayVec<u8, MAX_BYTES>, n: usize, line: &[u8]) -> Result<(), AsmFault>
-    ensures { SeenAs (λ _. program.new.items) result (after_line n program.old.items line.now) }
+    ensures { ResultIs (λ _. program.new.items) result (after_line n program.old.items line.now) }
 {
     if is_skipped(line) {
         return Ok(());

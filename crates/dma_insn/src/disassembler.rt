@@ -78,7 +78,8 @@ fn fault_of(bytes: &[u8]) -> Option<(usize, DecodeFault)>
 // and its fault, or with `None` if it is out of memory before it reaches that offset.
 fn write_all(alloc: Global, bytes: &[u8]) -> Result<Vec<u8>, Option<(usize, DecodeFault)>>
     ensures text { IfOk result (λ text. Disassembles bytes.now text.items) }
-    ensures stops { IfErr result (λ found. IfSome found (λ stop. StopsAt bytes.now stop.0 stop.1)) }
+    ensures stops { IfErr result (λ found.
+        IfSome found (λ stop. StopsAt bytes.now stop.0 stop.1)) }
 {
     let mut text = Vec::new(alloc);
     let mut offset = 0;

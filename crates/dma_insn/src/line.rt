@@ -3,7 +3,7 @@
 ghost use Rattle.std.specs.Prelude.{◌≡◌, ◌+◌, ◌<◌, ◌==◌, ◌∷◌, [], length, Option, MatchOption, IfSome, Result, Ok};
 ghost use Rattle.std.specs.List.{list_all};
 ghost use Rattle.dma_insn.specs.AssemblyText.{text_lines, words_of, is_skipped};
-ghost use Rattle.dma_insn.specs.LineReading.{SeenAs, words_after, no_word, one_word, two_words, wait_words, digit_of, digits_from, number_at, hex_digit_of, hex_from, value_at, register_at, counter_at, times_at, back_at, event_at, two_numbers, loop_line, loop_end_line, signal_line, wait_line, set_line, bare_line, line_by, line_in};
+ghost use Rattle.dma_insn.specs.LineReading.{ResultIs, words_after, no_word, one_word, two_words, wait_words, digit_of, digits_from, number_at, hex_digit_of, hex_from, value_at, register_at, counter_at, times_at, back_at, event_at, two_numbers, loop_line, loop_end_line, signal_line, wait_line, set_line, bare_line, line_by, line_in};
 
 use crate::assembler::Cause;
 use crate::insn::{Counter, Event, Insn, Reg, Times};
@@ -68,7 +68,7 @@ fn no_more(rest: &[u8]) -> Result<(), Cause>
 
 // Returns the one word that is left. Fails with `Operand` for none, or more than one.
 fn one(rest: &[u8]) -> Result<&[u8], Cause>
-    ensures { SeenAs (λ a. a.now) result (one_word (words_after rest.now)) }
+    ensures { ResultIs (λ a. a.now) result (one_word (words_after rest.now)) }
 {
     let (a, rest) = next_word(rest).ok_or(Cause::Operand)?;
     no_more(rest)?;
@@ -77,7 +77,7 @@ fn one(rest: &[u8]) -> Result<&[u8], Cause>
 
 // Returns the two words that are left. Fails with `Operand` for fewer or more.
 fn two(rest: &[u8]) -> Result<(&[u8], &[u8]), Cause>
-    ensures { SeenAs (λ w. (w.0.now, w.1.now)) result (two_words (words_after rest.now)) }
+    ensures { ResultIs (λ w. (w.0.now, w.1.now)) result (two_words (words_after rest.now)) }
 {
     let (a, rest) = next_word(rest).ok_or(Cause::Operand)?;
     let (b, rest) = next_word(rest).ok_or(Cause::Operand)?;
@@ -88,7 +88,7 @@ fn two(rest: &[u8]) -> Result<(&[u8], &[u8]), Cause>
 // Returns the next word, and whether the word `invalid` follows it. Fails with `Operand` for no word, another second
 // word, or a third.
 fn one_or_invalid(rest: &[u8]) -> Result<(&[u8], bool), Cause>
-    ensures { SeenAs (λ w. (w.0.now, w.1)) result (wait_words (words_after rest.now)) }
+    ensures { ResultIs (λ w. (w.0.now, w.1)) result (wait_words (words_after rest.now)) }
 {
     let (a, rest) = next_word(rest).ok_or(Cause::Operand)?;
     let Some((b, rest)) = next_word(rest) else {

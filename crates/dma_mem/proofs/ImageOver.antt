@@ -1,4 +1,4 @@
--- What lies over an image while transfers run: a byte stored, a write of the host, a transfer that ends.
+-- An image under running transfers: after a byte is stored, after a write of the host, after a transfer ends.
 use Rattle.std.proofs.Common.{◌≡◌, ℕ, ◌+◌, ◌<◌, List, [], ◌++◌, length, get_or, take, drop, ap, sym, ◌∙◌, arith}
 use Rattle.std.specs.Prelude.{slice_index}
 use Rattle.std.specs.List.{Contains, range_with_len}

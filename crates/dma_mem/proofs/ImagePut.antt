@@ -66,7 +66,7 @@ put-put image xs ys =
     ∙ ap (λ o. unwrap_or o (get_or image a 0)) (sym (lookup-append (nat_eq a) ys xs))
     ∙ sym (get_or-put image (ys ++ xs) a m))
 
--- a part may stand before or after another that has no address in common with it
+-- the order of two parts that share no address doesn't matter
 pub put-exchange : (image : List ℕ) (xs ys zs : List (ℕ × ℕ)) → Apart (keys_of xs) (keys_of ys) → put image (xs ++ (ys ++ zs)) ≡ put image (ys ++ (xs ++ zs))
 put-exchange image xs ys zs h =
     put-same image _ _ (λ a.

@@ -1,4 +1,4 @@
--- A segment that meets a mark has an address that lies in one.
+-- A mark meets a segment exactly if an address of the segment lies in the mark.
 use Rattle.std.proofs.Common.{◌≡◌, ℕ, ◌+◌, List, [], ◌∷◌, Bool, true, false, ◌||◌, ◌&&◌, nat_eq, nat_lt, nat_le, refl, ap, sym, ◌∙◌, ◌++◌, ◌⊎◌, inl, inr, subst}
 use Rattle.std.specs.List.{list_any, range_with_len, Contains}
 use Rattle.std.proofs.lemmas.Bool.{eqb-true, leb-true, ltb-true, le-leb, lt-ltb, and_parts}

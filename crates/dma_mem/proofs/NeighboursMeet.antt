@@ -1,4 +1,4 @@
--- Segments in the order of their first addresses: two of them meet where two neighbours do.
+-- Of segments that are sorted by their first addresses, two meet exactly if two neighbours do.
 use Rattle.std.proofs.Common.{◌≡◌, ◌≢◌, ℕ, ◌+◌, ◌<◌, ◌≤◌, ◌⊎◌, List, [], ◌∷◌, length, get_or, Bool, true, false, ◌||◌, refl, ap, sym, ◌∙◌, subst, arith, inl, inr, All, suc, set}
 use Rattle.std.specs.Prelude.{AllPairs, None}
 use Rattle.std.specs.List.{list_any, swap}

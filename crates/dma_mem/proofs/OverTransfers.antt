@@ -1,4 +1,4 @@
--- The laws of `Overs`, for transfers that are free of each other.
+-- Running transfers laid over an image: the laws for transfers that are free of each other.
 use Rattle.std.proofs.Common.{◌≡◌, ◌≢◌, ℕ, ◌+◌, ◌<◌, List, [], ◌∷◌, ◌++◌, length, get_or, map, take, drop, refl, ap, sym, ◌∙◌, arith, append_assoc, inl, inr, zero, suc}
 use Rattle.std.specs.Prelude.{slice_index}
 use Rattle.std.specs.List.{Contains, AllPairs, All, range_with_len, zip}
@@ -52,7 +52,7 @@ once_parts xs k n h = λ a (i : Contains (take n (drop k xs)) a) (j : Contains (
     let high : k + i'.0 < length xs = omega (arith, i'.1, length-drop k xs) in
     h j.0 (k + i'.0) a (omega arith) high (sym (get_or-take k xs j.0 a low) ∙ j.2 ∙ sym (sym (get_or-drop k xs i'.0 a) ∙ i'.2))
 
--- being free of each other has no direction
+-- being free of each other is symmetric
 pub IsFree-sym : (t u : Descriptor) → IsFree t u → IsFree u t
 IsFree-sym t u h = record {
   writes_none = Apart-sym (destinations t) (destinations u) h.writes_none;
@@ -107,7 +107,7 @@ free-reads t k running all =
 
 -- ---- the laws
 
--- a transfer that has stored nothing lies nowhere
+-- a transfer that has stored nothing changes nothing
 pub over-started : (image : List ℕ) (xs ys : List (Descriptor × ℕ)) (t : Descriptor) → over image (xs ++ (t, 0) ∷ ys) ≡ over image (xs ++ ys)
 over-started image xs ys t = ap (after_moves image) (flat_map-append _ xs ((t, 0) ∷ ys) ∙ sym (flat_map-append _ xs ys))
 

@@ -10,7 +10,7 @@ use Rattle.std.proofs.lemmas.List.{length-replicate, get_or-replicate, ext_get_o
 use Rattle.std.proofs.lemmas.List.FromFn.{length-map-range_with_len, get_or-map-range_with_len}
 use Rattle.dma_mem.specs.Image.{put, bytes_at}
 use Rattle.dma_mem.specs.Pages.{Paged, Keeps, AllMade, MakesNoOther, is_made}
-use Rattle.dma_mem.specs.inner.PageTable.{IsLaid, page_at, pages_in, image_of, made_of, paged}
+use Rattle.dma_mem.specs.inner.PageTable.{PutsInPage, page_at, pages_in, image_of, made_of, paged}
 use Rattle.dma_mem.proofs.SharedPlaces.{range_in, in_range}
 use Rattle.dma_mem.proofs.ImagePut.{length-put, get_or-put, put-put, put-same, lookup-append}
 use Rattle.dma_mem.proofs.BytesPut.{lookup-bytes_before, lookup-bytes_past, lookup-bytes_at}
@@ -82,7 +82,7 @@ lookup-bytes_moved c a x bs = elim (cases_lt x a) [
 ]
 
 -- bytes laid into a page are put into the image
-pub image_of-laid : (size : ℕ) (pages new : List (List ℕ)) (p offset : ℕ) (bs : List ℕ) → ((q : ℕ) → q ≢ p → page_at new q ≡ page_at pages q) → IsLaid (page_at pages p) offset bs (page_at new p) → offset + length bs ≤ 4096 → image_of size new ≡ put (image_of size pages) (bytes_at (4096 * p + offset) bs)
+pub image_of-laid : (size : ℕ) (pages new : List (List ℕ)) (p offset : ℕ) (bs : List ℕ) → ((q : ℕ) → q ≢ p → page_at new q ≡ page_at pages q) → PutsInPage (page_at pages p) offset bs (page_at new p) → offset + length bs ≤ 4096 → image_of size new ≡ put (image_of size pages) (bytes_at (4096 * p + offset) bs)
 image_of-laid size pages new p offset bs others laid fits =
     let image = image_of size pages in
     let es = bytes_at (4096 * p + offset) bs in

@@ -5,7 +5,7 @@ use Rattle.std.proofs.lemmas.List.{ext_get_or, length-set, get_or-set_same, get_
 use Rattle.std.proofs.lemmas.List.FromFn.{length-map-range_with_len, get_or-map-range_with_len}
 use Rattle.std.specs.Prelude.{unwrap_or}
 use Rattle.dma_mem.specs.Image.{put, bytes_at}
-use Rattle.dma_mem.specs.inner.PageTable.{page_at, flat, IsLaid}
+use Rattle.dma_mem.specs.inner.PageTable.{page_at, flat, PutsInPage}
 use Rattle.dma_mem.proofs.ImagePut.{length-put, get_or-put}
 use Rattle.dma_mem.proofs.BytesPut.{lookup-bytes_past}
 
@@ -17,7 +17,7 @@ zero_at n k = elim (cases_lt k n) [
 ]
 
 -- bytes that are put into a page are laid
-pub laid-put : (page : List ℕ) (offset : ℕ) (bs : List ℕ) → offset + length bs ≤ length page → IsLaid page offset bs (put page (bytes_at offset bs))
+pub laid-put : (page : List ℕ) (offset : ℕ) (bs : List ℕ) → offset + length bs ≤ length page → PutsInPage page offset bs (put page (bytes_at offset bs))
 laid-put page offset bs fits = λ k. elim (cases_lt k (length page)) [
   | inl l ↦ get_or-put page (bytes_at offset bs) k l
   | inr l ↦

@@ -5,7 +5,7 @@ use Rattle.std.proofs.Math.Seq.{take-append-add, drop-append-add, map-set_same}
 use Rattle.std.proofs.lemmas.List.{length-append, length-replicate, length-map, take-append-le, drop-append-le, map-set, set-get_or, length-drop, length-take-le}
 use Rattle.dma_mem.specs.declared.regions.Region.{Region}
 use Rattle.std.proofs.lemmas.Bool.{cases_lt}
-use Rattle.dma_mem.specs.Lent.{lies_in_one}
+use Rattle.dma_mem.specs.Lent.{lies_in_any}
 use Rattle.dma_mem.specs.Image.{put, bytes_at}
 use Rattle.dma_mem.specs.Pages.{all_made}
 use Rattle.dma_mem.specs.Regions.{Piece, end_of, piece_of, pieces_of, rises_from, in_order, bytes_above, image_of, gaps_above, gaps_of, has}
@@ -182,7 +182,7 @@ writable_after old new addr len place bs w r =
     record {
       order = r.order ∙ w.order;
       within = omega (arith, ap length r.image, length-put (image_of (pieces_of old)) (bytes_at place bs));
-      gaps = λ a first last. ap (λ gaps. lies_in_one gaps a) r.gaps ∙ w.gaps a first last;
+      gaps = λ a first last. ap (λ gaps. lies_in_any gaps a) r.gaps ∙ w.gaps a first last;
     }
 
 -- the region that has an address that may be written is one of them

@@ -5,7 +5,7 @@ use Rattle.std.proofs.Math.ListN.{get_or-map as get_or-map_all}
 use Rattle.std.proofs.lemmas.Bool.{leb-true, le-leb, ltb-true, lt-ltb, and_parts, cases_lt, false_from_ne_true}
 use Rattle.std.proofs.lemmas.List.{ext_get_or, get_or-map, drop_more, length-append, length-replicate, length-drop, length-take-le, get_or_append_left, get_or-append_right, get_or-replicate, get_or-drop, get_or-take}
 use Rattle.dma_mem.specs.declared.regions.Region.{Region}
-use Rattle.dma_mem.specs.Lent.{lies_in_one}
+use Rattle.dma_mem.specs.Lent.{lies_in_any}
 use Rattle.dma_mem.specs.Marking.{lies_in}
 use Rattle.dma_mem.specs.Regions.{Piece, end_of, piece_of, pieces_of, rises_from, in_order, bytes_above, image_of, gaps_above, has, rest_from}
 use Rattle.dma_mem.specs.inner.Rewritten.{nowhere, piece_at}
@@ -101,7 +101,7 @@ image_of-most ps h = omega (arith, length-bytes_above 0 ps h, end_from-most 0 ps
 -- ---- the gaps
 
 -- no gap has an address below where they begin
-pub gaps_past : (at : ℕ) (ps : List Piece) (a : ℕ) → rises_from at ps ≡ true → a < at → lies_in_one (gaps_above at ps) a ≡ false
+pub gaps_past : (at : ℕ) (ps : List Piece) (a : ℕ) → rises_from at ps ≡ true → a < at → lies_in_any (gaps_above at ps) a ≡ false
 gaps_past at [] a h low = refl
 gaps_past at (p ∷ ps) a h low =
     let f = first at p ps h in
@@ -109,19 +109,19 @@ gaps_past at (p ∷ ps) a h low =
     rw (false_from_ne_true (nat_le at a) (λ e. omega (arith, leb-true at a e)), gaps_past (end_of p) ps a f.rest (omega arith)) refl
 
 -- an address below the first piece lies in the first gap
-pub in_first_gap : (at : ℕ) (p : Piece) (ps : List Piece) (a : ℕ) → at ≤ a → a < p.addr → lies_in_one (gaps_above at (p ∷ ps)) a ≡ true
+pub in_first_gap : (at : ℕ) (p : Piece) (ps : List Piece) (a : ℕ) → at ≤ a → a < p.addr → lies_in_any (gaps_above at (p ∷ ps)) a ≡ true
 in_first_gap at p ps a low high = rw (le-leb at a low, lt-ltb a (at + (p.addr - at)) (omega arith)) refl
 
 -- an address that the first gap doesn't have lies in a gap where it lies in a later one
-pub past_first_gap : (at : ℕ) (p : Piece) (ps : List Piece) (a : ℕ) → (a < at) ⊎ (p.addr ≤ a) → at ≤ p.addr → lies_in_one (gaps_above at (p ∷ ps)) a ≡ lies_in_one (gaps_above (end_of p) ps) a
+pub past_first_gap : (at : ℕ) (p : Piece) (ps : List Piece) (a : ℕ) → (a < at) ⊎ (p.addr ≤ a) → at ≤ p.addr → lies_in_any (gaps_above at (p ∷ ps)) a ≡ lies_in_any (gaps_above (end_of p) ps) a
 past_first_gap at p ps a out after =
     rw (false_from_ne_true (lies_in a (record { addr = at; len = p.addr - at })) (λ e.
     let parts = and_parts (nat_le at a) (nat_lt a (at + (p.addr - at))) e in
     elim out [ inl below ↦ omega (arith, below, leb-true at a parts.0) | inr above ↦ omega (arith, above, after, ltb-true a (at + (p.addr - at)) parts.1) ])) refl
 
-pub gaps_at : (ps : List Piece) (p : Piece) (i at a : ℕ) → i < length ps → piece_at ps i ≡ p → lies_in_one (gaps_above at (drop i ps)) a ≡ lies_in_one (gaps_above at (p ∷ drop (i + 1) ps)) a
+pub gaps_at : (ps : List Piece) (p : Piece) (i at a : ℕ) → i < length ps → piece_at ps i ≡ p → lies_in_any (gaps_above at (drop i ps)) a ≡ lies_in_any (gaps_above at (p ∷ drop (i + 1) ps)) a
 gaps_at ps p i at a h is =
-    ap (λ (qs : List Piece). lies_in_one (gaps_above at qs) a) (drop_at ps i h) ∙ ap (λ (q : Piece). lies_in_one (gaps_above at (q ∷ drop (i + 1) ps)) a) is
+    ap (λ (qs : List Piece). lies_in_any (gaps_above at qs) a) (drop_at ps i h) ∙ ap (λ (q : Piece). lies_in_any (gaps_above at (q ∷ drop (i + 1) ps)) a) is
 
 -- ---- the piece that has an address
 
@@ -137,7 +137,7 @@ pub has_parts : (a : ℕ) (p : Piece) → has a p ≡ true → (p.addr ≤ a) ×
 has_parts a p h = let parts = and_parts (nat_le p.addr a) (nat_lt a (end_of p)) h in (leb-true p.addr a parts.0, ltb-true a (end_of p) parts.1)
 
 -- an address below the size that no gap has lies in a piece
-pub found : (at : ℕ) (ps : List Piece) (a : ℕ) → rises_from at ps ≡ true → at ≤ a → a < end_from at ps → lies_in_one (gaps_above at ps) a ≡ false → ((k : ℕ) → k < length ps → has a (piece_at ps k) ≡ false) → ⊥
+pub found : (at : ℕ) (ps : List Piece) (a : ℕ) → rises_from at ps ≡ true → at ≤ a → a < end_from at ps → lies_in_any (gaps_above at ps) a ≡ false → ((k : ℕ) → k < length ps → has a (piece_at ps k) ≡ false) → ⊥
 unfolding end_from
 found at [] a h low high gaps none = omega arith
 found at (p ∷ ps) a h low high gaps none =

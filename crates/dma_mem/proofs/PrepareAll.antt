@@ -27,7 +27,7 @@ in_push rs s a i = elim (Contains-append_cases (places rs) (range_with_len s.add
   | inr right ↦ inr (subst (λ xs. Contains xs a) (append-nil (range_with_len s.addr s.len)) right)
 ]
 
--- a segment of a list whose segments all end below a size does
+-- each segment of a list ends below a size if all of them do
 pub below_at : (list : List Segment) (i : ℕ) (d : Segment) (size : ℕ) → all_below list size ≡ true → i < length list → (get_or list i d).addr + (get_or list i d).len ≤ size
 below_at [] i d size h l = absurd (omega arith)
 below_at (s ∷ list) zero d size h l = leb-true (s.addr + s.len) size (and_parts (nat_le (s.addr + s.len) size) (all_below list size) h).0

@@ -156,14 +156,14 @@ same_apart ys zs rest k x e h = subst (λ l. SameAddresses l (k ∷ x ∷ rest))
   λ i. elim (places-cons k (x ∷ rest) a i) [ inl here ↦ place_here k zs a here | inr later ↦ place_later k zs a ((h a).1 later) ],
 ))
 
-module _ {S : Type 0} (R : S → Segment → Segment → Bool → S → Segment → Segment → Type 0) (tells : (s : S) (x k : Segment) (b : Bool) (t : S) (x' k' : Segment) → R s x k b t x' k' → Joins x k b x' k') where
+module _ {S : Type 0} (R : S → Segment → Segment → Bool → S → Segment → Segment → Type 0) (reports : (s : S) (x k : Segment) (b : Bool) (t : S) (x' k' : Segment) → R s x k b t x' k' → Joins x k b x' k') where
   pub coalesces_from : (s : S) (k : Segment) (xs ys : List Segment) (low : ℕ) → DedupsFrom R s k xs ys → low ≤ k.addr → 0 < k.len → k.addr + k.len ≤ 4294967295 → Rising k.addr xs → Coalesces low ys (k ∷ xs)
   coalesces_from s k [] ys low h l f w r = record {
     spaced = subst (Spaced low) (sym h) (l, f, tt);
     same = subst (λ zs. SameAddresses zs (k ∷ [])) (sym h) (λ a. (λ i. i, λ i. i));
   }
   coalesces_from s k (x ∷ xs) ys low h l f w r =
-      let j = tells s x k h.0 h.1 h.2 h.3 h.4 in
+      let j = reports s x k h.0 h.1 h.2 h.3 h.4 in
       elim (by_case h.0 _ _ h.5) [
         | inl (yes_, more) ↦
             let near : x.addr ≤ k.addr + k.len = leb-true x.addr (k.addr + k.len) (sym j.value ∙ yes_) in
@@ -202,8 +202,8 @@ BeginBelow addr rs first = IsPartitionPoint (λ (r : Segment). r.addr < addr) (�
 abbrev pub EndBy : ℕ → List Segment → ℕ → Type 0
 EndBy end rs past = IsPartitionPoint (λ (r : Segment). r.addr + r.len ≤ end) (λ r. end < r.addr + r.len) rs past
 
--- the ranges that end at the segment's first address or below it have none of its addresses; where one of the others has one,
--- the first of them has, since it begins no higher
+-- the ranges that end at or below the segment's first address have none of its addresses; if one of the others has one,
+-- so does the first of them, since it begins no higher
 pub meets_first : (rs : List Segment) (first : ℕ) (s : Segment) → IsOrdered rs → EndBy s.addr rs first → first < length rs → share (range_of s) (range_of (get_or rs first nowhere)) ≡ share (range_of s) (places rs)
 meets_first rs first s o p within =
     let r = get_or rs first nowhere in

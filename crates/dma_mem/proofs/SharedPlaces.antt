@@ -1,4 +1,4 @@
--- What the tests of `Places` tell.
+-- The tests of `Places` as facts about addresses.
 use Rattle.std.proofs.Common.{◌≡◌, ℕ, ◌+◌, ◌-◌, ◌<◌, ◌≤◌, max, arith, ◌∷◌, ◌++◌, [], List, length, inl, inr, ◌⊎◌, get_or, true, false, Bool, refl, ap, sym, ◌∙◌, ◌||◌}
 use Rattle.std.specs.Prelude.{nat_eq, nat_lt, IsTrue, ◌↔◌}
 use Rattle.std.specs.List.{Contains, list_any, range_with_len}

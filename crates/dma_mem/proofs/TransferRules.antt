@@ -1,4 +1,4 @@
--- Two lists and two events that nothing refuses make a transfer.
+-- Two lists and two events that no rule refuses make a transfer.
 use Rattle.std.proofs.Common.{◌≡◌, ◌≢◌, ℕ, ◌+◌, ◌-◌, ◌<◌, ◌≤◌, List, [], ◌∷◌, ◌++◌, length, Option, Some, None, Bool, true, false, ◌||◌, ◌&&◌, nat_lt, refl, zero, suc, ap, sym, ◌∙◌, arith, inl, inr, IfSome, get_or}
 use Rattle.std.specs.Prelude.{◌==◌, ◌↔◌, All, AllPairs, not, if◌then◌else◌}
 use Rattle.std.specs.Bool.{then_some}
@@ -171,7 +171,7 @@ places_some (s ∷ rest) h =
 pub size_of-some : (t : Descriptor) → IsTransfer t → 1 ≤ size_of t
 size_of-some t h = places_some t.dst h.destination_list
 
--- ---- a fill's one place stands for its sources
+-- ---- a fill's one place and its sources
 
 share-again : (fill : Bool) (zs xs ds : List ℕ) → 1 ≤ length ds → share zs (if fill then flat_map (λ (d : ℕ). xs) ds else xs) ≡ share zs xs
 share-again false zs xs ds some = refl

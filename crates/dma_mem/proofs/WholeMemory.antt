@@ -1,4 +1,4 @@
--- A memory that is there whole: each address below its size is ready.
+-- A memory in which each page is made: each address below its size is ready.
 use Rattle.std.proofs.Common.{◌≡◌, ℕ, ◌+◌, ◌/◌, ◌<◌, ◌≤◌, List, length, get_or, max, Bool, true, false, nat_lt, refl, sym, arith}
 use Rattle.std.specs.Prelude.{nat_le}
 use Rattle.std.specs.List.{range_with_len, list_all}

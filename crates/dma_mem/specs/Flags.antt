@@ -7,6 +7,6 @@ use Rattle.std.specs.Int.{bit_at}
 unfoldable pub all_clear : List Bool
 all_clear = replicate 32 false
 
--- the flags that the bits of a number are: that of an event is the bit of its number
+-- the flags of a number: the flag of event e is set if bit e is
 unfoldable pub flags_of : ℕ → List Bool
 flags_of bits = map (λ e. nat_eq (bit_at bits e) 1) (range_with_len 0 32)

@@ -6,11 +6,11 @@ use Rattle.dma_mem.specs.Places.{Descriptor, moves}
 
 -- An image is a list with one byte for each address below its length, the size of the memory.
 
--- The most bytes of a memory (profile): no address above them comes near the end of the 32-bit addresses.
+-- the most bytes of a memory (profile): 4,096 below the end of the 32-bit addresses
 abbrev pub largest_size : ℕ
 largest_size = 4294963200
 
--- A memory has 1 to 4,294,963,200 bytes.
+-- whether a memory may have this size: 1 to 4,294,963,200 bytes
 abbrev pub is_size : ℕ → Bool
 is_size size = nat_le 1 size && nat_le size largest_size
 
@@ -19,7 +19,7 @@ unfoldable pub put : List ℕ → List (ℕ × ℕ) → List ℕ
 put image bytes =
     map (λ a. unwrap_or (lookup (nat_eq a) bytes) (slice_index image a)) (range_with_len 0 (length image))
 
--- bytes at the addresses from one on
+-- these bytes with their addresses, which are those from `addr` on
 abbrev pub bytes_at : ℕ → List ℕ → List (ℕ × ℕ)
 bytes_at addr bytes = zip (range_with_len addr (length bytes)) bytes
 
@@ -27,7 +27,7 @@ bytes_at addr bytes = zip (range_with_len addr (length bytes)) bytes
 abbrev pub carried : List ℕ → List (ℕ × ℕ) → List (ℕ × ℕ)
 carried image ms = map (λ m. (m.0, slice_index image m.1)) ms
 
--- the image after these moves: all sources are read from it before any byte is put
+-- the image after these moves: all sources are read before any byte is put
 unfoldable pub after_moves : List ℕ → List (ℕ × ℕ) → List ℕ
 after_moves image ms = put image (carried image ms)
 
@@ -35,10 +35,10 @@ after_moves image ms = put image (carried image ms)
 abbrev pub laid : List ℕ → Descriptor → ℕ → List ℕ
 laid image t k = after_moves image (moves t k)
 
--- the moves that running transfers have made: each is a transfer with the number of its bytes stored
+-- the moves that running transfers have made: each transfer is given with the number of bytes that it has stored
 abbrev pub moves_of : List (Descriptor × ℕ) → List (ℕ × ℕ)
 moves_of running = flat_map (λ r. moves r.0 r.1) running
 
--- The image with the bytes stored so far of running transfers laid over their own destinations.
+-- the image with the bytes that running transfers have stored so far, each at its destination
 abbrev pub over : List ℕ → List (Descriptor × ℕ) → List ℕ
 over image running = after_moves image (moves_of running)

@@ -1,4 +1,4 @@
--- Memory as an image; a transfer as two lists of places, free of overlap.
+-- Memory as an image; a transfer as two lists of places that don't overlap.
 pub mod Places
 pub mod Image
 pub mod Rules

@@ -6,7 +6,7 @@ use Rattle.dma_mem.specs.declared.marks.MarkKind.{MarkKind}
 use Rattle.dma_mem.specs.Places.{Descriptor, Apart, share, sources, destinations}
 use Rattle.dma_mem.specs.Marking.{MarkList, same_kind}
 
--- Two segments meet where they share an address; an empty one meets nothing.
+-- Two segments meet if they share an address; an empty segment meets nothing.
 abbrev pub Meets : Segment → Segment → Type 0
 Meets s t = (a : ℕ) × Contains (range_with_len s.addr s.len) a × Contains (range_with_len t.addr t.len) a
 
@@ -18,8 +18,8 @@ meets s t = share (range_with_len s.addr s.len) (range_with_len t.addr t.len)
 abbrev pub hits : MarkKind → MarkList → Segment → Bool
 hits kind marks s = list_any (λ m. same_kind kind m.0 && meets m.1 s) marks
 
--- A transfer is free of another where its destinations meet no range of the other and its sources no destination of the
--- other.
+-- A transfer is free of another if its destinations meet no range of the other, and its sources meet no destination of
+-- the other.
 pub record IsFree (t u : Descriptor) : Type 0 where
   pub writes_none : Apart (destinations t) (destinations u)
   pub writes_no_source : Apart (destinations t) (sources u)

@@ -8,8 +8,8 @@ use Rattle.dma_mem.specs.declared.memory.MemFault.TheVariants.{OutOfMemoryRange,
 abbrev pub page_size : ℕ
 page_size = 4096
 
--- What contracts see of pages: a byte for each address below their size, and for each page, by its number, whether it is
--- made.
+-- What contracts see of a memory: a byte for each address below its size, and for each page, by its number, whether it
+-- is made.
 pub record Paged : Type 0 where
   pub image : List ℕ
   pub made : List Bool
@@ -26,25 +26,25 @@ is_made m a = nat_lt a (length m.image) && has_page m (a / page_size)
 abbrev pub AllMade : Paged → List ℕ → Type 0
 AllMade m addresses = (a : ℕ) → Contains addresses a → IsTrue (is_made m a)
 
--- Each page that was made still is, and the size is the same.
+-- Each page that was made is still made, and the size is the same.
 pub record Keeps (old new : Paged) : Type 0 where
   pub size : length new.image ≡ length old.image
   pub made : (p : ℕ) → has_page old p ≡ true → has_page new p ≡ true
 
--- Of the pages on which none of these addresses lies, those are made that were.
+-- A page on which none of these addresses lies is made exactly if it was made before.
 abbrev pub MakesNoOther : Paged → Paged → List ℕ → Type 0
 MakesNoOther old new addresses =
     (p : ℕ) → ((a : ℕ) → Contains addresses a → a / page_size ≢ p) → has_page new p ≡ has_page old p
 
--- each page of `size` bytes is made
+-- the pages of a memory of `size` bytes in which each page is made
 unfoldable pub all_made : ℕ → List Bool
 all_made size = replicate ((size + 4095) / page_size) true
 
--- what contracts see of a memory that is there whole: these bytes, each on a page that is made
+-- a memory of these bytes in which each page is made
 abbrev pub whole : List ℕ → Paged
 whole image = record { image = image; made = all_made (length image) }
 
--- Why a call is refused that needs the addresses below `end` of a memory of this size: they are not all there, or else the
--- allocator is out of memory.
+-- Why a call that needs all addresses below `end` fails in a memory of this size: the memory ends before `end`, or else
+-- memory runs out.
 abbrev pub range_fault : ℕ → ℕ → MemFault
 range_fault size end = if nat_lt size end then OutOfMemoryRange else NoMemory

@@ -1,4 +1,4 @@
--- The places of a list of segments, and what it is for two transfers to be free of each other.
+-- The places of a list of segments, descriptors of transfers, and when two transfers are free of each other.
 use Rattle.std.specs.Prelude.{ℕ, List, [], ◌∷◌, length, take, Option, Bool, true, false, ◌||◌, ◌&&◌, not, nat_eq, nat_le, ◌+◌, if◌then◌else◌}
 use Rattle.std.specs.List.{flat_map, range_with_len, Contains, list_any, list_all, zip}
 use Rattle.dma_mem.specs.declared.segment.Segment.{Segment}
@@ -23,8 +23,8 @@ Apart xs ys = (a : ℕ) → Contains xs a → ¬ Contains ys a
 unfoldable pub share : List ℕ → List ℕ → Bool
 share xs ys = list_any (λ a. list_any (nat_eq a) ys) xs
 
--- What a transfer copies from where to where, whether it is a fill, and the events that it waits for and signals. The
--- sources of a fill are one segment of one byte.
+-- What a transfer copies from where to where, whether it is a fill, and the events that it waits for and signals. A
+-- fill has one source segment, of one byte.
 pub record Descriptor : Type 0 where
   pub fill : Bool
   pub src : List Segment
@@ -48,8 +48,8 @@ most_copied = 1048576
 abbrev pub last_event : ℕ
 last_event = 31
 
--- A fill: the byte at one address, to every place of a list (profile; after dmaengine memset, by a source address that
--- doesn't rise: PL330 manual, CCR bit 0).
+-- a fill: the byte at one address is copied to every place of a list (profile, after dmaengine memset; its source
+-- address doesn't increment: PL330 manual, CCR bit 0)
 abbrev pub filling : ℕ → List Segment → Option ℕ → Option ℕ → Descriptor
 filling src dst wait signal =
     record { fill = true; src = record { addr = src; len = 1 } ∷ []; dst = dst; wait = wait; signal = signal }
@@ -58,8 +58,8 @@ filling src dst wait signal =
 abbrev pub destinations : Descriptor → List ℕ
 destinations t = places t.dst
 
--- The places that it reads: position p of these is copied to position p of those that it writes. A fill reads its one place
--- again for each of those.
+-- the places that it reads: the place at position p is copied to the destination at position p; a fill reads its one
+-- place for every destination
 abbrev pub sources : Descriptor → List ℕ
 sources t = if t.fill then flat_map (λ d. places t.src) (destinations t) else places t.src
 
@@ -71,11 +71,11 @@ size_of t = length (destinations t)
 abbrev pub moves : Descriptor → ℕ → List (ℕ × ℕ)
 moves t k = take k (zip (destinations t) (sources t))
 
--- whether each of its ranges ends at that address at most
+-- whether each segment of the list ends at or below `size`
 abbrev pub all_below : List Segment → ℕ → Bool
 all_below list size = list_all (λ s. nat_le (s.addr + s.len) size) list
 
--- whether all ranges of a transfer do
+-- whether all segments of a transfer end at or below `size`
 abbrev pub lies_below : Descriptor → ℕ → Bool
 lies_below t size = all_below t.src size && all_below t.dst size
 
@@ -83,11 +83,12 @@ lies_below t size = all_below t.src size && all_below t.dst size
 abbrev pub writes : Descriptor → Segment → Bool
 writes t s = share (range_with_len s.addr s.len) (destinations t)
 
--- whether it writes or reads one
+-- whether the transfer writes or reads an address of the segment
 abbrev pub touches : Descriptor → Segment → Bool
 touches t s = share (range_with_len s.addr s.len) (destinations t) || share (range_with_len s.addr s.len) (sources t)
 
--- Whether a transfer is free of another: its destinations meet no range of the other, and its sources no destination of it.
+-- whether a transfer is free of another: its destinations meet no range of the other, and its sources no destination of
+-- it
 abbrev pub is_free_of : Descriptor → Descriptor → Bool
 is_free_of t u =
     not (share (destinations t) (destinations u)

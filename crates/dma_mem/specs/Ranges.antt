@@ -4,16 +4,16 @@ use Rattle.std.specs.List.{Contains}
 use Rattle.dma_mem.specs.declared.segment.Segment.{Segment}
 use Rattle.dma_mem.specs.Places.{Descriptor, places, sources}
 
--- Two lists of segments have the same addresses.
+-- The two lists of segments have the same addresses.
 abbrev pub SameAddresses : List Segment → List Segment → Type 0
 SameAddresses xs ys = (a : ℕ) → Contains (places xs) a ↔ Contains (places ys) a
 
--- Segments have the addresses that a transfer reads.
+-- The ranges have exactly the addresses that the transfer reads.
 abbrev pub HasSources : List Segment → Descriptor → Type 0
 HasSources ranges t = (a : ℕ) → Contains (places ranges) a ↔ Contains (sources t) a
 
--- Coalesced ranges: each has bytes, and ends below the first address of every later one, so that they rise and no two meet
--- or touch.
+-- Coalesced ranges: each has bytes, and ends below the first address of every later one. So they are in rising order,
+-- and no two meet or touch.
 pub record IsCoalesced (ranges : List Segment) : Type 0 where
   pub filled : All (λ s. 0 < s.len) ranges
   pub apart : AllPairs (λ s t. s.addr + s.len < t.addr) ranges

@@ -11,19 +11,19 @@ use Rattle.dma_mem.specs.Meeting.{meets}
 abbrev pub of_either_list : (List Segment → Bool) → Descriptor → Bool
 of_either_list test t = test t.src || test t.dst
 
--- A list has no segment.
+-- whether the list has no segment
 abbrev pub is_empty_list : List Segment → Bool
 is_empty_list list = length list == 0
 
--- A list has more than 64 segments.
+-- whether the list has more than 64 segments
 abbrev pub has_too_many : List Segment → Bool
 has_too_many list = nat_lt most_segments (length list)
 
--- A segment of the list has no byte.
+-- whether a segment of the list has no byte
 abbrev pub has_empty_segment : List Segment → Bool
 has_empty_segment list = list_any (λ s. s.len == 0) list
 
--- A segment of the list ends above the last address.
+-- whether a segment of the list ends above 2^32
 abbrev pub has_wrapping_segment : List Segment → Bool
 has_wrapping_segment list = list_any (λ s. nat_lt end_of_addresses (s.addr + s.len)) list
 
@@ -31,30 +31,30 @@ has_wrapping_segment list = list_any (λ s. nat_lt end_of_addresses (s.addr + s.
 abbrev pub total : List Segment → ℕ
 total list = sum_by (λ s. s.len) list
 
--- Two segments of the list meet.
+-- whether two segments of the list meet
 abbrev pub some_meet : List Segment → Bool
 some_meet [] = false
 some_meet (s ∷ later) = list_any (meets s) later || some_meet later
 
--- A segment of the first list meets one of the second.
+-- whether a segment of the first list meets one of the second
 abbrev pub meets_any : List Segment → List Segment → Bool
 meets_any list others = list_any (λ s. list_any (meets s) others) list
 
--- The event is above the last.
+-- whether the event is above the last one
 abbrev pub is_bad_event : Option ℕ → Bool
 is_bad_event None = false
 is_bad_event (Some event) = nat_lt last_event event
 
--- this refusal where its test holds, else that of the others
+-- this refusal if its test holds, otherwise the one that the others give
 abbrev pub cause : Bool → TransferFault → Option TransferFault → Option TransferFault
 cause holds fault others = if holds then Some fault else others
 
--- How two lists overlap, if they do: two destinations meet; else a source meets a destination.
+-- how two lists overlap, if they do: two destinations meet; or else a source meets a destination
 abbrev pub overlap_of : List Segment → List Segment → Option TransferFault
 overlap_of src dst = cause (some_meet dst) DestinationsMeet (cause (meets_any src dst) SourceMeetsDestination None)
 
--- The first refusal that holds, if one does: each is tested over both lists before the next. The lists of a fill may differ
--- in length.
+-- the first refusal that applies, if one does: each is tested over both lists before the next; the lists of a fill may
+-- differ in their number of bytes
 abbrev pub refusal_of : Descriptor → Option TransferFault
 refusal_of t =
     cause (of_either_list is_empty_list t) EmptyList (
@@ -67,7 +67,7 @@ refusal_of t =
     cause (meets_any t.src t.dst) SourceMeetsDestination (
     cause (is_bad_event t.wait || is_bad_event t.signal) BadEvent None))))))))
 
--- The first refusal of a fill that holds, if one does: each is tested over its destinations, and its one byte against them.
+-- the first refusal of a fill that applies, if one does: each is tested over its destinations and its one source byte
 abbrev pub refusal_of_fill : ℕ → List Segment → Option ℕ → Option ℕ → Option TransferFault
 refusal_of_fill src dst wait signal =
     cause (is_empty_list dst) EmptyList (

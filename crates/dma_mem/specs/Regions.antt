@@ -9,11 +9,11 @@ pub record Piece : Type 0 where
   pub addr : ℕ
   pub bytes : List ℕ
 
--- the address behind its last byte
+-- the address after its last byte
 abbrev pub end_of : Piece → ℕ
 end_of p = p.addr + length p.bytes
 
--- what regions hold
+-- the piece of a region: its first address and its bytes
 abbrev pub piece_of : Region → Piece
 piece_of r = record { addr = r.addr; bytes = r.bytes.now }
 
@@ -25,28 +25,30 @@ pieces_of regions = map piece_of regions
 abbrev pub names_of : List Region → List ℕ
 names_of regions = map (λ r. r.bytes.ghost_name) regions
 
--- Whether pieces rise from an address on, share no address, and end at the largest size of a memory at most.
+-- whether pieces are in rising order from `at` on, share no address, and end at or below the largest size of a memory
 abbrev pub rises_from : ℕ → List Piece → Bool
 rises_from at [] = true
 rises_from at (p ∷ ps) = nat_le at p.addr && (nat_le (end_of p) largest_size && rises_from (end_of p) ps)
 
+-- whether pieces are in rising order, share no address, and end at or below the largest size of a memory
 abbrev pub in_order : List Piece → Bool
 in_order ps = rises_from 0 ps
 
--- The bytes of the addresses from one on up to the end of the last piece, with zeros where no piece is.
+-- the bytes from `at` up to the end of the last piece, with zeros where no piece is
 abbrev pub bytes_above : ℕ → List Piece → List ℕ
 bytes_above at [] = []
 bytes_above at (p ∷ ps) = replicate (p.addr - at) 0 ++ (p.bytes ++ bytes_above (end_of p) ps)
 
--- The image of a memory that has its bytes in these pieces.
+-- the image of a memory that has its bytes in these pieces
 abbrev pub image_of : List Piece → List ℕ
 image_of ps = bytes_above 0 ps
 
--- The segments from an address on in which no piece is, below the last piece. They may be empty.
+-- the segments between the pieces, and from `at` up to the first piece; each may be empty
 abbrev pub gaps_above : ℕ → List Piece → List Segment
 gaps_above at [] = []
 gaps_above at (p ∷ ps) = record { addr = at; len = p.addr - at } ∷ gaps_above (end_of p) ps
 
+-- the gaps of a memory that has its bytes in these pieces
 abbrev pub gaps_of : List Piece → List Segment
 gaps_of ps = gaps_above 0 ps
 
@@ -54,7 +56,7 @@ gaps_of ps = gaps_above 0 ps
 abbrev pub has : ℕ → Piece → Bool
 has a p = nat_le p.addr a && nat_lt a (end_of p)
 
--- The bytes of the piece that has an address, from that address on. There are none where no piece has it.
+-- the bytes of the piece that has an address, from that address on; none if no piece has it
 abbrev pub rest_from : List Piece → ℕ → List ℕ
 rest_from [] a = []
 rest_from (p ∷ ps) a = if has a p then drop (a - p.addr) p.bytes else rest_from ps a

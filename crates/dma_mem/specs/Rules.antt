@@ -14,9 +14,9 @@ pub record IsSegmentList (list : List Segment) : Type 0 where
 abbrev pub HasOneByte : Descriptor → Type 0
 HasOneByte t = t.fill ≡ true → (a : ℕ) × (t.src ≡ record { addr = a; len = 1 } ∷ [])
 
--- What holds of every transfer: two such lists, of one byte the first where it is a fill; as many places to read as to
--- write, at most 1,048,576 (profile); no place is written twice, and none is both read and written, so that all bytes can be
--- copied at once; both events are at most 31.
+-- The rules of every transfer. Both lists are segment lists, and a fill has one source byte. As many places are read as
+-- written, at most 1,048,576 (profile). No place is written twice, and none is both read and written, so that all bytes
+-- can be copied at once. Both events are at most 31.
 pub record IsTransfer (t : Descriptor) : Type 0 where
   pub one_byte : HasOneByte t
   pub source_list : IsSegmentList t.src

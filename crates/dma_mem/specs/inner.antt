@@ -1,5 +1,5 @@
--- How the crate keeps what its contracts speak of: invariants of its types, and contracts of its private functions. No
--- public clause names them.
+-- Definitions behind the private parts: invariants of the types, and contracts of the private functions. No public
+-- clause cites them.
 pub mod PageTable
 pub mod Blocks
 pub mod RangesInOrder

@@ -30,21 +30,21 @@ impl Events {
         Events { bits: 0 }
     }
 
-    /// Returns the flags that the bits of a number are.
+    /// Returns the flags of a number: the flag of event e is set if bit e is.
     pub fn from_bits(bits: u32) -> Events
         ensures { result ≡ flags_of bits }
     {
         Events { bits }
     }
 
-    /// Returns the number whose bits they are.
+    /// Returns the flags as a number: bit e is set if the flag of event e is.
     pub fn bits(&self) -> u32
         ensures { flags_of result ≡ self.now }
     {
         self.bits
     }
 
-    /// Returns the same flags again.
+    /// Returns a copy of the flags.
     pub fn copy(&self) -> Events
         ensures { result ≡ self.now }
     {

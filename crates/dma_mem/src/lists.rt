@@ -1,5 +1,6 @@
-//! Lists that contracts see as their items alone. A short list is kept in the value itself and asks for no memory. A longer
-//! one is behind a pointer, which keeps a value small: histories and scripts have many.
+//! Lists of bytes and of segments. Contracts see only their items. A short list is kept in the value itself and
+//! allocates nothing. A longer one is behind a pointer, so that the value stays small: histories and scripts have many
+//! lists.
 
 ghost use Rattle.std.specs.Prelude.{◌≡◌, ◌∷◌, ◌++◌, ◌==◌, ◌≤◌, [], length, IfOk, OnOk, OnErr};
 ghost use Rattle.dma_mem.specs.inner.Stored.{FitsInline, bytes_in, segments_in};
@@ -9,13 +10,13 @@ use std::alloc::{AllocError, Global};
 use std::marker::Model;
 use std::slice;
 
-/// The most bytes that are kept in the value itself.
+/// The most bytes that a list keeps in the value itself.
 const INLINE_BYTES: usize = 22;
 
 /// Where the bytes of a list are.
 #[derive(Debug, Drop)]
 enum StoredBytes {
-    /// In the value: the first `len` of these.
+    /// In the value: the first `len` of `bytes`.
     Few { len: u8, bytes: [u8; INLINE_BYTES] },
     /// Behind a pointer.
     Long(Box<Vec<u8>>),
@@ -54,7 +55,7 @@ fn few(bytes: &[u8]) -> StoredBytes
 }
 
 impl Bytes {
-    /// A copy of these bytes.
+    /// Returns a copy of these bytes. Fails with `AllocError` if memory runs out.
     pub fn from_slice(alloc: Global, bytes: &[u8]) -> Result<Bytes, AllocError>
         ensures { IfOk result (λ list. list ≡ bytes.now) }
     {
@@ -67,7 +68,7 @@ impl Bytes {
         Ok(Bytes { stored })
     }
 
-    /// Returns the bytes of a vector. Those of a long one are moved, and not copied.
+    /// Returns the bytes of a vector. A long vector is moved, not copied. Fails with `AllocError` if memory runs out.
     pub fn from_vec(bytes: Vec<u8>) -> Result<Bytes, AllocError>
         ensures { IfOk result (λ list. list ≡ bytes.items) }
     {
@@ -79,7 +80,7 @@ impl Bytes {
         Ok(Bytes { stored })
     }
 
-    /// The bytes.
+    /// Returns the bytes.
     pub fn as_slice(&self) -> &[u8]
         ensures { result.now ≡ self.now }
     {
@@ -89,14 +90,14 @@ impl Bytes {
         }
     }
 
-    /// How many bytes there are.
+    /// Returns the number of bytes.
     pub fn len(&self) -> usize
         ensures { result ≡ length self.now }
     {
         self.as_slice().len()
     }
 
-    /// Whether there is no byte.
+    /// Returns whether the list is empty.
     pub fn is_empty(&self) -> bool
         ensures { result ≡ (length self.now == 0) }
     {
@@ -107,7 +108,7 @@ impl Bytes {
 /// Where the segments of a list are.
 #[derive(Debug, Drop)]
 enum StoredSegments {
-    /// There are none.
+    /// The list is empty.
     Empty,
     /// In the value.
     One(Segment),
@@ -132,7 +133,7 @@ impl Model for Segments {
     ghost view = { λ s. segments_in s.stored };
 }
 
-/// Returns a copy of these segments, kept in the value where there is only one.
+/// Returns a copy of these segments. A single one is kept in the value.
 fn stored(alloc: Global, segments: &[Segment]) -> Result<StoredSegments, AllocError>
     ensures { IfOk result (λ stored. segments_in stored ≡ segments.now) }
 {
@@ -148,7 +149,7 @@ fn stored(alloc: Global, segments: &[Segment]) -> Result<StoredSegments, AllocEr
 }
 
 impl Segments {
-    /// A list without segments, which takes no memory.
+    /// Returns an empty list, without allocating.
     pub fn new(alloc: Global) -> Segments
         ensures { result ≡ [] }
     {
@@ -158,7 +159,7 @@ impl Segments {
         }
     }
 
-    /// A copy of these segments.
+    /// Returns a copy of these segments. Fails with `AllocError` if memory runs out.
     pub fn from_slice(alloc: Global, segments: &[Segment]) -> Result<Segments, AllocError>
         ensures { IfOk result (λ list. list ≡ segments.now) }
     {
@@ -166,7 +167,7 @@ impl Segments {
         Ok(Segments { alloc, stored })
     }
 
-    /// The segments.
+    /// Returns the segments.
     pub fn as_slice(&self) -> &[Segment]
         ensures { result.now ≡ self.now }
     {
@@ -177,28 +178,28 @@ impl Segments {
         }
     }
 
-    /// How many segments there are.
+    /// Returns the number of segments.
     pub fn len(&self) -> usize
         ensures { result ≡ length self.now }
     {
         self.as_slice().len()
     }
 
-    /// Whether there is no segment.
+    /// Returns whether the list is empty.
     pub fn is_empty(&self) -> bool
         ensures { result ≡ (length self.now == 0) }
     {
         self.as_slice().is_empty()
     }
 
-    /// Returns a copy of the list.
+    /// Returns a copy of the list. Fails with `AllocError` if memory runs out.
     pub fn try_copy(&self) -> Result<Segments, AllocError>
         ensures { IfOk result (λ copy. copy ≡ self.now) }
     {
         Segments::from_slice(self.alloc, self.as_slice())
     }
 
-    /// Adds a segment at the end. Without memory for it the list stays as it was.
+    /// Adds a segment at the end. If memory runs out, it fails and the list is unchanged.
     pub fn push(&mut self, segment: Segment) -> Result<(), AllocError>
         ensures ok { OnOk result (self.new ≡ self.old ++ segment ∷ []) }
         ensures err { OnErr result (self.new ≡ self.old) }

@@ -18,9 +18,9 @@ pub enum MarkKind {
     Writing,
 }
 
-/// Segments at which bursts fail (profile). Contracts see them as the list of what was added.
+/// Segments at which bursts fail (profile). Contracts see the marks in the order in which they were added.
 ///
-/// Beside the list it keeps the ranges of the marks of each kind, in which a mark is found by binary search.
+/// Beside the list it keeps the marked addresses of each kind as ordered ranges, for a binary search.
 #[derive(Debug, Drop)]
 pub struct Marks {
     list: Vec<(MarkKind, Segment)>,
@@ -43,7 +43,7 @@ impl Model for Marks {
 }
 
 impl Marks {
-    /// Returns no marks, which take no memory.
+    /// Returns an empty list of marks, without allocating.
     pub fn new(alloc: Global) -> Marks
         ensures { result ≡ [] }
     {
@@ -54,7 +54,7 @@ impl Marks {
         }
     }
 
-    /// Adds a mark. Without memory for it the marks stay as they were.
+    /// Adds a mark. If memory runs out, it fails and the marks are unchanged.
     pub fn add(&mut self, kind: MarkKind, segment: Segment) -> Result<(), AllocError>
         ensures ok { OnOk result (self.new ≡ self.old ++ (kind, segment) ∷ []) }
         ensures err { OnErr result (self.new ≡ self.old) }
@@ -68,7 +68,7 @@ impl Marks {
         Ok(())
     }
 
-    /// Returns the same marks again, in memory of their own. `AllocError` comes where it was refused.
+    /// Returns a copy of the marks. Fails with `AllocError` if memory runs out.
     pub fn try_copy(&self) -> Result<Marks, AllocError>
         ensures { IfOk result (λ copy. copy ≡ self.now) }
     {
@@ -80,7 +80,7 @@ impl Marks {
         })
     }
 
-    /// Removes all marks, and gives back what they took.
+    /// Removes all marks and frees their memory.
     pub fn clear(&mut self)
         ensures { self.new ≡ [] }
     {
@@ -97,7 +97,7 @@ impl Marks {
         }
     }
 
-    /// Returns whether a mark of the kind meets the segment, which is whether one of its addresses lies in such a mark.
+    /// Returns whether a mark of the kind meets the segment: whether an address of the segment lies in such a mark.
     pub fn hits(&self, kind: MarkKind, segment: Segment) -> bool
         ensures meets { result ≡ hits kind self.now segment }
         ensures addresses { result
@@ -106,8 +106,8 @@ impl Marks {
         meets_ordered(self.ranges(kind), segment)
     }
 
-    /// Returns how many addresses of the segment come before the first that lies in a mark of the kind. It is the
-    /// segment's length where none does.
+    /// Returns how many addresses of the segment come before the first one in a mark of the kind, or the segment's
+    /// length if none is in such a mark.
     pub fn unmarked(&self, kind: MarkKind, segment: Segment) -> u32
         ensures few { result ≤ segment.len }
         ensures none { NoneMarked kind self.now segment.addr result }

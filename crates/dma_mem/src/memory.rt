@@ -12,13 +12,13 @@ use std::alloc::{AllocError, Global};
 use std::marker::Model;
 use thiserror::Error;
 
-/// The most bytes that a memory has.
+/// The most bytes that a memory can have (profile).
 pub const MAX_SIZE: u32 = 4_294_963_200;
 
 /// The number of bytes in a page (profile).
 pub const PAGE_SIZE: usize = 4096;
 
-/// Why a call on a memory was refused.
+/// Why a call on a memory fails.
 #[derive(Clone, Copy, Debug, PartialEq, Eq, Error)]
 pub enum MemFault {
     #[error("the size is not 1 to {} bytes", MAX_SIZE)]
@@ -29,11 +29,11 @@ pub enum MemFault {
     NoMemory,
 }
 
-/// Bytes at the addresses from 0 up to a size of 1 to [`MAX_SIZE`] (profile), on pages of 4,096 that are made on first
-/// write and stay. Contracts see its image, and which of its pages are made.
+/// A memory of 1 to [`MAX_SIZE`] bytes (profile), with addresses from 0. Its pages of 4,096 bytes are made on first
+/// write and kept. Contracts see its image, and which of its pages are made.
 ///
-/// A new one holds 24 bytes for each 4 MiB of its size. A page that is made holds its 4,096 bytes and what the
-/// allocator adds; the first of a 4 MiB holds 24 KiB besides, the list of that many pages.
+/// A new memory takes 24 bytes for each 4 MiB of its size. A page that is made takes 4,096 bytes and what the allocator
+/// adds. The first page of each 4 MiB also takes 24 KiB, for the list of their 1,024 pages.
 #[derive(Debug, Drop)]
 pub struct Memory {
     size: u32,
@@ -55,7 +55,7 @@ impl Model for Memory {
 }
 
 impl Memory {
-    /// Returns a memory of zeros, without a page.
+    /// Returns a memory of `size` zeros, in which no page is made.
     ///
     /// The error is `SizeOutOfRange` for a size of 0 or above [`MAX_SIZE`], else `NoMemory`.
     pub fn new(alloc: Global, size: u32) -> Result<Memory, MemFault>
@@ -74,7 +74,7 @@ impl Memory {
         Ok(Memory { size, table })
     }
 
-    /// Returns how many bytes it has.
+    /// Returns the size of the memory in bytes, 1 to [`MAX_SIZE`].
     pub fn size(&self) -> u32
         ensures size { result ≡ length self.now.image }
         ensures low { 1 ≤ result }
@@ -83,7 +83,7 @@ impl Memory {
         self.size
     }
 
-    /// Returns the byte at an address, or none at or above the size.
+    /// Returns the byte at an address, or `None` for an address at or above the size.
     pub fn byte(&self, addr: u32) -> Option<u8>
         ensures { result ≡ slice_get self.now.image addr }
     {
@@ -94,10 +94,9 @@ impl Memory {
         }
     }
 
-    /// Fills the slice with the bytes from an address on.
+    /// Fills `buf` with the bytes from `addr` on.
     ///
-    /// The error is `OutOfMemoryRange` where the address plus the slice's length is above the size. The slice then
-    /// stays as it was.
+    /// The error is `OutOfMemoryRange` if `addr` plus the length of `buf` is above the size. `buf` is then unchanged.
     pub fn read_into(&self, addr: u32, buf: &mut [u8]) -> Result<(), MemFault>
         ensures result { result ≡ (if nat_lt (length self.now.image) (addr + length buf.old)
             then Err MemFault.OutOfMemoryRange else Ok tt) }
@@ -114,7 +113,7 @@ impl Memory {
         Ok(())
     }
 
-    /// Returns a copy of the `len` bytes from an address on.
+    /// Returns a copy of the `len` bytes from `addr` on. Fails with `AllocError` if memory runs out.
     pub fn to_vec(&self, alloc: Global, addr: u32, len: u32) -> Result<Vec<u8>, AllocError>
         requires { addr + len ≤ length self.now.image }
         ensures { IfOk result (λ list. list.items ≡ take len (drop addr self.now.image)) }
@@ -122,10 +121,10 @@ impl Memory {
         self.table.to_vec(alloc, addr as usize, len as usize)
     }
 
-    /// Makes the pages of a segment, of zeros, where they aren't made.
+    /// Makes the pages of a segment that aren't made yet, and fills them with zeros.
     ///
-    /// The error is `OutOfMemoryRange` where the segment ends above the size, and nothing has changed; else `NoMemory`,
-    /// and some of its pages may have been made.
+    /// The error is `OutOfMemoryRange` if the segment ends above the size; then nothing changes. Otherwise it is
+    /// `NoMemory`; then some of the pages may have been made.
     pub fn prepare(&mut self, segment: Segment) -> Result<(), MemFault>
         ensures ok { OnOk result (AllMade self.new (range_of segment)) }
         ensures within { OnOk result (segment.addr + segment.len ≤ length self.old.image) }
@@ -149,9 +148,9 @@ impl Memory {
         Ok(())
     }
 
-    /// Makes the pages of all segments of a list, one after another.
+    /// Makes the pages of all segments of a list, one segment after another.
     ///
-    /// The error is that of the first that is refused, and some pages may have been made.
+    /// The error is that of the first segment that fails. Some pages may have been made then.
     pub fn prepare_all(&mut self, list: &[Segment]) -> Result<(), MemFault>
         ensures ok { OnOk result (AllMade self.new (places list.now)) }
         ensures within { OnOk result (all_below list.now (length self.old.image) ≡ true) }
@@ -173,7 +172,7 @@ impl Memory {
         Ok(())
     }
 
-    /// Returns whether each address of a segment lies below the size and on a page.
+    /// Returns whether each address of a segment lies below the size and on a page that is made.
     pub fn made(&self, segment: Segment) -> bool
         ensures { result ≡ list_all (is_made self.now) (range_of segment) }
     {
@@ -185,7 +184,7 @@ impl Memory {
         end <= self.size as usize && self.table.are_made(start, end)
     }
 
-    /// Returns the `len` bytes from an address on in place, where one page has them all: a look-up and no copy.
+    /// Returns the `len` bytes from `addr` on without copying them, or `None` if they don't lie on one page.
     pub fn part(&self, addr: u32, len: u32) -> Option<&[u8]>
         requires { addr + len ≤ length self.now.image }
         ensures bytes { IfSome result (λ part. part.now ≡ take len (drop addr self.now.image)) }
@@ -194,8 +193,8 @@ impl Memory {
         self.table.part(addr as usize, len as usize)
     }
 
-    /// Returns the bytes from an address on, as many as the block has: in place where one page has them all, else the
-    /// block, filled with them.
+    /// Returns the bytes from `addr` on, as many as `block` has. They are copied to `block` only if they don't lie on
+    /// one page.
     pub fn bytes<'a>(&'a self, addr: u32, block: &'a mut [u8]) -> &'a [u8]
         requires { addr + length block.old ≤ length self.now.image }
         ensures { result.now ≡ take (length block.old) (drop addr self.now.image) }
@@ -207,8 +206,7 @@ impl Memory {
         block
     }
 
-    /// Writes the bytes of two slices, those of the second behind those of the first, from an address on, to pages that
-    /// are made.
+    /// Writes the bytes of `front` and then those of `back` from `addr` on. Their pages are already made.
     pub fn write_parts(&mut self, addr: u32, front: &[u8], back: &[u8])
         requires within { addr + length front.now + length back.now ≤ length self.old.image }
         requires made { AllMade self.old
@@ -220,8 +218,8 @@ impl Memory {
         self.table.put_parts(addr as usize, front, back);
     }
 
-    /// Copies the `len` bytes from address `from` on to the addresses from `to` on, whose pages are made. The two
-    /// ranges share no address.
+    /// Copies `len` bytes from `from` to `to`. The pages of the destination are already made, and the two ranges share
+    /// no address.
     pub fn copy_apart(&mut self, from: u32, to: u32, len: u32)
         requires source { from + len ≤ length self.old.image }
         requires within { to + len ≤ length self.old.image }
@@ -235,7 +233,7 @@ impl Memory {
             .copy_apart(from as usize, to as usize, len as usize);
     }
 
-    /// Sets the `len` bytes from an address on, whose pages are made, to one byte.
+    /// Sets the `len` bytes from `addr` on to `byte`. Their pages are already made.
     pub fn fill(&mut self, addr: u32, len: u32, byte: u8)
         requires within { addr + len ≤ length self.old.image }
         requires made { AllMade self.old (range_with_len addr len) }
@@ -245,10 +243,10 @@ impl Memory {
         self.table.fill(addr as usize, len as usize, byte);
     }
 
-    /// Writes the bytes from an address on, and makes their pages first.
+    /// Writes the bytes from `addr` on, and first makes those of their pages that aren't made.
     ///
-    /// The error is `OutOfMemoryRange` where the address plus the number of bytes is above the size, and nothing has
-    /// changed; else `NoMemory`: the image is as it was, and some of the pages may have been made.
+    /// The error is `OutOfMemoryRange` if `addr` plus the number of bytes is above the size; then nothing changes.
+    /// Otherwise it is `NoMemory`; then the image is unchanged, and some of the pages may have been made.
     pub fn write(&mut self, addr: u32, bytes: &[u8]) -> Result<(), MemFault>
         ensures ok { OnOk result (self.new.image ≡ put self.old.image (bytes_at addr bytes.now)) }
         ensures err { OnErr result (self.new.image ≡ self.old.image) }
@@ -272,7 +270,7 @@ impl Memory {
         Ok(())
     }
 
-    /// Returns the same memory again, in memory of its own.
+    /// Returns a copy of the memory. Fails with `AllocError` if memory runs out.
     pub fn try_copy(&self) -> Result<Memory, AllocError>
         ensures { IfOk result (λ copy. copy ≡ self.now) }
     {

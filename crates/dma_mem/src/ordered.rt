@@ -10,7 +10,7 @@ ghost use Rattle.dma_mem.specs.inner.RangesInOrder.{IsOrdered, AddsAddresses, Is
 use crate::segment::{Segment, meets};
 use std::alloc::AllocError;
 
-/// Puts segments in the order of their first addresses, in place.
+/// Sorts segments by their first addresses, in place.
 pub fn sort_by_address(segments: &mut [Segment])
     ensures same { IsPermutation segments.old segments.new }
     ensures rising { IsNonDecreasingBy (λ (s : Segment). s.addr) segments.new }
@@ -18,7 +18,7 @@ pub fn sort_by_address(segments: &mut [Segment])
     segments.sort_unstable_by_key(|segment| segment.addr);
 }
 
-// Returns how many of the ranges begin below an address: the first ones.
+// Returns how many of the ranges begin below an address. They are the first ones, since the ranges are in order.
 fn begun_below(ranges: &[Segment], addr: u32) -> usize
     requires { IsNonDecreasingBy (λ (r : Segment). r.addr) ranges.now }
     ensures bound { result ≤ length ranges.now }
@@ -28,7 +28,7 @@ fn begun_below(ranges: &[Segment], addr: u32) -> usize
     ranges.partition_point(|range| range.addr < addr)
 }
 
-// Returns how many of the ranges end at an address or below it: the first ones.
+// Returns how many of the ranges end at or below an address. They are the first ones, since the ranges are in order.
 fn ended_by(ranges: &[Segment], end: u64) -> usize
     requires { IsNonDecreasingBy (λ (r : Segment). r.addr + r.len) ranges.now }
     ensures bound { result ≤ length ranges.now }
@@ -38,8 +38,8 @@ fn ended_by(ranges: &[Segment], end: u64) -> usize
     ranges.partition_point(|range| range.end() <= end)
 }
 
-// Returns whether the segment ends below the first range or begins above the last, or there are none: then none has an
-// address of it.
+// Returns whether there are no ranges, or the segment lies below the first range or above the last one. It then shares
+// no address with a range.
 fn lies_outside(ranges: &[Segment], segment: Segment) -> bool
     requires { IsOrdered ranges.now }
     ensures { IsTrue result → share (range_of segment) (places ranges.now) ≡ false }
@@ -52,8 +52,8 @@ fn lies_outside(ranges: &[Segment], segment: Segment) -> bool
     segment.end() <= u64::from(first.addr) || last.end() <= u64::from(segment.addr)
 }
 
-// Returns whether one of the ranges has an address of the segment: the first that ends above where the segment begins
-// has one, if any has. It is found by binary search.
+// Returns whether a range shares an address with the segment. If one does, so does the first range that ends above the
+// segment's start, which a binary search finds.
 #[inline(never)]
 fn meets_by_search(ranges: &[Segment], segment: Segment) -> bool
     requires { IsOrdered ranges.now }
@@ -63,8 +63,8 @@ fn meets_by_search(ranges: &[Segment], segment: Segment) -> bool
     first < ranges.len() && meets(segment, ranges[first])
 }
 
-// Puts a range in the place of those from `first` up to, not including, `past`. Without memory for it they stay as they
-// were.
+// Replaces the ranges from index `first` up to, but not including, `past` by one range. If memory runs out, it fails
+// and the ranges are unchanged.
 fn replace(
     ranges: &mut Vec<Segment>,
     first: usize,
@@ -86,9 +86,9 @@ fn replace(
     Ok(())
 }
 
-/// Adds the addresses of a segment to ranges in order. It takes the place of those that lie in it; where one begins
-/// below it and ends above it, or it is empty, nothing changes. Without memory for one more range they stay as they
-/// were.
+/// Adds the addresses of a segment to ordered ranges. The segment replaces the ranges that lie in it. Nothing changes
+/// if the segment is empty, or if a range begins below it and ends above it. If memory for one more range runs out, it
+/// fails and the ranges are unchanged.
 pub fn add_in_order(ranges: &mut Vec<Segment>, segment: Segment) -> Result<(), AllocError>
     requires { IsOrdered ranges.old.items }
     ensures ordered { IsOrdered ranges.new.items }
@@ -106,8 +106,8 @@ pub fn add_in_order(ranges: &mut Vec<Segment>, segment: Segment) -> Result<(), A
     replace(ranges, first, past, segment)
 }
 
-/// Returns whether one of the ranges shares an address with the segment. A segment outside all ranges, the common case,
-/// is found by an inlined look at the first and the last range; else this searches by halves.
+/// Returns whether a range shares an address with the segment. The common case, a segment below or above all ranges, is
+/// decided inline from the first and the last range; every other case by binary search.
 pub fn meets_ordered(ranges: &[Segment], segment: Segment) -> bool
     requires { IsOrdered ranges.now }
     ensures { result ≡ share (range_of segment) (places ranges.now) }
@@ -118,8 +118,8 @@ pub fn meets_ordered(ranges: &[Segment], segment: Segment) -> bool
     meets_by_search(ranges, segment)
 }
 
-/// Returns, by binary search, how many addresses of the segment come before the first that lies in one of the ranges.
-/// It is the segment's length where none does.
+/// Returns, by binary search, how many addresses of the segment come before the first one in a range, or the segment's
+/// length if none is in a range.
 pub fn clear_of_ordered(ranges: &[Segment], segment: Segment) -> u32
     requires { IsOrdered ranges.now }
     ensures few { result ≤ segment.len }
@@ -134,7 +134,7 @@ pub fn clear_of_ordered(ranges: &[Segment], segment: Segment) -> u32
     begin.saturating_sub(segment.addr).min(segment.len)
 }
 
-/// Returns whether one of the ranges has an address of one of the segments.
+/// Returns whether a range shares an address with one of the segments.
 pub fn any_meets_ordered(ranges: &[Segment], segments: &[Segment]) -> bool
     requires { IsOrdered ranges.now }
     ensures { result ≡ list_any (λ s. share (range_of s) (places ranges.now)) segments.now }

@@ -1,10 +1,10 @@
-//! What a channel's bursts need of a memory, and a memory over bytes that a caller lends.
+//! The memory that a channel's bursts read and write, as a trait, and the trait for bytes that a caller lends.
 
 ghost use Rattle.std.specs.Prelude.{◌≡◌, ℕ, ◌+◌, ◌≤◌, ◌<◌, ◌⊎◌, ◌++◌, [], ◌∷◌, length, take, drop, replicate, nat_lt, true, IfOk, IfErr, OnOk, OnErr, IsTrue};
 ghost use Rattle.std.specs.List.{list_all, range_with_len};
 ghost use Rattle.dma_mem.specs.Places.{range_of};
 ghost use Rattle.dma_mem.specs.Image.{put, bytes_at, largest_size};
-ghost use Rattle.dma_mem.specs.Lent.{Loan, Avoids, lies_in_one};
+ghost use Rattle.dma_mem.specs.Lent.{Loan, Avoids, lies_in_any};
 ghost use Rattle.dma_mem.specs.Pages.{Paged, is_made, range_fault, AllMade, Keeps, MakesNoOther};
 
 use crate::memory::{MemFault, Memory};
@@ -12,45 +12,46 @@ use crate::segment::Segment;
 use crate::table::blocks::{copy_bytes_apart, fill_bytes};
 use crate::table::put_parts;
 
-/// A memory that bursts read and write: bytes at the addresses from 0 up to its size, but for its gaps. Some of them
-/// are ready to be written.
+/// A memory that bursts read and write. It has a byte at each address below its size that isn't in a gap. Only the
+/// pages that are made can be written.
 pub trait Ram {
     // Its image, and which of its pages are made.
     ghost paged: { Self → Paged };
 
-    // The loans by which it is reached, where it is lent, and its gaps. No call changes them.
+    // The names of the loans through which a lent memory is reached, and the memory's gaps. No call changes them.
     ghost loan: { Self → Loan };
 
-    /// Returns how many bytes it has.
+    /// Returns the size of the memory in bytes.
     fn size(&self) -> u32
         ensures { result ≡ length (paged self.now).image };
 
-    /// Returns whether each address of a segment lies below the size and on a page.
+    /// Returns whether each address of a segment lies below the size and on a page that is made.
     fn made(&self, segment: Segment) -> bool
         ensures { result ≡ list_all (is_made (paged self.now)) (range_of segment) };
 
-    /// Returns how many addresses of a segment come before the first that lies in a gap. It is the segment's length
-    /// where none does.
+    /// Returns how many addresses of a segment come before the first one in a gap, or the segment's length if none is
+    /// in a gap.
     fn clear(&self, segment: Segment) -> u32
         ensures few { result ≤ segment.len }
         ensures none { Avoids (loan self.now).gaps segment.addr result }
         ensures next { result < segment.len
-            → IsTrue (lies_in_one (loan self.now).gaps (segment.addr + result)) };
+            → IsTrue (lies_in_any (loan self.now).gaps (segment.addr + result)) };
 
-    /// Returns the bytes from an address on, as many as the block has: in place where they are in one piece, else the
-    /// block, filled with them.
+    /// Returns the bytes from `addr` on, as many as `block` has. They are copied to `block` only if they aren't in one
+    /// piece.
     fn bytes<'a>(&'a self, addr: u32, block: &'a mut [u8]) -> &'a [u8]
         requires within { addr + length block.old ≤ length (paged self.now).image }
         requires gaps { Avoids (loan self.now).gaps addr (length block.old) }
         ensures { result.now ≡ take (length block.old) (drop addr (paged self.now).image) };
 
-    /// Makes the pages of a segment where they aren't made.
+    /// Makes the pages of a segment that aren't made yet.
     ///
-    /// The error is `OutOfMemoryRange` where the segment ends above the size, and nothing has changed; else `NoMemory`,
-    /// and some of its pages may have been made.
+    /// The error is `OutOfMemoryRange` if the segment ends above the size; then nothing changes. Otherwise it is
+    /// `NoMemory`; then some of the pages may have been made.
     fn prepare(&mut self, segment: Segment) -> Result<(), MemFault>
         ensures ok { OnOk result (AllMade (paged self.new) (range_of segment)) }
-        ensures within { OnOk result (segment.addr + segment.len ≤ length (paged self.old).image) }
+        ensures within { OnOk result
+            (segment.addr + segment.len ≤ length (paged self.old).image) }
         ensures short { segment.addr + segment.len ≤ length (paged self.old).image
             → OnErr result (¬ AllMade (paged self.new) (range_of segment)) }
         ensures image { (paged self.new).image ≡ (paged self.old).image }
@@ -62,8 +63,7 @@ pub trait Ram {
             → paged self.new ≡ paged self.old }
         ensures loan { loan self.new ≡ loan self.old };
 
-    /// Writes the bytes of two slices, those of the second behind those of the first, from an address on, to pages that
-    /// are made.
+    /// Writes the bytes of `front` and then those of `back` from `addr` on. Their pages are already made.
     fn write_parts(&mut self, addr: u32, front: &[u8], back: &[u8])
         requires within { addr + length front.now + length back.now
             ≤ length (paged self.old).image }
@@ -75,7 +75,8 @@ pub trait Ram {
         ensures made { (paged self.new).made ≡ (paged self.old).made }
         ensures loan { loan self.new ≡ loan self.old };
 
-    /// Copies `len` bytes from one address on to another on, whose pages are made. The two ranges share no address.
+    /// Copies `len` bytes from `from` to `to`. The pages of the destination are already made, and the two ranges share
+    /// no address.
     fn copy_apart(&mut self, from: u32, to: u32, len: u32)
         requires source { from + len ≤ length (paged self.old).image }
         requires within { to + len ≤ length (paged self.old).image }
@@ -88,7 +89,7 @@ pub trait Ram {
         ensures made { (paged self.new).made ≡ (paged self.old).made }
         ensures loan { loan self.new ≡ loan self.old };
 
-    /// Fills `len` bytes from an address on, whose pages are made, with one byte.
+    /// Sets the `len` bytes from `addr` on to `byte`. Their pages are already made.
     fn fill(&mut self, addr: u32, len: u32, byte: u8)
         requires within { addr + len ≤ length (paged self.old).image }
         requires made { AllMade (paged self.old) (range_with_len addr len) }
@@ -100,11 +101,11 @@ pub trait Ram {
 }
 
 impl Ram for Memory {
-    ghost use Rattle.dma_mem.specs.Lent.{unlent};
+    ghost use Rattle.dma_mem.specs.Lent.{not_lent};
 
     ghost paged = { λ m. m };
 
-    ghost loan = { λ _. unlent };
+    ghost loan = { λ _. not_lent };
 
     #[inline(always)]
     fn size(&self) -> u32 {
@@ -155,7 +156,7 @@ pub struct LentRam<'a> {
 }
 
 impl<'a> LentRam<'a> {
-    /// Returns the memory of these bytes.
+    /// Returns a memory of these bytes.
     pub fn over(bytes: &'a mut [u8]) -> LentRam<'a>
         requires { length bytes.old ≤ largest_size }
         ensures same_reference { result.bytes.ghost_name ≡ bytes.entry.ghost_name }

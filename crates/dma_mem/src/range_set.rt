@@ -32,8 +32,8 @@ impl Kept {
     }
 }
 
-/// A set of addresses, each at most 4,294,967,294. Contracts see it as its ranges, which rise and of which no two meet
-/// or touch.
+/// A set of addresses, each at most 4,294,967,294. Contracts see it as ranges in rising order, of which no two meet or
+/// touch.
 #[derive(Debug, Drop)]
 pub struct RangeSet {
     kept: Kept,
@@ -53,11 +53,11 @@ impl Model for RangeSet {
     ghost invariant = { λ set. IsCoalesced (ranges_of set.kept) };
 }
 
-// Joins segments that meet or touch, in place. They are in the order of their first addresses, and end at 4,294,967,295
-// or below it, so that nothing saturates.
+// Joins segments that meet or touch, in place. They are sorted by their first addresses. Each ends at or below
+// 4,294,967,295, so that no sum saturates.
 fn coalesce(segments: &mut Vec<Segment>)
     requires filled { All (λ s. 0 < s.len) segments.old.items }
-    requires within { All (λ s. s.addr + s.len ≤ 4294967295) segments.old.items }
+    requires within { All (λ s. s.addr + s.len ≤ u32.MAX) segments.old.items }
     requires rising { IsNonDecreasingBy (λ (s : Segment). s.addr) segments.old.items }
     ensures same { SameAddresses segments.new.items segments.old.items }
     ensures coalesced { IsCoalesced segments.new.items }
@@ -78,12 +78,12 @@ fn coalesce(segments: &mut Vec<Segment>)
 }
 
 impl RangeSet {
-    /// Returns the set of the segments' addresses. Each segment has bytes and ends at 4,294,967,295 or below it; they
-    /// may meet, and be in any order. It fails with `AllocError` where memory for one copy of the list was refused;
+    /// Returns the set of the segments' addresses. The segments may be in any order and may meet; each has at least one
+    /// byte and ends at or below 4,294,967,295. Fails with `AllocError` if there is no memory for a copy of the list;
     /// with one segment it never fails.
     pub fn new(alloc: Global, segments: &[Segment]) -> Result<RangeSet, AllocError>
         requires filled { All (λ s. 0 < s.len) segments.now }
-        requires within { All (λ s. s.addr + s.len ≤ 4294967295) segments.now }
+        requires within { All (λ s. s.addr + s.len ≤ u32.MAX) segments.now }
         ensures same { IfOk result (λ set. SameAddresses set segments.now) }
         ensures coalesced { IfOk result (λ set. IsCoalesced set) }
         ensures one { length segments.now ≡ 1 → IsOk result }
@@ -101,7 +101,7 @@ impl RangeSet {
         })
     }
 
-    /// Returns the same addresses as ranges that rise, of which no two meet or touch.
+    /// Returns the addresses as ranges in rising order, of which no two meet or touch.
     pub fn ranges(&self) -> &[Segment]
         ensures ranges { result.now ≡ self.now }
         ensures coalesced { IsCoalesced self.now }
@@ -109,7 +109,7 @@ impl RangeSet {
         self.kept.as_slice()
     }
 
-    /// Returns whether the segment has an address of the set. An empty one has none.
+    /// Returns whether the segment has an address of the set. An empty segment has none.
     pub fn meets(&self, segment: Segment) -> bool
         ensures { result ≡ share (range_of segment) (places self.now) }
     {

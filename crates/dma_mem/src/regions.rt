@@ -2,7 +2,7 @@
 
 ghost use Rattle.std.specs.Prelude.{◌≡◌, ℕ, ◌+◌, ◌-◌, ◌<◌, ◌≤◌, ◌⊎◌, ◌++◌, ◌∷◌, [], false, length, take, drop, replicate, IsTrue, slice_index};
 ghost use Rattle.dma_mem.specs.Image.{largest_size};
-ghost use Rattle.dma_mem.specs.Lent.{Avoids, lies_in_one};
+ghost use Rattle.dma_mem.specs.Lent.{Avoids, lies_in_any};
 ghost use Rattle.dma_mem.specs.Regions.{in_order, pieces_of, piece_of, end_of, has, image_of, gaps_of, rest_from};
 ghost use Rattle.dma_mem.specs.inner.Rewritten.{piece_at, Holds, Writable, Rewritten};
 
@@ -26,7 +26,7 @@ pub struct Region<'a> {
 }
 
 impl Region<'_> {
-    // Returns whether it has an address.
+    // Returns whether the address lies in the region.
     #[inline(always)]
     fn has(&self, addr: u32) -> bool
         ensures { result ≡ has addr (piece_of self.now) }
@@ -34,7 +34,7 @@ impl Region<'_> {
         self.addr <= addr && ((addr - self.addr) as usize) < self.bytes.len()
     }
 
-    // Returns the address behind its last byte.
+    // Returns the address after the region's last byte.
     #[inline(always)]
     fn end(&self) -> u32
         requires { end_of (piece_of self.now) ≤ largest_size }
@@ -44,7 +44,7 @@ impl Region<'_> {
     }
 }
 
-/// Returns whether regions rise, share no address, and end at [`MAX_SIZE`] at most.
+/// Returns whether regions are in rising order, share no address, and end at or below [`MAX_SIZE`].
 pub fn are_in_order(regions: &[Region<'_>]) -> bool
     ensures { result ≡ in_order (pieces_of regions.now) }
 {
@@ -61,10 +61,11 @@ pub fn are_in_order(regions: &[Region<'_>]) -> bool
     true
 }
 
-// Returns the index of the region that has an address. It is their number where none has it.
+// Returns the index of the region that has an address, or the number of regions if none has it.
 fn place(regions: &[Region<'_>], addr: u32) -> usize
     ensures within { result ≤ length regions.now }
-    ensures before { (k : ℕ) → k < result → has addr (piece_at (pieces_of regions.now) k) ≡ false }
+    ensures before { (k : ℕ) → k < result
+        → has addr (piece_at (pieces_of regions.now) k) ≡ false }
     ensures found { result < length regions.now
         → IsTrue (has addr (piece_at (pieces_of regions.now) result)) }
 {
@@ -76,8 +77,9 @@ fn place(regions: &[Region<'_>], addr: u32) -> usize
     regions.len()
 }
 
-// Returns the index of a region that has each of the `len` addresses from `addr` on. It is their number where none has.
-fn holder(regions: &[Region<'_>], addr: u32, len: usize) -> usize
+// Returns the index of the region that has all `len` addresses from `addr` on, or the number of regions if none has
+// them.
+fn region_with_range(regions: &[Region<'_>], addr: u32, len: usize) -> usize
     ensures within { result ≤ length regions.now }
     ensures found { result < length regions.now → Holds (pieces_of regions.now) result addr len }
 {
@@ -93,8 +95,8 @@ fn holder(regions: &[Region<'_>], addr: u32, len: usize) -> usize
     }
 }
 
-/// Returns the bytes of the region that has an address, from that address on up to its end. There are none where no
-/// region has it.
+/// Returns the bytes of the region that has an address, from that address to the region's end, or no bytes if no region
+/// has it.
 pub fn bytes_from<'a>(regions: &'a [Region<'_>], addr: u32) -> &'a [u8]
     ensures { result.now ≡ rest_from (pieces_of regions.now) addr }
 {
@@ -106,7 +108,7 @@ pub fn bytes_from<'a>(regions: &'a [Region<'_>], addr: u32) -> &'a [u8]
     &region.bytes[(addr - region.addr) as usize..]
 }
 
-// Returns the byte at an address: 0 where no region has it.
+// Returns the byte at an address, or 0 if no region has it.
 fn byte_at(regions: &[Region<'_>], addr: u32) -> u8
     requires { IsTrue (in_order (pieces_of regions.now)) }
     ensures { result ≡ slice_index (image_of (pieces_of regions.now)) addr }
@@ -115,7 +117,7 @@ fn byte_at(regions: &[Region<'_>], addr: u32) -> u8
     if bytes.is_empty() { 0 } else { bytes[0] }
 }
 
-// Fills a block with the bytes from an address on.
+// Fills a block with the bytes from `addr` on.
 fn gather(regions: &[Region<'_>], addr: u32, block: &mut [u8])
     requires order { IsTrue (in_order (pieces_of regions.now)) }
     requires within { addr + length block.old ≤ length (image_of (pieces_of regions.now)) }
@@ -126,7 +128,7 @@ fn gather(regions: &[Region<'_>], addr: u32, block: &mut [u8])
     }
 }
 
-// Writes the bytes of two slices, those of the second behind those of the first, to the region at an index.
+// Writes the bytes of `front` and then those of `back` to the region at an index.
 fn put_in_region(regions: &mut [Region<'_>], index: usize, addr: u32, front: &[u8], back: &[u8])
     requires order { IsTrue (in_order (pieces_of regions.old)) }
     requires index { index < length regions.old }
@@ -147,7 +149,7 @@ fn put_byte(regions: &mut [Region<'_>], addr: u32, byte: u8)
     put_in_region(regions, index, addr, &[byte], &[]);
 }
 
-// Writes bytes from an address on, one after another.
+// Writes bytes from `addr` on, one at a time.
 fn put_by_bytes(regions: &mut [Region<'_>], addr: u32, bytes: &[u8])
     requires { Writable regions.old addr (length bytes.now) }
     ensures { Rewritten regions.old regions.new addr bytes.now }
@@ -157,12 +159,12 @@ fn put_by_bytes(regions: &mut [Region<'_>], addr: u32, bytes: &[u8])
     }
 }
 
-// Writes the bytes of two slices, those of the second behind those of the first, from an address on.
+// Writes the bytes of `front` and then those of `back` from `addr` on.
 fn write(regions: &mut [Region<'_>], addr: u32, front: &[u8], back: &[u8])
     requires { Writable regions.old addr (length front.now + length back.now) }
     ensures { Rewritten regions.old regions.new addr (front.now ++ back.now) }
 {
-    let index = holder(regions, addr, front.len() + back.len());
+    let index = region_with_range(regions, addr, front.len() + back.len());
     if index < regions.len() {
         put_in_region(regions, index, addr, front, back);
     } else {
@@ -171,7 +173,7 @@ fn write(regions: &mut [Region<'_>], addr: u32, front: &[u8], back: &[u8])
     }
 }
 
-// Sets the `len` bytes from an address on, which the region at an index has, to one byte.
+// Sets `len` bytes of the region at an index, from `addr` on, to one byte.
 fn fill_in_region(regions: &mut [Region<'_>], index: usize, addr: u32, len: u32, byte: u8)
     requires order { IsTrue (in_order (pieces_of regions.old)) }
     requires index { index < length regions.old }
@@ -183,7 +185,7 @@ fn fill_in_region(regions: &mut [Region<'_>], index: usize, addr: u32, len: u32,
     fill_bytes(region.bytes, start, len as usize, byte);
 }
 
-// Sets the `len` bytes from an address on to one byte, one after another.
+// Sets the `len` bytes from `addr` on to one byte, one at a time.
 fn fill_by_bytes(regions: &mut [Region<'_>], addr: u32, len: u32, byte: u8)
     requires { Writable regions.old addr len }
     ensures { Rewritten regions.old regions.new addr (replicate len byte) }
@@ -193,12 +195,12 @@ fn fill_by_bytes(regions: &mut [Region<'_>], addr: u32, len: u32, byte: u8)
     }
 }
 
-// Sets the `len` bytes from an address on to one byte.
+// Sets the `len` bytes from `addr` on to one byte.
 fn fill(regions: &mut [Region<'_>], addr: u32, len: u32, byte: u8)
     requires { Writable regions.old addr len }
     ensures { Rewritten regions.old regions.new addr (replicate len byte) }
 {
-    let index = holder(regions, addr, len as usize);
+    let index = region_with_range(regions, addr, len as usize);
     if index < regions.len() {
         fill_in_region(regions, index, addr, len, byte);
     } else {
@@ -206,7 +208,7 @@ fn fill(regions: &mut [Region<'_>], addr: u32, len: u32, byte: u8)
     }
 }
 
-// Copies `len` bytes within the region at an index, from one address on to another on. The two ranges share no address.
+// Copies `len` bytes from `from` to `to` within the region at an index. The two ranges share no address.
 fn copy_in_region(regions: &mut [Region<'_>], index: usize, from: u32, to: u32, len: u32)
     requires order { IsTrue (in_order (pieces_of regions.old)) }
     requires index { index < length regions.old }
@@ -221,7 +223,7 @@ fn copy_in_region(regions: &mut [Region<'_>], index: usize, from: u32, to: u32, 
     copy_bytes_apart(region.bytes, source, target, len as usize);
 }
 
-// Fills a block with the bytes from an address on.
+// Fills a block with the bytes from `addr` on.
 fn read_into(regions: &[Region<'_>], addr: u32, block: &mut [u8])
     requires order { IsTrue (in_order (pieces_of regions.now)) }
     requires within { addr + length block.old ≤ length (image_of (pieces_of regions.now)) }
@@ -235,7 +237,7 @@ fn read_into(regions: &[Region<'_>], addr: u32, block: &mut [u8])
     }
 }
 
-// Copies `len` bytes, of which there are few, from one address on to another on.
+// Copies `len` bytes, at most a block, from `from` to `to`.
 fn copy_block(regions: &mut [Region<'_>], from: u32, to: u32, len: usize)
     requires few { len ≤ 1024 }
     requires writable { Writable regions.old to len }
@@ -249,7 +251,7 @@ fn copy_block(regions: &mut [Region<'_>], from: u32, to: u32, len: usize)
     write(regions, to, part, &[]);
 }
 
-// Copies `len` bytes, a block at a time, from one address on to another on. The two ranges share no address.
+// Copies `len` bytes from `from` to `to`, a block at a time. The two ranges share no address.
 fn copy_by_blocks(regions: &mut [Region<'_>], from: u32, to: u32, len: u32)
     requires writable { Writable regions.old to len }
     requires source { from + len ≤ length (image_of (pieces_of regions.old)) }
@@ -265,7 +267,7 @@ fn copy_by_blocks(regions: &mut [Region<'_>], from: u32, to: u32, len: u32)
     }
 }
 
-// Copies `len` bytes from one address on to another on. The two ranges share no address.
+// Copies `len` bytes from `from` to `to`. The two ranges share no address.
 fn copy(regions: &mut [Region<'_>], from: u32, to: u32, len: u32)
     requires writable { Writable regions.old to len }
     requires source { from + len ≤ length (image_of (pieces_of regions.old)) }
@@ -273,8 +275,8 @@ fn copy(regions: &mut [Region<'_>], from: u32, to: u32, len: u32)
     ensures { Rewritten regions.old regions.new to
         (take len (drop from (image_of (pieces_of regions.old)))) }
 {
-    let source = holder(regions, from, len as usize);
-    let target = holder(regions, to, len as usize);
+    let source = region_with_range(regions, from, len as usize);
+    let target = region_with_range(regions, to, len as usize);
     if source == target && source < regions.len() {
         copy_in_region(regions, source, from, to, len);
     } else {
@@ -282,7 +284,7 @@ fn copy(regions: &mut [Region<'_>], from: u32, to: u32, len: u32)
     }
 }
 
-// Returns the address behind the last region: 0 without one.
+// Returns the end of the last region, or 0 if there are no regions.
 fn size_of(regions: &[Region<'_>]) -> u32
     requires { IsTrue (in_order (pieces_of regions.now)) }
     ensures { result ≡ length (image_of (pieces_of regions.now)) }
@@ -295,13 +297,14 @@ fn size_of(regions: &[Region<'_>]) -> u32
     }
 }
 
-// Returns how many addresses of a segment come before the first that lies in a gap.
+// Returns how many addresses of a segment come before the first one in a gap, or the segment's length if none is in a
+// gap.
 fn clear_of(regions: &[Region<'_>], segment: Segment) -> u32
     requires { IsTrue (in_order (pieces_of regions.now)) }
     ensures few { result ≤ segment.len }
     ensures none { Avoids (gaps_of (pieces_of regions.now)) segment.addr result }
     ensures next { result < segment.len
-        → IsTrue (lies_in_one (gaps_of (pieces_of regions.now)) (segment.addr + result)) }
+        → IsTrue (lies_in_any (gaps_of (pieces_of regions.now)) (segment.addr + result)) }
 {
     let mut end = 0;
     for region in regions {
@@ -314,7 +317,7 @@ fn clear_of(regions: &[Region<'_>], segment: Segment) -> u32
     segment.len
 }
 
-// Returns the elements of a slice, shared.
+// Reborrows a mutable slice as a shared one.
 #[inline(always)]
 fn shared<'a, T>(slice: &'a &mut [T]) -> &'a [T]
     ensures { result.now ≡ slice.now.now }
@@ -322,11 +325,11 @@ fn shared<'a, T>(slice: &'a &mut [T]) -> &'a [T]
     slice
 }
 
-/// Bytes that a caller lends in regions, which rise and share no address, as a memory from address 0 on. It has no
-/// bytes between them. All of its pages are made.
+/// Regions of bytes that a caller lends, as one memory from address 0 on. The regions are in rising order and share no
+/// address, and the memory has no bytes between them. All of its pages are made.
 ///
-/// A function that is given regions writes `LentRegions { regions }` itself: its contract can then say what they
-/// become.
+/// A function that takes regions builds `LentRegions { regions }` itself, so that its contract can describe the regions
+/// after the call.
 #[derive(Drop)]
 pub struct LentRegions<'a, 'b> {
     pub regions: &'a mut [Region<'b>],

@@ -1,9 +1,13 @@
 //! A range of addresses.
 
-ghost use Rattle.std.specs.Prelude.{◌≡◌, ◌+◌, ◌↔◌, IsTrue};
+ghost use Rattle.std.specs.Prelude.{◌≡◌, ◌+◌, ◌↔◌, IsTrue, nat_lt};
 ghost use Rattle.dma_mem.specs.Meeting.{Meets, meets};
+ghost use Rattle.dma_mem.specs.Places.{end_of_addresses};
 
-/// The addresses from `addr` up to, not including, `addr + len`, the sum taken without wrapping.
+/// The end of the 32-bit addresses (PL330 manual, SAR and DAR).
+const END_OF_ADDRESSES: u64 = 4_294_967_296;
+
+/// The addresses from `addr` up to, but not including, `addr + len`. The sum doesn't wrap.
 #[repr(C)]
 #[derive(Clone, Copy, Debug, PartialEq, Eq)]
 pub struct Segment {
@@ -14,15 +18,22 @@ pub struct Segment {
 }
 
 impl Segment {
-    /// Returns the address past the last, the sum taken without wrapping.
+    /// Returns the address after the last one. The sum doesn't wrap.
     pub fn end(self) -> u64
         ensures { result ≡ self.addr + self.len }
     {
         u64::from(self.addr) + u64::from(self.len)
     }
+
+    /// Returns whether it ends above 2^32.
+    pub fn wraps(self) -> bool
+        ensures { result ≡ nat_lt end_of_addresses (self.addr + self.len) }
+    {
+        self.end() > END_OF_ADDRESSES
+    }
 }
 
-/// Returns whether two segments share an address. An empty one meets nothing.
+/// Returns whether two segments share an address. An empty segment meets nothing.
 pub fn meets(a: Segment, b: Segment) -> bool
     ensures value { result ≡ meets a b }
     ensures fact { IsTrue result ↔ Meets a b }

@@ -1,9 +1,9 @@
-//! A table of pages by number, each of them made when it is first needed.
+//! A table of pages, by number. Each page is made when it is first needed.
 
 ghost use Rattle.std.specs.Prelude.{◌≡◌, ◌≢◌, ℕ, ◌+◌, ◌*◌, ◌/◌, ◌%◌, ◌<◌, ◌≤◌, ◌++◌, [], length, take, slice_index, slice_index_or, IfOk, OnOk, OnErr};
 ghost use Rattle.dma_mem.specs.Image.{put, bytes_at};
 ghost use Rattle.dma_mem.specs.Pages.{page_size};
-ghost use Rattle.dma_mem.specs.inner.PageTable.{group_size, page_at, IsLaid, OthersStay, SameBytes};
+ghost use Rattle.dma_mem.specs.inner.PageTable.{group_size, page_at, PutsInPage, OthersStay, SameBytes};
 
 mod addresses;
 pub(crate) mod blocks;
@@ -15,7 +15,7 @@ use std::marker::Model;
 // How many pages are in one group of the table.
 const GROUP_SIZE: usize = 1024;
 
-// What a page that isn't made reads as.
+// The bytes that a page shows that isn't made.
 static BLANK_PAGE: [u8; PAGE_SIZE] = [0; PAGE_SIZE];
 
 // Returns a list of `len` zeros.
@@ -26,7 +26,7 @@ fn zeros(alloc: Global, len: usize) -> Result<Vec<u8>, AllocError>
     vec![in alloc; 0u8; len]
 }
 
-// Puts the bytes at `start` and after it.
+// Writes the bytes from index `start` on.
 fn put_bytes(all: &mut [u8], start: usize, bytes: &[u8])
     requires { start + length bytes.now ≤ length all.old }
     ensures { all.new ≡ put all.old (bytes_at start bytes.now) }
@@ -34,20 +34,20 @@ fn put_bytes(all: &mut [u8], start: usize, bytes: &[u8])
     all[start..start + bytes.len()].copy_from_slice(bytes);
 }
 
-// Puts the bytes of two slices, those of the second behind those of the first, at `start` and after it.
+// Writes the bytes of `front` and then those of `back` from index `start` on.
 #[tactic(auto, using(crate::proofs::BytesPut::put_parts))]
 pub(crate) fn put_parts(all: &mut [u8], start: usize, front: &[u8], back: &[u8])
     requires { start + length front.now + length back.now ≤ length all.old }
     ensures { all.new ≡ put all.old (bytes_at start (front.now ++ back.now)) }
 {
     put_bytes(all, start, front);
-    // The second is mostly empty, and a copy of no bytes would still be a call.
+    // `back` is mostly empty, and a copy of no bytes would still be a call.
     if !back.is_empty() {
         put_bytes(all, start + front.len(), back);
     }
 }
 
-// A page: 4,096 bytes where it is made, else none.
+// A page: 4,096 bytes if it is made, otherwise none.
 #[derive(Debug, Drop)]
 struct Page {
     bytes: Vec<u8>,
@@ -67,7 +67,7 @@ impl Model for Page {
 }
 
 impl Page {
-    // Returns a page that isn't made, which takes no memory.
+    // Returns a page that isn't made, without allocating.
     fn new(alloc: Global) -> Page
         ensures { result ≡ [] }
     {
@@ -76,7 +76,7 @@ impl Page {
         }
     }
 
-    // Returns its bytes, none where it isn't made.
+    // Returns the page's bytes, or none if it isn't made.
     fn as_slice(&self) -> &[u8]
         ensures bytes { result.now ≡ self.now }
         ensures whole { 0 < length self.now → length self.now ≡ page_size }
@@ -84,7 +84,7 @@ impl Page {
         self.bytes.as_slice()
     }
 
-    // Makes it, if it isn't, of zeros.
+    // Makes the page, of zeros, if it isn't made.
     fn make(&mut self) -> Result<(), AllocError>
         ensures whole { OnOk result (length self.new ≡ page_size) }
         ensures bytes { SameBytes self.old self.new }
@@ -98,7 +98,7 @@ impl Page {
         Ok(())
     }
 
-    // Puts the bytes of two slices into it, those of the second behind those of the first, from an offset on.
+    // Writes the bytes of `front` and then those of `back` from an offset on. The page is already made.
     fn put(&mut self, offset: usize, front: &[u8], back: &[u8])
         requires fits { offset + length front.now + length back.now ≤ page_size }
         requires made { 0 < length self.old }
@@ -109,11 +109,11 @@ impl Page {
         put_parts(&mut self.bytes, offset, front, back);
     }
 
-    // Makes it, if it isn't, and puts bytes into it from an offset on.
+    // Makes the page if it isn't made, and writes bytes from an offset on.
     fn write(&mut self, offset: usize, bytes: &[u8]) -> Result<(), AllocError>
         requires { offset + length bytes.now ≤ page_size }
         ensures whole { OnOk result (length self.new ≡ page_size) }
-        ensures bytes { OnOk result (IsLaid self.old offset bytes.now self.new) }
+        ensures bytes { OnOk result (PutsInPage self.old offset bytes.now self.new) }
         ensures short { OnErr result (length self.old ≡ 0) }
         ensures err { OnErr result (self.new ≡ self.old) }
     {
@@ -122,7 +122,7 @@ impl Page {
         Ok(())
     }
 
-    // Returns the same page again, in memory of its own.
+    // Returns a copy of the page.
     fn try_copy(&self) -> Result<Page, AllocError>
         ensures { IfOk result (λ copy. copy ≡ self.now) }
     {
@@ -131,7 +131,7 @@ impl Page {
     }
 }
 
-// The pages of 1,024 numbers that follow each other: a list as long, or without an item where none of them is made.
+// 1,024 pages with consecutive numbers. The list is empty until one of them is first made.
 #[derive(Debug, Drop)]
 struct Group {
     pages: Vec<Page>,
@@ -149,7 +149,7 @@ impl Model for Group {
     ghost invariant = { λ g. 0 < length g.pages.items → group_size ≤ length g.pages.items };
 }
 
-// Returns pages, none of them made.
+// Returns `count` pages, none of them made.
 fn no_pages(alloc: Global, count: usize) -> Result<Vec<Page>, AllocError>
     ensures len { IfOk result (λ v. length v.items ≡ count) }
     ensures none { IfOk result (λ v. (p : ℕ) → page_at v.items p ≡ []) }
@@ -162,7 +162,7 @@ fn no_pages(alloc: Global, count: usize) -> Result<Vec<Page>, AllocError>
 }
 
 impl Group {
-    // Returns pages that aren't made, which take no memory.
+    // Returns a group in which no page is made, without allocating.
     fn new(alloc: Global) -> Group
         ensures { result ≡ [] }
     {
@@ -171,7 +171,7 @@ impl Group {
         }
     }
 
-    // Returns the bytes of a page, none where it isn't made.
+    // Returns the bytes of a page, or none if it isn't made.
     fn page(&self, index: usize) -> &[u8]
         ensures bytes { result.now ≡ page_at self.now index }
         ensures whole { 0 < length result.now → length result.now ≡ page_size }
@@ -182,7 +182,7 @@ impl Group {
         }
     }
 
-    // Gets its list of pages, if it has none.
+    // Allocates the list of pages if it is empty.
     fn open(&mut self) -> Result<(), AllocError>
         ensures long { OnOk result (group_size ≤ length self.new) }
         ensures pages { (p : ℕ) → page_at self.new p ≡ page_at self.old p }
@@ -194,7 +194,7 @@ impl Group {
         Ok(())
     }
 
-    // Makes a page, if it isn't.
+    // Makes a page if it isn't made.
     fn make(&mut self, index: usize) -> Result<(), AllocError>
         requires { index < group_size }
         ensures whole { OnOk result (length (page_at self.new index) ≡ page_size) }
@@ -210,12 +210,12 @@ impl Group {
         page.make()
     }
 
-    // Puts the bytes of two slices into a page that is made, from an offset on.
+    // Writes the bytes of `front` and then those of `back` to a page that is already made, from an offset on.
     fn put(&mut self, index: usize, offset: usize, front: &[u8], back: &[u8])
         requires fits { offset + length front.now + length back.now ≤ page_size }
         requires made { 0 < length (page_at self.old index) }
         ensures len { length (page_at self.new index) ≡ length (page_at self.old index) }
-        ensures bytes { IsLaid (page_at self.old index) offset (front.now ++ back.now)
+        ensures bytes { PutsInPage (page_at self.old index) offset (front.now ++ back.now)
             (page_at self.new index) }
         ensures others { OthersStay self.old self.new index }
     {
@@ -223,13 +223,13 @@ impl Group {
         page.put(offset, front, back);
     }
 
-    // Makes a page, if it isn't, and puts bytes into it from an offset on.
+    // Makes a page if it isn't made, and writes bytes to it from an offset on.
     fn write(&mut self, index: usize, offset: usize, bytes: &[u8]) -> Result<(), AllocError>
         requires within { index < group_size }
         requires fits { offset + length bytes.now ≤ page_size }
         ensures whole { OnOk result (length (page_at self.new index) ≡ page_size) }
         ensures bytes { OnOk result
-            (IsLaid (page_at self.old index) offset bytes.now (page_at self.new index)) }
+            (PutsInPage (page_at self.old index) offset bytes.now (page_at self.new index)) }
         ensures others { OthersStay self.old self.new index }
         ensures short { OnErr result (length (page_at self.old index) ≡ 0) }
         ensures err { OnErr result ((p : ℕ) → page_at self.new p ≡ page_at self.old p) }
@@ -239,7 +239,7 @@ impl Group {
         page.write(offset, bytes)
     }
 
-    // Returns the same pages again, in memory of their own.
+    // Returns a copy of the group.
     fn try_copy(&self) -> Result<Group, AllocError>
         ensures { IfOk result (λ copy. copy ≡ self.now) }
     {
@@ -251,7 +251,7 @@ impl Group {
     }
 }
 
-// Groups in which no page is made.
+// Returns `count` groups in which no page is made.
 fn no_groups(alloc: Global, count: usize) -> Result<Vec<Group>, AllocError>
     ensures len { IfOk result (λ v. length v.items ≡ count) }
     ensures none { IfOk result (λ v. (g : ℕ) → slice_index_or v.items g [] ≡ []) }
@@ -263,7 +263,7 @@ fn no_groups(alloc: Global, count: usize) -> Result<Vec<Group>, AllocError>
     Ok(groups)
 }
 
-/// A table of pages, by number. Contracts see the bytes of each page, none where it isn't made.
+/// A table of pages, by number. Contracts see the bytes of each page, none if it isn't made.
 #[derive(Debug, Drop)]
 pub(crate) struct Table {
     groups: Vec<Group>,
@@ -288,7 +288,7 @@ impl Table {
         Ok(Table { groups })
     }
 
-    // Returns the bytes of a page, none where it isn't made.
+    // Returns the bytes of a page, or none if it isn't made.
     fn page(&self, number: usize) -> &[u8]
         ensures bytes { result.now ≡ page_at self.now number }
         ensures whole { 0 < length result.now → length result.now ≡ page_size }
@@ -299,7 +299,7 @@ impl Table {
         }
     }
 
-    // Makes a page, if it isn't, of zeros.
+    // Makes a page, of zeros, if it isn't made.
     fn make_page(&mut self, number: usize) -> Result<(), AllocError>
         requires { number < length self.old }
         ensures count { length self.new ≡ length self.old }
@@ -314,13 +314,13 @@ impl Table {
         group.make(number % GROUP_SIZE)
     }
 
-    // Puts the bytes of two slices into a page that is made, from an offset on.
+    // Writes the bytes of `front` and then those of `back` to a page that is already made, from an offset on.
     fn put_in_page(&mut self, number: usize, offset: usize, front: &[u8], back: &[u8])
         requires fits { offset + length front.now + length back.now ≤ page_size }
         requires made { 0 < length (page_at self.old number) }
         ensures count { length self.new ≡ length self.old }
         ensures len { length (page_at self.new number) ≡ length (page_at self.old number) }
-        ensures bytes { IsLaid (page_at self.old number) offset (front.now ++ back.now)
+        ensures bytes { PutsInPage (page_at self.old number) offset (front.now ++ back.now)
             (page_at self.new number) }
         ensures others { OthersStay self.old self.new number }
     {
@@ -328,7 +328,7 @@ impl Table {
         group.put(number % GROUP_SIZE, offset, front, back);
     }
 
-    // Makes a page, if it isn't, and puts bytes into it from an offset on: one look-up for both.
+    // Makes a page if it isn't made, and writes bytes to it from an offset on, with one look-up for both.
     fn write_in_page(
         &mut self,
         number: usize,
@@ -340,7 +340,7 @@ impl Table {
         ensures count { length self.new ≡ length self.old }
         ensures whole { OnOk result (length (page_at self.new number) ≡ page_size) }
         ensures bytes { OnOk result
-            (IsLaid (page_at self.old number) offset bytes.now (page_at self.new number)) }
+            (PutsInPage (page_at self.old number) offset bytes.now (page_at self.new number)) }
         ensures others { OthersStay self.old self.new number }
         ensures short { OnErr result (length (page_at self.old number) ≡ 0) }
         ensures err { OnErr result (self.new ≡ self.old) }
@@ -349,7 +349,7 @@ impl Table {
         group.write(number % GROUP_SIZE, offset, bytes)
     }
 
-    /// Returns the same table again, in memory of its own.
+    /// Returns a copy of the table.
     pub(crate) fn try_copy(&self) -> Result<Table, AllocError>
         ensures { IfOk result (λ copy. copy ≡ self.now) }
     {
@@ -361,7 +361,7 @@ impl Table {
     }
 }
 
-// Returns the bytes of a page, which reads as zeros where it isn't made.
+// Returns the bytes of a page, or zeros if it isn't made.
 fn shown(page: &[u8]) -> &[u8]
     requires { 0 < length page.now → length page.now ≡ page_size }
     ensures len { length result.now ≡ page_size }

@@ -1,4 +1,4 @@
-//! Transfers from a list of segments to another.
+//! Transfers from one list of segments to another.
 
 ghost use Rattle.std.specs.Prelude.{◌≡◌, ◌+◌, ◌<◌, ◌≤◌, ◌↔◌, All, IsTrue, IfOk, IfErr, MatchResult, length, slice_get, unwrap_or};
 ghost use Rattle.dma_mem.specs.Places.{Descriptor, copying, filling, end_of_addresses, most_copied, places, sources, destinations, size_of, lies_below, all_below, touches, writes, is_free_of};
@@ -26,7 +26,7 @@ pub const MAX_BYTES: u32 = 1_048_576;
 /// The last event of the controller (PL330 manual, DMASEV).
 pub const LAST_EVENT: u8 = 31;
 
-/// Why a transfer was refused, in the order of the tests.
+/// Why a transfer is refused, in the order in which the rules are tested.
 #[derive(Clone, Copy, Debug, PartialEq, Eq, Error)]
 pub enum TransferFault {
     #[error("a list has no segment")]
@@ -51,8 +51,8 @@ pub enum TransferFault {
     NoMemory,
 }
 
-// Where a transfer reads: the places of a list, or of a fill one place. Its segment, of one byte, is in the variant, so
-// that a fill takes no memory for it.
+// Where a transfer reads: the places of a list, or the one place of a fill. The one-byte segment of a fill is kept in
+// the variant, so that a fill allocates nothing for it.
 #[derive(Debug, Drop)]
 enum Origin {
     List(Segments),
@@ -70,14 +70,14 @@ impl Origin {
         }
     }
 
-    // Returns whether it is one place, for every destination.
+    // Returns whether it is the one place of a fill.
     fn is_place(&self) -> bool
         ensures { result ≡ is_place self.now }
     {
         matches!(self, Origin::Place(_))
     }
 
-    // Returns the same again, in memory of its own.
+    // Returns a copy.
     fn try_copy(&self) -> Result<Origin, AllocError>
         ensures { IfOk result (λ copy. copy ≡ self.now) }
     {
@@ -88,9 +88,9 @@ impl Origin {
     }
 }
 
-/// What is copied from where to where, and the events that it waits for first and signals last.
+/// What is copied from where to where, the event that is waited for first, and the event that is signalled last.
 ///
-/// The places of a list are the addresses of its segments, segment after segment, each rising. Position p of the
+/// The places of a list are the addresses of its segments in rising order, segment after segment. Position p of the
 /// sources is copied to position p of the destinations. A fill has one source byte, which is copied to every
 /// destination.
 #[derive(Debug, Drop)]
@@ -117,7 +117,7 @@ impl Model for Transfer {
         × (t.len ≡ size_of (descriptor_of t.src t.dst t.wait t.signal)) };
 }
 
-// The place of a position of a list, or none past its end.
+// Returns the place at a position of a list, or `None` past its end.
 fn place_at(list: &[Segment], position: u32) -> Option<u32>
     requires { All (λ s. s.addr + s.len ≤ end_of_addresses) list.now }
     ensures { result ≡ slice_get (places list.now) position }
@@ -132,7 +132,7 @@ fn place_at(list: &[Segment], position: u32) -> Option<u32>
     None
 }
 
-// Returns whether each segment of the list ends at the size at most.
+// Returns whether each segment of the list ends at or below the size.
 fn all_below(list: &[Segment], size: u32) -> bool
     ensures { result ≡ all_below list.now size }
 {
@@ -148,14 +148,14 @@ fn copied(alloc: Global, list: &[Segment]) -> Result<Segments, TransferFault>
 }
 
 impl Transfer {
-    /// Returns a transfer from the places of `src` to those of `dst`, which waits for one event first and signals one
-    /// last.
+    /// Returns a transfer from the places of `src` to those of `dst`. It waits for event `wait` before its first byte
+    /// and signals event `signal` after its last one.
     ///
-    /// The error is the first that holds, each tested over the sources and then the destinations before the next:
-    /// `EmptyList`; `TooManySegments` for more than [`MAX_SEGMENTS`]; `EmptySegment`; `SegmentWraps` where a segment
-    /// ends above 2^32; `TotalsDiffer` where the lists don't have as many bytes; `TooLong` for more than [`MAX_BYTES`];
-    /// `DestinationsMeet`; `SourceMeetsDestination`; `BadEvent` for one above [`LAST_EVENT`]; else `NoMemory`. Source
-    /// segments may meet each other.
+    /// The error is the first that applies; each is tested over the sources and then the destinations before the next:
+    /// `EmptyList`; `TooManySegments` for more than [`MAX_SEGMENTS`]; `EmptySegment`; `SegmentWraps` if a segment ends
+    /// above 2^32; `TotalsDiffer` if the lists have different numbers of bytes; `TooLong` for more than [`MAX_BYTES`];
+    /// `DestinationsMeet`; `SourceMeetsDestination`; `BadEvent` for an event above [`LAST_EVENT`]; and last `NoMemory`.
+    /// Source segments may meet each other.
     pub fn new(
         alloc: Global,
         src: &[Segment],
@@ -181,7 +181,7 @@ impl Transfer {
         })
     }
 
-    /// Does the same with lists that it takes over, and allocates nothing. The errors are those of
+    /// Does the same as [`Transfer::new`] with lists that it takes over, and allocates nothing. The errors are those of
     /// [`Transfer::new`] in their order, without `NoMemory`.
     pub fn from_lists(
         src: Segments,
@@ -205,12 +205,11 @@ impl Transfer {
         })
     }
 
-    /// Returns a fill: a transfer of the byte at `src` to every place of `dst`, which waits for one event first and
-    /// signals one last.
+    /// Returns a fill: a transfer of the byte at `src` to every place of `dst`. It waits for event `wait` before its
+    /// first byte and signals event `signal` after its last one.
     ///
-    /// The error is the first that holds, as for [`Transfer::new`] with a source segment of one byte, but each is
-    /// tested over `dst` alone, and `TotalsDiffer` is none of them; `SourceMeetsDestination` comes where a place of
-    /// `dst` is `src`.
+    /// The error is the first that applies, in the order of [`Transfer::new`], but each is tested over `dst` alone, and
+    /// there is no `TotalsDiffer`. `SourceMeetsDestination` means that `src` is a place of `dst`.
     pub fn fill(
         alloc: Global,
         src: u32,
@@ -235,8 +234,8 @@ impl Transfer {
         })
     }
 
-    /// Does the same with a list that it takes over, and allocates nothing. The errors are those of
-    /// [`Transfer::fill`] in their order, without `NoMemory`.
+    /// Does the same as [`Transfer::fill`] with a list that it takes over, and allocates nothing. The errors are those
+    /// of [`Transfer::fill`] in their order, without `NoMemory`.
     pub fn fill_list(
         src: u32,
         dst: Segments,
@@ -266,7 +265,7 @@ impl Transfer {
         self.src.is_place()
     }
 
-    /// Returns the source segments, in order: of a fill one of one byte.
+    /// Returns the source segments, in order. A fill has one segment, of one byte.
     pub fn src(&self) -> &[Segment]
         ensures segments { result.now ≡ self.now.src }
         ensures rules { IsTransfer self.now }
@@ -282,21 +281,21 @@ impl Transfer {
         self.dst.as_slice()
     }
 
-    /// Returns the event that it waits for before its first byte.
+    /// Returns the event that it waits for before its first byte, or `None` if it doesn't wait.
     pub fn wait(&self) -> Option<u8>
         ensures { result ≡ self.now.wait }
     {
         self.wait
     }
 
-    /// Returns the event that it signals after its last byte.
+    /// Returns the event that it signals after its last byte, or `None` if it signals none.
     pub fn signal(&self) -> Option<u8>
         ensures { result ≡ self.now.signal }
     {
         self.signal
     }
 
-    /// Returns how many bytes it copies: 1 to [`MAX_BYTES`].
+    /// Returns the number of bytes that it copies, 1 to [`MAX_BYTES`].
     pub fn len(&self) -> u32
         ensures size { result ≡ size_of self.now }
         ensures sources { result ≡ length (sources self.now) }
@@ -307,8 +306,8 @@ impl Transfer {
         self.len
     }
 
-    /// Returns the address that position `position` is read from, or none at or past the length: of a fill the same at
-    /// each.
+    /// Returns the address that position `position` is read from, or `None` at or past the length. A fill reads the
+    /// same address at each position.
     pub fn src_place(&self, position: u32) -> Option<u32>
         ensures { result ≡ slice_get (sources self.now) position }
     {
@@ -319,14 +318,14 @@ impl Transfer {
         }
     }
 
-    /// Returns the address that position `position` is written to, or none at or past the length.
+    /// Returns the address that position `position` is written to, or `None` at or past the length.
     pub fn dst_place(&self, position: u32) -> Option<u32>
         ensures { result ≡ slice_get (destinations self.now) position }
     {
         place_at(self.dst(), position)
     }
 
-    /// Returns whether all its segments end at `size` or below it, as they have to in a memory of that size.
+    /// Returns whether all its segments end at or below `size`, as a memory of that size requires.
     pub fn lies_below(&self, size: u32) -> bool
         ensures below { result ≡ lies_below self.now size }
         ensures rules { IsTransfer self.now }
@@ -358,7 +357,7 @@ impl Transfer {
             && !lists_meet(self.src(), other.dst())
     }
 
-    /// Returns the same transfer again, in memory of its own.
+    /// Returns a copy of the transfer. Fails with `AllocError` if memory runs out.
     pub fn try_copy(&self) -> Result<Transfer, AllocError>
         ensures { IfOk result (λ copy. copy ≡ self.now) }
     {

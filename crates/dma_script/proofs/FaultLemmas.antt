@@ -6,10 +6,9 @@ use Rattle.std.specs.Str.Lines.{lines}
 use Rattle.dma_script.specs.Words.{words_of, is_plain}
 use Rattle.dma_script.specs.Lines.{◌>>=◌, after_line, after_lines, at_line, first_number, is_skipped}
 use Rattle.dma_script.specs.Plan.{transfer_line, plan_step, plan_of}
-use Rattle.dma_script.specs.Arguments.{cause_reported, ended, unread}
-use Rattle.dma_script.specs.Race.{RaceRead, where_holds, nothing_read, race_keyword_of, is_early, job_line, next_race_line, race_step, race_script_of}
+use Rattle.dma_script.specs.Race.{RaceRead, where_holds, nothing_read, race_keyword_of, is_early, job_line, next_race_line, no_words, race_step, race_script_of}
 use Rattle.dma_script.specs.Statements.{keyword_of, first_line, later_line, next_line, run_step, run_script_of}
-use Rattle.dma_script.specs.Causes.{line_reported, run_asks, plan_asks, is_taken, first_fault, behind_after, no_line_fault, fault_reported, race_asks, RaceSide, side_of, race_command_of, is_go, after_command, race_after, at_start, no_go_fault, FirstFaultsAreReported}
+use Rattle.dma_script.specs.Causes.{cause_reported, line_reported, run_asks, plan_asks, is_taken, first_fault, behind_after, no_line_fault, fault_reported, race_asks, RaceSide, side_of, race_command_of, is_go, after_command, race_after, at_start, no_go_fault, FirstFaultsAreReported}
 use Rattle.dma_script.specs.declared.fault.Cause.{Cause}
 use Rattle.dma_script.specs.declared.fault.Cause.TheVariants as causes
 use Rattle.dma_script.specs.declared.fault.Fault.{Fault}
@@ -35,10 +34,10 @@ lines_reported : {S K : Type 0} (step : S → List (List ℕ) → Result S Cause
     → ((read : S) (line : List ℕ) → cause_reported (after_line step read line) ≡ test (side read) line)
     → ((read : S) (line : List ℕ) (next : S) → after_line step read line ≡ Ok next → side next ≡ after (side read) line)
     → (n : ℕ) (read : S) (rest : List (List ℕ)) → fault_reported (after_lines step n read rest) ≡ first_fault test after (side read) n rest
-lines_reported step side test after tells goes n read [] = refl
-lines_reported step side test after tells goes n read (line ∷ rest) =
-    one_line (n + 1) (after_line step read line) (λ next. after_lines step (n + 1) next rest) (test (side read) line) (first_fault test after (after (side read) line) (n + 1) rest) (tells read line)
-    (λ next is. lines_reported step side test after tells goes (n + 1) next rest ∙ ap (λ k. first_fault test after k (n + 1) rest) (goes read line next is))
+lines_reported step side test after reports goes n read [] = refl
+lines_reported step side test after reports goes n read (line ∷ rest) =
+    one_line (n + 1) (after_line step read line) (λ next. after_lines step (n + 1) next rest) (test (side read) line) (first_fault test after (after (side read) line) (n + 1) rest) (reports read line)
+    (λ next is. lines_reported step side test after reports goes (n + 1) next rest ∙ ap (λ k. first_fault test after k (n + 1) rest) (goes read line next is))
 
 or_false : (b : Bool) → b ≡ (b || false)
 or_false true = refl
@@ -106,9 +105,9 @@ behind_all behind (line ∷ rest) = behind_all (behind || is_taken line) rest �
 -- The fault reported for a whole script, for whose lines a fault is reported or not.
 whole_reported : {A B : Type 0} (r : Result (Option A) Fault) (end : Option A → Result B Fault) (fault : Fault) (of_lines : Option Fault) (some : Bool) → fault_reported (end None) ≡ Some fault → ((a : A) → fault_reported (end (Some a)) ≡ None)
     → fault_reported r ≡ of_lines → ((final : Option A) → r ≡ Ok final → is_some final ≡ some) → fault_reported (r >>= end) ≡ option_or of_lines (if some then None else Some fault)
-whole_reported (Ok None) end fault of_lines some none_told some_reported same final = let e : false ≡ some = final None refl in rw (← same, ← e) none_told
-whole_reported (Ok (Some a)) end fault of_lines some none_told some_reported same final = let e : true ≡ some = final (Some a) refl in rw (← same, ← e) (some_reported a)
-whole_reported (Err other) end fault of_lines some none_told some_reported same final = ap (λ t. option_or t (if some then None else Some fault)) same
+whole_reported (Ok None) end fault of_lines some none_reported some_reported same final = let e : false ≡ some = final None refl in rw (← same, ← e) none_reported
+whole_reported (Ok (Some a)) end fault of_lines some none_reported some_reported same final = let e : true ≡ some = final (Some a) refl in rw (← same, ← e) (some_reported a)
+whole_reported (Err other) end fault of_lines some none_reported some_reported same final = ap (λ t. option_or t (if some then None else Some fault)) same
 
 run_goes : (read : Option RunScript) (line : List ℕ) (next : Option RunScript) → after_line run_step read line ≡ Ok next → is_some next ≡ behind_after (is_some read) line
 run_goes read line next is = goes_behind (is_skipped (words_of line)) (list_all is_plain line) read next (run_step read (words_of line)) (run_some read (words_of line) next) is
@@ -167,7 +166,7 @@ job_made jobs script (Ok job) false next is = absurd (let bad : Err causes.Range
 job_made jobs script (Err cause) few next is = absurd (let bad : Err cause ≡ Ok next = is in cc)
 
 go_made : (jobs : List JobLine) (script : RunScript) (words : List (List ℕ)) (next : RaceRead)
-    → (ended (unread words) >>= (λ none. let read : RaceRead = record { before = Some script; jobs = jobs; after = Some [] } in Ok read)) ≡ Ok next → Moves (record { before = Some script; jobs = jobs; after = None }) (Some race_keywords.Go) next
+    → (no_words words >>= (λ bare. let read : RaceRead = record { before = Some script; jobs = jobs; after = Some [] } in Ok read)) ≡ Ok next → Moves (record { before = Some script; jobs = jobs; after = None }) (Some race_keywords.Go) next
 go_made jobs script [] next is =
     let made : RaceRead = record { before = Some script; jobs = jobs; after = Some [] } in
     let same : made ≡ next = cc in

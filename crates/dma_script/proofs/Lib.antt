@@ -1,5 +1,7 @@
--- Lemmas on how a command ends, on lines, their words, and which are skipped, on the causes of faulty lines, on lines
--- that run one after another, on numbers, hexadecimal words and lists of segments; worked scripts.
+-- Lemmas on how a command ends, on lines, their words, and which are skipped, on parts of a line, on what a line means
+-- and what is read of it, on the causes of faulty lines, on lines that run one after another, on numbers, hexadecimal
+-- words and lists of segments; worked scripts.
+pub mod Agreement
 pub mod CauseLemmas
 pub mod EndLemmas
 pub mod FaultLemmas
@@ -9,6 +11,8 @@ pub mod LineLemmas
 pub mod ListLemmas
 pub mod NumberLemmas
 pub mod PairLemmas
+pub mod Parts
+pub mod PlainLines
 pub mod Within
 pub mod Reading
 pub mod RowLemmas

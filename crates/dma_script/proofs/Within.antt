@@ -7,17 +7,17 @@ use Rattle.std.proofs.lemmas.Bool.{and_parts, leb-true, ltb-true}
 use Rattle.std.proofs.lemmas.List.Elements.{All-push, All-nil}
 use Rattle.dma_script.specs.Words.{is_plain, words_of}
 use Rattle.dma_script.specs.Lines.{◌>>=◌, Gives, after_line, after_lines, at_line, is_skipped}
-use Rattle.dma_script.specs.Arguments.{end_cause, ended, next_of, number_from, number_or_zero, rest_of, unless, unread}
-use Rattle.dma_script.specs.Statements.{IsWithin, is_memory, keyword_of, memory_line, first_line, later_line, next_line, run_step, run_script_of}
-use Rattle.dma_script.specs.Race.{IsEarly, IsJob, IsRace, RaceRead, behind_memory, is_early, job_line, line_after_go, line_beside_go, nothing_read, race_keyword_of, race_step, race_script_of, where_holds}
+use Rattle.dma_script.specs.Arguments.{both, byte_at, bytes_at, number_at, one, segment_at, within_at}
+use Rattle.dma_script.specs.Plan.{transfer_line}
+use Rattle.dma_script.specs.Statements.{IsWithin, largest_size, most_channels, keyword_of, memory_line, first_line, later_line, next_line, run_step, run_script_of}
+use Rattle.dma_script.specs.Race.{IsEarly, IsJob, IsRace, RaceRead, behind_memory, is_early, job_line, last_channel, line_after_go, line_beside_go, most_jobs, no_words, nothing_read, race_keyword_of, race_step, race_script_of, where_holds}
 use Rattle.dma_script.specs.declared.fault.Cause.{Cause}
-use Rattle.dma_script.specs.declared.fault.Cause.TheVariants.{Command, First, Range}
+use Rattle.dma_script.specs.declared.fault.Cause.TheVariants.{Command}
 use Rattle.dma_script.specs.declared.fault.ReadError.{ReadError}
 use Rattle.dma_script.specs.declared.statements.Keyword.{Keyword}
 use Rattle.dma_script.specs.declared.statements.Keyword.TheVariants as keywords
 use Rattle.dma_script.specs.declared.statements.RunScript.{RunScript}
 use Rattle.dma_script.specs.declared.statements.Statement.{Statement}
-use Rattle.dma_script.specs.declared.race.JobLine.{JobLine}
 use Rattle.dma_script.specs.declared.race.RaceKeyword.{RaceKeyword}
 use Rattle.dma_script.specs.declared.race.RaceKeyword.TheVariants.{Line, Job, Go}
 
@@ -31,9 +31,21 @@ bind_holds : {A B E : Type 0} (P : B → Type 0) (r : Result A E) (f : A → Res
 bind_holds P (Ok a) f h = h a
 bind_holds P (Err e) f h = tt
 
-end_holds : {A : Type 0} (P : A → Type 0) (cause : Option Cause) (a : A) → P a → IfOk (unless cause >>= (λ done. Ok a)) P
-end_holds P None a h = h
-end_holds P (Some cause) a h = tt
+both_hold : {A B C : Type 0} (Q : A → Type 0) (R : B → Type 0) (P : C → Type 0) (p : Result A Cause) (q : Result B Cause) (make : A → B → C) → IfOk p Q → IfOk q R → ((a : A) (b : B) → Q a → R b → P (make a b)) → IfOk (both p q make) P
+both_hold Q R P (Ok a) (Ok b) make x y h = h a b x y
+both_hold Q R P (Ok a) (Err cause) make x y h = tt
+both_hold Q R P (Err cause) (Ok b) make x y h = tt
+both_hold Q R P (Err cause) (Err other) make x y h = tt
+
+each_made : {A B C : Type 0} (P : C → Type 0) (p : Result A Cause) (q : Result B Cause) (make : A → B → C) → ((a : A) (b : B) → P (make a b)) → IfOk (both p q make) P
+each_made P (Ok a) (Ok b) make h = h a b
+each_made P (Ok a) (Err cause) make h = tt
+each_made P (Err cause) (Ok b) make h = tt
+each_made P (Err cause) (Err other) make h = tt
+
+one_made : {A B : Type 0} (P : B → Type 0) (p : Result A Cause) (make : A → B) → ((a : A) → P (make a)) → IfOk (one p make) P
+one_made P (Ok a) make h = h a
+one_made P (Err cause) make h = tt
 
 some_holds : {A E : Type 0} (P : A → Type 0) (o : Option A) (e : E) → IfSome o P → IfOk (ok_or o e) P
 some_holds P None e h = tt
@@ -69,26 +81,32 @@ lines_hold step P more n read (line ∷ rest) h =
 
 -- ---- run scripts
 
-value_within : (low high n : ℕ) (a b : Bool) → nat_le low n ≡ a → nat_le n high ≡ b → low ≤ high → (low ≤ (if a && b then n else low)) × ((if a && b then n else low) ≤ high)
-value_within low high n true true x y l = (leb-true low n x, leb-true n high y)
-value_within low high n true false x y l = (omega arith, l)
-value_within low high n false b x y l = (omega arith, l)
+-- a number in a range
+abbrev LiesWithin : ℕ → ℕ → ℕ → Type 0
+LiesWithin low high n = (low ≤ n) × (n ≤ high)
+
+fits_within : (low high n : ℕ) (a b : Bool) (cause : Cause) → nat_le low n ≡ a → nat_le n high ≡ b → IfOk (if a && b then Ok n else Err cause) (LiesWithin low high)
+fits_within low high n true true cause x y = (leb-true low n x, leb-true n high y)
+fits_within low high n true false cause x y = tt
+fits_within low high n false b cause x y = tt
+
+number_within : (low high : ℕ) (cause : Cause) (word : List ℕ) → IfOk (within_at low high cause word) (LiesWithin low high)
+number_within low high cause word = bind_holds (LiesWithin low high) (number_at word) _ (λ n. fits_within low high n (nat_le low n) (nat_le n high) cause refl refl)
 
 -- what holds of a script with lines before `go`
 abbrev IsBefore : RunScript → Type 0
 IsBefore script = IsWithin script × All IsEarly script.statements
 
-is_before : (size channels : ℕ) → (1 ≤ size) × (size ≤ 4294963200) → (1 ≤ channels) × (channels ≤ 8) → IsBefore (record { size = size; channels = channels; statements = [] })
+is_before : (size channels : ℕ) → LiesWithin 1 largest_size size → LiesWithin 1 most_channels channels → IsBefore (record { size = size; channels = channels; statements = [] })
 is_before size channels s c = ((s.0, s.1, c.0, c.1), All-nil IsEarly)
 
 memory_holds : (words : List (List ℕ)) → IfOk (memory_line words) IsBefore
-memory_holds words =
-    let size = value_within 1 4294963200 (number_or_zero (next_of words)) _ _ refl refl (omega arith) in
-    let channels = value_within 1 8 (number_or_zero (next_of (rest_of words))) _ _ refl refl (omega arith) in
-    end_holds IsBefore _ _ (is_before _ _ size channels)
+memory_holds (size ∷ channels ∷ []) = both_hold (LiesWithin 1 largest_size) (LiesWithin 1 most_channels) IsBefore _ _ _ (number_within 1 largest_size _ size) (number_within 1 most_channels _ channels) is_before
+memory_holds _ = tt
 
 first_holds : (keyword : Keyword) (words : List (List ℕ)) → IfOk (first_line keyword words) IsBefore
-first_holds keyword words = elim (is_memory keyword) as (λ b. IfOk (if b then memory_line words else Err First) IsBefore) [ true ↦ memory_holds words | false ↦ tt ]
+first_holds keywords.Memory words = memory_holds words
+first_holds _ words = tt
 
 abbrev ReadWithin : Option RunScript → Type 0
 ReadWithin read = IfSome read IsWithin
@@ -109,28 +127,28 @@ run_script_within input = then_holds ReadWithin IsWithin (after_lines run_step 0
 
 -- A line whose keyword is allowed before `go` is a statement that is allowed there.
 later_early : (keyword : Keyword) (words : List (List ℕ)) → is_early keyword ≡ true → IfOk (later_line keyword words) IsEarly
-later_early keywords.Memory words early = tt
-later_early keywords.Write words early = end_holds IsEarly _ _ (tt {0})
-later_early keywords.Read words early = end_holds IsEarly _ _ (tt {0})
+later_early keywords.Write (addr ∷ word ∷ words) early = each_made IsEarly (number_at addr) (bytes_at (word ∷ words)) _ (λ a b. tt {0})
+later_early keywords.Read (word ∷ []) early = one_made IsEarly (segment_at word) _ (λ a. tt {0})
+later_early keywords.Submit (ch ∷ words) early = each_made IsEarly (byte_at ch) (transfer_line words) _ (λ a b. tt {0})
+later_early keywords.Issue (ch ∷ []) early = one_made IsEarly (byte_at ch) _ (λ a. tt {0})
+later_early keywords.Terminate (ch ∷ []) early = one_made IsEarly (byte_at ch) _ (λ a. tt {0})
+later_early keywords.Status (ch ∷ cookie ∷ []) early = each_made IsEarly (byte_at ch) (number_at cookie) _ (λ a b. tt {0})
+later_early keywords.Result (ch ∷ cookie ∷ []) early = each_made IsEarly (byte_at ch) (number_at cookie) _ (λ a b. tt {0})
 later_early keywords.Copy words early = absurd cc
 later_early keywords.Fill words early = absurd cc
-later_early keywords.Submit words early = end_holds IsEarly _ _ (tt {0})
-later_early keywords.Issue words early = end_holds IsEarly _ _ (tt {0})
 later_early keywords.Pause words early = absurd cc
 later_early keywords.Resume words early = absurd cc
-later_early keywords.Terminate words early = end_holds IsEarly _ _ (tt {0})
 later_early keywords.Step words early = absurd cc
-later_early keywords.Status words early = end_holds IsEarly _ _ (tt {0})
-later_early keywords.Result words early = end_holds IsEarly _ _ (tt {0})
 later_early keywords.Mark words early = absurd cc
 later_early keywords.Unmark words early = absurd cc
 later_early keywords.Raise words early = absurd cc
 later_early keywords.Checkpoint words early = absurd cc
 later_early keywords.Totals words early = absurd cc
+later_early _ words early = tt
 
 -- what holds of a race script that was read so far
 abbrev IsRead : RaceRead → Type 0
-IsRead read = IfSome read.before IsBefore × All IsJob read.jobs × (length read.jobs ≤ 16)
+IsRead read = IfSome read.before IsBefore × All IsJob read.jobs × (length read.jobs ≤ most_jobs)
 
 abbrev ReadBefore : Option RunScript → Type 0
 ReadBefore read = IfSome read IsBefore
@@ -144,27 +162,22 @@ early_holds : (read : RaceRead) (keyword : Keyword) (words : List (List ℕ)) (e
 early_holds read keyword words true early h = then_holds ReadBefore IsRead (next_line read.before keyword words) _ (next_early keyword words read.before early h.0) (λ before is. (is, h.1, h.2))
 early_holds read keyword words false early h = tt
 
-is_job : (first last turns : ℕ) → (nat_le first last && nat_le last 7) ≡ true → IsJob (record { first = first; last = last; turns = turns })
-is_job first last turns is = let parts = and_parts (nat_le first last) (nat_le last 7) is in (leb-true first last parts.0, leb-true last 7 parts.1)
-
-numbers_hold : (cause : Option Cause) (first last turns : ℕ) → IfOk (unless cause >>= (λ done. where_holds (nat_le first last && nat_le last 7) Range >>= (λ in_range. let job : JobLine = record { first = first; last = last; turns = turns } in Ok job))) IsJob
-numbers_hold (Some cause) first last turns = tt
-numbers_hold None first last turns = then_holds (λ _. (nat_le first last && nat_le last 7) ≡ true) IsJob (where_holds (nat_le first last && nat_le last 7) Range) _ (where_true (nat_le first last && nat_le last 7) Range) (λ u is. is_job first last turns is)
+is_job : (first last turns : ℕ) → (nat_le first last && nat_le last last_channel) ≡ true → IsJob (record { first = first; last = last; turns = turns })
+is_job first last turns is = let parts = and_parts (nat_le first last) (nat_le last last_channel) is in (leb-true first last parts.0, leb-true last last_channel parts.1)
 
 job_holds : (words : List (List ℕ)) → IfOk (job_line words) IsJob
-job_holds words =
-    let first = number_from (unread words) in
-    let last = number_from first.1 in
-    let turns = number_from last.1 in
-    numbers_hold (end_cause turns.1) first.0 last.0 turns.0
+job_holds (a ∷ b ∷ d ∷ []) =
+    bind_holds IsJob (number_at a) _ (λ first. bind_holds IsJob (number_at b) _ (λ last. bind_holds IsJob (number_at d) _ (λ turns.
+    then_holds (λ _. (nat_le first last && nat_le last last_channel) ≡ true) IsJob (where_holds (nat_le first last && nat_le last last_channel) _) _ (where_true (nat_le first last && nat_le last last_channel) _) (λ u is. is_job first last turns is))))
+job_holds _ = tt
 
 beside_holds : (after : Option (List Statement)) (read : RaceRead) (keyword : RaceKeyword) (words : List (List ℕ)) → IsRead read → IfOk (line_beside_go after read keyword words) IsRead
 beside_holds None read (Line keyword) words h = early_holds read keyword words (is_early keyword) refl h
 beside_holds None read Job words h =
     bind_holds IsRead (behind_memory read.before) _ (λ behind. then_holds IsJob IsRead (job_line words) _ (job_holds words) (λ job is.
-    then_holds (λ _. nat_lt (length read.jobs) 16 ≡ true) IsRead (where_holds (nat_lt (length read.jobs) 16) _) _ (where_true (nat_lt (length read.jobs) 16) _) (λ u few.
-    (h.0, All-push IsJob read.jobs job h.1 is, omega (arith, length-append read.jobs (job ∷ []), ltb-true (length read.jobs) 16 few)))))
-beside_holds None read Go words h = bind_holds IsRead (behind_memory read.before) _ (λ behind. bind_holds IsRead (ended (unread words)) _ (λ done. h))
+    then_holds (λ _. nat_lt (length read.jobs) most_jobs ≡ true) IsRead (where_holds (nat_lt (length read.jobs) most_jobs) _) _ (where_true (nat_lt (length read.jobs) most_jobs) _) (λ u few.
+    (h.0, All-push IsJob read.jobs job h.1 is, omega (arith, length-append read.jobs (job ∷ []), ltb-true (length read.jobs) most_jobs few)))))
+beside_holds None read Go words h = bind_holds IsRead (behind_memory read.before) _ (λ behind. bind_holds IsRead (no_words words) _ (λ bare. h))
 beside_holds (Some after) read keyword words h = bind_holds IsRead (line_after_go keyword words) _ (λ statement. h)
 
 race_holds : (read : RaceRead) (words : List (List ℕ)) → IsRead read → IfOk (race_step read words) IsRead

@@ -12,3 +12,4 @@ pub mod Printing
 pub mod Pairs
 pub mod Causes
 pub mod Interpreted
+pub mod inner

@@ -1,8 +1,9 @@
--- The words of a transfer with its events, and the line of a plan script (profile).
-use Rattle.std.specs.Prelude.{ℕ, if◌then◌else◌, List, Option, Some, None, Result, Ok, Err, codes}
+-- The words of a transfer with its events, which are the line of a plan script (profile).
+use Rattle.std.specs.Prelude.{ℕ, if◌then◌else◌, List, [], ◌∷◌, Option, Some, None, Result, Ok, Err, codes}
 use Rattle.std.specs.Option.{ok_or}
+use Rattle.std.specs.Str.{bytes_eq}
 use Rattle.dma_script.specs.Lines.{◌>>=◌, after_script, first_number}
-use Rattle.dma_script.specs.Arguments.{LineRead, unread, ended, begins, skipped, number_from, list_from, to_list_from, event_from}
+use Rattle.dma_script.specs.Arguments.{one, both, three, after_fixed, number_at, byte_at, list_at, to_list_at}
 use Rattle.dma_script.specs.declared.fault.Cause.{Cause}
 use Rattle.dma_script.specs.declared.fault.Cause.TheVariants as causes
 use Rattle.dma_script.specs.declared.fault.Fault.{Fault}
@@ -11,28 +12,30 @@ use Rattle.dma_script.specs.declared.plan.Origin.TheVariants as origins
 use Rattle.dma_script.specs.declared.plan.TransferLine.{TransferLine}
 use Rattle.dma_script.specs.declared.plan.PlanLine.{PlanLine}
 
--- the source of a transfer: `fill ADDR`, or a list
-abbrev pub source_from : LineRead → Origin × LineRead
-source_from line =
-    let place = number_from (skipped line) in
-    let list = list_from line in
-    if begins (codes "fill") line.left then (origins.Place place.0, place.1) else (origins.List list.0, list.1)
+-- `[wait E] [signal E]`: the event of each name, or `None` without that name
+abbrev pub events_at : List (List ℕ) → Result (Option ℕ × Option ℕ) Cause
+events_at [] = Ok (None, None)
+events_at (name ∷ e ∷ []) =
+    if bytes_eq name (codes "wait") then one (byte_at e) (λ e. (Some e, None))
+    else after_fixed (codes "signal") name (one (byte_at e) (λ e. (None, Some e)))
+events_at (wait ∷ e ∷ signal ∷ f ∷ []) =
+    after_fixed (codes "wait") wait
+    (both (byte_at e) (after_fixed (codes "signal") signal (byte_at f)) (λ e f. (Some e, Some f)))
+events_at _ = Err causes.Words
 
--- `LIST to LIST [wait E] [signal E]` or `fill ADDR to LIST [wait E] [signal E]`
-abbrev pub transfer_from : LineRead → TransferLine × LineRead
-transfer_from line =
-    let src = source_from line in
-    let dst = to_list_from src.1 in
-    let wait = event_from (codes "wait") dst.1 in
-    let signal = event_from (codes "signal") wait.1 in
-    (record { src = src.0; dst = dst.0; wait = wait.0; signal = signal.0 }, signal.1)
+-- a source, and then `to LIST [wait E] [signal E]`
+abbrev pub transfer_at : (List ℕ → Result Origin Cause) → List (List ℕ) → Result TransferLine Cause
+transfer_at origin_at (src ∷ to ∷ dst ∷ more) =
+    three (origin_at src) (to_list_at to dst) (events_at more)
+    (λ src dst events. record { src = src; dst = dst; wait = events.0; signal = events.1 })
+transfer_at origin_at _ = Err causes.Words
 
--- a line that has only a transfer
+-- `LIST to LIST [wait E] [signal E]`, or `fill ADDR to LIST [wait E] [signal E]`
 abbrev pub transfer_line : List (List ℕ) → Result TransferLine Cause
-transfer_line words =
-    let read = transfer_from (unread words) in do
-      done ← ended read.1
-      Ok read.0
+transfer_line [] = Err causes.Words
+transfer_line (word ∷ words) =
+    if bytes_eq word (codes "fill") then transfer_at (λ addr. one (number_at addr) (λ addr. origins.Place addr)) words
+    else transfer_at (λ list. one (list_at list) (λ list. origins.List list)) (word ∷ words)
 
 -- The next line of a plan script, which has only one: a second line fails with `Words`.
 abbrev pub plan_step : Option TransferLine → List (List ℕ) → Result (Option TransferLine) Cause

@@ -5,7 +5,7 @@ use Rattle.std.specs.List.{All}
 use Rattle.std.specs.Option.{ok_or, option_map}
 use Rattle.std.specs.Str.{bytes_eq}
 use Rattle.dma_script.specs.Lines.{◌>>=◌, after_script}
-use Rattle.dma_script.specs.Arguments.{unread, ended, number_from}
+use Rattle.dma_script.specs.Arguments.{number_at}
 use Rattle.dma_script.specs.Statements.{IsWithin, keyword_of, later_line, next_line}
 use Rattle.dma_script.specs.declared.fault.Cause.{Cause}
 use Rattle.dma_script.specs.declared.fault.Cause.TheVariants as causes
@@ -42,15 +42,23 @@ is_early _ = false
 abbrev pub where_holds : Bool → Cause → Result (Unit {0}) Cause
 where_holds holds cause = if holds then Ok tt else Err cause
 
+-- the most jobs of a race script (profile)
+abbrev pub most_jobs : ℕ
+most_jobs = 16
+
+-- the highest channel of a job (profile)
+abbrev pub last_channel : ℕ
+last_channel = 7
+
 -- the job of the words after `job`, `FIRST LAST TURNS`; `Range` if FIRST is above LAST, or LAST above 7
 abbrev pub job_line : List (List ℕ) → Result JobLine Cause
-job_line words =
-    let first = number_from (unread words) in
-    let last = number_from first.1 in
-    let turns = number_from last.1 in do
-      done ← ended turns.1
-      in_range ← where_holds (nat_le first.0 last.0 && nat_le last.0 7) causes.Range
-      Ok (record { first = first.0; last = last.0; turns = turns.0 })
+job_line (first ∷ last ∷ turns ∷ []) = do
+  first ← number_at first
+  last ← number_at last
+  turns ← number_at turns
+  in_range ← where_holds (nat_le first last && nat_le last last_channel) causes.Range
+  Ok (record { first = first; last = last; turns = turns })
+job_line _ = Err causes.Words
 
 -- The part of a race script that was read so far: the memory line with the lines before `go`, the jobs, and, once `go`
 -- was read, the lines after it.
@@ -79,14 +87,19 @@ abbrev pub job_taken : RaceRead → List (List ℕ) → Result RaceRead Cause
 job_taken read words = do
   behind ← behind_memory read.before
   job ← job_line words
-  few ← where_holds (nat_lt (length read.jobs) 16) causes.Range
+  few ← where_holds (nat_lt (length read.jobs) most_jobs) causes.Range
   Ok (record read { jobs = read.jobs ++ job ∷ [] })
+
+-- succeeds without words, else fails with `Words`
+abbrev pub no_words : List (List ℕ) → Result (Unit {0}) Cause
+no_words [] = Ok tt
+no_words _ = Err causes.Words
 
 -- `go`, after the memory line and without further words: the list of the lines after it is empty
 abbrev pub go_taken : RaceRead → List (List ℕ) → Result RaceRead Cause
 go_taken read words = do
   behind ← behind_memory read.before
-  done ← ended (unread words)
+  bare ← no_words words
   Ok (record read { after = Some [] })
 
 -- a line before `go`, or `go`
@@ -131,7 +144,7 @@ race_script_of input = do
 
 -- A job is in range: its first channel is at most its last, and that at most 7.
 abbrev pub IsJob : JobLine → Type 0
-IsJob job = (job.first ≤ job.last) × (job.last ≤ 7)
+IsJob job = (job.first ≤ job.last) × (job.last ≤ last_channel)
 
 -- a statement that is allowed before `go`
 abbrev pub IsEarly : Statement → Type 0
@@ -150,4 +163,4 @@ pub record IsRace (script : RaceScript) : Type 0 where
   pub memory : IsWithin script.before
   pub early : All IsEarly script.before.statements
   pub jobs : All IsJob script.jobs
-  pub few : length script.jobs ≤ 16
+  pub few : length script.jobs ≤ most_jobs

@@ -1,12 +1,12 @@
 -- The lines of a run script (profile).
-use Rattle.std.specs.Prelude.{ℕ, Bool, true, false, ◌≤◌, if◌then◌else◌, List, [], ◌∷◌, ◌++◌, Option, Some, None, Result, Ok, Err, codes}
+use Rattle.std.specs.Prelude.{ℕ, ◌≤◌, if◌then◌else◌, List, [], ◌∷◌, ◌++◌, Option, Some, None, Result, Ok, Err, codes}
 use Rattle.std.specs.Option.{ok_or}
 use Rattle.std.specs.Str.{bytes_eq}
 use Rattle.dma_mem.specs.declared.marks.MarkKind.{MarkKind}
 use Rattle.dma_mem.specs.declared.marks.MarkKind.TheVariants.{Reading, Writing}
 use Rattle.dma_script.specs.Lines.{◌>>=◌, after_script}
-use Rattle.dma_script.specs.Arguments.{LineRead, unread, ended, begins, skipped, fixed_from, number_from, within_from, byte_from, count_from, segment_from, list_from, to_list_from, bytes_from}
-use Rattle.dma_script.specs.Plan.{transfer_from}
+use Rattle.dma_script.specs.Arguments.{one, both, after_fixed, number_at, within_at, byte_at, segment_at, list_at, to_list_at, bytes_at}
+use Rattle.dma_script.specs.Plan.{transfer_line}
 use Rattle.dma_script.specs.declared.fault.Cause.{Cause}
 use Rattle.dma_script.specs.declared.fault.Cause.TheVariants as causes
 use Rattle.dma_script.specs.declared.fault.Fault.{Fault}
@@ -38,73 +38,69 @@ keyword_of word =
     if bytes_eq word (codes "checkpoint") then Some keywords.Checkpoint else (
     if bytes_eq word (codes "totals") then Some keywords.Totals else None)))))))))))))))))
 
+-- the most bytes of a memory (profile)
+abbrev pub largest_size : ℕ
+largest_size = 4294963200
+
+-- the most channels of a script (profile)
+abbrev pub most_channels : ℕ
+most_channels = 8
+
+-- the most steps of a step line (profile)
+abbrev pub most_steps : ℕ
+most_steps = 1000000
+
 -- `memory SIZE CHANNELS`: a script with no line after it yet
 abbrev pub memory_line : List (List ℕ) → Result RunScript Cause
-memory_line words =
-    let size = within_from 1 4294963200 causes.SizeOutOfRange (unread words) in
-    let channels = within_from 1 8 causes.BadChannels size.1 in do
-      done ← ended channels.1
-      Ok (record { size = size.0; channels = channels.0; statements = [] })
+memory_line (size ∷ channels ∷ []) =
+    both (within_at 1 largest_size causes.SizeOutOfRange size) (within_at 1 most_channels causes.BadChannels channels)
+    (λ size channels. record { size = size; channels = channels; statements = [] })
+memory_line _ = Err causes.Words
 
--- the ranges of a memory line: 1 to 4,294,963,200 bytes, 1 to 8 channels
+-- the ranges of a memory line
 abbrev pub IsWithin : RunScript → Type 0
-IsWithin script = (1 ≤ script.size) × (script.size ≤ 4294963200) × (1 ≤ script.channels) × (script.channels ≤ 8)
-
--- whether a keyword begins a memory line
-abbrev pub is_memory : Keyword → Bool
-is_memory keywords.Memory = true
-is_memory _ = false
+IsWithin script = (1 ≤ script.size) × (script.size ≤ largest_size) × (1 ≤ script.channels) × (script.channels ≤ most_channels)
 
 -- The first line, by its keyword and the words after it: the memory line, or `First` for any other.
 abbrev pub first_line : Keyword → List (List ℕ) → Result RunScript Cause
-first_line keyword words = if is_memory keyword then memory_line words else Err causes.First
+first_line keywords.Memory words = memory_line words
+first_line _ words = Err causes.First
 
 -- the kind of a mark: loads fail at a `read` mark, stores at a `write` mark
-abbrev pub kind_from : LineRead → MarkKind × LineRead
-kind_from line =
-    if begins (codes "read") line.left then (Reading, skipped line)
-    else (Writing, fixed_from (codes "write") line)
+abbrev pub kind_at : List ℕ → Result MarkKind Cause
+kind_at word = if bytes_eq word (codes "read") then Ok Reading else after_fixed (codes "write") word (Ok Writing)
 
--- a statement made of two values that are read one after the other
-abbrev pub both_from : {A B : Type 0} → (LineRead → A × LineRead) → (LineRead → B × LineRead) → (A → B → Statement) → LineRead → Result (Statement × LineRead) Cause
-both_from first second make line =
-    let a = first line in
-    let b = second a.1 in
-    Ok (make a.0 b.0, b.1)
-
--- a statement made of one value
-abbrev pub one_from : {A : Type 0} → (LineRead → A × LineRead) → (A → Statement) → LineRead → Result (Statement × LineRead) Cause
-one_from first make line = let a = first line in Ok (make a.0, a.1)
-
--- The statement that a keyword and the words after it spell, and the line after them: `First` for the memory line.
-abbrev pub statement_from : Keyword → LineRead → Result (Statement × LineRead) Cause
-statement_from keywords.Memory line = Err causes.First
-statement_from keywords.Write line = both_from number_from bytes_from (λ addr bytes. statements.Write addr bytes) line
-statement_from keywords.Read line = one_from segment_from (λ segment. statements.Read segment) line
-statement_from keywords.Copy line =
-    both_from list_from to_list_from (λ src dst. statements.Copy (record { src = src; dst = dst })) line
-statement_from keywords.Fill line = both_from number_from to_list_from (λ src dst. statements.Fill src dst) line
-statement_from keywords.Submit line =
-    both_from byte_from transfer_from (λ ch transfer. statements.Submit ch transfer) line
-statement_from keywords.Issue line = one_from byte_from (λ ch. statements.Issue ch) line
-statement_from keywords.Pause line = one_from byte_from (λ ch. statements.Pause ch) line
-statement_from keywords.Resume line = one_from byte_from (λ ch. statements.Resume ch) line
-statement_from keywords.Terminate line = one_from byte_from (λ ch. statements.Terminate ch) line
-statement_from keywords.Step line = both_from byte_from count_from (λ ch count. statements.Step ch count) line
-statement_from keywords.Status line = both_from byte_from number_from (λ ch cookie. statements.Status ch cookie) line
-statement_from keywords.Result line = both_from byte_from number_from (λ ch cookie. statements.Result ch cookie) line
-statement_from keywords.Mark line = both_from kind_from segment_from (λ kind segment. statements.Mark kind segment) line
-statement_from keywords.Unmark line = Ok (statements.Unmark, line)
-statement_from keywords.Raise line = one_from byte_from (λ event. statements.Raise event) line
-statement_from keywords.Checkpoint line = Ok (statements.Checkpoint, line)
-statement_from keywords.Totals line = Ok (statements.Totals, line)
-
--- A line after the first, by its keyword and the words after it.
+-- A line after the first, by its keyword and the words after it: `First` for the memory line, and `Words` if a word is
+-- missing or one is too many.
 abbrev pub later_line : Keyword → List (List ℕ) → Result Statement Cause
-later_line keyword words = do
-  read ← statement_from keyword (unread words)
-  done ← ended read.1
-  Ok read.0
+later_line keywords.Memory words = Err causes.First
+later_line keywords.Write (addr ∷ word ∷ words) =
+    both (number_at addr) (bytes_at (word ∷ words)) (λ addr bytes. statements.Write addr bytes)
+later_line keywords.Read (segment ∷ []) = one (segment_at segment) (λ segment. statements.Read segment)
+later_line keywords.Copy (src ∷ to ∷ dst ∷ []) =
+    both (list_at src) (to_list_at to dst) (λ src dst. statements.Copy (record { src = src; dst = dst }))
+later_line keywords.Fill (src ∷ to ∷ dst ∷ []) =
+    both (number_at src) (to_list_at to dst) (λ src dst. statements.Fill src dst)
+later_line keywords.Submit (ch ∷ words) =
+    both (byte_at ch) (transfer_line words) (λ ch transfer. statements.Submit ch transfer)
+later_line keywords.Issue (ch ∷ []) = one (byte_at ch) (λ ch. statements.Issue ch)
+later_line keywords.Pause (ch ∷ []) = one (byte_at ch) (λ ch. statements.Pause ch)
+later_line keywords.Resume (ch ∷ []) = one (byte_at ch) (λ ch. statements.Resume ch)
+later_line keywords.Terminate (ch ∷ []) = one (byte_at ch) (λ ch. statements.Terminate ch)
+later_line keywords.Step (ch ∷ []) = one (byte_at ch) (λ ch. statements.Step ch 1)
+later_line keywords.Step (ch ∷ n ∷ []) =
+    both (byte_at ch) (within_at 1 most_steps causes.Range n) (λ ch n. statements.Step ch n)
+later_line keywords.Status (ch ∷ cookie ∷ []) =
+    both (byte_at ch) (number_at cookie) (λ ch cookie. statements.Status ch cookie)
+later_line keywords.Result (ch ∷ cookie ∷ []) =
+    both (byte_at ch) (number_at cookie) (λ ch cookie. statements.Result ch cookie)
+later_line keywords.Mark (kind ∷ segment ∷ []) =
+    both (kind_at kind) (segment_at segment) (λ kind segment. statements.Mark kind segment)
+later_line keywords.Unmark [] = Ok statements.Unmark
+later_line keywords.Raise (event ∷ []) = one (byte_at event) (λ event. statements.Raise event)
+later_line keywords.Checkpoint [] = Ok statements.Checkpoint
+later_line keywords.Totals [] = Ok statements.Totals
+later_line _ words = Err causes.Words
 
 -- The next line of a run script: its first line, if nothing was read before, or else a line after that.
 abbrev pub next_line : Option RunScript → Keyword → List (List ℕ) → Result (Option RunScript) Cause

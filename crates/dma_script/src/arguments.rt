@@ -1,7 +1,9 @@
 //! Reads the words after the first of a line, one after another.
 ghost use Rattle.std.specs.Prelude.{◌≡◌, ◌==◌, ◌≤◌, if◌then◌else◌, Err, IfOk, Ok, OnOk, is_some, unwrap_or};
 ghost use Rattle.dma_script.specs.Words.{hex_pair_of, list_of, words_of};
-ghost use Rattle.dma_script.specs.Arguments.{LineRead, after_word, begins, bytes_at, bytes_from, byte_from, count_from, ended, event_from, fixed_from, list_from, next_of, noted, number_from, segment_from, skip_from, to_list_from, unread, where_not, within_from};
+ghost use Rattle.dma_script.specs.Arguments.{bytes_at};
+ghost use Rattle.dma_script.specs.inner.Reading.{LineRead, after_word, begins, bytes_from, byte_from, count_from, ended, event_from, fixed_from, list_from, next_of, noted, number_from, segment_from, skip_from, to_list_from, unread, within_from};
+ghost use Rattle.dma_script.specs.Causes.{where_not};
 
 use crate::fault::Cause;
 use crate::words::{next_word, number, segment_in, without_blanks};
@@ -31,7 +33,7 @@ pub(crate) struct Arguments<'a> {
 
 impl<'a> Model for Arguments<'a> {
     ghost use Rattle.dma_script.specs.Words.{words_of};
-    ghost use Rattle.dma_script.specs.Arguments.{LineRead};
+    ghost use Rattle.dma_script.specs.inner.Reading.{LineRead};
 
     ghost Value = { LineRead };
 
@@ -57,6 +59,7 @@ impl<'a> Arguments<'a> {
     }
 
     /// Reads the next word. If it is missing, returns a word without bytes.
+    #[inline(always)]
     fn word(&mut self) -> &'a [u8]
         ensures word { result.now ≡ next_of self.old.left }
         ensures after { self.new ≡ after_word self.old }
@@ -93,6 +96,7 @@ impl<'a> Arguments<'a> {
     }
 
     /// Returns what a word spells. If it spells nothing, notes the cause and returns `default`.
+    #[inline(always)]
     fn known<T: Drop>(&mut self, read: Option<T>, cause: Cause, default: T) -> T
         ensures value { result ≡ unwrap_or read default }
         ensures after { self.new ≡ noted (where_not (is_some read) cause) self.old }
@@ -104,6 +108,7 @@ impl<'a> Arguments<'a> {
     }
 
     /// Reads a number.
+    #[inline(always)]
     pub(crate) fn number(&mut self) -> u32
         ensures { (result, self.new) ≡ number_from self.old }
     {
@@ -112,6 +117,7 @@ impl<'a> Arguments<'a> {
     }
 
     /// Reads a number from `low` to `high`. `cause` is the fault of any other number.
+    #[inline(always)]
     pub(crate) fn within(&mut self, low: u32, high: u32, cause: Cause) -> u32
         requires { low ≤ high }
         ensures read { (result, self.new) ≡ within_from low high cause self.old }
@@ -127,6 +133,7 @@ impl<'a> Arguments<'a> {
     }
 
     /// Reads a number of at most 255, such as that of a channel or an event.
+    #[inline(always)]
     pub(crate) fn byte(&mut self) -> u8
         ensures { (result, self.new) ≡ byte_from self.old }
     {

@@ -62,7 +62,8 @@ fn input_of<R: Source, W: Sink>(
     reader: &mut R,
     writer: &mut W,
 ) -> Result<Vec<u8>, u8>
-    ensures input { IfOk result (λ v. IfSome (R.remaining reader.old) (λ input. v.items ≡ input)) }
+    ensures input { IfOk result
+        (λ v. IfSome (R.remaining reader.old) (λ input. v.items ≡ input)) }
     ensures within { IfOk result (λ v. vec_len v ≤ longest_input) }
     ensures unfailed { OnOk result (R.has_failed reader.new → R.has_failed reader.old) }
     ensures unwritten { OnOk result (writer.new ≡ writer.old) }

@@ -67,7 +67,8 @@ pub enum InputError {
 /// read that fails; with `TooLong` for an input of more than [`LONGEST_INPUT`] bytes; or with `NoMemory`. Unless it
 /// fails with `Failed`, no read has failed.
 pub fn read_input<R: Source>(alloc: Global, reader: &mut R) -> Result<Vec<u8>, InputError>
-    ensures input { IfOk result (λ v. IfSome (R.remaining reader.old) (λ input. v.items ≡ input)) }
+    ensures input { IfOk result
+        (λ v. IfSome (R.remaining reader.old) (λ input. v.items ≡ input)) }
     ensures within { IfOk result (λ v. vec_len v ≤ longest_input) }
     ensures too_long { IsErrOf result InputError.TooLong
         → IfSome (R.remaining reader.old) (λ input. longest_input < length input) }

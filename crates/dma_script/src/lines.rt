@@ -1,10 +1,11 @@
 //! Reads a script line by line, up to its first fault.
-ghost use Rattle.std.specs.Prelude.{◌≡◌};
+ghost use Rattle.std.specs.Prelude.{◌≡◌, true};
+ghost use Rattle.std.specs.List.{list_all};
 ghost use Rattle.dma_script.specs.Lines.{Gives, after_line, after_script, first_number, is_skipped};
-ghost use Rattle.dma_script.specs.Words.{words_of};
+ghost use Rattle.dma_script.specs.Words.{is_plain, words_of};
 
 use crate::fault::{Cause, Fault, LineError, ScriptError};
-use crate::words::{is_plain_line, split_line, without_blanks};
+use crate::words::{is_plain_line, is_plain_text, split_line, without_blanks};
 use std::alloc::Global;
 
 /// A kind of script: the part of it that was read so far.
@@ -37,21 +38,28 @@ fn is_skipped(line: &[u8]) -> bool
     }
 }
 
-/// Reads one line.
-fn read_line<S: Script>(script: &mut S, alloc: Global, line: &[u8]) -> Result<(), LineError>
+/// Reads one line. `plain` means that the whole input was found to be plain, and saves the test of the line.
+fn read_line<S: Script>(
+    script: &mut S,
+    alloc: Global,
+    plain: bool,
+    line: &[u8],
+) -> Result<(), LineError>
+    requires { plain ≡ true → list_all is_plain line.now ≡ true }
     ensures { Gives (λ _. S.view script.new) result
         (after_line S.step (S.view script.old) line.now) }
 {
     if is_skipped(line) {
         return Ok(());
     }
-    if !is_plain_line(line) {
+    if !(plain || is_plain_line(line)) {
         return Err(LineError::Fault(Cause::Byte));
     }
     script.take_line(alloc, line)
 }
 
 /// Reads a whole script, or fails with its first fault or `NoMemory`. After an error nothing is known of `script`.
+#[tactic(auto, using(crate::proofs::PlainLines::lines_plain, crate::proofs::PlainLines::first_plain, crate::proofs::PlainLines::rest_plain))]
 pub fn read_script<S: Script>(
     script: &mut S,
     alloc: Global,
@@ -60,12 +68,13 @@ pub fn read_script<S: Script>(
     ensures { Gives (λ _. S.view script.new) result
         (after_script S.step (S.view script.old) input.now) }
 {
+    let plain = is_plain_text(input);
     let mut rest = input;
     let mut number = 0usize;
     while !rest.is_empty() {
         let (line, after) = split_line(rest);
         number += 1;
-        match read_line(script, alloc, line) {
+        match read_line(script, alloc, plain, line) {
             Ok(()) => rest = after,
             Err(LineError::NoMemory) => return Err(ScriptError::NoMemory),
             Err(LineError::Fault(cause)) => {

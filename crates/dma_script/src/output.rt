@@ -21,7 +21,8 @@ pub trait Sink: Write {
             (Self.contents self.new) result buf.now }
         ensures fault { OnErr result (has_failed self.new) }
         ensures none_taken { IfOk result (λ n. n ≡ 0 → has_failed self.new) }
-        ensures some_taken { IfOk result (λ n. 0 < n → has_failed self.new → has_failed self.old) }
+        ensures some_taken { IfOk result
+            (λ n. 0 < n → has_failed self.new → has_failed self.old) }
         ensures lasting { has_failed self.old → has_failed self.new };
 }
 

@@ -2,7 +2,8 @@
 ghost use Rattle.std.specs.Prelude.{◌≡◌, IfOk, OnOk};
 ghost use Rattle.dma_script.specs.Lines.{Gives};
 ghost use Rattle.dma_script.specs.Words.{words_of};
-ghost use Rattle.dma_script.specs.Plan.{source_from, plan_of, transfer_from, transfer_line};
+ghost use Rattle.dma_script.specs.Plan.{plan_of, transfer_line};
+ghost use Rattle.dma_script.specs.inner.Reading.{source_from, transfer_from};
 
 use crate::arguments::Arguments;
 use crate::fault::{Cause, LineError, ScriptError, missing};

@@ -44,7 +44,8 @@ impl Text for ProgramLines<'_> {
 
 /// Appends the line of a row: its bytes with a space between two.
 fn push_row(out: &mut Vec<u8>, row: &[u8]) -> Result<(), AllocError>
-    ensures ok { OnOk result (out.new.items ≡ out.old.items ++ text_of (row_line row.now ∷ [])) }
+    ensures ok { OnOk result
+        (out.new.items ≡ out.old.items ++ text_of (row_line row.now ∷ [])) }
     ensures begins { Begins out.new.items out.old.items }
 {
     match row {

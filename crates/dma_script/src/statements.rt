@@ -2,7 +2,8 @@
 ghost use Rattle.std.specs.Prelude.{◌≡◌, IfOk};
 ghost use Rattle.dma_script.specs.Lines.{Gives};
 ghost use Rattle.dma_script.specs.Words.{words_of};
-ghost use Rattle.dma_script.specs.Statements.{IsWithin, first_line, keyword_of, kind_from, later_line, run_script_of, statement_from};
+ghost use Rattle.dma_script.specs.Statements.{IsWithin, first_line, keyword_of, later_line, run_script_of};
+ghost use Rattle.dma_script.specs.inner.Reading.{kind_from, statement_from};
 
 use crate::arguments::Arguments;
 pub use crate::arguments::MAX_STEPS;
@@ -184,6 +185,7 @@ fn mark_kind(words: &mut Arguments<'_>) -> MarkKind
 
 /// Reads the words of a line after the first. Fails with `First` for the keyword of the first line. `kept` is as in
 /// [`Arguments::bytes`].
+#[inline(always)]
 fn read_statement(
     alloc: Global,
     kept: &mut Vec<u8>,
@@ -241,6 +243,7 @@ fn read_statement(
 }
 
 /// Reads a line after the first, as [`read_statement`] does.
+#[inline(always)]
 pub(crate) fn later_line(
     alloc: Global,
     kept: &mut Vec<u8>,
@@ -287,6 +290,7 @@ impl ReadSoFar {
     }
 
     /// Reads a line by its keyword and the words after it.
+    #[inline(always)]
     pub(crate) fn take(
         &mut self,
         alloc: Global,

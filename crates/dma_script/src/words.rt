@@ -1,5 +1,5 @@
 //! The words of a line, and what a word spells.
-ghost use Rattle.std.specs.Prelude.{◌≡◌, ◌==◌, ◌∷◌, [], ◌<◌, ◌≤◌, MatchOption, false, length, position, slice_index};
+ghost use Rattle.std.specs.Prelude.{◌≡◌, ◌==◌, ◌||◌, ◌∷◌, [], ◌<◌, ◌≤◌, MatchOption, false, length, position, slice_index};
 ghost use Rattle.std.specs.List.{list_all};
 ghost use Rattle.std.specs.Str.Lines.{lines, strip_carriage_return};
 ghost use Rattle.dma_script.specs.Words.{is_blank, is_plain, segment_of, words_of, number_of, number_in};
@@ -95,6 +95,17 @@ pub fn is_plain_line(line: &[u8]) -> bool
     let mut plain = true;
     for b in line {
         plain &= is_plain(*b);
+    }
+    plain
+}
+
+/// Returns whether each byte is plain or a line feed. Then each line of the text is plain.
+pub(crate) fn is_plain_text(text: &[u8]) -> bool
+    ensures { result ≡ list_all (λ b. is_plain b || b == 10) text.now }
+{
+    let mut plain = true;
+    for b in text {
+        plain &= is_plain(*b) || *b == b'\n';
     }
     plain
 }

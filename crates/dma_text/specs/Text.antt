@@ -1,4 +1,4 @@
--- Bytes that are appended.
+-- Texts that are appended to bytes.
 use Rattle.std.specs.Prelude.{◌≡◌, ℕ, List, length, take}
 
 -- The list `whole` begins with all of `front`.

@@ -195,7 +195,8 @@ impl<A: Text, B: Text, C: Text> Text for (A, B, C) {
 impl<A: Text, B: Text, C: Text, D: Text> Text for (A, B, C, D) {
     ghost text = { λ t. A.text t.0 ++ B.text t.1 ++ C.text t.2 ++ D.text t.3 };
 
-    ghost is_printed = { λ t. A.is_printed t.0 × B.is_printed t.1 × C.is_printed t.2 × D.is_printed t.3 };
+    ghost is_printed = { λ t.
+        A.is_printed t.0 × B.is_printed t.1 × C.is_printed t.2 × D.is_printed t.3 };
 
     #[inline(always)]
     fn push(&self, out: &mut Vec<u8>) -> Result<(), AllocError> {

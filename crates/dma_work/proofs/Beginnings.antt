@@ -1,9 +1,9 @@
--- Beginnings of one list.
+-- Beginnings of lists.
 use Rattle.std.proofs.Common.{◌≡◌, ◌+◌, ◌≤◌, List, [], ◌∷◌, ◌++◌, length, refl, ap, sym, ◌∙◌, arith, append_assoc}
 use Rattle.std.specs.List.{slice_get}
 use mathlib.Core.List.{IsPrefix}
 use Rattle.dma_engine.specs.Ticks.{Tick}
-use Rattle.dma_work.specs.inner.Published.{those}
+use Rattle.dma_work.specs.inner.Published.{ticks_of_option}
 
 -- each list begins with itself
 pub prefix_self : {A : Type 0} (xs : List A) → IsPrefix xs xs
@@ -32,7 +32,7 @@ prefix_whole (x ∷ xs) (y ∷ ys) p le =
     let rest = prefix_whole xs ys (p.0, cc (p.1)) (omega arith) in cc (p.1, rest)
 
 -- a list that has one more tick than one of its beginnings
-pub one_longer : (xs ys : List Tick) → IsPrefix xs ys → length ys ≡ length xs + 1 → xs ++ those (slice_get ys (length xs)) ≡ ys
+pub one_longer : (xs ys : List Tick) → IsPrefix xs ys → length ys ≡ length xs + 1 → xs ++ ticks_of_option (slice_get ys (length xs)) ≡ ys
 one_longer [] [] p n = absurd (omega arith)
 one_longer [] (y ∷ []) p n = refl
 one_longer [] (y ∷ z ∷ zs) p n = absurd (omega arith)

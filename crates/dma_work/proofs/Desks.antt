@@ -1,4 +1,4 @@
--- What the calls keep of a desk.
+-- What each call keeps of a desk.
 use Rattle.std.proofs.Common.{◌≡◌, ℕ, ◌+◌, ◌<◌, ◌≤◌, List, [], ◌∷◌, ◌++◌, length, true, false, refl, ap, sym, ◌∙◌, arith, append-nil, append_assoc, subst, inl, inr, zero, suc}
 use Rattle.std.specs.Prelude.{if◌then◌else◌, slice_set, Result, Ok}
 use Rattle.std.specs.List.{All}
@@ -22,9 +22,9 @@ use Rattle.dma_engine.specs.Ticks.{Tick, Submitted, Finished, Board, Counts, add
 use Rattle.dma_engine.specs.Turn.{ends, turn}
 use Rattle.dma_engine.specs.View.{EngineState, IsSound, View, channels, object_of}
 use Rattle.dma_engine.proofs.CallLists.{answers-extend, quiet-extends}
-use Rattle.dma_engine.proofs.AnswerCounts.{quiet_calls_keep, steps_add, ends_as_reported}
+use Rattle.dma_engine.proofs.AnswerCounts.{quiet_calls_keep_counts, steps_add, ends_as_reported}
 use Rattle.dma_engine.proofs.Checkpoint.{checkpoints_keep}
-use Rattle.dma_engine.proofs.CookieCounts.{boards_count, boards_open, submits_give, terminates_finish, ticks_are_there}
+use Rattle.dma_engine.proofs.CookieCounts.{boards_count, base_counts_bounded, submits_add, terminates_add, ticks_name_channels}
 use Rattle.dma_work.specs.declared.worker.Totals.{Totals}
 use Rattle.dma_work.specs.Desk.{stepped_book}
 use Rattle.dma_work.specs.inner.DeskKept.{IsKept}
@@ -122,7 +122,7 @@ ended v w ch t over h =
     let is : ends (Ok t) ≡ true = elim (ends_as_reported v w ch (Ok t) h) [ inl starved ↦ absurd (cc starved) | inr same ↦ same ∙ over ] in
     ap (λ x. if x then Finished ch 1 ∷ [] else []) is
 
--- ---- what is published, after a call
+-- ---- what is published after a call
 
 -- one more tick was made ready, and the engine has added it
 pub acted_next : (p r : PublisherState) (v m w : View) (l : List BoardState) (t u : Tick) → m ≡ v → ticks_of w.history ≡ ticks_of m.history ++ u ∷ [] → t ≡ u → r ≡ record p { pending = l } → p.before ++ ticks_of v.history ≡ p.shown.ticks → HasActed r w t
@@ -153,7 +153,7 @@ module _ (s f : ℕ) (base : Board) (log : Book) where
   -- a call that gives no cookie and finishes none
   pub kept_quiet : (old new : EngineState) (p : PublisherState) (b : Totals) (call : Call) (reply : Reply) → IsQuiet call → CallAnswers old.view call reply new.view → IsKept s f base log old p b → IsKept s f base log new p b
   kept_quiet old new p b call reply q h k =
-      let t = quiet_calls_keep old.view new.view call reply q h in
+      let t = quiet_calls_keep_counts old.view new.view call reply q h in
       let a : Adds old.view new.view [] 0 0 = record {
         ticks = t.ticks ∙ sym (append-nil (ticks_of old.view.history));
         steps = omega (arith, t.steps);
@@ -184,9 +184,9 @@ module _ (s f : ℕ) (base : Board) (log : Book) where
   kept_checkpoint old new p q b sound h is k =
       let c = checkpoints_keep old.view new.view sound h in
       let ticks = ticks_of old.view.history in
-      let o = boards_open old.view sound in
+      let o = base_counts_bounded old.view sound in
       let few : length (board_of old.view.base) ≤ 8 = omega (arith, o.0, o.1) in
-      let there = subst (λ n. All (λ t. tick_channel t < n) ticks) (sym o.0) (ticks_are_there old.view sound) in
+      let there = subst (λ n. All (λ t. tick_channel t < n) ticks) (sym o.0) (ticks_name_channels old.view sound) in
       let before : p.shown.ticks ≡ p.before ++ ticks = ap (λ (x : BoardState). x.ticks) k.shown in
       rw is (record {
         shown = k.shown ∙ ap board (sym before ∙ sym (ap (λ (es : List Entry). p.shown.ticks ++ ticks_of es) c.0 ∙ append-nil p.shown.ticks));
@@ -202,7 +202,7 @@ module _ (s f : ℕ) (base : Board) (log : Book) where
 -- The published board has the engine's own counts of each channel.
 pub board_counts : (base : Board) (before : List Tick) (v : View) → board_from base before ≡ base_of v → IsSound v → (ch : ℕ) → ch < channels v → counts (board_from base (before ++ ticks_of v.history)) ch ≡ counts_of (channel (object_of v) ch)
 board_counts base before v opens h ch less =
-    let o = boards_open v h in
+    let o = base_counts_bounded v h in
     let inside : ch < length (board_of v.base) = omega (arith, less, o.0) in
     ap (λ b. counts b ch) (board-append base before (ticks_of v.history) ∙ ap (λ b. board_after b (ticks_of v.history)) opens)
     ∙ boards-alike (eight (board_of v.base)) (board_of v.base) (ticks_of v.history) ch (omega (arith, less, o.1)) inside (counts-eight (board_of v.base) ch (omega (arith, less, o.1)))
@@ -215,7 +215,7 @@ module _ (s f : ℕ) (base : Board) (log : Book) where
   -- the cookie of a submit is given in the list that is published then
   pub given_in : (new : EngineState) (q : PublisherState) (b : Totals) (v : View) (ch cookie : ℕ) (t : Descriptor) (list : List Tick) → CallAnswers v (Submit ch t) (Cookie cookie) new.view → IsSound new.view → IsKept s f base log new q b → list ≡ q.shown.ticks → IsGiven base list ch cookie
   given_in new q b v ch cookie t list h sound k is =
-      let s = submits_give v new.view ch cookie t h in
+      let s = submits_add v new.view ch cookie t h in
       let all = is ∙ ap (λ (x : BoardState). x.ticks) k.shown in
       let at : (counts (board_from base list) ch).used ≡ used (channel (object_of new.view) ch) =
       ap (λ l. (counts (board_from base l) ch).used) all ∙ ap (λ (x : Counts). x.used) (board_counts base q.before new.view k.opens sound ch s.1) in
@@ -224,7 +224,7 @@ module _ (s f : ℕ) (base : Board) (log : Book) where
   -- and after a terminate all cookies of its channel are finished
   pub finished_in : (new : EngineState) (q : PublisherState) (b : Totals) (v : View) (ch count through : ℕ) (list : List Tick) → CallAnswers v (Terminate ch) (Count count) new.view → IsSound new.view → IsKept s f base log new q b → list ≡ q.shown.ticks → through ≡ used (channel (object_of new.view) ch) → AreFinished base list ch through
   finished_in new q b v ch count through list h sound k is through_is =
-      let s = terminates_finish v new.view ch count h in
+      let s = terminates_add v new.view ch count h in
       let all = is ∙ ap (λ (x : BoardState). x.ticks) k.shown in
       let at : counts (board_from base list) ch ≡ counts_of (channel (object_of new.view) ch) =
       ap (λ l. counts (board_from base l) ch) all ∙ board_counts base q.before new.view k.opens sound ch s.1 in

@@ -1,4 +1,4 @@
--- How a published list begins.
+-- The board with which a published list begins.
 use Rattle.std.proofs.Common.{◌≡◌, ℕ, zero, suc, ◌+◌, ◌<◌, List, [], ◌∷◌, ◌++◌, take, length, refl, ap, sym, ◌∙◌, arith, add-one, append_assoc, inl, inr}
 use Rattle.std.specs.Prelude.{slice_index_or}
 use Rattle.std.proofs.lemmas.Bool.{cases_lt}
@@ -7,7 +7,7 @@ use Rattle.dma_engine.specs.declared.entry.Entry.{Entry}
 use Rattle.dma_engine.specs.Ticks.{Counts, board_of, counts, no_counts, ticks_of}
 use Rattle.dma_engine.specs.View.{View, IsSound}
 use Rattle.dma_engine.proofs.AnswerCounts.{ticks-append}
-use Rattle.dma_engine.proofs.CookieCounts.{boards_open}
+use Rattle.dma_engine.proofs.CookieCounts.{base_counts_bounded}
 use Rattle.dma_work.specs.Laws.{AreCounts}
 use Rattle.dma_work.specs.Ticks.{base_of}
 use Rattle.dma_work.proofs.Desks.{counts-eight}
@@ -25,7 +25,7 @@ pub small_base : (v : View) → IsSound v → AreCounts (base_of v)
 small_base v h ch = elim (cases_lt ch 8) [
   | inl less ↦
       let at = counts-eight (board_of v.base) ch less in
-      let few = (boards_open v h).2 ch in
+      let few = (base_counts_bounded v h).2 ch in
       (omega (arith, ap (λ (c : Counts). c.used) at, few.0), omega (arith, ap (λ (c : Counts). c.finished) at, few.1))
   | inr past ↦
       let none : counts (base_of v) ch ≡ no_counts = get_or_past (base_of v) ch no_counts (omega arith) in

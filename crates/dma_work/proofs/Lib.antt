@@ -1,5 +1,5 @@
--- Lemmas on beginnings of lists, on boards, on the log's step, on the rule of what is published, on how a list begins and on
--- rotations.
+-- Lemmas on beginnings of lists, on boards, on the log's step, on the rule of what is published, on the start of a list
+-- and on rotations.
 pub mod Beginnings
 pub mod Boards
 pub mod LogSteps

@@ -1,19 +1,19 @@
--- What keeps the rule of what is published.
+-- Steps that keep the rule of what is published.
 use Rattle.std.proofs.Common.{◌≡◌, ◌≢◌, ℕ, Option, Some, None, List, [], ◌∷◌, set, refl, sym, ◌∙◌, subst, ⊎_elim}
 use mathlib.Core.Option.{some, some-ne-none}
 use lib.ListN.{get_elem?}
 use Rattle.crossbeam_utils.specs.Register.{Admits, TurnsAt, Forks, Merges}
 use Rattle.atomic_table.proofs.Lists.{at_set, at_snoc}
-use Rattle.dma_work.specs.inner.Published.{BoardState, IsSeen, Keeps, Later, Sees}
+use Rattle.dma_work.specs.inner.Published.{BoardState, IsSeen, Keeps, IsLaterBoard, Sees}
 use Rattle.dma_work.proofs.Beginnings.{prefix_self, prefix_trans}
 
-pub later_self : (p : BoardState) → Later p p
+pub later_self : (p : BoardState) → IsLaterBoard p p
 later_self p = record { base = refl; log = refl; ticks = prefix_self p.ticks }
 
-pub later_trans : (p q r : BoardState) → Later p q → Later q r → Later p r
+pub later_trans : (p q r : BoardState) → IsLaterBoard p q → IsLaterBoard q r → IsLaterBoard p r
 later_trans p q r a b = record { base = b.base ∙ a.base; log = b.log ∙ a.log; ticks = prefix_trans p.ticks q.ticks r.ticks a.ticks b.ticks }
 
-seen_later : (x y : BoardState) (view : Option BoardState) → IsSeen x view → Later x y → IsSeen y view
+seen_later : (x y : BoardState) (view : Option BoardState) → IsSeen x view → IsLaterBoard x y → IsSeen y view
 seen_later x y None h l = tt
 seen_later x y (Some p) h l = later_trans p x y h l
 
@@ -27,7 +27,7 @@ pub admits : Admits Keeps None
 admits x views h seat view at = ⊎_elim (h seat view) (λ (e : None ≡ view). subst (IsSeen x) e tt) (at_snoc views None view seat at)
 
 -- a later list is published, or a list is looked at
-pub grows : (seat : ℕ) (view : Option BoardState) (x y : BoardState) → Later x y → TurnsAt Keeps seat view x y Sees
+pub grows : (seat : ℕ) (view : Option BoardState) (x y : BoardState) → IsLaterBoard x y → TurnsAt Keeps seat view x y Sees
 grows seat view x y l views h at = (
   Some y,
   set_keeps y views seat (Some y) (λ j u e. seen_later x y u (h j u e) l) (later_self y),

@@ -1,4 +1,4 @@
--- What a longer list of ticks keeps of statuses.
+-- The status of a cookie in longer lists of ticks.
 use Rattle.std.proofs.Common.{◌≡◌, ◌≢◌, ℕ, ◌<◌, ◌≤◌, ◌==◌, List, [], ◌∷◌, length, ap, sym, ◌∙◌, subst, arith, inl, inr}
 use Rattle.std.specs.Prelude.{if◌then◌else◌, ◌||◌, nat_lt, nat_le, slice_set}
 use Rattle.std.proofs.lemmas.Grind.{common_steps}
@@ -85,8 +85,8 @@ closed u f k pos le done = grind (arith, common_steps)
 
 pub stays_known : StaysKnown
 unfolding status_at
-stays_known base told seen ch cookie h p given is =
-    let g = longer base told seen ch h p in
+stays_known base earlier seen ch cookie h p given is =
+    let g = longer base earlier seen ch h p in
     known (counts (board_from base seen) ch).used (counts (board_from base seen) ch).finished cookie given.0 (omega (arith, given.1, g.used)) is
 
 pub stays_complete : StaysComplete
@@ -97,6 +97,6 @@ stays_complete base earlier later ch cookie h p is =
 
 pub closed_is_complete : ClosedIsComplete
 unfolding status_at
-closed_is_complete base told seen ch through cookie h p all pos le =
-    let g = longer base told seen ch h p in
+closed_is_complete base earlier seen ch through cookie h p all pos le =
+    let g = longer base earlier seen ch h p in
     closed (counts (board_from base seen) ch).used (counts (board_from base seen) ch).finished cookie pos (omega (arith, le, all.0, g.used)) (omega (arith, le, all.1, g.finished))

@@ -14,14 +14,15 @@ use Rattle.dma_engine.specs.declared.fault.EngineFault.{EngineFault}
 use Rattle.dma_engine.specs.declared.turn.Turn.{Turn}
 use Rattle.dma_work.specs.declared.worker.Totals.{Totals}
 
--- The parts of a desk: an engine, the log of its published list, and the counts from which that list's board begins.
+-- The parts of a desk: an engine, the log of its published list, and the counts with which the board of that list
+-- begins.
 pub record PartsState : Type 0 where
   pub engine : EngineState
   pub base : Board
   pub log : Book
 
--- A desk: its engine, its book of totals, and the ticks that were published before those of the engine's history (none
--- before its first checkpoint).
+-- A desk: its engine, its book of totals, and the ticks that were published before those of the engine's history. There
+-- are none before the desk's first checkpoint.
 pub record DeskState : Type 0 where
   pub engine : EngineState
   pub book : Totals
@@ -31,33 +32,33 @@ pub record DeskState : Type 0 where
 abbrev pub published : DeskState → List Tick
 published d = d.before ++ ticks_of d.engine.view.history
 
--- Step count, number of finished cookies, base and log are those with which these parts begin a desk.
+-- These parts have this step count, number of finished cookies, base and log.
 abbrev pub Names : ℕ → ℕ → Board → Book → PartsState → Type 0
 Names steps finished base log p =
     (steps ≡ p.engine.view.steps) × (finished ≡ finished_all (object_of p.engine.view)) × (base ≡ p.base) × (log ≡ p.log)
 
--- The book stays, and so do the ticks that were published before those of the history.
+-- The book is unchanged, and so are the ticks that were published before those of the history.
 abbrev pub SameBook : DeskState → DeskState → Type 0
 SameBook old new = (new.book ≡ old.book) × (new.before ≡ old.before)
 
--- A call gets the engine's reply, and the book stays.
+-- A call gets the engine's reply, and the book is unchanged.
 abbrev pub Answers : DeskState → Call → Reply → DeskState → Type 0
 Answers old call reply new = CallAnswers old.engine.view call reply new.engine.view × SameBook old new
 
--- The same of a call that returns nothing unless it is refused.
-abbrev pub Does : {A : Type 0} → DeskState → Call → Result A EngineFault → DeskState → Type 0
-Does old call result new = Answers old call (reply_of (λ _. Done) result) new
+-- The same for a call that returns nothing on success.
+abbrev pub AnswersDone : {A : Type 0} → DeskState → Call → Result A EngineFault → DeskState → Type 0
+AnswersDone old call result new = Answers old call (reply_of (λ _. Done) result) new
 
--- a book with nothing in it
+-- an empty book
 abbrev pub no_totals : Totals
 no_totals = record { steps = 0; finished = 0; terminated = 0 }
 
--- the book with what a step's answer adds
+-- the book after a step with this answer
 abbrev pub stepped_book : Totals → Result Turn EngineFault → Totals
 stepped_book b r = record b { steps = b.steps + steps_in r; finished = b.finished + finishes_in r }
 
--- A tally: a worker's number, how many steps took the tally, how many of them executed an instruction, and how many finished
--- a cookie.
+-- A tally: a worker's number, how many steps were counted in the tally, how many of them executed an instruction or
+-- finished a cookie, and how many finished a cookie.
 pub record TallyCounts : Type 0 where
   pub worker : ℕ
   pub turns : ℕ
@@ -68,11 +69,11 @@ pub record TallyCounts : Type 0 where
 abbrev pub new_tally : ℕ → TallyCounts
 new_tally worker = record { worker = worker; turns = 0; steps = 0; finishes = 0 }
 
--- the steps of all tallies
+-- the sum of the tallies' steps
 abbrev pub steps_of : List TallyCounts → ℕ
 steps_of tallies = sum_by (λ (t : TallyCounts). t.steps) tallies
 
--- and their finishes
+-- the sum of the tallies' finishes
 abbrev pub finishes_of : List TallyCounts → ℕ
 finishes_of tallies = sum_by (λ (t : TallyCounts). t.finishes) tallies
 
@@ -84,8 +85,8 @@ AddUp tallies book = (steps_of tallies ≡ book.steps) × (finishes_of tallies �
 abbrev pub Differ : List TallyCounts → Totals → Type 0
 Differ tallies book = (steps_of tallies ≢ book.steps) ⊎ (finishes_of tallies ≢ book.finished)
 
--- A desk ended with this engine and this book. The tallies add up to the book, which is the rise of the engine's step count
--- and finished cookies over these.
+-- A desk has ended with this engine and this book. The tallies add up to the book, which has the increase of the
+-- engine's step count and number of finished cookies since these values.
 pub record IsSettled (steps finished : ℕ) (tallies : List TallyCounts) (engine : EngineState) (book : Totals) : Type 0 where
   pub adds : AddUp tallies book
   pub counted : engine.view.steps ≡ steps + book.steps
@@ -93,12 +94,12 @@ pub record IsSettled (steps finished : ℕ) (tallies : List TallyCounts) (engine
   pub sound : IsSound engine.view
   pub memory : engine.memory ≡ memory_of engine.view
 
--- a tally after a step with this answer, refused or not
+-- a tally after a step with this answer, which may be a refusal
 abbrev pub counted : Result Turn EngineFault → TallyCounts → TallyCounts
 counted r t = record t { turns = t.turns + 1; steps = t.steps + steps_in r; finishes = t.finishes + finishes_in r }
 
--- A step of a channel, counted: the engine's step with some answer, which the desk's book and a tally count. The ticks that
--- were published before those of the history stay.
+-- A step of a channel, counted: the engine's step has some answer, which the desk's book and a tally count. The ticks
+-- that were published before those of the history are unchanged.
 pub record CountsAStep
     (ch : ℕ) (tally : TallyCounts) (old : DeskState) (tally_after : TallyCounts) (new : DeskState)
     : Type 0 where
@@ -108,13 +109,13 @@ pub record CountsAStep
   pub before_history : new.before ≡ old.before
   pub count : tally_after ≡ counted answer tally
 
--- A worker: what lends it the desk, and its tally.
+-- A worker: the lender of its desk, and its tally.
 pub record WorkerState (L : Type 0) : Type 0 where
   pub lender : L
   pub tally : TallyCounts
 
--- A worker's turn, where `lends` says which desk is lent, and which is given back: it is lent a desk for one step of the channel,
--- and does nothing else.
+-- A worker's turn: it is lent a desk for one step of the channel, and does nothing else. `lends` relates the desk that
+-- is lent and the desk that is given back.
 abbrev pub TakesAStep : {L : Type 0} → (L → DeskState → DeskState → L → Type 0) → WorkerState L → ℕ → WorkerState L → Type 0
 TakesAStep lends old ch new =
     (d : DeskState) × (e : DeskState) × lends old.lender d e new.lender × CountsAStep ch old.tally d new.tally e

@@ -1,4 +1,4 @@
--- What a reader can rely on from one status to the next.
+-- What a reader can rely on between two statuses.
 use Rattle.std.specs.Prelude.{◌≡◌, ◌≢◌, ℕ, ◌<◌, ◌≤◌, List}
 use Rattle.dma_engine.specs.Ticks.{Board, Tick, counts}
 use Rattle.dma_engine.specs.declared.turn.Status.TheVariants.{Unknown, Complete}
@@ -20,7 +20,7 @@ StaysComplete =
     (base : Board) (earlier later : List Tick) (ch cookie : ℕ) → AreCounts base → StartsWith later earlier
     → status_after base earlier ch cookie ≡ Complete → status_after base later ch cookie ≡ Complete
 
--- A cookie up to the last one that was closed is complete in each list that begins with that of the closing.
+-- Each cookie that a terminate closed is complete in each list that begins with the list of its ticket.
 abbrev pub ClosedIsComplete : Type 0
 ClosedIsComplete =
     (base : Board) (learnt seen : List Tick) (ch through cookie : ℕ) → AreCounts base → StartsWith seen learnt

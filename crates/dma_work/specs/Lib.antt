@@ -1,5 +1,5 @@
--- Published ticks and the status of a cookie after them; what a reader knows; what contracts see of a desk; the tallies of
--- jobs; the channels that a worker steps; the laws of statuses.
+-- Published ticks and the status of a cookie after them; what a reader knows; what contracts see of a desk; the tallies
+-- of jobs; the channels that a worker steps; the laws of statuses.
 pub mod Ticks
 pub mod Known
 pub mod Desk

@@ -1,7 +1,7 @@
 -- Which channels a worker steps, and in which order.
 use Rattle.std.specs.Prelude.{◌≡◌, ◌<◌, ◌≤◌, ℕ, ◌+◌, ◌-◌, ◌%◌, zero, suc, List, [], ◌∷◌, ◌++◌, length, slice_index}
 
--- The channel of turn k, where turns count from 0: the first up to the last, again and again.
+-- the channel of turn k, where turns count from 0: the first channel up to the last one, over and over
 abbrev pub channel_at : ℕ → ℕ → ℕ → ℕ
 channel_at first last k = first + k % (last + 1 - first)
 
@@ -10,19 +10,19 @@ abbrev pub rotation : ℕ → ℕ → ℕ → List ℕ
 rotation first last zero = []
 rotation first last (suc n) = rotation first last n ++ channel_at first last n ∷ []
 
--- It acted at these channels, one after another, and did nothing else.
+-- These channels were acted on, one after another, and nothing else was done.
 abbrev pub StepsInTurn : {S : Type 0} → (S → ℕ → S → Type 0) → List ℕ → S → S → Type 0
 StepsInTurn acts [] old new = new ≡ old
 StepsInTurn {S = S} acts (ch ∷ rest) old new = (mid : S) × acts old ch mid × StepsInTurn acts rest mid new
 
--- A rotation has a channel for each turn: item k is the channel of turn k.
+-- A rotation has one channel for each turn: item k is the channel of turn k.
 abbrev pub ListsChannels : Type 0
 ListsChannels =
     (first last turns : ℕ)
     → (length (rotation first last turns) ≡ turns)
     × ((k : ℕ) → k < turns → slice_index (rotation first last turns) k ≡ channel_at first last k)
 
--- Turn 0 is the first channel's. After each channel but the last comes the next, and after the last the first.
+-- The channel of turn 0 is the first one. Each channel is followed by the next one, and the last channel by the first.
 abbrev pub GoesRound : Type 0
 GoesRound =
     (first last k : ℕ) → first ≤ last

@@ -5,7 +5,7 @@ use Rattle.dma_engine.specs.Ticks.{Tick, Board, board_after, board_of, counts, s
 use Rattle.dma_engine.specs.View.{View}
 use Rattle.dma_engine.specs.declared.turn.Status.{Status}
 
--- these ticks begin with those
+-- The list `ticks` begins with the list `front`.
 abbrev pub StartsWith : List Tick → List Tick → Type 0
 StartsWith ticks front = IsPrefix front ticks
 
@@ -13,7 +13,7 @@ StartsWith ticks front = IsPrefix front ticks
 abbrev pub board_from : Board → List Tick → Board
 board_from base ticks = board_after base ticks
 
--- how far a cookie is after these ticks
+-- the status of a cookie after these ticks
 abbrev pub status_after : Board → List Tick → ℕ → ℕ → Status
 status_after base ticks ch cookie = status_of (board_from base ticks) ch cookie
 
@@ -22,7 +22,7 @@ abbrev pub eight : Board → Board
 eight b =
     counts b 0 ∷ counts b 1 ∷ counts b 2 ∷ counts b 3 ∷ counts b 4 ∷ counts b 5 ∷ counts b 6 ∷ counts b 7 ∷ []
 
--- The counts from which an engine's history begins.
+-- the counts with which an engine's history begins
 abbrev pub base_of : View → Board
 base_of v = eight (board_of v.base)
 

@@ -1,5 +1,5 @@
--- What no reader of a public contract has to believe: the log behind the published list, the rule of what is published, and
--- what the contracts of private functions and the invariants of types speak of.
+-- Definitions behind the private parts: the log behind the published list, the rule of what is published, the contracts
+-- of private functions and the invariants of types. No public clause needs them.
 pub mod TickForms
 pub mod Published
 pub mod DeskKept

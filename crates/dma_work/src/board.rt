@@ -1,8 +1,8 @@
-//! Boards: what is published, and the rule that it only grows.
+//! Boards, which are published to readers, and the rule that a published board only grows.
 
 ghost use Rattle.std.specs.Prelude.{◌≡◌, ◌++◌, IfSome};
 ghost use Rattle.dma_engine.specs.Ticks.{board_of, counts, status_of, ticked};
-ghost use Rattle.dma_work.specs.inner.Published.{board_with, snapshot_of, those};
+ghost use Rattle.dma_work.specs.inner.Published.{board_with, snapshot_of, ticks_of_option};
 ghost use Rattle.dma_work.specs.Ticks.{StartsWith, base_of, board_from, status_after};
 
 use crate::log::{Change, Snapshot, Tick};
@@ -14,7 +14,7 @@ use left_right::writer::Writer;
 use std::alloc::AllocError;
 use std::marker::Model;
 
-// The counts of one channel. Contracts see them as the engine's own.
+// The counts of one channel. Contracts see them as the engine's `Counts`.
 #[derive(Clone, Copy)]
 struct ChannelCounts {
     used: u32,
@@ -51,7 +51,7 @@ impl Model for Counts {
 }
 
 impl ChannelCounts {
-    // Returns the counts with which an engine's history begins on a channel, or 0 if there is no such channel.
+    // Returns a channel's counts at the start of an engine's history, or zeros if there is no such channel.
     fn at_base(engine: &Engine, ch: u8) -> ChannelCounts
         ensures { result ≡ counts (board_of engine.now.view.base) ch }
     {
@@ -63,7 +63,7 @@ impl ChannelCounts {
 }
 
 impl Counts {
-    /// Returns the counts with which an engine's history begins.
+    /// Returns the counts of all channels at the start of an engine's history.
     pub fn at_base(engine: &Engine) -> Counts
         ensures { result ≡ base_of engine.now.view }
     {
@@ -108,7 +108,7 @@ impl Counts {
     }
 }
 
-/// The counts that a list of ticks sums up to. Contracts see the list.
+/// The counts that a list of ticks adds up to. Contracts see the list.
 #[derive(Drop)]
 pub(crate) struct Board {
     base: Counts,
@@ -120,27 +120,27 @@ pub(crate) struct Board {
 
 impl Model for Board {
     ghost use Rattle.std.specs.Prelude.{◌≡◌, ◌++◌};
-    ghost use Rattle.dma_work.specs.inner.Published.{BoardState, those};
+    ghost use Rattle.dma_work.specs.inner.Published.{BoardState, ticks_of_option};
     ghost use Rattle.dma_work.specs.Ticks.{board_from};
 
     ghost Value = { BoardState };
 
     ghost view = { λ b. record {
       base = b.base;
-      ticks = b.before.ticks ++ those b.next;
+      ticks = b.before.ticks ++ ticks_of_option b.next;
       log = b.before.log;
     } };
 
-    ghost invariant = { λ b. b.counts ≡ board_from b.base (b.before.ticks ++ those b.next) };
+    ghost invariant = { λ b. b.counts ≡ board_from b.base (b.before.ticks ++ ticks_of_option b.next) };
 }
 
 impl Board {
     /// Returns the board of a snapshot and the next tick, if any.
     pub fn new(base: Counts, counts: Counts, before: Snapshot, next: Option<Tick>) -> Board
-        requires { counts ≡ board_from base (before.ticks ++ those next) }
+        requires { counts ≡ board_from base (before.ticks ++ ticks_of_option next) }
         ensures { result ≡ record {
           base = base;
-          ticks = before.ticks ++ those next;
+          ticks = before.ticks ++ ticks_of_option next;
           log = before.log;
         } }
     {
@@ -159,7 +159,7 @@ impl Board {
         Board::new(self.base, self.counts, self.before.copy(), self.next)
     }
 
-    /// Returns the board with one more tick. `before` is a snapshot with all ticks of this board.
+    /// Returns the board with one more tick. `before` is a snapshot that has all ticks of this board.
     #[tactic(auto, using(crate::proofs::Boards::board_push))]
     pub fn next(&self, before: Snapshot, tick: Tick) -> Board
         requires { before ≡ snapshot_of self.now }
@@ -170,7 +170,7 @@ impl Board {
         Board::new(self.base, counts, before, Some(tick))
     }
 
-    /// Returns the status of a cookie, or `None` unless the board's list is known to begin with a snapshot of its log.
+    /// Returns the status of a cookie if the board's list is known to begin with a snapshot of its log, else `None`.
     pub fn status(&self, snapshot: &Snapshot, ch: u8, cookie: u32) -> Option<Status>
         requires { snapshot.now.log ≡ self.now.log }
         ensures covers { IfSome result (λ s. StartsWith self.now.ticks snapshot.now.ticks) }
@@ -185,7 +185,7 @@ impl Board {
     }
 }
 
-/// An operation is the board to come.
+/// An operation is the next board, which replaces the published one.
 impl Absorb<Board> for Board {
     type State = Board;
 
@@ -195,15 +195,15 @@ impl Absorb<Board> for Board {
 
     ghost never_fails = { Unit {0} };
 
-    /// Becomes the board that is to be published.
+    /// Replaces the board by the next one.
     fn absorb_first(&mut self, operation: &Board, _other: &Board) -> Result<(), AllocError> {
         *self = operation.copy();
         Ok(())
     }
 }
 
-/// The rule of what is published, and what a look at it or a publishing shows. Of the writer and each reader it sees
-/// the board that it has seen, if any.
+/// The rule of what is published, and what reading or publishing a board shows. It records, for the writer and each
+/// reader, the last board that it has seen, if any.
 pub(crate) struct Published;
 
 impl Protocol<Board, Option<Board>> for Published {

@@ -5,9 +5,9 @@ ghost use Rattle.dma_mem.specs.Rules.{IsTransfer};
 ghost use Rattle.dma_engine.specs.Answer.{CallAnswers, StepAnswers, checked, reply_of, submit_fault};
 ghost use Rattle.dma_engine.specs.Laws.{IsQuiet};
 ghost use Rattle.dma_engine.specs.Object.{channel, finished_all, used};
-ghost use Rattle.dma_engine.specs.Room.{HasGivenBack};
+ghost use Rattle.dma_engine.specs.Room.{HasNoSpare};
 ghost use Rattle.dma_engine.specs.View.{IsSound, memory_of, object_of};
-ghost use Rattle.dma_work.specs.Desk.{Answers, Differ, Does, IsSettled, Names, SameBook, counted, new_tally, no_totals, published, stepped_book};
+ghost use Rattle.dma_work.specs.Desk.{Answers, Differ, AnswersDone, IsSettled, Names, SameBook, counted, new_tally, no_totals, published, stepped_book};
 ghost use Rattle.dma_work.specs.Known.{knows};
 ghost use Rattle.dma_work.specs.Laws.{AreCounts};
 ghost use Rattle.dma_work.specs.Ticks.{base_of, board_from};
@@ -23,8 +23,8 @@ use dma_mem::transfer::Transfer;
 use std::marker::{Brand, Model, PhantomData};
 use std::sync::Wait;
 
-/// Names one published list, by its log and the counts with which its board begins, and the step count and the number
-/// of finished cookies with which a desk began.
+/// Names a desk by four values: the log of its published list, the counts with which its board begins, and the engine's
+/// step count and number of finished cookies when the desk was made.
 pub trait DeskName {
     ghost use Rattle.std.specs.Prelude.{ℕ};
     ghost use Rattle.logbook.specs.Pages.{Book};
@@ -51,12 +51,12 @@ impl DeskName for Brand {
     ghost log = { record { number = 0; log_name = 0; cells_name = 0 } };
 }
 
-/// The value behind the lock: an engine, a book of what was done through the desk, and the publisher of what status
-/// readers see.
+/// The value behind the lock: an engine, a book of the totals of what was done through the desk, and the publisher of
+/// what status readers see.
 ///
-/// Its type keeps that what is published ends with the ticks of the engine's history, with none pending, that the ticks
-/// before them add up to the counts with which that history begins, and that the book is the rise of the engine's step
-/// count and finished cookies over those that N names.
+/// Its type guarantees three facts. The published list ends with the ticks of the engine's history, and no tick is
+/// pending. The published ticks before those add up to the counts with which the history begins. The book has the
+/// increase of the engine's step count and finished cookies since the values that N names.
 pub struct Desk<N: DeskName> {
     engine: Engine,
     publisher: Publisher,
@@ -76,7 +76,7 @@ impl<N: DeskName> Model for Desk<N> {
 }
 
 impl<N: DeskName> Desk<N> {
-    /// Returns the desk over its parts, with nothing in its book. N names these parts.
+    /// Returns a desk of these parts, with an empty book. N names the parts.
     pub fn new(parts: Parts) -> Desk<N>
         requires { Names N.steps N.finished N.base N.log parts }
         ensures { result ≡ record { engine = parts.engine; book = no_totals; before = [] } }
@@ -90,8 +90,8 @@ impl<N: DeskName> Desk<N> {
         }
     }
 
-    /// Returns the engine. Its view is sound, its memory is the history's image with running transfers laid over it,
-    /// and the book is the rise of its step count and finished cookies.
+    /// Returns the engine. Its view is sound, its memory is the history's image with what running transfers have
+    /// stored, and the book has the increase of its step count and finished cookies.
     pub fn engine(&self) -> &Engine
         ensures engine { result.now ≡ self.now.engine }
         ensures counted { N.steps + self.now.book.steps ≡ self.now.engine.view.steps }
@@ -107,14 +107,14 @@ impl<N: DeskName> Desk<N> {
         &self.engine
     }
 
-    /// Returns the book: what all workers did so far.
+    /// Returns the book: the totals of all workers so far.
     pub fn book(&self) -> Totals
         ensures { result ≡ self.now.book }
     {
         self.book
     }
 
-    /// Returns a tally of a worker, with nothing counted.
+    /// Returns a tally for a worker, with nothing counted.
     pub fn tally(&mut self, worker: u32) -> Tally
         ensures tally { result ≡ new_tally worker }
         ensures same { self.new ≡ self.old }
@@ -122,8 +122,8 @@ impl<N: DeskName> Desk<N> {
         Tally::new(worker)
     }
 
-    /// Returns one more reader, which has seen what is published, or `None` if no place for it is free: `Parts::new`
-    /// makes as many places as readers, or one, and a reader that is dropped frees its place.
+    /// Returns one more reader, which has seen what is published, or `None` if no place is free. `Parts::new` makes as
+    /// many places as readers, at least one, and a dropped reader frees its place.
     pub fn reader(&mut self) -> Option<StatusReader>
         ensures seen { IfSome result (λ r. r ≡ knows N.base N.log (published self.old)) }
         ensures same { self.new ≡ self.old }
@@ -131,8 +131,8 @@ impl<N: DeskName> Desk<N> {
         self.publisher.reader()
     }
 
-    /// Executes a call that publishes nothing like [`Engine::carry_out`]: any call but submit, terminate, step and
-    /// checkpoint.
+    /// Executes a call like [`Engine::carry_out`]. The call is one that publishes nothing: any but submit, terminate,
+    /// step and checkpoint.
     pub fn carry_out(&mut self, call: &Call) -> Reply
         requires { IsQuiet call.now }
         ensures answer { CallAnswers self.old.engine.view call.now result self.new.engine.view }
@@ -143,7 +143,7 @@ impl<N: DeskName> Desk<N> {
 
     /// Writes memory like [`Engine::write`].
     pub fn write(&mut self, addr: u32, bytes: &[u8]) -> Result<(), EngineFault>
-        ensures { Does self.old (Call.Write addr bytes.now) result self.new }
+        ensures { AnswersDone self.old (Call.Write addr bytes.now) result self.new }
     {
         self.engine.write(addr, bytes)
     }
@@ -176,14 +176,14 @@ impl<N: DeskName> Desk<N> {
 
     /// Pauses a channel like [`Engine::pause`].
     pub fn pause(&mut self, ch: u8) -> Result<(), EngineFault>
-        ensures { Does self.old (Call.Pause ch) result self.new }
+        ensures { AnswersDone self.old (Call.Pause ch) result self.new }
     {
         self.engine.pause(ch)
     }
 
     /// Resumes a channel like [`Engine::resume`].
     pub fn resume(&mut self, ch: u8) -> Result<(), EngineFault>
-        ensures { Does self.old (Call.Resume ch) result self.new }
+        ensures { AnswersDone self.old (Call.Resume ch) result self.new }
     {
         self.engine.resume(ch)
     }
@@ -206,34 +206,34 @@ impl<N: DeskName> Desk<N> {
 
     /// Marks a range like [`Engine::mark`].
     pub fn mark(&mut self, kind: MarkKind, segment: Segment) -> Result<(), EngineFault>
-        ensures { Does self.old (Call.Mark kind segment) result self.new }
+        ensures { AnswersDone self.old (Call.Mark kind segment) result self.new }
     {
         self.engine.mark(kind, segment)
     }
 
     /// Removes all marks like [`Engine::unmark`].
     pub fn unmark(&mut self) -> Result<(), EngineFault>
-        ensures { Does self.old Call.Unmark result self.new }
+        ensures { AnswersDone self.old Call.Unmark result self.new }
     {
         self.engine.unmark()
     }
 
     /// Sets the flag of an event like [`Engine::raise`].
     pub fn raise(&mut self, event: u8) -> Result<(), EngineFault>
-        ensures { Does self.old (Call.Raise event) result self.new }
+        ensures { AnswersDone self.old (Call.Raise event) result self.new }
     {
         self.engine.raise(event)
     }
 
-    /// Drops the history like [`Engine::checkpoint`]. It publishes nothing, and the book and what readers know stay.
-    /// What was published then comes before the ticks of the new history.
+    /// Drops the history like [`Engine::checkpoint`]. It publishes nothing, and doesn't change the book or what readers
+    /// know. The ticks published so far come before those of the new history.
     pub fn checkpoint(&mut self) -> Result<(), EngineFault>
         ensures answer { CallAnswers self.old.engine.view Call.Checkpoint
             (reply_of (λ _. Reply.Done) result) self.new.engine.view }
         ensures book { self.new.book ≡ self.old.book }
         ensures published { published self.new ≡ published self.old }
         ensures before { IfOk result (λ _. self.new.before ≡ published self.old) }
-        ensures room { IfOk result (λ _. HasGivenBack self.new.engine) }
+        ensures room { IfOk result (λ _. HasNoSpare self.new.engine) }
         ensures same { OnErr result (self.new ≡ self.old) }
     {
         // gives the proof access to the engine's invariant
@@ -243,12 +243,12 @@ impl<N: DeskName> Desk<N> {
         Ok(())
     }
 
-    /// Takes a step like [`Engine::step`], and counts it in the book and in the tally: one step for `Moved` and for
-    /// `Finished`, one finish for `Finished`, and one turn for each call. The tally has fewer than 2^64 - 1 turns.
+    /// Takes a step like [`Engine::step`], and counts it in the book and in the tally: a step for `Moved`, a step and a
+    /// finish for `Finished`. The tally also counts a turn for each call; it has fewer than 2^64 - 1 turns before.
     ///
-    /// Only a step that finishes a cookie publishes. A refusal changes nothing but the tally's turns.
+    /// Only a step that finishes a cookie publishes. A refused step changes nothing but the tally's number of turns.
     pub fn step<R: Wait>(&mut self, rt: &R, ch: u8, tally: &mut Tally) -> Result<Turn, EngineFault>
-        requires { tally.old.turns < 18446744073709551615 }
+        requires { tally.old.turns < u64.MAX }
         ensures answer { StepAnswers self.old.engine.view ch result self.new.engine.view }
         ensures book { self.new.book ≡ stepped_book self.old.book result }
         ensures before { self.new.before ≡ self.old.before }
@@ -266,8 +266,8 @@ impl<N: DeskName> Desk<N> {
         answer
     }
 
-    /// Submits a transfer like [`Engine::submit`]. The receipt has the cookie and a ticket for the published list, in
-    /// which it is given.
+    /// Submits a transfer like [`Engine::submit`]. The receipt has the cookie, and a ticket for a published list in
+    /// which the cookie is given.
     pub fn submit<R: Wait>(
         &mut self,
         rt: &R,
@@ -302,7 +302,7 @@ impl<N: DeskName> Desk<N> {
     }
 
     /// Terminates a channel like [`Engine::terminate`]. Returns the number of aborted cookies, the last cookie given,
-    /// and a ticket for the published list, in which each cookie of the channel up to that one is finished.
+    /// and a ticket for a published list in which each cookie of the channel up to the last one is finished.
     pub fn terminate<R: Wait>(&mut self, rt: &R, ch: u8) -> Result<Closed<N>, EngineFault>
         ensures ok { IfOk result (λ r. (r.ch ≡ ch) × CallAnswers self.old.engine.view
             (Call.Terminate ch) (Reply.Count r.count) self.new.engine.view) }
@@ -311,7 +311,7 @@ impl<N: DeskName> Desk<N> {
         ensures ticket { IfOk result (λ r. r.ticket ≡ published self.new) }
         ensures err { IfErr result (λ fault. CallAnswers self.old.engine.view
             (Call.Terminate ch) (Reply.Refused fault) self.new.engine.view) }
-        // what is terminated is counted apart
+        // terminated cookies are counted separately
         ensures book { IfOk result (λ r. self.new.book
             ≡ record (self.old.book) { terminated = self.old.book.terminated + r.count }) }
         ensures same { IfErr result (λ _. self.new.book ≡ self.old.book) }
@@ -339,7 +339,7 @@ impl<N: DeskName> Desk<N> {
         })
     }
 
-    // Ends the desk, and returns its engine as it is, with the book. Readers see nothing from then on.
+    // Ends the desk, and returns its unchanged engine and its book. Readers see nothing from then on.
     fn into_parts<R: Wait>(self, rt: &R) -> (Engine, Totals)
         ensures engine { result.0 ≡ self.engine }
         ensures book { result.1 ≡ self.book }
@@ -361,7 +361,7 @@ impl<N: DeskName> Desk<N> {
         (engine, book)
     }
 
-    /// Ends the desk, and returns its engine as it is. Readers see nothing from then on.
+    /// Ends the desk, and returns its unchanged engine. Readers see nothing from then on.
     pub fn close<R: Wait>(self, rt: &R) -> Engine
         ensures engine { result ≡ self.engine }
         ensures sound { IsSound result.view }
@@ -370,8 +370,8 @@ impl<N: DeskName> Desk<N> {
         self.into_parts(rt).0
     }
 
-    /// Ends the desk if the tallies' steps and finishes add up to those of its book, and returns its engine as it is,
-    /// with the totals. Otherwise it returns the desk.
+    /// Ends the desk if the tallies' steps and finishes add up to those of its book, and returns its unchanged engine
+    /// and its book. Otherwise it returns the desk.
     pub fn settle<R: Wait>(self, rt: &R, tallies: &[Tally]) -> Result<(Engine, Totals), Desk<N>>
         ensures engine { IfOk result (λ r. (r.0 ≡ self.engine) × (r.1 ≡ self.book)) }
         ensures settled { IfOk result (λ r. IsSettled N.steps N.finished tallies.now r.0 r.1) }

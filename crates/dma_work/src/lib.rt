@@ -1,15 +1,15 @@
-//! The running controller: a desk behind one lock, workers that step its channels, their tallies, and readers that ask
-//! for a status without the lock.
+//! The running controller: a desk behind one lock, workers that step its channels, their tallies, and readers that
+//! return the status of cookies without the lock.
 //!
-//! Contracts see a [`Desk`] as its engine, its book and what is published, a reader as the list of ticks that it has
-//! seen.
+//! Contracts see a [`Desk`] as its engine, its book of totals and its published ticks; a reader as the ticks that it
+//! has seen and those that it has learnt.
 //!
-//! Proved: a method of the desk is the engine's own answer, and publishes the tick of a finish or a submit after it
-//! (`Desk`); a worker steps the channels of its job in rotation, once each turn, and does nothing else ([`work`]); the
-//! tallies and the book count each step once (`settle`); a status is that of a published list which begins with all
-//! that the reader has seen and learnt (`StatusReader::status`, `laws::statuses_last`).
+//! Proved: a method of the desk returns the engine's own answer, and publishes the tick of a finish, a submit or a
+//! terminate after it (`Desk`); a worker steps the channels of its job in rotation, one for each turn, and does nothing
+//! else ([`work`]); the tallies and the book count each step once (`settle`); a status is that of a published list that
+//! begins with all that the reader has seen and learnt (`StatusReader::status`, `laws::statuses_stay_true`).
 //!
-//! Not proved: progress; that workers run at the same time; what a lock holds when it is taken.
+//! Not proved: progress; that workers run at the same time; which desk a lock holds when it is taken.
 #![tactic(auto)]
 
 mod board;

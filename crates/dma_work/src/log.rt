@@ -2,7 +2,7 @@
 
 ghost use Rattle.std.specs.Prelude.{◌≡◌, ◌+◌, ◌<◌, [], ◌∷◌, ◌++◌, ◌≤◌, ◌↔◌, false, length, IsTrue};
 ghost use Rattle.dma_engine.specs.Ticks.{ticks_of};
-ghost use Rattle.dma_work.specs.inner.Published.{head_of, those, with_tick};
+ghost use Rattle.dma_work.specs.inner.Published.{head_of, ticks_of_option, with_tick};
 ghost use Rattle.dma_work.specs.inner.TickForms.{tick_of};
 ghost use Rattle.dma_work.specs.Ticks.{StartsWith};
 
@@ -14,9 +14,9 @@ use std::sync::Wait;
 /// What happened on a channel.
 #[derive(Clone, Copy, PartialEq, Eq)]
 pub(crate) enum Change {
-    /// It gave its next cookie.
+    /// The channel gave its next cookie.
     Given,
-    /// This many of its cookies finished.
+    /// This many of the channel's cookies finished.
     Finished(u32),
 }
 
@@ -46,9 +46,9 @@ impl Tick {
         Tick { ch, change }
     }
 
-    /// Returns the tick of an entry of a history, if it has one.
+    /// Returns the tick of a history's entry, or `None` if it has none.
     pub fn of(entry: &Entry) -> Option<Tick>
-        ensures { those result ≡ ticks_of (entry.now ∷ []) }
+        ensures { ticks_of_option result ≡ ticks_of (entry.now ∷ []) }
     {
         match entry {
             Entry::Submitted { ch, .. } => Some(Tick::new(*ch, Change::Given)),
@@ -59,7 +59,7 @@ impl Tick {
     }
 }
 
-// The rule of the log, and the step that adds a tick, for which its client gains nothing.
+// The rule of the log, and the step that adds a tick. The step gives its caller no other facts.
 struct Law;
 
 impl Rule<Tick, u64> for Law {
@@ -100,8 +100,8 @@ impl Plain<Tick, Tick, u64> for Law {
     ghost state = { λ tick. None };
 }
 
-/// The ticks that the log had at some time. It has no memory of its own, can be copied and compared, and outlives the
-/// lock.
+/// The ticks that the log had at some time. A snapshot allocates nothing, can be copied and compared, and is valid
+/// without the lock.
 #[derive(Drop)]
 pub(crate) struct Snapshot {
     // the number of ticks
@@ -142,7 +142,7 @@ impl Snapshot {
         }
     }
 
-    /// Returns whether this snapshot of a log is no longer than another one. The shorter of two begins the longer.
+    /// Returns whether this snapshot of a log is no longer than another one. The longer one then begins with this one.
     pub fn is_within(&self, other: &Snapshot) -> bool
         requires { self.now.log ≡ other.now.log }
         ensures len { IsTrue result ↔ (length self.now.ticks ≤ length other.now.ticks) }
@@ -154,16 +154,16 @@ impl Snapshot {
         self.len <= other.len
     }
 
-    /// Returns whether this snapshot of a log begins the list of an earlier one with the next tick, if any.
+    /// Returns true only if the ticks of `before`, followed by `next`, if any, begin with this snapshot.
     pub fn is_within_next(&self, before: &Snapshot, next: Option<Tick>) -> bool
         requires { self.now.log ≡ before.now.log }
-        ensures { IsTrue result → StartsWith (before.now.ticks ++ those next) self.now.ticks }
+        ensures { IsTrue result → StartsWith (before.now.ticks ++ ticks_of_option next) self.now.ticks }
     {
         self.is_within(before) || (self.len == before.len + 1 && self.last == next)
     }
 }
 
-/// The log, with the right to add ticks. Contracts see all of its ticks.
+/// The log, and the right to add ticks to it. Contracts see all of its ticks.
 #[derive(Drop)]
 pub(crate) struct TickLog {
     head: Word<Tick, u64, Law>,
@@ -182,7 +182,7 @@ impl Model for TickLog {
 }
 
 impl TickLog {
-    /// Returns a log with no ticks.
+    /// Returns an empty log.
     pub fn new() -> TickLog
         ensures { result.ticks ≡ [] }
     {
@@ -197,26 +197,27 @@ impl TickLog {
         }
     }
 
-    /// Returns a snapshot of the log as it is.
+    /// Returns a snapshot of the log's present ticks.
     pub fn snapshot(&self) -> Snapshot
         ensures { result ≡ self.now }
     {
         self.all.copy()
     }
 
-    /// Adds a tick. It would wait forever if another thread had added one, but the word is private to this value.
+    /// Adds a tick. No other thread can add one at the same time, since the word is private to this value; if one did,
+    /// this would wait forever.
     pub fn record<R: Wait>(&mut self, rt: &R, tick: Tick)
-        requires { length self.old.ticks < 18446744073709551615 }
+        requires { length self.old.ticks < u64.MAX }
         ensures { self.new ≡ with_tick self.old tick }
     {
         self.all = added(rt, &self.head, &self.all, tick);
     }
 }
 
-// Adds a tick to the log, and returns all of it.
+// Adds a tick to the log, and returns a snapshot of all its ticks.
 fn added<R: Wait>(rt: &R, head: &Word<Tick, u64, Law>, all: &Snapshot, tick: Tick) -> Snapshot
     requires head { head.now ≡ head_of all.now.log }
-    requires few { length all.now.ticks < 18446744073709551615 }
+    requires few { length all.now.ticks < u64.MAX }
     ensures { result ≡ with_tick all.now tick }
 {
     let mut offer: Offer<Tick, u64, Law, Law> = all.seen.plain::<Law, Tick, Law>(&tick);

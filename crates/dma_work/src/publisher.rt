@@ -1,4 +1,4 @@
-//! An engine with the publisher of its ticks, the writer of what status readers see.
+//! The publisher of an engine's ticks, which writes what status readers see, and the parts of which a desk is made.
 
 ghost use Rattle.std.specs.Prelude.{◌≡◌, ◌<◌, ◌≤◌, ◌↔◌, ◌^◌, [], ◌∷◌, ◌++◌, Some, IfSome, OnSome, IfOk, IfErr, OnOk, IsTrue, true, false, drop, length, vec_len};
 ghost use Rattle.std.specs.List.{All};
@@ -9,7 +9,7 @@ ghost use Rattle.dma_engine.specs.Ticks.{ticks_of};
 ghost use Rattle.dma_engine.specs.Turn.{ends, turn};
 ghost use Rattle.dma_work.specs.Known.{Known, knows};
 ghost use Rattle.dma_work.specs.Laws.{AreCounts};
-ghost use Rattle.dma_work.specs.inner.Published.{HasActed, Later, board_and, board_with, newest, snapshot_of};
+ghost use Rattle.dma_work.specs.inner.Published.{HasActed, IsLaterBoard, board_and, board_with, newest, snapshot_of};
 ghost use Rattle.dma_work.specs.Ticks.{base_of, board_from};
 
 use crate::board::{Board, BoardWriter, Counts, Published};
@@ -22,7 +22,7 @@ use std::alloc::Global;
 use std::marker::Model;
 use std::sync::Wait;
 
-// A new reader takes over what the writer has seen.
+// A new reader has seen what the writer has seen.
 impl Split<Option<Board>> for Published {
     ghost left = { λ v. v };
 
@@ -37,7 +37,7 @@ impl Join<Option<Board>> for Published {
     ghost spent = { None };
 }
 
-/// Publishes a list of ticks, one more at a time.
+/// Publishes a growing list of ticks.
 pub(crate) struct Publisher {
     writer: BoardWriter,
     log: TickLog,
@@ -64,7 +64,7 @@ impl Model for Publisher {
 
 // Publishes what is pending.
 fn shown<R: Wait>(rt: &R, writer: BoardWriter) -> BoardWriter
-    requires { Later writer.desk.shown.value
+    requires { IsLaterBoard writer.desk.shown.value
         (newest writer.desk.shown.value (drop writer.behind writer.log.items)) }
     ensures shown { result.desk.shown.value
         ≡ newest writer.desk.shown.value (drop writer.behind writer.log.items) }
@@ -78,7 +78,7 @@ fn shown<R: Wait>(rt: &R, writer: BoardWriter) -> BoardWriter
 
 // Records the tick of an entry, if it has one, and adds it to the counts.
 fn record_one<R: Wait>(rt: &R, log: &mut TickLog, counts: &mut Counts, entry: &Entry)
-    requires { length log.old.ticks < 18446744073709551615 }
+    requires { length log.old.ticks < u64.MAX }
     ensures log { log.new
         ≡ record { log = log.old.log; ticks = log.old.ticks ++ ticks_of (entry.now ∷ []) } }
     ensures counts { counts.new ≡ board_from counts.old (ticks_of (entry.now ∷ [])) }
@@ -89,10 +89,11 @@ fn record_one<R: Wait>(rt: &R, log: &mut TickLog, counts: &mut Counts, entry: &E
     }
 }
 
-// Records the ticks of an engine's history. Returns the counts that they sum up to from these on.
+// Records the ticks of an engine's history. Returns the counts that they add up to, starting from `base`.
 fn record_all<R: Wait>(rt: &R, log: &mut TickLog, base: Counts, engine: &Engine) -> Counts
     requires { log.old.ticks ≡ [] }
-    ensures log { log.new ≡ record { log = log.old.log; ticks = ticks_of engine.now.view.history } }
+    ensures log { log.new
+        ≡ record { log = log.old.log; ticks = ticks_of engine.now.view.history } }
     ensures counts { result ≡ board_from base log.new.ticks }
     ensures small { AreCounts (base_of engine.now.view) }
 {
@@ -105,8 +106,7 @@ fn record_all<R: Wait>(rt: &R, log: &mut TickLog, base: Counts, engine: &Engine)
 }
 
 impl Publisher {
-    /// Publishes the ticks of an engine's history to as many readers as there are places. Returns `None` if it is out
-    /// of memory.
+    /// Publishes the ticks of an engine's history, for at most `places` readers. Returns `None` if it is out of memory.
     pub fn new<R: Wait>(rt: &R, alloc: Global, engine: &Engine, places: usize) -> Option<Publisher>
         requires { (0 < places) × (places < 2 ^ 32) }
         ensures shown { IfSome result (λ p. (p.shown.base ≡ base_of engine.now.view)
@@ -123,7 +123,7 @@ impl Publisher {
         let Ok(mut writer) = BoardWriter::new(alloc, first, second, places) else {
             return None;
         };
-        // The writer has then seen the board, and can pass that on to readers.
+        // After the same board is published, the writer has seen it, and so has each new reader.
         let Ok(()) = writer.append(same) else {
             writer.take(rt);
             return None;
@@ -136,8 +136,8 @@ impl Publisher {
         })
     }
 
-    /// Returns a reader that has seen what is published, or `None` if no place for it is free or its count of owners is
-    /// full.
+    /// Returns a reader that has seen what is published, or `None` if no place is free or the count of owners is at its
+    /// maximum.
     pub fn reader(&mut self) -> Option<StatusReader>
         ensures seen { IfSome result (λ r.
             r ≡ knows self.old.shown.base self.old.shown.log self.old.shown.ticks) }
@@ -148,11 +148,11 @@ impl Publisher {
         Some(StatusReader::new(reader, self.log.snapshot()))
     }
 
-    /// Allocates what it takes to publish one more tick, and returns whether it could. It can't if it is out of memory,
-    /// or has published 2^64 - 1 ticks.
+    /// Allocates what the publication of one more tick needs. Returns false if it is out of memory, or has published
+    /// 2^64 - 1 ticks; then nothing changes.
     pub fn ready(&mut self, tick: Tick) -> bool
         requires { self.old.pending ≡ [] }
-        ensures few { IsTrue result → length self.new.shown.ticks < 18446744073709551615 }
+        ensures few { IsTrue result → length self.new.shown.ticks < u64.MAX }
         ensures ready { IsTrue result
             → self.new ≡ record (self.old) { pending = board_with self.old.shown tick ∷ [] } }
         ensures same { result ≡ false → self.new ≡ self.old }
@@ -165,11 +165,11 @@ impl Publisher {
         self.writer.append(next).is_ok()
     }
 
-    /// Publishes the tick that was made ready, then records it in the log, and returns a snapshot. The engine has acted
-    /// by then. It waits for readers that still look at the board before the last one.
+    /// Publishes the tick that was made ready, then records it in the log, and returns a snapshot. The engine has
+    /// already added the tick to its history. It waits for readers that still use the board from before the last one.
     pub fn publish<R: Wait>(&mut self, rt: &R, tick: Tick, _engine: &Engine) -> Snapshot
         requires pending { self.old.pending ≡ board_with self.old.shown tick ∷ [] }
-        requires few { length self.old.shown.ticks < 18446744073709551615 }
+        requires few { length self.old.shown.ticks < u64.MAX }
         requires acted { HasActed self.old _engine.now.view tick }
         ensures published { self.new
             ≡ record (self.old) { shown = board_with self.old.shown tick; pending = [] } }
@@ -182,8 +182,8 @@ impl Publisher {
         self.log.snapshot()
     }
 
-    /// Takes a step of an engine that finishes a cookie, and publishes it. It allocates first, so that nothing changes
-    /// if it is out of memory.
+    /// Takes a step of an engine that finishes a cookie, and publishes its tick. It allocates everything first, so that
+    /// nothing changes if it is out of memory.
     pub fn step(&mut self, rt: &impl Wait, engine: &mut Engine, ch: u8) -> Result<Turn, EngineFault>
         requires ends { ends (turn engine.old.view ch).0 ≡ true }
         requires pending { self.old.pending ≡ [] }
@@ -204,14 +204,14 @@ impl Publisher {
         Ok(turn)
     }
 
-    /// Begins another history. What was published comes before its ticks.
+    /// Begins a new history. The ticks published so far come before those of the new history.
     pub fn begin_again(&mut self)
         ensures { self.new ≡ record (self.old) { before = self.old.shown.ticks } }
     {
         self.before = self.log.snapshot();
     }
 
-    /// Ends it. Readers see nothing from then on.
+    /// Ends the publisher. Readers see nothing from then on.
     pub fn end<R: Wait>(self, rt: &R) {
         let Publisher {
             writer,
@@ -222,10 +222,10 @@ impl Publisher {
     }
 }
 
-/// The maximum number of status readers (profile).
+/// The most status readers (profile).
 pub const MAX_READERS: usize = 8;
 
-/// An engine, and a publisher that has published the ticks of its history. A `Desk` or a `Shared` is made of it.
+/// An engine, and a publisher that has published the ticks of its history. They become a `Desk` or a `Shared`.
 pub struct Parts {
     pub(crate) engine: Engine,
     pub(crate) publisher: Publisher,
@@ -265,20 +265,20 @@ pub enum ShareFaultKind {
     NoMemory,
 }
 
-/// No parts were made of an engine.
+/// Why no parts were made, with the engine.
 #[derive(Drop)]
 pub struct ShareFault {
-    /// Why.
+    /// The reason.
     pub fault: ShareFaultKind,
-    /// The engine, as it was.
+    /// The unchanged engine.
     pub engine: Engine,
 }
 
 impl Parts {
     /// Publishes the ticks of the engine's history, and returns `readers` readers that have seen them.
     ///
-    /// The fault is `BadReaders` above [`MAX_READERS`], else `NoMemory`, or `NoReader` if no place for a reader was
-    /// free.
+    /// The fault is `BadReaders` for more than [`MAX_READERS`]; else `NoMemory`, or `NoReader` if no place for a reader
+    /// was free.
     pub fn new<R: Wait>(
         rt: &R,
         alloc: Global,
@@ -291,7 +291,8 @@ impl Parts {
         ensures count { IfOk result (λ r. (vec_len r.1 ≡ readers) × (readers ≤ 8)) }
         ensures readers { IfOk result (λ r. All (λ (s : Known).
             s ≡ knows r.0.base r.0.log (ticks_of engine.view.history)) r.1.items) }
-        ensures fault { IfErr result (λ f. (f.fault ≡ ShareFaultKind.BadReaders) ↔ (8 < readers)) }
+        ensures fault { IfErr result
+            (λ f. (f.fault ≡ ShareFaultKind.BadReaders) ↔ (8 < readers)) }
         ensures back { IfErr result (λ f. f.engine ≡ engine) }
     {
         match published(rt, alloc, &engine, readers) {

@@ -2,7 +2,7 @@
 
 ghost use Rattle.std.specs.Prelude.{◌≡◌, ◌⊎◌, Some, IfSome};
 ghost use Rattle.left_right.specs.Sides.{view};
-ghost use Rattle.dma_work.specs.inner.Published.{Later, known_by, seen_board};
+ghost use Rattle.dma_work.specs.inner.Published.{IsLaterBoard, known_by, seen_board};
 ghost use Rattle.dma_work.specs.Ticks.{AreFinished, IsGiven, StartsWith, status_after};
 
 use crate::board::{BoardReader, Published};
@@ -12,7 +12,7 @@ use core::mem::replace_with;
 use dma_engine::Status;
 use std::marker::{Model, PhantomData};
 
-/// A published list of ticks. Contracts see its ticks.
+/// A ticket for a published list of ticks. Contracts see the ticks.
 #[derive(Drop)]
 pub struct Ticket<N: DeskName> {
     list: Snapshot,
@@ -42,7 +42,7 @@ impl<N: DeskName> Ticket<N> {
     }
 }
 
-/// What an accepted submit returns. In the ticket's list the cookie is given.
+/// What an accepted submit returns. The cookie is given in the ticket's list.
 #[derive(Drop)]
 pub struct Receipt<N: DeskName> {
     /// The channel.
@@ -54,7 +54,7 @@ pub struct Receipt<N: DeskName> {
     pub ghost used: { IsGiven N.base ticket ch cookie },
 }
 
-/// What an accepted terminate returns. In the ticket's list each cookie of the channel up to `through` is given and
+/// What an accepted terminate returns. In the ticket's list, each cookie of the channel up to `through` is given and
 /// finished.
 #[derive(Drop)]
 pub struct Closed<N: DeskName> {
@@ -69,8 +69,8 @@ pub struct Closed<N: DeskName> {
     pub ghost finished: { AreFinished N.base ticket ch through },
 }
 
-/// Returns the status of cookies and waits for nobody. Contracts see the ticks that it has seen, and those that it has
-/// learnt.
+/// Returns the status of cookies, without waiting for another thread. Contracts see the ticks that it has seen, and
+/// those that it has learnt.
 #[derive(Drop)]
 pub struct StatusReader {
     reader: BoardReader,
@@ -87,16 +87,17 @@ impl Model for StatusReader {
 
     ghost view = { λ r. known_by (seen_board (seen_by r.reader.place)) r.learnt };
 
-    ghost invariant = { λ r. (seen_by r.reader.place ≡ Some (seen_board (seen_by r.reader.place)))
+    ghost invariant = { λ r.
+        (seen_by r.reader.place ≡ Some (seen_board (seen_by r.reader.place)))
         × ((seen_board (seen_by r.reader.place)).log ≡ r.learnt.log) };
 }
 
-// Returns the status of a cookie on the board that is published, if the board begins with a list.
+// Returns the status of a cookie on the published board, or `None` unless the board's list begins with `list`.
 fn look(reader: BoardReader, list: &Snapshot, ch: u8, cookie: u32) -> (BoardReader, Option<Status>)
     requires there { view reader.place ≡ Some (seen_board (view reader.place)) }
     requires log { (seen_board (view reader.place)).log ≡ list.now.log }
     ensures there { view result.0.place ≡ Some (seen_board (view result.0.place)) }
-    ensures later { Later (seen_board (view reader.place)) (seen_board (view result.0.place)) }
+    ensures later { IsLaterBoard (seen_board (view reader.place)) (seen_board (view result.0.place)) }
     ensures covers { IfSome result.1 (λ s.
         StartsWith (seen_board (view result.0.place)).ticks list.now.ticks) }
     ensures some { IfSome result.1 (λ s. s ≡ status_after (seen_board (view result.0.place)).base
@@ -112,7 +113,7 @@ fn look(reader: BoardReader, list: &Snapshot, ch: u8, cookie: u32) -> (BoardRead
 }
 
 impl StatusReader {
-    /// Returns a reader that has learnt a snapshot of the log of the board that it has seen.
+    /// Returns a reader that has learnt a snapshot. The snapshot is of the log of the board that the reader has seen.
     pub(crate) fn new(reader: BoardReader, learnt: Snapshot) -> StatusReader
         requires there { view reader.place ≡ Some (seen_board (view reader.place)) }
         requires log { (seen_board (view reader.place)).log ≡ learnt.log }
@@ -121,7 +122,7 @@ impl StatusReader {
         StatusReader { reader, learnt }
     }
 
-    /// Learns a ticket: from then on each status is that of a list which begins with the ticket's. N names this
+    /// Learns a ticket: from then on each status is that of a list that begins with the ticket's list. N names this
     /// reader's list.
     pub fn learn<N: DeskName>(&mut self, ticket: Ticket<N>)
         requires { (N.log ≡ self.old.log) × (N.base ≡ self.old.base) }
@@ -137,16 +138,17 @@ impl StatusReader {
         }
     }
 
-    /// Returns the status of a cookie after some published ticks, which begin with all that this reader has seen or
-    /// learnt, and which it has seen from then on. It may return `None` once the desk has ended, and does so at no
-    /// other time, as tests show.
+    /// Returns the status of a cookie after some published ticks. They begin with all ticks that this reader has seen
+    /// or learnt, and the reader has seen them from then on. It may return `None` once the desk has ended; that it does
+    /// so at no other time is tested, not proved.
     ///
-    /// It waits for nobody and allocates nothing.
+    /// It waits for no other thread and allocates nothing.
     pub fn status(&mut self, ch: u8, cookie: u32) -> Option<Status>
         ensures same { self.new ≡ record (self.old) { seen = self.new.seen } }
         ensures later { StartsWith self.new.seen self.old.seen }
         ensures covers { IfSome result (λ s. StartsWith self.new.seen self.old.learnt) }
-        ensures some { IfSome result (λ s. s ≡ status_after self.old.base self.new.seen ch cookie) }
+        ensures some { IfSome result
+            (λ s. s ≡ status_after self.old.base self.new.seen ch cookie) }
     {
         replace_with(
             &mut self.reader,

@@ -1,6 +1,6 @@
-//! A desk behind a lock, and the workers that share it, each in a thread.
+//! A desk behind a lock, and the workers that share it, each in its own thread.
 
-ghost use Rattle.std.specs.Prelude.{◌≡◌, ◌<◌, ◌≤◌, ℕ, IfOk, IfErr, length, vec_capacity, vec_len};
+ghost use Rattle.std.specs.Prelude.{◌≡◌, ◌<◌, ◌≤◌, ◌^◌, ℕ, IfOk, IfErr, length, vec_capacity, vec_len};
 ghost use Rattle.dma_engine.specs.View.{IsSound, memory_of};
 ghost use Rattle.dma_work.specs.Desk.{Differ, IsSettled, Names};
 ghost use Rattle.dma_work.specs.Tallies.{AreTallies};
@@ -15,14 +15,15 @@ use std::alloc::Global;
 use std::sync::{Mutex, Wait};
 use std::thread::{self, Promise, PromisedHandle, Scope, Threads};
 
-/// A desk that threads share. Whoever has the lock uses the desk's methods; what its type keeps holds each time.
+/// A desk that threads share. A thread that has the lock uses the desk's methods; the desk's invariant holds each time.
 ///
-/// End a guard by `MutexGuard::unlock` before anything that may leave the function, and hold one at a time.
+/// End a guard with `MutexGuard::unlock` before anything that may return from the function, and hold one guard at a
+/// time.
 pub struct Shared<N: DeskName> {
     desk: Mutex<Desk<N>>,
 }
 
-/// The tallies don't add up to the book of the desk.
+/// The error of `settle`: the tallies don't add up to the book of the desk.
 pub struct MissingTally<N: DeskName> {
     /// The desk, behind its lock.
     pub shared: Shared<N>,
@@ -33,7 +34,7 @@ pub struct MissingTally<N: DeskName> {
 }
 
 impl<N: DeskName> Shared<N> {
-    /// Returns a desk over these parts, behind a lock. N names the parts.
+    /// Returns a desk of these parts behind a lock. N names the parts.
     pub fn new(parts: Parts) -> Shared<N>
         requires { Names N.steps N.finished N.base N.log parts }
     {
@@ -47,12 +48,12 @@ impl<N: DeskName> Shared<N> {
         &self.desk
     }
 
-    /// Returns a lender of the desk for one use at a time, as a [`Worker`](crate::Worker) needs it.
+    /// Returns a lender of the desk for one use at a time, which a [`Worker`](crate::Worker) needs.
     pub fn lent(&self) -> Locked<'_, Desk<N>> {
         Locked { lock: &self.desk }
     }
 
-    /// Ends the desk, and returns its engine as it is. Readers see nothing from then on.
+    /// Ends the desk, and returns its unchanged engine. Readers see nothing from then on.
     pub fn close<R: Wait>(self, rt: &R) -> Engine
         ensures sound { IsSound result.view }
         ensures memory { result.memory ≡ memory_of result.view }
@@ -84,7 +85,7 @@ pub fn settle<N: DeskName, R: Wait>(
     tallies: Vec<Tally>,
 ) -> Result<(Engine, Totals), MissingTally<N>>
     ensures settled { IfOk result (λ r. IsSettled N.steps N.finished tallies.items r.0 r.1) }
-    // A tally is missing, or one counts what was not done.
+    // A tally is missing, or one counts a step that was not done.
     ensures missing { IfErr result (λ m. Differ tallies.items m.book) }
     ensures back { IfErr result (λ m. m.tallies ≡ tallies) }
 {
@@ -101,28 +102,28 @@ pub fn settle<N: DeskName, R: Wait>(
     }
 }
 
-// What the thread of a job promises: the tally of its worker, with the job's turns.
+// What the thread of a job guarantees of the tally that it returns: the worker's number and the job's turns.
 #[derive(Clone, Copy)]
-struct Worked {
+struct JobPromise {
     worker: u32,
     job: Job,
 }
 
-impl Promise<Tally> for Worked {
+impl Promise<Tally> for JobPromise {
     ghost use Rattle.std.specs.Prelude.{◌≡◌};
 
     ghost kept_by = { λ p t. (t.worker ≡ p.worker) × (t.turns ≡ p.job.turns) };
 }
 
-// A job that has begun in a thread, or one for which there is no thread.
+// A job that runs in a thread, or one that got no thread.
 #[derive(Drop)]
 enum Begun {
-    InThread(PromisedHandle<Tally, Worked>),
+    InThread(PromisedHandle<Tally, JobPromise>),
     Here(Tally),
 }
 
 impl Begun {
-    // Takes out the tally of the job once it has ended.
+    // Returns the tally of the job once it has ended.
     fn end<R: Threads>(&mut self, rt: &R) -> Tally
         ensures { (worker turns : ℕ) → IsOf self.old worker turns
             → (result.worker ≡ worker) × (result.turns ≡ turns) }
@@ -143,7 +144,7 @@ struct Crew<'a, N: DeskName, R, G> {
 }
 
 impl<'a, N: DeskName + Send + Sync, R: Threads + Wait + Sync, G: Gate> Crew<'a, N, R, G> {
-    // Takes the turns of a job, as a worker that has taken none.
+    // Takes the turns of a job, as a new worker.
     fn work(self, worker: u32, job: Job) -> Tally
         ensures { (result.worker ≡ worker) × (result.turns ≡ job.turns) }
     {
@@ -152,20 +153,20 @@ impl<'a, N: DeskName + Send + Sync, R: Threads + Wait + Sync, G: Gate> Crew<'a, 
         worker.into_tally()
     }
 
-    // Starts the thread of a job, if it can.
+    // Starts a thread for the job, if one can be started.
     fn begin<E>(self, scope: &Scope<'a, E>, worker: u32, job: Job) -> Begun
         ensures { IsBegun result worker job.turns }
     {
         let working = move || -> Tally
             ensures { (result.worker ≡ worker) × (result.turns ≡ job.turns) }
         { self.work(worker, job) };
-        match scope.spawn_with(Worked { worker, job }, working) {
+        match scope.spawn_with(JobPromise { worker, job }, working) {
             Ok(thread) => Begun::InThread(thread),
             Err(_) => Begun::Here(Tally::new(worker)),
         }
     }
 
-    // Does a job here if it got no thread.
+    // Does a job on this thread if it got no thread.
     fn work_here(self, begun: &mut Begun, worker: u32, job: Job)
         requires { IsBegun begun.old worker job.turns }
         ensures { IsOf begun.new worker job.turns }
@@ -175,7 +176,7 @@ impl<'a, N: DeskName + Send + Sync, R: Threads + Wait + Sync, G: Gate> Crew<'a, 
         }
     }
 
-    // Starts the threads of all jobs, does those that got none here, and joins the threads.
+    // Starts the threads of all jobs, does the jobs that got none on this thread, and joins the threads.
     fn work_all<E>(
         self,
         scope: &Scope<'a, E>,
@@ -183,7 +184,7 @@ impl<'a, N: DeskName + Send + Sync, R: Threads + Wait + Sync, G: Gate> Crew<'a, 
         mut begun: Vec<Begun>,
         mut tallies: Vec<Tally>,
     ) -> Vec<Tally>
-        requires few { length jobs.now < 4294967296 }
+        requires few { length jobs.now < 2 ^ 32 }
         requires empty { (vec_len begun ≡ 0) × (vec_len tallies ≡ 0) }
         requires room { (length jobs.now ≤ vec_capacity begun)
             × (length jobs.now ≤ vec_capacity tallies) }
@@ -203,9 +204,9 @@ impl<'a, N: DeskName + Send + Sync, R: Threads + Wait + Sync, G: Gate> Crew<'a, 
     }
 }
 
-/// Runs each job in its own thread, by a [`Worker`] numbered from 0, and returns the tallies in the order of the jobs.
-/// A job that gets no thread is done on the calling thread after the others were started. There are fewer than 2^32
-/// jobs.
+/// Runs each job in its own thread, as a [`Worker`] with the job's index as its number, and returns the tallies in the
+/// order of the jobs. A job that gets no thread is done on the calling thread after all other jobs were started. There
+/// are fewer than 2^32 jobs.
 ///
 /// Fails if it is out of memory, before any job has begun.
 pub fn run_workers<N: DeskName + Send + Sync, R: Threads + Wait + Sync, G: Gate>(
@@ -215,7 +216,7 @@ pub fn run_workers<N: DeskName + Send + Sync, R: Threads + Wait + Sync, G: Gate>
     jobs: &[Job],
     gate: &G,
 ) -> Result<Vec<Tally>, NoMemory>
-    requires { length jobs.now < 4294967296 }
+    requires { length jobs.now < 2 ^ 32 }
     ensures count { IfOk result (λ v. vec_len v ≡ length jobs.now) }
     ensures each { IfOk result (λ v. AreTallies v.items jobs.now) }
 {
@@ -225,7 +226,7 @@ pub fn run_workers<N: DeskName + Send + Sync, R: Threads + Wait + Sync, G: Gate>
         thread::scope_env(),
         rt,
         move |scope| -> Vec<Tally>
-            requires few { length jobs.now < 4294967296 }
+            requires few { length jobs.now < 2 ^ 32 }
             requires empty { (vec_len begun ≡ 0) × (vec_len tallies ≡ 0) }
             requires room { (length jobs.now ≤ vec_capacity begun)
                 × (length jobs.now ≤ vec_capacity tallies) }

@@ -1,6 +1,6 @@
 //! Workers: the tallies of their steps, the turns of their jobs, and the worker that borrows a desk for each step.
 
-ghost use Rattle.std.specs.Prelude.{◌≡◌, ◌+◌, ◌<◌, ◌≤◌, ◌↔◌, IfSome, IsSome, IsTrue, false};
+ghost use Rattle.std.specs.Prelude.{◌≡◌, ◌+◌, ◌<◌, ◌≤◌, ◌^◌, ◌↔◌, IfSome, IsSome, IsTrue, false};
 ghost use Rattle.dma_engine.specs.Laws.{finishes_in, steps_in};
 ghost use Rattle.dma_work.specs.Desk.{AddUp, Differ, counted, new_tally, stepped_book};
 ghost use Rattle.dma_work.specs.Rotation.{StepsInTurn, rotation};
@@ -17,12 +17,12 @@ pub struct Totals {
     pub steps: u64,
     /// The number of cookies that steps finished.
     pub finished: u64,
-    /// The number of cookies that terminates ended.
+    /// The number of cookies that terminates aborted.
     pub terminated: u64,
 }
 
-/// A worker's counts of the steps that took it. They are 0 at first, only a desk's step raises them, and it can't be
-/// copied.
+/// A worker's counts of the steps that it took. They start at 0, only the step of a desk increases them, and a tally
+/// can't be copied.
 #[derive(Drop)]
 pub struct Tally {
     worker: u32,
@@ -60,7 +60,7 @@ impl Tally {
 
     /// Counts one more turn, with its result.
     pub(crate) fn count(&mut self, answer: &Result<Turn, EngineFault>)
-        requires { self.old.turns < 18446744073709551615 }
+        requires { self.old.turns < u64.MAX }
         ensures { self.new ≡ counted answer.now self.old }
     {
         self.turns += 1;
@@ -74,7 +74,7 @@ impl Tally {
         self.worker
     }
 
-    /// Returns the number of steps that took it.
+    /// Returns the number of turns, refused steps included.
     pub fn turns(&self) -> u64
         ensures { result ≡ self.now.turns }
     {
@@ -99,8 +99,8 @@ impl Tally {
 impl Totals {
     /// Counts what the result of a step adds: a step for `Moved`, and a step and a finished cookie for `Finished`.
     pub(crate) fn count(&mut self, answer: &Result<Turn, EngineFault>)
-        requires steps { self.old.steps + steps_in answer.now < 18446744073709551616 }
-        requires finished { self.old.finished + finishes_in answer.now < 18446744073709551616 }
+        requires steps { self.old.steps + steps_in answer.now < 2 ^ 64 }
+        requires finished { self.old.finished + finishes_in answer.now < 2 ^ 64 }
         ensures { self.new ≡ stepped_book self.old answer.now }
     {
         match answer {
@@ -113,12 +113,12 @@ impl Totals {
         }
     }
 
-    /// Returns whether the tallies' steps and finishes add up to these.
+    /// Returns whether the tallies' steps and finishes add up to these totals.
     pub(crate) fn are_sums_of(&self, tallies: &[Tally]) -> bool
         ensures yes { IsTrue result → AddUp tallies.now self.now }
         ensures no { result ≡ false → Differ tallies.now self.now }
     {
-        // What is left is subtracted from, since a sum could wrap.
+        // Each tally is subtracted from what remains, since a sum could wrap.
         let (mut steps, mut finishes) = (self.steps, self.finished);
         for tally in tallies {
             if steps < tally.counts.steps || finishes < tally.counts.finished {
@@ -160,7 +160,7 @@ impl Job {
     }
 }
 
-/// What a worker passes before each of its turns, without the lock. It may wait.
+/// A gate that a worker passes before each of its turns, without the lock. It may wait.
 pub trait Gate: Sync {
     /// Called when worker `worker` is about to take its turn `n`, the first of which is 1.
     fn turn<R: Wait>(&self, rt: &R, worker: u32, n: u64);
@@ -175,8 +175,8 @@ impl Gate for NoGate {
     fn turn<R: Wait>(&self, _rt: &R, _worker: u32, _n: u64) {}
 }
 
-/// Takes the turns of a worker, each of which steps one channel. Contracts see its worker's number, how many turns it
-/// took, and what a turn of a channel does to it.
+/// Takes the turns of a worker, each of which steps one channel. Contracts see the worker's number, how many turns it
+/// has taken, and the effect of a turn on a channel.
 pub trait Stepper {
     ghost use Rattle.std.specs.Prelude.{ℕ};
 
@@ -190,18 +190,19 @@ pub trait Stepper {
     fn worker(&self) -> u32
         ensures { result ≡ worker self.now };
 
-    /// Takes a turn, which steps a channel. It took fewer than 2^64 - 1 before.
+    /// Takes a turn, which steps a channel. Fewer than 2^64 - 1 turns were taken before.
     fn turn<R: Wait>(&mut self, rt: &R, ch: u8)
-        requires { taken self.old < 18446744073709551615 }
+        requires { taken self.old < u64.MAX }
         ensures worker { worker self.new ≡ worker self.old }
         ensures taken { taken self.new ≡ taken self.old + 1 }
         ensures acts { acts self.old ch self.new };
 }
 
-/// Takes the job's turns, with those taken before at most 2^64 - 1. In each it passes the gate, and then lets the
-/// stepper step one channel, the job's channels in rotation from the first (profile). The stepper does nothing else.
+/// Takes the job's turns. In each turn it passes the gate, and then the stepper steps one channel: the job's channels
+/// in rotation, from the first one on (profile). The stepper does nothing else. With the turns that it took before,
+/// these are at most 2^64 - 1.
 pub fn work<R: Wait, S: Stepper, G: Gate>(rt: &R, stepper: &mut S, job: Job, gate: &G)
-    requires { S.taken stepper.old + job.turns < 18446744073709551616 }
+    requires { S.taken stepper.old + job.turns < 2 ^ 64 }
     ensures worker { S.worker stepper.new ≡ S.worker stepper.old }
     ensures taken { S.taken stepper.new ≡ S.taken stepper.old + job.turns }
     ensures acts { StepsInTurn S.acts
@@ -216,7 +217,7 @@ pub fn work<R: Wait, S: Stepper, G: Gate>(rt: &R, stepper: &mut S, job: Job, gat
     }
 }
 
-/// Uses a value that is lent to it. Contracts see when it can, and what it then does to itself and the value.
+/// Uses a value that is lent to it. Contracts see when it can do so, and what this does to itself and to the value.
 pub trait Borrower<D> {
     ghost can: { Self → Type 0 };
 
@@ -228,7 +229,7 @@ pub trait Borrower<D> {
         ensures { does self.old lent.old self.new lent.new };
 }
 
-/// Lends a value. Contracts see which value it lends, and which it gets back.
+/// Lends a value. Contracts see which value it lends, and which value it gets back.
 pub trait Lender<D> {
     ghost lends: { Self → D → D → Self → Type 0 };
 
@@ -238,14 +239,14 @@ pub trait Lender<D> {
         ensures { (d : D) × (e : D) × lends self.old d e self.new × B.does to.old d to.new e };
 }
 
-/// Lends the value behind a lock, which it takes for the time of the use.
+/// Lends the value behind a lock, which it holds while the value is used.
 #[derive_where(Clone, Copy)]
 pub struct Locked<'a, D> {
     pub(crate) lock: &'a Mutex<D>,
 }
 
 impl<'a, D> Lender<D> for Locked<'a, D> {
-    // A lock hides which value it has.
+    // Contracts don't see which value a lock has.
     ghost lends = { λ before lent back after. Unit {0} };
 
     /// Takes the lock, lends the value, and releases the lock.
@@ -277,8 +278,8 @@ impl<N: DeskName> Borrower<Desk<N>> for StepAt {
     }
 }
 
-/// Steps a desk that is lent to it at each turn, and has the tally of these steps. A refused step changes nothing but
-/// the tally's turns.
+/// Steps a desk that is lent to it for each turn, and keeps the tally of these steps. A refused step changes nothing
+/// but the tally's number of turns.
 #[derive(Drop)]
 pub struct Worker<N: DeskName, L> {
     lender: L,
@@ -308,7 +309,7 @@ impl<N: DeskName, L: Lender<Desk<N>>> Worker<N, L> {
         }
     }
 
-    /// Ends it, and returns its tally.
+    /// Ends the worker, and returns its tally.
     pub fn into_tally(self) -> Tally
     where
         L: Drop,

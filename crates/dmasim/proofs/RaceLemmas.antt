@@ -29,7 +29,7 @@ use Rattle.dma_script.specs.declared.statements.Statement.{Statement}
 use Rattle.dma_script.specs.declared.statements.Statement.TheVariants.{Copy, Fill, Submit, Step, Status}
 use Rattle.dma_commands.specs.Printed.{call_line, refused_line, transfer_fault_name}
 use Rattle.dma_commands.specs.Laws.{call_of}
-use Rattle.dma_commands.specs.Run.{Answered, call_answer, line_answer, lines_answered, unless_unfit}
+use Rattle.dma_commands.specs.Run.{Answered, call_answer, line_answer, lines_answered, unless_invalid}
 use Rattle.dma_commands.specs.Transfers.{transfer_of}
 use Rattle.dmasim.specs.Race.{EachPrints, EarlyPrints, RacePrints, alone, go_line, race_may_print, race_prints_of, missing_tally, no_reader, raced_refused, raced_whole, whole}
 use Rattle.dmasim.specs.inner.RaceSteps.{PrintsAll, PrintsEarly, PrintsFirst, PrintsGo, PrintsMissing, PrintsRefusal, PrintsTotals, RunsEarly}
@@ -68,16 +68,16 @@ one_call s call v line is e = (v, ap (λ (a : Answered). a.0) (line_of_call v s 
 -- A submit line whose transfer breaks no rule prints the line of its call.
 pub fit_call : (ch : ℕ) (words : TransferLine) (t : Descriptor) (v : View) (line : List ℕ) → t ≡ transfer_of words → refusal_of t ≡ None → (call_answer v (calls.Submit ch t)).0 ≡ line ∷ [] → EarlyPrints (Submit ch words) line
 fit_call ch words t v line is fits e =
-    (v, subst (λ u. (unless_unfit (refusal_of u) v (call_answer v (calls.Submit ch u))).0 ≡ line ∷ []) is (rw fits e))
+    (v, subst (λ u. (unless_invalid (refusal_of u) v (call_answer v (calls.Submit ch u))).0 ≡ line ∷ []) is (rw fits e))
 
 -- A submit line whose transfer breaks a rule.
 pub unfit_early : {A E : Type 0} (ch : ℕ) (words : TransferLine) (e : TransferFault) (result : Result A E) (old new : List ℕ) → refusal_of (transfer_of words) ≡ Some e → OnOk result (new ≡ old ++ text_of (refused_line (transfer_fault_name e) ∷ [])) → OnErr result (new ≡ old) → RunsEarly (Submit ch words) result old new
 unfit_early ch words e result old new is prints kept =
     let t = transfer_of words in
     early_runs (Submit ch words) result (refused_line (transfer_fault_name e)) old new
-    (on_ok_weaker result (λ _. (some_view, ap (λ fault. (unless_unfit fault some_view (call_answer some_view (calls.Submit ch t))).0) is)) prints) prints kept
+    (on_ok_weaker result (λ _. (some_view, ap (λ fault. (unless_invalid fault some_view (call_answer some_view (calls.Submit ch t))).0) is)) prints) prints kept
 
-submit_some : (fault : Option TransferFault) (answered : Answered) (line : List ℕ) → answered.0 ≡ line ∷ [] → (one : List ℕ) × ((unless_unfit fault some_view answered).0 ≡ one ∷ [])
+submit_some : (fault : Option TransferFault) (answered : Answered) (line : List ℕ) → answered.0 ≡ line ∷ [] → (one : List ℕ) × ((unless_invalid fault some_view answered).0 ≡ one ∷ [])
 submit_some None answered line is = (line, is)
 submit_some (Some fault) answered line is = (refused_line (transfer_fault_name fault), refl)
 
@@ -169,7 +169,7 @@ go_after statements v old mid new all totals = record {
   each = all.each;
   steps = totals.steps;
   finished = totals.finished;
-  leaves = totals.leaves;
+  reaches = totals.reaches;
   text = text_after old mid new (alone all.early) (go_line totals.steps totals.finished ∷ []) all.text totals.text;
 }
 
@@ -252,7 +252,7 @@ whole_complete script v old mid new go printed =
     let after = lines_answered v script.after in
     record {
       printed = raced_whole go.early go.steps go.finished v script.after;
-      allowed = whole go.early go.each go.steps go.finished v go.leaves refl;
+      allowed = whole go.early go.each go.steps go.finished v go.reaches refl;
       ends = refl;
       whole =
           printed ∙ ap (λ o. o ++ printed_text after) go.text ∙ append_assoc old (printed_text front) (printed_text after)
@@ -275,7 +275,7 @@ whole_append script v old mid new go some =
     let many : length (alone go.early ++ (go_line go.steps go.finished ∷ []) ∷ after) ≡ length front + length after = ap length (sym same) ∙ length-append front after in
     record {
       printed = raced_whole go.early go.steps go.finished v script.after;
-      allowed = whole go.early go.each go.steps go.finished v go.leaves refl;
+      allowed = whole go.early go.each go.steps go.finished v go.reaches refl;
       first = record {
         count = suc (length front + some.count);
         some_left = omega (arith, many, some.some_left);

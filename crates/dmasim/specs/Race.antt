@@ -44,7 +44,7 @@ go_line steps finished = codes "go steps " ++ decimal steps ++ codes " finished 
 
 -- The view after the workers: it is sound, its step count is the printed number of steps, and at least the printed
 -- number of cookies are finished (those that were terminated before `go` are finished too).
-pub record Leaves (steps finished : ℕ) (v : View) : Type 0 where
+pub record Reaches (steps finished : ℕ) (v : View) : Type 0 where
   pub sound : IsSound v
   pub stepped : v.steps ≡ steps
   pub ended : finished ≤ finished_all (object_of v)
@@ -63,7 +63,7 @@ raced_refused early name = record { groups = [] ∷ alone early ++ (refused_line
 -- desk has no place for the reader of statuses, or a tally is missing (no script is known for which either happens).
 pub data RacePrints (script : RaceScript) (p : Printed) : Type 0 where
   whole : (early : List (List ℕ)) → EachPrints script.before.statements early
-      → (steps finished : ℕ) (v : View) → Leaves steps finished v
+      → (steps finished : ℕ) (v : View) → Reaches steps finished v
       → p ≡ raced_whole early steps finished v script.after → RacePrints script p
   no_reader : p ≡ raced_refused [] (codes "NoReader") → RacePrints script p
   missing_tally : (early : List (List ℕ)) → EachPrints script.before.statements early

@@ -1,6 +1,6 @@
 //! The command `race`: executes the lines before `go` through a desk, then steps the desk's channels with all jobs at
 //! once, and executes the lines after `go` on the resulting engine.
-ghost use Rattle.std.specs.Prelude.{◌≡◌, ◌≤◌, ◌<◌, ◌+◌, ◌++◌, ◌∷◌, [], OnOk, OnErr, IfOk, IfSome, MatchOption, codes, length, vec_len};
+ghost use Rattle.std.specs.Prelude.{◌≡◌, ◌≤◌, ◌<◌, ◌+◌, ◌^◌, ◌++◌, ◌∷◌, [], OnOk, OnErr, IfOk, IfSome, MatchOption, codes, length, vec_len};
 ghost use Rattle.std.specs.List.{All};
 ghost use Rattle.dma_engine.specs.View.{new_view};
 ghost use Rattle.dma_script.specs.Command.{MayAppend, MayComplete, MayEnd, failures, longest_input, may_print_within, text_of};
@@ -70,7 +70,7 @@ fn until_go<N: DeskName + Send + Sync, R: Threads + Wait + Sync>(
 ) -> Result<Vec<Tally>, AllocError>
     requires follows { (N.log ≡ reader.log) × (N.base ≡ reader.base) }
     requires early { All IsEarly lines }
-    requires few { length jobs.now < 4294967296 }
+    requires few { length jobs.now < 2 ^ 32 }
     ensures ok { OnOk result (PrintsAll lines out.old.items out.new.items) }
     ensures err { OnErr result (PrintsFirst lines out.old.items out.new.items) }
 {
@@ -151,7 +151,7 @@ fn raced<N: DeskName + Send + Sync, R: Threads + Wait + Sync>(
     requires follows { (N.log ≡ reader.log) × (N.base ≡ reader.base) }
     requires fresh { parts.engine.view.steps ≡ 0 }
     requires early { All IsEarly lines }
-    requires few { length jobs.now < 4294967296 }
+    requires few { length jobs.now < 2 ^ 32 }
     ensures ok { IfOk result (λ left. MatchOption left
         (PrintsMissing lines out.old.items out.new.items)
         (λ engine. PrintsGo lines engine.view out.old.items out.new.items)) }
@@ -219,18 +219,19 @@ impl OpenCommand for Race {
         }
     }
 
-    ghost some_print = { λ input. elim (race_script_of input) as (λ read. MayAppend (race_prints_of read) [] []) [
-      | Ok script ↦ record {
-        printed = raced_refused [] (codes "NoReader");
-        allowed = no_reader refl;
-        first = record { count = 0; some_left = zero-lt-suc _; whole = refl };
-      }
-      | Err fault ↦ record {
-        printed = refusal (fault_line fault);
-        allowed = refl;
-        first = record { count = 0; some_left = zero-lt-suc _; whole = refl };
-      }
-    ] };
+    ghost some_print = { λ input.
+        elim (race_script_of input) as (λ read. MayAppend (race_prints_of read) [] []) [
+          | Ok script ↦ record {
+            printed = raced_refused [] (codes "NoReader");
+            allowed = no_reader refl;
+            first = record { count = 0; some_left = zero-lt-suc _; whole = refl };
+          }
+          | Err fault ↦ record {
+            printed = refusal (fault_line fault);
+            allowed = refl;
+            first = record { count = 0; some_left = zero-lt-suc _; whole = refl };
+          }
+        ] };
 }
 
 /// Reads a race script, executes it, writes what it prints and nothing else, and returns the exit status: 0 on

@@ -58,8 +58,8 @@ struct Channel {
     registers: Registers,
     /// The last cookie, 0 for none.
     cookie: u32,
-    /// Why the last start was refused, for the guest to read.
-    refused: Option<Error>,
+    /// Why the last start failed, for the guest to read.
+    error: Option<Error>,
     waits: bool,
 }
 
@@ -85,7 +85,7 @@ impl Device {
             // A guest's mistake is not an error of the emulator: the device keeps it for the guest to read.
             Write::Start => match start(&mut self.controller, number, *registers) {
                 Ok(cookie) => channel.cookie = cookie,
-                Err(error) => channel.refused = Some(error),
+                Err(error) => channel.error = Some(error),
             },
         }
     }
@@ -164,7 +164,7 @@ fn main() -> Result<(), Error> {
         }
         device.turn()?;
     }
-    assert!(device.channels.iter().all(|channel| channel.refused.is_none()));
+    assert!(device.channels.iter().all(|channel| channel.error.is_none()));
     print_memory(&mut device.controller, 0x200, 2)?;
     print_memory(&mut device.controller, 0x300, 1)
 }

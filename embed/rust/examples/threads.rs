@@ -75,11 +75,11 @@ fn copy_upward(channel_number: u8, requests: &Sender<Request>) -> usize {
     let region = u32::from(channel_number) * 0x1000;
     let mut copied = 0;
     for n in 0..3 {
-        let (done, told) = channel();
+        let (done, finished) = channel();
         let src = Segment::new(region + n * 0x400, 0x400);
         let dst = Segment::new(region + (n + 1) * 0x400, 0x400);
         requests.send(Request { channel: channel_number, src, dst, done }).expect("the owner listens");
-        let outcome = told.recv().expect("the owner answers").expect("the copy was taken");
+        let outcome = finished.recv().expect("the owner answers").expect("the copy was accepted");
         assert_eq!(outcome, Outcome { result: TransferResult::NoError, residue: 0 });
         copied += 1;
     }
@@ -118,7 +118,7 @@ fn main() {
             .collect();
         drop(sender);
         let copied = clients.into_iter().map(|client| client.join().expect("a client ends")).sum();
-        owner.join().expect("the owner ends").expect("nothing was refused");
+        owner.join().expect("the owner ends").expect("no call failed");
         copied
     });
     println!("{copied} copies of {CHANNELS} threads by one controller");

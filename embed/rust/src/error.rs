@@ -3,11 +3,12 @@
 use std::error;
 use std::fmt;
 
-/// Why a call was refused: the first cause that applies of those that the call names. A refused call changes nothing.
+/// Why a call was refused: of the causes that the call's documentation lists, the first that applies. A refused call changes
+/// nothing.
 #[derive(Clone, Copy, Debug, PartialEq, Eq, Hash)]
 #[non_exhaustive]
 pub enum Error {
-    /// The allocator had no memory.
+    /// Out of memory: an allocation failed.
     NoMemory,
     /// An event is above 31.
     BadEvent,
@@ -156,7 +157,7 @@ fn number_of<T: PartialEq>(codes: &[(i32, T)], value: &T) -> i32 {
 impl Error {
     /// Returns the error of a code that has no place.
     pub(crate) fn of(code: i32) -> Error {
-        found(&CODES, code).unwrap_or_else(|| unreachable!("the library answered the code {code}"))
+        found(&CODES, code).unwrap_or_else(|| unreachable!("the library returned the code {code}"))
     }
 
     /// Returns the error of a code of `dma330_assemble`.

@@ -132,7 +132,7 @@ pub struct Steps {
     pub last: Option<Turn>,
 }
 
-/// How far a cookie is. One that isn't issued yet is in progress, and one that failed or was aborted is complete.
+/// The state of a cookie. One that isn't issued yet is in progress; one that failed or was aborted is complete.
 #[derive(Clone, Copy, Debug, PartialEq, Eq, Hash)]
 pub enum Status {
     /// It was never given.
@@ -198,7 +198,7 @@ pub enum RunEnd {
     },
 }
 
-// Returns what a number that the library wrote means. The library writes no other numbers.
+// Returns the name of a number that the library wrote. The library writes only numbers that have one.
 fn named<T: Copy>(names: &[T], number: u32) -> T {
     *names.get(number as usize).unwrap_or_else(|| unreachable!("the library wrote the number {number}"))
 }
@@ -242,8 +242,8 @@ fn turn_of(report: &sys::RawReport) -> Option<Turn> {
 
 /// A controller over a memory of its own. It is closed when it is dropped.
 ///
-/// It is `Send`: the check of the library proves this of the library's type that it holds. So threads may share a
-/// controller behind a `Mutex`, or one thread may own it and serve the requests of others (`examples/threads.rs`). It
+/// It is `Send`: the prover has checked this of the library's type inside it. So threads may share a controller
+/// behind a `Mutex`, or one thread may own it and serve the requests of others (`examples/threads.rs`). It
 /// is not `Sync`: calls that only read it take `&self`, and only one call at a time may use a controller.
 ///
 /// ```
@@ -378,7 +378,7 @@ impl Controller {
         Ok(Steps { taken: report.taken, last: turn_of(&report) })
     }
 
-    /// Returns how far a cookie is.
+    /// Returns the state of a cookie.
     pub fn status(&self, channel: u8, cookie: u32) -> Status {
         let state = u32::try_from(self.handle.status(channel, cookie)).unwrap_or(u32::MAX);
         named(&[Status::Unknown, Status::InProgress, Status::Complete], state)
@@ -391,18 +391,18 @@ impl Controller {
         Some(outcome_of(outcome.result, outcome.residue))
     }
 
-    /// Returns the transfer that runs on a channel; `None` if none runs, or if there is no such channel.
+    /// Returns the transfer that runs on a channel; `None` if none runs, or if the channel doesn't exist.
     pub fn running(&self, channel: u8) -> Option<Running> {
         let running = self.handle.running(channel)?;
         Some(Running { cookie: running.cookie, stored: running.stored })
     }
 
-    /// Returns the number of unfinished cookies of a channel; 0 if there is no such channel.
+    /// Returns the number of unfinished cookies of a channel; 0 if the channel doesn't exist.
     pub fn unfinished(&self, channel: u8) -> u32 {
         self.handle.unfinished(channel)
     }
 
-    /// Returns the number of a channel's results that checkpoints have forgotten; 0 if there is no such channel.
+    /// Returns the number of a channel's results that checkpoints have forgotten; 0 if the channel doesn't exist.
     pub fn forgotten(&self, channel: u8) -> u32 {
         self.handle.forgotten(channel)
     }

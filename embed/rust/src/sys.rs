@@ -3,8 +3,8 @@
 //! What the library requires of its caller (docs/EMBEDDING.md), and why each call below meets it:
 //!
 //! - A controller is zeroed before it is opened, its members are never touched, and an open one is never copied:
-//!   [`Handle`] starts with zeros, gives nobody access to its members, and is neither `Copy` nor `Clone`. A move leaves
-//!   only one owner. The same is true of a channel and [`ChannelHandle`].
+//!   [`Handle`] starts with zeros, gives nobody access to its members, and is neither `Copy` nor `Clone`. After a
+//!   move only the new owner can use it. The same is true of a channel and [`ChannelHandle`].
 //! - One call at a time: calls that change something take `&mut self`. Calls that only read take `&self` of a type that
 //!   isn't `Sync` (it is a cell), and no call of the library calls back. A handle may move to another thread, since the
 //!   check of the library proves that the type it holds is `Send`, and Rust orders what one thread does with a value
@@ -255,8 +255,8 @@ const NO_RESULT: i32 = -6;
 const NOT_RUNNING: i32 = -7;
 const BUFFER_TOO_SMALL: i32 = -8;
 
-// Returns what a call wrote, or the error of its code.
-fn told<T>(code: i32, value: T) -> Result<T, Error> {
+// Returns the value that a call wrote, or the error of its code.
+fn checked<T>(code: i32, value: T) -> Result<T, Error> {
     match code {
         OK => Ok(value),
         _ => Err(Error::of(code)),
@@ -264,18 +264,18 @@ fn told<T>(code: i32, value: T) -> Result<T, Error> {
 }
 
 // Does the same for a call that may conflict with a running transfer.
-fn free_of(code: i32, conflict: RawConflict) -> Result<(), Error> {
+fn checked_with_conflict(code: i32, conflict: RawConflict) -> Result<(), Error> {
     let (channel, cookie) = (conflict.channel as u8, conflict.cookie);
     match code {
         BUSY => Err(Error::Busy { channel, cookie }),
         RUNNING => Err(Error::Running { channel, cookie }),
-        _ => told(code, ()),
+        _ => checked(code, ()),
     }
 }
 
-// Returns what a call wrote, or nothing if it returned the code `none`. The call returns no other code.
-fn told_unless<T>(none: i32, code: i32, value: T) -> Option<T> {
-    assert!(code == OK || code == none, "the library answered the code {code}");
+// Returns the value that a call wrote; `None` if the call returned the code `none`. It returns no other code.
+fn value_unless<T>(none: i32, code: i32, value: T) -> Option<T> {
+    assert!(code == OK || code == none, "the library returned the code {code}");
     (code == OK).then_some(value)
 }
 
@@ -291,21 +291,21 @@ impl Handle {
         let closed = RawController { engine: ptr::null_mut(), is_open: 0 };
         let mut handle = Handle { raw: UnsafeCell::new(closed) };
         let code = unsafe { dma330_open(handle.raw.get_mut(), size, channels) };
-        told(code, handle)
+        checked(code, handle)
     }
 
     pub fn write(&mut self, addr: u32, bytes: &[u8]) -> Result<(), Error> {
         let mut conflict = RawConflict::default();
         let (from, len) = (bytes.as_ptr(), bytes.len());
         let code = unsafe { dma330_write(self.raw.get_mut(), addr, from, len, &mut conflict) };
-        free_of(code, conflict)
+        checked_with_conflict(code, conflict)
     }
 
     pub fn read(&mut self, addr: u32, out: &mut [u8]) -> Result<(), Error> {
         let mut conflict = RawConflict::default();
         let (to, len) = (out.as_mut_ptr(), out.len());
         let code = unsafe { dma330_read(self.raw.get_mut(), addr, to, len, &mut conflict) };
-        free_of(code, conflict)
+        checked_with_conflict(code, conflict)
     }
 
     pub fn submit(&mut self, channel: u8, src: &[Segment], dst: &[Segment], wait: i32, signal: i32) -> Result<u32, Error> {
@@ -313,40 +313,40 @@ impl Handle {
         let (from, to) = (src.as_ptr(), dst.as_ptr());
         let raw = self.raw.get_mut();
         let code = unsafe { dma330_submit(raw, channel, from, src.len(), to, dst.len(), wait, signal, &mut cookie) };
-        told(code, cookie)
+        checked(code, cookie)
     }
 
     pub fn submit_fill(&mut self, channel: u8, src: u32, dst: &[Segment], wait: i32, signal: i32) -> Result<u32, Error> {
         let mut cookie = 0;
         let raw = self.raw.get_mut();
         let code = unsafe { dma330_submit_fill(raw, channel, src, dst.as_ptr(), dst.len(), wait, signal, &mut cookie) };
-        told(code, cookie)
+        checked(code, cookie)
     }
 
     pub fn issue(&mut self, channel: u8) -> Result<u32, Error> {
         let mut count = 0;
         let code = unsafe { dma330_issue(self.raw.get_mut(), channel, &mut count) };
-        told(code, count)
+        checked(code, count)
     }
 
     pub fn pause(&mut self, channel: u8) -> Result<(), Error> {
-        told(unsafe { dma330_pause(self.raw.get_mut(), channel) }, ())
+        checked(unsafe { dma330_pause(self.raw.get_mut(), channel) }, ())
     }
 
     pub fn resume(&mut self, channel: u8) -> Result<(), Error> {
-        told(unsafe { dma330_resume(self.raw.get_mut(), channel) }, ())
+        checked(unsafe { dma330_resume(self.raw.get_mut(), channel) }, ())
     }
 
     pub fn terminate(&mut self, channel: u8) -> Result<u32, Error> {
         let mut count = 0;
         let code = unsafe { dma330_terminate(self.raw.get_mut(), channel, &mut count) };
-        told(code, count)
+        checked(code, count)
     }
 
     pub fn step(&mut self, channel: u8, most: u32) -> Result<RawReport, Error> {
         let mut report = RawReport::default();
         let code = unsafe { dma330_step(self.raw.get_mut(), channel, most, &mut report) };
-        told(code, report)
+        checked(code, report)
     }
 
     pub fn status(&self, channel: u8, cookie: u32) -> i32 {
@@ -356,13 +356,13 @@ impl Handle {
     pub fn result(&self, channel: u8, cookie: u32) -> Option<RawOutcome> {
         let mut outcome = RawOutcome::default();
         let code = unsafe { dma330_result(self.raw.get(), channel, cookie, &mut outcome) };
-        told_unless(NO_RESULT, code, outcome)
+        value_unless(NO_RESULT, code, outcome)
     }
 
     pub fn running(&self, channel: u8) -> Option<RawRun> {
         let mut running = RawRun::default();
         let code = unsafe { dma330_running(self.raw.get(), channel, &mut running) };
-        told_unless(NOT_RUNNING, code, running)
+        value_unless(NOT_RUNNING, code, running)
     }
 
     pub fn unfinished(&self, channel: u8) -> u32 {
@@ -408,21 +408,21 @@ impl Handle {
     }
 
     pub fn mark(&mut self, kind: u32, range: Segment) -> Result<(), Error> {
-        told(unsafe { dma330_mark(self.raw.get_mut(), kind, range) }, ())
+        checked(unsafe { dma330_mark(self.raw.get_mut(), kind, range) }, ())
     }
 
     pub fn unmark(&mut self) -> Result<(), Error> {
-        told(unsafe { dma330_unmark(self.raw.get_mut()) }, ())
+        checked(unsafe { dma330_unmark(self.raw.get_mut()) }, ())
     }
 
     pub fn raise(&mut self, event: u8) -> Result<(), Error> {
-        told(unsafe { dma330_raise(self.raw.get_mut(), event) }, ())
+        checked(unsafe { dma330_raise(self.raw.get_mut(), event) }, ())
     }
 
     pub fn checkpoint(&mut self) -> Result<(), Error> {
         let mut conflict = RawConflict::default();
         let code = unsafe { dma330_checkpoint(self.raw.get_mut(), &mut conflict) };
-        free_of(code, conflict)
+        checked_with_conflict(code, conflict)
     }
 }
 
@@ -444,34 +444,34 @@ impl ChannelHandle {
         let closed = RawChannel { channel: ptr::null_mut(), is_open: 0 };
         let mut handle = ChannelHandle { raw: UnsafeCell::new(closed) };
         let code = unsafe { dma330_channel_open(handle.raw.get_mut()) };
-        told(code, handle)
+        checked(code, handle)
     }
 
     pub fn load_copy(&mut self, src: &[Segment], dst: &[Segment], wait: i32, signal: i32) -> Result<(), Error> {
         let (from, to) = (src.as_ptr(), dst.as_ptr());
         let raw = self.raw.get_mut();
-        told(unsafe { dma330_channel_load_copy(raw, from, src.len(), to, dst.len(), wait, signal) }, ())
+        checked(unsafe { dma330_channel_load_copy(raw, from, src.len(), to, dst.len(), wait, signal) }, ())
     }
 
     pub fn load_fill(&mut self, src: u32, dst: &[Segment], wait: i32, signal: i32) -> Result<(), Error> {
         let raw = self.raw.get_mut();
-        told(unsafe { dma330_channel_load_fill(raw, src, dst.as_ptr(), dst.len(), wait, signal) }, ())
+        checked(unsafe { dma330_channel_load_fill(raw, src, dst.as_ptr(), dst.len(), wait, signal) }, ())
     }
 
     pub fn load_program(&mut self, program: &[u8]) -> Result<(), Error> {
-        told(unsafe { dma330_channel_load_program(self.raw.get_mut(), program.as_ptr(), program.len()) }, ())
+        checked(unsafe { dma330_channel_load_program(self.raw.get_mut(), program.as_ptr(), program.len()) }, ())
     }
 
     pub fn load_from(&mut self, regions: &[Region<'_>], addr: u32) -> Result<(), Error> {
         let (lent, count) = (regions.as_ptr(), regions.len());
-        told(unsafe { dma330_channel_load_from(self.raw.get_mut(), lent, count, addr) }, ())
+        checked(unsafe { dma330_channel_load_from(self.raw.get_mut(), lent, count, addr) }, ())
     }
 
     pub fn step(&mut self, regions: &mut [Region<'_>], flags: &mut u32, most: u32) -> Result<RawChannelReport, Error> {
         let mut report = RawChannelReport::default();
         let (lent, count) = (regions.as_mut_ptr(), regions.len());
         let code = unsafe { dma330_channel_step(self.raw.get_mut(), lent, count, flags, most, &mut report) };
-        told(code, report)
+        checked(code, report)
     }
 
     pub fn stop(&mut self) {
@@ -487,7 +487,7 @@ impl ChannelHandle {
     }
 
     pub fn mark(&mut self, kind: u32, range: Segment) -> Result<(), Error> {
-        told(unsafe { dma330_channel_mark(self.raw.get_mut(), kind, range) }, ())
+        checked(unsafe { dma330_channel_mark(self.raw.get_mut(), kind, range) }, ())
     }
 
     pub fn unmark(&mut self) {
@@ -495,15 +495,15 @@ impl ChannelHandle {
         assert_eq!(code, OK);
     }
 
-    /// Writes a save of the channel, and returns its length; `None` if there is no room.
+    /// Writes a save of the channel, and returns its length; `None` if it doesn't fit.
     pub fn save(&self, out: &mut [u8]) -> Option<usize> {
         let mut len = 0;
         let code = unsafe { dma330_channel_save(self.raw.get(), out.as_mut_ptr(), out.len(), &mut len) };
-        told_unless(BUFFER_TOO_SMALL, code, len)
+        value_unless(BUFFER_TOO_SMALL, code, len)
     }
 
     pub fn restore(&mut self, save: &[u8]) -> Result<(), Error> {
-        told(unsafe { dma330_channel_restore(self.raw.get_mut(), save.as_ptr(), save.len()) }, ())
+        checked(unsafe { dma330_channel_restore(self.raw.get_mut(), save.as_ptr(), save.len()) }, ())
     }
 }
 
@@ -513,7 +513,7 @@ impl Drop for ChannelHandle {
     }
 }
 
-/// Writes the version and a zero byte, and returns the version's length; `None` if there is no room.
+/// Writes the version and a zero byte, and returns the version's length; `None` if they don't fit.
 pub fn version(out: &mut [u8]) -> Option<usize> {
     let mut len = 0;
     let code = unsafe { dma330_version(out.as_mut_ptr(), out.len(), &mut len) };
@@ -524,7 +524,7 @@ pub fn run_program(program: &[u8], memory: &mut [u8], limit: u32) -> Result<RawR
     let mut end = RawRunEnd::default();
     let (bytes, room) = (memory.as_mut_ptr(), memory.len());
     let code = unsafe { dma330_run_program(program.as_ptr(), program.len(), bytes, room, limit, &mut end) };
-    told(code, end)
+    checked(code, end)
 }
 
 /// Writes the bytes of the program with this text, and returns their number.

@@ -1,10 +1,10 @@
 //! Runs the rows of channels.txt, as the test in C does: as they are, and with a call for each single step, before
-//! which the channel is saved and another one restored.
+//! which the channel is saved and restored as another one.
 
 mod words;
 
 use dma330::{assemble, Channel, ChannelSteps, ChannelTurn, Error, MarkKind, Region, Segment};
-use words::{groups, hex, name, nothing, refused, Words};
+use words::{error_text, groups, hex, name, nothing, Words};
 
 const ROWS: &str = include_str!("../../channels.txt");
 
@@ -21,7 +21,7 @@ struct Part {
 }
 
 /// Runs lines.
-struct Player {
+struct Runner {
     way: Way,
     channel: Option<Channel>,
     parts: Vec<Part>,
@@ -30,7 +30,7 @@ struct Player {
     save: Vec<u8>,
 }
 
-fn answer_of(steps: ChannelSteps) -> String {
+fn steps_text(steps: ChannelSteps) -> String {
     let word = name(steps.last);
     let rest = match steps.last {
         ChannelTurn::Waiting { event } | ChannelTurn::Signalled { event } => format!(" {event}"),
@@ -45,9 +45,9 @@ fn regions(parts: &mut [Part]) -> Vec<Region<'_>> {
     parts.iter_mut().map(|part| Region::new(part.addr, &mut part.bytes)).collect()
 }
 
-impl Player {
-    fn new(way: Way) -> Player {
-        Player { way, channel: None, parts: Vec::new(), flags: 0, marks: Vec::new(), save: Vec::new() }
+impl Runner {
+    fn new(way: Way) -> Runner {
+        Runner { way, channel: None, parts: Vec::new(), flags: 0, marks: Vec::new(), save: Vec::new() }
     }
 
     fn channel(&mut self) -> &mut Channel {
@@ -62,7 +62,7 @@ impl Player {
     }
 
     // Replaces the channel with another one that has its save and its marks.
-    fn go_on_in_another(&mut self) -> Result<(), Error> {
+    fn replace_channel(&mut self) -> Result<(), Error> {
         let mut next = Channel::open()?;
         next.restore(&self.channel().save())?;
         for (kind, range) in &self.marks {
@@ -74,14 +74,14 @@ impl Player {
     }
 
     fn step(&mut self, most: u32) -> Result<ChannelSteps, Error> {
-        let Player { channel: Some(channel), parts, flags, .. } = self else { panic!("the group opened a channel") };
+        let Runner { channel: Some(channel), parts, flags, .. } = self else { panic!("the group opened a channel") };
         channel.step(&mut regions(parts), flags, most)
     }
 
     fn single_steps(&mut self, most: u32) -> Result<ChannelSteps, Error> {
         let mut taken = 0;
         loop {
-            self.go_on_in_another()?;
+            self.replace_channel()?;
             let steps = self.step(most.min(1))?;
             taken += steps.taken;
             if steps.last == ChannelTurn::NoStep && taken > 0 {
@@ -118,8 +118,8 @@ impl Player {
         answer
     }
 
-    // Runs a line of the caller's own, and returns its answer; `None` if the line is a call.
-    fn own_line(&mut self, line: &str, mut words: Words) -> Option<String> {
+    // Runs a line that is an act of the caller, and returns its answer; `None` if the line is a call.
+    fn act(&mut self, line: &str, mut words: Words) -> Option<String> {
         match line {
             "regions" => {
                 let part = |segment: &Segment| Part { addr: segment.addr, bytes: vec![0; segment.len as usize] };
@@ -157,8 +157,8 @@ impl Player {
                 self.marks.clear();
                 Ok(String::new())
             }
-            "step" if self.way == Way::Saved => self.single_steps(words.number()).map(answer_of),
-            "step" => self.step(words.number()).map(answer_of),
+            "step" if self.way == Way::Saved => self.single_steps(words.number()).map(steps_text),
+            "step" => self.step(words.number()).map(steps_text),
             "registers" => Ok(self.registers()),
             "mark" => {
                 let (kind, range) = (words.kind(), Segment::new(words.number(), words.number()));
@@ -190,7 +190,7 @@ impl Player {
     }
 
     fn load(&mut self, call: &str, mut words: Words) -> Result<(), Error> {
-        let Player { channel: Some(channel), parts, .. } = self else { panic!("the group opened a channel") };
+        let Runner { channel: Some(channel), parts, .. } = self else { panic!("the group opened a channel") };
         match call {
             "load_copy" => {
                 let src = words.list();
@@ -211,23 +211,23 @@ impl Player {
 
     fn carry_out(&mut self, line: &str) -> String {
         let (word, rest) = line.split_once(' ').unwrap_or((line, ""));
-        let answer = self.own_line(word, Words(rest)).map_or_else(|| self.call(word, Words(rest)), Ok);
+        let answer = self.act(word, Words(rest)).map_or_else(|| self.call(word, Words(rest)), Ok);
         match answer {
             Ok(more) => format!("OK {more}").trim_end().into(),
-            Err(error) => refused(error),
+            Err(error) => error_text(error),
         }
     }
 }
 
-// Returns a message for each row whose answer differs from the one that it has.
+// Returns a message for each row that isn't answered as it says.
 fn wrong_rows(way: Way) -> Vec<String> {
     let mut wrong = Vec::new();
     for (title, rows) in groups(ROWS) {
-        let mut player = Player::new(way);
+        let mut runner = Runner::new(way);
         for (line, wanted) in rows {
-            let answer = player.carry_out(line);
+            let answer = runner.carry_out(line);
             if answer != wanted {
-                wrong.push(format!("{title}: {line}: answered {answer}, and not {wanted}"));
+                wrong.push(format!("{title}: {line}: the answer is {answer}, not {wanted}"));
             }
         }
     }
@@ -235,12 +235,12 @@ fn wrong_rows(way: Way) -> Vec<String> {
 }
 
 #[test]
-fn every_row_answers_what_it_says() {
+fn every_row_has_its_answer() {
     assert!(groups(ROWS).len() > 15);
     assert_eq!(wrong_rows(Way::Plain), Vec::<String>::new());
 }
 
 #[test]
-fn a_channel_that_is_saved_and_restored_at_each_step_answers_the_same() {
+fn a_channel_that_is_saved_and_restored_at_each_step_has_the_same_answers() {
     assert_eq!(wrong_rows(Way::Saved), Vec::<String>::new());
 }

@@ -1,6 +1,6 @@
 //! The three declarations of the library, in Rattle (its own), in C (dma330.h) and in Rust (sys.rs), agree: they have
-//! the same calls, each call passes the same parameters and result, and the codes that no row of rows.txt returns are
-//! the same. No compiler compares them.
+//! the same calls with the same parameters and results, and the codes that no row of rows.txt returns are the same. No
+//! compiler compares them.
 
 use dma330::Error;
 use std::collections::BTreeMap;

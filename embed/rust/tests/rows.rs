@@ -1,18 +1,18 @@
-//! Runs the rows of rows.txt, as the tests in C do, through the safe type.
+//! Runs the rows of rows.txt on the type `Controller`, as the tests in C do on the library.
 
 mod words;
 
 use dma330::{Controller, Error, Outcome, RunEnd, Segment, Steps, Turn};
-use words::{groups, hex, name, nothing, refused, small, Words};
+use words::{error_text, groups, hex, name, nothing, small, Words};
 
 const ROWS: &str = include_str!("../../rows.txt");
 const RAM: usize = 1 << 16;
 
-fn told_outcome(outcome: Outcome) -> String {
+fn outcome_text(outcome: Outcome) -> String {
     format!("{} {}", name(outcome.result), outcome.residue)
 }
 
-fn told_turn(turn: Option<Turn>) -> String {
+fn turn_text(turn: Option<Turn>) -> String {
     let Some(turn) = turn else {
         return "NO_STEP".into();
     };
@@ -21,16 +21,16 @@ fn told_turn(turn: Option<Turn>) -> String {
         Turn::Started { cookie } => format!("{name} {cookie}"),
         Turn::Held { channel, cookie } => format!("{name} {channel} {cookie}"),
         Turn::Waiting { event } => format!("{name} {event}"),
-        Turn::Finished { cookie, outcome } => format!("{name} {cookie} {}", told_outcome(outcome)),
+        Turn::Finished { cookie, outcome } => format!("{name} {cookie} {}", outcome_text(outcome)),
         Turn::Moved | Turn::Nothing | Turn::Paused | Turn::Halted => name,
     }
 }
 
-fn told_steps(steps: Steps) -> String {
-    format!("{} {}", steps.taken, told_turn(steps.last))
+fn steps_text(steps: Steps) -> String {
+    format!("{} {}", steps.taken, turn_text(steps.last))
 }
 
-fn told_end(end: RunEnd) -> String {
+fn end_text(end: RunEnd) -> String {
     let word = name(end);
     match end {
         RunEnd::Ended { turns } => format!("{word} {turns}"),
@@ -41,12 +41,12 @@ fn told_end(end: RunEnd) -> String {
 }
 
 /// Runs lines.
-struct Player {
+struct Runner {
     controller: Option<Controller>,
     ram: Vec<u8>,
 }
 
-impl Player {
+impl Runner {
     fn controller(&mut self) -> &mut Controller {
         self.controller.as_mut().expect("the group opened a controller")
     }
@@ -62,19 +62,18 @@ impl Player {
         Ok(hex(&out))
     }
 
-    // Takes `count` steps, each with a call of its own, and returns their answers: equal ones in a row once, with their
-    // number.
+    // Takes `count` steps, each with a call of its own, and returns their answers: equal ones in a row once, with a count.
     fn single(&mut self, channel: u8, count: u32) -> String {
         let mut runs: Vec<(String, u32)> = Vec::new();
         for _ in 0..count {
-            let now = self.controller().step(channel, 1).map_or_else(refused, |steps| told_turn(steps.last));
+            let now = self.controller().step(channel, 1).map_or_else(error_text, |steps| turn_text(steps.last));
             match runs.last_mut() {
                 Some((last, times)) if *last == now => *times += 1,
                 _ => runs.push((now, 1)),
             }
         }
-        let told: Vec<String> = runs.iter().map(|(turn, times)| format!("{turn} x{times}")).collect();
-        told.join(", ")
+        let texts: Vec<String> = runs.iter().map(|(turn, times)| format!("{turn} x{times}")).collect();
+        texts.join(", ")
     }
 
     // Makes a call, and returns its answer or its error.
@@ -111,7 +110,7 @@ impl Player {
             }
             "run_program" => {
                 let (size, limit, program) = (words.number() as usize, words.number(), words.bytes());
-                dma330::run_program(&program, &mut self.ram[..size], limit).map(told_end)
+                dma330::run_program(&program, &mut self.ram[..size], limit).map(end_text)
             }
             "assemble" => {
                 let _room = words.number();
@@ -147,7 +146,7 @@ impl Player {
             "pause" => controller.pause(channel).map(nothing),
             "resume" => controller.resume(channel).map(nothing),
             "terminate" => controller.terminate(channel).map(|count| count.to_string()),
-            "step" => controller.step(channel, words.number()).map(told_steps),
+            "step" => controller.step(channel, words.number()).map(steps_text),
             "status" => Ok(name(controller.status(channel, words.number()))),
             "unfinished" => Ok(controller.unfinished(channel).to_string()),
             "forgotten" => Ok(controller.forgotten(channel).to_string()),
@@ -155,14 +154,14 @@ impl Player {
         }
     }
 
-    // Runs a line that may have no answer.
+    // Runs a line of `result`, `running` or `single`, and returns its whole answer; `None` for other lines.
     fn optional(&mut self, call: &str, words: &mut Words) -> Option<String> {
         let channel = words.channel();
         let controller = self.controller();
         Some(match call {
             "result" => {
                 let outcome = controller.result(channel, words.number());
-                outcome.map_or("NO_RESULT".into(), |outcome| format!("OK {}", told_outcome(outcome)))
+                outcome.map_or("NO_RESULT".into(), |outcome| format!("OK {}", outcome_text(outcome)))
             }
             "running" => {
                 let running = controller.running(channel);
@@ -183,24 +182,24 @@ impl Player {
             return self.optional(call, &mut words).expect("one of the three");
         }
         match self.call(call, words) {
-            Ok(told) if told.is_empty() => "OK".into(),
-            Ok(told) => format!("OK {told}"),
-            Err(error) => refused(error),
+            Ok(text) if text.is_empty() => "OK".into(),
+            Ok(text) => format!("OK {text}"),
+            Err(error) => error_text(error),
         }
     }
 }
 
 #[test]
-fn every_row_answers_what_it_says() {
+fn every_row_has_its_answer() {
     let groups = groups(ROWS);
     assert!(groups.len() > 40);
     let mut wrong = Vec::new();
     for (title, rows) in groups {
-        let mut player = Player { controller: None, ram: vec![0; RAM] };
+        let mut runner = Runner { controller: None, ram: vec![0; RAM] };
         for (line, wanted) in rows {
-            let told = player.carry_out(line);
-            if told != wanted {
-                wrong.push(format!("{title}: {line}: answered {told}, and not {wanted}"));
+            let answer = runner.carry_out(line);
+            if answer != wanted {
+                wrong.push(format!("{title}: {line}: the answer is {answer}, not {wanted}"));
             }
         }
     }

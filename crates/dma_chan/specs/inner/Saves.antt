@@ -1,4 +1,4 @@
--- The parts of a save, found by its head.
+-- The parts of a save, whose lengths are in its head.
 use Rattle.std.specs.Prelude.{◌≡◌, ℕ, ◌+◌, ◌*◌, ◌^◌, ◌<◌, ◌≤◌, Bool, true, false, if◌then◌else◌, List, take, drop, Some, None, IfSome}
 use Rattle.dma_insn.specs.AssemblyText.{most_bytes}
 use Rattle.dma_chan.specs.declared.save.head.Head.{Head}

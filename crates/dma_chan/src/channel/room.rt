@@ -9,7 +9,7 @@ use crate::channel::Channel;
 use crate::program::{MAX_BYTES, Program, ProgramFault};
 use std::alloc::{AllocError, Global};
 
-// Unloads a program. If its bytes were in the room, the room is kept.
+// Unloads the program. If its bytes are in the room, `room` gets that memory back.
 pub(super) fn put_away(program: &mut Option<Program>, room: &mut Option<Vec<u8>>)
     requires { IfSome room.old (λ room. most_bytes ≤ vec_capacity room) }
     ensures program { program.new ≡ None }
@@ -48,14 +48,15 @@ impl Channel {
         Ok(())
     }
 
-    // Returns the program of these bytes, in the room if the channel has one. The loaded program is unloaded if it was
-    // in the room.
+    // Returns the program of these bytes. If the channel has a room, the bytes are copied to it, and a program that is
+    // loaded from it is unloaded.
     pub(super) fn program_of(
         &mut self,
         alloc: Global,
         bytes: &[u8],
     ) -> Result<Program, ProgramFault>
-        ensures ok { IfOk result (λ program. program ≡ record { bytes = bytes.now; cost = None }) }
+        ensures ok { IfOk result
+            (λ program. program ≡ record { bytes = bytes.now; cost = None }) }
         ensures fits { OnOk result (length bytes.now ≤ most_bytes) }
         ensures err { IfErr result (λ fault. fault ≡ program_fault bytes.now) }
         ensures unchanged { OnErr result (self.new ≡ self.old) }
@@ -69,8 +70,8 @@ impl Channel {
         }
     }
 
-    // Returns the room, if there is one, and removes it from the channel. If the loaded program is in the room, it is
-    // unloaded.
+    // Removes the room from the channel and returns it, or `None` if the channel has no room. A program whose bytes are
+    // in the room is unloaded.
     fn take_room(&mut self) -> Option<Vec<u8>>
         ensures room { IfSome result (λ room. most_bytes ≤ vec_capacity room) }
         ensures none { IsNone result → self.new ≡ self.old }

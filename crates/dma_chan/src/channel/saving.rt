@@ -38,7 +38,7 @@ impl Channel {
     pub fn restore(&mut self, alloc: Global, save: &[u8]) -> Result<(), RestoreFault>
         // The bytes are the save of the restored channel.
         ensures ok { OnOk result (save.now ≡ saved self.new) }
-        // The save of any channel restores that channel, unless memory runs out.
+        // The save of any channel restores that channel, unless the allocator is out of memory.
         ensures all { (c : ChannelValue) → IsChannelValue c → save.now ≡ saved c
             → MatchResult result (λ _. self.new ≡ c) (λ fault. fault ≡ RestoreFault.NoMemory) }
         // `NoMemory` is returned only for the save of a channel.
@@ -59,7 +59,7 @@ impl Channel {
         Ok(())
     }
 
-    // Returns the bytes of the program. Without a program there are none.
+    // Returns the bytes of the program, or no bytes if none is loaded.
     fn program_bytes(&self) -> &[u8]
         ensures value { result.now ≡ code_of self.now }
         ensures limit { length result.now ≤ most_bytes }

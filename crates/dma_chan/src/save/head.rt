@@ -63,7 +63,8 @@ fn u64_at(save: &[u8], at: usize) -> u64
 
 // Returns the cost that these two fields encode.
 fn cost_of(flag_byte: u8, number: u32) -> Option<u32>
-    ensures { (cost : Option ℕ) → flag_byte ≡ flag (is_some cost) → number ≡ unwrap_or cost 0
+    ensures { (cost : Option ℕ)
+        → flag_byte ≡ flag (is_some cost) → number ≡ unwrap_or cost 0
         → result ≡ cost }
 {
     if flag_byte != 0 { Some(number) } else { None }
@@ -92,7 +93,8 @@ impl Head {
     // Returns the head of these bytes if they are a save. For other bytes the result may be a head too.
     fn read(save: &[u8]) -> Option<Head>
         requires { 48 ≤ length save.now }
-        ensures { (h : Head) (rest : List ℕ) → HasHeadRanges h → save.now ≡ head_bytes h ++ rest
+        ensures { (h : Head) (rest : List ℕ)
+            → HasHeadRanges h → save.now ≡ head_bytes h ++ rest
             → result ≡ Some h }
     {
         let Some(registers) = registers_in(save) else {
@@ -143,8 +145,8 @@ impl Head {
         &save[start..start + usize::from(self.program_len)]
     }
 
-    // Returns the head of a save, or `None` if the bytes aren't a save. The function writes the candidate again: the
-    // bytes are a save exactly if the result equals them.
+    // Returns the head of a save, or `None` if the bytes aren't a save. They are a save exactly if they equal the save
+    // that is written again from the head and the parts that they contain.
     pub fn of_save(save: &[u8]) -> Option<Head>
         ensures fits { IfSome result (λ h. FitsIn (length save.now) h) }
         ensures found { IfSome result (λ h. save.now ≡ saved (channel_in save.now h)) }

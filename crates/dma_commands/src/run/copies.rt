@@ -2,7 +2,7 @@
 //! answer is neither Started nor Moved.
 ghost use Rattle.std.specs.Prelude.{◌≡◌, IfOk};
 ghost use Rattle.dma_commands.specs.inner.RunSteps.{RunsLine};
-ghost use Rattle.dma_commands.specs.Run.{CopiesEnd, copy_answer, fill_answer, is_in_use, most_steps, stepped_through, through_answer};
+ghost use Rattle.dma_commands.specs.Run.{CopiesEnd, copy_answer, fill_answer, is_in_use, most_steps, stepped_to_end, transfer_answer};
 ghost use Rattle.dma_commands.specs.Transfers.{transfer_of};
 
 use crate::printing::Shown;
@@ -30,9 +30,9 @@ fn is_in_use(engine: &Engine) -> bool
 
 /// Steps channel 0 until an answer is neither Started nor Moved, and at most `MOST_STEPS` + 1 times. Returns the last
 /// answer. Fails if memory runs out.
-fn step_through(engine: &mut Engine) -> Result<Reply, AllocError>
+fn step_to_end(engine: &mut Engine) -> Result<Reply, AllocError>
     ensures { IfOk result
-        (λ reply. (reply, engine.new.view) ≡ stepped_through most_steps engine.old.view) }
+        (λ reply. (reply, engine.new.view) ≡ stepped_to_end most_steps engine.old.view) }
 {
     match engine.advance(0, MOST_STEPS).last {
         Some(last) => step_reply(last),
@@ -42,14 +42,14 @@ fn step_through(engine: &mut Engine) -> Result<Reply, AllocError>
 
 /// Runs the transfer of a `copy` or `fill` line, and appends `start` and the last answer; or appends why it wasn't
 /// run. The line's lists are moved into the transfer.
-fn answer_through(
+fn answer_transfer(
     engine: &mut Engine,
     start: &str,
     words: TransferLine,
     out: &mut Vec<u8>,
 ) -> Result<(), AllocError>
     ensures { RunsLine
-        (through_answer engine.old.view start.now (transfer_of words)) engine.new.view
+        (transfer_answer engine.old.view start.now (transfer_of words)) engine.new.view
         result out.old.items out.new.items }
 {
     let transfer = match transfer_of(words) {
@@ -62,7 +62,7 @@ fn answer_through(
     match engine.submit(0, transfer) {
         Ok(_) => {
             reply_to(engine, &Call::Issue { ch: 0 })?;
-            let last = step_through(engine)?;
+            let last = step_to_end(engine)?;
             print_line(out, &(start, Shown(&last)))
         }
         Err(refused) => print_line(out, &("refused ", Shown(refused.fault))),
@@ -86,7 +86,7 @@ pub fn answer_copy(
         wait: None,
         signal: None,
     };
-    answer_through(engine, "copy ", words, out)
+    answer_transfer(engine, "copy ", words, out)
 }
 
 /// Executes `fill ADDR to LIST`.
@@ -106,7 +106,7 @@ pub fn answer_fill(
         wait: None,
         signal: None,
     };
-    answer_through(engine, "fill ", words, out)
+    answer_transfer(engine, "fill ", words, out)
 }
 
 /// Law: the steps of a copy or a fill end with an answer that is neither Started nor Moved, and not because of the

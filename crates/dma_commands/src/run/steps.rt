@@ -62,7 +62,7 @@ impl StepLines {
 
     /// Adds `many` equal answers. Fails if memory runs out.
     fn take(&mut self, ch: u8, reply: &Reply, many: u32) -> Result<(), AllocError>
-        requires { self.old.count + many ≤ 4294967295 }
+        requires { self.old.count + many ≤ u32.MAX }
         ensures text { OnOk result
             ((rest : List (List ℕ))
             → text_with ch self.new.lines.items self.new.last.items self.new.count rest
@@ -87,7 +87,7 @@ impl StepLines {
 
     /// Adds the answer to a step that started this cookie, if any. Fails if memory runs out.
     fn take_start(&mut self, ch: u8, started: Option<u32>) -> Result<(), AllocError>
-        requires { self.old.count + (if is_some started then 1 else 0) ≤ 4294967295 }
+        requires { self.old.count + (if is_some started then 1 else 0) ≤ u32.MAX }
         ensures text { OnOk result
             ((rest : List (List ℕ))
             → text_with ch self.new.lines.items self.new.last.items self.new.count rest
@@ -135,30 +135,30 @@ fn take_steps(
     engine: &mut Engine,
     ch: u8,
     most: u32,
-    told: &mut StepLines,
+    printed: &mut StepLines,
 ) -> Result<u32, AllocError>
     requires some { 0 < most }
-    requires few { told.old.count + most ≤ 4294967295 }
+    requires few { printed.old.count + most ≤ u32.MAX }
     ensures many { IfOk result (λ many. (0 < many) × (many ≤ most)) }
     ensures view { IfOk result
         (λ many. engine.new.view ≡ (answers engine.old.view (replicate many (calls.Step ch))).1) }
     ensures text { IfOk result
         (λ many. (rest : List (List ℕ))
-        → text_with ch told.new.lines.items told.new.last.items told.new.count rest
-        ≡ text_with ch told.old.lines.items told.old.last.items told.old.count
+        → text_with ch printed.new.lines.items printed.new.last.items printed.new.count rest
+        ≡ text_with ch printed.old.lines.items printed.old.last.items printed.old.count
         (map reply_text (answers engine.old.view (replicate many (calls.Step ch))).0 ++ rest)) }
-    ensures count { IfOk result (λ many. told.new.count ≤ told.old.count + many) }
+    ensures count { IfOk result (λ many. printed.new.count ≤ printed.old.count + many) }
 {
     let steps = engine.advance(ch, most);
-    told.take_start(ch, steps.started)?;
-    told.take(ch, &Reply::Turned(Turn::Moved), steps.moved)?;
+    printed.take_start(ch, steps.started)?;
+    printed.take(ch, &Reply::Turned(Turn::Moved), steps.moved)?;
     let before = steps.steps_before();
     let Some(last) = steps.last else {
         return Ok(before);
     };
     let reply = step_reply(last)?;
     let many = if is_idle(last) { most - before } else { 1 };
-    told.take(ch, &reply, many)?;
+    printed.take(ch, &reply, many)?;
     Ok(before + many)
 }
 

@@ -34,7 +34,8 @@ transfer_at kept history indices n =
 abbrev pub unfinished_in : Queue → List Descriptor → List Entry → List Descriptor
 unfinished_in q kept history = drop (length q.outcomes.items) (transfers_in kept history q.indices.items)
 
--- the number of a queue's cookies that the base and the history give, and of those forgotten
+-- how many of a queue's cookies are known: those that are forgotten, and those whose transfers the base or the history
+-- has
 abbrev pub known_with : List Descriptor → Queue → ℕ
 known_with kept q = q.forgotten + length kept + length q.indices.items
 

@@ -112,12 +112,13 @@ pub record IsQueue (ch : ℕ) (kept : List Descriptor) (history : List Entry) (m
   pub halted : q.halted ≡ c.halted
   pub machine : IsRun memory q.channel c
 
--- The running transfer, if any, finds its pages: each of its destinations lies on a made page.
+-- Each destination of the running transfer, if any, lies on a page that is made.
 abbrev pub IsPrepared : List Bool → Option RunningTransfer → Type 0
 IsPrepared made x = IfSome x (λ r. OnPages made (destinations r.transfer))
 
 -- The view is sound; the memory is the one that it shows; the flags and marks are the object's; each queue matches its
--- channel; running transfers find their pages; and each queue keeps the ranges of what runs on its channel.
+-- channel; the destinations of running transfers lie on pages that are made; and each queue keeps the ranges of what
+-- runs on its channel.
 pub record Holds (p : Parts) : Type 0 where
   pub sound : IsSound (view_of p)
   pub size : p.size ≡ length p.base.image

@@ -5,7 +5,7 @@ ghost use Rattle.std.specs.List.{All};
 ghost use Rattle.dma_engine.specs.Object.{base_from, channel, forget, no_transfer};
 ghost use Rattle.dma_engine.specs.View.{channels, object_of, schedule_at};
 ghost use Rattle.dma_engine.specs.Answer.{CallAnswers, done_reply, first_running};
-ghost use Rattle.dma_engine.specs.Room.{HasGivenBack};
+ghost use Rattle.dma_engine.specs.Room.{HasNoSpare};
 ghost use Rattle.dma_engine.specs.inner.Holds.{queue_forgotten};
 
 use crate::access::Access;
@@ -31,7 +31,7 @@ impl Engine {
         ensures answer { CallAnswers self.old.view Call.Checkpoint (done_reply result)
             self.new.view }
         ensures memory { self.new.memory ≡ self.old.memory }
-        ensures room { IfOk result (λ _. HasGivenBack self.new) }
+        ensures room { IfOk result (λ _. HasNoSpare self.new) }
         ensures same { OnErr result (self.new ≡ self.old) }
     {
         if let Some((ch, cookie)) = self.first_conflict(&Access::Checkpoint) {
@@ -58,7 +58,8 @@ impl Engine {
     // Returns the next base's state of all channels.
     fn next_channels(&self) -> Result<Vec<BaseChannel>, AllocError>
         requires { first_running self.now.view (λ _. true) ≡ None }
-        ensures { IfOk result (λ list. list.items ≡ map forget (object_of self.now.view).channels) }
+        ensures { IfOk result
+            (λ list. list.items ≡ map forget (object_of self.now.view).channels) }
     {
         let mut list = Vec::new(self.alloc);
         for index in 0..self.queues.len() {

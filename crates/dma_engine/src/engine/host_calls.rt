@@ -17,9 +17,6 @@ use dma_mem::segment::Segment;
 use dma_mem::transfer::LAST_EVENT;
 use std::alloc::{AllocError, Global};
 
-/// One past the last address (PL330 manual, 32-bit address registers).
-const END_OF_ADDRESSES: u64 = 4_294_967_296;
-
 impl Engine {
     /// Writes bytes to consecutive addresses, starting at `addr`.
     ///
@@ -149,16 +146,13 @@ impl Engine {
     /// Marks a range, so that bursts of that kind fail there from then on. Nothing else fails there. The range need not
     /// lie below the memory's size.
     ///
-    /// The error is `BadRange` if the range is empty or ends above the last address, else `NoMemory`.
+    /// The error is `BadRange` if the range is empty or ends above 2^32, else `NoMemory`.
     pub fn mark(&mut self, kind: MarkKind, segment: Segment) -> Result<(), EngineFault>
         ensures answer { CallAnswers self.old.view (Call.Mark kind segment) (done_reply result)
             self.new.view }
         ensures kept { OnErr result (KeepsRoom self.old self.new) }
     {
-        if segment.len == 0 {
-            return Err(EngineFault::BadRange);
-        }
-        if u64::from(segment.addr) + u64::from(segment.len) > END_OF_ADDRESSES {
+        if segment.len == 0 || segment.wraps() {
             return Err(EngineFault::BadRange);
         }
         self.history.reserve(1)?;

@@ -1,4 +1,4 @@
-//! Totals of an engine, by which a host decides when to make a checkpoint.
+//! Totals of an engine, which help a host to decide when to make a checkpoint.
 
 ghost use Rattle.std.specs.Prelude.{◌≡◌, length, min};
 ghost use Rattle.dma_engine.specs.History.{kept_by, kept_bytes};

@@ -1,19 +1,44 @@
--- What the pointers that C keeps hold once a borrow of their value has ended: the last value that was written.
-use Rattle.std.specs.Prelude.{Some}
-use Rattle.std.specs.Borrow.{Lends, MutBor, Fml}
+-- What a value that C keeps is once a borrow of it has ended: it has the last value that was written.
+use Rattle.std.specs.Prelude.{Option, Some, true, refl}
+use Rattle.std.specs.Borrow.{Lends, LendsIf, MutBor, Fml}
+use denote.RattleType.{RattleType}
 use Rattle.dma_engine.specs.View.{EngineState}
 use Rattle.dma_engine.specs.contracts.engine.Engine.{the_row as engine_row}
-use Rattle.dma_ffi.specs.declared.engine_pointer.EnginePointer.{EnginePointer}
-use Rattle.dma_ffi.specs.contracts.engine_pointer.EnginePointer.{the_row as engine_pointer_row}
-use Rattle.dma_ffi.specs.declared.channel_pointer.ChannelPointer.{ChannelPointer}
-use Rattle.dma_ffi.specs.contracts.channel_pointer.ChannelPointer.{the_row as channel_pointer_row}
+use Rattle.dma_ffi.specs.declared.heap_pointer.HeapPointer.{HeapPointer}
+use Rattle.dma_ffi.specs.contracts.heap_pointer.HeapPointer.{the_row as heap_pointer_row}
+use Rattle.dma_ffi.specs.declared.kept.Kept.{Kept}
+use Rattle.dma_ffi.specs.contracts.kept.Kept.{the_row as kept_row}
+use Rattle.dma_ffi.specs.declared.controller.Controller.{Controller}
+use Rattle.dma_ffi.specs.contracts.controller.Controller.{the_row as controller_row}
+use Rattle.dma_ffi.specs.declared.kept_channel.KeptChannel.{KeptChannel}
+use Rattle.dma_ffi.specs.contracts.kept_channel.KeptChannel.{the_row as kept_channel_row}
 use Rattle.dma_ffi.specs.declared.marked_channel.MarkedChannel.{MarkedChannel}
 use Rattle.dma_ffi.specs.contracts.marked_channel.MarkedChannel.{the_row as channel_row}
 
--- a pointer lends its engine
-abbrev pub LendsEngine : MutBor EnginePointer → MutBor EngineState → Fml
-LendsEngine s r = Lends engine_pointer_row engine_row s r (λ w. record (s.now) { value = Some w })
+-- a pointer lends its value, of the type R
+abbrev pub LendsValue : (R : RattleType) → MutBor (HeapPointer R.Denot) → MutBor R.Denot → Fml
+LendsValue R s r = Lends (heap_pointer_row R) R s r (λ w. record (s.now) { value = Some w })
 
--- a pointer lends its channel and its marks
-abbrev pub LendsChannel : MutBor ChannelPointer → MutBor MarkedChannel → Fml
-LendsChannel s r = Lends channel_pointer_row channel_row s r (λ w. record (s.now) { value = Some w })
+-- an open one with the value `w`
+abbrev pub holding : (R : RattleType) → Kept R.Denot → R.Denot → Kept R.Denot
+holding R k w = record { at = record (k.at) { value = Some w }; is_open = true; holds = (λ _. refl, λ _. refl) }
+
+-- a kept value lends itself, if any
+abbrev pub LendsKept : (R : RattleType) → MutBor (Kept R.Denot) → Option (MutBor R.Denot) → Fml
+LendsKept R s r = LendsIf (kept_row R) R s r (holding R (s.now)) (s.now)
+
+-- a kept engine as a controller
+abbrev pub as_controller : Kept EngineState → Controller
+as_controller k = record { engine = record { at = k.at.at; value = k.at.value }; is_open = k.is_open; holds = k.holds }
+
+-- a controller lends itself as a kept engine
+abbrev pub LendsController : MutBor Controller → MutBor (Kept EngineState) → Fml
+LendsController s r = Lends controller_row (kept_row engine_row) s r as_controller
+
+-- a kept channel in the form for C
+abbrev pub as_channel : Kept MarkedChannel → KeptChannel
+as_channel k = record { channel = record { at = k.at.at; value = k.at.value }; is_open = k.is_open; holds = k.holds }
+
+-- a channel lends itself as a kept one
+abbrev pub LendsKeptChannel : MutBor KeptChannel → MutBor (Kept MarkedChannel) → Fml
+LendsKeptChannel s r = Lends kept_channel_row (kept_row channel_row) s r as_channel

@@ -5,17 +5,17 @@ use Rattle.dma_mem.specs.declared.transfer.Origin.{Origin}
 use Rattle.dma_mem.specs.declared.transfer.Origin.TheVariants as origins
 use Rattle.dma_mem.specs.Places.{Descriptor}
 
--- the segments, whether there is a list of them or one place
+-- the source segments: those of a list, or the one segment of a fill
 abbrev pub segments_of : Origin → List Segment
 segments_of (origins.List segments) = segments
 segments_of (origins.Place segment) = segment ∷ []
 
--- whether it is one place, which is read for each place of the destinations
+-- whether the source is the one place of a fill, which is read for every destination
 abbrev pub is_place : Origin → Bool
 is_place (origins.List segments) = false
 is_place (origins.Place segment) = true
 
--- what contracts see of a transfer that is stored like this
+-- what contracts see of a transfer with these fields
 abbrev pub descriptor_of : Origin → List Segment → Option ℕ → Option ℕ → Descriptor
 descriptor_of src dst wait signal =
     record { fill = is_place src; src = segments_of src; dst = dst; wait = wait; signal = signal }

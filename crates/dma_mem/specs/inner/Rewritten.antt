@@ -5,10 +5,11 @@ use Rattle.dma_mem.specs.Image.{put, bytes_at}
 use Rattle.dma_mem.specs.Lent.{Avoids}
 use Rattle.dma_mem.specs.Regions.{Piece, end_of, pieces_of, in_order, image_of, gaps_of, names_of}
 
--- what is at an index past the last piece
+-- the piece past the last one, which has no bytes
 abbrev pub nowhere : Piece
 nowhere = record { addr = 0; bytes = [] }
 
+-- the piece at an index
 abbrev pub piece_at : List Piece → ℕ → Piece
 piece_at ps k = slice_index_or ps k nowhere
 

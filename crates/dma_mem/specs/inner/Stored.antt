@@ -11,7 +11,7 @@ abbrev pub bytes_in : StoredBytes → List ℕ
 bytes_in (Few len bytes) = take len bytes
 bytes_in (Long bytes) = bytes.value.items
 
--- The bytes that are kept in the value are no more than it has room for.
+-- A value has room for the bytes that it keeps.
 abbrev pub FitsInline : StoredBytes → Type 0
 FitsInline (Few len bytes) = len ≤ 22
 FitsInline (Long bytes) = Unit {0}

@@ -1,5 +1,5 @@
-//! A table by addresses: page after page, each of 4,096 bytes. The loops over pages are out of line: a burst mostly
-//! lies on one page, and a channel's loop of instructions has no room for them.
+//! Reads and writes a table by address, page after page of 4,096 bytes. The loops over pages aren't inlined: a burst
+//! mostly lies on one page, and the instruction loop of a channel stays small without them.
 
 ghost use Rattle.std.specs.Prelude.{◌≡◌, ℕ, ◌+◌, ◌*◌, ◌%◌, ◌<◌, ◌≤◌, ◌++◌, ◌^◌, length, true, false, IfOk, IfSome, IsSome, OnOk, OnErr};
 ghost use Rattle.dma_mem.specs.Pages.{page_size};
@@ -10,7 +10,7 @@ use crate::table::{Table, shown};
 use std::alloc::{AllocError, Global};
 
 impl Table {
-    /// Returns the `len` bytes from `start` on, where they are on one page.
+    /// Returns the `len` bytes from `start` on, or `None` if they don't lie on one page.
     pub(crate) fn part(&self, start: usize, len: usize) -> Option<&[u8]>
         requires { start + len < 2 ^ 33 }
         ensures bytes { IfSome result
@@ -25,7 +25,7 @@ impl Table {
         Some(&page[offset..offset + len])
     }
 
-    /// Fills the slice with the bytes from `start` on.
+    /// Fills `buf` with the bytes from `start` on.
     #[inline(never)]
     pub(crate) fn read(&self, start: usize, buf: &mut [u8])
         requires { start + length buf.old < 2 ^ 33 }
@@ -42,7 +42,7 @@ impl Table {
         }
     }
 
-    /// Returns a list of the `len` bytes from `start` on: none of them is cleared before it is copied.
+    /// Returns a copy of the `len` bytes from `start` on, without clearing the new list first.
     pub(crate) fn to_vec(
         &self,
         alloc: Global,
@@ -64,7 +64,7 @@ impl Table {
         Ok(list)
     }
 
-    /// Makes the pages of the addresses from `start` to before `end`.
+    /// Makes the pages of the addresses from `start` up to, but not including, `end`.
     #[inline(never)]
     pub(crate) fn make(&mut self, start: usize, end: usize) -> Result<(), AllocError>
         requires order { start ≤ end }
@@ -88,7 +88,7 @@ impl Table {
         Ok(())
     }
 
-    /// Returns whether the pages of the addresses from `start` to before `end` are made.
+    /// Returns whether the pages of the addresses from `start` up to, but not including, `end` are made.
     pub(crate) fn are_made(&self, start: usize, end: usize) -> bool
         requires order { start < end }
         requires limit { end < 2 ^ 33 }
@@ -103,7 +103,7 @@ impl Table {
         true
     }
 
-    // Puts the bytes at `start` and after it, on pages that are made: one look-up for each page.
+    // Writes the bytes from `start` on to pages that are already made, with one look-up for each page.
     #[inline(never)]
     fn put(&mut self, start: usize, bytes: &[u8])
         requires limit { start + length bytes.now < 2 ^ 33 }
@@ -122,8 +122,8 @@ impl Table {
         }
     }
 
-    /// Puts the bytes of two slices, those of the second behind those of the first, at `start` and after it, on pages
-    /// that are made: one look-up where they are on one page.
+    /// Writes the bytes of `front` and then those of `back` from `start` on to pages that are already made, with one
+    /// look-up if they lie on one page.
     pub(crate) fn put_parts(&mut self, start: usize, front: &[u8], back: &[u8])
         requires limit { start + length front.now + length back.now < 2 ^ 33 }
         requires made { RangeMade self.old start (start + length front.now + length back.now) }
@@ -141,7 +141,7 @@ impl Table {
         }
     }
 
-    /// Puts the bytes at `start` and after it, and makes their pages first: one look-up where they are on one page.
+    /// Writes the bytes from `start` on, and first makes their pages; with one look-up if they lie on one page.
     pub(crate) fn write(&mut self, start: usize, bytes: &[u8]) -> Result<(), AllocError>
         requires within { start + length bytes.now ≤ page_size * length self.old }
         requires limit { start + length bytes.now < 2 ^ 33 }
@@ -151,7 +151,8 @@ impl Table {
         ensures ok { OnOk result (PutsBytes self.old self.new start bytes.now) }
         ensures err { OnErr result
             ((p : ℕ) → SameBytes (page_at self.old p) (page_at self.new p)) }
-        ensures kept { (p : ℕ) → 0 < length (page_at self.old p) → 0 < length (page_at self.new p) }
+        ensures kept { (p : ℕ)
+            → 0 < length (page_at self.old p) → 0 < length (page_at self.new p) }
         ensures others { (p : ℕ) → IsPageOutside p start (start + length bytes.now)
             → length (page_at self.new p) ≡ length (page_at self.old p) }
     {

@@ -1,4 +1,4 @@
-//! Copies and fills of blocks of bytes, whose destination is on pages that are made.
+//! Copies and fills blocks of bytes, whose destinations are on pages that are already made.
 
 ghost use Rattle.std.specs.Prelude.{◌≡◌, ◌+◌, ◌%◌, ◌<◌, ◌≤◌, ◌⊎◌, ◌^◌, length, slice_set};
 ghost use Rattle.dma_mem.specs.inner.Blocks.{copied, filled, CopiesBlock, FillsBlock};
@@ -9,7 +9,7 @@ use crate::memory::PAGE_SIZE;
 use crate::table::{GROUP_SIZE, Group, Page, Table, put_bytes, shown};
 use std::mem;
 
-// Returns how many of the `len` bytes from `start` on lie on the page of the first.
+// Returns how many of the `len` bytes from `start` on lie on the same page as the first.
 fn on_one_page(start: usize, len: usize) -> usize
     ensures most { result ≤ len }
     ensures some { 0 < len → 0 < result }
@@ -18,7 +18,7 @@ fn on_one_page(start: usize, len: usize) -> usize
     len.min(PAGE_SIZE - start % PAGE_SIZE)
 }
 
-// Copies the `len` bytes of a slice from `from` on to the places from `to` on.
+// Copies `len` bytes of a slice from index `from` to index `to`.
 pub(crate) fn copy_bytes(all: &mut [u8], from: usize, to: usize, len: usize)
     requires source { from + len ≤ length all.old }
     requires within { to + len ≤ length all.old }
@@ -27,7 +27,7 @@ pub(crate) fn copy_bytes(all: &mut [u8], from: usize, to: usize, len: usize)
     all.copy_within(from..from + len, to);
 }
 
-// Copies the `len` bytes of a slice from `from` on to the places from `to` on, where the two ranges share no place: as
+// Copies `len` bytes of a slice from index `from` to index `to`. The two ranges share no index, so they are copied as
 // one block, while `copy_bytes` copies byte by byte.
 pub(crate) fn copy_bytes_apart(all: &mut [u8], from: usize, to: usize, len: usize)
     requires source { from + len ≤ length all.old }
@@ -44,7 +44,7 @@ pub(crate) fn copy_bytes_apart(all: &mut [u8], from: usize, to: usize, len: usiz
     }
 }
 
-// Sets the `len` bytes of a slice from `start` on to one byte.
+// Sets the `len` bytes of a slice from index `start` on to one byte.
 pub(crate) fn fill_bytes(all: &mut [u8], start: usize, len: usize, byte: u8)
     requires { start + len ≤ length all.old }
     ensures { all.new ≡ filled all.old start len byte }
@@ -53,7 +53,7 @@ pub(crate) fn fill_bytes(all: &mut [u8], start: usize, len: usize, byte: u8)
 }
 
 impl Page {
-    // Copies the `len` bytes of the page from `from` on to the places from `to` on.
+    // Copies `len` bytes of the page from offset `from` to offset `to`.
     fn copy_within(&mut self, from: usize, to: usize, len: usize)
         requires made { 0 < length self.old }
         requires source { from + len ≤ page_size }
@@ -87,7 +87,7 @@ impl Group {
         mem::replace(&mut self.pages[index], page)
     }
 
-    // Sets the `len` bytes from an offset on of a page that is made to one byte.
+    // Sets `len` bytes of a page that is already made, from an offset on, to one byte.
     fn fill(&mut self, index: usize, offset: usize, len: usize, byte: u8)
         requires made { 0 < length (page_at self.old index) }
         requires fits { offset + len ≤ page_size }
@@ -101,9 +101,9 @@ impl Group {
 }
 
 impl Table {
-    // Copies `len` bytes that lie on one page to addresses that lie on one page, which is made.
+    // Copies `len` bytes that lie on one page to addresses that lie on one page, which is already made.
     //
-    // The destination's page is taken out of the table for the copy, so that the source's page can be read in place.
+    // The destination's page is taken out of the table during the copy, so that the source's page can be read in place.
     fn copy_on_pages(&mut self, from: usize, to: usize, len: usize)
         requires source { from % page_size + len ≤ page_size }
         requires within { to % page_size + len ≤ page_size }
@@ -125,8 +125,8 @@ impl Table {
         self.groups[number / GROUP_SIZE].replace(number % GROUP_SIZE, page);
     }
 
-    /// Copies the `len` bytes from address `from` on to the addresses from `to` on, whose pages are made. The two
-    /// ranges share no address.
+    /// Copies `len` bytes from `from` to `to`. The pages of the destination are already made, and the two ranges share
+    /// no address.
     #[inline(never)]
     pub(crate) fn copy_apart(&mut self, from: usize, to: usize, len: usize)
         requires source { from + len < 2 ^ 33 }
@@ -146,7 +146,7 @@ impl Table {
         }
     }
 
-    // Sets `len` bytes that lie on one page, which is made, to one byte.
+    // Sets `len` bytes that lie on one page, which is already made, to one byte.
     fn fill_on_page(&mut self, start: usize, len: usize, byte: u8)
         requires within { start % page_size + len ≤ page_size }
         requires made { 0 < length (page_of self.old start) }
@@ -159,7 +159,7 @@ impl Table {
         group.fill(number % GROUP_SIZE, start % PAGE_SIZE, len, byte);
     }
 
-    /// Sets the `len` bytes from `start` on, whose pages are made, to one byte.
+    /// Sets the `len` bytes from `start` on to one byte. Their pages are already made.
     #[inline(never)]
     pub(crate) fn fill(&mut self, start: usize, len: usize, byte: u8)
         requires limit { start + len < 2 ^ 33 }

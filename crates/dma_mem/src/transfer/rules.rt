@@ -13,9 +13,6 @@ use crate::ordered::{any_meets_ordered, sort_by_address};
 use crate::segment::{Segment, meets};
 use crate::transfer::{LAST_EVENT, MAX_BYTES, MAX_SEGMENTS, TransferFault};
 
-/// One past the last address (PL330 manual, 32-bit address registers).
-const END_OF_ADDRESSES: u64 = 4_294_967_296;
-
 // Returns whether a segment of the list has no byte.
 fn has_empty_segment(list: &[Segment]) -> bool
     ensures { result ≡ has_empty_segment list.now }
@@ -23,11 +20,11 @@ fn has_empty_segment(list: &[Segment]) -> bool
     list.iter().any(|s| s.len == 0)
 }
 
-// Returns whether a segment of the list ends above the last address.
+// Returns whether a segment of the list ends above 2^32.
 fn has_wrapping_segment(list: &[Segment]) -> bool
     ensures { result ≡ has_wrapping_segment list.now }
 {
-    list.iter().any(|s| s.end() > END_OF_ADDRESSES)
+    list.iter().any(|s| s.wraps())
 }
 
 // Returns how many bytes a list has.
@@ -66,7 +63,7 @@ pub(crate) fn lists_meet(list: &[Segment], others: &[Segment]) -> bool
     meets_any(list, others)
 }
 
-// Returns whether two of the segments meet, which are in the order of their first addresses: then two neighbours do.
+// Returns whether two of the segments meet. They are sorted by their first addresses, so two neighbours meet then.
 fn neighbours_meet(sorted: &[Segment]) -> bool
     requires filled { All (λ s. 0 < s.len) sorted.now }
     requires rising { IsNonDecreasingBy (λ (s : Segment). s.addr) sorted.now }
@@ -80,8 +77,8 @@ fn neighbours_meet(sorted: &[Segment]) -> bool
     false
 }
 
-// Returns how the lists overlap: two destinations meet, or else a source meets one. The destinations are sorted on the
-// stack, so that this takes no memory and each question a binary search.
+// Returns how the lists overlap: two destinations meet, or else a source meets a destination. The destinations are
+// sorted on the stack, so nothing is allocated and each source needs only a binary search.
 fn overlap_of_many(src: &[Segment], dst: &[Segment]) -> Option<TransferFault>
     requires few { length dst.now ≤ most_segments }
     requires filled { All (λ s. 0 < s.len) dst.now }
@@ -100,7 +97,7 @@ fn overlap_of_many(src: &[Segment], dst: &[Segment]) -> Option<TransferFault>
     }
 }
 
-// Returns the same, without the sort where there is one destination.
+// Returns the same as `overlap_of_many`, but doesn't sort a list of one destination.
 fn overlap(src: &[Segment], dst: &[Segment]) -> Option<TransferFault>
     requires few { length dst.now ≤ most_segments }
     requires filled { All (λ s. 0 < s.len) dst.now }
@@ -112,22 +109,22 @@ fn overlap(src: &[Segment], dst: &[Segment]) -> Option<TransferFault>
     meets_any(src, dst).then_some(TransferFault::SourceMeetsDestination)
 }
 
-// Returns whether the event is above the last.
+// Returns whether the event is above [`LAST_EVENT`].
 fn is_bad_event(event: Option<u8>) -> bool
     ensures { result ≡ is_bad_event event }
 {
     event.is_some_and(|e| e > LAST_EVENT)
 }
 
-// Which totals the two lists of a transfer may have: a copy's are the same, and the one byte of a fill goes to any
-// number.
+// Whether the two lists of a transfer must have the same number of bytes. Those of a copy must; a fill copies one byte
+// to any number of destinations.
 #[derive(Clone, Copy, PartialEq, Eq)]
 pub(crate) enum Totals {
     Same,
     Any,
 }
 
-// Returns how many bytes a transfer of these lists copies, or a fill, or the first refusal that holds.
+// Returns how many bytes a copy or a fill of these lists writes, or the first refusal that applies.
 pub(crate) fn checked_len(
     totals: Totals,
     src: &[Segment],
@@ -173,7 +170,7 @@ pub(crate) fn checked_len(
     Ok(len as u32)
 }
 
-// Returns how many bytes a fill of these destinations writes, or the first refusal that holds.
+// Returns how many bytes a fill of these destinations writes, or the first refusal that applies.
 pub(crate) fn checked_fill(
     src: u32,
     dst: &[Segment],

@@ -1,4 +1,4 @@
--- What the type of a desk keeps.
+-- The invariant of a desk.
 use Rattle.std.specs.Prelude.{◌≡◌, ℕ, ◌+◌, [], ◌++◌}
 use Rattle.logbook.specs.Pages.{Book}
 use Rattle.dma_engine.specs.Object.{finished_all}
@@ -9,10 +9,10 @@ use Rattle.dma_work.specs.inner.Published.{PublisherState}
 use Rattle.dma_work.specs.Laws.{AreCounts}
 use Rattle.dma_work.specs.Ticks.{base_of, board_from}
 
--- What the type of a desk keeps, by the step count, the number of finished cookies, the base and the log that its name has:
--- what is published ends with the ticks of the history, and nothing is pending; the ticks before them add up to the counts
--- with which the history begins; the counts of the base are numbers of 32 bits; and the book is the rise of step count and
--- finished cookies.
+-- The invariant of a desk, for the step count, the number of finished cookies, the base and the log that its name has.
+-- The published list ends with the ticks of the history, and no tick is pending. The published ticks before those add
+-- up to the counts with which the history begins. The counts of the base are numbers of 32 bits. The book has the
+-- increase of the step count and of the finished cookies.
 pub record IsKept
     (steps finished : ℕ) (base : Board) (log : Book) (engine : EngineState) (p : PublisherState) (book : Totals)
     : Type 0 where

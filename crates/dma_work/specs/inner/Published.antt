@@ -17,15 +17,15 @@ pub record SnapshotState : Type 0 where
   pub ticks : List Tick
 
 -- a list of one tick, or of none
-abbrev pub those : Option Tick → List Tick
-those (Some t) = t ∷ []
-those None = []
+abbrev pub ticks_of_option : Option Tick → List Tick
+ticks_of_option (Some t) = t ∷ []
+ticks_of_option None = []
 
 -- the snapshot with one more tick
 abbrev pub with_tick : SnapshotState → Tick → SnapshotState
 with_tick s t = record s { ticks = s.ticks ++ t ∷ [] }
 
--- The rule of a log: its first word is the number of ticks. (A log has two words; this one keeps the second at 0.)
+-- The rule of a log: its first word is the number of ticks. A log has two words; the second one stays 0.
 abbrev pub IsCounted : List Cell → List Tick → Type 0
 IsCounted cells ticks = cells ≡ (length ticks, true) ∷ (0, true) ∷ []
 
@@ -33,8 +33,8 @@ IsCounted cells ticks = cells ≡ (length ticks, true) ∷ (0, true) ∷ []
 abbrev pub head_of : Book → Named
 head_of b = record { tracked = true; key = 0; book = b }
 
--- What an exchange shows: if it found the number that it sought, the tick follows all that had been seen; else the log
--- is longer.
+-- What an exchange shows: if it found the number that it expected, the tick follows all that was seen before; otherwise
+-- the log is longer.
 abbrev pub Adds : Step Tick → View Tick ℕ → ℕ → View Tick ℕ → Type 0
 Adds s v found w = MatchBool (found == s.old) (w.0 ≡ v.0 ++ s.ask ∷ []) (length w.0 ≡ found)
 
@@ -54,8 +54,8 @@ board_and b more = record b { ticks = b.ticks ++ more }
 abbrev pub board_with : BoardState → Tick → BoardState
 board_with b t = board_and b (t ∷ [])
 
--- A board at a later time begins with what it was.
-pub record Later (old new : BoardState) : Type 0 where
+-- A later board begins with the earlier one.
+pub record IsLaterBoard (old new : BoardState) : Type 0 where
   pub base : new.base ≡ old.base
   pub log : new.log ≡ old.log
   pub ticks : StartsWith new.ticks old.ticks
@@ -68,28 +68,29 @@ newest b next = fold (λ (x : BoardState) (y : BoardState). y) b next
 abbrev pub snapshot_of : BoardState → SnapshotState
 snapshot_of b = record { log = b.log; ticks = b.ticks }
 
--- A publisher: the board that is published, those that are to be published next, and the ticks that were published before
--- those of the engine's history.
+-- A publisher: the board that is published, those to be published next, and the ticks that were published before those
+-- of the engine's history.
 pub record PublisherState : Type 0 where
   pub shown : BoardState
   pub pending : List BoardState
   pub before : List Tick
 
--- The engine has acted: its history has the ticks that are published, and one more.
+-- The engine has acted: the published ticks, followed by this one, are those before its history and those of its
+-- history.
 abbrev pub HasActed : PublisherState → EngineView → Tick → Type 0
 HasActed p v t = p.before ++ ticks_of v.history ≡ p.shown.ticks ++ t ∷ []
 
 -- ---- the rule of what is published: it only grows, and begins with all that anyone has seen
 
--- The board that the writer or a reader has seen, if any, was this one at an earlier time.
+-- The board that the writer or a reader has seen, if any, is an earlier state of this board.
 abbrev pub IsSeen : BoardState → Option BoardState → Type 0
-IsSeen b view = IfSome view (λ seen. Later seen b)
+IsSeen b view = IfSome view (λ seen. IsLaterBoard seen b)
 
--- Each view was this board at an earlier time.
+-- Each board that was seen is an earlier state of this board.
 abbrev pub Keeps : BoardState → List (Option BoardState) → Type 0
 Keeps b views = (seat : ℕ) (view : Option BoardState) → get_elem? views seat ≡ some view → IsSeen b view
 
--- Who looks at a board or publishes one has then seen it, and it is a later time of what was seen before.
+-- After reading or publishing a board, one has seen it, and what one has seen before is an earlier state of it.
 abbrev pub Sees : Option BoardState → BoardState → BoardState → Option BoardState → Type 0
 Sees before old new after = IsSeen new before × (after ≡ Some new)
 

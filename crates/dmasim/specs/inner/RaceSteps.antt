@@ -4,7 +4,7 @@ use Rattle.dma_engine.specs.View.{View}
 use Rattle.dma_script.specs.Command.{printed_text, text_of}
 use Rattle.dma_script.specs.declared.statements.Statement.{Statement}
 use Rattle.dma_commands.specs.Printed.{refused_line}
-use Rattle.dmasim.specs.Race.{EachPrints, EarlyPrints, Leaves, alone, go_line}
+use Rattle.dmasim.specs.Race.{EachPrints, EarlyPrints, Reaches, alone, go_line}
 
 -- A line that this line before `go` may print is appended.
 pub record PrintsEarly (statement : Statement) (old new : List ℕ) : Type 0 where
@@ -36,7 +36,7 @@ pub record PrintsAll (statements : List Statement) (old new : List ℕ) : Type 0
 pub record PrintsTotals (v : View) (old new : List ℕ) : Type 0 where
   pub steps : ℕ
   pub finished : ℕ
-  pub leaves : Leaves steps finished v
+  pub reaches : Reaches steps finished v
   pub text : new ≡ old ++ text_of (go_line steps finished ∷ [])
 
 -- All lines before `go` have appended lines that they may print, and then `go` its totals, for an engine with the view
@@ -46,7 +46,7 @@ pub record PrintsGo (statements : List Statement) (v : View) (old new : List ℕ
   pub each : EachPrints statements early
   pub steps : ℕ
   pub finished : ℕ
-  pub leaves : Leaves steps finished v
+  pub reaches : Reaches steps finished v
   pub text : new ≡ old ++ printed_text (alone early ++ (go_line steps finished ∷ []) ∷ [])
 
 -- The line of a refusal is appended.

@@ -109,7 +109,8 @@ pub fn name(value: impl Debug) -> String {
     name
 }
 
-pub fn refused(error: Error) -> String {
+/// Returns an error as rows write it: its name, and what it names.
+pub fn error_text(error: Error) -> String {
     match error {
         Error::Busy { channel, cookie } | Error::Running { channel, cookie } => {
             format!("{} {channel} {cookie}", name(error))

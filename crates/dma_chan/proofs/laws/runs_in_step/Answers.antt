@@ -2,4 +2,4 @@ use Rattle.dma_chan.proofs.LayerLaws.{starts_at, ahead_is, left_is, step_is, tur
 use Rattle.dma_chan.proofs.laws.runs_in_step.Goals as goal
 
 pub returns : goal.returns
-returns c = record { starts = starts_at; ahead = ahead_is; left = left_is; step = step_is; tells = turn_reports; survives = survives }
+returns c = record { starts = starts_at; ahead = ahead_is; left = left_is; step = step_is; reports = turn_reports; survives = survives }

@@ -13,7 +13,7 @@ loop-turn-preserved g c =
     let marks = with_gaps (g.M.Ram.loan c.args.memory.now) [] in
     let s = opening (g.M.Ram.paged c.args.memory.now).image in
     let image = (g.M.Ram.paged c.prepare.new.memory).image in
-    let step = c.execute.ensures in
+    let step = c.execute.ensures.step in
     let loan = c.prepare.ensures.loan ∙ c.loop-turn.invariant.loan in
     let h : HasRun marks c.args.program.bytes s c.loop-turn.turn c.loop-turn.channel image c.loop-turn.events = subst (λ (i : List ℕ). HasRun marks c.args.program.bytes s c.loop-turn.turn c.loop-turn.channel i c.loop-turn.events) (sym c.prepare.ensures.image) c.loop-turn.invariant.run in
     record {
@@ -21,7 +21,7 @@ loop-turn-preserved g c =
       known = rw step.pages (rw c.in-Ok-prepare.is at c.prepare.ensures.known);
       pages = λ p h. rw step.pages (c.prepare.ensures.keeps.made p (c.loop-turn.invariant.pages p h));
       made = made_on marks c.args.program.bytes s c.loop-turn.turn c.loop-turn.channel (g.M.Ram.paged c.loop-turn.memory).image c.loop-turn.events (g.M.Ram.paged c.args.memory.now) (g.M.Ram.paged c.loop-turn.memory) (g.M.Ram.paged c.prepare.new.memory) (g.M.Ram.paged c.execute.new.memory) c.loop-turn.invariant.run c.loop-turn.invariant.made c.prepare.ensures.others step.pages;
-      loan = step.loan ∙ loan;
+      loan = c.execute.ensures.loan ∙ loan;
     }
 
 pub returns-in-Err-clause-ok : goal.returns-in-Err-clause-ok
@@ -49,21 +49,21 @@ pub returns-in-Waiting-clause-others : goal.returns-in-Waiting-clause-others
 returns-in-Waiting-clause-others g c =
     let marks = with_gaps (g.M.Ram.loan c.args.memory.now) [] in
     let s = opening (g.M.Ram.paged c.args.memory.now).image in
-    let made = made_on marks c.args.program.bytes s c.loop-turn.turn c.loop-turn.channel (g.M.Ram.paged c.loop-turn.memory).image c.loop-turn.events (g.M.Ram.paged c.args.memory.now) (g.M.Ram.paged c.loop-turn.memory) (g.M.Ram.paged c.prepare.new.memory) (g.M.Ram.paged c.execute.new.memory) c.loop-turn.invariant.run c.loop-turn.invariant.made c.prepare.ensures.others c.execute.ensures.pages in
+    let made = made_on marks c.args.program.bytes s c.loop-turn.turn c.loop-turn.channel (g.M.Ram.paged c.loop-turn.memory).image c.loop-turn.events (g.M.Ram.paged c.args.memory.now) (g.M.Ram.paged c.loop-turn.memory) (g.M.Ram.paged c.prepare.new.memory) (g.M.Ram.paged c.execute.new.memory) c.loop-turn.invariant.run c.loop-turn.invariant.made c.prepare.ensures.others c.execute.ensures.step.pages in
     made_at_end marks c.args.program.bytes c.args.limit (c.loop-turn.turn + 1) c.loop-turn.turn (ends.Waiting c.in-Waiting.event) (g.M.Ram.paged c.args.memory.now) (g.M.Ram.paged c.execute.new.memory) made c.loop-turn.invariant.run.goes_on (omega arith) (omega arith)
 
 pub returns-in-Ended-clause-others : goal.returns-in-Ended-clause-others
 returns-in-Ended-clause-others g c =
     let marks = with_gaps (g.M.Ram.loan c.args.memory.now) [] in
     let s = opening (g.M.Ram.paged c.args.memory.now).image in
-    let made = made_on marks c.args.program.bytes s c.loop-turn.turn c.loop-turn.channel (g.M.Ram.paged c.loop-turn.memory).image c.loop-turn.events (g.M.Ram.paged c.args.memory.now) (g.M.Ram.paged c.loop-turn.memory) (g.M.Ram.paged c.prepare.new.memory) (g.M.Ram.paged c.execute.new.memory) c.loop-turn.invariant.run c.loop-turn.invariant.made c.prepare.ensures.others c.execute.ensures.pages in
+    let made = made_on marks c.args.program.bytes s c.loop-turn.turn c.loop-turn.channel (g.M.Ram.paged c.loop-turn.memory).image c.loop-turn.events (g.M.Ram.paged c.args.memory.now) (g.M.Ram.paged c.loop-turn.memory) (g.M.Ram.paged c.prepare.new.memory) (g.M.Ram.paged c.execute.new.memory) c.loop-turn.invariant.run c.loop-turn.invariant.made c.prepare.ensures.others c.execute.ensures.step.pages in
     made_at_end marks c.args.program.bytes c.args.limit (c.loop-turn.turn + 1) c.loop-turn.turn (ends.Ended (c.loop-turn.turn + 1)) (g.M.Ram.paged c.args.memory.now) (g.M.Ram.paged c.execute.new.memory) made c.loop-turn.invariant.run.goes_on (omega arith) (omega arith)
 
 pub returns-in-Fault-clause-others : goal.returns-in-Fault-clause-others
 returns-in-Fault-clause-others g c =
     let marks = with_gaps (g.M.Ram.loan c.args.memory.now) [] in
     let s = opening (g.M.Ram.paged c.args.memory.now).image in
-    let made = made_on marks c.args.program.bytes s c.loop-turn.turn c.loop-turn.channel (g.M.Ram.paged c.loop-turn.memory).image c.loop-turn.events (g.M.Ram.paged c.args.memory.now) (g.M.Ram.paged c.loop-turn.memory) (g.M.Ram.paged c.prepare.new.memory) (g.M.Ram.paged c.execute.new.memory) c.loop-turn.invariant.run c.loop-turn.invariant.made c.prepare.ensures.others c.execute.ensures.pages in
+    let made = made_on marks c.args.program.bytes s c.loop-turn.turn c.loop-turn.channel (g.M.Ram.paged c.loop-turn.memory).image c.loop-turn.events (g.M.Ram.paged c.args.memory.now) (g.M.Ram.paged c.loop-turn.memory) (g.M.Ram.paged c.prepare.new.memory) (g.M.Ram.paged c.execute.new.memory) c.loop-turn.invariant.run c.loop-turn.invariant.made c.prepare.ensures.others c.execute.ensures.step.pages in
     made_at_end marks c.args.program.bytes c.args.limit (c.loop-turn.turn + 1) c.loop-turn.turn (ends.Fault c.in-Fault.kind c.pc-pc.result) (g.M.Ram.paged c.args.memory.now) (g.M.Ram.paged c.execute.new.memory) made c.loop-turn.invariant.run.goes_on (omega arith) (omega arith)
 
 pub returns-clause-others : goal.returns-clause-others

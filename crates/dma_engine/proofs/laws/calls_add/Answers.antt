@@ -1,19 +1,19 @@
 use Rattle.dma_engine.proofs.CallLists.{answers-extend, chain-extends}
-use Rattle.dma_engine.proofs.AnswerCounts.{quiet_calls_keep, steps_add, ends_as_reported}
+use Rattle.dma_engine.proofs.AnswerCounts.{quiet_calls_keep_counts, steps_add, ends_as_reported}
 use Rattle.dma_engine.proofs.Checkpoint.{checkpoints_keep}
 use Rattle.dma_engine.proofs.OutcomesStay.{kept}
-use Rattle.dma_engine.proofs.CookieCounts.{submits_give, terminates_finish}
+use Rattle.dma_engine.proofs.CookieCounts.{submits_add, terminates_add}
 use Rattle.dma_engine.proofs.laws.calls_add.Goals as goal
 
 pub returns : goal.returns
 returns c =
     record {
       extends = answers-extend;
-      stretches = λ v w calls replies none h. let e = chain-extends v w calls replies none h in (e, kept v w e);
-      quiet = quiet_calls_keep;
+      outcomes = λ v w calls replies none h. let e = chain-extends v w calls replies none h in (e, kept v w e);
+      quiet = quiet_calls_keep_counts;
       checkpoint = checkpoints_keep;
-      submit = submits_give;
-      terminate = terminates_finish;
+      submit = submits_add;
+      terminate = terminates_add;
       step = steps_add;
       ends = ends_as_reported;
     }

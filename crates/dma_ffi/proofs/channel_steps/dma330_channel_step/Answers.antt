@@ -4,28 +4,29 @@ use Rattle.dma_mem.specs.Flags.{flags_of}
 use Rattle.dma_mem.specs.Regions.{image_of, pieces_of}
 use Rattle.dma_mem.specs.declared.regions.Region.{Region}
 use Rattle.dma_chan.specs.Channel.{ChannelValue}
-use Rattle.dma_chan.specs.Stepping.{Stand, TakesSteps, signal_after}
+use Rattle.dma_chan.specs.Stepping.{Machine, TakesSteps, signal_after}
 use Rattle.dma_ffi.specs.declared.marked_channel.MarkedChannel.{MarkedChannel}
 use Rattle.dma_ffi.specs.Channels.{Lent, StepsOver, marks_over, report_of}
 use Rattle.dma_ffi.proofs.channel_steps.dma330_channel_step.Goals as goal
 
-abbrev at : ChannelValue → List Region → List Bool → Stand
+abbrev at : ChannelValue → List Region → List Bool → Machine
 at c regions flags = record { channel = c; image = image_of (pieces_of regions); flags = flags }
 
 pub returns : goal.returns
 returns c =
+    let held = (rw c.in-Some.is at c.get_mut.ensures.value) ∙ c.as_kept.ensures.value in
     let taken = c.step_regions-count in
     let most = c.args.most in
     let regions = c.args.regions.now in
-    let m : MarkedChannel = c.as_mut-marked.result.now in
+    let m : MarkedChannel = c.in-Some.marked.now in
     let n : MarkedChannel = record m { channel = taken.new.channel } in
     let marks = marks_over m regions in
     let a : Lent = record { channel = c.args.kept.now.channel.value; regions = regions; flags = c.args.flags.now } in
     let b : Lent = record { channel = Some n; regions = taken.new.regions; flags = c.bits.result } in
     let flags : c.from_bits-events.result ≡ flags_of c.args.flags.now = c.from_bits-events.ensures in
-    let after : List Bool → Stand = at taken.new.channel taken.new.regions in
+    let after : List Bool → Machine = at taken.new.channel taken.new.regions in
     let over : StepsOver a most taken.result c.report_of.result b m n = record {
-      before = sym c.as_mut-marked.ensures.value;
+      before = sym held;
       after = refl;
       marks = refl;
       usable = sym c.are_usable.ensures ∙ c.if-not-are_usable.false;

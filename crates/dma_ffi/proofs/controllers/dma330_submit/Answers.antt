@@ -1,14 +1,15 @@
 use Rattle.std.proofs.Common.{◌∙◌, ℕ, ℤ, Option, ap, subst, sym, w32, to_z, of_z}
 use Rattle.std.proofs.lemmas.Int.{to_z-of_z}
 use Rattle.dma_ffi.specs.Codes.{event_of}
-use Rattle.dma_ffi.specs.Requests.{copying}
+use Rattle.dma_mem.specs.Places.{copying}
 use Rattle.dma_ffi.specs.inner.Submits.{Submits}
 use Rattle.dma_ffi.proofs.Returns.{returns_copy}
 use Rattle.dma_ffi.proofs.controllers.dma330_submit.Goals as goal
 
 pub returns : goal.returns
 returns c =
-    let e = c.as_mut.result.now in
+    let held = (rw c.in-Some.is at c.get_mut.ensures.value) ∙ c.as_kept.ensures.value in
+    let e = c.in-Some.engine.now in
     let e' = c.submit.new.engine in
     let before = c.args.cookie.now in
     let after = c.submit.new.cookie in
@@ -19,5 +20,5 @@ returns c =
     let signal = c.event_of-2.ensures ∙ ap event_of (to_z-of_z w32 c.args.signal c.ranges.signal) in
     returns_copy c.args.controller.now.engine.value (to_z w32 (of_z w32 code)) after e e' before c.args.ch (copying src dst c.event_of.result c.event_of-2.result) (copying src dst (event_of c.args.wait) (event_of c.args.signal)) c.new-made.result
     (ap (λ (w : Option ℕ). copying src dst w c.event_of-2.result) wait ∙ ap (copying src dst (event_of c.args.wait)) signal)
-    c.new-made.ensures.ok c.new-made.ensures.accepted c.new-made.ensures.err c.as_mut.ensures.value
+    c.new-made.ensures.ok c.new-made.ensures.accepted c.new-made.ensures.err held
     (subst (λ (z : ℤ). Submits e.view c.args.ch c.new-made.result z before after e'.view) (sym (to_z-of_z w32 code (record { sfits = c.submit.type_inv }))) c.submit.ensures)

@@ -7,7 +7,8 @@ use Rattle.dma_ffi.proofs.controllers.dma330_submit_fill.Goals as goal
 
 pub returns : goal.returns
 returns c =
-    let e = c.as_mut.result.now in
+    let held = (rw c.in-Some.is at c.get_mut.ensures.value) ∙ c.as_kept.ensures.value in
+    let e = c.in-Some.engine.now in
     let e' = c.submit.new.engine in
     let before = c.args.cookie.now in
     let after = c.submit.new.cookie in
@@ -15,5 +16,5 @@ returns c =
     returns_fill c.args.controller.now.engine.value (to_z w32 (of_z w32 code)) after e e' before c.args.ch c.args.src c.args.dst.now
     c.event_of.result (event_of c.args.wait) c.event_of-2.result (event_of c.args.signal) c.fill-made.result
     (c.event_of.ensures ∙ ap event_of (to_z-of_z w32 c.args.wait c.ranges.wait)) (c.event_of-2.ensures ∙ ap event_of (to_z-of_z w32 c.args.signal c.ranges.signal))
-    c.fill-made.ensures.ok c.fill-made.ensures.accepted c.fill-made.ensures.err c.as_mut.ensures.value
+    c.fill-made.ensures.ok c.fill-made.ensures.accepted c.fill-made.ensures.err held
     (subst (λ (z : ℤ). Submits e.view c.args.ch c.fill-made.result z before after e'.view) (sym (to_z-of_z w32 code (record { sfits = c.submit.type_inv }))) c.submit.ensures)

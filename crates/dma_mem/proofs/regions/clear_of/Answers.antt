@@ -1,7 +1,7 @@
 use Rattle.std.proofs.Common.{◌+◌, ◌≤◌, ◌<◌, ◌⊎◌, inl, inr, ℕ, drop, length, arith, ap, sym, ◌∙◌}
 use Rattle.std.proofs.lemmas.Bool.{cases_lt}
 use Rattle.std.proofs.lemmas.List.{length-map}
-use Rattle.dma_mem.specs.Lent.{lies_in_one}
+use Rattle.dma_mem.specs.Lent.{lies_in_any}
 use Rattle.dma_mem.specs.Regions.{pieces_of, piece_of, end_of, rises_from, gaps_above}
 use Rattle.dma_mem.proofs.Pieces.{first_at, piece_at_item, gaps_at, gaps_past, in_first_gap, past_first_gap}
 use Rattle.dma_mem.proofs.regions.clear_of.Goals as goal
@@ -62,5 +62,5 @@ loop-region-preserved c =
           c.loop-region.invariant.gaps a low
           ∙ gaps_at ps p i at a inside is
           ∙ past_first_gap at p (drop (i + 1) ps) a out f.after
-          ∙ ap (λ (n : ℕ). lies_in_one (gaps_above n (drop (i + 1) ps)) a) (sym c.end-end.ensures);
+          ∙ ap (λ (n : ℕ). lies_in_any (gaps_above n (drop (i + 1) ps)) a) (sym c.end-end.ensures);
     }

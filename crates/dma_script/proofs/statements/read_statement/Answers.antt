@@ -1,5 +1,4 @@
-use Rattle.dma_script.specs.Arguments.{byte_from}
-use Rattle.dma_script.specs.Plan.{transfer_from}
+use Rattle.dma_script.specs.inner.Reading.{byte_from, transfer_from}
 use Rattle.dma_script.specs.declared.statements.Statement.TheVariants.{Submit}
 use Rattle.dma_script.proofs.Reading.{both_read}
 use Rattle.dma_script.proofs.statements.read_statement.Goals as goal

@@ -1,6 +1,6 @@
 use Rattle.std.proofs.Common.{◌≡◌, ◌+◌, [], ◌∷◌, ◌++◌, take, length, ap, sym, ◌∙◌, arith}
 use Rattle.std.proofs.lemmas.List.{length-take}
-use Rattle.dma_engine.proofs.CookieCounts.{ticks_are_few}
+use Rattle.dma_engine.proofs.CookieCounts.{ticks_at_most_entries}
 use Rattle.dma_engine.specs.Ticks.{ticks_of}
 use Rattle.dma_work.specs.inner.Published.{SnapshotState}
 use Rattle.dma_work.specs.Ticks.{board_from}
@@ -12,7 +12,7 @@ pub record_one-requires : goal.record_one-requires
 record_one-requires g c =
     let n = c.loop-index.index in
     let history = c.history-history.result.now in
-    omega (arith, ap length c.loop-index.invariant.ticks, ticks_are_few (take n history), length-take n history, c.loop-index-test.true, c.history-history.type_inv.0)
+    omega (arith, ap length c.loop-index.invariant.ticks, ticks_at_most_entries (take n history), length-take n history, c.loop-index-test.true, c.history-history.type_inv.0)
 
 pub loop-index-preserved : goal.loop-index-preserved
 loop-index-preserved g c =

@@ -11,6 +11,6 @@ returns-in_ok-print_line-in-Ok-clause-ok g c =
     record {
       steps = c.in-Ok.totals.steps;
       finished = c.in-Ok.totals.finished;
-      leaves = record { sound = c.in-Ok.ensures.settled.sound; stepped = stepped; ended = ended };
+      reaches = record { sound = c.in-Ok.ensures.settled.sound; stepped = stepped; ended = ended };
       text = c.in_ok-print_line-in-Ok.ensures.ok;
     }

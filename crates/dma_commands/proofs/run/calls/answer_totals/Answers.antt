@@ -4,7 +4,7 @@ use Rattle.std.specs.List.{range_with_len}
 use Rattle.dma_engine.specs.View.{channels, object_of, runs}
 use Rattle.dma_engine.specs.declared.entry.Entry.{Entry}
 use Rattle.dma_script.specs.Command.{text_of}
-use Rattle.dma_commands.specs.Run.{told, totals_line, totals_of}
+use Rattle.dma_commands.specs.Run.{one_line, totals_line, totals_of}
 use Rattle.dma_commands.proofs.RunLemmas.{counted, printed_runs, running-is}
 use Rattle.dma_commands.proofs.run.calls.answer_totals.Goals as goal
 
@@ -22,5 +22,5 @@ returns c =
     ap (λ (h : List Entry). totals_line (length h) steps running) c.history.ensures.entries
     ∙ ap (λ (s : ℕ). totals_line (length v.history) s running) c.steps.ensures
     ∙ ap (λ (r : ℕ). totals_line (length v.history) v.steps r) runs_here in
-    printed_runs (told (totals_of v) v) v result out c.print_line.new.out.items (on_ok_weaker result (λ _. refl) print.ok)
+    printed_runs (one_line (totals_of v) v) v result out c.print_line.new.out.items (on_ok_weaker result (λ _. refl) print.ok)
     (on_ok_weaker result (λ p. p ∙ ap (λ (l : List ℕ). out ++ text_of (l ∷ [])) same) print.ok) print.err

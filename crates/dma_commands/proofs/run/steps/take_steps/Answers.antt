@@ -22,13 +22,13 @@ returns-in_default-clause-view c =
 pub returns-in_default-clause-text : goal.returns-in_default-clause-text
 returns-in_default-clause-text c =
     let a = c.advance-steps.result in
-    let told = c.args.told.now in
+    let printed = c.args.printed.now in
     let v = c.args.engine.now.view in
     let w = c.advance-steps.new.self.view in
     let all = all-steps v w c.args.ch a c.advance-steps.ensures.answers c.in_default.is in
     rw c.steps_before-before.ensures (λ rest. c.in_ok-take.ensures.text rest
     ∙ c.in_ok-take_start.ensures.text (replicate a.moved (reply_text (Turned Moved)) ++ rest)
-    ∙ ap (text_with c.args.ch told.lines.items told.last.items told.count) (all-texts a w (answers v (replicate (steps_before a) (Step c.args.ch))) rest all))
+    ∙ ap (text_with c.args.ch printed.lines.items printed.last.items printed.count) (all-texts a w (answers v (replicate (steps_before a) (Step c.args.ch))) rest all))
 
 pub returns-clause-view : goal.returns-clause-view
 returns-clause-view c =
@@ -43,7 +43,7 @@ returns-clause-view c =
 pub returns-clause-text : goal.returns-clause-text
 returns-clause-text c =
     let a = c.advance-steps.result in
-    let told = c.args.told.now in
+    let printed = c.args.printed.now in
     let v = c.args.engine.now.view in
     let w = c.advance-steps.new.self.view in
     let many = c.if-is_idle.many in
@@ -56,4 +56,4 @@ returns-clause-text c =
     rw c.steps_before-before.ensures (λ rest. c.in_ok-take-2.ensures.text rest
     ∙ c.in_ok-take.ensures.text (replicate many (reply_text reply) ++ rest)
     ∙ c.in_ok-take_start.ensures.text (replicate a.moved (reply_text (Turned Moved)) ++ (replicate many (reply_text reply) ++ rest))
-    ∙ ap (text_with c.args.ch told.lines.items told.last.items told.count) (both-texts a many reply w (answers v (replicate (steps_before a + many) (Step c.args.ch))) rest all))
+    ∙ ap (text_with c.args.ch printed.lines.items printed.last.items printed.count) (both-texts a many reply w (answers v (replicate (steps_before a + many) (Step c.args.ch))) rest all))

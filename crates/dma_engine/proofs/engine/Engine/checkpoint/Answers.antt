@@ -40,9 +40,9 @@ invariant_of-self c =
     let base = rw (← c.self.view_is) at c.in_ok-base.ensures in
     let none = checkpoint-open (view_of p) (rw (← c.self.view_is) at c.in_default.ensures) in
     let vec = c.self.inside.queues in
-    let told : c.forget_all.new.queues ≡ map queue_forgotten vec.items = c.forget_all.ensures ∙ ap (λ (l : List Queue). map queue_forgotten l) c.deref_mut.ensures.value in
-    let many : length c.forget_all.new.queues ≡ vec.len = omega (arith, ap length told, length-map vec.items queue_forgotten, vec.ok.0) in
-    let all : (with_items vec c.forget_all.new.queues).items ≡ map queue_forgotten vec.items = with_items_is vec c.forget_all.new.queues many ∙ told in
+    let forgotten : c.forget_all.new.queues ≡ map queue_forgotten vec.items = c.forget_all.ensures ∙ ap (λ (l : List Queue). map queue_forgotten l) c.deref_mut.ensures.value in
+    let many : length c.forget_all.new.queues ≡ vec.len = omega (arith, ap length forgotten, length-map vec.items queue_forgotten, vec.ok.0) in
+    let all : (with_items vec c.forget_all.new.queues).items ≡ map queue_forgotten vec.items = with_items_is vec c.forget_all.new.queues many ∙ forgotten in
     rw (all, base, c.new.ensures.items) (holds-next p c.self.invariant none)
 
 pub returns-clause-answer : goal.returns-clause-answer
@@ -51,16 +51,16 @@ returns-clause-answer c =
     let base = rw (← c.self.view_is) at c.in_ok-base.ensures in
     let none = checkpoint-open (view_of p) (rw (← c.self.view_is) at c.in_default.ensures) in
     let vec = c.self.inside.queues in
-    let told : c.forget_all.new.queues ≡ map queue_forgotten vec.items = c.forget_all.ensures ∙ ap (λ (l : List Queue). map queue_forgotten l) c.deref_mut.ensures.value in
-    let many : length c.forget_all.new.queues ≡ vec.len = omega (arith, ap length told, length-map vec.items queue_forgotten, vec.ok.0) in
-    let all : (with_items vec c.forget_all.new.queues).items ≡ map queue_forgotten vec.items = with_items_is vec c.forget_all.new.queues many ∙ told in
+    let forgotten : c.forget_all.new.queues ≡ map queue_forgotten vec.items = c.forget_all.ensures ∙ ap (λ (l : List Queue). map queue_forgotten l) c.deref_mut.ensures.value in
+    let many : length c.forget_all.new.queues ≡ vec.len = omega (arith, ap length forgotten, length-map vec.items queue_forgotten, vec.ok.0) in
+    let all : (with_items vec c.forget_all.new.queues).items ≡ map queue_forgotten vec.items = with_items_is vec c.forget_all.new.queues many ∙ forgotten in
     rw (← c.self.view_is, all, base, c.new.ensures.items)
     (checkpoint-done (view_of p) _ none (view-next p))
 
 pub returns-clause-room : goal.returns-clause-room
 returns-clause-room c =
     let vec = c.self.inside.queues in
-    let told : c.forget_all.new.queues ≡ map queue_forgotten vec.items = c.forget_all.ensures ∙ ap (λ (l : List Queue). map queue_forgotten l) c.deref_mut.ensures.value in
-    let many : length c.forget_all.new.queues ≡ vec.len = omega (arith, ap length told, length-map vec.items queue_forgotten, vec.ok.0) in
-    let all : (with_items vec c.forget_all.new.queues).items ≡ map queue_forgotten vec.items = with_items_is vec c.forget_all.new.queues many ∙ told in
+    let forgotten : c.forget_all.new.queues ≡ map queue_forgotten vec.items = c.forget_all.ensures ∙ ap (λ (l : List Queue). map queue_forgotten l) c.deref_mut.ensures.value in
+    let many : length c.forget_all.new.queues ≡ vec.len = omega (arith, ap length forgotten, length-map vec.items queue_forgotten, vec.ok.0) in
+    let all : (with_items vec c.forget_all.new.queues).items ≡ map queue_forgotten vec.items = with_items_is vec c.forget_all.new.queues many ∙ forgotten in
     (omega (arith, c.new.ensures.capacity, c.new.ensures.len), λ ch. rw all (no-room-next vec.items ch))

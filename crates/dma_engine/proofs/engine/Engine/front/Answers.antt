@@ -51,8 +51,8 @@ returns-in_default c =
     let s = channel (object_of (view_of p)) i in
     let asked = rw (← c.self.view_is) at c.requires in
     let less : i < length p.queues = omega (arith, asked, many-queues p c.self.invariant) in
-    let told : None ≡ front_in q (channel p.base i).submitted p.history = rw (c.kept.ensures, c.deref.ensures.value) at c.in_default.ensures in
-    let none : None ≡ issued_front s = told ∙ front_found p c.self.invariant i q less c.index-queue.ensures in
+    let listed : None ≡ front_in q (channel p.base i).submitted p.history = rw (c.kept.ensures, c.deref.ensures.value) at c.in_default.ensures in
+    let none : None ≡ issued_front s = listed ∙ front_found p c.self.invariant i q less c.index-queue.ensures in
     ap (option_map (λ (t : Descriptor). (t, finished s + 1))) none ∙ ap (λ (s : EngineState). front_with_cookie (channel (object_of s.view) i)) c.self.view_is
 
 pub returns : goal.returns
@@ -65,8 +65,8 @@ returns c =
     let asked = rw (← c.self.view_is) at c.requires in
     let less : i < length p.queues = omega (arith, asked, many-queues p c.self.invariant) in
     let at = holds-at p c.self.invariant i q less c.index-queue.ensures in
-    let told : Some t ≡ front_in q (channel p.base i).submitted p.history = rw (c.kept.ensures, c.deref.ensures.value) at c.in-Some.ensures in
-    let some : Some t ≡ issued_front s = told ∙ front_found p c.self.invariant i q less c.index-queue.ensures in
+    let listed : Some t ≡ front_in q (channel p.base i).submitted p.history = rw (c.kept.ensures, c.deref.ensures.value) at c.in-Some.ensures in
+    let some : Some t ≡ issued_front s = listed ∙ front_found p c.self.invariant i q less c.index-queue.ensures in
     let number : c.finished-cookie.result + 1 ≡ finished s + 1 = omega (arith, c.finished-cookie.ensures, at.tied.forgotten, ap length at.tied.outcomes) in
     ap (λ n. Some (t, n)) number ∙ ap (option_map (λ (u : Descriptor). (u, finished s + 1))) some
     ∙ ap (λ (s : EngineState). front_with_cookie (channel (object_of s.view) i)) c.self.view_is

@@ -17,7 +17,7 @@ use Rattle.dma_engine.proofs.CallCases.{refusal}
 use Rattle.dma_engine.proofs.Changes.{holds-pages}
 use Rattle.dma_engine.proofs.Conflicts.{few-issued, front_found}
 use Rattle.dma_engine.proofs.Queues.{front_known, many-queues}
-use Rattle.dma_engine.proofs.Starts.{front-below, front-told, held-answers, holds-started, now-started, start-answers, start-starved, way-clear}
+use Rattle.dma_engine.proofs.Starts.{front-below, front-with-cookie, held-answers, holds-started, now-started, start-answers, start-starved, way-clear}
 use Rattle.dma_engine.proofs.Sizes.{many-channels}
 use Rattle.dma_engine.proofs.engine.Engine.start.Goals as goal
 
@@ -31,8 +31,8 @@ kept-requires c =
 pub returns-in-Some-first_conflict-clause-answer : goal.returns-in-Some-first_conflict-clause-answer
 returns-in-Some-first_conflict-clause-answer c =
     let v = c.args.self.now.view in
-    let told = rw c.from-index.ensures at c.in-Some.ensures in
-    let front = front-told (issued_front (channel (object_of v) c.args.ch)) c.in-Some.transfer.now c.in-Some.cookie (finished (channel (object_of v) c.args.ch) + 1) told in
+    let found = rw c.from-index.ensures at c.in-Some.ensures in
+    let front = front-with-cookie (issued_front (channel (object_of v) c.args.ch)) c.in-Some.transfer.now c.in-Some.cookie (finished (channel (object_of v) c.args.ch) + 1) found in
     held-answers v c.args.ch c.in-Some-first_conflict.ch c.in-Some-first_conflict.cookie c.in-Some.transfer.now c.requires front.0 c.in-Some-first_conflict.ensures
 
 pub start-requires-clause-issued : goal.start-requires-clause-issued
@@ -50,8 +50,8 @@ start-requires-clause-front c =
     let asked = rw (← c.self.view_is) at c.requires in
     let less : c.args.ch < length p.queues = omega (arith, asked.0, many-queues p c.self.invariant) in
     let read = rw c.from-index.ensures at c.index_mut-queue.ensures.value in
-    let told : Some (c.in-Some.transfer.now, c.in-Some.cookie) ≡ front_with_cookie (channel (object_of (view_of p)) c.args.ch) = rw (c.from-index.ensures, ← c.self.view_is) at c.in-Some.ensures in
-    let front = front-told (issued_front (channel (object_of (view_of p)) c.args.ch)) c.in-Some.transfer.now c.in-Some.cookie (finished (channel (object_of (view_of p)) c.args.ch) + 1) told in
+    let found : Some (c.in-Some.transfer.now, c.in-Some.cookie) ≡ front_with_cookie (channel (object_of (view_of p)) c.args.ch) = rw (c.from-index.ensures, ← c.self.view_is) at c.in-Some.ensures in
+    let front = front-with-cookie (issued_front (channel (object_of (view_of p)) c.args.ch)) c.in-Some.transfer.now c.in-Some.cookie (finished (channel (object_of (view_of p)) c.args.ch) + 1) found in
     rw (c.kept.ensures, c.from-index.ensures, c.deref.ensures.value) (ap is_some (front_found p c.self.invariant c.args.ch q less read ∙ front.0))
 
 pub start-requires-clause-below : goal.start-requires-clause-below
@@ -62,8 +62,8 @@ start-requires-clause-below c =
     let asked = rw (← c.self.view_is) at c.requires in
     let less : c.args.ch < length p.queues = omega (arith, asked.0, many-queues p c.self.invariant) in
     let read = rw c.from-index.ensures at c.index_mut-queue.ensures.value in
-    let told : Some (t, c.in-Some.cookie) ≡ front_with_cookie (channel (object_of (view_of p)) c.args.ch) = rw (c.from-index.ensures, ← c.self.view_is) at c.in-Some.ensures in
-    let front = front-told (issued_front (channel (object_of (view_of p)) c.args.ch)) t c.in-Some.cookie (finished (channel (object_of (view_of p)) c.args.ch) + 1) told in
+    let found : Some (t, c.in-Some.cookie) ≡ front_with_cookie (channel (object_of (view_of p)) c.args.ch) = rw (c.from-index.ensures, ← c.self.view_is) at c.in-Some.ensures in
+    let front = front-with-cookie (issued_front (channel (object_of (view_of p)) c.args.ch)) t c.in-Some.cookie (finished (channel (object_of (view_of p)) c.args.ch) + 1) found in
     let is : front_in q c.kept.result.now c.deref.result.now ≡ Some t = rw (c.kept.ensures, c.from-index.ensures, c.deref.ensures.value) (front_found p c.self.invariant c.args.ch q less read ∙ front.0) in
     let known = front_known (channel (object_of (view_of p)) c.args.ch) t front.0 in
     rw is (front-below p c.self.invariant c.args.ch t (known.is ∙ ap (λ (u : Descriptor). Some u) known.holds))
@@ -81,7 +81,7 @@ returns-in_err-start-clause-answer c =
     let ch = c.args.ch in
     let t = c.in-Some.transfer.now in
     let same : slice_set p.queues c.from-index.result c.start.new.self ≡ p.queues = ap (slice_set p.queues c.from-index.result) (c.in_err-start.ensures.refused ∙ c.index_mut-queue.ensures.value) ∙ set-get_or p.queues c.from-index.result c.index_mut-queue.result.now in
-    let front = front-told (issued_front (channel (object_of v) ch)) t c.in-Some.cookie (finished (channel (object_of v) ch) + 1) (rw c.from-index.ensures at c.in-Some.ensures) in
+    let front = front-with-cookie (issued_front (channel (object_of v) ch)) t c.in-Some.cookie (finished (channel (object_of v) ch) + 1) (rw c.from-index.ensures at c.in-Some.ensures) in
     refusal (λ turn. Turned turn) v _ (Step ch) NoMemory c.from_residual.result c.from_residual.ensures.1
     (start-starved v _ ch t c.requires front.0 (way-clear v t c.in_default-first_conflict.ensures) (rw same (ap (λ (s : EngineState). s.view) c.self.view_is)))
 
@@ -102,8 +102,8 @@ invariant_of-self-2 c =
     let asked = rw (← c.self.view_is) at c.requires in
     let less : ch < length p.queues = omega (arith, asked.0, many-queues p c.self.invariant) in
     let read = rw c.from-index.ensures at c.index_mut-queue.ensures.value in
-    let told : Some (t, c.in-Some.cookie) ≡ front_with_cookie (channel (object_of v) ch) = rw (c.from-index.ensures, ← c.self.view_is) at c.in-Some.ensures in
-    let front = front-told (issued_front (channel (object_of v) ch)) t c.in-Some.cookie (finished (channel (object_of v) ch) + 1) told in
+    let found : Some (t, c.in-Some.cookie) ≡ front_with_cookie (channel (object_of v) ch) = rw (c.from-index.ensures, ← c.self.view_is) at c.in-Some.ensures in
+    let front = front-with-cookie (issued_front (channel (object_of v) ch)) t c.in-Some.cookie (finished (channel (object_of v) ch) + 1) found in
     let none = way-clear v t (rw (← c.self.view_is) at c.in_default-first_conflict.ensures) in
     let is : front_in q c.kept.result.now c.deref.result.now ≡ Some t = rw (c.kept.ensures, c.from-index.ensures, c.deref.ensures.value) (front_found p c.self.invariant ch q less read ∙ front.0) in
     let started = now-started q c.start.new.self t (rw is at (c.in_ok-start.ensures.started)) in
@@ -122,8 +122,8 @@ returns-clause-answer c =
     let asked = rw (← c.self.view_is) at c.requires in
     let less : ch < length p.queues = omega (arith, asked.0, many-queues p c.self.invariant) in
     let read = rw c.from-index.ensures at c.index_mut-queue.ensures.value in
-    let told : Some (t, c.in-Some.cookie) ≡ front_with_cookie (channel (object_of v) ch) = rw (c.from-index.ensures, ← c.self.view_is) at c.in-Some.ensures in
-    let front = front-told (issued_front (channel (object_of v) ch)) t c.in-Some.cookie (finished (channel (object_of v) ch) + 1) told in
+    let found : Some (t, c.in-Some.cookie) ≡ front_with_cookie (channel (object_of v) ch) = rw (c.from-index.ensures, ← c.self.view_is) at c.in-Some.ensures in
+    let front = front-with-cookie (issued_front (channel (object_of v) ch)) t c.in-Some.cookie (finished (channel (object_of v) ch) + 1) found in
     let none = way-clear v t (rw (← c.self.view_is) at c.in_default-first_conflict.ensures) in
     let is : front_in q c.kept.result.now c.deref.result.now ≡ Some t = rw (c.kept.ensures, c.from-index.ensures, c.deref.ensures.value) (front_found p c.self.invariant ch q less read ∙ front.0) in
     let started = now-started q c.start.new.self t (rw is at (c.in_ok-start.ensures.started)) in

@@ -50,5 +50,5 @@ returns c =
     let at = holds-at p c.self.invariant i q less c.index-queue.ensures in
     let t = c.in-Some.transfer.now in
     let found = transfer_found i (channel p.base i).submitted p.history p.memory q (channel (object_of (view_of p)) i) c.args.n at.tied given in
-    let told : Some t ≡ transfer_at (channel p.base i).submitted p.history q.indices.items c.args.n = rw (c.kept-kept.ensures, c.deref.ensures.value) at c.in-Some.ensures in
-    ap (λ o. unwrap_or o t) (told ∙ found) ∙ ap (λ (s : EngineState). slice_index_or (channel (object_of s.view) i).submitted c.args.n no_transfer) c.self.view_is
+    let listed : Some t ≡ transfer_at (channel p.base i).submitted p.history q.indices.items c.args.n = rw (c.kept-kept.ensures, c.deref.ensures.value) at c.in-Some.ensures in
+    ap (λ o. unwrap_or o t) (listed ∙ found) ∙ ap (λ (s : EngineState). slice_index_or (channel (object_of s.view) i).submitted c.args.n no_transfer) c.self.view_is

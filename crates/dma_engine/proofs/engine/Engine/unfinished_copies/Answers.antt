@@ -18,10 +18,10 @@ loop-n-preserved c =
     let less : c.args.index < length p.queues = omega (arith, asked, many-queues p c.self.invariant) in
     let at = holds-at p c.self.invariant c.args.index c.index-queue.result.now less c.index-queue.ensures in
     let so_far = rw (← c.self.view_is) at c.loop-n.invariant in
-    let told = rw (← c.self.view_is) at c.transfer.ensures in
+    let found = rw (← c.self.view_is) at c.transfer.ensures in
     let back : first + (n - first) ≡ n = omega (arith, c.loop-n.auto.n) in
     let next : n + 1 - first ≡ (n - first) + 1 = omega (arith, c.loop-n.auto.n) in
     let within : n - first < length (drop first ts) = omega (arith, c.loop-n-test.true, c.loop-n.auto.n, at.tied.given, at.tied.forgotten, length-drop first ts) in
-    let here : slice_index_or (drop first ts) (n - first) no_transfer ≡ c.transfer.result.now = get_or-drop first ts (n - first) no_transfer ∙ ap (λ i. slice_index_or ts i no_transfer) back ∙ sym told in
+    let here : slice_index_or (drop first ts) (n - first) no_transfer ≡ c.transfer.result.now = get_or-drop first ts (n - first) no_transfer ∙ ap (λ i. slice_index_or ts i no_transfer) back ∙ sym found in
     rw (← c.self.view_is, next)
     (rw (c.in_ok-push.ensures.items, c.in_ok-try_copy.ensures, so_far) (sym (take_more (drop first ts) (n - first) no_transfer within ∙ ap (λ x. take (n - first) (drop first ts) ++ x ∷ []) here)))

@@ -2,7 +2,7 @@ use Rattle.std.proofs.Common.{◌≡◌, ◌+◌, ◌-◌, ◌*◌, ◌/◌, ◌
 use Rattle.std.proofs.lemmas.Bool.{cases_eq}
 use Rattle.std.proofs.lemmas.List.{append-nil, length-take}
 use Rattle.dma_mem.specs.Image.{put, bytes_at}
-use Rattle.dma_mem.specs.inner.PageTable.{page_at, IsLaid, image_of}
+use Rattle.dma_mem.specs.inner.PageTable.{page_at, PutsInPage, image_of}
 use Rattle.dma_mem.proofs.PageImages.{image_of-laid, bytes_in_turn, put_none}
 use Rattle.dma_mem.proofs.table.Table.put.Goals as goal
 
@@ -26,7 +26,7 @@ loop-done-preserved c =
     let fits : off + n ≤ 4096 = omega (arith, c.min-count.ensures) in
     let len : (done + n) - done ≡ n = omega arith in
     let is : take ((done + n) - done) (drop done bytes) ++ [] ≡ part = append-nil _ ∙ ap (λ i. take i (drop done bytes)) len in
-    let laid : IsLaid (page_at old p) off part (page_at new p) = subst (λ bs. IsLaid (page_at old p) off bs (page_at new p)) is c.put_in_page.ensures.bytes in
+    let laid : PutsInPage (page_at old p) off part (page_at new p) = subst (λ bs. PutsInPage (page_at old p) off bs (page_at new p)) is c.put_in_page.ensures.bytes in
     let back : 4096 * p + off ≡ at = omega arith in
     record {
       within = small;

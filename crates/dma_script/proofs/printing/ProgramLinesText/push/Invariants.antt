@@ -1,7 +1,6 @@
 -- The lines of the first rows are appended, and the remaining bytes begin where they end.
 use Rattle.std.proofs.Common.{◌≡◌, ℕ, ◌≤◌, ◌+◌, ◌*◌, ◌++◌, drop, length}
 use Rattle.std.specs.Slice.Iter.{chunks_rest, chunks_size}
-use Rattle.dma_text.specs.Text.{Begins}
 use Rattle.dma_script.proofs.RowLemmas.{front_text}
 use Rattle.dma_script.proofs.printing.ProgramLinesText.push.Given as goal
 

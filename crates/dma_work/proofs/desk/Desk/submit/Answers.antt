@@ -3,7 +3,7 @@ use Rattle.dma_engine.specs.declared.call.Call.TheVariants.{Submit}
 use Rattle.dma_engine.specs.declared.call.Reply.TheVariants.{Cookie}
 use Rattle.dma_engine.specs.Ticks.{Submitted}
 use Rattle.dma_engine.proofs.CallLists.{answers-extend}
-use Rattle.dma_engine.proofs.CookieCounts.{submits_give}
+use Rattle.dma_engine.proofs.CookieCounts.{submits_add}
 use Rattle.dma_work.specs.inner.DeskKept.{IsKept}
 use Rattle.dma_work.specs.inner.Published.{BoardState, SnapshotState}
 use Rattle.dma_work.proofs.Desks.{acted_next, given_in, kept_next}
@@ -14,7 +14,7 @@ pub publish-requires-clause-acted : goal.publish-requires-clause-acted
 publish-requires-clause-acted g c =
     let m = c.make_room.new.self in
     let w = c.submit.new.self in
-    let s = submits_give m.view w.view c.args.ch c.in-Ok.cookie c.args.transfer c.in-Ok.ensures.answer in
+    let s = submits_add m.view w.view c.args.ch c.in-Ok.cookie c.args.transfer c.in-Ok.ensures.answer in
     acted_next c.self.inside.publisher c.ready.new.self c.self.inside.engine.view m.view w.view _ c.new-tick.result (Submitted c.args.ch) c.make_room.ensures.view s.0.ticks c.new-tick.ensures (c.ready.ensures.ready c.if-not-ready.false) (ap (λ (x : BoardState). x.ticks) (sym c.self.invariant.shown))
 
 kept : (g : Over) (c : goal.After-new-ticket g) → IsKept g.N.DeskName.steps g.N.DeskName.finished g.N.DeskName.base g.N.DeskName.log c.submit.new.self c.publish.new.self c.self.inside.book
@@ -23,7 +23,7 @@ kept g c =
     let w = c.submit.new.self in
     let ch = c.args.ch in
     let h = c.in-Ok.ensures.answer in
-    let s = submits_give m.view w.view ch c.in-Ok.cookie c.args.transfer h in
+    let s = submits_add m.view w.view ch c.in-Ok.cookie c.args.transfer h in
     let base = (answers-extend m.view w.view (Submit ch c.args.transfer) (Cookie c.in-Ok.cookie) refl h).0 in
     kept_next _ _ _ _ c.self.inside.engine m w c.self.inside.publisher c.ready.new.self c.publish.new.self c.self.inside.book c.self.inside.book _ c.new-tick.result (Submitted ch) 0 0 c.make_room.ensures.view s.0 base c.new-tick.ensures (c.ready.ensures.ready c.if-not-ready.false) c.publish.ensures.published (omega arith) (omega arith) c.self.invariant
 

@@ -5,7 +5,7 @@ use Rattle.dma_engine.specs.Object.{finished_all}
 use Rattle.dma_engine.specs.Ticks.{Finished}
 use Rattle.dma_engine.specs.View.{View, object_of}
 use Rattle.dma_engine.proofs.CallLists.{answers-extend}
-use Rattle.dma_engine.proofs.CookieCounts.{terminates_finish}
+use Rattle.dma_engine.proofs.CookieCounts.{terminates_add}
 use Rattle.dma_work.specs.declared.worker.Totals.{Totals}
 use Rattle.dma_work.specs.inner.DeskKept.{IsKept}
 use Rattle.dma_work.specs.inner.Published.{BoardState, SnapshotState}
@@ -17,7 +17,7 @@ pub overflow_add-self : goal.overflow_add-self
 overflow_add-self g c =
     let m = c.make_room.new.self.view in
     let w = c.terminate.new.self.view in
-    let s = terminates_finish m w c.args.ch c.in-Ok.count c.in-Ok.ensures.answer in
+    let s = terminates_add m w c.args.ch c.in-Ok.count c.in-Ok.ensures.answer in
     omega (arith, c.self.invariant.done, s.0.finished, c.from.ensures, ap (λ (u : View). finished_all (object_of u)) c.make_room.ensures.view, c.finished_all-finished.ensures, c.finished_all-finished.type_inv)
 
 pub publish-requires-clause-acted : goal.publish-requires-clause-acted
@@ -25,7 +25,7 @@ publish-requires-clause-acted g c =
     let m = c.make_room.new.self in
     let w = c.terminate.new.self in
     let ch = c.args.ch in
-    let s = terminates_finish m.view w.view ch c.in-Ok.count c.in-Ok.ensures.answer in
+    let s = terminates_add m.view w.view ch c.in-Ok.count c.in-Ok.ensures.answer in
     let tick : c.new-tick.result ≡ Finished ch c.in-Ok.count = c.new-tick.ensures ∙ ap (λ n. Finished ch n) (c.unfinished.ensures ∙ sym s.2) in
     acted_next c.self.inside.publisher c.ready.new.self c.self.inside.engine.view m.view w.view _ c.new-tick.result (Finished ch c.in-Ok.count) c.make_room.ensures.view s.0.ticks tick (c.ready.ensures.ready c.if-not-ready.false) (ap (λ (x : BoardState). x.ticks) (sym c.self.invariant.shown))
 
@@ -36,7 +36,7 @@ kept g c =
     let ch = c.args.ch in
     let count = c.in-Ok.count in
     let h = c.in-Ok.ensures.answer in
-    let s = terminates_finish m.view w.view ch count h in
+    let s = terminates_add m.view w.view ch count h in
     let base = (answers-extend m.view w.view (Terminate ch) (Count count) refl h).0 in
     let tick : c.new-tick.result ≡ Finished ch count = c.new-tick.ensures ∙ ap (λ n. Finished ch n) (c.unfinished.ensures ∙ sym s.2) in
     let book : Totals = record (c.self.inside.book) { terminated = c.self.inside.book.terminated + c.from.result } in

@@ -1,12 +1,12 @@
 use Rattle.std.proofs.Common.{◌≡◌, ◌+◌, ◌-◌, [], ◌++◌, length, refl, ap, sym, ◌∙◌, arith, rules, append-nil}
 use Rattle.std.specs.List.{slice_get}
-use Rattle.dma_work.specs.inner.Published.{SnapshotState, those}
+use Rattle.dma_work.specs.inner.Published.{SnapshotState, ticks_of_option}
 use Rattle.dma_work.proofs.Beginnings.{one_longer, prefix_trans}
 use Rattle.dma_work.proofs.log.Snapshot.is_within_next.Goals as goal
 
 pub returns-then-is_within : goal.returns-then-is_within
 returns-then-is_within c h =
-    prefix_trans _ _ (c.args.before.now.ticks ++ those c.args.next) (c.is_within.ensures.within h) (those c.args.next, refl)
+    prefix_trans _ _ (c.args.before.now.ticks ++ ticks_of_option c.args.next) (c.is_within.ensures.within h) (ticks_of_option c.args.next, refl)
 
 pub returns-then-self-before : goal.returns-then-self-before
 returns-then-self-before c h =
@@ -20,4 +20,4 @@ returns-then-self-before c h =
     let at : c.self.inside.len - 1 ≡ length theirs = omega (arith, c.self.invariant.0, one, ap length log) in
     let next : c.args.next ≡ slice_get mine (length theirs) =
     sym last ∙ c.self.invariant.1 ∙ ap (slice_get c.self.inside.seen.log) at ∙ ap (λ l. slice_get l (length theirs)) log in
-    ([], append-nil mine ∙ sym (one_longer theirs mine (c.is_within.ensures.longer c.if-is_within.false) one) ∙ ap (λ o. theirs ++ those o) (sym next))
+    ([], append-nil mine ∙ sym (one_longer theirs mine (c.is_within.ensures.longer c.if-is_within.false) one) ∙ ap (λ o. theirs ++ ticks_of_option o) (sym next))

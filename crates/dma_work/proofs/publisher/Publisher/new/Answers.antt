@@ -1,5 +1,5 @@
 use Rattle.std.proofs.Common.{◌≡◌, [], ◌∷◌, ◌++◌, drop, ap, sym, ◌∙◌, subst}
-use Rattle.dma_work.specs.inner.Published.{BoardState, Later, newest}
+use Rattle.dma_work.specs.inner.Published.{BoardState, IsLaterBoard, newest}
 use Rattle.dma_work.proofs.PublishedRule.{later_self}
 use Rattle.dma_work.proofs.publisher.Publisher.new.Goals as goal
 
@@ -11,4 +11,4 @@ shown-writer-requires g c =
     let shown : p ≡ first = ap (λ d. d.shown.value) c.in-Ok-append.ensures.desk ∙ c.in-Ok.ensures.0 in
     let one : drop w.behind w.log.items ≡ first ∷ [] =
     c.in-Ok-append.ensures.pending ∙ ap (λ l. l ++ c.copy-same.result ∷ []) c.in-Ok.ensures.1 ∙ ap (λ (x : BoardState). x ∷ []) c.copy-same.ensures in
-    subst (λ l. Later p (newest p l)) (sym one) (subst (Later p) shown (later_self p))
+    subst (λ l. IsLaterBoard p (newest p l)) (sym one) (subst (IsLaterBoard p) shown (later_self p))

@@ -1,6 +1,0 @@
-use Rattle.dma_engine.specs.Object.{finished_all}
-use Rattle.dma_engine.specs.View.{object_of}
-use Rattle.dma_engine_tests.proofs.work_leaves.a_desk_leaves_what_the_steps_leave.Given as goal
-
-abbrev pub ghosts-through_a_desk : goal.ghosts-through_a_desk
-ghosts-through_a_desk g a = record { steps = a.parts.engine.view.steps; finished = finished_all (object_of a.parts.engine.view); base = a.parts.base; log = a.parts.log }

@@ -1,0 +1,206 @@
+-- How the reader of a line goes through its words, one after another, for the contracts of private functions. Of each
+-- of the three tests of words (their count, their form, and the ranges of numbers), the first fault is kept until the
+-- end of the line. What a line means is in `Arguments`, `Plan`, `Statements` and `Race`.
+use Rattle.std.specs.Prelude.{ℕ, ◌&&◌, ◌||◌, Bool, true, false, not, if◌then◌else◌, List, [], ◌∷◌, Option, Some, None, Result, Ok, Err, is_some, unwrap_or, codes}
+use Rattle.std.specs.Option.{option_or}
+use Rattle.std.specs.Str.{bytes_eq}
+use Rattle.dma_mem.specs.declared.marks.MarkKind.{MarkKind}
+use Rattle.dma_mem.specs.declared.marks.MarkKind.TheVariants.{Reading, Writing}
+use Rattle.dma_mem.specs.declared.segment.Segment.{Segment}
+use Rattle.dma_script.specs.Words.{number_of, segment_of, list_of}
+use Rattle.dma_script.specs.Arguments.{bytes_at, lies_in}
+use Rattle.dma_script.specs.Statements.{most_steps}
+use Rattle.dma_script.specs.Causes.{where_not, number_or_zero, cause_reported}
+use Rattle.dma_script.specs.declared.fault.Cause.{Cause}
+use Rattle.dma_script.specs.declared.fault.Cause.TheVariants as causes
+use Rattle.dma_script.specs.declared.plan.Origin.{Origin}
+use Rattle.dma_script.specs.declared.plan.Origin.TheVariants as origins
+use Rattle.dma_script.specs.declared.plan.TransferLine.{TransferLine}
+use Rattle.dma_script.specs.declared.statements.Keyword.{Keyword}
+use Rattle.dma_script.specs.declared.statements.Keyword.TheVariants as keywords
+use Rattle.dma_script.specs.declared.statements.Statement.{Statement}
+use Rattle.dma_script.specs.declared.statements.Statement.TheVariants as statements
+
+-- succeeds, unless there is a cause
+abbrev pub unless : Option Cause → Result (Unit {0}) Cause
+unless None = Ok tt
+unless (Some cause) = Err cause
+
+-- A line whose words are being read. `left`: the words not read yet. `misses`: a word is missing, or a fixed word is
+-- wrong. `form`: `Number` or `Hex`, for the first word that is not in its form. `range`: the cause of the first number
+-- that is outside its range.
+pub record LineRead : Type 0 where
+  pub left : List (List ℕ)
+  pub misses : Bool
+  pub form : Option Cause
+  pub range : Option Cause
+
+-- a line of which no word was read yet
+abbrev pub unread : List (List ℕ) → LineRead
+unread words = record { left = words; misses = false; form = None; range = None }
+
+-- whether no word is left
+abbrev pub no_words : List (List ℕ) → Bool
+no_words [] = true
+no_words (word ∷ words) = false
+
+-- the next word; no bytes if there is none
+abbrev pub next_of : List (List ℕ) → List ℕ
+next_of [] = []
+next_of (word ∷ words) = word
+
+-- the words after the next one
+abbrev pub rest_of : List (List ℕ) → List (List ℕ)
+rest_of [] = []
+rest_of (word ∷ words) = words
+
+-- whether the next word is a text
+abbrev pub begins : List ℕ → List (List ℕ) → Bool
+begins text [] = false
+begins text (word ∷ words) = bytes_eq word text
+
+-- The first cause of a line whose last word should have been read. `Words` for a word that is missing, wrong or too
+-- many; then the first word that is not in its form, and then the first number that is outside its range.
+abbrev pub end_cause : LineRead → Option Cause
+end_cause line = if not line.misses && no_words line.left then option_or line.form line.range else Some causes.Words
+
+-- succeeds if a line has no cause
+abbrev pub ended : LineRead → Result (Unit {0}) Cause
+ended line = unless (end_cause line)
+
+-- ---- one word, or one part of a line. Each function returns a value and the line after it. The value of a word that
+-- is missing or faulty doesn't matter.
+
+-- a word
+abbrev pub after_word : LineRead → LineRead
+after_word line = record line { left = rest_of line.left; misses = line.misses || no_words line.left }
+
+-- a word that is known
+abbrev pub skipped : LineRead → LineRead
+skipped line = record line { left = rest_of line.left }
+
+-- the fault of a word's form, if any
+abbrev pub noted : Option Cause → LineRead → LineRead
+noted fault line = record line { form = option_or line.form fault }
+
+-- the word `text`, if it is the next
+abbrev pub skip_from : List ℕ → LineRead → LineRead
+skip_from text line = if begins text line.left then skipped line else line
+
+-- the word `text`, or else a wrong word
+abbrev pub fixed_from : List ℕ → LineRead → LineRead
+fixed_from text line = if begins text line.left then skipped line else record line { misses = true }
+
+-- a number
+abbrev pub number_from : LineRead → ℕ × LineRead
+number_from line = (
+  number_or_zero (next_of line.left),
+  noted (where_not (is_some (number_of (next_of line.left))) causes.Number) (after_word line),
+)
+
+-- a number from `low` to `high`, or a cause
+abbrev pub within_from : ℕ → ℕ → Cause → LineRead → ℕ × LineRead
+within_from low high cause line =
+    let number = number_from line in
+    let fits = lies_in low high number.0 in
+    (if fits then number.0 else low, record number.1 { range = option_or number.1.range (where_not fits cause) })
+
+-- a number of at most 255, such as that of a channel or an event
+abbrev pub byte_from : LineRead → ℕ × LineRead
+byte_from line = within_from 0 255 causes.Range line
+
+-- a number of steps, which is 1 if no word is left
+abbrev pub count_from : LineRead → ℕ × LineRead
+count_from line = if no_words line.left then (1, line) else within_from 1 most_steps causes.Range line
+
+-- the event after its name, or `None` if the name is not the next word
+abbrev pub event_from : List ℕ → LineRead → Option ℕ × LineRead
+event_from name line =
+    let event = byte_from (skipped line) in
+    if begins name line.left then (Some event.0, event.1) else (None, line)
+
+-- a segment
+abbrev pub segment_from : LineRead → Segment × LineRead
+segment_from line = (
+  unwrap_or (segment_of (next_of line.left)) (record { addr = 0; len = 0 }),
+  noted (where_not (is_some (segment_of (next_of line.left))) causes.Number) (after_word line),
+)
+
+-- a list of segments
+abbrev pub list_from : LineRead → List Segment × LineRead
+list_from line = (
+  unwrap_or (list_of (next_of line.left)) [],
+  noted (where_not (is_some (list_of (next_of line.left))) causes.Number) (after_word line),
+)
+
+-- `to LIST`
+abbrev pub to_list_from : LineRead → List Segment × LineRead
+to_list_from line = list_from (fixed_from (codes "to") line)
+
+-- the value of a result, or an empty list
+abbrev pub or_empty : Result (List ℕ) Cause → List ℕ
+or_empty (Ok bytes) = bytes
+or_empty (Err cause) = []
+
+-- the joined bytes of all words that are left, at least one
+abbrev pub bytes_from : LineRead → List ℕ × LineRead
+bytes_from line = (
+  or_empty (bytes_at line.left),
+  noted (cause_reported (bytes_at line.left)) (record line { left = []; misses = line.misses || no_words line.left }),
+)
+
+-- the source of a transfer: `fill ADDR`, or a list
+abbrev pub source_from : LineRead → Origin × LineRead
+source_from line =
+    let place = number_from (skipped line) in
+    let list = list_from line in
+    if begins (codes "fill") line.left then (origins.Place place.0, place.1) else (origins.List list.0, list.1)
+
+-- `LIST to LIST [wait E] [signal E]` or `fill ADDR to LIST [wait E] [signal E]`
+abbrev pub transfer_from : LineRead → TransferLine × LineRead
+transfer_from line =
+    let src = source_from line in
+    let dst = to_list_from src.1 in
+    let wait = event_from (codes "wait") dst.1 in
+    let signal = event_from (codes "signal") wait.1 in
+    (record { src = src.0; dst = dst.0; wait = wait.0; signal = signal.0 }, signal.1)
+
+-- the kind of a mark: loads fail at a `read` mark, stores at a `write` mark
+abbrev pub kind_from : LineRead → MarkKind × LineRead
+kind_from line =
+    if begins (codes "read") line.left then (Reading, skipped line)
+    else (Writing, fixed_from (codes "write") line)
+
+-- a statement made of two values that are read one after the other
+abbrev pub both_from : {A B : Type 0} → (LineRead → A × LineRead) → (LineRead → B × LineRead) → (A → B → Statement) → LineRead → Result (Statement × LineRead) Cause
+both_from first second make line =
+    let a = first line in
+    let b = second a.1 in
+    Ok (make a.0 b.0, b.1)
+
+-- a statement made of one value
+abbrev pub one_from : {A : Type 0} → (LineRead → A × LineRead) → (A → Statement) → LineRead → Result (Statement × LineRead) Cause
+one_from first make line = let a = first line in Ok (make a.0, a.1)
+
+-- The statement that a keyword and the words after it spell, and the line after them: `First` for the memory line.
+abbrev pub statement_from : Keyword → LineRead → Result (Statement × LineRead) Cause
+statement_from keywords.Memory line = Err causes.First
+statement_from keywords.Write line = both_from number_from bytes_from (λ addr bytes. statements.Write addr bytes) line
+statement_from keywords.Read line = one_from segment_from (λ segment. statements.Read segment) line
+statement_from keywords.Copy line =
+    both_from list_from to_list_from (λ src dst. statements.Copy (record { src = src; dst = dst })) line
+statement_from keywords.Fill line = both_from number_from to_list_from (λ src dst. statements.Fill src dst) line
+statement_from keywords.Submit line =
+    both_from byte_from transfer_from (λ ch transfer. statements.Submit ch transfer) line
+statement_from keywords.Issue line = one_from byte_from (λ ch. statements.Issue ch) line
+statement_from keywords.Pause line = one_from byte_from (λ ch. statements.Pause ch) line
+statement_from keywords.Resume line = one_from byte_from (λ ch. statements.Resume ch) line
+statement_from keywords.Terminate line = one_from byte_from (λ ch. statements.Terminate ch) line
+statement_from keywords.Step line = both_from byte_from count_from (λ ch count. statements.Step ch count) line
+statement_from keywords.Status line = both_from byte_from number_from (λ ch cookie. statements.Status ch cookie) line
+statement_from keywords.Result line = both_from byte_from number_from (λ ch cookie. statements.Result ch cookie) line
+statement_from keywords.Mark line = both_from kind_from segment_from (λ kind segment. statements.Mark kind segment) line
+statement_from keywords.Unmark line = Ok (statements.Unmark, line)
+statement_from keywords.Raise line = one_from byte_from (λ event. statements.Raise event) line
+statement_from keywords.Checkpoint line = Ok (statements.Checkpoint, line)
+statement_from keywords.Totals line = Ok (statements.Totals, line)
