@@ -124,9 +124,21 @@ static int32_t invoke_load_text(void)
     return dma330_channel_load_program(&channel, program, len);
 }
 
+/* Returns the smallest range that contains both. */
+static dma330_segment joined(dma330_segment a, dma330_segment b)
+{
+    dma330_segment both = a.addr < b.addr ? a : b;
+    uint32_t a_end = a.addr + a.len, b_end = b.addr + b.len;
+    if (a.len == 0 || b.len == 0)
+        return a.len == 0 ? b : a;
+    both.len = (a_end > b_end ? a_end : b_end) - both.addr;
+    return both;
+}
+
 static int32_t invoke_step(void)
 {
     uint32_t taken = 0, most = given.numbers[0];
+    dma330_segment written = {0, 0};
     int32_t code;
     if (way != SAVED || !channel.is_open)
         return dma330_channel_step(&channel, regions, region_count, &flags, most, &outputs.report);
@@ -137,10 +149,12 @@ static int32_t invoke_step(void)
         if (code != DMA330_OK)
             return code;
         taken += outputs.report.taken;
+        written = joined(written, outputs.report.written);
         if (outputs.report.turn == DMA330_CHANNEL_NO_STEP && taken > 0)
             outputs.report.turn = DMA330_CHANNEL_MOVED; /* what the step before it did */
     } while (outputs.report.turn == DMA330_CHANNEL_MOVED && outputs.report.taken > 0 && taken < most);
     outputs.report.taken = taken;
+    outputs.report.written = written;
     return code;
 }
 
@@ -245,6 +259,8 @@ static void append_report(answer *to, const dma330_channel_report *r)
     if (r->turn == DMA330_CHANNEL_FAULT || r->fault != 0)
         append(to, " %s", name_of(faults, r->fault));
     append(to, " at %lu", (unsigned long)r->pc);
+    if (r->written.len > 0)
+        append(to, " wrote 0x%08lX+%lu", (unsigned long)r->written.addr, (unsigned long)r->written.len);
 }
 
 static void append_registers(answer *to, const dma330_registers *r)

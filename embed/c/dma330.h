@@ -119,6 +119,8 @@ typedef struct dma330_channel_report {
     uint32_t fault; /* of DMA330_CHANNEL_FAULT: enum dma330_fault */
     uint32_t pc;    /* the offset of the next instruction: of WAITING and FAULT that of the one that waits or failed, of
                      * ENDED that of the DMAEND */
+    dma330_segment written; /* the range that the steps wrote: each byte in it, and no other byte of the regions; its len is 0
+                             * if they wrote nothing */
 } dma330_channel_report;
 
 /* A channel's registers and counts. */
@@ -376,10 +378,11 @@ int32_t dma330_channel_load_from(dma330_channel *channel, const dma330_region *r
                                  uint32_t addr) DMA330_NO_NULLS;
 
 /* Takes at most `most` steps over the regions and the flags of events 0 to 31, which are the bits of `*flags`. It ends after
- * a step that doesn't move or that sets a flag, so that the caller can raise an interrupt. Loads
- * outside the regions fail with DMA330_DATA_READ_ERR, stores with DMA330_DATA_WRITE_ERR. The array of regions isn't written,
- * only their bytes. A burst may cross from one region into one that touches it. The library keeps no fault: the next step
- * tries the instruction again, so a model stops stepping a channel that failed. Codes: BAD_REGIONS, NO_PROGRAM. */
+ * a step that doesn't move or that sets a flag, so that the caller can raise an interrupt, and before a step that writes
+ * neither in the range written so far nor beside it: then the last step moved, and the next call goes on. Loads outside
+ * the regions fail with DMA330_DATA_READ_ERR, stores with DMA330_DATA_WRITE_ERR. The array of regions isn't written, only
+ * their bytes. A burst may cross from one region into one that touches it. The library keeps no fault: the next step tries
+ * the instruction again, so a model stops stepping a channel that failed. Codes: BAD_REGIONS, NO_PROGRAM. */
 int32_t dma330_channel_step(dma330_channel *channel, dma330_region *regions, size_t region_count, uint32_t *flags,
                             uint32_t most, dma330_channel_report *report) DMA330_NO_NULLS;
 
@@ -454,7 +457,7 @@ DMA330_ASSERT(run, sizeof(dma330_run) == 8 && offsetof(dma330_run, stored) == 4)
 DMA330_ASSERT(report, sizeof(dma330_report) == 28 && offsetof(dma330_report, residue) == 24);
 DMA330_ASSERT(region, sizeof(dma330_region) == 24 && offsetof(dma330_region, bytes) == 8 && offsetof(dma330_region, len) == 16);
 DMA330_ASSERT(channel, sizeof(dma330_channel) == 16 && offsetof(dma330_channel, is_open) == 8);
-DMA330_ASSERT(channel_report, sizeof(dma330_channel_report) == 20 && offsetof(dma330_channel_report, pc) == 16);
+DMA330_ASSERT(channel_report, sizeof(dma330_channel_report) == 28 && offsetof(dma330_channel_report, written) == 20);
 DMA330_ASSERT(registers, sizeof(dma330_registers) == 32 && offsetof(dma330_registers, is_loaded) == 18
               && offsetof(dma330_registers, taken) == 20 && offsetof(dma330_registers, stored) == 24);
 DMA330_ASSERT(run_end, sizeof(dma330_run_end) == 20 && offsetof(dma330_run_end, pc) == 16);

@@ -77,7 +77,7 @@ below_at size [] k a all l e = absurd (omega arith)
 below_at size (x ∷ xs) zero a all l e = omega (arith, all.0, e)
 below_at size (x ∷ xs) (suc k) a all l e = below_at size xs k a all.1 (omega arith) e
 
-touched_below : (t : Descriptor) (size a : ℕ) → lies_below t size ≡ true → Touches t a → a < size
+pub touched_below : (t : Descriptor) (size a : ℕ) → lies_below t size ≡ true → Touches t a → a < size
 touched_below t size a below touches =
     let parts = and_parts (all_below t.src size) (all_below t.dst size) below in
     elim touches [

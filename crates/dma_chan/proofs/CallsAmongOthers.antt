@@ -1,5 +1,5 @@
 -- Calls that step a channel with a transfer's program, over a memory that others write between them.
-use Rattle.std.proofs.Common.{◌≡◌, ◌≢◌, ℕ, zero, suc, ◌+◌, ◌-◌, ◌<◌, true, false, List, take, drop, length, get_or, Option, Some, None, refl, sym, ap, ◌∙◌, subst, arith, inl}
+use Rattle.std.proofs.Common.{◌≡◌, ◌≢◌, ℕ, zero, suc, ◌+◌, ◌-◌, ◌<◌, ◌⊎◌, true, false, List, take, drop, length, get_or, Option, Some, None, refl, sym, ap, ◌∙◌, subst, arith, inl, inr}
 use Rattle.std.specs.Prelude.{IsSome}
 use Rattle.std.specs.List.{Contains}
 use Rattle.std.proofs.lemmas.Bool.{false≢true, false_from_ne_true}
@@ -22,7 +22,7 @@ use Rattle.dma_chan.specs.Compiled.{compiled, cost}
 use Rattle.dma_chan.specs.Traffic.{burst, member, stored_after, read_places, written_places}
 use Rattle.dma_chan.specs.Layer.{Shared, step_at, StepAgrees, AnswerImplies}
 use Rattle.dma_chan.specs.Stepping.{Machine, answer_at, after_step, after_steps, goes_on_after, TakesSteps}
-use Rattle.dma_chan.proofs.SteppedOver.{is_still, was_moved}
+use Rattle.dma_chan.proofs.SteppedOver.{is_still, was_moved, went_before}
 use Rattle.dma_chan.specs.Others.{Misses, Touches, CalledAmongOthers, CallsCopyAmongOthers}
 use Rattle.dma_chan.specs.inner.At.{IsAt}
 use Rattle.dma_chan.proofs.ShapeLaws.{shape_is, stored_is}
@@ -32,7 +32,7 @@ use Rattle.dma_chan.proofs.OthersKept.{writes_no_other}
 use Rattle.dma_chan.proofs.AmongOthers.{Among, keeps_image, next}
 
 -- if no mark lies at any of these places, none lies at some of them
-none_met : (kind : MarkKind) (marks : MarkList) (places : List ℕ) (k n : ℕ) → ((a : ℕ) → Contains places a → is_marked kind marks a ≡ false) → meets_mark kind marks (take n (drop k places)) ≡ false
+pub none_met : (kind : MarkKind) (marks : MarkList) (places : List ℕ) (k n : ℕ) → ((a : ℕ) → Contains places a → is_marked kind marks a ≡ false) → meets_mark kind marks (take n (drop k places)) ≡ false
 unfolding meets_mark
 none_met kind marks places k n none =
     false_from_ne_true _ (λ e.
@@ -49,6 +49,7 @@ Runs t first u = (n : ℕ) × Among t first n u.image u.channel
 -- the program has ended, and all bytes are copied
 pub record IsDone (t : Descriptor) (first : List ℕ) (u : Machine) : Type 0 where
   pub dropped : u.channel.program ≡ None
+  pub stored : u.channel.stored ≡ size_of t
   pub all : (a : ℕ) → Touches t a → get_or u.image a 0 ≡ get_or (laid first t (size_of t)) a 0
 
 -- the state after a step, by its answer
@@ -68,12 +69,20 @@ at_first t first u h below channels images = (
 )
 
 -- a channel that still has a program is not finished
-goes : (t : Descriptor) (first : List ℕ) (last : Option ChanTurn) (v : Machine) → Leads t first last v → IsSome v.channel.program → Runs t first v
+pub goes : (t : Descriptor) (first : List ℕ) (last : Option ChanTurn) (v : Machine) → Leads t first last v → IsSome v.channel.program → Runs t first v
 goes t first None v r some = r
 goes t first (Some Moved) v r some = r
 goes t first (Some (Waiting x)) v r some = r
 goes t first (Some (Fault kind)) v r some = r
 goes t first (Some Ended) v d some = absurd (let bad = d.dropped in let w = some in grind arith)
+
+-- after a call the channel is not finished, or it has ended
+pub either_way : (t : Descriptor) (first : List ℕ) (last : Option ChanTurn) (v : Machine) → Leads t first last v → Runs t first v ⊎ (v.channel.program ≡ None)
+either_way t first None v r = inl r
+either_way t first (Some Moved) v r = inl r
+either_way t first (Some (Waiting x)) v r = inl r
+either_way t first (Some (Fault kind)) v r = inl r
+either_way t first (Some Ended) v d = inr d.dropped
 
 -- what others do between two calls
 pub survived : (t : Descriptor) (first : List ℕ) (v w : Machine) → Runs t first v → w.channel ≡ v.channel → ((a : ℕ) → Touches t a → get_or w.image a 0 ≡ get_or v.image a 0) → lies_below t (length w.image) ≡ true → Runs t first w
@@ -91,7 +100,7 @@ module _ (t : Descriptor) (marks : MarkList) (first : List ℕ) (h : IsTransfer 
   pub agrees : (n : ℕ) (u : Machine) → Among t first n u.image u.channel → StepAgrees t n marks (record { image = u.image; flags = u.flags }) u.channel
   agrees n u w = step_is t n marks (record { image = u.image; flags = u.flags }) u.channel h w.fits w.at
 
-  moved_on : (n : ℕ) (u : Machine) → Among t first n u.image u.channel → answer_at marks u ≡ Moved → Among t first (n + 1) (after_step marks u).image (after_step marks u).channel
+  pub moved_on : (n : ℕ) (u : Machine) → Among t first n u.image u.channel → answer_at marks u ≡ Moved → Among t first (n + 1) (after_step marks u).image (after_step marks u).channel
   moved_on n u w moved =
       next t marks first h below n (record { image = u.image; flags = u.flags }) u.channel (stepped marks u.channel u.image u.flags) (step_of marks u.channel u.image u.flags).1.image w moved refl (λ a touches. refl) (subst (λ (k : ℕ). lies_below t k ≡ true) (sym (writes_no_other marks u.channel u.image u.flags).size) w.fits)
 
@@ -107,6 +116,7 @@ module _ (t : Descriptor) (marks : MarkList) (first : List ℕ) (h : IsTransfer 
       let kept = keeps_image (member t n) (read_places t n) (written_places t n) marks m no_store in
       record {
         dropped = ap (λ (c : ChannelValue). c.program) (st.ends ends);
+        stored = ap (λ (c : ChannelValue). c.stored) (st.ends ends) ∙ w.at.stored ∙ ap (stored_after t) place ∙ (stored_is t h).all;
         all = λ a touches.
             ap (λ (i : List ℕ). get_or i a 0) (st.image ∙ kept) ∙ w.same a touches
             ∙ ap (λ (k : ℕ). get_or (laid_over first t k) a 0) (ap (stored_after t) place ∙ (stored_is t h).all)
@@ -128,7 +138,7 @@ module _ (t : Descriptor) (marks : MarkList) (first : List ℕ) (h : IsTransfer 
   many (suc j) s r moves =
       let u = after_steps marks s j in
       let w = many j s r (λ k l. moves k (omega arith)) in
-      (w.0 + 1, moved_on w.0 u w.1 (was_moved (ahead_of u.channel) (answer_at marks u) (moves (suc j) (omega arith))))
+      (w.0 + 1, moved_on w.0 u w.1 (was_moved (ahead_of u.channel) (answer_at marks u) (went_before marks s (suc j) (moves (suc j) (omega arith)))))
 
   -- what a call leads to
   pub call : (s v : Machine) (most taken : ℕ) (last : Option ChanTurn) → Runs t first s → TakesSteps marks s most taken last v → Leads t first last v

@@ -16,7 +16,7 @@ use Rattle.dma_mem.proofs.ImagePut.{get_or-put_other}
 use Rattle.dma_mem.proofs.OverTransfers.{Contains-take, Contains-drop}
 use Rattle.dma_mem.proofs.SharedPlaces.{is_free_of-true}
 use Rattle.dma_chan.specs.declared.turn.ChanTurn.{ChanTurn}
-use Rattle.dma_chan.specs.declared.turn.ChanTurn.TheVariants.{Moved, Waiting, Ended, Fault}
+use Rattle.dma_chan.specs.declared.turn.ChanTurn.TheVariants.{Ended, Fault}
 use Rattle.dma_chan.specs.declared.turn.FaultKind.{FaultKind}
 use Rattle.dma_chan.specs.Exec.{read_at}
 use Rattle.dma_chan.specs.Channel.{ChannelValue}
@@ -28,7 +28,7 @@ use Rattle.dma_chan.specs.Others.{Misses, Touches}
 use Rattle.dma_chan.specs.InTurn.{AreTogether, CalledInTurn, ChannelsCopyInTurn}
 use Rattle.dma_chan.proofs.ShapeLaws.{is_store}
 use Rattle.dma_chan.proofs.AmongOthers.{Among, keeps_image}
-use Rattle.dma_chan.proofs.CallsAmongOthers.{Leads, Runs, agrees, at_first, call, call_fails, many, survived}
+use Rattle.dma_chan.proofs.CallsAmongOthers.{Leads, Runs, agrees, at_first, call, call_fails, either_way, many, survived}
 
 -- ---- a step of a transfer's program changes nothing where the transfer doesn't write
 
@@ -79,7 +79,7 @@ free_outside t u a free touched =
     let apart = is_free_of-true u t free in
     elim touched [ inl i ↦ λ w. apart.writes_no_source a w i | inr i ↦ λ w. apart.writes_none a w i ]
 
-not_none : (o : Option ProgramValue) → IsSome o → o ≡ None → ⊥
+pub not_none : (o : Option ProgramValue) → IsSome o → o ≡ None → ⊥
 not_none o some e = let bad = e in let w = some in grind arith
 
 -- ---- along the calls
@@ -111,14 +111,6 @@ module _ (transfers : ℕ → Descriptor) (count : ℕ) (marks : ℕ → MarkLis
   caller : (k : ℕ) → k < calls → Is k (who k) → Goes (who k) (before k)
   caller k l (inl r) = (r.0, subst (λ (c : ChannelValue). Among (transfers (who k)) first r.0 (before k).image c) (sym (run.channel k l)) r.1)
   caller k l (inr none) = absurd (not_none (before k).channel.program (run.is_loaded k l) (ap (λ (c : ChannelValue). c.program) (run.channel k l) ∙ none))
-
-  -- after the call it is not finished, or it has ended
-  either_way : (ch : ℕ) (o : Option ChanTurn) (v : Machine) → Leads (transfers ch) first o v → Goes ch v ⊎ (v.channel.program ≡ None)
-  either_way ch None v r = inl r
-  either_way ch (Some Moved) v r = inl r
-  either_way ch (Some (Waiting x)) v r = inl r
-  either_way ch (Some (Fault kind)) v r = inl r
-  either_way ch (Some Ended) v d = inr d.dropped
 
   called : (k : ℕ) → k < calls → Goes (who k) (before k) → Leads (transfers (who k)) first (last k) (after k)
   called k l r =
@@ -155,7 +147,7 @@ module _ (transfers : ℕ → Descriptor) (count : ℕ) (marks : ℕ → MarkLis
       let prior = along k here ch within in
       subst (λ (j : ℕ). Is j ch) e
       (elim (cases_eq ch (who k)) [
-        | inl same ↦ subst (λ (d : ℕ). Is (k + 1) d) (sym same) (own k here less (either_way (who k) (last k) (after k) (called k here r)))
+        | inl same ↦ subst (λ (d : ℕ). Is (k + 1) d) (sym same) (own k here less (either_way (transfers (who k)) first (last k) (after k) (called k here r)))
         | inr ne ↦ other k ch here less within ne r prior
       ])
 

@@ -1,14 +1,22 @@
--- Pieces, one after the other: by which of the first two segments ends first.
-use Rattle.std.proofs.Common.{false, ◌≡◌, ◌+◌, ◌-◌, ◌<◌, List, ◌∷◌, refl, arith}
-use Rattle.std.proofs.lemmas.Bool.{lt-ltb, le-ltb}
+-- What is left of two lists of segments, where nothing is left of one.
+use Rattle.std.proofs.Common.{Bool, true, false, ◌≡◌, List, [], ◌∷◌, None, refl}
+use Rattle.std.specs.Prelude.{slice_get}
 use Rattle.dma_mem.specs.declared.segment.Segment.{Segment}
 use Rattle.dma_chan.specs.Compiled.{pieces}
+use Rattle.dma_chan.specs.inner.Cutting.{pieces_left}
 
-pub pieces_less : (s d : Segment) (ss ds : List Segment) → s.len < d.len → pieces (s ∷ ss) (d ∷ ds) ≡ (record { src = s.addr; dst = d.addr; len = s.len; fill = false }) ∷ pieces ss ((record { addr = d.addr + s.len; len = d.len - s.len }) ∷ ds)
-pieces_less s d ss ds h = rw (lt-ltb s.len d.len h) refl
+-- no piece is left
+pieces_none : (ss : List Segment) → pieces ss [] ≡ []
+pieces_none [] = refl
+pieces_none (s ∷ ss) = pieces_none ss
 
-pub pieces_more : (s d : Segment) (ss ds : List Segment) → d.len < s.len → pieces (s ∷ ss) (d ∷ ds) ≡ (record { src = s.addr; dst = d.addr; len = d.len; fill = false }) ∷ pieces ((record { addr = s.addr + d.len; len = s.len - d.len }) ∷ ss) ds
-pieces_more s d ss ds h = rw (le-ltb s.len d.len (omega arith), lt-ltb d.len s.len h) refl
+pub none_to_read : (fill : Bool) (ss ds : List Segment) → slice_get ss 0 ≡ None → pieces_left fill ss ds ≡ []
+none_to_read true [] ds h = refl
+none_to_read false [] ds h = refl
+none_to_read fill (s ∷ ss) ds h = absurd cc
 
-pub pieces_same : (s d : Segment) (ss ds : List Segment) → s.len ≡ d.len → pieces (s ∷ ss) (d ∷ ds) ≡ (record { src = s.addr; dst = d.addr; len = s.len; fill = false }) ∷ pieces ss ds
-pieces_same s d ss ds h = rw (le-ltb s.len d.len (omega arith), le-ltb d.len s.len (omega arith)) refl
+pub none_to_write : (fill : Bool) (ss ds : List Segment) → slice_get ds 0 ≡ None → pieces_left fill ss ds ≡ []
+none_to_write true [] [] h = refl
+none_to_write true (s ∷ ss) [] h = refl
+none_to_write false ss [] h = pieces_none ss
+none_to_write fill ss (d ∷ ds) h = absurd cc

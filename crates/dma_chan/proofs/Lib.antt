@@ -23,14 +23,19 @@ pub mod CopyAlone
 pub mod TwoSlices
 pub mod ReadyLaws
 pub mod BodyBlocks
-mod BodyBytes
+pub mod RoundCounts
+pub mod WrittenRanges
 pub mod SteppedOver
 pub mod AmongOthers
 pub mod OthersKept
 pub mod CallsAmongOthers
 pub mod CallsInTurn
+pub mod CallWrites
+pub mod SinceLoads
+pub mod LaidPlaces
 pub mod Rows
 pub mod SavedHeads
 pub mod SavedParts
 pub mod PlacesKept
 pub mod RegionsHave
+pub mod CopyAtOnce

@@ -3,15 +3,14 @@ use Rattle.std.proofs.Common.{◌≡◌, ℕ, zero, suc, ◌+◌, ◌*◌, ◌/�
 use Rattle.std.specs.Prelude.{replicate, if◌then◌else◌}
 use Rattle.std.specs.List.{AllByRecursion, All, range_with_len, flat_map}
 use Rattle.std.proofs.lemmas.List.Elements.{All-from_recursion, All-head, All-tail}
-use Rattle.std.proofs.lemmas.List.{drop_all}
 use Rattle.std.proofs.lemmas.List.FromFn.{length-range_with_len}
 use Rattle.dma_mem.specs.declared.segment.Segment.{Segment}
 use Rattle.dma_mem.specs.Places.{Descriptor, places, sources, destinations}
 use Rattle.dma_mem.specs.Rules.{IsTransfer, IsSegmentList}
 use Rattle.dma_chan.specs.declared.pieces.Piece.{Piece}
 use Rattle.dma_chan.specs.Compiled.{pieces, fill_piece, fill_pieces, pieces_of, piece_tree, beat_of, parts, where_some, under, control_word, bursts, body, wait_tree, signal_tree, tree_of}
-use Rattle.dma_chan.specs.inner.Compiling.{byte_count, IsRange, cost_of}
-use Rattle.dma_chan.specs.Tree.{Tree, bytes_of, unrolled, in_order}
+use Rattle.dma_chan.specs.inner.Compiling.{byte_count, IsRange}
+use Rattle.dma_chan.specs.Tree.{Tree, bytes_of, in_order}
 use Rattle.dma_chan.proofs.CutPlaces.{IsPiece, pieces_right, read_by, written_by}
 
 -- what is left to spell, after one more piece
@@ -20,21 +19,6 @@ rest_more ps i d old now new h e inv =
     let cut : drop i ps ≡ get_or ps i d ∷ drop (i + 1) ps = drop-cons ps i d h ∙ rw add-one refl in
     let rest = bytes_of (in_order (map piece_tree (drop (i + 1) ps))) in
     ap (λ (xs : List ℕ). xs ++ rest) e ∙ append_assoc now (bytes_of (piece_tree (get_or ps i d))) rest ∙ ap (λ (xs : List Piece). now ++ bytes_of (in_order (map piece_tree xs))) (sym cut) ∙ inv
-
--- what is left to count
-pub cost_more : (ps : List Piece) (i : ℕ) (d : Piece) (all now c : ℕ) → i < length ps → c ≡ cost_of (piece_tree (get_or ps i d)) → now + cost_of (in_order (map piece_tree (drop i ps))) ≡ all → now + c + cost_of (in_order (map piece_tree (drop (i + 1) ps))) ≡ all
-unfolding cost_of
-cost_more ps i d all now c h e inv =
-    let cut : drop i ps ≡ get_or ps i d ∷ drop (i + 1) ps = drop-cons ps i d h ∙ rw add-one refl in
-    let first = piece_tree (get_or ps i d) in
-    let rest = in_order (map piece_tree (drop (i + 1) ps)) in
-    let one : cost_of (in_order (map piece_tree (drop i ps))) ≡ cost_of first + cost_of rest = ap (λ (xs : List Piece). cost_of (in_order (map piece_tree xs))) cut ∙ length-append (unrolled first) (unrolled rest) in
-    omega (arith, e, one)
-
--- nothing is left
-pub cost_done : (ps : List Piece) (i : ℕ) → length ps ≤ i → cost_of (in_order (map piece_tree (drop i ps))) ≡ 0
-unfolding cost_of
-cost_done ps i h = ap (λ (xs : List Piece). length (unrolled (in_order (map piece_tree xs)))) (drop_all i ps h)
 
 -- ---- what holds of a transfer's lists
 
@@ -104,7 +88,7 @@ pub cut_well : (t : Descriptor) → IsTransfer t → IsCut (sources t) (destinat
 cut_well t h =
     cut_by t.fill t.src t.dst h.one_byte h.source_list h.destination_list (same_count t h) (omega (arith, h.short, byte_count-places t.dst))
 
-all_small : (ps : List Piece) → AllByRecursion IsPiece ps → AllByRecursion (λ p. p.len ≤ 2 ^ 20) ps
+pub all_small : (ps : List Piece) → AllByRecursion IsPiece ps → AllByRecursion (λ p. p.len ≤ 2 ^ 20) ps
 all_small [] h = tt
 all_small (p ∷ ps) h = (h.0.below, all_small ps h.1)
 
@@ -165,10 +149,3 @@ pub compiled_bytes : (t : Descriptor) → IsTransfer t → length (bytes_of (tre
 compiled_bytes t h =
     let all = four_bytes (bytes_of (wait_tree t.wait)) (bytes_of (in_order (map piece_tree (pieces_of t)))) (bytes_of (signal_tree t.signal)) 2 (58 * length (pieces_of t)) 2 (wait_bytes t.wait) (pieces_bytes (pieces_of t)) (signal_bytes t.signal) in
     omega (arith, all, pieces_few t h)
-
--- what is left to fill, after one more destination
-pub fill_more : (a : ℕ) (ds : List Segment) (i : ℕ) (d : Segment) (all now new : List Piece) → i < length ds → new ≡ now ++ fill_piece a (get_or ds i d) ∷ [] → now ++ map (fill_piece a) (drop i ds) ≡ all → new ++ map (fill_piece a) (drop (i + 1) ds) ≡ all
-fill_more a ds i d all now new h e inv =
-    let cut : drop i ds ≡ get_or ds i d ∷ drop (i + 1) ds = drop-cons ds i d h ∙ rw add-one refl in
-    let rest = map (fill_piece a) (drop (i + 1) ds) in
-    ap (λ (xs : List Piece). xs ++ rest) e ∙ append_assoc now (fill_piece a (get_or ds i d) ∷ []) rest ∙ ap (λ (xs : List Segment). now ++ map (fill_piece a) xs) (sym cut) ∙ inv

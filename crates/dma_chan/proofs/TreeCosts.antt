@@ -39,6 +39,11 @@ pub cost_counted : (t : Tree) → cost_of t ≡ counted t
 unfolding cost_of
 cost_counted t = length-unrolled t
 
+-- a piece sets two addresses before its bursts
+pub piece_counts : (p : Piece) → cost_of (piece_tree p) ≡ 2 + cost_of (parts p.fill (beat_of p) p.len)
+unfolding cost_of
+piece_counts p = omega arith
+
 pub cost_of_tree : (t : Descriptor) → cost t ≡ counted (tree_of t)
 unfolding cost members
 cost_of_tree t = length-unrolled (tree_of t)

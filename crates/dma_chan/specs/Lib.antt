@@ -4,6 +4,7 @@ pub mod Next
 pub mod Exec
 pub mod Programs
 pub mod Channel
+pub mod Written
 pub mod Saved
 pub mod NextWrites
 pub mod Run
@@ -18,5 +19,7 @@ pub mod Fails
 pub mod RunPages
 pub mod Others
 pub mod InTurn
+pub mod CallWrites
+pub mod Changes
 pub mod LentRegions
 pub mod inner

@@ -6,5 +6,6 @@ pub mod Saves
 pub mod At
 pub mod Spans
 pub mod Compiling
+pub mod Cutting
 pub mod Blocks
 pub mod Acts

@@ -1,6 +1,6 @@
 //! The compiler: turns a transfer into the program that copies it.
 
-ghost use Rattle.std.specs.Prelude.{ℕ, ◌≡◌, ◌+◌, ◌-◌, ◌*◌, ◌≤◌, ◌<◌, ◌^◌, ◌++◌, length, IfOk, IfSome, OnOk, map, All, not};
+ghost use Rattle.std.specs.Prelude.{ℕ, Bool, ◌≡◌, ◌+◌, ◌-◌, ◌*◌, ◌≤◌, ◌<◌, ◌^◌, ◌++◌, length, IfOk, IfSome, OnOk, map, All, not};
 ghost use Rattle.dma_insn.specs.Spelling.{spelling};
 ghost use Rattle.dma_insn.specs.ControlWord.{beat_bytes};
 ghost use Rattle.dma_chan.specs.Tree.{bytes_of, in_order, Repeat};
@@ -9,7 +9,7 @@ ghost use Rattle.dma_chan.specs.Compiled.{where_some, body, bursts, under, fits,
 ghost use Rattle.dma_mem.specs.Places.{last_event};
 ghost use Rattle.dma_mem.specs.Rules.{IsTransfer};
 
-use crate::pieces::{Piece, pieces_of};
+use crate::pieces::{Piece, Pieces, pieces_of};
 use crate::program::Program;
 use dma_insn::codec::encode;
 use dma_insn::control::{Attribute, BeatSize, Beats, BurstEnd, Control};
@@ -55,7 +55,7 @@ pub fn compile(alloc: Global, transfer: &Transfer) -> Result<Program, NoMemory>
 {
     let pieces = pieces_of(alloc, transfer)?;
     let code = code_of(alloc, transfer, &pieces)?;
-    let cost = cost_of(transfer, &pieces);
+    let cost = cost_of(transfer);
     Ok(Program::of_vec(code, Some(cost)))
 }
 
@@ -73,14 +73,19 @@ fn code_of(alloc: Global, transfer: &Transfer, pieces: &[Piece]) -> Result<Vec<u
     Ok(code)
 }
 
-// Returns how many instructions a transfer's code executes, from its pieces.
-#[tactic(auto, using(crate::proofs::TreeCosts::cost_of_tree, crate::proofs::TreeCosts::cost_counted))]
-fn cost_of(transfer: &Transfer, pieces: &[Piece]) -> u32
-    requires rules { IsTransfer transfer.now }
-    requires pieces { pieces.now ≡ pieces_of transfer.now }
-    ensures { result ≡ cost transfer.now }
+/// Returns how many instructions the program of a transfer executes. It takes time in proportion to the number of
+/// pieces, and allocates nothing.
+#[tactic(auto, using(crate::proofs::TreeCosts::cost_of_tree, crate::proofs::TreeCosts::cost_counted, crate::proofs::TreeCosts::cost_is))]
+pub fn cost_of(transfer: &Transfer) -> u32
+    ensures value { result ≡ cost transfer.now }
+    ensures limit { result < 2 ^ 19 }
 {
-    event_cost(transfer.wait()) + pieces_cost(pieces) + event_cost(transfer.signal()) + 1
+    let mut pieces = Pieces::of(transfer);
+    let mut cost = event_cost(transfer.wait()) + event_cost(transfer.signal()) + 1;
+    while let Some(piece) = pieces.next() {
+        cost += piece_cost(piece);
+    }
+    cost
 }
 
 // Returns how many instructions a wait or a signal executes: 1, or 0 if the transfer has none.
@@ -317,32 +322,45 @@ fn control_word(beat: Beat, beats: u32) -> u32
     Control { src, dst }.bits()
 }
 
-// Returns how many instructions the code of the pieces executes.
-#[tactic(auto, using(crate::proofs::PieceCode::cost_done))]
-fn pieces_cost(pieces: &[Piece]) -> u32
-    requires lens { All (λ p. p.len ≤ 2 ^ 20) pieces.now }
-    requires few { length pieces.now ≤ 127 }
-    ensures value { result ≡ cost_of (in_order (map piece_tree pieces.now)) }
-    ensures limit { result ≤ 400000 * length pieces.now }
-{
-    let mut cost = 0;
-    for piece in pieces {
-        cost += piece_cost(*piece);
-    }
-    cost
-}
-
 // Returns how many instructions a piece's code executes.
-#[tactic(auto, unfolding(crate::specs::Compiled::parts), using(crate::proofs::TreeCosts::cost_counted))]
+#[tactic(auto, using(crate::proofs::TreeCosts::piece_counts))]
 fn piece_cost(piece: Piece) -> u32
     requires { piece.len ≤ 2 ^ 20 }
     ensures value { result ≡ cost_of (piece_tree piece) }
     ensures limit { result ≤ 400000 }
 {
-    let beat = beat_of(piece).bytes();
+    2 + beats_cost(piece.len, beat_of(piece))
+}
+
+// Returns how many instructions the bursts of `len` bytes execute, with beats of this size. Each arm divides by
+// constants.
+fn beats_cost(len: u32, beat: BeatSize) -> u32
+    requires { len ≤ 2 ^ 20 }
+    ensures value { (fill : Bool) → result ≡ cost_of (parts fill (beat_bytes beat) len) }
+    ensures limit { result ≤ 390010 }
+{
+    match beat {
+        BeatSize::One => parts_cost(len, 1),
+        BeatSize::Two => parts_cost(len, 2),
+        BeatSize::Four => parts_cost(len, 4),
+        BeatSize::Eight => parts_cost(len, 8),
+        BeatSize::Sixteen => parts_cost(len, 16),
+    }
+}
+
+// The same, with beats of `beat` bytes.
+#[inline(always)]
+#[tactic(auto, unfolding(crate::specs::Compiled::parts), using(crate::proofs::TreeCosts::cost_counted))]
+fn parts_cost(len: u32, beat: u32) -> u32
+    requires len { len ≤ 2 ^ 20 }
+    requires low { 1 ≤ beat }
+    requires high { beat ≤ 16 }
+    ensures value { (fill : Bool) → result ≡ cost_of (parts fill beat len) }
+    ensures limit { result ≤ 390010 }
+{
     let whole = 16 * beat;
-    let left = piece.len % whole;
-    2 + whole_bursts_cost(piece.len / whole) + burst_cost(left / beat) + burst_cost(left % beat)
+    let left = len % whole;
+    whole_bursts_cost(len / whole) + burst_cost(left / beat) + burst_cost(left % beat)
 }
 
 // Returns how many instructions `count` bursts of 16 beats execute, including their control word: 0 if there are none.

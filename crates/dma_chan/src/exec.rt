@@ -101,7 +101,7 @@ fn begin_loop(counter: Counter, times: Times, registers: &mut Registers) -> Chan
 }
 
 // Returns the value of a loop counter.
-fn counter_of(counter: Counter, registers: &Registers) -> u8
+pub(crate) fn counter_of(counter: Counter, registers: &Registers) -> u8
     ensures { result ≡ counter_of counter registers.now }
 {
     match counter {

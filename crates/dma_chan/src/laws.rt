@@ -1,10 +1,13 @@
 //! Laws of transfers' programs. Each law is the postcondition of a function that does nothing.
 
 ghost use Rattle.dma_chan.specs.Layer.{StartsAt, AheadIs, LeftIs, StepIs, TurnReports, Survives, ShapeIs, CostIs, StoredIs, CopiesAlone};
+ghost use Rattle.dma_chan.specs.CallWrites.{CallWritesNoOther, LoadExecutes, CallStaysIn};
+ghost use Rattle.dma_chan.specs.Changes.{CopiesSinceLoad, ChannelsCopy, LaidByPlace};
 ghost use Rattle.dma_chan.specs.InTurn.{ChannelsCopyInTurn};
-ghost use Rattle.dma_chan.specs.LentRegions.{GapsMiss};
+ghost use Rattle.dma_chan.specs.LentRegions.{GapsMiss, LiesInRegions};
 ghost use Rattle.dma_chan.specs.Others.{CallsCopyAmongOthers, CopiesAmongOthers, WritesNoOther};
 ghost use Rattle.dma_chan.specs.Ready.{ReadyIs};
+ghost use Rattle.dma_chan.specs.Stepping.{WritesEach};
 
 /// What a channel does at each step of a transfer's program, in terms of the places of the transfer alone.
 pub fn runs_in_step()
@@ -61,7 +64,48 @@ pub fn gaps_miss()
     ensures { GapsMiss }
 {}
 
+/// If regions contain all addresses that a transfer touches, their memory contains its ranges.
+pub fn lies_in_regions()
+    ensures { LiesInRegions }
+{}
+
 /// An instruction of any program changes no byte of the memory except those that it writes.
 pub fn writes_no_other()
     ensures { WritesNoOther }
+{}
+
+/// Each address in the range that a call over lent memory reports as written was written by one of its steps. That no
+/// other byte is changed is a clause of [`step_over`](crate::lent::step_over) and `step_regions`.
+pub fn writes_each()
+    ensures { WritesEach }
+{}
+
+/// A call of several steps changes no byte of the memory except those that its steps write.
+pub fn call_writes_no_other()
+    ensures { CallWritesNoOther }
+{}
+
+/// Calls on a channel from the load of a transfer's program to its end change no byte except at the transfer's
+/// destinations, whatever others write.
+pub fn writes_its_destinations()
+    ensures load { LoadExecutes }
+    ensures call { CallStaysIn }
+{}
+
+/// A transfer's program copies if, between its own load and a call on its channel, nobody else writes what the transfer
+/// reads or writes. After each call the destinations have the bytes that are stored so far, and all of them when the
+/// call reports the transfer's signal or ends.
+pub fn copies_since_load()
+    ensures { CopiesSinceLoad }
+{}
+
+/// The same of any number of channels, which are loaded at any time and stepped in any order. Of another channel with a
+/// transfer's program it is enough that the transfer writes elsewhere.
+pub fn channels_copy()
+    ensures { ChannelsCopy }
+{}
+
+/// A copy of the first bytes of a transfer in an image, place by place.
+pub fn laid_by_place()
+    ensures { LaidByPlace }
 {}

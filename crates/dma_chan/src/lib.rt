@@ -6,11 +6,13 @@
 //!
 //! Proved: a step executes one instruction, or waits or fails and changes nothing (`Channel::step`). A compiled program
 //! moves its transfer's bytes in order and fails only at marks (`compile`, `laws::runs_in_step`, `stores_in_turn`). Run
-//! alone, it makes one simultaneous copy (`laws::copies_alone`, `run_program`). It also does so while others write,
-//! between its steps, only bytes that it neither reads nor writes (`laws::calls_copy_among_others`,
-//! `channels_copy_in_turn`). No instruction changes a byte except those that its DMAST writes (`writes_no_other`). A
-//! call over lent memory is a chain of single steps (`lent::step_over`, `step_regions`: `TakesSteps`). A save restores
-//! its channel, and nothing else is accepted (`Channel::save`, `restore`). No page is made except for a store
+//! alone, it makes one simultaneous copy (`laws::copies_alone`, `run_program`); `copy::copy_at_once` makes it without
+//! the program. It also does so among other channels and a guest, if between its load and its signal or end nobody
+//! else writes what its transfer reads or writes (`laws::copies_since_load`, `channels_copy`). No call changes a byte
+//! except those that its DMASTs write (`call_writes_no_other`), and for a compiled program these are its transfer's
+//! destinations (`writes_its_destinations`). A call over lent memory is a chain of single steps (`lent::step_over`,
+//! `step_regions`: `TakesSteps`), and reports exactly the range that these write (`kept`, `laws::writes_each`). A save
+//! restores its channel, and nothing else is accepted (`Channel::save`, `restore`). No page is made except for a store
 //! (`run_program`).
 //!
 //! Not proved: that an allocation succeeds, and that blocks are moved. A `run_bodies` that moves nothing meets its
@@ -21,6 +23,7 @@ mod blocks;
 mod bursts;
 pub mod channel;
 pub mod compile;
+pub mod copy;
 mod exec;
 pub mod laws;
 pub mod lent;
@@ -31,3 +34,4 @@ pub mod program;
 pub mod run;
 pub mod save;
 pub mod turn;
+mod written;

@@ -1,14 +1,16 @@
 //! Cuts a transfer's lists into pieces, each of bytes that are moved together.
 
-ghost use Rattle.std.specs.Prelude.{◌≡◌, ◌∷◌, ◌++◌, OnOk, IfOk, map};
+ghost use Rattle.std.specs.Prelude.{◌≡◌, ◌∷◌, ◌≤◌, [], slice_get, IfOk, IfSome, MatchOption};
 ghost use Rattle.std.specs.List.{AllByRecursion};
 ghost use Rattle.dma_mem.specs.Rules.{IsTransfer};
-ghost use Rattle.dma_chan.specs.Compiled.{pieces, fill_piece, pieces_of};
-ghost use Rattle.dma_chan.specs.inner.Compiling.{byte_count, IsRange};
+ghost use Rattle.dma_chan.specs.Compiled.{pieces_of};
+ghost use Rattle.dma_chan.specs.inner.Compiling.{IsRange};
+ghost use Rattle.dma_chan.specs.inner.Cutting.{past};
 
 use dma_mem::segment::Segment;
 use dma_mem::transfer::Transfer;
 use std::alloc::{AllocError, Global};
+use std::marker::Model;
 
 /// Bytes that are contiguous at both ends, or in a fill at the destination alone.
 #[derive(Clone, Copy, PartialEq, Eq, Debug)]
@@ -23,101 +25,127 @@ pub struct Piece {
     pub fill: bool,
 }
 
+// What is left of a list of segments. Contracts see the segments, and the first may be the rest of a cut one.
+#[derive(Drop)]
+struct Rest<'a> {
+    list: &'a [Segment],
+    // How many bytes of the first segment were taken.
+    taken: u32,
+}
+
+impl<'a> Model for Rest<'a> {
+    ghost use Rattle.std.specs.Prelude.{List};
+    ghost use Rattle.std.specs.List.{AllByRecursion};
+    ghost use Rattle.dma_mem.specs.declared.segment.Segment.{Segment};
+    ghost use Rattle.dma_chan.specs.inner.Compiling.{IsRange};
+    ghost use Rattle.dma_chan.specs.inner.Cutting.{without};
+
+    ghost Value = { List Segment };
+
+    ghost view = { λ r. without r.taken r.list.now };
+
+    ghost invariant = { λ r. AllByRecursion IsRange (without r.taken r.list.now) };
+}
+
+impl<'a> Rest<'a> {
+    // Returns the whole list.
+    fn of(list: &'a [Segment]) -> Rest<'a>
+        requires { AllByRecursion IsRange list.now }
+        ensures { result ≡ list.now }
+    {
+        Rest { list, taken: 0 }
+    }
+
+    // Returns the first segment.
+    fn first(&self) -> Option<Segment>
+        ensures { result ≡ slice_get self.now 0 }
+    {
+        let first = self.list.first()?;
+        Some(Segment {
+            addr: first.addr + self.taken,
+            len: first.len - self.taken,
+        })
+    }
+
+    // Takes `len` bytes off the first segment, which has at least as many.
+    fn skip(&mut self, len: u32)
+        requires { IfSome (slice_get self.old 0) (λ first. len ≤ first.len) }
+        ensures { self.new ≡ past len self.old }
+    {
+        let Some((first, more)) = self.list.split_first() else {
+            return;
+        };
+        if len < first.len - self.taken {
+            self.taken += len;
+        } else {
+            self.list = more;
+            self.taken = 0;
+        }
+    }
+}
+
+/// The pieces of a transfer that were not taken yet, in order. Each is cut when it is taken, so nothing is allocated.
+#[derive(Drop)]
+pub(crate) struct Pieces<'a> {
+    fill: bool,
+    src: Rest<'a>,
+    dst: Rest<'a>,
+}
+
+impl<'a> Model for Pieces<'a> {
+    ghost use Rattle.std.specs.Prelude.{List};
+    ghost use Rattle.dma_chan.specs.declared.pieces.Piece.{Piece};
+    ghost use Rattle.dma_chan.specs.inner.Cutting.{pieces_left};
+
+    ghost Value = { List Piece };
+
+    ghost view = { λ p. pieces_left p.fill p.src p.dst };
+}
+
+impl<'a> Pieces<'a> {
+    /// Returns all pieces of a transfer.
+    pub(crate) fn of(transfer: &'a Transfer) -> Pieces<'a>
+        ensures value { result ≡ pieces_of transfer.now }
+        ensures rules { IsTransfer transfer.now }
+    {
+        Pieces {
+            fill: transfer.is_fill(),
+            src: Rest::of(transfer.src()),
+            dst: Rest::of(transfer.dst()),
+        }
+    }
+
+    /// Takes the next piece, if any.
+    #[tactic(auto, using(crate::proofs::CutSteps::none_to_read, crate::proofs::CutSteps::none_to_write))]
+    pub(crate) fn next(&mut self) -> Option<Piece>
+        ensures { MatchOption result (self.old ≡ []) (λ piece. self.old ≡ piece ∷ self.new) }
+    {
+        let src = self.src.first()?;
+        let dst = self.dst.first()?;
+        let fill = self.fill;
+        let len = if fill { dst.len } else { src.len.min(dst.len) };
+        if !fill {
+            self.src.skip(len);
+        }
+        self.dst.skip(len);
+        Some(Piece {
+            src: src.addr,
+            dst: dst.addr,
+            len,
+            fill,
+        })
+    }
+}
+
 // Returns the pieces of a transfer, in order.
 pub(crate) fn pieces_of(alloc: Global, transfer: &Transfer) -> Result<Vec<Piece>, AllocError>
     ensures value { IfOk result (λ v. v.items ≡ pieces_of transfer.now) }
     ensures rules { IsTransfer transfer.now }
 {
-    if transfer.is_fill() {
-        filled(alloc, transfer.src()[0].addr, transfer.dst())
-    } else {
-        cut(alloc, transfer.src(), transfer.dst())
-    }
-}
-
-// Returns one piece for each destination segment, filled from one address. Room for all pieces is allocated first.
-#[tactic(auto, using(crate::proofs::PieceCode::fill_more))]
-fn filled(alloc: Global, from: u32, destinations: &[Segment]) -> Result<Vec<Piece>, AllocError>
-    ensures { IfOk result (λ v. v.items ≡ map (fill_piece from) destinations.now) }
-{
-    let mut out = Vec::with_capacity(alloc, destinations.len())?;
-    for dst in destinations {
-        out.push(Piece {
-            src: from,
-            dst: dst.addr,
-            len: dst.len,
-            fill: true,
-        })?;
+    let mut pieces = Pieces::of(transfer);
+    let mut out = Vec::with_capacity(alloc, transfer.src().len() + transfer.dst().len())?;
+    while let Some(piece) = pieces.next() {
+        out.push(piece)?;
     }
     Ok(out)
-}
-
-// Cuts two lists with equally many bytes at every end of a segment of either list, and returns the pieces.
-fn cut(
-    alloc: Global,
-    sources: &[Segment],
-    destinations: &[Segment],
-) -> Result<Vec<Piece>, AllocError>
-    requires sources { AllByRecursion IsRange sources.now }
-    requires destinations { AllByRecursion IsRange destinations.now }
-    requires totals { byte_count sources.now ≡ byte_count destinations.now }
-    ensures { IfOk result (λ v. v.items ≡ pieces sources.now destinations.now) }
-{
-    let mut out = Vec::new(alloc);
-    if let (Some((src, more_sources)), Some((dst, more_destinations))) = (
-        sources.split_first(),
-        destinations.split_first(),
-    ) {
-        cut_from(&mut out, *src, more_sources, *dst, more_destinations)?;
-    }
-    Ok(out)
-}
-
-// Appends the pieces of two lists, each with a separate first segment. The first segment may be the rest of a cut one.
-#[tactic(auto, using(crate::proofs::CutSteps::pieces_less, crate::proofs::CutSteps::pieces_more, crate::proofs::CutSteps::pieces_same))]
-fn cut_from(
-    out: &mut Vec<Piece>,
-    src: Segment,
-    sources: &[Segment],
-    dst: Segment,
-    destinations: &[Segment],
-) -> Result<(), AllocError>
-    requires sources { AllByRecursion IsRange (src ∷ sources.now) }
-    requires destinations { AllByRecursion IsRange (dst ∷ destinations.now) }
-    requires totals { byte_count (src ∷ sources.now) ≡ byte_count (dst ∷ destinations.now) }
-    ensures ok { OnOk result (out.new.items
-        ≡ out.old.items ++ pieces (src ∷ sources.now) (dst ∷ destinations.now)) }
-{
-    let len = src.len.min(dst.len);
-    out.push(Piece {
-        src: src.addr,
-        dst: dst.addr,
-        len,
-        fill: false,
-    })?;
-    if src.len < dst.len {
-        let rest = Segment {
-            addr: dst.addr + len,
-            len: dst.len - len,
-        };
-        let Some((next, more)) = sources.split_first() else {
-            unreachable!();
-        };
-        cut_from(out, *next, more, rest, destinations)?;
-    } else if dst.len < src.len {
-        let rest = Segment {
-            addr: src.addr + len,
-            len: src.len - len,
-        };
-        let Some((next, more)) = destinations.split_first() else {
-            unreachable!();
-        };
-        cut_from(out, rest, sources, *next, more)?;
-    } else if let (Some((next_src, more_sources)), Some((next_dst, more_destinations))) = (
-        sources.split_first(),
-        destinations.split_first(),
-    ) {
-        cut_from(out, *next_src, more_sources, *next_dst, more_destinations)?;
-    }
-    Ok(())
 }

@@ -35,3 +35,4 @@ pub mod JoinedCalls
 pub mod SoundViews
 pub mod StaysSound
 pub mod Advances
+pub mod AtOnce

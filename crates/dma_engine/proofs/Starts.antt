@@ -53,7 +53,7 @@ way-none : (x : Option RunningTransfer) → None ≡ named x → x ≡ None
 way-none None h = refl
 way-none (Some r) h = absurd cc
 
-not-free : (b : Bool) → not b ≡ false → b ≡ true
+pub not-free : (b : Bool) → not b ≡ false → b ≡ true
 not-free true h = refl
 not-free false h = absurd cc
 

@@ -6,6 +6,7 @@ pub mod Ranges
 pub mod Accesses
 pub mod Found
 pub mod Due
+pub mod AtOnce
 pub mod Holds
 pub mod Inside
 pub mod Steps

@@ -25,6 +25,7 @@ use std::alloc::{AllocError, Global};
 use std::marker::Model;
 
 mod advance;
+mod at_once;
 mod calls;
 mod checkpoints;
 mod host_calls;

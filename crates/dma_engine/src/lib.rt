@@ -11,7 +11,8 @@
 //! (`memory`). Each method has the same contract for its call, and `advance` for many steps. [`laws`] lists what
 //! follows for lists of calls.
 //!
-//! Not proved: that an allocation succeeds; which pages are made beyond those that are needed.
+//! Not proved: that an allocation succeeds; which pages are made beyond those that are needed; that `advance` moves
+//! blocks and copies fronts at once.
 #![tactic(auto)]
 
 mod access;

@@ -7,6 +7,7 @@ pub mod Sends
 pub mod Casts
 pub mod Returns
 pub mod OnChannels
+pub mod ChannelCalls
 pub mod CallsMade
 pub mod CanBeMade
 pub mod Exchanges

@@ -16,7 +16,8 @@ use Rattle.dma_chan.specs.Channel.{ChannelValue, unloaded, loaded}
 use Rattle.dma_chan.specs.Compiled.{compiled}
 use Rattle.dma_chan.specs.LentRegions.{segment_of}
 use Rattle.dma_chan.specs.Saved.{IsChannelValue, IsSave, most_saved, saved}
-use Rattle.dma_chan.specs.Stepping.{Machine, TakesSteps, signal_after}
+use Rattle.dma_chan.specs.Stepping.{Machine, TakesSteps, signal_after, written_after}
+use Rattle.dma_chan.specs.Written.{KeepsOutside}
 use Rattle.dma_chan.specs.declared.turn.ChanTurn.{ChanTurn}
 use Rattle.dma_chan.specs.declared.turn.ChanTurn.TheVariants.{Moved, Waiting, Ended, Fault}
 use Rattle.dma_chan.specs.declared.lent.Taken.{Taken}
@@ -192,23 +193,24 @@ pub record StayInPlace (regions left : List Region) : Type 0 where
   pub places : map segment_of left ≡ map segment_of regions
   pub names : map (λ r. r.bytes.ghost_name) left ≡ map (λ r. r.bytes.ghost_name) regions
 
--- a report of `taken` steps, with the offset of the next instruction and this turn number; event and fault are 0
-abbrev pub did : ℕ → ℕ → ℕ → ChannelReport
-did taken pc turn = record { taken = taken; turn = turn; event = 0; fault = 0; pc = pc }
+-- a report of `taken` steps, with the offset of the next instruction, the range written and this turn number; event
+-- and fault are 0
+abbrev pub did : ℕ → ℕ → Segment → ℕ → ChannelReport
+did taken pc written turn = record { taken = taken; turn = turn; event = 0; fault = 0; pc = pc; written = written }
 
--- the report of `taken` steps, with the offset of the next instruction, what the last step did, and the event whose
--- flag it set, if any; an event or fault that doesn't belong to this turn is 0
-abbrev pub report_of : ℕ → ℕ → Option ChanTurn → Option ℕ → ChannelReport
-report_of taken pc None signal = did taken pc 0
-report_of taken pc (Some Moved) None = did taken pc 1
-report_of taken pc (Some Moved) (Some e) = record (did taken pc 5) { event = e }
-report_of taken pc (Some (Waiting e)) signal = record (did taken pc 2) { event = e }
-report_of taken pc (Some Ended) signal = did taken pc 3
-report_of taken pc (Some (Fault kind)) signal = record (did taken pc 4) { fault = kind_number kind }
+-- the report of `taken` steps, with the offset of the next instruction, the range written, what the last step did, and
+-- the event whose flag it set, if any; an event or fault that doesn't belong to this turn is 0
+abbrev pub report_of : ℕ → ℕ → Segment → Option ChanTurn → Option ℕ → ChannelReport
+report_of taken pc written None signal = did taken pc written 0
+report_of taken pc written (Some Moved) None = did taken pc written 1
+report_of taken pc written (Some Moved) (Some e) = record (did taken pc written 5) { event = e }
+report_of taken pc written (Some (Waiting e)) signal = record (did taken pc written 2) { event = e }
+report_of taken pc written (Some Ended) signal = did taken pc written 3
+report_of taken pc written (Some (Fault kind)) signal = record (did taken pc written 4) { fault = kind_number kind }
 
 -- Steps of an open channel with a program, over usable regions: the steps that were taken, the event whose flag the
--- last of them set, if any, and the report of these and of the offset of the next instruction. The marks are unchanged,
--- and the regions keep their places.
+-- last of them set, if any, the range that they wrote, and the report of these and of the offset of the next
+-- instruction. The marks and all bytes outside that range are unchanged, and the regions keep their places.
 pub record StepsOver (a : Lent) (most : ℕ) (taken : Taken) (report : ChannelReport) (b : Lent) (m n : MarkedChannel) : Type 0 where
   pub before : a.channel ≡ Some m
   pub after : b.channel ≡ Some n
@@ -218,7 +220,9 @@ pub record StepsOver (a : Lent) (most : ℕ) (taken : Taken) (report : ChannelRe
   pub steps : TakesSteps (marks_over m a.regions) (over m a.regions a.flags) most
       taken.count taken.last (over n b.regions b.flags)
   pub signal : taken.signal ≡ signal_after (marks_over m a.regions) (over m a.regions a.flags) taken.count
-  pub reported : report ≡ report_of taken.count n.channel.registers.pc taken.last taken.signal
+  pub written : taken.written ≡ written_after (marks_over m a.regions) (over m a.regions a.flags) taken.count
+  pub kept : KeepsOutside taken.written (image_of (pieces_of a.regions)) (image_of (pieces_of b.regions))
+  pub reported : report ≡ report_of taken.count n.channel.registers.pc taken.written taken.last taken.signal
   pub regions : StayInPlace a.regions b.regions
 
 -- A call from C that takes steps: the code that it returns, and the report before and after. On a channel that isn't

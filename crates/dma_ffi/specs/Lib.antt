@@ -6,4 +6,5 @@ pub mod Requests
 pub mod Programs
 pub mod Channels
 pub mod Laws
+pub mod ChannelLaws
 pub mod inner

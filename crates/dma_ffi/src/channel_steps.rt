@@ -11,6 +11,7 @@ use dma_chan::turn::ChanTurn;
 use dma_insn::insn::Event;
 use dma_mem::events::Events;
 use dma_mem::regions::Region;
+use dma_mem::segment::Segment;
 
 /// The number of steps that were taken, and what the last one did.
 #[repr(C)]
@@ -27,11 +28,14 @@ pub struct ChannelReport {
     pub fault: u32,
     /// The offset of the next instruction in the program. For 2 and 4 it is the instruction that waits or failed.
     pub pc: u32,
+    /// The range that the steps wrote; its length is 0 if they wrote nothing. Each byte in it was written, and no other
+    /// byte of the regions was.
+    pub written: Segment,
 }
 
-// Returns the report of `taken` steps with this offset and turn number, and 0 as event and fault.
-fn did(taken: u32, pc: u32, turn: u32) -> ChannelReport
-    ensures { result ≡ did taken pc turn }
+// Returns the report of `taken` steps with this offset, written range and turn number, and 0 as event and fault.
+fn did(taken: u32, pc: u32, written: Segment, turn: u32) -> ChannelReport
+    ensures { result ≡ did taken pc written turn }
 {
     ChannelReport {
         taken,
@@ -39,47 +43,60 @@ fn did(taken: u32, pc: u32, turn: u32) -> ChannelReport
         event: 0,
         fault: 0,
         pc,
+        written,
     }
 }
 
-// Returns the report of `taken` steps, of what the last one did, and of the event that it signalled, if any.
-fn report_of(taken: u32, pc: u32, last: Option<ChanTurn>, signal: Option<Event>) -> ChannelReport
-    ensures { result ≡ report_of taken pc last signal }
+// Returns the report of these steps, where `pc` is the offset of the next instruction.
+fn report_of(steps: Taken, pc: u32) -> ChannelReport
+    ensures { result ≡ report_of steps.count pc steps.written steps.last steps.signal }
 {
+    let Taken {
+        count: taken,
+        last,
+        signal,
+        written,
+    } = steps;
     match last {
-        None => did(taken, pc, 0),
-        Some(turn) => report_of_turn(taken, pc, turn, signal),
+        None => did(taken, pc, written, 0),
+        Some(turn) => report_of_turn(taken, pc, written, turn, signal),
     }
 }
 
 // Returns the report of `taken` steps, the last of which did `turn`, and signalled this event, if any.
-fn report_of_turn(taken: u32, pc: u32, turn: ChanTurn, signal: Option<Event>) -> ChannelReport
-    ensures { result ≡ report_of taken pc (Some turn) signal }
+fn report_of_turn(
+    taken: u32,
+    pc: u32,
+    written: Segment,
+    turn: ChanTurn,
+    signal: Option<Event>,
+) -> ChannelReport
+    ensures { result ≡ report_of taken pc written (Some turn) signal }
 {
     match turn {
         ChanTurn::Moved => match signal {
-            None => did(taken, pc, 1),
+            None => did(taken, pc, written, 1),
             Some(event) => ChannelReport {
                 event: u32::from(event.number()),
-                ..did(taken, pc, 5)
+                ..did(taken, pc, written, 5)
             },
         },
         ChanTurn::Waiting(event) => ChannelReport {
             event: u32::from(event.number()),
-            ..did(taken, pc, 2)
+            ..did(taken, pc, written, 2)
         },
-        ChanTurn::Ended => did(taken, pc, 3),
+        ChanTurn::Ended => did(taken, pc, written, 3),
         ChanTurn::Fault(kind) => ChannelReport {
             fault: number_of_kind(kind),
-            ..did(taken, pc, 4)
+            ..did(taken, pc, written, 4)
         },
     }
 }
 
 /// Takes at most `most` steps over the regions and the flags, and writes their report. It stops after the first step
-/// that doesn't move or that sets a flag, and when the channel has executed 4,294,967,295 instructions since the load.
-/// The channel keeps no pointer to the regions and the flags. Fails if the channel isn't open, the regions aren't
-/// usable, or the channel has no program.
+/// that doesn't move or that sets a flag, before a step that writes neither in the range written so far nor beside it,
+/// and when the channel has executed 4,294,967,295 instructions since the load. The channel keeps no pointer to the
+/// regions and the flags. Fails if the channel isn't open, the regions aren't usable, or the channel has no program.
 #[unsafe(no_mangle)]
 pub extern "C" fn dma330_channel_step(
     kept: &mut KeptChannel,
@@ -103,11 +120,7 @@ pub extern "C" fn dma330_channel_step(
         return NO_PROGRAM;
     }
     let mut events = Events::from_bits(*flags);
-    let Taken {
-        count,
-        last,
-        signal,
-    } = step_regions(
+    let taken = step_regions(
         &mut marked.channel,
         regions,
         &mut events,
@@ -115,6 +128,6 @@ pub extern "C" fn dma330_channel_step(
         most,
     );
     *flags = events.bits();
-    *report = report_of(count, marked.channel.pc(), last, signal);
+    *report = report_of(taken, marked.channel.pc());
     OK
 }

@@ -1,5 +1,6 @@
 //! Laws about what calls from C return and write. Each law is the clause of a function that does nothing.
 
+ghost use Rattle.dma_ffi.specs.ChannelLaws.{LoadsATransfer, StepsCopy};
 ghost use Rattle.dma_ffi.specs.Laws.{CallsAreTheEngines, ExchangesAreTheEngines, SessionsAreTheEngines};
 
 /// A call from C on an open controller is answered by a list of the engine's own calls. So what is proved of such
@@ -14,4 +15,11 @@ pub fn calls_are_the_engines()
 pub fn exchanges_are_the_engines()
     ensures exchanges { ExchangesAreTheEngines }
     ensures session { SessionsAreTheEngines }
+{}
+
+/// Calls from C that load a transfer into a channel and step it copy the transfer's bytes, if nobody else writes what
+/// the transfer reads or writes between these calls, and no other call changes the channel's program.
+pub fn channel_calls_copy()
+    ensures loads { LoadsATransfer }
+    ensures steps { StepsCopy }
 {}

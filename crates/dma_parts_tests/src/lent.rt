@@ -124,6 +124,27 @@ fn a_call_ends_behind_a_signal(rt: HostRuntime) -> Result<(), Fail> {
     Ok(())
 }
 
+// DMALD, DMAST, DMAMOV DAR 5, DMALD, DMAST, DMAEND.
+const TWO_STORES: &[u8] = b"\x04\x08\xbc\x02\x05\0\0\0\x04\x08\0";
+
+#[test]
+fn a_call_ends_before_a_store_apart(rt: HostRuntime) -> Result<(), Fail> {
+    let mut channel = Channel::new(rt.alloc())?;
+    channel.load(Program::from_bytes(rt.alloc(), TWO_STORES)?);
+    let marks = Marks::new(rt.alloc());
+    let mut events = Events::new();
+    let mut bytes = [7, 0, 0, 0, 0, 0];
+    assert!(rt; channel.is_loaded());
+    let first = step_over(&mut channel, &mut bytes, &mut events, &marks, 100);
+    assert!(rt; first.count == 4 && first.last == Some(ChanTurn::Moved));
+    assert!(rt; first.written == Segment { addr: 0, len: 1 });
+    assert!(rt; channel.is_loaded());
+    let rest = step_over(&mut channel, &mut bytes, &mut events, &marks, 100);
+    assert!(rt; rest.count == 2 && rest.last == Some(ChanTurn::Ended));
+    assert!(rt; rest.written == Segment { addr: 5, len: 1 } && bytes == [7, 0, 0, 0, 0, 7]);
+    Ok(())
+}
+
 #[test]
 fn a_call_ends_at_a_mark(rt: HostRuntime) -> Result<(), Fail> {
     let mut channel = with_program(rt.alloc())?;

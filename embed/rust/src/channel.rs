@@ -39,6 +39,9 @@ pub struct ChannelSteps {
     /// The offset of the next instruction in the program: for `Waiting` and `Fault` that of the instruction that waits
     /// or failed, for `Ended` that of the DMAEND.
     pub pc: u32,
+    /// The range that the steps wrote: each byte in it, and no other byte of the regions. Its length is 0 if they wrote
+    /// nothing.
+    pub written: Segment,
 }
 
 /// The registers and counts of a [`Channel`].
@@ -80,7 +83,7 @@ fn turn_of(report: &sys::RawChannelReport) -> ChannelTurn {
 /// channel is closed when it is dropped.
 ///
 /// ```
-/// use dma330::{assemble, Channel, ChannelSteps, ChannelTurn, Region};
+/// use dma330::{assemble, Channel, ChannelSteps, ChannelTurn, Region, Segment};
 ///
 /// let mut ram = vec![0; 0x1000];
 /// ram[0x100..0x104].copy_from_slice(&[1, 2, 3, 4]);
@@ -89,7 +92,7 @@ fn turn_of(report: &sys::RawChannelReport) -> ChannelTurn {
 /// let mut channel = Channel::open()?;
 /// channel.load_program(&assemble(text)?)?;
 /// let steps = channel.step(&mut [Region::new(0x8000_0000, &mut ram)], &mut flags, 4)?;
-/// assert_eq!(steps, ChannelSteps { taken: 4, last: ChannelTurn::Moved, pc: 19 });
+/// assert_eq!(steps, ChannelSteps { taken: 4, last: ChannelTurn::Moved, pc: 19, written: Segment::default() });
 /// // the program is between its load and its store
 /// ram[0x100] = 9;
 /// let steps = channel.step(&mut [Region::new(0x8000_0000, &mut ram)], &mut flags, 100)?;
@@ -145,7 +148,8 @@ impl Channel {
         self.handle.load_from(regions, addr)
     }
 
-    /// Takes at most `most` steps, and ends after a step that doesn't move or that sets a flag.
+    /// Takes at most `most` steps, and ends after a step that doesn't move or that sets a flag, and before a step that
+    /// writes neither in the range written so far nor beside it.
     ///
     /// Bit `n` of `flags` is the flag of event `n`. A load outside the regions ends with the fault `DataReadErr`, a
     /// store outside them with `DataWriteErr`.
@@ -153,7 +157,7 @@ impl Channel {
     /// Fails with `BadRegions` or `NoProgram`.
     pub fn step(&mut self, regions: &mut [Region<'_>], flags: &mut u32, most: u32) -> Result<ChannelSteps, Error> {
         let report = self.handle.step(regions, flags, most)?;
-        Ok(ChannelSteps { taken: report.taken, last: turn_of(&report), pc: report.pc })
+        Ok(ChannelSteps { taken: report.taken, last: turn_of(&report), pc: report.pc, written: report.written })
     }
 
     /// Drops the program, if one is loaded. Registers and counts stay.

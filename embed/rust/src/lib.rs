@@ -39,7 +39,7 @@ use std::fmt;
 
 /// The addresses from `addr` up to, and not including, `addr + len`.
 #[repr(C)]
-#[derive(Clone, Copy, Debug, PartialEq, Eq, Hash)]
+#[derive(Clone, Copy, Debug, Default, PartialEq, Eq, Hash)]
 pub struct Segment {
     /// The first address.
     pub addr: u32,

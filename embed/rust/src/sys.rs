@@ -121,6 +121,7 @@ pub struct RawChannelReport {
     pub event: u32,
     pub fault: u32,
     pub pc: u32,
+    pub written: Segment,
 }
 
 #[repr(C)]

@@ -37,7 +37,18 @@ fn steps_text(steps: ChannelSteps) -> String {
         ChannelTurn::Fault { fault } => format!(" {}", name(fault)),
         ChannelTurn::NoStep | ChannelTurn::Moved | ChannelTurn::Ended => String::new(),
     };
-    format!("{} {word}{rest} at {}", steps.taken, steps.pc)
+    let written = steps.written;
+    let range = if written.len > 0 { format!(" wrote 0x{:08X}+{}", written.addr, written.len) } else { String::new() };
+    format!("{} {word}{rest} at {}{range}", steps.taken, steps.pc)
+}
+
+// Returns the smallest range that contains both.
+fn joined(a: Segment, b: Segment) -> Segment {
+    if a.len == 0 || b.len == 0 {
+        return if a.len == 0 { b } else { a };
+    }
+    let addr = a.addr.min(b.addr);
+    Segment { addr, len: (a.addr + a.len).max(b.addr + b.len) - addr }
 }
 
 // Returns the regions of these parts.
@@ -80,15 +91,17 @@ impl Runner {
 
     fn single_steps(&mut self, most: u32) -> Result<ChannelSteps, Error> {
         let mut taken = 0;
+        let mut written = Segment::default();
         loop {
             self.replace_channel()?;
             let steps = self.step(most.min(1))?;
             taken += steps.taken;
+            written = joined(written, steps.written);
             if steps.last == ChannelTurn::NoStep && taken > 0 {
-                return Ok(ChannelSteps { taken, last: ChannelTurn::Moved, ..steps });
+                return Ok(ChannelSteps { taken, last: ChannelTurn::Moved, written, ..steps });
             }
             if steps.last != ChannelTurn::Moved || taken == most {
-                return Ok(ChannelSteps { taken, ..steps });
+                return Ok(ChannelSteps { taken, written, ..steps });
             }
         }
     }
@@ -243,4 +256,20 @@ fn every_row_has_its_answer() {
 #[test]
 fn a_channel_that_is_saved_and_restored_at_each_step_has_the_same_answers() {
     assert_eq!(wrong_rows(Way::Saved), Vec::<String>::new());
+}
+
+#[test]
+fn a_call_ends_before_a_store_apart_from_what_it_wrote() {
+    let mut ram = vec![7; 0x1000];
+    let mut step = |channel: &mut Channel, most| {
+        let steps = channel.step(&mut [Region::new(0, &mut ram)], &mut 0, most).expect("it has a program");
+        (steps.taken, steps.last, steps.written)
+    };
+    let mut channel = Channel::open().expect("there is memory");
+    let ranges = [Segment::new(0x800, 0x180), Segment::new(0x700, 0x80)];
+    channel.load_copy(&[Segment::new(0, 0x200)], &ranges, Default::default()).expect("it breaks no rule");
+    assert_eq!(step(&mut channel, 1000).2, ranges[0]);
+    let (taken, last, written) = step(&mut channel, 1000);
+    assert_eq!((last, written), (ChannelTurn::Ended, ranges[1]));
+    assert!(taken > 1);
 }

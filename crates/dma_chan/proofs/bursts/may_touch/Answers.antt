@@ -1,5 +1,5 @@
 use Rattle.std.proofs.Common.{sym, arith, ◌<◌}
-use Rattle.dma_chan.specs.inner.Spans.{span_of}
+use Rattle.dma_chan.specs.Bursts.{span_of}
 use Rattle.dma_chan.proofs.BurstReach.{reaches_gap}
 use Rattle.dma_chan.proofs.bursts.may_touch.Goals as goal
 

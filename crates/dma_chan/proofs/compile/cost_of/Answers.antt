@@ -1,24 +1,16 @@
-use Rattle.std.proofs.Common.{arith, length, ◌≤◌}
-use Rattle.dma_chan.proofs.PieceCode.{pieces_small, pieces_few}
+use Rattle.std.proofs.Common.{◌∙◌, ap, arith}
+use Rattle.dma_chan.specs.Compiled.{pieces_of, signal_tree, wait_tree}
+use Rattle.dma_chan.specs.inner.Compiling.{cost_of}
+use Rattle.dma_chan.proofs.PieceCode.{all_small, cut_well}
+use Rattle.dma_chan.proofs.TreeCosts.{cost_counted, cost_of_tree}
 use Rattle.dma_chan.proofs.compile.cost_of.Goals as goal
 
-pub pieces_cost-requires-clause-lens : goal.pieces_cost-requires-clause-lens
-pieces_cost-requires-clause-lens c = rw c.requires.pieces (pieces_small c.args.transfer.now c.requires.rules)
-
-pub pieces_cost-requires-clause-few : goal.pieces_cost-requires-clause-few
-pieces_cost-requires-clause-few c = rw c.requires.pieces (pieces_few c.args.transfer.now c.requires.rules)
-
-pub overflow_add-result : goal.overflow_add-result
-overflow_add-result c =
-    let few : length c.args.pieces.now ≤ 127 = rw c.requires.pieces (pieces_few c.args.transfer.now c.requires.rules) in
-    omega (arith, few, c.pieces_cost.ensures.limit, c.event_cost.ensures.limit)
-
-pub overflow_add-result-2 : goal.overflow_add-result-2
-overflow_add-result-2 c =
-    let few : length c.args.pieces.now ≤ 127 = rw c.requires.pieces (pieces_few c.args.transfer.now c.requires.rules) in
-    omega (arith, few, c.pieces_cost.ensures.limit, c.event_cost.ensures.limit, c.event_cost-2.ensures.limit)
-
-pub overflow_add-result-3 : goal.overflow_add-result-3
-overflow_add-result-3 c =
-    let few : length c.args.pieces.now ≤ 127 = rw c.requires.pieces (pieces_few c.args.transfer.now c.requires.rules) in
-    omega (arith, few, c.pieces_cost.ensures.limit, c.event_cost.ensures.limit, c.event_cost-2.ensures.limit)
+pub loop-piece-init : goal.loop-piece-init
+loop-piece-init c =
+    let t = c.args.transfer.now in
+    let waits = c.event_cost.ensures.wait ∙ ap (λ event. cost_of (wait_tree event)) c.wait.ensures ∙ cost_counted (wait_tree t.wait) in
+    let signals = c.event_cost-2.ensures.signal ∙ ap (λ event. cost_of (signal_tree event)) c.signal.ensures ∙ cost_counted (signal_tree t.signal) in
+    rw c.of-pieces.ensures.value (record {
+      so_far = omega (arith, waits, signals, cost_of_tree t);
+      small = all_small (pieces_of t) (cut_well t c.of-pieces.ensures.rules).fit;
+    })

@@ -4,7 +4,7 @@ use Rattle.dma_mem.specs.Flags.{flags_of}
 use Rattle.dma_mem.specs.Regions.{image_of, pieces_of}
 use Rattle.dma_mem.specs.declared.regions.Region.{Region}
 use Rattle.dma_chan.specs.Channel.{ChannelValue}
-use Rattle.dma_chan.specs.Stepping.{Machine, TakesSteps, signal_after}
+use Rattle.dma_chan.specs.Stepping.{Machine, TakesSteps, signal_after, written_after}
 use Rattle.dma_ffi.specs.declared.marked_channel.MarkedChannel.{MarkedChannel}
 use Rattle.dma_ffi.specs.Channels.{Lent, StepsOver, marks_over, report_of}
 use Rattle.dma_ffi.proofs.channel_steps.dma330_channel_step.Goals as goal
@@ -15,7 +15,7 @@ at c regions flags = record { channel = c; image = image_of (pieces_of regions);
 pub returns : goal.returns
 returns c =
     let held = (rw c.in-Some.is at c.get_mut.ensures.value) ∙ c.as_kept.ensures.value in
-    let taken = c.step_regions-count in
+    let taken = c.step_regions-taken in
     let most = c.args.most in
     let regions = c.args.regions.now in
     let m : MarkedChannel = c.in-Some.marked.now in
@@ -34,7 +34,9 @@ returns c =
       steps = subst (λ (f : List Bool). TakesSteps marks (at m.channel regions f) most taken.result.count taken.result.last (after (flags_of c.bits.result))) flags
           (subst (λ (f : List Bool). TakesSteps marks (at m.channel regions c.from_bits-events.result) most taken.result.count taken.result.last (after f)) (sym c.bits.ensures) taken.ensures.steps);
       signal = subst (λ (f : List Bool). taken.result.signal ≡ signal_after marks (at m.channel regions f) taken.result.count) flags taken.ensures.signal;
-      reported = c.report_of.ensures ∙ ap (λ (p : ℕ). report_of taken.result.count p taken.result.last taken.result.signal) c.pc.ensures;
+      written = subst (λ (f : List Bool). taken.result.written ≡ written_after marks (at m.channel regions f) taken.result.count) flags taken.ensures.written;
+      kept = taken.ensures.kept;
+      reported = c.report_of.ensures ∙ ap (λ (p : ℕ). report_of taken.result.count p taken.result.written taken.result.last taken.result.signal) c.pc.ensures;
       regions = record { places = taken.ensures.places; names = taken.ensures.names };
     } in
     inr (inr (inr (refl, (m, n, taken.result, over))))
