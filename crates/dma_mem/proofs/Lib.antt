@@ -15,6 +15,8 @@ pub mod PrepareAll
 pub mod WholeMemory
 pub mod Pieces
 pub mod PieceWrites
+pub mod RegionSearch
+pub mod RunsCopied
 pub mod FlagBits
 pub mod RangeSets
 pub mod RangeReplaced

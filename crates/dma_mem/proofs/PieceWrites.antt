@@ -1,9 +1,10 @@
 -- What bytes written to one piece make of the image.
 use Rattle.std.proofs.Common.{◌≡◌, ℕ, ◌+◌, ◌-◌, ◌<◌, ◌≤◌, List, [], ◌∷◌, ◌++◌, length, get_or, take, drop, set, replicate, true, false, ◌&&◌, refl, ap, sym, ◌∙◌, arith, inl, inr, zero, suc, append_assoc}
-use Rattle.std.specs.Prelude.{nat_le}
+use Rattle.std.specs.Prelude.{nat_le, ◌==◌, if◌then◌else◌}
 use Rattle.std.proofs.Math.Seq.{take-append-add, drop-append-add, map-set_same}
 use Rattle.std.proofs.lemmas.List.{length-append, length-replicate, length-map, take-append-le, drop-append-le, map-set, set-get_or, length-drop, length-take-le}
 use Rattle.dma_mem.specs.declared.regions.Region.{Region}
+use Rattle.dma_mem.specs.declared.segment.Segment.{Segment}
 use Rattle.std.proofs.lemmas.Bool.{cases_lt}
 use Rattle.dma_mem.specs.Lent.{lies_in_any}
 use Rattle.dma_mem.specs.Image.{put, bytes_at}
@@ -59,7 +60,7 @@ context at (p ∷ ps) (suc i) h l =
 -- the order and the gaps are those of the addresses and lengths
 pub same_order : (at : ℕ) (ps : List Piece) (i : ℕ) (bs : List ℕ) → i < length ps → length bs ≡ length (piece_at ps i).bytes → rises_from at (set ps i (with_bytes ps i bs)) ≡ rises_from at ps
 same_order at [] i bs l e = absurd (omega arith)
-same_order at (p ∷ ps) zero bs l e = ap (λ (n : ℕ). nat_le at p.addr && (nat_le (p.addr + n) 4294963200 && rises_from (p.addr + n) ps)) e
+same_order at (p ∷ ps) zero bs l e = ap (λ (n : ℕ). nat_le at p.addr && (nat_le (p.addr + n) 4294967295 && rises_from (p.addr + n) ps)) e
 same_order at (p ∷ ps) (suc i) bs l e =
     let next = same_order (end_of p) ps i bs (omega arith) e in
     rw next refl
@@ -121,9 +122,19 @@ piece_shown ps i a n h l holds =
 
 -- ---- regions
 
+-- the segment of a region that is read-only, or an empty one
+abbrev read_only_segment : Region → Segment
+read_only_segment r = record { addr = r.addr; len = if r.read_only == 0 then 0 else length r.bytes.now }
+
+same_segment : (a b : Region) → a.addr ≡ b.addr → a.read_only ≡ b.read_only → length a.bytes.now ≡ length b.bytes.now → read_only_segment a ≡ read_only_segment b
+same_segment a b addr access long =
+    ap (λ (n : ℕ). record { addr = n; len = if a.read_only == 0 then 0 else length a.bytes.now }) addr
+    ∙ ap (λ (n : ℕ). record { addr = b.addr; len = if n == 0 then 0 else length a.bytes.now }) access
+    ∙ ap (λ (n : ℕ). record { addr = b.addr; len = if b.read_only == 0 then 0 else n }) long
+
 -- a write to one region is a write to the memory
-pub rewritten_at : (rs : List Region) (i addr : ℕ) (new : Region) (bs : List ℕ) → in_order (pieces_of rs) ≡ true → i < length rs → Holds (pieces_of rs) i addr (length bs) → new.addr ≡ (get_or rs i no_region).addr → new.bytes.ghost_name ≡ (get_or rs i no_region).bytes.ghost_name → new.bytes.now ≡ put (get_or rs i no_region).bytes.now (bytes_at (addr - (get_or rs i no_region).addr) bs) → Rewritten rs (set rs i new) addr bs
-rewritten_at rs i addr new bs order l holds same name is =
+pub rewritten_at : (rs : List Region) (i addr : ℕ) (new : Region) (bs : List ℕ) → in_order (pieces_of rs) ≡ true → i < length rs → Holds (pieces_of rs) i addr (length bs) → new.addr ≡ (get_or rs i no_region).addr → new.bytes.ghost_name ≡ (get_or rs i no_region).bytes.ghost_name → new.read_only ≡ (get_or rs i no_region).read_only → new.bytes.now ≡ put (get_or rs i no_region).bytes.now (bytes_at (addr - (get_or rs i no_region).addr) bs) → Rewritten rs (set rs i new) addr bs
+rewritten_at rs i addr new bs order l holds same name access is =
     let r = get_or rs i no_region in
     let ps = pieces_of rs in
     let start = addr - r.addr in
@@ -141,6 +152,7 @@ rewritten_at rs i addr new bs order l holds same name is =
       order = ap in_order pieces ∙ same_order 0 ps i new.bytes.now inside keeps;
       gaps = ap gaps_of pieces ∙ same_gaps 0 ps i new.bytes.now inside keeps;
       names = map-set_same (λ (x : Region). x.bytes.ghost_name) rs i new no_region name;
+      read_only = map-set_same read_only_segment rs i new no_region (same_segment new r same access (keeps ∙ ap (λ (p : Piece). length p.bytes) here));
     }
 
 -- what a region has, the image has
@@ -153,7 +165,7 @@ region_shown rs i a n order l holds =
 
 -- nothing was written yet
 pub rewritten_none : (rs : List Region) (addr : ℕ) → Rewritten rs rs addr []
-rewritten_none rs addr = record { image = sym (put_none (image_of (pieces_of rs))); order = refl; gaps = refl; names = refl }
+rewritten_none rs addr = record { image = sym (put_none (image_of (pieces_of rs))); order = refl; gaps = refl; names = refl; read_only = refl }
 
 -- a write, and one behind it
 pub rewritten_more : (old mid new : List Region) (addr next : ℕ) (front back : List ℕ) → Rewritten old mid addr front → Rewritten mid new next back → next ≡ addr + length front → Rewritten old new addr (front ++ back)
@@ -165,6 +177,7 @@ rewritten_more old mid new addr next front back f g e = record {
   order = g.order ∙ f.order;
   gaps = g.gaps ∙ f.gaps;
   names = g.names ∙ f.names;
+  read_only = g.read_only ∙ f.read_only;
 }
 
 -- ---- what may be written
@@ -196,7 +209,7 @@ place_found rs addr len i w some within none = elim (cases_lt i (length rs)) [
 ]
 
 -- addresses that may be written fit 32 bits
-pub writable_most : (rs : List Region) (addr len : ℕ) → Writable rs addr len → addr + len ≤ 4294963200
+pub writable_most : (rs : List Region) (addr len : ℕ) → Writable rs addr len → addr + len ≤ 4294967295
 writable_most rs addr len w = let inside = w.within in omega (arith, image_of-most (pieces_of rs) w.order)
 
 pub rewritten_length : (old new : List Region) (addr : ℕ) (bs : List ℕ) → Rewritten old new addr bs → length (image_of (pieces_of new)) ≡ length (image_of (pieces_of old))

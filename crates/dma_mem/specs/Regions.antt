@@ -1,8 +1,12 @@
 -- Memory that a caller lends in several regions.
-use Rattle.std.specs.Prelude.{ℕ, ◌+◌, ◌-◌, Bool, true, ◌&&◌, nat_le, nat_lt, List, [], ◌∷◌, ◌++◌, length, drop, map, replicate, if◌then◌else◌}
+use Rattle.std.specs.Prelude.{ℕ, ◌+◌, ◌-◌, ◌==◌, Bool, true, ◌&&◌, nat_le, nat_lt, List, [], ◌∷◌, ◌++◌, length, drop, map, replicate, if◌then◌else◌}
 use Rattle.dma_mem.specs.declared.regions.Region.{Region}
 use Rattle.dma_mem.specs.declared.segment.Segment.{Segment}
-use Rattle.dma_mem.specs.Image.{largest_size}
+
+-- the largest end of a region (profile): one less than the end of the 32-bit addresses, since SAR or DAR would be 2^32
+-- after a burst to the last address
+abbrev pub largest_end : ℕ
+largest_end = 4294967295
 
 -- A piece of a memory: the address of its first byte, and its bytes.
 pub record Piece : Type 0 where
@@ -25,12 +29,12 @@ pieces_of regions = map piece_of regions
 abbrev pub names_of : List Region → List ℕ
 names_of regions = map (λ r. r.bytes.ghost_name) regions
 
--- whether pieces are in rising order from `at` on, share no address, and end at or below the largest size of a memory
+-- whether pieces are in rising order from `at` on, share no address, and end at or below the largest end
 abbrev pub rises_from : ℕ → List Piece → Bool
 rises_from at [] = true
-rises_from at (p ∷ ps) = nat_le at p.addr && (nat_le (end_of p) largest_size && rises_from (end_of p) ps)
+rises_from at (p ∷ ps) = nat_le at p.addr && (nat_le (end_of p) largest_end && rises_from (end_of p) ps)
 
--- whether pieces are in rising order, share no address, and end at or below the largest size of a memory
+-- whether pieces are in rising order, share no address, and end at or below the largest end
 abbrev pub in_order : List Piece → Bool
 in_order ps = rises_from 0 ps
 
@@ -56,7 +60,11 @@ gaps_of ps = gaps_above 0 ps
 abbrev pub has : ℕ → Piece → Bool
 has a p = nat_le p.addr a && nat_lt a (end_of p)
 
--- the bytes of the piece that has an address, from that address on; none if no piece has it
-abbrev pub rest_from : List Piece → ℕ → List ℕ
-rest_from [] a = []
-rest_from (p ∷ ps) a = if has a p then drop (a - p.addr) p.bytes else rest_from ps a
+-- the bytes from an address up to the first address that no piece has; none if no piece has it
+abbrev pub run_from : List Piece → ℕ → List ℕ
+run_from [] a = []
+run_from (p ∷ ps) a = if has a p then drop (a - p.addr) p.bytes ++ run_from ps (end_of p) else run_from ps a
+
+-- the segments of the regions that are read-only, and an empty one for each other region
+abbrev pub read_only_of : List Region → List Segment
+read_only_of regions = map (λ r. record { addr = r.addr; len = if r.read_only == 0 then 0 else length r.bytes.now }) regions

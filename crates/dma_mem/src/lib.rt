@@ -8,7 +8,7 @@
 //! (`Transfer::new`, `Transfer::fill`); a memory is an array of bytes, and a call that fails doesn't change its image
 //! (`Memory::write`, `read_into`, `prepare`); a call makes only the pages that it has to write (`keeps`, `others`);
 //! `Marks::hits` and `unmarked` are exact. The trait [`ram::Ram`] is the same contract for any memory: [`ram::LentRam`]
-//! is a slice of the caller's, [`regions::LentRegions`] up to eight slices with gaps between them.
+//! is a slice of the caller's, [`regions::LentRegions`] slices with gaps between them, of which some may be read-only.
 //!
 //! Not proved: that an allocation succeeds. A call that allocates may always fail with `NoMemory` or `AllocError`;
 //! tests run each with ample memory.

@@ -4,21 +4,23 @@ ghost use Rattle.std.specs.Prelude.{◌≡◌, ℕ, ◌+◌, ◌≤◌, ◌<◌,
 ghost use Rattle.std.specs.List.{list_all, range_with_len};
 ghost use Rattle.dma_mem.specs.Places.{range_of};
 ghost use Rattle.dma_mem.specs.Image.{put, bytes_at, largest_size};
-ghost use Rattle.dma_mem.specs.Lent.{Loan, Avoids, lies_in_any};
+ghost use Rattle.dma_mem.specs.Lent.{Loan, Avoids, barred_of, lies_in_any};
 ghost use Rattle.dma_mem.specs.Pages.{Paged, is_made, range_fault, AllMade, Keeps, MakesNoOther};
 
+use crate::marks::MarkKind;
 use crate::memory::{MemFault, Memory};
 use crate::segment::Segment;
 use crate::table::blocks::{copy_bytes_apart, fill_bytes};
 use crate::table::put_parts;
 
 /// A memory that bursts read and write. It has a byte at each address below its size that isn't in a gap. Only the
-/// pages that are made can be written.
+/// pages that are made can be written, and no burst writes what is read-only.
 pub trait Ram {
     // Its image, and which of its pages are made.
     ghost paged: { Self → Paged };
 
-    // The names of the loans through which a lent memory is reached, and the memory's gaps. No call changes them.
+    // The names of the loans through which a lent memory is reached, the memory's gaps, and what is read-only. No call
+    // changes them.
     ghost loan: { Self → Loan };
 
     /// Returns the size of the memory in bytes.
@@ -29,13 +31,13 @@ pub trait Ram {
     fn made(&self, segment: Segment) -> bool
         ensures { result ≡ list_all (is_made (paged self.now)) (range_of segment) };
 
-    /// Returns how many addresses of a segment come before the first one in a gap, or the segment's length if none is
-    /// in a gap.
-    fn clear(&self, segment: Segment) -> u32
+    /// Returns how many addresses of a segment come before the first at which a burst of this kind fails, or the segment's
+    /// length if it fails at none. Bursts fail in gaps, and stores also in read-only segments.
+    fn clear(&self, kind: MarkKind, segment: Segment) -> u32
         ensures few { result ≤ segment.len }
-        ensures none { Avoids (loan self.now).gaps segment.addr result }
+        ensures none { Avoids (barred_of kind (loan self.now)) segment.addr result }
         ensures next { result < segment.len
-            → IsTrue (lies_in_any (loan self.now).gaps (segment.addr + result)) };
+            → IsTrue (lies_in_any (barred_of kind (loan self.now)) (segment.addr + result)) };
 
     /// Returns the bytes from `addr` on, as many as `block` has. They are copied to `block` only if they aren't in one
     /// piece.
@@ -118,7 +120,7 @@ impl Ram for Memory {
     }
 
     #[inline(always)]
-    fn clear(&self, segment: Segment) -> u32 {
+    fn clear(&self, _kind: MarkKind, segment: Segment) -> u32 {
         segment.len
     }
 
@@ -172,7 +174,7 @@ impl Ram for LentRam<'_> {
 
     ghost paged = { λ r. whole r.bytes.now };
 
-    ghost loan = { λ r. record { names = r.bytes.ghost_name ∷ []; gaps = [] } };
+    ghost loan = { λ r. record { names = r.bytes.ghost_name ∷ []; gaps = []; read_only = [] } };
 
     #[inline(always)]
     fn size(&self) -> u32 {
@@ -189,7 +191,7 @@ impl Ram for LentRam<'_> {
     }
 
     #[inline(always)]
-    fn clear(&self, segment: Segment) -> u32 {
+    fn clear(&self, _kind: MarkKind, segment: Segment) -> u32 {
         segment.len
     }
 

@@ -1,16 +1,18 @@
 //! Memory that a caller lends in several regions.
 
-ghost use Rattle.std.specs.Prelude.{◌≡◌, ℕ, ◌+◌, ◌-◌, ◌<◌, ◌≤◌, ◌⊎◌, ◌++◌, ◌∷◌, [], false, length, take, drop, replicate, IsTrue, slice_index};
-ghost use Rattle.dma_mem.specs.Image.{largest_size};
-ghost use Rattle.dma_mem.specs.Lent.{Avoids, lies_in_any};
-ghost use Rattle.dma_mem.specs.Regions.{in_order, pieces_of, piece_of, end_of, has, image_of, gaps_of, rest_from};
-ghost use Rattle.dma_mem.specs.inner.Rewritten.{piece_at, Holds, Writable, Rewritten};
+mod search;
 
-use crate::memory::{MAX_SIZE, MemFault};
+ghost use Rattle.std.specs.Prelude.{◌≡◌, ◌+◌, ◌-◌, ◌<◌, ◌≤◌, ◌⊎◌, ◌++◌, ◌∷◌, [], ◌&&◌, ◌||◌, nat_lt, length, take, drop, replicate, IsTrue, slice_index};
+ghost use Rattle.dma_mem.specs.Regions.{in_order, pieces_of, piece_of, end_of, has, image_of, largest_end, run_from};
+ghost use Rattle.dma_mem.specs.inner.Rewritten.{bars, Holds, Writable, Rewritten, rest_from};
+
+use crate::marks::MarkKind;
+use crate::memory::MemFault;
 use crate::ram::Ram;
+use crate::regions::search::{clear_of, place, region_with_range, size_of};
 use crate::segment::Segment;
 use crate::table::blocks::{copy_bytes_apart, fill_bytes};
-use crate::table::put_parts;
+use crate::table::{put_bytes, put_parts};
 
 // How many bytes are copied at once from one region to another.
 const BLOCK_SIZE: usize = 1024;
@@ -23,37 +25,73 @@ pub struct Region<'a> {
     pub addr: u32,
     /// Its bytes.
     pub bytes: &'a mut [u8],
+    /// 0 if it may be written; otherwise stores to it fail.
+    pub read_only: u32,
 }
 
 impl Region<'_> {
     // Returns whether the address lies in the region.
     #[inline(always)]
-    fn has(&self, addr: u32) -> bool
+    pub(crate) fn has(&self, addr: u64) -> bool
         ensures { result ≡ has addr (piece_of self.now) }
     {
-        self.addr <= addr && ((addr - self.addr) as usize) < self.bytes.len()
+        let start = u64::from(self.addr);
+        start <= addr && addr - start < self.bytes.len() as u64
     }
 
     // Returns the address after the region's last byte.
     #[inline(always)]
-    fn end(&self) -> u32
-        requires { end_of (piece_of self.now) ≤ largest_size }
+    pub(crate) fn end(&self) -> u32
+        requires { end_of (piece_of self.now) ≤ largest_end }
         ensures { result ≡ end_of (piece_of self.now) }
     {
         self.addr + self.bytes.len() as u32
     }
+
+    // Returns the address after the region's last byte, which needn't be an address of 32 bits.
+    fn past(&self) -> u64
+        ensures { result ≡ end_of (piece_of self.now) }
+    {
+        u64::from(self.addr) + shared(&self.bytes).len() as u64
+    }
+
+    // Returns the region's bytes from one of its addresses on.
+    fn rest_from(&self, addr: u64) -> &[u8]
+        requires { IsTrue (has addr (piece_of self.now)) }
+        ensures { result.now ≡ drop (addr - self.now.addr) (piece_of self.now).bytes }
+    {
+        &self.bytes[(addr - u64::from(self.addr)) as usize..]
+    }
+
+    // Returns whether bursts of a kind fail in the region.
+    #[inline(always)]
+    pub(crate) fn bars(&self, kind: MarkKind) -> bool
+        ensures { result ≡ bars kind self.now }
+    {
+        match kind {
+            MarkKind::Reading => false,
+            MarkKind::Writing => self.read_only != 0,
+        }
+    }
+
+    // Returns whether bursts of a kind fail at an address at or below which the regions before this one end.
+    #[inline(always)]
+    pub(crate) fn fails_at(&self, kind: MarkKind, addr: u32) -> bool
+        requires { end_of (piece_of self.now) ≤ largest_end }
+        ensures { result ≡ (nat_lt addr self.now.addr
+            || (bars kind self.now && nat_lt addr (end_of (piece_of self.now)))) }
+    {
+        addr < self.addr || (self.bars(kind) && addr < self.end())
+    }
 }
 
-/// Returns whether regions are in rising order, share no address, and end at or below [`MAX_SIZE`].
+/// Returns whether regions are in rising order, share no address, and end at or below 4,294,967,295.
 pub fn are_in_order(regions: &[Region<'_>]) -> bool
     ensures { result ≡ in_order (pieces_of regions.now) }
 {
     let mut end = 0;
     for region in regions {
-        if region.addr < end || region.addr > MAX_SIZE {
-            return false;
-        }
-        if region.bytes.len() > (MAX_SIZE - region.addr) as usize {
+        if region.addr < end || region.bytes.len() > (u32::MAX - region.addr) as usize {
             return false;
         }
         end = region.end();
@@ -61,51 +99,38 @@ pub fn are_in_order(regions: &[Region<'_>]) -> bool
     true
 }
 
-// Returns the index of the region that has an address, or the number of regions if none has it.
-fn place(regions: &[Region<'_>], addr: u32) -> usize
-    ensures within { result ≤ length regions.now }
-    ensures before { (k : ℕ) → k < result
-        → has addr (piece_at (pieces_of regions.now) k) ≡ false }
-    ensures found { result < length regions.now
-        → IsTrue (has addr (piece_at (pieces_of regions.now) result)) }
-{
-    for (index, region) in regions.iter().enumerate() {
-        if region.has(addr) {
-            return index;
-        }
-    }
-    regions.len()
-}
-
-// Returns the index of the region that has all `len` addresses from `addr` on, or the number of regions if none has
-// them.
-fn region_with_range(regions: &[Region<'_>], addr: u32, len: usize) -> usize
-    ensures within { result ≤ length regions.now }
-    ensures found { result < length regions.now → Holds (pieces_of regions.now) result addr len }
-{
-    let index = place(regions, addr);
-    if index == regions.len() {
-        return index;
-    }
-    let region = &regions[index];
-    if len <= region.bytes.len() - (addr - region.addr) as usize {
-        index
-    } else {
-        regions.len()
-    }
-}
-
-/// Returns the bytes of the region that has an address, from that address to the region's end, or no bytes if no region
-/// has it.
-pub fn bytes_from<'a>(regions: &'a [Region<'_>], addr: u32) -> &'a [u8]
+// Returns the bytes of the region that has an address, from there to the region's end, or none if no region has it.
+#[inline(always)]
+fn bytes_from<'a>(regions: &'a [Region<'_>], addr: u32) -> &'a [u8]
+    requires { IsTrue (in_order (pieces_of regions.now)) }
     ensures { result.now ≡ rest_from (pieces_of regions.now) addr }
 {
     let index = place(regions, addr);
     if index == regions.len() {
         return &[];
     }
-    let region = &regions[index];
-    &region.bytes[(addr - region.addr) as usize..]
+    regions[index].rest_from(u64::from(addr))
+}
+
+/// Copies the bytes from an address up to the first address that no region has to a block, as many as fit, and returns
+/// their number.
+pub fn copy_run(regions: &[Region<'_>], addr: u32, block: &mut [u8]) -> usize
+    ensures few { result ≤ length block.new }
+    ensures run { take result block.new
+        ≡ take (length block.old) (run_from (pieces_of regions.now) addr) }
+{
+    let mut at = u64::from(addr);
+    let mut count = 0;
+    for region in regions {
+        if region.has(at) {
+            let rest = region.rest_from(at);
+            let part = &rest[..rest.len().min(block.len() - count)];
+            put_bytes(block, count, part);
+            count += part.len();
+            at = region.past();
+        }
+    }
+    count
 }
 
 // Returns the byte at an address, or 0 if no region has it.
@@ -284,39 +309,6 @@ fn copy(regions: &mut [Region<'_>], from: u32, to: u32, len: u32)
     }
 }
 
-// Returns the end of the last region, or 0 if there are no regions.
-fn size_of(regions: &[Region<'_>]) -> u32
-    requires { IsTrue (in_order (pieces_of regions.now)) }
-    ensures { result ≡ length (image_of (pieces_of regions.now)) }
-{
-    let count = regions.len();
-    if count == 0 {
-        0
-    } else {
-        regions[count - 1].end()
-    }
-}
-
-// Returns how many addresses of a segment come before the first one in a gap, or the segment's length if none is in a
-// gap.
-fn clear_of(regions: &[Region<'_>], segment: Segment) -> u32
-    requires { IsTrue (in_order (pieces_of regions.now)) }
-    ensures few { result ≤ segment.len }
-    ensures none { Avoids (gaps_of (pieces_of regions.now)) segment.addr result }
-    ensures next { result < segment.len
-        → IsTrue (lies_in_any (gaps_of (pieces_of regions.now)) (segment.addr + result)) }
-{
-    let mut end = 0;
-    for region in regions {
-        let first = segment.addr.max(end);
-        if first < region.addr {
-            return segment.len.min(first - segment.addr);
-        }
-        end = region.end();
-    }
-    segment.len
-}
-
 // Reborrows a mutable slice as a shared one.
 #[inline(always)]
 fn shared<'a, T>(slice: &'a &mut [T]) -> &'a [T]
@@ -339,15 +331,17 @@ pub struct LentRegions<'a, 'b> {
 impl Ram for LentRegions<'_, '_> {
     ghost use Rattle.std.specs.Prelude.{◌∷◌};
     ghost use Rattle.dma_mem.specs.Pages.{whole};
-    ghost use Rattle.dma_mem.specs.Regions.{image_of, gaps_of, names_of, pieces_of};
+    ghost use Rattle.dma_mem.specs.Regions.{image_of, gaps_of, names_of, pieces_of, read_only_of};
 
     ghost paged = { λ r. whole (image_of (pieces_of r.regions.now)) };
 
     ghost loan = { λ r. record {
       names = r.regions.ghost_name ∷ names_of r.regions.now;
       gaps = gaps_of (pieces_of r.regions.now);
+      read_only = read_only_of r.regions.now;
     } };
 
+    #[inline(always)]
     fn size(&self) -> u32 {
         size_of(shared(&self.regions))
     }
@@ -360,10 +354,12 @@ impl Ram for LentRegions<'_, '_> {
         segment.addr as usize + segment.len as usize <= Ram::size(self) as usize
     }
 
-    fn clear(&self, segment: Segment) -> u32 {
-        clear_of(shared(&self.regions), segment)
+    #[inline(always)]
+    fn clear(&self, kind: MarkKind, segment: Segment) -> u32 {
+        clear_of(shared(&self.regions), kind, segment)
     }
 
+    #[inline(always)]
     fn bytes<'a>(&'a self, addr: u32, block: &'a mut [u8]) -> &'a [u8] {
         let regions = shared(&self.regions);
         let bytes = bytes_from(regions, addr);

@@ -27,7 +27,7 @@ fn zeros(alloc: Global, len: usize) -> Result<Vec<u8>, AllocError>
 }
 
 // Writes the bytes from index `start` on.
-fn put_bytes(all: &mut [u8], start: usize, bytes: &[u8])
+pub(crate) fn put_bytes(all: &mut [u8], start: usize, bytes: &[u8])
     requires { start + length bytes.now ≤ length all.old }
     ensures { all.new ≡ put all.old (bytes_at start bytes.now) }
 {

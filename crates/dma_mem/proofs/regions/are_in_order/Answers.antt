@@ -3,25 +3,18 @@ use Rattle.std.proofs.lemmas.List.{length-map}
 use Rattle.dma_mem.specs.Regions.{pieces_of, piece_of, end_of, rises_from}
 use Rattle.dma_mem.proofs.Pieces.{piece_at_item, rises_more, rises_not}
 use Rattle.dma_mem.proofs.regions.are_in_order.Goals as goal
-use Rattle.dma_mem.proofs.regions.are_in_order.Goals.{then-region-end-via-then-region-end, then-region-end-via-else-region-end+then-region-gt-MAX_SIZE}
+use Rattle.dma_mem.proofs.regions.are_in_order.Goals.{then-region-end-via-then-region-end, then-region-end-via-else-region-end+then-region}
 
 pub returns-then-region-end : goal.returns-then-region-end
 returns-then-region-end c =
     let rs = c.args.regions.now in
     let i = c.loop-region.region-index in
     let is = piece_at_item rs i c.region-item.result (omega arith) c.region-item.is in
-    let bad : (c.region-item.result.addr < c.loop-region.end) ⊎ (4294963200 < end_of (piece_of c.region-item.result)) = elim c.then-region-end.branch [
+    let bad : (c.region-item.result.addr < c.loop-region.end) ⊎ (4294967295 < end_of (piece_of c.region-item.result)) = elim c.then-region-end.branch [
       | then-region-end-via-then-region-end w ↦ inl (omega arith)
-      | then-region-end-via-else-region-end+then-region-gt-MAX_SIZE w ↦ inr (omega arith)
+      | then-region-end-via-else-region-end+then-region w ↦ inr (omega arith)
     ] in
     sym (c.loop-region.invariant.rest ∙ rises_not (pieces_of rs) (piece_of c.region-item.result) i c.loop-region.end (omega (arith, length-map rs piece_of)) is bad)
-
-pub returns-then-region : goal.returns-then-region
-returns-then-region c =
-    let rs = c.args.regions.now in
-    let i = c.loop-region.region-index in
-    let is = piece_at_item rs i c.region-item.result (omega arith) c.region-item.is in
-    sym (c.loop-region.invariant.rest ∙ rises_not (pieces_of rs) (piece_of c.region-item.result) i c.loop-region.end (omega (arith, length-map rs piece_of)) is (inr (omega arith)))
 
 pub loop-region-preserved : goal.loop-region-preserved
 loop-region-preserved c =

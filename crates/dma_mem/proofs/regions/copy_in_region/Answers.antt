@@ -16,4 +16,4 @@ returns c =
     let shown = region_shown rs i c.args.from n c.requires.order c.requires.index c.requires.reads in
     let long : length bytes ≡ n = ends_in rs i c.args.from n c.requires.order c.requires.index c.requires.reads in
     let holds : Holds (pieces_of rs) i c.args.to (length bytes) = record { first = c.requires.writes.first; last = omega (arith, c.requires.writes.last, long) } in
-    rewritten_at rs i c.args.to _ bytes c.requires.order c.requires.index holds refl refl (c.copy_bytes_apart.ensures ∙ ap (λ (xs : List ℕ). put r.bytes.now (bytes_at (c.args.to - r.addr) xs)) shown)
+    rewritten_at rs i c.args.to _ bytes c.requires.order c.requires.index holds refl refl refl (c.copy_bytes_apart.ensures ∙ ap (λ (xs : List ℕ). put r.bytes.now (bytes_at (c.args.to - r.addr) xs)) shown)

@@ -10,4 +10,4 @@ returns c =
     let rs = c.args.regions.now in
     let bytes = replicate c.args.len c.args.byte in
     let holds : Holds (pieces_of rs) c.args.index c.args.addr (length bytes) = record { first = c.requires.holds.first; last = omega (arith, c.requires.holds.last, length-replicate c.args.len c.args.byte) } in
-    rewritten_at rs c.args.index c.args.addr _ bytes c.requires.order c.requires.index holds refl refl c.fill_bytes.ensures
+    rewritten_at rs c.args.index c.args.addr _ bytes c.requires.order c.requires.index holds refl refl refl c.fill_bytes.ensures

@@ -10,4 +10,4 @@ returns c =
     let rs = c.args.regions.now in
     let bytes = c.args.front.now ++ c.args.back.now in
     let holds : Holds (pieces_of rs) c.args.index c.args.addr (length bytes) = record { first = c.requires.holds.first; last = omega (arith, c.requires.holds.last, length-append c.args.front.now c.args.back.now) } in
-    rewritten_at rs c.args.index c.args.addr _ bytes c.requires.order c.requires.index holds refl refl c.put_parts.ensures
+    rewritten_at rs c.args.index c.args.addr _ bytes c.requires.order c.requires.index holds refl refl refl c.put_parts.ensures

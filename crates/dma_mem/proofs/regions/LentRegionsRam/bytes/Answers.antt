@@ -1,6 +1,7 @@
 use Rattle.std.proofs.Common.{◌≡◌, List, ℕ, length, take, true, arith, rules, ap, ◌∙◌}
 use Rattle.dma_mem.specs.declared.regions.Region.{Region}
-use Rattle.dma_mem.specs.Regions.{pieces_of, in_order, rest_from}
+use Rattle.dma_mem.specs.Regions.{pieces_of, in_order}
+use Rattle.dma_mem.specs.inner.Rewritten.{rest_from}
 use Rattle.dma_mem.proofs.Pieces.{rest_shown}
 use Rattle.dma_mem.proofs.regions.LentRegionsRam.bytes.Goals as goal
 

@@ -2,7 +2,7 @@ use Rattle.std.proofs.Common.{◌-◌, length, arith, ap, sym, ◌∙◌}
 use Rattle.std.proofs.lemmas.List.{length-map}
 use Rattle.dma_mem.specs.Regions.{Piece, pieces_of, piece_of, end_of}
 use Rattle.dma_mem.proofs.Pieces.{piece_at_item, length-image_of, image_of-most}
-use Rattle.dma_mem.proofs.regions.size_of.Goals as goal
+use Rattle.dma_mem.proofs.regions.search.size_of.Goals as goal
 
 pub end-requires : goal.end-requires
 end-requires c =
