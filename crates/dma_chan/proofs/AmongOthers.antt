@@ -21,11 +21,12 @@ use Rattle.dma_chan.specs.Exec.{read_at}
 use Rattle.dma_chan.specs.Channel.{ChannelValue, step_of, stepped}
 use Rattle.dma_chan.specs.Compiled.{cost}
 use Rattle.dma_chan.specs.Traffic.{member, stored_after, burst, read_places, written_places}
-use Rattle.dma_chan.specs.Layer.{Shared, effect_of, step_at, StepAgrees}
-use Rattle.dma_chan.specs.Others.{Touches, CopiesAmongOthers}
+use Rattle.dma_chan.specs.Layer.{Shared, effect_of, step_at}
+use Rattle.dma_chan.specs.Others.{IsLoadedWith, Touches, CopiesAmongOthers}
 use Rattle.dma_chan.specs.inner.At.{IsAt}
 use Rattle.dma_chan.proofs.ShapeLaws.{shape_is, stored_is, is_store}
-use Rattle.dma_chan.proofs.LayerLaws.{below_places, below_sources, starts_at, step_is, survives}
+use Rattle.dma_chan.proofs.LayerLaws.{below_places, below_sources, starts_at, survives}
+use Rattle.dma_chan.proofs.GoesOn.{Begins, agrees_at, alone}
 use Rattle.dma_chan.proofs.CopyAlone.{laid_over, laid_over_none, laid_over_all, laid_over_more}
 
 -- ---- a step that moves, by its effect
@@ -87,10 +88,18 @@ touched_below t size a below touches =
 
 -- ---- instruction by instruction
 
+-- a channel into which the program was just loaded
+pub begins_loaded : (t : Descriptor) (c : ChannelValue) → IsLoadedWith t c → Begins t c
+begins_loaded t c l = subst (Begins t) (sym l.2) l.1
+
+pub at_start : (t : Descriptor) (image : List ℕ) (c : ChannelValue) → IsTransfer t → IsLoadedWith t c → IsAt t 0 image (alone t c)
+at_start t image c h l = subst (λ (d : ChannelValue). IsAt t 0 image (alone t d)) (sym l.2) (starts_at t image h)
+
 -- Before instruction number n: how far the channel is in the program, and at every address that the transfer touches
 -- the memory is the first one with the bytes stored so far laid over it. It contains the transfer's ranges.
 pub record Among (t : Descriptor) (first : List ℕ) (n : ℕ) (image : List ℕ) (c : ChannelValue) : Type 0 where
-  pub at : IsAt t n image c
+  pub begins : Begins t c
+  pub at : IsAt t n image (alone t c)
   pub same : (a : ℕ) → Touches t a → get_or image a 0 ≡ get_or (laid_over first t (stored_after t n)) a 0
   pub fits : lies_below t (length image) ≡ true
 
@@ -123,11 +132,12 @@ module _ (t : Descriptor) (marks : MarkList) (first : List ℕ) (h : IsTransfer 
   -- one instruction, and what others do after it
   pub next : (n : ℕ) (m : Shared) (c d : ChannelValue) (other : List ℕ) → Among t first n m.image c → (step_of marks c m.image m.flags).0 ≡ Moved → d ≡ stepped marks c m.image m.flags → ((a : ℕ) → Touches t a → get_or other a 0 ≡ get_or (step_of marks c m.image m.flags).1.image a 0) → lies_below t (length other) ≡ true → Among t first (n + 1) other d
   next n m c d other w moved goes unchanged fits =
-      let st : StepAgrees t n marks m c = step_is t n marks m c h w.fits w.at in
+      let st = agrees_at t n marks m c h w.fits w.begins w.at in
       let moves : (step_at t n marks m).0 ≡ Moved = sym st.turn ∙ moved in
       let kept : (a : ℕ) → Touches t a → get_or other a 0 ≡ get_or (step_at t n marks m).1.image a 0 = λ a touches. unchanged a touches ∙ ap (λ (i : List ℕ). get_or i a 0) st.image in
       record {
-        at = subst (λ (e : ChannelValue). IsAt t (n + 1) other e) (sym goes) (survives t (n + 1) (step_at t n marks m).1.image other (stepped marks c m.image m.flags) (st.goes_on moves) (λ a i. kept a (inl i)));
+        begins = subst (Begins t) (sym goes) (st.begins moves);
+        at = subst (λ (e : ChannelValue). IsAt t (n + 1) other (alone t e)) (sym goes) (survives t (n + 1) (step_at t n marks m).1.image other (alone t (stepped marks c m.image m.flags)) (st.goes_on moves) (λ a i. kept a (inl i)));
         same = λ a touches. kept a touches ∙ left_same n m c w moves a touches;
         fits = fits;
       }
@@ -142,7 +152,8 @@ copies_among_others t marks channel image flags h run a touches =
   where
     along : (n : ℕ) → n < cost t → Among t (image 0) n (image n) (channel n)
     along zero l = record {
-      at = subst (λ (c : ChannelValue). IsAt t 0 (image 0) c) (sym run.begins) (starts_at t (image 0) h);
+      begins = begins_loaded t (channel 0) run.begins;
+      at = at_start t (image 0) (channel 0) h run.begins;
       same = λ b i. sym (ap (λ (k : ℕ). get_or (laid_over (image 0) t k) b 0) ((stored_is t h).none) ∙ ap (λ (x : List ℕ). get_or x b 0) (laid_over_none (image 0) t));
       fits = run.below 0 l;
     }

@@ -18,42 +18,27 @@ use Rattle.dma_chan.specs.declared.turn.ChanTurn.TheVariants.{Moved, Waiting, En
 use Rattle.dma_chan.specs.declared.turn.FaultKind.{FaultKind}
 use Rattle.dma_chan.specs.Bursts.{burst_len, touched, reaches}
 use Rattle.dma_chan.specs.Exec.{State, source_of, destination_of, counter_of, act, exec_fetched, buffer_size}
-use Rattle.dma_chan.specs.Channel.{ChannelValue, ahead_of, bytes_of_program, state_of, step_of, after_turn, stored_by}
+use Rattle.dma_chan.specs.Channel.{ChannelValue, ahead_of, state_of, step_of, after_turn, stored_by}
 use Rattle.dma_chan.specs.Compiled.{cost, tree_of}
 use Rattle.dma_chan.specs.Next.{next_of}
 use Rattle.dma_chan.specs.NextWrites.{written_by, written_next}
-use Rattle.dma_chan.specs.Stepping.{Machine, answer_at, after_step, after_steps, goes_on_after}
+use Rattle.dma_chan.specs.Stepping.{Machine, answer_at, after_step, after_steps, goes_on_after, written_after}
 use Rattle.dma_chan.specs.Traffic.{member, write_len}
 use Rattle.dma_chan.specs.Tree.{bytes_of}
 use Rattle.dma_chan.specs.inner.At.{moved, IsIn}
-use Rattle.dma_chan.specs.CallWrites.{KeepsRest, Writes, CallWritesNoOther, Executes, LoadExecutes, CallStaysIn}
+use Rattle.dma_chan.specs.CallWrites.{CallWritesNoOther, Executes, LoadExecutes, CallStaysIn}
 use Rattle.dma_chan.proofs.BurstsInTurn.{Progress, CarriesOne, len_anywhere}
 use Rattle.dma_chan.proofs.ControlWords.{touched_from}
+use Rattle.dma_chan.proofs.GoesOn.{Begins, begins_ahead}
 use Rattle.dma_chan.proofs.LayerLaws.{bytes_compiled, registers_advanced}
 use Rattle.dma_chan.proofs.MembersByNumber.{at, at_registers, at_next, next_at, carries_next}
-use Rattle.dma_chan.proofs.OthersKept.{writes_no_other}
 use Rattle.dma_chan.proofs.ShapeLaws.{shape_is, is_store}
-use Rattle.dma_chan.proofs.SteppedOver.{was_moved, went_before}
+use Rattle.dma_chan.proofs.SteppedOver.{kept_outside, was_moved, went_before, writes_each}
 
 -- ---- any program
 
-all_kept : (Written : ℕ → Type 0) (image : List ℕ) → KeepsRest Written image image
-all_kept Written image = record { size = refl; bytes = λ a _. refl }
-
 pub call_writes_no_other : CallWritesNoOther
-call_writes_no_other marks s most taken last after h =
-    subst (λ (u : Machine). KeepsRest (Writes marks s taken) s.image u.image) (sym h.ends_at) (along taken)
-  where
-    along : (n : ℕ) → KeepsRest (Writes marks s n) s.image (after_steps marks s n).image
-    along zero = all_kept (Writes marks s zero) s.image
-    along (suc n) =
-        let u = after_steps marks s n in
-        let one = writes_no_other marks u.channel u.image u.flags in
-        let before = along n in
-        record {
-          size = one.size ∙ before.size;
-          bytes = λ a none. one.bytes a (λ i. none (n, omega arith, i)) ∙ before.bytes a (λ w. none (w.0, omega (arith, w.1), w.2));
-        }
+call_writes_no_other marks s most taken last after h = kept_outside marks s after taken (written_after marks s taken) h.ends_at refl
 
 -- ---- the registers after an instruction that moved
 
@@ -86,9 +71,10 @@ act_leads marks End s = λ e. absurd (cc)
 module _ (t : Descriptor) (h : IsTransfer t) where
   ahead_in : (n : ℕ) (c : ChannelValue) → IsIn t n c → ahead_of c ≡ Ok (member t n)
   ahead_in n c a =
-      ap (λ (xs : List ℕ). next_of xs c.registers.pc) (ap bytes_of_program a.program ∙ bytes_compiled t)
+      begins_ahead t c (member t n) a.program (
+      ap (λ (xs : List ℕ). next_of xs c.registers.pc) (bytes_compiled t)
       ∙ ap (λ (r : Registers). next_of (bytes_of (tree_of t)) r.pc) a.registers
-      ∙ (next_at t n h a.within).next
+      ∙ (next_at t n h a.within).next)
 
   registers_in : (n : ℕ) (c : ChannelValue) → IsIn t n c → c.registers ≡ (at t n).registers
   registers_in n c a = a.registers ∙ sym (at_registers t n)
@@ -177,17 +163,20 @@ module _ (t : Descriptor) (h : IsTransfer t) where
       after_one marks v.0 u (answer_at marks u) v.1 refl
 
 pub load_executes : LoadExecutes
-load_executes t h = (0, record { program = refl; within = omega (arith, (shape_is t h).some); registers = refl })
+load_executes t c h l = (
+  0,
+  record {
+    program = subst (Begins t) (sym l.2) l.1;
+    within = omega (arith, (shape_is t h).some);
+    registers = ap (λ (d : ChannelValue). d.registers) l.2;
+  },
+)
 
 pub call_stays_in : CallStaysIn
-call_stays_in t marks s most taken last after h w steps =
-    let kept = call_writes_no_other marks s most taken last after steps in
-    record {
-      rest = record {
-        size = kept.size;
-        bytes = λ a outside. kept.bytes a (λ i.
-            let v = many_in t h marks s i.0 w (λ k l. steps.moves k (omega (arith, i.1))) in
-            outside (next_in t h v.0 (after_steps marks s i.0).channel a v.1 i.2));
-      };
-      channel = subst (λ (u : Machine). Executes t u.channel ⊎ (u.channel.program ≡ None)) (sym steps.ends_at) (last_in t h marks s taken w steps.moves);
-    }
+call_stays_in t marks s most taken last after h w steps = record {
+  writes = λ a i.
+      let by = writes_each marks s taken a steps.moves i in
+      let v = many_in t h marks s by.0 w (λ k l. steps.moves k (omega (arith, by.1))) in
+      next_in t h v.0 (after_steps marks s by.0).channel a v.1 by.3;
+  channel = subst (λ (u : Machine). Executes t u.channel ⊎ (u.channel.program ≡ None)) (sym steps.ends_at) (last_in t h marks s taken w steps.moves);
+}

@@ -1,7 +1,8 @@
 -- Calls that step a channel with a transfer's program, over a memory that others write between them.
-use Rattle.std.proofs.Common.{◌≡◌, ◌≢◌, ℕ, zero, suc, ◌+◌, ◌-◌, ◌<◌, ◌⊎◌, true, false, List, take, drop, length, get_or, Option, Some, None, refl, sym, ap, ◌∙◌, subst, arith, inl, inr}
+use Rattle.std.proofs.Common.{◌≡◌, ◌≢◌, ℕ, zero, suc, ◌+◌, ◌-◌, ◌<◌, ◌^◌, ◌⊎◌, true, false, true≢false, List, take, drop, length, get_or, Option, Some, None, Ok, refl, sym, ap, ◌∙◌, subst, arith, inl, inr}
 use Rattle.std.specs.Prelude.{IsSome}
 use Rattle.std.specs.List.{Contains}
+use Rattle.std.specs.Option.{option_map}
 use Rattle.std.proofs.lemmas.Bool.{false≢true, false_from_ne_true}
 use Rattle.std.proofs.lemmas.List.Folds.{Any-from_list_any}
 use Rattle.dma_insn.specs.declared.insn.Insn.TheVariants.{St, End}
@@ -17,19 +18,22 @@ use Rattle.dma_chan.specs.declared.turn.ChanTurn.TheVariants.{Moved, Waiting, En
 use Rattle.dma_chan.specs.declared.turn.FaultKind.{FaultKind}
 use Rattle.dma_chan.specs.declared.turn.FaultKind.TheVariants.{UndefInstr, OperandInvalid, MfifoErr, StDataUnavailable, InstrFetchErr, DataWriteErr, DataReadErr}
 use Rattle.dma_chan.specs.Exec.{ChangesNothing}
-use Rattle.dma_chan.specs.Channel.{ChannelValue, loaded, ahead_of, step_of, stepped}
+use Rattle.dma_chan.specs.Channel.{ChannelValue, ahead_of, step_of, stepped}
 use Rattle.dma_chan.specs.Compiled.{compiled, cost}
+use Rattle.dma_chan.specs.Programs.{ProgramValue}
 use Rattle.dma_chan.specs.Traffic.{burst, member, stored_after, read_places, written_places}
-use Rattle.dma_chan.specs.Layer.{Shared, step_at, StepAgrees, AnswerImplies}
+use Rattle.dma_chan.specs.Layer.{Shared, step_at, AnswerImplies}
 use Rattle.dma_chan.specs.Stepping.{Machine, answer_at, after_step, after_steps, goes_on_after, TakesSteps}
 use Rattle.dma_chan.proofs.SteppedOver.{is_still, was_moved, went_before}
-use Rattle.dma_chan.specs.Others.{Misses, Touches, CalledAmongOthers, CallsCopyAmongOthers}
+use Rattle.dma_chan.specs.Others.{IsLoadedWith, Misses, Touches, CalledAmongOthers, CallsCopyAmongOthers}
 use Rattle.dma_chan.specs.inner.At.{IsAt}
 use Rattle.dma_chan.proofs.ShapeLaws.{shape_is, stored_is}
-use Rattle.dma_chan.proofs.LayerLaws.{starts_at, step_is, survives, turn_reports}
+use Rattle.dma_chan.proofs.TreeCosts.{cost_is}
+use Rattle.dma_chan.proofs.LayerLaws.{survives, turn_reports}
+use Rattle.dma_chan.proofs.GoesOn.{Agrees, Begins, agrees_at, ahead_at, alone}
 use Rattle.dma_chan.proofs.CopyAlone.{laid_over, laid_over_none, laid_over_all}
 use Rattle.dma_chan.proofs.OthersKept.{writes_no_other}
-use Rattle.dma_chan.proofs.AmongOthers.{Among, keeps_image, next}
+use Rattle.dma_chan.proofs.AmongOthers.{Among, at_start, begins_loaded, keeps_image, next}
 
 -- if no mark lies at any of these places, none lies at some of them
 pub none_met : (kind : MarkKind) (marks : MarkList) (places : List ℕ) (k n : ℕ) → ((a : ℕ) → Contains places a → is_marked kind marks a ≡ false) → meets_mark kind marks (take n (drop k places)) ≡ false
@@ -57,12 +61,20 @@ abbrev pub Leads : Descriptor → List ℕ → Option ChanTurn → Machine → T
 Leads t first (Some Ended) w = IsDone t first w
 Leads t first turn w = Runs t first w
 
+none_mapped : (f : ProgramValue → ProgramValue) (o : Option ProgramValue) → option_map f o ≡ None → o ≡ None
+none_mapped f None e = refl
+none_mapped f (Some p) e = absurd (cc)
+
+pub not_none : (o : Option ProgramValue) → IsSome o → o ≡ None → ⊥
+not_none o some e = let bad = e in let w = some in grind arith
+
 -- a channel into which the transfer's program was just loaded, over the first memory
-pub at_first : (t : Descriptor) (first : List ℕ) (u : Machine) → IsTransfer t → lies_below t (length first) ≡ true → u.channel ≡ loaded (compiled t) → u.image ≡ first → Runs t first u
-at_first t first u h below channels images = (
+pub at_first : (t : Descriptor) (first : List ℕ) (u : Machine) → IsTransfer t → lies_below t (length first) ≡ true → IsLoadedWith t u.channel → u.image ≡ first → Runs t first u
+at_first t first u h below starts images = (
   0,
   record {
-    at = subst (λ (c : ChannelValue). IsAt t 0 u.image c) (sym channels) (starts_at t u.image h);
+    begins = begins_loaded t u.channel starts;
+    at = at_start t u.image u.channel h starts;
     same = λ b i. ap (λ (x : List ℕ). get_or x b 0) images ∙ sym (ap (λ (k : ℕ). get_or (laid_over first t k) b 0) ((stored_is t h).none) ∙ ap (λ (x : List ℕ). get_or x b 0) (laid_over_none first t));
     fits = subst (λ (x : List ℕ). lies_below t (length x) ≡ true) (sym images) below;
   },
@@ -89,7 +101,8 @@ pub survived : (t : Descriptor) (first : List ℕ) (v w : Machine) → Runs t fi
 survived t first v w r same unchanged fits = (
   r.0,
   record {
-    at = subst (λ (c : ChannelValue). IsAt t r.0 w.image c) (sym same) (survives t r.0 v.image w.image v.channel r.1.at (λ a i. unchanged a (inl i)));
+    begins = subst (Begins t) (sym same) r.1.begins;
+    at = subst (λ (c : ChannelValue). IsAt t r.0 w.image (alone t c)) (sym same) (survives t r.0 v.image w.image (alone t v.channel) r.1.at (λ a i. unchanged a (inl i)));
     same = λ a touches. unchanged a touches ∙ r.1.same a touches;
     fits = fits;
   },
@@ -97,8 +110,12 @@ survived t first v w r same unchanged fits = (
 
 -- with the same marks in all steps
 module _ (t : Descriptor) (marks : MarkList) (first : List ℕ) (h : IsTransfer t) (below : lies_below t (length first) ≡ true) where
-  pub agrees : (n : ℕ) (u : Machine) → Among t first n u.image u.channel → StepAgrees t n marks (record { image = u.image; flags = u.flags }) u.channel
-  agrees n u w = step_is t n marks (record { image = u.image; flags = u.flags }) u.channel h w.fits w.at
+  pub agrees : (n : ℕ) (u : Machine) → Among t first n u.image u.channel → Agrees t n marks (record { image = u.image; flags = u.flags }) u.channel
+  agrees n u w = agrees_at t n marks (record { image = u.image; flags = u.flags }) u.channel h w.fits w.begins w.at
+
+  -- the next instruction is the transfer's
+  pub next_member : (n : ℕ) (u : Machine) → Among t first n u.image u.channel → ahead_of u.channel ≡ Ok (member t n)
+  next_member n u w = ahead_at t n u.image u.channel h w.begins w.at
 
   pub moved_on : (n : ℕ) (u : Machine) → Among t first n u.image u.channel → answer_at marks u ≡ Moved → Among t first (n + 1) (after_step marks u).image (after_step marks u).channel
   moved_on n u w moved =
@@ -115,7 +132,7 @@ module _ (t : Descriptor) (marks : MarkList) (first : List ℕ) (h : IsTransfer 
       let place : n ≡ cost t - 1 = omega arith in
       let kept = keeps_image (member t n) (read_places t n) (written_places t n) marks m no_store in
       record {
-        dropped = ap (λ (c : ChannelValue). c.program) (st.ends ends);
+        dropped = none_mapped (λ _. compiled t) (after_step marks u).channel.program (ap (λ (c : ChannelValue). c.program) (st.ends ends));
         stored = ap (λ (c : ChannelValue). c.stored) (st.ends ends) ∙ w.at.stored ∙ ap (stored_after t) place ∙ (stored_is t h).all;
         all = λ a touches.
             ap (λ (i : List ℕ). get_or i a 0) (st.image ∙ kept) ∙ w.same a touches
@@ -170,6 +187,35 @@ module _ (t : Descriptor) (marks : MarkList) (first : List ℕ) (h : IsTransfer 
       let answer : Some (answer_at marks u) ≡ Some (Fault kind) = sym steps.answer ∙ e in
       let turn : answer_at marks u ≡ Fault kind = cc in
       no_fault w.0 (record { image = u.image; flags = u.flags }) kind none (sym (agrees w.0 u w.1).turn ∙ turn)
+
+  -- a call that waits does so for the transfer's event
+  pub call_waits : (s v : Machine) (most taken e : ℕ) (last : Option ChanTurn) → Runs t first s → TakesSteps marks s most taken last v → last ≡ Some (Waiting e) → t.wait ≡ Some e
+  call_waits s v most zero e last r steps is = absurd (let bad = sym steps.answer ∙ is in cc)
+  call_waits s v most (suc p) e last r steps is =
+      let u = after_steps marks s p in
+      let w = many p s r steps.moves in
+      let m : Shared = record { image = u.image; flags = u.flags } in
+      let answer : Some (answer_at marks u) ≡ Some (Waiting e) = sym steps.answer ∙ is in
+      let turn : answer_at marks u ≡ Waiting e = cc in
+      let why = subst (λ (x : ChanTurn). AnswerImplies t w.0 marks m x) (sym (agrees w.0 u w.1).turn ∙ turn) (turn_reports t w.0 marks m) in
+      ((shape_is t h).wait_only w.0 e why.0.0 why.0.1).1
+
+  -- a call that may take a step takes one
+  pub call_answers : (s v : Machine) (most taken : ℕ) (last : Option ChanTurn) → 0 < most → Runs t first s → TakesSteps marks s most taken last v → last ≢ None
+  call_answers s v most (suc p) last some r steps is = let bad = sym steps.answer ∙ is in cc
+  call_answers s v most zero last some r steps is =
+      elim steps.stops [
+        | inl all ↦ absurd (omega arith)
+        | inr other ↦ elim other [
+          | inl over ↦ absurd (true≢false over)
+          | inr full ↦
+              let few : cost t < 2 ^ 19 = cost_is t h in
+              let taken : s.channel.taken ≡ r.0 = r.1.at.taken in
+              let within : r.0 < cost t = r.1.at.within in
+              let same : v.channel.taken ≡ s.channel.taken = ap (λ (m : Machine). m.channel.taken) steps.ends_at in
+              absurd (omega arith)
+        ]
+      ]
 
 -- ---- along the calls
 

@@ -31,5 +31,5 @@ laid_by_place t first k h below = record {
       let a = get_or (destinations t) p 0 in
       let there : a < length first = touched_below t (length first) a below (inr (Contains-get_or (destinations t) p 0 within)) in
       get_or-put first (carried first (moves t k)) a there ∙ ap (λ (o : Option ℕ). unwrap_or o (get_or first a 0)) (found first (destinations t) (sources t) k p h.once h.same_length low within);
-  kept = λ a outside. get_or-after_moves_other first (moves t k) a (λ i. outside (keys_in k (destinations t) (sources t) a i));
+  kept = λ a touches outside. get_or-after_moves_other first (moves t k) a (λ i. outside (keys_in k (destinations t) (sources t) a i));
 }

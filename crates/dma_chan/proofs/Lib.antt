@@ -22,14 +22,16 @@ pub mod LayerLaws
 pub mod CopyAlone
 pub mod TwoSlices
 pub mod ReadyLaws
+pub mod BodyMoves
 pub mod BodyBlocks
 pub mod RoundCounts
 pub mod WrittenRanges
 pub mod SteppedOver
+pub mod Longer
+pub mod GoesOn
 pub mod AmongOthers
 pub mod OthersKept
 pub mod CallsAmongOthers
-pub mod CallsInTurn
 pub mod CallWrites
 pub mod SinceLoads
 pub mod LaidPlaces

@@ -1,16 +1,15 @@
 -- An address that lies in a region lies in no gap, and below the size of the regions' memory.
-use Rattle.std.proofs.Common.{◌≡◌, ℕ, ◌+◌, ◌-◌, ◌≤◌, ◌<◌, ◌||◌, List, [], ◌∷◌, length, Bool, true, false, refl, ◌∙◌, ap, arith, inl, inr}
+use Rattle.std.proofs.Common.{◌≡◌, ℕ, ◌+◌, ◌-◌, ◌≤◌, ◌<◌, ◌||◌, List, [], ◌∷◌, ◌++◌, length, Bool, true, false, refl, ◌∙◌, arith, inl, inr}
 use Rattle.std.specs.List.{All, Contains, list_any, range_with_len}
 use Rattle.std.proofs.lemmas.Bool.{le-leb}
 use Rattle.std.proofs.lemmas.List.Elements.{All-head, All-tail, Contains-append_left, Contains-append_right}
 use Rattle.dma_mem.specs.declared.segment.Segment.{Segment}
-use Rattle.dma_mem.specs.Places.{all_below, places}
-use Rattle.dma_mem.specs.declared.marks.MarkKind.{MarkKind}
+use Rattle.dma_mem.specs.Places.{Descriptor, all_below, lies_below, places}
+use Rattle.dma_mem.specs.Rules.{IsTransfer}
 use Rattle.dma_mem.specs.declared.marks.MarkKind.TheVariants.{Reading, Writing}
-use Rattle.dma_mem.specs.Lent.{lies_in_any, with_gaps}
-use Rattle.dma_mem.specs.Marking.{MarkList, is_marked}
-use Rattle.dma_mem.specs.Regions.{Piece, bytes_above, end_of, has, rises_from, gaps_above, gaps_of, image_of}
-use Rattle.dma_mem.proofs.GapMarks.{is_marked-gaps}
+use Rattle.dma_mem.specs.Lent.{lies_in_any, stores_at}
+use Rattle.dma_mem.specs.Regions.{Piece, bytes_above, end_of, has, rises_from, gaps_above, gaps_of, image_of, pieces_of, read_only_of}
+use Rattle.dma_mem.proofs.GapMarks.{is_marked-at, loads_in, stores_in}
 use Rattle.dma_mem.proofs.Pieces.{first, gaps_past, has_parts, past_first_gap}
 use Rattle.dma_mem.proofs.SharedPlaces.{in_range}
 use Rattle.dma_mem.proofs.TransferRules.{same-sources}
@@ -41,19 +40,28 @@ in_no_gap at (p ∷ ps) a h lies = let f = first at p ps h in by (has a p) refl 
         let begun : p.addr ≤ a = omega (arith, low (end_of p) ps a f.rest lies) in
         past_first_gap at p ps a (inr begun) f.after ∙ later lies
 
-unmarked : (kind : MarkKind) (pieces : List Piece) (marks : MarkList) (a : ℕ) → lies_in_any (gaps_of pieces) a ≡ false → is_marked kind marks a ≡ false → is_marked kind (with_gaps (record { names = []; gaps = gaps_of pieces }) marks) a ≡ false
-unmarked kind pieces marks a out none =
-    is_marked-gaps kind (record { names = []; gaps = gaps_of pieces }) marks a ∙ ap (λ (b : Bool). b || is_marked kind marks a) out ∙ none
+in_neither : (b c : Bool) → b ≡ false → c ≡ false → (b || c) ≡ false
+in_neither b c e f = rw (e, f) refl
 
 pub gaps_miss : GapsMiss
-gaps_miss pieces marks t order have misses = record {
-  reads = λ a i. unmarked Reading pieces marks a (in_no_gap 0 pieces a order (have a (inl i))) (misses.reads a i);
-  writes = λ a i. unmarked Writing pieces marks a (in_no_gap 0 pieces a order (have a (inr i))) (misses.writes a i);
-}
+gaps_miss regions marks t order have misses =
+    let pieces = pieces_of regions in
+    let read_only = read_only_of regions in
+    let others = stores_at read_only ++ marks in
+    record {
+      reads = λ a i.
+          is_marked-at Reading (gaps_of pieces) others a
+          ∙ in_neither _ _ (in_no_gap 0 pieces a order (have.touched a (inl i))) (loads_in read_only marks a ∙ misses.reads a i);
+      writes = λ a i.
+          is_marked-at Writing (gaps_of pieces) others a
+          ∙ in_neither _ _ (in_no_gap 0 pieces a order (have.touched a (inr i)))
+          (stores_in read_only marks a ∙ in_neither _ _ (have.writable a i) (misses.writes a i));
+    }
 
 -- ---- below the size
 
-ends_after : (at : ℕ) (ps : List Piece) (a : ℕ) → rises_from at ps ≡ true → list_any (has a) ps ≡ true → a < at + length (bytes_above at ps)
+-- what lies in a piece lies below the end of the last one
+pub ends_after : (at : ℕ) (ps : List Piece) (a : ℕ) → rises_from at ps ≡ true → list_any (has a) ps ≡ true → a < at + length (bytes_above at ps)
 ends_after at [] a h lies = absurd (cc)
 ends_after at (p ∷ ps) a h lies = let f = first at p ps h in by (has a p) refl lies (ends_after (end_of p) ps a f.rest)
   where
@@ -71,10 +79,14 @@ ends_below size (s ∷ rest) some low =
     let later = ends_below size rest (All-tail (λ (r : Segment). 0 < r.len) s rest some) (λ a i. low a (Contains-append_right (range_with_len s.addr s.len) (places rest) a i)) in
     rw (le-leb (s.addr + s.len) size (omega (arith, filled, here)), later) refl
 
-pub lies_in_regions : LiesInRegions
-lies_in_regions pieces t h order have =
-    let size = length (image_of pieces) in
-    let low : (a : ℕ) → Touches t a → a < size = λ a i. omega (arith, ends_after 0 pieces a order (have a i)) in
+-- a transfer that touches only addresses below a size ends there
+pub touches_below : (t : Descriptor) (size : ℕ) → IsTransfer t → ((a : ℕ) → Touches t a → a < size) → lies_below t size ≡ true
+touches_below t size h low =
     let from : all_below t.src size ≡ true = ends_below size t.src h.source_list.filled (λ a i. low a (inl ((same-sources t h a).0 i))) in
     let to : all_below t.dst size ≡ true = ends_below size t.dst h.destination_list.filled (λ a i. low a (inr i)) in
     rw (from, to) refl
+
+pub lies_in_regions : LiesInRegions
+lies_in_regions regions t h order have =
+    let pieces = pieces_of regions in
+    touches_below t (length (image_of pieces)) h (λ a i. omega (arith, ends_after 0 pieces a order (have.touched a i)))

@@ -1,10 +1,14 @@
--- The limits, as numbers, and a program worked out: rows computed from the definitions, and the code's own constants.
-use Rattle.std.proofs.Common.{◌≡◌, ◌+◌, ◌*◌, ◌^◌, [], ◌∷◌, None, false, refl}
-use Rattle.dma_mem.specs.Places.{Descriptor, filling}
+-- The limits, as numbers, and a program worked out: rows computed from the definitions, and the code's own constants. And
+-- what a law refuses.
+use Rattle.std.proofs.Common.{◌≡◌, ℕ, ◌+◌, ◌*◌, ◌^◌, ◌≤◌, [], ◌∷◌, Some, None, false, refl, sym, ◌∙◌, arith}
+use Rattle.dma_mem.specs.Places.{Descriptor, filling, size_of}
+use Rattle.dma_mem.specs.Rules.{IsTransfer}
+use Rattle.dma_mem.proofs.TransferRules.{size_of-some}
 use Rattle.dma_insn.specs.AssemblyText.{most_bytes}
 use Rattle.dma_insn.specs.declared.assembler.TheConstants.{MAX_BYTES}
 use Rattle.dma_chan.specs.declared.bursts.TheConstants.{BUFFER_SIZE}
 use Rattle.dma_chan.specs.Bursts.{burst_at}
+use Rattle.dma_chan.specs.Changes.{Call, HasCopied}
 use Rattle.dma_chan.specs.Exec.{buffer_size}
 use Rattle.dma_chan.specs.Compiled.{beat_of, parts, members, cost, compiled, most_compiled}
 use Rattle.dma_chan.specs.Traffic.{read_len, write_len}
@@ -63,3 +67,12 @@ twenty_compiled = refl
 twenty_costs : cost twenty ≡ 15
 unfolding cost members parts beat_of
 twenty_costs = refl
+
+-- ---- what a law refuses
+
+-- A channel that reports a signal before it has stored anything breaks the law of copies, for every transfer.
+early_signal_is_refused : (t : Descriptor) (first memory : ℕ → ℕ) (call : Call) (e : ℕ) → IsTransfer t → call.signal ≡ Some e → call.left.channel.stored ≡ 0 → ¬ HasCopied t first memory call
+early_signal_is_refused t first memory call e h signals none copied =
+    let all : 0 ≡ size_of t = sym none ∙ (copied.signals e signals).1 in
+    let some : 1 ≤ size_of t = size_of-some t h in
+    omega arith

@@ -1,10 +1,14 @@
 -- Transfers' programs that channels execute over one memory, each counted from its own load.
-use Rattle.std.proofs.Common.{◌≡◌, ℕ, zero, suc, ◌+◌, ◌-◌, ◌≤◌, ◌⊎◌, true, List, length, get_or, Option, Some, None, Result, Ok, Err, refl, sym, ap, ◌∙◌, subst, arith, inl, inr}
+use Rattle.std.proofs.Common.{◌≡◌, ℕ, zero, suc, ◌+◌, ◌-◌, ◌≤◌, ◌⊎◌, true, List, [], length, map, get_or, Option, Some, None, Result, Ok, Err, refl, sym, ap, ◌∙◌, subst, arith, inl, inr}
 use Rattle.std.specs.Prelude.{IsSome}
-use Rattle.std.proofs.lemmas.Bool.{cases_eq}
+use Rattle.std.specs.List.{range_with_len}
+use Rattle.std.proofs.lemmas.Bool.{cases_Bool, cases_eq}
+use Rattle.std.proofs.lemmas.List.Elements.{Contains-get_or}
+use Rattle.std.proofs.lemmas.List.FromFn.{get_or-map-range_with_len, length-map-range_with_len}
 use Rattle.dma_insn.specs.declared.insn.Insn.{Insn}
 use Rattle.dma_insn.specs.declared.insn.Insn.TheVariants.{Mov, Ld, St, Rmb, Wmb, Nop, End, Lp, LpEnd, Sev, Wfe}
-use Rattle.dma_mem.specs.Places.{Descriptor, size_of, lies_below}
+use Rattle.dma_mem.specs.declared.segment.Segment.{Segment}
+use Rattle.dma_mem.specs.Places.{Descriptor, destinations, sources, size_of, lies_below}
 use Rattle.dma_mem.specs.Image.{laid}
 use Rattle.dma_mem.specs.Marking.{MarkList}
 use Rattle.dma_mem.specs.Rules.{IsTransfer}
@@ -16,17 +20,19 @@ use Rattle.dma_chan.specs.Compiled.{cost}
 use Rattle.dma_chan.specs.Traffic.{member, stored_after, read_places, written_places}
 use Rattle.dma_chan.specs.Layer.{Shared, effect_of}
 use Rattle.dma_chan.specs.Stepping.{Machine, answer_at, after_steps, signal_of, signal_after, TakesSteps}
-use Rattle.dma_chan.specs.Others.{Touches}
+use Rattle.dma_chan.specs.Written.{LiesIn}
+use Rattle.dma_chan.specs.Others.{IsLoadedWith, Touches}
 use Rattle.dma_chan.specs.CallWrites.{Executes}
-use Rattle.dma_chan.specs.Changes.{System, machine_of, Call, Change, Sets, Calls, Guest, DoesCall, Does, DoesAll, SinceLoad, KeepsTouched, LeavesAlone, HasCopied, CopiesSinceLoad, Holds, Gives, HaveTransfers, WritesElsewhere, IsApart, ChannelsCopy}
-use Rattle.dma_chan.proofs.CallsAmongOthers.{Leads, Runs, agrees, at_first, call, call_fails, either_way, many, moved_on, survived}
-use Rattle.dma_chan.proofs.CallsInTurn.{not_none}
-use Rattle.dma_chan.proofs.CallWrites.{call_stays_in}
+use Rattle.dma_chan.specs.Changes.{System, Call, Change, Sets, Calls, Guest, DoesCall, TakesCall, Does, DoesAll, LendsAll, SinceLoad, KeepsTouched, LeavesAlone, HasFirst, HasCopied, CopiesSinceLoad, bytes_in, Holds, Gives, HaveTransfers, WritesElsewhere, IsApart, ChannelsCopy}
+use Rattle.dma_chan.proofs.AmongOthers.{touched_below}
+use Rattle.dma_chan.proofs.CallsAmongOthers.{Leads, Runs, agrees, at_first, call, call_fails, call_waits, either_way, many, moved_on, next_member, not_none, survived}
+use Rattle.dma_chan.proofs.CallWrites.{call_stays_in, call_writes_no_other}
 use Rattle.dma_chan.proofs.CopyAlone.{laid_over_all}
-use Rattle.dma_chan.proofs.LayerLaws.{ahead_is}
+use Rattle.dma_chan.proofs.LaidPlaces.{laid_by_place}
+use Rattle.dma_chan.proofs.RegionsHave.{touches_below}
 use Rattle.dma_chan.proofs.ShapeLaws.{shape_is, stored_is}
 
--- ---- what a call leaves
+-- ---- one call
 
 -- only a DMASEV signals
 is_signal : (next : Result Insn FaultKind) (e : ℕ) → signal_of next ≡ Some e → next ≡ Ok (Sev e)
@@ -42,6 +48,16 @@ is_signal (Ok Rmb) e h = absurd (cc)
 is_signal (Ok Wmb) e h = absurd (cc)
 is_signal (Ok Nop) e h = absurd (cc)
 is_signal (Ok End) e h = absurd (cc)
+
+-- the same of memories that agree at what the transfer touches
+pub first_agrees : (t : Descriptor) (k : ℕ) (f g first memory : ℕ → ℕ) → IsTransfer t → ((a : ℕ) → Touches t a → first a ≡ f a) → ((a : ℕ) → Touches t a → memory a ≡ g a) → HasFirst t k f g → HasFirst t k first memory
+first_agrees t k f g first memory h same left w = record {
+  copied = λ p low within.
+      left (get_or (destinations t) p 0) (inr (Contains-get_or (destinations t) p 0 within))
+      ∙ w.copied p low within
+      ∙ sym (same (get_or (sources t) p 0) (inl (Contains-get_or (sources t) p 0 (omega (arith, h.same_length, within)))));
+  kept = λ a touches off. left a touches ∙ w.kept a touches off ∙ sym (same a touches);
+}
 
 module _ (t : Descriptor) (first : List ℕ) (h : IsTransfer t) (below : lies_below t (length first) ≡ true) where
   abbrev IsLaid : Machine → Type 0
@@ -60,8 +76,13 @@ module _ (t : Descriptor) (first : List ℕ) (h : IsTransfer t) (below : lies_be
   leads_laid (Some (Fault kind)) v r = runs_laid v r
   leads_laid (Some Ended) v d = λ a touches. d.all a touches ∙ ap (λ (k : ℕ). get_or (laid first t k) a 0) (sym d.stored)
 
+  has_first : (o : Option ChanTurn) (v : Machine) → Leads t first o v → HasFirst t v.channel.stored (bytes_in first) (bytes_in v.image)
+  has_first o v r =
+      let k = v.channel.stored in
+      first_agrees t k (bytes_in first) (bytes_in (laid first t k)) (bytes_in first) (bytes_in v.image) h (λ a touches. refl) (leads_laid o v r) (laid_by_place t first k h below)
+
   -- at the signal all bytes are stored
-  signalled : (marks : MarkList) (s v : Machine) (most taken : ℕ) (last : Option ChanTurn) (e : ℕ) → Runs t first s → TakesSteps marks s most taken last v → signal_after marks s taken ≡ Some e → (t.signal ≡ Some e) × (v.channel.stored ≡ size_of t)
+  pub signalled : (marks : MarkList) (s v : Machine) (most taken : ℕ) (last : Option ChanTurn) (e : ℕ) → Runs t first s → TakesSteps marks s most taken last v → signal_after marks s taken ≡ Some e → (t.signal ≡ Some e) × (v.channel.stored ≡ size_of t)
   signalled marks s v most zero last e r steps signal = absurd (cc)
   signalled marks s v most (suc p) last e r steps signal =
       let u = after_steps marks s p in
@@ -69,92 +90,146 @@ module _ (t : Descriptor) (first : List ℕ) (h : IsTransfer t) (below : lies_be
       let n = w.0 in
       let m : Shared = record { image = u.image; flags = u.flags } in
       let sev : ahead_of u.channel ≡ Ok (Sev e) = is_signal (ahead_of u.channel) e signal in
-      let same : Ok (member t n) ≡ Ok (Sev e) = sym (ahead_is t n u.image u.channel h w.1.at) ∙ sev in
-      let here : member t n ≡ Sev e = cc in
+      let here : member t n ≡ Sev e = let same = sym (next_member t marks first h below n u w.1) ∙ sev in cc in
       let place = (shape_is t h).signal_only n e here in
       let goes : answer_at marks u ≡ Moved = (agrees t marks first h below n u w.1).turn ∙ ap (λ (i : Insn). (effect_of i (read_places t n) (written_places t n) marks m).0) here in
       let next = moved_on t marks first h below n u w.1 goes in
       let number : n + 1 ≡ cost t - 1 = omega (arith, place.0) in
       (place.1, ap (λ (x : Machine). x.channel.stored) steps.ends_at ∙ next.at.stored ∙ ap (stored_after t) number ∙ (stored_is t h).all)
 
-  pub leads : (c : Call) (s v : Machine) → Runs t first s → DoesCall c s v → Leads t first c.last v
-  leads c s v r does = call t c.marks first h below s v c.most c.taken c.last r does.steps
+  pub leads : (c : Call) → Runs t first c.found → DoesCall c → Leads t first c.last c.left
+  leads c r does = call t c.marks first h below c.found c.left c.most c.taken c.last r does.steps
 
-  pub has_copied : (c : Call) (s v : Machine) → Runs t first s → DoesCall c s v → HasCopied t first c v
-  has_copied c s v r does = record {
-    bytes = leads_laid c.last v (leads c s v r does);
-    signals = λ e reported. signalled c.marks s v c.most c.taken c.last e r does.steps (sym does.signal ∙ reported);
-    ends = λ over. (subst (λ (o : Option ChanTurn). Leads t first o v) over (leads c s v r does)).stored;
-    never_fails = λ kind none. call_fails t c.marks first h below s v c.most c.taken c.last kind none r does.steps;
+  -- a channel that runs the transfer's program executes it
+  runs_in : (s : Machine) → Runs t first s → Executes t s.channel
+  runs_in s r = (r.0, record { program = r.1.begins; within = r.1.at.within; registers = r.1.at.registers })
+
+  pub has_copied : (c : Call) → Runs t first c.found → DoesCall c → HasCopied t (bytes_in first) (bytes_in c.left.image) c
+  has_copied c r does = record {
+    bytes = has_first c.last c.left (leads c r does);
+    writes = λ a i.
+        let stays = call_stays_in t c.marks c.found c.most c.taken c.last c.left h (runs_in c.found r) does.steps in
+        stays.writes a (subst (λ (w : Segment). LiesIn w a) does.written i);
+    signals = λ e reported. signalled c.marks c.found c.left c.most c.taken c.last e r does.steps (sym does.signal ∙ reported);
+    ends = λ over. (subst (λ (o : Option ChanTurn). Leads t first o c.left) over (leads c r does)).stored;
+    waits = λ e is. call_waits t c.marks first h below c.found c.left c.most c.taken e c.last r does.steps is;
+    never_fails = λ kind none. call_fails t c.marks first h below c.found c.left c.most c.taken c.last kind none r does.steps;
   }
 
-  -- ---- since the load
+-- ---- since the load
+
+-- the bytes of a memory below a size
+abbrev imaged : ℕ → (ℕ → ℕ) → List ℕ
+imaged size memory = map memory (range_with_len 0 size)
+
+module _ (t : Descriptor) (size : ℕ) (memory : ℕ → ℕ) (h : IsTransfer t) (below : lies_below t size ≡ true) where
+  abbrev first : List ℕ
+  first = imaged size memory
+
+  within : (other : ℕ → ℕ) → lies_below t (length (imaged size other)) ≡ true
+  within other = subst (λ (k : ℕ). lies_below t k ≡ true) (sym (length-map-range_with_len other 0 size)) below
+
+  shows : (other : ℕ → ℕ) (a : ℕ) → Touches t a → get_or (imaged size other) a 0 ≡ other a
+  shows other a touches = get_or-map-range_with_len other 0 size a a 0 (touched_below t size a below touches) (omega arith)
+
+  -- a channel of the system with its memory
+  abbrev at_channel : System → ℕ → Machine
+  at_channel s ch = record { channel = s.channels ch; image = imaged size s.memory; flags = [] }
 
   -- the channel is not finished, or it has ended
   abbrev Is : ℕ → System → Type 0
-  Is ch s = Runs t first (machine_of s ch) ⊎ ((s.channels ch).program ≡ None)
+  Is ch s = Runs t first (at_channel s ch) ⊎ ((s.channels ch).program ≡ None)
 
   -- a change that does not touch the channel
-  kept : (ch : ℕ) (s v : System) → v.channels ch ≡ s.channels ch → KeepsTouched t s v → lies_below t (length v.image) ≡ true → Is ch s → Is ch v
-  kept ch s v same keeps fits (inl r) = inl (survived t first (machine_of s ch) (machine_of v ch) r same keeps fits)
-  kept ch s v same keeps fits (inr none) = inr (ap (λ (c : ChannelValue). c.program) same ∙ none)
+  kept : (ch : ℕ) (s v : System) → v.channels ch ≡ s.channels ch → KeepsTouched t s v → Is ch s → Is ch v
+  kept ch s v same keeps (inl r) =
+      inl (survived t first (at_channel s ch) (at_channel v ch) r same (λ a touches. shows v.memory a touches ∙ keeps a touches ∙ sym (shows s.memory a touches)) (within v.memory))
+  kept ch s v same keeps (inr none) = inr (ap (λ (c : ChannelValue). c.program) same ∙ none)
 
-  changed : (ch : ℕ) (change : Change) (s v : System) → Does change s v → LeavesAlone t ch change s v → lies_below t (length v.image) ≡ true → Is ch s → Is ch v
-  changed ch (Sets other c) s v does alone fits i =
-      kept ch s v (does.1.0 ch (λ e. alone (sym e))) (λ a touches. ap (λ (x : List ℕ). get_or x a 0) does.1.1) fits i
-  changed ch Guest s v does alone fits i = kept ch s v (does ch) alone fits i
-  changed ch (Calls c) s v does alone fits i = elim (cases_eq c.channel ch) [
-    | inl e ↦ called (subst (λ (d : ℕ). DoesCall c (machine_of s d) (machine_of v d)) e does.0) i
-    | inr ne ↦ kept ch s v (does.1 ch (λ e. ne (sym e))) (alone ne) fits i
+  -- before a call on the channel
+  found : (c : Call) (s v : System) → TakesCall c s v → LendsAll t c → Is c.channel s → Runs t first c.found
+  found c s v takes lent (inl r) =
+      survived t first (at_channel s c.channel) c.found r takes.finds_channel (λ a touches. takes.finds a (lent a touches) ∙ sym (shows s.memory a touches)) (touches_below t (length c.found.image) h (λ a touches. takes.within a (lent a touches)))
+  found c s v takes lent (inr none) = absurd (not_none c.found.channel.program takes.does.is_loaded (ap (λ (d : ChannelValue). d.program) takes.finds_channel ∙ none))
+
+  -- after the call
+  left : (c : Call) (s v : System) → TakesCall c s v → LendsAll t c → Runs t first c.left ⊎ (c.left.channel.program ≡ None) → Is c.channel v
+  left c s v takes lent (inl r) =
+      inl (survived t first c.left (at_channel v c.channel) r takes.leaves_channel (λ a touches. shows v.memory a touches ∙ takes.leaves a (lent a touches)) (within v.memory))
+  left c s v takes lent (inr none) = inr (ap (λ (d : ChannelValue). d.program) takes.leaves_channel ∙ none)
+
+  called : (c : Call) (s v : System) → TakesCall c s v → LendsAll t c → Is c.channel s → Is c.channel v
+  called c s v takes lent i =
+      left c s v takes lent (either_way t first c.last c.left (leads t first h (within memory) c (found c s v takes lent i) takes.does))
+
+  changed : (ch : ℕ) (change : Change) (s v : System) → Does change s v → LeavesAlone t ch change s v → Is ch s → Is ch v
+  changed ch (Sets other c) s v does alone i = elim (cases_eq other ch) [
+    | inl e ↦ kept ch s v (subst (λ (d : ℕ). v.channels d ≡ c) e does.0 ∙ alone e) (λ a touches. does.1.1 a) i
+    | inr ne ↦ kept ch s v (does.1.0 ch (λ e. ne (sym e))) (λ a touches. does.1.1 a) i
   ]
-    where
-      called : DoesCall c (machine_of s ch) (machine_of v ch) → Is ch s → Is ch v
-      called d (inl r) = either_way t first c.last (machine_of v ch) (leads c (machine_of s ch) (machine_of v ch) r d)
-      called d (inr none) = absurd (not_none (s.channels ch).program d.is_loaded none)
+  changed ch Guest s v does alone i = kept ch s v (does ch) alone i
+  changed ch (Calls c) s v takes alone i = elim (cases_eq c.channel ch) [
+    | inl e ↦ subst (λ (d : ℕ). Is d v) e (called c s v takes (alone.0 e) (subst (λ (d : ℕ). Is d s) (sym e) i))
+    | inr ne ↦ kept ch s v (takes.others ch (λ e. ne (sym e))) (alone.1 ne) i
+  ]
+
+  copied : (c : Call) (s v : System) → TakesCall c s v → LendsAll t c → Is c.channel s → HasCopied t memory v.memory c
+  copied c s v takes lent i =
+      let all = has_copied t first h (within memory) c (found c s v takes lent i) takes.does in
+      record {
+        bytes = first_agrees t c.left.channel.stored (bytes_in first) (bytes_in c.left.image) memory v.memory h
+            (λ a touches. sym (shows memory a touches)) (λ a touches. takes.leaves a (lent a touches)) all.bytes;
+        writes = all.writes;
+        signals = all.signals;
+        ends = all.ends;
+        waits = all.waits;
+        never_fails = all.never_fails;
+      }
 
 module _ (t : Descriptor) (changes : ℕ → Change) (states : ℕ → System) (load now : ℕ) (c : Call) (h : IsTransfer t) (does : DoesAll changes states load (now + 1)) (since : SinceLoad t changes states load now c (λ k. LeavesAlone t c.channel)) where
-  abbrev loaded_over : List ℕ
-  loaded_over = (states load).image
+  takes : TakesCall c (states now) (states (now + 1))
+  takes = let later = since.later in subst (λ (x : Change). Does x (states now) (states (now + 1))) since.is_call (does now (omega arith) (omega arith))
 
-  first_below : lies_below t (length loaded_over) ≡ true
-  first_below = let later = since.later in since.below load (omega arith) (omega arith)
+  -- the size of the memory that the call is lent
+  abbrev size : ℕ
+  size = length c.found.image
 
-  after_load : Is t loaded_over h first_below c.channel (states (load + 1))
+  below : lies_below t size ≡ true
+  below = touches_below t size h (λ a touches. takes.within a (since.lent a touches))
+
+  abbrev Is_at : ℕ → Type 0
+  Is_at k = Is t size (states load).memory h below c.channel (states k)
+
+  after_load : Is_at (load + 1)
   after_load =
       let later = since.later in
-      let d = subst (λ (x : Change). Does x (states load) (states (load + 1))) since.loads (does load (omega arith) (omega arith)) in
-      inl (at_first t loaded_over (machine_of (states (load + 1)) c.channel) h first_below d.0 d.1.1)
+      let memory = (states load).memory in
+      let d = subst (λ (x : Change). Does x (states load) (states (load + 1))) since.loads.2 (does load (omega arith) (omega arith)) in
+      let start = subst (IsLoadedWith t) (sym d.0) since.loads.1 in
+      let s = states (load + 1) in
+      kept t size memory h below c.channel (record s { memory = memory }) s refl (λ a touches. d.1.1 a)
+      (inl (at_first t (imaged size memory) (record { channel = s.channels c.channel; image = imaged size memory; flags = [] }) h (within t size memory h below memory) start refl))
 
-  along : (d : ℕ) → load + 1 + d ≤ now → Is t loaded_over h first_below c.channel (states (load + 1 + d))
-  along zero l = let e : load + 1 ≡ load + 1 + zero = omega arith in subst (λ (k : ℕ). Is t loaded_over h first_below c.channel (states k)) e after_load
+  along : (d : ℕ) → load + 1 + d ≤ now → Is_at (load + 1 + d)
+  along zero l = let e : load + 1 ≡ load + 1 + zero = omega arith in subst Is_at e after_load
   along (suc d) l =
       let k = load + 1 + d in
       let e : k + 1 ≡ load + 1 + suc d = omega arith in
-      subst (λ (j : ℕ). Is t loaded_over h first_below c.channel (states j)) e
-      (changed t loaded_over h first_below c.channel (changes k) (states k) (states (k + 1)) (does k (omega arith) (omega arith)) (since.spares k (omega arith) (omega arith)) (since.below (k + 1) (omega arith) (omega arith)) (along d (omega arith)))
+      subst Is_at e (changed t size (states load).memory h below c.channel (changes k) (states k) (states (k + 1)) (does k (omega arith) (omega arith)) (since.spares k (omega arith) (omega arith)) (along d (omega arith)))
 
-  at_call : Is t loaded_over h first_below c.channel (states now)
+  at_call : Is_at now
   at_call =
       let later = since.later in
       let e : load + 1 + (now - (load + 1)) ≡ now = omega arith in
-      subst (λ (k : ℕ). Is t loaded_over h first_below c.channel (states k)) e (along (now - (load + 1)) (omega arith))
+      subst Is_at e (along (now - (load + 1)) (omega arith))
 
-  copied : Is t loaded_over h first_below c.channel (states now) → HasCopied t loaded_over c (machine_of (states (now + 1)) c.channel)
-  copied i =
-      let d = subst (λ (x : Change). Does x (states now) (states (now + 1))) since.is_call (does now (let later = since.later in omega arith) (omega arith)) in
-      by i d.0
-    where
-      by : Is t loaded_over h first_below c.channel (states now) → DoesCall c (machine_of (states now) c.channel) (machine_of (states (now + 1)) c.channel) → HasCopied t loaded_over c (machine_of (states (now + 1)) c.channel)
-      by (inl r) d = has_copied t loaded_over h first_below c (machine_of (states now) c.channel) (machine_of (states (now + 1)) c.channel) r d
-      by (inr none) d = absurd (not_none ((states now).channels c.channel).program d.is_loaded none)
+  has_all : HasCopied t (states load).memory (states (now + 1)).memory c
+  has_all = copied t size (states load).memory h below c (states now) (states (now + 1)) takes since.lent at_call
 
 pub copies_since_load : CopiesSinceLoad
-copies_since_load t changes states load now c h does since = copied t changes states load now c h does since (at_call t changes states load now c h does since)
+copies_since_load t changes states load now c h does since = has_all t changes states load now c h does since
 
 -- ---- among other transfers
-
-abbrev at_channel : ℕ → Call → System → System → Type 0
-at_channel ch c s v = DoesCall c (machine_of s ch) (machine_of v ch)
 
 -- a channel that executes a transfer, if a call can be made on it
 executes : (t : Descriptor) (c : ChannelValue) → IsSome c.program → Holds (Some t) c → IsTransfer t × Executes t c
@@ -165,18 +240,34 @@ still : (t : Descriptor) (c : ChannelValue) → IsTransfer t → Executes t c �
 still t c h (inl w) = inr (h, w)
 still t c h (inr none) = inl none
 
--- after a call the channel has the same transfer
-holds_on : (o : Option Descriptor) (ch : ℕ) (c : Call) (s v : System) → at_channel ch c s v → Holds o (s.channels ch) → Holds o (v.channels ch)
-holds_on None ch c s v does holds = tt
-holds_on (Some t) ch c s v does holds =
-    let w = executes t (s.channels ch) does.is_loaded holds in
-    still t (v.channels ch) w.0 (call_stays_in t c.marks (machine_of s ch) c.most c.taken c.last (machine_of v ch) w.0 w.1 does.steps).channel
+module _ (c : Call) (s v : System) (takes : TakesCall c s v) where
+  -- before the call the channel executes its transfer
+  finds : (t : Descriptor) → Holds (Some t) (s.channels c.channel) → IsTransfer t × Executes t c.found.channel
+  finds t holds = executes t c.found.channel takes.does.is_loaded (subst (Holds (Some t)) (sym takes.finds_channel) holds)
 
-elsewhere : (t : Descriptor) (o : Option Descriptor) (ch : ℕ) (c : Call) (s v : System) → at_channel ch c s v → Holds o (s.channels ch) → WritesElsewhere t o s v → KeepsTouched t s v
-elsewhere t None ch c s v does holds kept = kept
-elsewhere t (Some u) ch c s v does holds apart =
-    let w = executes u (s.channels ch) does.is_loaded holds in
-    λ a touches. (call_stays_in u c.marks (machine_of s ch) c.most c.taken c.last (machine_of v ch) w.0 w.1 does.steps).rest.bytes a (apart a touches)
+  -- after the call the channel has the same transfer
+  holds_on : (o : Option Descriptor) → Holds o (s.channels c.channel) → Holds o (v.channels c.channel)
+  holds_on None holds = tt
+  holds_on (Some t) holds =
+      let w = finds t holds in
+      let stays = call_stays_in t c.marks c.found c.most c.taken c.last c.left w.0 w.1 takes.does.steps in
+      subst (Holds (Some t)) (sym takes.leaves_channel) (still t c.left.channel w.0 stays.channel)
+
+  outside : (t : Descriptor) (o : Option Descriptor) → Holds o (s.channels c.channel) → WritesElsewhere t o c → (a : ℕ) → Touches t a → ¬ LiesIn c.written a
+  outside t None holds off a touches i = off a touches i
+  outside t (Some u) holds apart a touches i =
+      let w = finds u holds in
+      let stays = call_stays_in u c.marks c.found c.most c.taken c.last c.left w.0 w.1 takes.does.steps in
+      apart a touches (stays.writes a (subst (λ (r : Segment). LiesIn r a) takes.does.written i))
+
+  elsewhere : (t : Descriptor) (o : Option Descriptor) → Holds o (s.channels c.channel) → WritesElsewhere t o c → KeepsTouched t s v
+  elsewhere t o holds apart a touches = elim (cases_Bool (c.lends a)) [
+    | inl e ↦
+        let off = λ (i : LiesIn _ a). outside t o holds apart a touches (subst (λ (r : Segment). LiesIn r a) (sym takes.does.written) i) in
+        let kept = (call_writes_no_other c.marks c.found c.most c.taken c.last c.left takes.does.steps).bytes a off in
+        takes.leaves a e ∙ kept ∙ takes.finds a e
+    | inr e ↦ takes.rest a e
+  ]
 
 same_held : (o p : Option Descriptor) (c d : ChannelValue) → p ≡ o → d ≡ c → Holds o c → Holds p d
 same_held o p c d e f h = subst (λ (x : Option Descriptor). Holds x d) (sym e) (subst (Holds o) (sym f) h)
@@ -187,18 +278,18 @@ one (Sets d c) before after s v does gives holds ch = elim (cases_eq ch d) [
   | inr ne ↦ same_held (before ch) (after ch) (s.channels ch) (v.channels ch) (gives.1 ch ne) (does.1.0 ch ne) (holds ch)
 ]
 one Guest before after s v does gives holds ch = same_held (before ch) (after ch) (s.channels ch) (v.channels ch) (gives ch) (does ch) (holds ch)
-one (Calls c) before after s v does gives holds ch = elim (cases_eq ch c.channel) [
+one (Calls c) before after s v takes gives holds ch = elim (cases_eq ch c.channel) [
   | inl e ↦
       let d = c.channel in
-      let held : Holds (before d) (v.channels d) = holds_on (before d) d c s v does.0 (holds d) in
+      let held : Holds (before d) (v.channels d) = holds_on c s v takes (before d) (holds d) in
       subst (λ (k : ℕ). Holds (after k) (v.channels k)) (sym e) (same_held (before d) (after d) (v.channels d) (v.channels d) (gives d) refl held)
-  | inr ne ↦ same_held (before ch) (after ch) (s.channels ch) (v.channels ch) (gives ch) (does.1 ch ne) (holds ch)
+  | inr ne ↦ same_held (before ch) (after ch) (s.channels ch) (v.channels ch) (gives ch) (takes.others ch ne) (holds ch)
 ]
 
 apart_alone : (t : Descriptor) (ch : ℕ) (own : ℕ → Option Descriptor) (change : Change) (s v : System) → Does change s v → ((d : ℕ) → Holds (own d) (s.channels d)) → IsApart t ch own change s v → LeavesAlone t ch change s v
 apart_alone t ch own (Sets d c) s v does holds apart = apart
 apart_alone t ch own Guest s v does holds apart = apart
-apart_alone t ch own (Calls c) s v does holds apart = λ ne. elsewhere t (own c.channel) c.channel c s v does.0 (holds c.channel) (apart ne)
+apart_alone t ch own (Calls c) s v takes holds apart = (apart.0, λ ne. elsewhere c s v takes t (own c.channel) (holds c.channel) (apart.1 ne))
 
 module _ (own : ℕ → ℕ → Option Descriptor) (changes : ℕ → Change) (states : ℕ → System) (from count : ℕ) (does : DoesAll changes states from count) (have : HaveTransfers own changes states from count) where
   hold : (d : ℕ) → from + d ≤ count → (ch : ℕ) → Holds (own (from + d) ch) ((states (from + d)).channels ch)
@@ -222,7 +313,7 @@ channels_copy t own changes states load now c h does have since =
       later = since.later;
       loads = since.loads;
       is_call = since.is_call;
-      below = since.below;
+      lent = since.lent;
       spares = λ k l m.
           apart_alone t c.channel (own k) (changes k) (states k) (states (k + 1)) (does k (omega arith) (omega arith)) (hold_at own changes states load (now + 1) does have k (omega arith) (omega arith)) (since.spares k l m);
     })

@@ -18,7 +18,6 @@ pub mod Ready
 pub mod Fails
 pub mod RunPages
 pub mod Others
-pub mod InTurn
 pub mod CallWrites
 pub mod Changes
 pub mod LentRegions

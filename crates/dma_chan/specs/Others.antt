@@ -11,6 +11,7 @@ use Rattle.dma_chan.specs.declared.turn.ChanTurn.TheVariants.{Moved, Ended, Faul
 use Rattle.dma_chan.specs.declared.turn.FaultKind.{FaultKind}
 use Rattle.dma_chan.specs.Channel.{ChannelValue, loaded, step_of, stepped}
 use Rattle.dma_chan.specs.Compiled.{cost, compiled}
+use Rattle.dma_chan.specs.Programs.{ProgramValue, BeginsWith}
 use Rattle.dma_chan.specs.Stepping.{Machine, TakesSteps}
 use Rattle.dma_chan.specs.NextWrites.{written_next}
 
@@ -24,13 +25,17 @@ pub record Misses (marks : MarkList) (t : Descriptor) : Type 0 where
   pub reads : (a : ℕ) → Contains (sources t) a → is_marked Reading marks a ≡ false
   pub writes : (a : ℕ) → Contains (destinations t) a → is_marked Writing marks a ≡ false
 
+-- A channel into which a program was just loaded that begins with a transfer's program.
+abbrev pub IsLoadedWith : Descriptor → ChannelValue → Type 0
+IsLoadedWith t c = (p : ProgramValue) × BeginsWith p (compiled t) × (c ≡ loaded p)
+
 -- A channel executes a transfer's program up to its DMAEND. `channel n` is the channel before instruction number n,
 -- which is executed with these marks and flags and with a memory that contains the transfer's ranges. Between two
 -- instructions others may write any byte that the transfer neither reads nor writes, and may change the memory's size,
 -- any flag and any mark.
 pub record RunsAmongOthers (t : Descriptor) (marks : ℕ → MarkList) (channel : ℕ → ChannelValue)
     (image : ℕ → List ℕ) (flags : ℕ → List Bool) : Type 0 where
-  pub begins : channel 0 ≡ loaded (compiled t)
+  pub begins : IsLoadedWith t (channel 0)
   pub below : (n : ℕ) → n < cost t → lies_below t (length (image n)) ≡ true
   pub moves : (n : ℕ) → n + 1 < cost t → (step_of (marks n) (channel n) (image n) (flags n)).0 ≡ Moved
   pub goes_on : (n : ℕ) → n + 1 < cost t → channel (n + 1) ≡ stepped (marks n) (channel n) (image n) (flags n)
@@ -64,7 +69,7 @@ WritesNoOther =
 -- any byte that the transfer neither reads nor writes, and may change the memory's size and any flag.
 pub record CalledAmongOthers (t : Descriptor) (marks : ℕ → MarkList) (calls : ℕ) (before after : ℕ → Machine)
     (last : ℕ → Option ChanTurn) : Type 0 where
-  pub begins : (before 0).channel ≡ loaded (compiled t)
+  pub begins : IsLoadedWith t (before 0).channel
   pub is_loaded : (k : ℕ) → k < calls → IsSome (before k).channel.program
   pub below : (k : ℕ) → k < calls → lies_below t (length (before k).image) ≡ true
   pub steps : (k : ℕ) → k < calls →
@@ -73,18 +78,17 @@ pub record CalledAmongOthers (t : Descriptor) (marks : ℕ → MarkList) (calls 
   pub unchanged : (k a : ℕ) → k + 1 < calls → Touches t a →
       slice_index (before (k + 1)).image a ≡ slice_index (after k).image a
 
--- The result of calls, of which call number k executes steps of the program of transfer `t k`. After a call that ends,
--- each address that its transfer touches has the same byte as after one simultaneous copy of all the transfer's bytes
--- in the memory before the first call. And a call doesn't fail if none of its marks lies at an address that its
--- transfer touches.
-pub record CallsCopy (t : ℕ → Descriptor) (marks : ℕ → MarkList) (calls : ℕ) (before after : ℕ → Machine)
+-- The result of these calls. After a call that ends, each address that the transfer touches has the same byte as after
+-- one simultaneous copy of all the transfer's bytes in the memory before the first call. And a call doesn't fail if none
+-- of its marks lies at an address that the transfer touches.
+pub record CallsCopy (t : Descriptor) (marks : ℕ → MarkList) (calls : ℕ) (before after : ℕ → Machine)
     (last : ℕ → Option ChanTurn) : Type 0 where
-  pub copies : (k a : ℕ) → k < calls → last k ≡ Some Ended → Touches (t k) a →
-      slice_index (after k).image a ≡ slice_index (laid (before 0).image (t k) (size_of (t k))) a
-  pub never_fails : (k : ℕ) (kind : FaultKind) → k < calls → Misses (marks k) (t k) → last k ≢ Some (Fault kind)
+  pub copies : (k a : ℕ) → k < calls → last k ≡ Some Ended → Touches t a →
+      slice_index (after k).image a ≡ slice_index (laid (before 0).image t (size_of t)) a
+  pub never_fails : (k : ℕ) (kind : FaultKind) → k < calls → Misses (marks k) t → last k ≢ Some (Fault kind)
 
--- Calls among others have the result of `CallsCopy`, each for the same transfer.
+-- Calls among others have the result of `CallsCopy`.
 abbrev pub CallsCopyAmongOthers : Type 0
 CallsCopyAmongOthers =
     (t : Descriptor) (marks : ℕ → MarkList) (calls : ℕ) (before after : ℕ → Machine) (last : ℕ → Option ChanTurn) →
-    IsTransfer t → CalledAmongOthers t marks calls before after last → CallsCopy (λ k. t) marks calls before after last
+    IsTransfer t → CalledAmongOthers t marks calls before after last → CallsCopy t marks calls before after last

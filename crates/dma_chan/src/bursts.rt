@@ -127,8 +127,9 @@ pub(crate) fn destination_burst(registers: &Registers) -> Burst
     Burst::of(registers.dar, registers.ccr.destination())
 }
 
-// Returns whether a burst may touch its addresses: all of them lie in the memory, and none lies in a gap or in a mark
-// of the kind.
+// Returns whether a burst may touch its addresses: all of them lie in the memory, none lies in a gap or in a mark of
+// the kind, and for a store none is read-only.
+#[inline(always)]
 #[tactic(auto, using(crate::proofs::BurstReach::reaches_clear))]
 fn may_touch<M: Ram>(kind: MarkKind, marks: &Marks, memory: &M, burst: Burst) -> bool
     requires some { (1 ≤ burst.size) × (1 ≤ burst.beats) }
@@ -139,7 +140,7 @@ fn may_touch<M: Ram>(kind: MarkKind, marks: &Marks, memory: &M, burst: Burst) ->
         → LieIn (M.loan memory.now) (M.paged memory.now) burst.addr (span_of burst) }
 {
     let span = burst.span();
-    if memory.clear(span) < span.len {
+    if memory.clear(kind, span) < span.len {
         return false;
     }
     span.end() <= u64::from(memory.size()) && !marks.hits(kind, span)

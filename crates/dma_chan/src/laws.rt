@@ -3,7 +3,6 @@
 ghost use Rattle.dma_chan.specs.Layer.{StartsAt, AheadIs, LeftIs, StepIs, TurnReports, Survives, ShapeIs, CostIs, StoredIs, CopiesAlone};
 ghost use Rattle.dma_chan.specs.CallWrites.{CallWritesNoOther, LoadExecutes, CallStaysIn};
 ghost use Rattle.dma_chan.specs.Changes.{CopiesSinceLoad, ChannelsCopy, LaidByPlace};
-ghost use Rattle.dma_chan.specs.InTurn.{ChannelsCopyInTurn};
 ghost use Rattle.dma_chan.specs.LentRegions.{GapsMiss, LiesInRegions};
 ghost use Rattle.dma_chan.specs.Others.{CallsCopyAmongOthers, CopiesAmongOthers, WritesNoOther};
 ghost use Rattle.dma_chan.specs.Ready.{ReadyIs};
@@ -52,14 +51,9 @@ pub fn calls_copy_among_others()
     ensures { CallsCopyAmongOthers }
 {}
 
-/// Calls on several channels over one memory, whose transfers are free of each other, make one simultaneous copy of all
-/// bytes at the places of each transfer. Each call has its own marks, so each channel may have its own.
-pub fn channels_copy_in_turn()
-    ensures { ChannelsCopyInTurn }
-{}
-
-/// If regions contain all addresses that a transfer touches, no gap between them lies at one of these addresses. So the
-/// calls of [`calls_copy_among_others`] don't fail at a gap.
+/// If regions contain all addresses that a transfer touches, and those that it writes aren't read-only, then no gap
+/// between them and no read-only region lies where one of its bursts would fail. So the calls of
+/// [`calls_copy_among_others`] don't fail there.
 pub fn gaps_miss()
     ensures { GapsMiss }
 {}
@@ -74,19 +68,18 @@ pub fn writes_no_other()
     ensures { WritesNoOther }
 {}
 
-/// Each address in the range that a call over lent memory reports as written was written by one of its steps. That no
-/// other byte is changed is a clause of [`step_over`](crate::lent::step_over) and `step_regions`.
+/// Each address in the range that a call over lent memory reports as written was written by one of its steps.
 pub fn writes_each()
     ensures { WritesEach }
 {}
 
-/// A call of several steps changes no byte of the memory except those that its steps write.
+/// A call over lent memory, of any program, changes no byte outside the range that it reports as written.
 pub fn call_writes_no_other()
     ensures { CallWritesNoOther }
 {}
 
-/// Calls on a channel from the load of a transfer's program to its end change no byte except at the transfer's
-/// destinations, whatever others write.
+/// From the load of a transfer's program to its end, the range that a call reports as written has only destinations of
+/// the transfer, whatever others write.
 pub fn writes_its_destinations()
     ensures load { LoadExecutes }
     ensures call { CallStaysIn }
@@ -94,18 +87,20 @@ pub fn writes_its_destinations()
 
 /// A transfer's program copies if, between its own load and a call on its channel, nobody else writes what the transfer
 /// reads or writes. After each call the destinations have the bytes that are stored so far, and all of them when the
-/// call reports the transfer's signal or ends.
+/// call reports the transfer's signal or ends. Each call may be lent other regions, and other bytes may follow the
+/// program.
 pub fn copies_since_load()
     ensures { CopiesSinceLoad }
 {}
 
 /// The same of any number of channels, which are loaded at any time and stepped in any order. Of another channel with a
-/// transfer's program it is enough that the transfer writes elsewhere.
+/// transfer's program it is enough that the transfer writes elsewhere, and of one with any program that its calls
+/// report other addresses as written.
 pub fn channels_copy()
     ensures { ChannelsCopy }
 {}
 
-/// A copy of the first bytes of a transfer in an image, place by place.
+/// Says what `laid` has at each address: at the first destinations the bytes of their sources, elsewhere the old bytes.
 pub fn laid_by_place()
     ensures { LaidByPlace }
 {}

@@ -7,13 +7,13 @@
 //! Proved: a step executes one instruction, or waits or fails and changes nothing (`Channel::step`). A compiled program
 //! moves its transfer's bytes in order and fails only at marks (`compile`, `laws::runs_in_step`, `stores_in_turn`). Run
 //! alone, it makes one simultaneous copy (`laws::copies_alone`, `run_program`); `copy::copy_at_once` makes it without
-//! the program. It also does so among other channels and a guest, if between its load and its signal or end nobody
-//! else writes what its transfer reads or writes (`laws::copies_since_load`, `channels_copy`). No call changes a byte
-//! except those that its DMASTs write (`call_writes_no_other`), and for a compiled program these are its transfer's
-//! destinations (`writes_its_destinations`). A call over lent memory is a chain of single steps (`lent::step_over`,
-//! `step_regions`: `TakesSteps`), and reports exactly the range that these write (`kept`, `laws::writes_each`). A save
-//! restores its channel, and nothing else is accepted (`Channel::save`, `restore`). No page is made except for a store
-//! (`run_program`).
+//! the program. A call over lent memory is a chain of single steps (`lent::step_over`, `step_regions`: `TakesSteps`).
+//! It changes no byte outside the range that it reports (`kept`, `laws::call_writes_no_other`), and each address in it
+//! was written (`writes_each`). A program that begins with a transfer's has copied as many bytes as the channel
+//! counts, and all of them at its signal and at its end, if since its load nobody else wrote what the transfer reads or
+//! writes (`copies_since_load`, `channels_copy`). Until its end it writes only the transfer's destinations
+//! (`writes_its_destinations`). A save restores its channel, and nothing else is accepted
+//! (`Channel::save`, `restore`). No page is made except for a store (`run_program`).
 //!
 //! Not proved: that an allocation succeeds, and that blocks are moved. A `run_bodies` that moves nothing meets its
 //! contract.
@@ -34,4 +34,4 @@ pub mod program;
 pub mod run;
 pub mod save;
 pub mod turn;
-mod written;
+pub mod written;

@@ -1,6 +1,6 @@
 //! Programs.
 
-ghost use Rattle.std.specs.Prelude.{◌≡◌, ◌≤◌, ◌<◌, length, None, IfOk, IfErr, OnOk, vec_capacity};
+ghost use Rattle.std.specs.Prelude.{◌≡◌, ◌≤◌, ◌<◌, length, None, IfOk, IfErr, OnOk};
 ghost use Rattle.dma_insn.specs.AssemblyText.{most_bytes};
 ghost use Rattle.dma_chan.specs.Programs.{program_fault};
 
@@ -23,19 +23,18 @@ pub enum ProgramFault {
 pub struct Program {
     bytes: Vec<u8>,
     cost: Option<u32>,
-    // Whether the bytes are in a channel's room, whose capacity is enough for every program.
-    in_room: bool,
 }
 
 impl Model for Program {
+    ghost use Rattle.std.specs.Prelude.{◌≤◌, length};
+    ghost use Rattle.dma_insn.specs.AssemblyText.{most_bytes};
     ghost use Rattle.dma_chan.specs.Programs.{ProgramValue};
-    ghost use Rattle.dma_chan.specs.inner.Rooms.{IsProgram};
 
     ghost Value = { ProgramValue };
 
     ghost view = { λ p. record { bytes = p.bytes.items; cost = p.cost } };
 
-    ghost invariant = { IsProgram };
+    ghost invariant = { λ p. length p.bytes.items ≤ most_bytes };
 }
 
 impl Program {
@@ -55,52 +54,12 @@ impl Program {
         Ok(Program::of_vec(bytes, None))
     }
 
-    // Returns the program of these bytes, stored in a channel's room. It has no cost.
-    pub(crate) fn in_room(mut room: Vec<u8>, bytes: &[u8]) -> Program
-        requires room { most_bytes ≤ vec_capacity room }
-        requires fits { length bytes.now ≤ most_bytes }
-        ensures { result ≡ record { bytes = bytes.now; cost = None } }
-    {
-        room.clear();
-        let Ok(()) = room.extend_from_slice(bytes) else {
-            unreachable!()
-        };
-        Program {
-            bytes: room,
-            cost: None,
-            in_room: true,
-        }
-    }
-
-    // Returns the memory of the room that the program's bytes are in. If they are in no room, the error is the program.
-    pub(crate) fn into_room(self) -> Result<Vec<u8>, Program>
-        ensures room { IfOk result (λ room. most_bytes ≤ vec_capacity room) }
-        ensures none { IfErr result (λ program. program ≡ self) }
-    {
-        if self.in_room {
-            Ok(self.bytes)
-        } else {
-            Err(self)
-        }
-    }
-
-    // Returns the same program with this cost.
-    pub(crate) fn with_cost(self, cost: Option<u32>) -> Program
-        ensures { result ≡ record self { cost = cost } }
-    {
-        Program { cost, ..self }
-    }
-
     // Returns the program of these bytes, with this cost.
     pub(crate) fn of_vec(bytes: Vec<u8>, cost: Option<u32>) -> Program
         requires { length bytes.items ≤ most_bytes }
         ensures { result ≡ record { bytes = bytes.items; cost = cost } }
     {
-        Program {
-            bytes,
-            cost,
-            in_room: false,
-        }
+        Program { bytes, cost }
     }
 
     /// Returns the bytes of the program.

@@ -27,8 +27,6 @@ pub enum RestoreFault {
     /// The bytes are not the save of any channel.
     #[error("the bytes are no save of a channel")]
     BadSave,
-    #[error("out of memory")]
-    NoMemory,
 }
 
 // Bytes of a save, as they are written.

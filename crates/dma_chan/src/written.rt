@@ -6,8 +6,7 @@ ghost use Rattle.dma_chan.specs.inner.Spans.{IsInReach};
 
 use dma_mem::segment::Segment;
 
-// Returns whether two ranges are one range together: one of them is empty, or they share an address or lie side by
-// side.
+// Returns whether two ranges overlap or touch, or one of them is empty.
 pub(crate) fn adjoins(a: Segment, b: Segment) -> bool
     ensures { result ≡ adjoins a b }
 {
@@ -21,8 +20,8 @@ pub(crate) fn is_in_reach(range: Segment, addr: u32) -> bool
     range.len == 0 || range.addr <= addr && u64::from(addr) <= range.end()
 }
 
-// Returns the smallest range that contains both.
-pub(crate) fn joined(a: Segment, b: Segment) -> Segment
+/// Returns the smallest range that contains both.
+pub fn joined(a: Segment, b: Segment) -> Segment
     requires { (a.addr + a.len < 2 ^ 32) × (b.addr + b.len < 2 ^ 32) }
     ensures range { result ≡ joined a b }
     ensures end { result.addr + result.len < 2 ^ 32 }

@@ -1,4 +1,5 @@
 use Rattle.std.proofs.Common.{sym, arith, ◌<◌}
+use Rattle.dma_mem.proofs.GapMarks.{barred_gaps}
 use Rattle.dma_chan.specs.Bursts.{span_of}
 use Rattle.dma_chan.proofs.BurstReach.{reaches_gap}
 use Rattle.dma_chan.proofs.bursts.may_touch.Goals as goal
@@ -8,3 +9,11 @@ returns-then-clear-span-clause-exact g c =
     let below : c.clear.result < span_of c.args.burst = omega arith in
     let gap = rw c.span-span.ensures.addr at (c.clear.ensures.next (omega arith)) in
     sym (reaches_gap c.args.kind (g.M.Ram.loan c.args.memory.now) c.args.marks.now _ c.args.burst c.clear.result c.requires.some.0 c.requires.some.1 below gap)
+
+pub returns-then-end-from-clause-lie : goal.returns-then-end-from-clause-lie
+returns-then-end-from-clause-lie g c = λ hit. record {
+  within = omega (arith, c.end.ensures, c.size.ensures, c.span-span.ensures);
+  below = omega (arith, c.end.ensures, c.size.ensures, c.span-span.ensures);
+  clear = barred_gaps c.args.kind (g.M.Ram.loan c.args.memory.now) c.args.burst.addr (span_of c.args.burst)
+      (λ a low high. c.clear.ensures.none a (omega (arith, low, c.span-span.ensures.addr)) (omega (arith, high, c.span-span.ensures.addr, c.span-span.ensures.len)));
+}

@@ -1,6 +1,6 @@
-use Rattle.std.proofs.Common.{◌≡◌, ◌≢◌, ◌*◌, ◌≤◌, None, refl, ap, length, subst, arith}
+use Rattle.std.proofs.Common.{◌≡◌, ◌∙◌, ◌≢◌, ◌*◌, ◌≤◌, None, refl, ap, length, subst, arith}
 use Rattle.std.proofs.lemmas.List.{length-append}
-use Rattle.dma_chan.specs.Channel.{ChannelValue, bytes_of_program}
+use Rattle.dma_chan.specs.Channel.{ChannelValue, bytes_of_program, code_of}
 use Rattle.dma_chan.specs.Saved.{AreBytes, saved}
 use Rattle.dma_chan.proofs.SavedParts.{loaded_at}
 use Rattle.dma_chan.proofs.channel.Channel.saved_bytes.Goals as goal
@@ -14,13 +14,15 @@ pub returns-clause-bytes : goal.returns-clause-bytes
 unfolding saved
 returns-clause-bytes c =
     let buffer : c.self.inside.buffer.items ≡ c.args.self.now.buffer = ap (λ (x : ChannelValue). x.buffer) c.self.view_is in
-    rw (c.write.ensures.bytes, c.head-head.ensures.head, c.as_slices.ensures, c.program_bytes-program.ensures.value, buffer) refl
+    let program : c.bytes-program.result.now ≡ code_of c.args.self.now = c.bytes-program.ensures.value ∙ ap code_of c.self.view_is in
+    rw (c.write.ensures.bytes, c.head-head.ensures.head, c.as_slices.ensures, program, buffer) refl
 
 pub returns-clause-channel : goal.returns-clause-channel
 returns-clause-channel c =
     let w = rw c.head-head.ensures.head at c.write.ensures.ranges in
-    let code = rw c.program_bytes-program.ensures.value at c.write.ensures.program_bytes in
-    let limit = rw c.program_bytes-program.ensures.value at c.program_bytes-program.ensures.limit in
+    let program : c.bytes-program.result.now ≡ code_of c.args.self.now = c.bytes-program.ensures.value ∙ ap code_of c.self.view_is in
+    let code = rw program at c.write.ensures.program_bytes in
+    let limit = rw program at c.bytes-program.ensures.limit in
     let bytes = rw c.as_slices.ensures at c.write.ensures.buffer_bytes in
     let buffer = subst (λ (x : ChannelValue). AreBytes x.buffer) c.self.view_is bytes in
     let offset = subst (λ (x : ChannelValue). x.program ≢ None → x.registers.pc ≤ length (bytes_of_program x.program)) c.self.view_is c.self.invariant.offset in

@@ -1,0 +1,86 @@
+//! The program of a channel, in memory that the channel keeps.
+
+ghost use Rattle.std.specs.Prelude.{◌≡◌, ◌≤◌, length, is_some, None, Some, IfOk};
+ghost use Rattle.dma_insn.specs.AssemblyText.{most_bytes};
+ghost use Rattle.dma_chan.specs.Channel.{bytes_of_program, cost_of_program};
+
+use crate::program::MAX_BYTES;
+use std::alloc::{AllocError, Global};
+use std::marker::Model;
+
+// The program of a channel, if one is loaded. Its memory is allocated once, for the longest program.
+#[derive(Drop)]
+pub(crate) struct Code {
+    bytes: Vec<u8>,
+    cost: Option<u32>,
+    is_loaded: bool,
+}
+
+impl Model for Code {
+    ghost use Rattle.std.specs.Prelude.{Option};
+    ghost use Rattle.dma_chan.specs.Programs.{ProgramValue};
+    ghost use Rattle.dma_chan.specs.inner.Codes.{IsCode, code_value};
+
+    ghost Value = { Option ProgramValue };
+
+    ghost view = { code_value };
+
+    ghost invariant = { IsCode };
+}
+
+impl Code {
+    // Returns memory for the longest program, into which none is loaded.
+    pub(super) fn new(alloc: Global) -> Result<Code, AllocError>
+        ensures { IfOk result (λ code. code ≡ None) }
+    {
+        Ok(Code {
+            bytes: Vec::with_capacity(alloc, MAX_BYTES)?,
+            cost: None,
+            is_loaded: false,
+        })
+    }
+
+    // Loads the program of these bytes, with this cost, in place of the one before.
+    pub(super) fn load(&mut self, bytes: &[u8], cost: Option<u32>)
+        requires { length bytes.now ≤ most_bytes }
+        ensures { self.new ≡ Some (record { bytes = bytes.now; cost = cost }) }
+    {
+        self.bytes.clear();
+        let Ok(()) = self.bytes.extend_from_slice(bytes) else {
+            unreachable!()
+        };
+        self.cost = cost;
+        self.is_loaded = true;
+    }
+
+    // Unloads the program.
+    pub(super) fn unload(&mut self)
+        ensures { self.new ≡ None }
+    {
+        self.is_loaded = false;
+    }
+
+    // Returns whether a program is loaded.
+    #[inline(always)]
+    pub(super) fn is_loaded(&self) -> bool
+        ensures { result ≡ is_some self.now }
+    {
+        self.is_loaded
+    }
+
+    // Returns the bytes of the program, or no bytes if none is loaded.
+    #[inline(always)]
+    pub(super) fn bytes(&self) -> &[u8]
+        ensures value { result.now ≡ bytes_of_program self.now }
+        ensures limit { length result.now ≤ most_bytes }
+    {
+        if self.is_loaded { &self.bytes } else { &[] }
+    }
+
+    // Returns the cost of the program, if one with a cost is loaded.
+    pub(super) fn cost(&self) -> Option<u32>
+        ensures { result ≡ cost_of_program self.now }
+    {
+        if self.is_loaded { self.cost } else { None }
+    }
+}
