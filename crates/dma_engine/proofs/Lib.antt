@@ -35,4 +35,6 @@ pub mod JoinedCalls
 pub mod SoundViews
 pub mod StaysSound
 pub mod Advances
+pub mod StepsAtOnce
+pub mod EntriesAtOnce
 pub mod AtOnce

@@ -79,6 +79,9 @@ fn end_alike(rt: &impl Abort, pair: &mut Pair) -> Result<(), Fail> {
     Ok(())
 }
 
+// How many instructions the transfer of `SubmitOverPages` executes before its end.
+const FOUR_OVER_PAGES: u32 = 19;
+
 // A name, a call that allocates memory, and its answer when memory doesn't run out.
 type Row = (&'static str, Ask, Answer);
 
@@ -216,6 +219,34 @@ fn a_start_that_makes_two_pages(rt: HostRuntime) -> Result<(), Fail> {
         asked_after(&rt, rt.alloc(), &before, row, looks)?;
     }
     Ok(())
+}
+
+// A front that one call carries out at once allocates room for its entries and its outcome, and two pages. If one of
+// these allocations is refused, the steps follow, and the call is not out of memory.
+#[test]
+fn a_front_within_one_call(rt: HostRuntime) -> Result<(), Fail> {
+    let before = [
+        (Write(0x100, &[1, 2, 3, 4]), Done),
+        (SubmitOverPages(0), Count(1)),
+        (Issue(0), Count(1)),
+        (Checkpoint, Done),
+    ];
+    let mut pair = pair_after(rt.alloc(), &before)?;
+    let all = Advanced(Some(1), FOUR_OVER_PAGES, Some(Ok(COPIED)));
+    assert_eq!(rt;
+        answer_to(rt.alloc(), &mut pair.asked, Advance(0, 99))?,
+        all
+    );
+    let steps = [
+        (Step(0), Turned(Turn::Started(1))),
+        (
+            Advance(0, 99),
+            Advanced(None, FOUR_OVER_PAGES, Some(Ok(COPIED))),
+        ),
+    ];
+    execute_lines(rt.alloc(), &mut pair.other, &steps)?;
+    assert!(rt; report_the_same(&pair.asked, &pair.other));
+    end_alike(&rt, &mut pair)
 }
 
 // The transfer that the refused submit returned is submitted once more.

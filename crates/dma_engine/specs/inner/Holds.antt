@@ -79,6 +79,15 @@ abbrev pub queue_terminated : Queue → ℕ → List Outcome → ℕ → Queue
 queue_terminated q spare outcomes issued =
     record q { outcomes = record { items = q.outcomes.items ++ outcomes; spare = spare }; issued = issued; paused = false; halted = false; channel = record (q.channel) { program = None }; ranges = None }
 
+-- a queue with one more outcome, and this room for others
+abbrev pub queue_with_outcome : Queue → ℕ → Outcome → Queue
+queue_with_outcome q spare outcome =
+    record q { outcomes = record { items = q.outcomes.items ++ outcome ∷ []; spare = spare } }
+
+-- a queue with this room for outcomes
+abbrev pub queue_with_room : Queue → ℕ → Queue
+queue_with_room q spare = record q { outcomes = record { items = q.outcomes.items; spare = spare } }
+
 -- how many cookies of a queue aren't finished
 abbrev pub unfinished_of : Queue → ℕ
 unfinished_of q = q.given - q.forgotten - length q.outcomes.items
