@@ -34,6 +34,8 @@ impl Command for Asm {
 
     ghost printed = { asm_printed };
 
+    // Not inlined, so that the code of no other command changes how fast its loops are.
+    #[inline(never)]
     fn answer(&self, alloc: Global, input: &[u8], out: &mut Vec<u8>) -> Result<u8, AllocError> {
         match assemble(alloc, input) {
             Ok(program) => {

@@ -1,5 +1,6 @@
 //! The texts of refusals, calls and replies.
-ghost use Rattle.std.specs.Prelude.{◌≡◌, ◌≢◌};
+ghost use Rattle.std.specs.Prelude.{◌≡◌, ◌≢◌, ◌++◌, OnOk};
+ghost use Rattle.dma_text.specs.Text.{Begins};
 ghost use Rattle.dma_mem.specs.declared.transfer.TransferFault.TheVariants as rules;
 ghost use Rattle.dma_engine.specs.Answer.{reply_of};
 ghost use Rattle.dma_engine.specs.declared.call.Reply.TheVariants.{Refused, Turned};
@@ -95,27 +96,43 @@ impl Text for Shown<Option<Outcome>> {
     }
 }
 
-// What a step did.
+// What a step did. The commonest answers are single words, printed without a call.
 impl Text for Shown<Turn> {
     ghost text = { λ shown. turn_text shown.0 };
 
+    #[inline(always)]
     fn push(&self, out: &mut Vec<u8>) -> Result<(), AllocError> {
         match self.0 {
             Turn::Nothing => "nothing".push(out),
-            Turn::Held { ch, cookie } => ("held ", ch, " ", cookie).push(out),
-            Turn::Started(cookie) => ("started ", cookie).push(out),
             Turn::Moved => "moved".push(out),
-            Turn::Waiting(event) => ("waiting ", event).push(out),
             Turn::Paused => "paused".push(out),
             Turn::Halted => "halted".push(out),
-            Turn::Finished {
-                cookie,
-                result,
-                residue,
-            } => {
-                let outcome = Shown(Some(Outcome { result, residue }));
-                ("finished ", cookie, " ", outcome).push(out)
-            }
+            turn => push_turn(turn, out),
+        }
+    }
+}
+
+/// Appends what a step did.
+#[inline(never)]
+fn push_turn(turn: Turn, out: &mut Vec<u8>) -> Result<(), AllocError>
+    ensures ok { OnOk result (out.new.items ≡ out.old.items ++ turn_text turn) }
+    ensures begins { Begins out.new.items out.old.items }
+{
+    match turn {
+        Turn::Nothing => "nothing".push(out),
+        Turn::Held { ch, cookie } => ("held ", ch, " ", cookie).push(out),
+        Turn::Started(cookie) => ("started ", cookie).push(out),
+        Turn::Moved => "moved".push(out),
+        Turn::Waiting(event) => ("waiting ", event).push(out),
+        Turn::Paused => "paused".push(out),
+        Turn::Halted => "halted".push(out),
+        Turn::Finished {
+            cookie,
+            result,
+            residue,
+        } => {
+            let outcome = Shown(Some(Outcome { result, residue }));
+            ("finished ", cookie, " ", outcome).push(out)
         }
     }
 }

@@ -8,7 +8,10 @@ pub mod calls;
 mod copies;
 mod steps;
 
-use crate::run::calls::{answer_call, answer_read, answer_submit, answer_totals, answer_write};
+use crate::run::calls::{
+    answer_call, answer_issue, answer_pause, answer_read, answer_resume, answer_submit,
+    answer_totals, answer_write,
+};
 use crate::run::copies::{answer_copy, answer_fill};
 use crate::run::steps::{StepLines, answer_steps};
 use dma_engine::{Engine, NewFault};
@@ -19,7 +22,9 @@ use dma_script::output::Sink;
 use dma_script::statements::{Statement, Statements, read_run_script};
 use std::alloc::{AllocError, Global};
 
-/// Executes a line and appends what it prints, or appends nothing and fails if memory runs out.
+/// Executes a line and appends what it prints, or appends nothing and fails if memory runs out. Inlined where the kind
+/// of the line is known.
+#[inline(always)]
 fn run_statement(
     engine: &mut Engine,
     statement: Statement,
@@ -35,6 +40,9 @@ fn run_statement(
         Statement::Copy(lists) => answer_copy(engine, lists, out),
         Statement::Fill { src, dst } => answer_fill(engine, src, dst, out),
         Statement::Submit { ch, transfer } => answer_submit(engine, ch, transfer, out),
+        Statement::Issue { ch } => answer_issue(engine, ch, out),
+        Statement::Pause { ch } => answer_pause(engine, ch, out),
+        Statement::Resume { ch } => answer_resume(engine, ch, out),
         Statement::Step { ch, count } => answer_steps(engine, ch, count, steps, out),
         Statement::Totals => answer_totals(engine, out),
         line => answer_call(engine, line, out),
@@ -72,7 +80,7 @@ pub fn run_statements(
 {
     let steps = StepLines::new(alloc);
     let mut lines = LinesOnEngine { engine, steps };
-    interpret_lines(&mut lines, statements.into_vec(), out)?;
+    interpret_lines(&mut lines, statements, out)?;
     Ok(SUCCESS)
 }
 
@@ -88,6 +96,8 @@ impl Command for Run {
 
     ghost printed = { printed };
 
+    // Not inlined, so that the code of no other command changes how fast its loops are.
+    #[inline(never)]
     fn answer(&self, alloc: Global, input: &[u8], out: &mut Vec<u8>) -> Result<u8, AllocError> {
         match read_run_script(alloc, input) {
             Ok(script) => {

@@ -18,7 +18,7 @@ fn write_three<M: Ram>(ram: &mut M) -> bool {
     let Ok(()) = ram.prepare(Segment { addr: 2, len: 3 }) else {
         return false;
     };
-    if ram.size() != 8 || ram.clear(Segment { addr: 2, len: 3 }) != 3 {
+    if ram.size() != 8 || ram.clear(MarkKind::Reading, Segment { addr: 2, len: 3 }) != 3 {
         return false;
     }
     ram.write_parts(2, &[1, 2], &[3]);
@@ -30,10 +30,10 @@ fn copy_two<M: Ram>(ram: &mut M) -> bool {
     let Ok(()) = ram.prepare(Segment { addr: 5, len: 2 }) else {
         return false;
     };
-    if ram.size() != 8 || ram.clear(Segment { addr: 2, len: 2 }) != 2 {
+    if ram.size() != 8 || ram.clear(MarkKind::Reading, Segment { addr: 2, len: 2 }) != 2 {
         return false;
     }
-    if ram.clear(Segment { addr: 5, len: 2 }) != 2 {
+    if ram.clear(MarkKind::Reading, Segment { addr: 5, len: 2 }) != 2 {
         return false;
     }
     ram.copy_apart(2, 5, 2);
@@ -45,7 +45,7 @@ fn set_last<M: Ram>(ram: &mut M) -> bool {
     let Ok(()) = ram.prepare(Segment { addr: 7, len: 1 }) else {
         return false;
     };
-    if ram.size() != 8 || ram.clear(Segment { addr: 7, len: 1 }) != 1 {
+    if ram.size() != 8 || ram.clear(MarkKind::Reading, Segment { addr: 7, len: 1 }) != 1 {
         return false;
     }
     ram.fill(7, 1, 9);
@@ -57,7 +57,7 @@ fn write_and_read<M: Ram>(ram: &mut M) -> bool {
     if !write_three(ram) || !copy_two(ram) || !set_last(ram) || ram.size() != 8 {
         return false;
     }
-    if ram.clear(Segment { addr: 0, len: 8 }) != 8 {
+    if ram.clear(MarkKind::Reading, Segment { addr: 0, len: 8 }) != 8 {
         return false;
     }
     let mut block = [7; 8];

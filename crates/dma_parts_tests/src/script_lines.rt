@@ -1,7 +1,7 @@
 //! Out of memory in the middle of a script: the output has exactly what the lines before it print.
 ghost use Rattle.std.specs.Prelude.{◌≡◌, ◌∷◌, [], OnErr, IsTrue};
 
-use dma_script::interpreter::{Interpreter, interpret_lines};
+use dma_script::interpreter::{Interpreter, Lines, interpret_lines};
 use std::alloc::AllocError;
 use std::test::Fail;
 
@@ -12,6 +12,24 @@ struct Letters {
     refused_at: usize,
     /// The number of calls so far.
     calls: usize,
+}
+
+/// The letters of a word as lines.
+#[derive(Drop)]
+struct Word<'a>(&'a [u8]);
+
+impl Lines for Word<'_> {
+    type Line = u8;
+
+    ghost left = { λ word. word.0.now };
+
+    fn next_line(&mut self) -> Option<u8> {
+        let [first, rest @ ..] = self.0 else {
+            return None;
+        };
+        self.0 = rest;
+        Some(*first)
+    }
 }
 
 impl Interpreter for Letters {
@@ -43,8 +61,7 @@ fn refused_at_each_line(rt: HostRuntime) -> Result<(), Fail> {
             calls: 0,
         };
         let mut out = b"before\n".to_vec(rt.alloc())?;
-        let lines = b"abc".to_vec(rt.alloc())?;
-        let ended = interpret_lines(&mut letters, lines, &mut out);
+        let ended = interpret_lines(&mut letters, Word(b"abc"), &mut out);
         assert!(rt; ended.is_ok() == (refused_at == 0));
         assert_eq!(rt; out.as_slice(), text);
         assert_eq!(rt; letters.calls, calls);

@@ -7,6 +7,7 @@ use Rattle.std.specs.Option.{ok_or, option_map, option_and_then}
 use Rattle.dma_script.specs.Words.{bytes_in, hex_digit_of, hex_pair_of, is_blank, words_of}
 use Rattle.dma_script.specs.Lines.{◌>>=◌}
 use Rattle.dma_script.specs.Arguments.{bytes_at}
+use Rattle.dma_script.specs.inner.Digits.{bytes_after}
 use Rattle.dma_script.specs.declared.fault.Cause.{Cause}
 use Rattle.dma_script.specs.declared.fault.Cause.TheVariants.{Hex}
 
@@ -14,12 +15,6 @@ use Rattle.dma_script.specs.declared.fault.Cause.TheVariants.{Hex}
 abbrev hex_after : List ℕ → List ℕ → Result (List ℕ) Cause
 hex_after before word = do
   more ← ok_or (bytes_in word) Hex
-  Ok (before ++ more)
-
--- bytes read before, and then those of hexadecimal words, joined; `Hex` if one of them is not
-abbrev pub bytes_after : List ℕ → List (List ℕ) → Result (List ℕ) Cause
-bytes_after before words = do
-  more ← bytes_at words
   Ok (before ++ more)
 
 -- the words among the parts between blanks

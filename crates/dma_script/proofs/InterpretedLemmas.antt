@@ -1,7 +1,8 @@
 -- Lines that run one after another.
-use Rattle.std.proofs.Common.{◌≡◌, ℕ, List, [], ◌∷◌, ◌++◌, ◌+◌, ◌<◌, length, map, add-one, take, drop, get_or, refl, ap, sym, ◌∙◌, subst, append_assoc}
-use Rattle.std.proofs.lemmas.List.{append-nil, map-id, take-append-drop}
-use Rattle.std.proofs.Math.Seq.{drop-cons}
+use Rattle.std.proofs.Common.{◌≡◌, ℕ, List, [], ◌∷◌, ◌++◌, length, refl, ap, sym, ◌∙◌, subst, append_assoc, arith, length-append}
+use Rattle.std.proofs.Math.Seq.{get_or-append_seam}
+use Rattle.std.proofs.lemmas.List.{append-nil}
+use Rattle.std.specs.List.{All}
 use Rattle.std.proofs.lemmas.List.Concat.{flat_map-append}
 use Rattle.dma_script.specs.Command.{text_of, printed_text}
 use Rattle.dma_script.specs.Interpreted.{ActsInTurn, PrintsLine, PrintsLines}
@@ -34,14 +35,38 @@ prints-more acts lines line found between left old mid new before one = record {
   text = text_after old mid new before.groups one.group before.text one.text;
 }
 
--- The line at a place is between those before it and those after it.
-pub split_at : {L : Type 0} (lines before : List L) (line : L) → map (λ l. l) before ≡ take (length before) lines → length before < length lines → line ≡ get_or lines (length before) line → lines ≡ before ++ line ∷ drop (length before + 1) lines
-split_at lines before line front within at =
-    let n = length before in
-    let same : before ≡ take n lines = sym (map-id before) ∙ front in
-    let back : drop n lines ≡ get_or lines n line ∷ drop (n + 1) lines = rw add-one (drop-cons lines n line within) in
-    sym (take-append-drop n lines) ∙ ap (λ f. f ++ drop n lines) (sym same) ∙ ap (λ b. before ++ b) (back ∙ ap (λ l. l ∷ drop (n + 1) lines) (sym at))
-
 -- the same with nothing appended since
 pub prints-to : {S L : Type 0} {acts : S → L → List (List ℕ) → S → Type 0} {lines : List L} {found left : S} {old mid new : List ℕ} → PrintsLines acts found lines left old mid → new ≡ mid → PrintsLines acts found lines left old new
 prints-to done same = record { groups = done.groups; acted = done.acted; text = same ∙ done.text }
+
+-- Of the lines `all` those before `left` ran.
+pub record RanSoFar {S L : Type 0} (acts : S → L → List (List ℕ) → S → Type 0) (found : S) (all left : List L) (now : S) (old new : List ℕ) : Type 0 where
+  pub done : List L
+  pub split : all ≡ done ++ left
+  pub printed : PrintsLines acts found done now old new
+
+-- None has run yet.
+pub ran-none : {S L : Type 0} (acts : S → L → List (List ℕ) → S → Type 0) (found : S) (all : List L) (old : List ℕ) → RanSoFar acts found all all found old old
+ran-none acts found all old = record { done = []; split = refl; printed = prints-none acts found old }
+
+-- One line more.
+pub ran-more : {S L : Type 0} (acts : S → L → List (List ℕ) → S → Type 0) (found : S) (all before : List L) (line : L) (left : List L) (between now : S) (old mid new : List ℕ) → RanSoFar acts found all before between old mid → before ≡ line ∷ left → PrintsLine (acts between line) now mid new → RanSoFar acts found all left now old new
+ran-more acts found all before line left between now old mid new ran is one = record {
+  done = ran.done ++ line ∷ [];
+  split = ran.split ∙ ap (λ l. ran.done ++ l) is ∙ sym (append_assoc ran.done (line ∷ []) left);
+  printed = prints-more acts ran.done line found between now old mid new ran.printed one;
+}
+
+-- All ran.
+pub ran-all : {S L : Type 0} (acts : S → L → List (List ℕ) → S → Type 0) (found : S) (all left : List L) (now : S) (old new : List ℕ) → RanSoFar acts found all left now old new → left ≡ [] → PrintsLines acts found all now old new
+ran-all acts found all left now old new ran is =
+    let same : all ≡ ran.done = ran.split ∙ ap (λ l. ran.done ++ l) is ∙ append-nil ran.done in
+    subst (λ lines. PrintsLines acts found lines now old new) (sym same) ran.printed
+
+all-after : {L : Type 0} (P : L → Type 0) (done : List L) (line : L) (after : List L) → All P (done ++ line ∷ after) → P line
+all-after P done line after every =
+    subst P (get_or-append_seam done line after line) (every (length done) line (omega (arith, length-append done (line ∷ after))))
+
+-- What holds of all lines holds of the next one.
+pub taken-next : {S L : Type 0} {acts : S → L → List (List ℕ) → S → Type 0} {found now : S} {all left : List L} {old new : List ℕ} (takes : L → Type 0) (line : L) (after : List L) → RanSoFar acts found all left now old new → left ≡ line ∷ after → All takes all → takes line
+taken-next takes line after ran is every = all-after takes ran.done line after (subst (All takes) (ran.split ∙ ap (λ l. ran.done ++ l) is) every)

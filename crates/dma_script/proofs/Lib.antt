@@ -13,6 +13,7 @@ pub mod NumberLemmas
 pub mod PairLemmas
 pub mod Parts
 pub mod PlainLines
+pub mod QueueLemmas
 pub mod Within
 pub mod Reading
 pub mod RowLemmas

@@ -6,12 +6,7 @@ use Rattle.dma_script.specs.Words.{hex_digit_of, hex_pair_of}
 use Rattle.dma_script.specs.Lines.{◌>>=◌}
 use Rattle.dma_script.specs.declared.fault.Fault.{Fault}
 use Rattle.dma_script.specs.Pairs.{hex_fault, is_gap, pair_of, pairs_from}
-
--- The bytes behind those read before, from a line on.
-abbrev pub pairs_after : List ℕ → ℕ → List ℕ → Result (List ℕ) Fault
-pairs_after before line rest = do
-  more ← pairs_from line rest
-  Ok (before ++ more)
+use Rattle.dma_script.specs.inner.Digits.{pairs_after}
 
 -- One more gap, a line feed or another.
 pub pairs_after_feed : (before : List ℕ) (line : ℕ) (rest : List ℕ) → 1 ≤ length rest → is_gap (get_or rest 0 0) ≡ true → get_or rest 0 0 ≡ 10 → pairs_after before (line + 1) (drop 1 rest) ≡ pairs_after before line rest

@@ -1,15 +1,19 @@
 -- What is read of a line's words, value by value.
-use Rattle.std.proofs.Common.{◌≡◌, ℕ, ◌<◌, ◌≤◌, ◌⊎◌, inl, inr, refl, ap, ◌∙◌, sym, List, Result, Ok, Err}
+use Rattle.std.proofs.Common.{◌≡◌, ℕ, ◌<◌, ◌≤◌, ◌⊎◌, inl, inr, refl, ap, ◌∙◌, sym, List, [], ◌∷◌, ◌++◌, Some, Result, Ok, Err}
 use Rattle.std.proofs.lemmas.Bool.{le-leb, lt-leb}
-use Rattle.dma_script.specs.Lines.{◌>>=◌}
+use Rattle.dma_script.specs.Lines.{◌>>=◌, Gives}
 use Rattle.dma_script.specs.Plan.{transfer_line}
-use Rattle.dma_script.specs.Race.{job_line, last_channel}
-use Rattle.dma_script.specs.Statements.{largest_size, later_line, memory_line, most_channels}
-use Rattle.dma_script.specs.inner.Reading.{LineRead, both_from, ended, number_from, statement_from, transfer_from, unread, within_from}
+use Rattle.dma_script.specs.Race.{RaceRead, job_line, last_channel, line_beside_go}
+use Rattle.dma_script.specs.Statements.{largest_size, later_line, memory_line, most_channels, next_line}
+use Rattle.dma_script.specs.inner.Reading.{LineRead, added_to, both_from, ended, line_added, number_from, statement_added, statement_from, transfer_from, unread, within_from}
 use Rattle.dma_script.specs.declared.fault.Cause.{Cause}
 use Rattle.dma_script.specs.declared.fault.Cause.TheVariants as causes
+use Rattle.dma_script.specs.declared.fault.ReadError.{ReadError}
+use Rattle.dma_script.specs.declared.fault.ReadError.TheVariants.{Fault, NoMemory}
 use Rattle.dma_script.specs.declared.plan.TransferLine.{TransferLine}
+use Rattle.dma_script.specs.declared.race.RaceKeyword.TheVariants.{Line}
 use Rattle.dma_script.specs.declared.statements.Keyword.{Keyword}
+use Rattle.dma_script.specs.declared.statements.RunScript.{RunScript}
 use Rattle.dma_script.specs.declared.statements.Statement.{Statement}
 use Rattle.dma_script.proofs.Agreement.{job_agrees, job_of, memory_agrees, script_of, statement_agrees, transfer_agrees, whole}
 
@@ -26,6 +30,56 @@ transfer_read words transfer line done e is = sym (transfer_agrees words).same �
 pub statement_read : (keyword : Keyword) (words : List (List ℕ)) (statement : Statement) (line : LineRead) (done : Result (Unit {0}) Cause) → statement_from keyword (unread words) ≡ Ok (statement, line) → done ≡ ended line
     → later_line keyword words ≡ (done >>= (λ u. Ok statement))
 statement_read keyword words statement line done e is = sym (statement_agrees keyword words).same ∙ ap (λ read. read >>= whole) e ∙ ap (λ done. done >>= (λ u. Ok statement)) (sym is)
+
+line_read_at : (keyword : Keyword) (words : List (List ℕ)) (before after : List Statement) (line : LineRead) (done : Result (Unit {0}) Cause) (read : Result (Statement × LineRead) Cause) → statement_from keyword (unread words) ≡ read → (read >>= (λ r. added_to before r)) ≡ Ok (after, line) → done ≡ ended line
+    → line_added keyword before words ≡ (done >>= (λ u. Ok after))
+line_read_at keyword words before after line done (Err cause) from e is = absurd (let bad : Err cause ≡ Ok (after, line) = e in cc)
+line_read_at keyword words before after line done (Ok read) from e is =
+    let same : (before ++ read.0 ∷ [], read.1) ≡ (after, line) = cc in
+    let first : before ++ read.0 ∷ [] ≡ after = ap (λ (p : List Statement × LineRead). p.0) same in
+    let found = statement_read keyword words read.0 read.1 done from (is ∙ ap (λ (p : List Statement × LineRead). ended p.1) (sym same)) in
+    ap (λ found. found >>= (λ statement. Ok (before ++ statement ∷ []))) found
+    ∙ elim done as (λ d. ((d >>= (λ u. Ok read.0)) >>= (λ statement. Ok (before ++ statement ∷ []))) ≡ (d >>= (λ u. Ok after))) [
+      | Ok u ↦ ap Ok first
+      | Err cause ↦ refl
+    ]
+
+-- A statement that was added before the end of its line.
+pub line_read : (keyword : Keyword) (words : List (List ℕ)) (before after : List Statement) (line : LineRead) (done : Result (Unit {0}) Cause) → statement_added keyword before (unread words) ≡ Ok (after, line) → done ≡ ended line
+    → line_added keyword before words ≡ (done >>= (λ u. Ok after))
+line_read keyword words before after line done e is = line_read_at keyword words before after line done (statement_from keyword (unread words)) refl e is
+
+script_read_at : (keyword : Keyword) (words : List (List ℕ)) (script : RunScript) (after : Result (List Statement) Cause) (read : Result Statement Cause) → later_line keyword words ≡ read → (read >>= (λ statement. Ok (script.statements ++ statement ∷ []))) ≡ after
+    → next_line (Some script) keyword words ≡ (after >>= (λ statements. Ok (Some (record script { statements = statements }))))
+script_read_at keyword words script after (Err cause) from e = rw (from, ← e) refl
+script_read_at keyword words script after (Ok statement) from e = rw (from, ← e) refl
+
+-- A script and the line that was added to it.
+pub script_read : (keyword : Keyword) (words : List (List ℕ)) (script : RunScript) (after : Result (List Statement) Cause) → line_added keyword script.statements words ≡ after
+    → next_line (Some script) keyword words ≡ (after >>= (λ statements. Ok (Some (record script { statements = statements }))))
+script_read keyword words script after e = script_read_at keyword words script after (later_line keyword words) refl e
+
+pub script_given : (keyword : Keyword) (words : List (List ℕ)) (script : RunScript) (after : List Statement) (result : Result (Unit {0}) (ReadError Cause)) → Gives (λ _. after) result (line_added keyword script.statements words)
+    → Gives (λ _. Some (record script { statements = after })) result (next_line (Some script) keyword words)
+script_given keyword words script after (Ok u) gives = script_read keyword words script (Ok after) gives
+script_given keyword words script after (Err (Fault cause)) gives = script_read keyword words script (Err cause) gives
+script_given keyword words script after (Err NoMemory) gives = tt
+
+after_go_at : (keyword : Keyword) (words : List (List ℕ)) (race : RaceRead) (lines : List Statement) (after : Result (List Statement) Cause) (read : Result Statement Cause) → later_line keyword words ≡ read → (read >>= (λ statement. Ok (lines ++ statement ∷ []))) ≡ after
+    → line_beside_go (Some lines) race (Line keyword) words ≡ (after >>= (λ statements. Ok (record race { after = Some statements })))
+after_go_at keyword words race lines after (Err cause) from e = rw (from, ← e) refl
+after_go_at keyword words race lines after (Ok statement) from e = rw (from, ← e) refl
+
+after_go_read : (keyword : Keyword) (words : List (List ℕ)) (race : RaceRead) (lines : List Statement) (after : Result (List Statement) Cause) → line_added keyword lines words ≡ after
+    → line_beside_go (Some lines) race (Line keyword) words ≡ (after >>= (λ statements. Ok (record race { after = Some statements })))
+after_go_read keyword words race lines after e = after_go_at keyword words race lines after (later_line keyword words) refl e
+
+-- A race script and the line that was added behind its `go`.
+pub after_go_given : (keyword : Keyword) (words : List (List ℕ)) (race : RaceRead) (lines after : List Statement) (result : Result (Unit {0}) (ReadError Cause)) → Gives (λ _. after) result (line_added keyword lines words)
+    → Gives (λ _. record race { after = Some after }) result (line_beside_go (Some lines) race (Line keyword) words)
+after_go_given keyword words race lines after (Ok u) gives = after_go_read keyword words race lines (Ok after) gives
+after_go_given keyword words race lines after (Err (Fault cause)) gives = after_go_read keyword words race lines (Err cause) gives
+after_go_given keyword words race lines after (Err NoMemory) gives = tt
 
 -- A memory line before its end.
 pub memory_read : (words : List (List ℕ)) (size channels : ℕ) (between after : LineRead) (done : Result (Unit {0}) Cause)

@@ -1,15 +1,13 @@
 -- The words of a line, cut off one after another.
-use Rattle.std.proofs.Common.{◌≡◌, ◌==◌, ◌∙◌, ℕ, ◌+◌, ◌-◌, ◌<◌, ◌≤◌, true, false, not, List, [], ◌∷◌, ◌++◌, length, take, drop, filter, get_or, refl, sym, ap, arith, add-one, drop-cons, drop-drop, length-drop, inl, inr}
+use Rattle.std.proofs.Common.{◌≡◌, ◌==◌, ◌∙◌, ℕ, ◌+◌, ◌-◌, ◌<◌, ◌≤◌, true, false, not, List, [], ◌∷◌, ◌++◌, length, take, drop, filter, get_or, refl, sym, ap, arith, add-one, drop-cons, drop-drop, length-drop, inl, inr, Some, None}
 use Rattle.std.proofs.lemmas.List.{take_rest, length-take-le, take-append-drop, get_or-drop, get_or-take}
-use Rattle.std.proofs.lemmas.Bool.{cases_lt, false≢true, ne_eqb}
+use Rattle.std.proofs.lemmas.Bool.{cases_lt, false≢true, false_from_ne_true, ne_eqb}
 use Rattle.std.proofs.lemmas.Grind.{get_or_default_zero}
 use Rattle.std.proofs.lemmas.List.Splits.{slice_split_at, slice_split_none}
 use Rattle.std.specs.List.{slice_split}
 use Rattle.dma_script.specs.Words.{is_blank, words_of}
-
--- No byte is a blank from one place on up to another.
-abbrev pub NoBlank : List ℕ → ℕ → ℕ → Type 0
-NoBlank line start end = (k : ℕ) → start ≤ k → k < end → is_blank (get_or line k 0) ≡ false
+use Rattle.dma_script.specs.inner.Reading.{NoBlank}
+use Rattle.memchr.specs.Find.{IsFirstByte, is_byte2}
 
 -- a part of a line as a list: a part without a byte is no word
 abbrev kept_part : List ℕ → List (List ℕ)
@@ -83,3 +81,32 @@ word_at line end first within none blank =
 -- A line without a blank is a word.
 pub word_alone : (line : List ℕ) → 0 < length line → NoBlank line 0 (length line) → words_of line ≡ line ∷ []
 word_alone line some none = words_last line 0 none ∙ kept_some line some
+
+-- No blank up to a place, and none from there on.
+pub no_blank_joined : (line : List ℕ) (mid end : ℕ) → NoBlank line 0 mid → NoBlank line mid end → NoBlank line 0 end
+no_blank_joined line mid end before behind k after below = elim (cases_lt k mid) [
+  | inl less ↦ before k after less
+  | inr more ↦ behind k (omega arith) below
+]
+
+-- What a search for a blank finds in the rest of a line.
+pub rest_at : (line : List ℕ) (start k : ℕ) → get_or (take (length line - start) (drop start line)) k 0 ≡ get_or line (start + k) 0
+rest_at line start k = ap (λ (rest : List ℕ). get_or rest k 0) (take_rest line start) ∙ get_or-drop start line k 0
+
+found_before : (line : List ℕ) (start more : ℕ) → start ≤ length line → ((j : ℕ) → 0 ≤ j → j < more → is_blank (get_or (take (length line - start) (drop start line)) j 0) ≡ true → ⊥) → NoBlank line start (start + more)
+found_before line start more within before k after below =
+    let place : start + (k - start) ≡ k = omega arith in
+    ap (λ (j : ℕ). is_blank (get_or line j 0)) (sym place) ∙ ap is_blank (sym (rest_at line start (k - start)))
+    ∙ false_from_ne_true (is_blank (get_or (take (length line - start) (drop start line)) (k - start) 0)) (λ blank. before (k - start) (omega arith) (omega arith) blank)
+
+pub found_blank : (line : List ℕ) (start more : ℕ) → start ≤ length line → IsFirstByte (is_byte2 32 9) (take (length line - start) (drop start line)) (Some more) → (start + more < length line) × NoBlank line start (start + more) × (is_blank (get_or line (start + more) 0) ≡ true)
+found_blank line start more within h =
+    let some : start + more < length line = omega (arith, h.0.high, ap length (take_rest line start) ∙ length-drop start line) in
+    let none : NoBlank line start (start + more) = found_before line start more within h.0.before in
+    (some, none, ap is_blank (sym (rest_at line start more)) ∙ h.1)
+
+pub found_none : (line : List ℕ) (start : ℕ) → start ≤ length line → IsFirstByte (is_byte2 32 9) (take (length line - start) (drop start line)) None → NoBlank line start (length line)
+found_none line start within h k after below =
+    let place : start + (k - start) ≡ k = omega arith in
+    ap (λ (j : ℕ). is_blank (get_or line j 0)) (sym place) ∙ ap is_blank (sym (rest_at line start (k - start)))
+    ∙ false_from_ne_true (is_blank (get_or (take (length line - start) (drop start line)) (k - start) 0)) (λ blank. h (k - start) (omega arith) (omega (arith, ap length (take_rest line start) ∙ length-drop start line)) blank)

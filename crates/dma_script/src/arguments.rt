@@ -6,7 +6,8 @@ ghost use Rattle.dma_script.specs.inner.Reading.{LineRead, after_word, begins, b
 ghost use Rattle.dma_script.specs.Causes.{where_not};
 
 use crate::fault::Cause;
-use crate::words::{next_word, number, segment_in, without_blanks};
+use crate::pairs::spaced_pairs;
+use crate::words::{is_blank, next_word, number, segment_in, without_blanks};
 use dma_mem::lists::{Bytes, Segments};
 use dma_mem::segment::Segment;
 use dma_text::bytes::is_text;
@@ -250,13 +251,16 @@ fn read_hex(bytes: &mut Vec<u8>, line: &[u8]) -> Result<bool, AllocError>
     bytes.clear();
     // A byte takes at least two digits, so this is room for all bytes.
     bytes.reserve(line.len() / 2)?;
-    let mut rest = without_blanks(line);
+    let mut rest = spaced_pairs(bytes, line);
     while let [high, low, after @ ..] = rest {
-        let Some(byte) = byte_in(*high, *low) else {
+        if let Some(byte) = byte_in(*high, *low) {
+            bytes.push_reserved(byte);
+            rest = after;
+        } else if is_blank(*high) {
+            rest = spaced_pairs(bytes, &rest[1..]);
+        } else {
             return Ok(false);
-        };
-        bytes.push_reserved(byte);
-        rest = without_blanks(after);
+        }
     }
-    Ok(rest.is_empty())
+    Ok(without_blanks(rest).is_empty())
 }

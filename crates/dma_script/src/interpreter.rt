@@ -36,24 +36,41 @@ pub trait Interpreter {
         ensures err { OnErr result (out.new.items ≡ out.old.items) };
 }
 
+/// Lines that are taken one after another.
+pub trait Lines {
+    ghost use Rattle.std.specs.Prelude.{List, [], ◌∷◌, ◌≡◌, MatchOption};
+
+    /// A line.
+    type Line;
+
+    // The lines that were not taken yet.
+    ghost left: { Self → List Self.Line };
+
+    /// Returns the next line, or `None` if all were taken.
+    fn next_line(&mut self) -> Option<Self::Line>
+        ensures { MatchOption result
+            (left self.old ≡ []) (λ line. left self.old ≡ line ∷ left self.new) };
+}
+
 /// Runs lines one after another, and drops each after its run.
 ///
 /// If a line is out of memory, fails without running the lines after it. The complete text of the lines before it has
 /// been appended, so no printed text is lost, and text is missing only after such a failure.
-pub fn interpret_lines<I: Interpreter>(
+pub fn interpret_lines<I: Interpreter, L: Lines<Line = I::Line> + Drop>(
     interpreter: &mut I,
-    lines: Vec<I::Line>,
+    lines: L,
     out: &mut Vec<u8>,
 ) -> Result<(), AllocError>
-    requires taken { All I.takes lines.items }
+    requires taken { All I.takes (L.left lines) }
     requires ready { I.is_ready interpreter.old }
     ensures ok { OnOk result (PrintsLines I.acts
-        interpreter.old lines.items interpreter.new out.old.items out.new.items) }
+        interpreter.old (L.left lines) interpreter.new out.old.items out.new.items) }
     ensures ready_again { OnOk result (I.is_ready interpreter.new) }
     ensures err { OnErr result (StopsAtALine I.acts I.is_refused
-        interpreter.old lines.items interpreter.new out.old.items out.new.items) }
+        interpreter.old (L.left lines) interpreter.new out.old.items out.new.items) }
 {
-    for line in lines {
+    let mut lines = lines;
+    while let Some(line) = lines.next_line() {
         interpreter.interpret(line, out)?;
     }
     Ok(())

@@ -24,6 +24,7 @@ pub mod output;
 pub mod pairs;
 pub mod plan;
 pub mod printing;
+mod queue;
 pub mod race;
 pub mod statements;
 mod words;

@@ -34,13 +34,6 @@ impl<T: Drop> List<T> {
         self.items.as_slice()
     }
 
-    /// Returns the items as a `Vec`.
-    pub fn into_vec(self) -> Vec<T>
-        ensures { result.items ≡ self }
-    {
-        self.items
-    }
-
     /// Adds an item at the end. If it is out of memory, the list is unchanged.
     #[inline(always)]
     pub(crate) fn push(&mut self, item: T) -> Result<(), AllocError>

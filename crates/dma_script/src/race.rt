@@ -148,7 +148,7 @@ impl RaceSoFar {
             }
             RaceKeyword::Go => {
                 Arguments::new(words).end()?;
-                self.after = Some(List::new(alloc));
+                self.after = Some(Statements::new(alloc));
             }
         }
         Ok(())
@@ -173,8 +173,7 @@ impl Script for RaceSoFar {
         let RaceKeyword::Line(keyword) = keyword else {
             return Err(LineError::Fault(Cause::Command));
         };
-        after.push(later_line(alloc, &mut self.before.bytes, keyword, words)?)?;
-        Ok(())
+        later_line(alloc, &mut self.before.bytes, keyword, words, after)
     }
 }
 

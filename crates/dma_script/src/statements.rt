@@ -2,15 +2,15 @@
 ghost use Rattle.std.specs.Prelude.{◌≡◌, IfOk};
 ghost use Rattle.dma_script.specs.Lines.{Gives};
 ghost use Rattle.dma_script.specs.Words.{words_of};
-ghost use Rattle.dma_script.specs.Statements.{IsWithin, first_line, keyword_of, later_line, run_script_of};
-ghost use Rattle.dma_script.specs.inner.Reading.{kind_from, statement_from};
+ghost use Rattle.dma_script.specs.Statements.{IsWithin, first_line, keyword_of, run_script_of};
+ghost use Rattle.dma_script.specs.inner.Reading.{kind_from, line_added, statement_added};
 
 use crate::arguments::Arguments;
 pub use crate::arguments::MAX_STEPS;
 use crate::fault::{Cause, LineError, ScriptError, missing};
 use crate::lines::{Script, read_script};
-use crate::list::List;
 use crate::plan::{TransferLine, transfer};
+pub use crate::queue::Statements;
 use crate::words::next_word;
 use dma_mem::lists::{Bytes, Segments};
 use dma_mem::marks::MarkKind;
@@ -113,9 +113,6 @@ pub enum Statement {
     Totals,
 }
 
-/// A list of statements.
-pub type Statements = List<Statement>;
-
 /// A run script: its memory line, and the lines after that.
 #[derive(Debug, Drop)]
 pub struct RunScript {
@@ -155,6 +152,7 @@ pub(crate) fn keyword_in(word: &[u8]) -> Option<Keyword>
 }
 
 /// Reads the first line, `memory SIZE CHANNELS`. Fails with `First` for any other keyword.
+#[inline(never)]
 pub(crate) fn first_line(alloc: Global, keyword: Keyword, words: &[u8]) -> Result<RunScript, Cause>
     ensures { result ≡ first_line keyword (words_of words.now) }
 {
@@ -168,7 +166,7 @@ pub(crate) fn first_line(alloc: Global, keyword: Keyword, words: &[u8]) -> Resul
     Ok(RunScript {
         size,
         channels,
-        statements: List::new(alloc),
+        statements: Statements::new(alloc),
     })
 }
 
@@ -183,79 +181,136 @@ fn mark_kind(words: &mut Arguments<'_>) -> MarkKind
     MarkKind::Writing
 }
 
-/// Reads the words of a line after the first. Fails with `First` for the keyword of the first line. `kept` is as in
-/// [`Arguments::bytes`].
+/// Reads `ADDR HEX` and adds the statement of a `write` line. `kept` is as in [`Arguments::bytes`].
+///
+/// The lines with bytes or lists have functions of their own that are not inlined, since the locals of all arms of a
+/// `match` are cleared whichever arm is taken.
+#[inline(never)]
+fn read_write(
+    alloc: Global,
+    kept: &mut Vec<u8>,
+    words: &mut Arguments<'_>,
+    statements: &mut Statements,
+) -> Result<(), LineError>
+    ensures { Gives (λ _. (statements.new, words.new)) result
+        (statement_added Keyword.Write statements.old words.old) }
+{
+    let addr = words.number();
+    let bytes = words.bytes(alloc, kept)?;
+    Ok(statements.push(Statement::Write { addr, bytes })?)
+}
+
+/// Reads `LIST to LIST` and adds the statement of a `copy` line.
+#[inline(never)]
+fn read_copy(
+    alloc: Global,
+    words: &mut Arguments<'_>,
+    statements: &mut Statements,
+) -> Result<(), LineError>
+    ensures { Gives (λ _. (statements.new, words.new)) result
+        (statement_added Keyword.Copy statements.old words.old) }
+{
+    let src = words.list(alloc)?;
+    let dst = words.to_list(alloc)?;
+    Ok(statements.push(Statement::Copy(CopyLine { src, dst }))?)
+}
+
+/// Reads `ADDR to LIST` and adds the statement of a `fill` line.
+#[inline(never)]
+fn read_fill(
+    alloc: Global,
+    words: &mut Arguments<'_>,
+    statements: &mut Statements,
+) -> Result<(), LineError>
+    ensures { Gives (λ _. (statements.new, words.new)) result
+        (statement_added Keyword.Fill statements.old words.old) }
+{
+    let src = words.number();
+    let dst = words.to_list(alloc)?;
+    Ok(statements.push(Statement::Fill { src, dst })?)
+}
+
+/// Reads a channel and a transfer, and adds the statement of a `submit` line.
+#[inline(never)]
+fn read_submit(
+    alloc: Global,
+    words: &mut Arguments<'_>,
+    statements: &mut Statements,
+) -> Result<(), LineError>
+    ensures { Gives (λ _. (statements.new, words.new)) result
+        (statement_added Keyword.Submit statements.old words.old) }
+{
+    let ch = words.byte();
+    let transfer = transfer(alloc, words)?;
+    Ok(statements.push(Statement::Submit { ch, transfer })?)
+}
+
+/// Reads the words of a line after the first, and adds its statement. Fails with `First` for the keyword of the first
+/// line. `kept` is as in [`Arguments::bytes`].
 #[inline(always)]
 fn read_statement(
     alloc: Global,
     kept: &mut Vec<u8>,
     keyword: Keyword,
     words: &mut Arguments<'_>,
-) -> Result<Statement, LineError>
-    ensures { Gives (λ line. (line, words.new)) result (statement_from keyword words.old) }
+    statements: &mut Statements,
+) -> Result<(), LineError>
+    ensures { Gives (λ _. (statements.new, words.new)) result
+        (statement_added keyword statements.old words.old) }
 {
     match keyword {
         Keyword::Memory => Err(LineError::Fault(Cause::First)),
-        Keyword::Write => Ok(Statement::Write {
-            addr: words.number(),
-            bytes: words.bytes(alloc, kept)?,
-        }),
-        Keyword::Read => Ok(Statement::Read(words.segment())),
-        Keyword::Copy => Ok(Statement::Copy(CopyLine {
-            src: words.list(alloc)?,
-            dst: words.to_list(alloc)?,
-        })),
-        Keyword::Fill => Ok(Statement::Fill {
-            src: words.number(),
-            dst: words.to_list(alloc)?,
-        }),
-        Keyword::Submit => Ok(Statement::Submit {
-            ch: words.byte(),
-            transfer: transfer(alloc, words)?,
-        }),
-        Keyword::Issue => Ok(Statement::Issue { ch: words.byte() }),
-        Keyword::Pause => Ok(Statement::Pause { ch: words.byte() }),
-        Keyword::Resume => Ok(Statement::Resume { ch: words.byte() }),
-        Keyword::Terminate => Ok(Statement::Terminate { ch: words.byte() }),
-        Keyword::Step => Ok(Statement::Step {
+        Keyword::Write => read_write(alloc, kept, words, statements),
+        Keyword::Read => Ok(statements.push(Statement::Read(words.segment()))?),
+        Keyword::Copy => read_copy(alloc, words, statements),
+        Keyword::Fill => read_fill(alloc, words, statements),
+        Keyword::Submit => read_submit(alloc, words, statements),
+        Keyword::Issue => Ok(statements.push(Statement::Issue { ch: words.byte() })?),
+        Keyword::Pause => Ok(statements.push(Statement::Pause { ch: words.byte() })?),
+        Keyword::Resume => Ok(statements.push(Statement::Resume { ch: words.byte() })?),
+        Keyword::Terminate => Ok(statements.push(Statement::Terminate { ch: words.byte() })?),
+        Keyword::Step => Ok(statements.push(Statement::Step {
             ch: words.byte(),
             count: words.count(),
-        }),
-        Keyword::Status => Ok(Statement::Status {
+        })?),
+        Keyword::Status => Ok(statements.push(Statement::Status {
             ch: words.byte(),
             cookie: words.number(),
-        }),
-        Keyword::Result => Ok(Statement::Result {
+        })?),
+        Keyword::Result => Ok(statements.push(Statement::Result {
             ch: words.byte(),
             cookie: words.number(),
-        }),
-        Keyword::Mark => Ok(Statement::Mark {
+        })?),
+        Keyword::Mark => Ok(statements.push(Statement::Mark {
             kind: mark_kind(words),
             segment: words.segment(),
-        }),
-        Keyword::Unmark => Ok(Statement::Unmark),
-        Keyword::Raise => Ok(Statement::Raise {
+        })?),
+        Keyword::Unmark => Ok(statements.push(Statement::Unmark)?),
+        Keyword::Raise => Ok(statements.push(Statement::Raise {
             event: words.byte(),
-        }),
-        Keyword::Checkpoint => Ok(Statement::Checkpoint),
-        Keyword::Totals => Ok(Statement::Totals),
+        })?),
+        Keyword::Checkpoint => Ok(statements.push(Statement::Checkpoint)?),
+        Keyword::Totals => Ok(statements.push(Statement::Totals)?),
     }
 }
 
-/// Reads a line after the first, as [`read_statement`] does.
+/// Reads a line after the first and adds its statement, as [`read_statement`] does. After an error nothing is known of
+/// `statements`.
 #[inline(always)]
 pub(crate) fn later_line(
     alloc: Global,
     kept: &mut Vec<u8>,
     keyword: Keyword,
     words: &[u8],
-) -> Result<Statement, LineError>
-    ensures { Gives (λ line. line) result (later_line keyword (words_of words.now)) }
+    statements: &mut Statements,
+) -> Result<(), LineError>
+    ensures { Gives (λ _. statements.new) result
+        (line_added keyword statements.old (words_of words.now)) }
 {
     let mut words = Arguments::new(words);
-    let line = read_statement(alloc, kept, keyword, &mut words)?;
+    read_statement(alloc, kept, keyword, &mut words, statements)?;
     words.end()?;
-    Ok(line)
+    Ok(())
 }
 
 /// The part of a run script that was read so far, which contracts see: nothing before the memory line.
@@ -300,12 +355,15 @@ impl ReadSoFar {
         ensures { Gives (λ _. self.new) result (next_line self.old keyword (words_of words.now)) }
     {
         match &mut self.script {
-            None => self.script = Some(first_line(alloc, keyword, words)?),
-            Some(script) => script
-                .statements
-                .push(later_line(alloc, &mut self.bytes, keyword, words)?)?,
+            None => {
+                self.script = Some(first_line(alloc, keyword, words)?);
+                Ok(())
+            }
+            Some(script) => {
+                let statements = &mut script.statements;
+                later_line(alloc, &mut self.bytes, keyword, words, statements)
+            }
         }
-        Ok(())
     }
 }
 
@@ -328,6 +386,7 @@ impl Script for ReadSoFar {
 }
 
 /// Reads a whole run script, or fails with its first fault or `NoMemory`. Runs none of it.
+#[inline(never)]
 pub fn read_run_script(alloc: Global, input: &[u8]) -> Result<RunScript, ScriptError>
     ensures script { Gives (λ script. script) result (run_script_of input.now) }
     ensures within { IfOk result IsWithin }

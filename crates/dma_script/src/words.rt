@@ -1,12 +1,14 @@
 //! The words of a line, and what a word spells.
-ghost use Rattle.std.specs.Prelude.{◌≡◌, ◌==◌, ◌||◌, ◌∷◌, [], ◌<◌, ◌≤◌, MatchOption, false, length, position, slice_index};
+ghost use Rattle.std.specs.Prelude.{◌≡◌, ◌==◌, ◌||◌, ◌∷◌, [], ◌<◌, ◌≤◌, MatchOption, false, true, length, position, slice_index};
 ghost use Rattle.std.specs.List.{list_all};
 ghost use Rattle.std.specs.Str.Lines.{lines, strip_carriage_return};
 ghost use Rattle.dma_script.specs.Words.{is_blank, is_plain, segment_of, words_of, number_of, number_in};
+ghost use Rattle.dma_script.specs.inner.Reading.{NoBlank};
 
 use dma_mem::segment::Segment;
 use dma_text::bytes::position_of;
 use dma_text::digits::digit_value;
+use memchr::memchr2;
 
 /// Returns the line without a carriage return at its end.
 fn without_return(line: &[u8]) -> &[u8]
@@ -54,18 +56,42 @@ pub(crate) fn without_blanks(line: &[u8]) -> &[u8]
     rest
 }
 
+/// The most bytes of a word that are compared one by one with a blank. Most words are shorter.
+const NEAR: usize = 16;
+
+/// Returns the place of the first blank from `start` on. Compares many bytes at a time.
+#[inline(never)]
+fn blank_from(line: &[u8], start: usize) -> Option<usize>
+    requires { start ≤ length line.now }
+    ensures { MatchOption result (NoBlank line.now start (length line.now))
+        (λ end. (end < length line.now) × NoBlank line.now start end
+        × (is_blank (slice_index line.now end) ≡ true)) }
+{
+    match memchr2(b' ', b'\t', &line[start..]) {
+        Some(more) => Some(start + more),
+        None => None,
+    }
+}
+
 /// Returns the word at the front of a line, and the rest of the line after the blank that ends the word.
 fn cut_word(line: &[u8]) -> (&[u8], &[u8])
     requires some { 0 < length line.now }
     requires first { is_blank (slice_index line.now 0) ≡ false }
     ensures { words_of line.now ≡ result.0.now ∷ words_of result.1.now }
 {
-    for end in 0..line.len() {
+    let near = line.len().min(NEAR);
+    for end in 0..near {
         if is_blank(line[end]) {
             return (&line[..end], &line[end + 1..]);
         }
     }
-    (line, &[])
+    if near == line.len() {
+        return (line, &[]);
+    }
+    match blank_from(line, near) {
+        Some(end) => (&line[..end], &line[end + 1..]),
+        None => (line, &[]),
+    }
 }
 
 /// Returns the first word of a line and the rest of the line, or `None` if there is no word.

@@ -71,6 +71,46 @@ pub(crate) fn answer_call(
     print_line(out, &Shown((&call, &reply)))
 }
 
+/// Executes `pause CH`.
+#[inline(never)]
+pub(crate) fn answer_pause(engine: &mut Engine, ch: u8, out: &mut Vec<u8>) -> Result<(), AllocError>
+    ensures { RunsLine (call_answer engine.old.view (Call.Pause ch)) engine.new.view
+        result out.old.items out.new.items }
+{
+    match engine.pause(ch) {
+        Ok(()) => print_line(out, &"ok"),
+        Err(fault) => print_line(out, &("refused ", Shown(fault))),
+    }
+}
+
+/// Executes `resume CH`.
+#[inline(never)]
+pub(crate) fn answer_resume(
+    engine: &mut Engine,
+    ch: u8,
+    out: &mut Vec<u8>,
+) -> Result<(), AllocError>
+    ensures { RunsLine (call_answer engine.old.view (Call.Resume ch)) engine.new.view
+        result out.old.items out.new.items }
+{
+    match engine.resume(ch) {
+        Ok(()) => print_line(out, &"ok"),
+        Err(fault) => print_line(out, &("refused ", Shown(fault))),
+    }
+}
+
+/// Executes `issue CH`.
+#[inline(never)]
+pub(crate) fn answer_issue(engine: &mut Engine, ch: u8, out: &mut Vec<u8>) -> Result<(), AllocError>
+    ensures { RunsLine (call_answer engine.old.view (Call.Issue ch)) engine.new.view
+        result out.old.items out.new.items }
+{
+    match engine.issue(ch) {
+        Ok(count) => print_line(out, &("issued ", count)),
+        Err(fault) => print_line(out, &("refused ", Shown(fault))),
+    }
+}
+
 /// Executes `write ADDR HEX`. The bytes are moved into the history.
 #[inline(never)]
 pub(crate) fn answer_write(

@@ -1,15 +1,16 @@
 -- How the reader of a line goes through its words, one after another, for the contracts of private functions. Of each
 -- of the three tests of words (their count, their form, and the ranges of numbers), the first fault is kept until the
 -- end of the line. What a line means is in `Arguments`, `Plan`, `Statements` and `Race`.
-use Rattle.std.specs.Prelude.{ℕ, ◌&&◌, ◌||◌, Bool, true, false, not, if◌then◌else◌, List, [], ◌∷◌, Option, Some, None, Result, Ok, Err, is_some, unwrap_or, codes}
+use Rattle.std.specs.Prelude.{◌≡◌, ◌<◌, ◌≤◌, slice_index, ℕ, ◌&&◌, ◌||◌, Bool, true, false, not, if◌then◌else◌, List, [], ◌∷◌, ◌++◌, Option, Some, None, Result, Ok, Err, is_some, unwrap_or, codes}
 use Rattle.std.specs.Option.{option_or}
 use Rattle.std.specs.Str.{bytes_eq}
 use Rattle.dma_mem.specs.declared.marks.MarkKind.{MarkKind}
 use Rattle.dma_mem.specs.declared.marks.MarkKind.TheVariants.{Reading, Writing}
 use Rattle.dma_mem.specs.declared.segment.Segment.{Segment}
-use Rattle.dma_script.specs.Words.{number_of, segment_of, list_of}
+use Rattle.dma_script.specs.Words.{is_blank, number_of, segment_of, list_of}
 use Rattle.dma_script.specs.Arguments.{bytes_at, lies_in}
-use Rattle.dma_script.specs.Statements.{most_steps}
+use Rattle.dma_script.specs.Lines.{◌>>=◌}
+use Rattle.dma_script.specs.Statements.{later_line, most_steps}
 use Rattle.dma_script.specs.Causes.{where_not, number_or_zero, cause_reported}
 use Rattle.dma_script.specs.declared.fault.Cause.{Cause}
 use Rattle.dma_script.specs.declared.fault.Cause.TheVariants as causes
@@ -20,6 +21,10 @@ use Rattle.dma_script.specs.declared.statements.Keyword.{Keyword}
 use Rattle.dma_script.specs.declared.statements.Keyword.TheVariants as keywords
 use Rattle.dma_script.specs.declared.statements.Statement.{Statement}
 use Rattle.dma_script.specs.declared.statements.Statement.TheVariants as statements
+
+-- No byte is a blank from one place on up to another.
+abbrev pub NoBlank : List ℕ → ℕ → ℕ → Type 0
+NoBlank line start end = (k : ℕ) → start ≤ k → k < end → is_blank (slice_index line k) ≡ false
 
 -- succeeds, unless there is a cause
 abbrev pub unless : Option Cause → Result (Unit {0}) Cause
@@ -204,3 +209,19 @@ statement_from keywords.Unmark line = Ok (statements.Unmark, line)
 statement_from keywords.Raise line = one_from byte_from (λ event. statements.Raise event) line
 statement_from keywords.Checkpoint line = Ok (statements.Checkpoint, line)
 statement_from keywords.Totals line = Ok (statements.Totals, line)
+
+-- statements and one more, and the line after it
+abbrev pub added_to : List Statement → Statement × LineRead → Result (List Statement × LineRead) Cause
+added_to before read = Ok (before ++ read.0 ∷ [], read.1)
+
+-- statements and one more, which a keyword and the words after it spell, and the line after them
+abbrev pub statement_added : Keyword → List Statement → LineRead → Result (List Statement × LineRead) Cause
+statement_added keyword before line = do
+  read ← statement_from keyword line
+  added_to before read
+
+-- statements and that of a line after the first, by its keyword and the words after it
+abbrev pub line_added : Keyword → List Statement → List (List ℕ) → Result (List Statement) Cause
+line_added keyword before words = do
+  statement ← later_line keyword words
+  Ok (before ++ statement ∷ [])

@@ -167,5 +167,5 @@ pub fn run_early_statements<N: DeskName, R: Wait>(
     ensures err { OnErr result (PrintsFirst lines out.old.items out.new.items) }
 {
     let mut desk = LinesOnDesk { rt, shared, reader };
-    interpret_lines(&mut desk, lines.into_vec(), out)
+    interpret_lines(&mut desk, lines, out)
 }

@@ -1,15 +1,14 @@
 -- Reading the rest behind the bytes so far is reading the whole line, and there is room for a byte for each two.
-use Rattle.std.proofs.Common.{◌≡◌, ◌+◌, ◌*◌, ◌/◌, ◌<◌, ◌≤◌, false, length, slice_index}
-use Rattle.dma_script.specs.Words.{is_blank, words_of}
+use Rattle.std.proofs.Common.{◌≡◌, ◌+◌, ◌*◌, ◌/◌, ◌≤◌, length}
+use Rattle.dma_script.specs.Words.{words_of}
 use Rattle.dma_script.specs.Arguments.{bytes_at}
-use Rattle.dma_script.proofs.HexLemmas.{bytes_after}
+use Rattle.dma_script.specs.inner.Digits.{bytes_after}
 use Rattle.dma_script.proofs.arguments.read_hex.Given as goal
 
 abbrev pub invariant-loop-rest : goal.invariant-loop-rest
 invariant-loop-rest l = record {
   room : 2 * length l.bytes.items + length l.rest ≤ length l.line;
   capacity : length l.line / 2 ≤ l.bytes.cap;
-  digit : 0 < length l.rest → is_blank (slice_index l.rest 0) ≡ false;
   reads : bytes_after l.bytes.items (words_of l.rest) ≡ bytes_at (words_of l.line);
 }
 

@@ -1,0 +1,33 @@
+-- How the statements of a script are kept: the bytes of `write` lines, and the statements that have lists, are in lists
+-- of their own.
+use Rattle.std.specs.Prelude.{ℕ, List, [], ◌∷◌}
+use Rattle.dma_script.specs.declared.queue.Line.{Line}
+use Rattle.dma_script.specs.declared.queue.Line.TheVariants as lines
+use Rattle.dma_script.specs.declared.statements.Statement.{Statement}
+use Rattle.dma_script.specs.declared.statements.Statement.TheVariants as statements
+
+-- the statements of lines
+abbrev pub statements_in : List Line → List (List ℕ) → List Statement → List Statement
+statements_in [] bytes long = []
+statements_in (lines.Write addr ∷ rest) (first ∷ bytes) long = statements.Write addr first ∷ statements_in rest bytes long
+statements_in (lines.Write addr ∷ rest) [] long = []
+statements_in (lines.Read segment ∷ rest) bytes long = statements.Read segment ∷ statements_in rest bytes long
+statements_in (lines.Issue ch ∷ rest) bytes long = statements.Issue ch ∷ statements_in rest bytes long
+statements_in (lines.Pause ch ∷ rest) bytes long = statements.Pause ch ∷ statements_in rest bytes long
+statements_in (lines.Resume ch ∷ rest) bytes long = statements.Resume ch ∷ statements_in rest bytes long
+statements_in (lines.Terminate ch ∷ rest) bytes long = statements.Terminate ch ∷ statements_in rest bytes long
+statements_in (lines.Step ch count ∷ rest) bytes long = statements.Step ch count ∷ statements_in rest bytes long
+statements_in (lines.Status ch cookie ∷ rest) bytes long = statements.Status ch cookie ∷ statements_in rest bytes long
+statements_in (lines.Result ch cookie ∷ rest) bytes long = statements.Result ch cookie ∷ statements_in rest bytes long
+statements_in (lines.Long ∷ rest) bytes (first ∷ long) = first ∷ statements_in rest bytes long
+statements_in (lines.Long ∷ rest) bytes [] = []
+
+-- No line lacks its bytes or its statement.
+abbrev pub IsWhole : List Line → List (List ℕ) → List Statement → Type 0
+IsWhole [] [] [] = Unit {0}
+IsWhole [] _ _ = ⊥
+IsWhole (lines.Write addr ∷ rest) (first ∷ bytes) long = IsWhole rest bytes long
+IsWhole (lines.Write addr ∷ rest) [] long = ⊥
+IsWhole (lines.Long ∷ rest) bytes (first ∷ long) = IsWhole rest bytes long
+IsWhole (lines.Long ∷ rest) bytes [] = ⊥
+IsWhole (_ ∷ rest) bytes long = IsWhole rest bytes long

@@ -1,0 +1,137 @@
+//! The statements of a script, kept in little memory: most lines take 12 bytes.
+ghost use Rattle.std.specs.Prelude.{◌≡◌, ◌++◌, ◌∷◌, [], IfErr, IfOk, OnOk};
+ghost use Rattle.dma_script.specs.inner.Queued.{IsWhole, statements_in};
+
+use crate::interpreter::Lines;
+use crate::statements::Statement;
+use dma_mem::lists::Bytes;
+use dma_mem::segment::Segment;
+use std::alloc::{AllocError, Global};
+use std::collections::VecDeque;
+use std::marker::Model;
+
+/// A statement as it is kept, or where it is kept.
+#[derive(Clone, Copy, Debug, PartialEq, Eq, Drop)]
+enum Line {
+    /// A `write` line, whose bytes come next in `bytes`.
+    Write { addr: u32 },
+    Read(Segment),
+    Issue { ch: u8 },
+    Pause { ch: u8 },
+    Resume { ch: u8 },
+    Terminate { ch: u8 },
+    Step { ch: u8, count: u32 },
+    Status { ch: u8, cookie: u32 },
+    Result { ch: u8, cookie: u32 },
+    /// A statement that comes next in `long`.
+    Long,
+}
+
+/// Statements in the order of their lines. Contracts see the list of those that were not taken yet.
+#[derive(Debug, Drop)]
+pub struct Statements {
+    lines: VecDeque<Line>,
+    // The bytes of the `write` lines.
+    bytes: VecDeque<Bytes>,
+    // The statements that have lists, and those that are rare.
+    long: VecDeque<Statement>,
+}
+
+impl Model for Statements {
+    ghost use Rattle.std.specs.Prelude.{List};
+    ghost use Rattle.dma_script.specs.declared.statements.Statement.{Statement};
+    ghost use Rattle.dma_script.specs.inner.Queued.{IsWhole, statements_in};
+
+    ghost Value = { List Statement };
+
+    ghost view = { λ s. statements_in s.lines.items s.bytes.items s.long.items };
+
+    ghost invariant = { λ s. IsWhole s.lines.items s.bytes.items s.long.items };
+}
+
+/// Returns the line of a statement that needs no other list, or any other statement unchanged.
+#[inline(always)]
+fn short_line(statement: Statement) -> Result<Line, Statement>
+    ensures ok { IfOk result (λ line. statements_in (line ∷ []) [] [] ≡ statement ∷ []) }
+    ensures whole { IfOk result (λ line. IsWhole (line ∷ []) [] []) }
+    ensures err { IfErr result (λ other. other ≡ statement) }
+{
+    match statement {
+        Statement::Read(segment) => Ok(Line::Read(segment)),
+        Statement::Issue { ch } => Ok(Line::Issue { ch }),
+        Statement::Pause { ch } => Ok(Line::Pause { ch }),
+        Statement::Resume { ch } => Ok(Line::Resume { ch }),
+        Statement::Terminate { ch } => Ok(Line::Terminate { ch }),
+        Statement::Step { ch, count } => Ok(Line::Step { ch, count }),
+        Statement::Status { ch, cookie } => Ok(Line::Status { ch, cookie }),
+        Statement::Result { ch, cookie } => Ok(Line::Result { ch, cookie }),
+        other => Err(other),
+    }
+}
+
+impl Statements {
+    /// Returns a list without statements, which takes no memory.
+    pub(crate) fn new(alloc: Global) -> Statements
+        ensures { result ≡ [] }
+    {
+        Statements {
+            lines: VecDeque::new(alloc),
+            bytes: VecDeque::new(alloc),
+            long: VecDeque::new(alloc),
+        }
+    }
+
+    /// Adds a statement at the end.
+    #[inline(always)]
+    pub(crate) fn push(&mut self, statement: Statement) -> Result<(), AllocError>
+        ensures { OnOk result (self.new ≡ self.old ++ statement ∷ []) }
+    {
+        self.lines.reserve(1)?;
+        match short_line(statement) {
+            Ok(line) => {
+                self.lines.push_back_reserved(line);
+                Ok(())
+            }
+            Err(Statement::Write { addr, bytes }) => {
+                self.bytes.push_back(bytes)?;
+                self.lines.push_back_reserved(Line::Write { addr });
+                Ok(())
+            }
+            Err(long) => {
+                self.long.push_back(long)?;
+                self.lines.push_back_reserved(Line::Long);
+                Ok(())
+            }
+        }
+    }
+}
+
+impl Lines for Statements {
+    ghost use Rattle.std.specs.Prelude.{List};
+
+    type Line = Statement;
+
+    ghost left = { λ statements. statements };
+
+    #[inline(always)]
+    fn next_line(&mut self) -> Option<Statement> {
+        let Some(line) = self.lines.pop_front() else {
+            return None;
+        };
+        match line {
+            Line::Write { addr } => match self.bytes.pop_front() {
+                Some(bytes) => Some(Statement::Write { addr, bytes }),
+                None => unreachable!(),
+            },
+            Line::Read(segment) => Some(Statement::Read(segment)),
+            Line::Issue { ch } => Some(Statement::Issue { ch }),
+            Line::Pause { ch } => Some(Statement::Pause { ch }),
+            Line::Resume { ch } => Some(Statement::Resume { ch }),
+            Line::Terminate { ch } => Some(Statement::Terminate { ch }),
+            Line::Step { ch, count } => Some(Statement::Step { ch, count }),
+            Line::Status { ch, cookie } => Some(Statement::Status { ch, cookie }),
+            Line::Result { ch, cookie } => Some(Statement::Result { ch, cookie }),
+            Line::Long => self.long.pop_front(),
+        }
+    }
+}
