@@ -41,7 +41,7 @@ static void may_be_nonsecure(void)
 static void refuses_what_is_impossible(void)
 {
     const board_config good = {2, 4, false}, bad[] = {{0, 4, false}, {9, 4, false}, {2, 0, false}, {2, 33, false}};
-    dma330_region regions[9] = {{0x1000, m.bytes, 16}, {0x1010, m.bytes + 16, 16}};
+    dma330_region regions[65] = {{0x1000, m.bytes, 16, 0}, {0x1010, m.bytes + 16, 16, 0}};
 
     for (int n = 0; n < 4; n++)
         check(!board_open(&m.board, &bad[n], regions, 2), "a configuration", n);
@@ -49,15 +49,15 @@ static void refuses_what_is_impossible(void)
     check(!board_open(&m.board, &good, regions, 2), "regions that share an address", 0);
     regions[1].addr = 0x800;
     check(!board_open(&m.board, &good, regions, 2), "regions that don't rise", 0);
-    regions[1].addr = 0xFFFFEFF1;
+    regions[1].addr = 0xFFFFFFF0;
     check(!board_open(&m.board, &good, regions, 2), "a region that ends too high", 0);
-    for (uint32_t n = 0; n < 9; n++) {
+    for (uint32_t n = 0; n < 65; n++) {
         regions[n].addr = 0x1000 * n;
         regions[n].bytes = m.bytes + 16 * n;
         regions[n].len = 16;
     }
-    check(!board_open(&m.board, &good, regions, 9), "nine regions", 0);
-    check(board_open(&m.board, &good, regions, 8), "eight regions", 0);
+    check(!board_open(&m.board, &good, regions, 65), "65 regions", 0);
+    check(board_open(&m.board, &good, regions, 64), "64 regions", 0);
     board_close(&m.board);
 }
 

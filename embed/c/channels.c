@@ -1,8 +1,8 @@
-/* Runs each row of channels.txt in three ways: as it is; with a call for each single step, before which the channel is
- * saved and restored as another one; and with a heap whose allocations all fail, until a call that may be out of memory
- * is made again. Also checks that a call that fails writes nothing and changes no register, that each call has failed with
- * each code that dma330.h names for it, and that nothing is leaked. Link it with
- * -Wl,--wrap=malloc,--wrap=realloc,--wrap=free */
+/* Runs each row of channels.txt in three ways: as it is; with a call for each single step of a row of `step`, where the
+ * channel is saved and restored as another one before each call; and with a heap whose allocations all fail, until a
+ * call that may be out of memory is made again. Also checks that a call that fails writes nothing and changes no
+ * register, that each call has failed with each code that dma330.h names for it, and that nothing is leaked. Link it
+ * with -Wl,--wrap=malloc,--wrap=realloc,--wrap=free */
 #include "heap.h"
 #include "rows.h"
 #include "words.h"
@@ -10,7 +10,7 @@
 #include <stdio.h>
 #include <string.h>
 
-enum { RAM_BYTES = 1 << 23, MOST_REGIONS = 16, MOST_MARKS = 16, ANSWER_ROOM = 4096, UNWRITTEN = 0xA5 };
+enum { RAM_BYTES = 1 << 23, MOST_REGIONS = 80, MOST_MARKS = 16, ANSWER_ROOM = 4096, UNWRITTEN = 0xA5 };
 
 static enum { PLAIN, SAVED, WITHOUT_MEMORY, WAYS } way;
 static long passed, failed;
@@ -59,6 +59,7 @@ static void set_regions(const dma330_segment *list, size_t list_count)
         region->addr = list[region_count].addr;
         region->len = list[region_count++].len;
         region->bytes = at;
+        region->read_only = 0;
         memset(at, 0, region->len);
         at += region->len;
     }
@@ -135,13 +136,20 @@ static dma330_segment joined(dma330_segment a, dma330_segment b)
     return both;
 }
 
+static int32_t invoke_call(void)
+{
+    if (way == SAVED && channel.is_open && !replace_channel())
+        return DMA330_BAD_SAVE;
+    return dma330_channel_step(&channel, regions, region_count, &flags, given.numbers[0], &outputs.report);
+}
+
 static int32_t invoke_step(void)
 {
     uint32_t taken = 0, most = given.numbers[0];
     dma330_segment written = {0, 0};
     int32_t code;
     if (way != SAVED || !channel.is_open)
-        return dma330_channel_step(&channel, regions, region_count, &flags, most, &outputs.report);
+        return invoke_call();
     do {
         if (!replace_channel())
             return DMA330_BAD_SAVE;
@@ -220,6 +228,7 @@ static const struct call {
     {"load_text", "t", invoke_load_text, "OK"},
     {"load_from", "n", invoke_load_from, "OK NOT_OPEN BAD_REGIONS"},
     {"step", "n", invoke_step, "OK NOT_OPEN BAD_REGIONS NO_PROGRAM"},
+    {"call", "n", invoke_call, "OK"},
     {"stop", "", invoke_stop, "OK NOT_OPEN"},
     {"registers", "", invoke_registers, "OK NOT_OPEN"},
     {"mark", "knn", invoke_mark, "OK NOT_OPEN BAD_KIND BAD_RANGE NO_MEMORY"},
@@ -297,13 +306,13 @@ static int make_call(const struct call *c, int32_t *code)
 static int run_act(const char *word, const char *rest, answer *to)
 {
     static const char *const acts[] = {"regions", "s", "poke", "nb", "peek", "nn", "equal", "nnn", "raise", "n", "flags", "",
-                                       "saved", ""};
+                                       "saved", "", "rom", "n"};
     const uint32_t *numbers = given.numbers;
     uint32_t n;
     int line = 0;
-    while (line < 14 && strcmp(acts[line], word) != 0)
+    while (line < 16 && strcmp(acts[line], word) != 0)
         line += 2;
-    if (line == 14)
+    if (line == 16)
         return 0;
     read_arguments(acts[line + 1], rest, &given);
     append(to, "OK");
@@ -318,6 +327,8 @@ static int run_act(const char *word, const char *rest, answer *to)
         append(to, ", but not equal");
     if (line == 8)
         flags |= (uint32_t)1 << numbers[0];
+    if (line == 14)
+        regions[numbers[0]].read_only = 1;
     if (line == 10)
         append(to, " 0x%08lX", (unsigned long)flags);
     return 1;
@@ -342,7 +353,7 @@ static void run_row(const group *of, const row *next)
         is_failing = way == WITHOUT_MEMORY;
         is_ok = make_call(c, &code);
         append(&to, "%s", code_name(code));
-        if (code == DMA330_OK && c->invoke == invoke_step)
+        if (code == DMA330_OK && (c->invoke == invoke_step || c->invoke == invoke_call))
             append_report(&to, &outputs.report);
         if (code == DMA330_OK && c->invoke == invoke_registers)
             append_registers(&to, &outputs.registers);

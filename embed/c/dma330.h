@@ -1,16 +1,18 @@
 /* A verified software DMA controller (ARM DMA-330, memory to memory) for programs in C, from C89 on, and in C++.
  *
  * Link it with libdma330.a. docs/EMBEDDING.md has all duties of a caller; in short:
- * - A dma330_controller is DMA330_CONTROLLER_INIT (zeros) before its first call. Its members are the library's. An open one is
- *   not copied; it may be moved, and its old place is zeroed before it is used again.
+ * - Before its first call a dma330_controller is DMA330_CONTROLLER_INIT and a dma330_channel is DMA330_CHANNEL_INIT
+ *   (zeros). Their members are the library's: the caller doesn't change them. An open one is not copied; it may be
+ *   moved, and its old place is zeroed before it is used again.
  * - One call at a time uses it. Threads that share one take turns by a lock.
  * - No pointer is null, not even one to zero elements. No two pointers of a call overlap, except lists that are only read.
- *   While a call runs, nobody else writes what its pointers point to, or reads what it writes.
+ *   While a call runs, nobody else writes what its pointers point to, or reads what it writes, except a guest's running
+ *   processors, which may read and write the bytes of regions: see "Beside running processors" in docs/EMBEDDING.md.
  *
- * A call returns DMA330_OK or a code. Its comment lists its codes in the order in which they are tested; the first that
- * applies is returned. DMA330_NOT_OPEN comes before all others. A refused call, which returns a code other than DMA330_OK,
- * changes nothing and writes no output, except `*place` where the code has a place, and `*conflict` for DMA330_BUSY and
- * DMA330_RUNNING.
+ * A call returns DMA330_OK, which is 0, or a negative code; dma330_status returns a state instead of DMA330_OK. A
+ * call's comment lists its codes in the order in which they are tested; the first that applies is returned.
+ * DMA330_NOT_OPEN comes before all others. A refused call, which returns a negative code, changes nothing and writes no
+ * output, except `*place` where the code has a place, and `*conflict` for DMA330_BUSY and DMA330_RUNNING.
  *
  * Further duties: 32 KiB of stack are free; no call comes from a signal handler or from the child of a fork of a program with
  * threads; malloc, realloc and free are one allocator. Addresses and lengths of segments have 32 bits, channels and events 8:
@@ -26,7 +28,7 @@ extern "C" {
 #endif
 
 /* What dma330_version writes, and room for what it writes in any version. */
-#define DMA330_VERSION "dilkwafam 1.0"
+#define DMA330_VERSION "dilkwafam 1.1"
 #define DMA330_MAX_VERSION 32
 
 /* A controller that isn't open: dma330_controller controller = DMA330_CONTROLLER_INIT; (or one cleared by memset) */
@@ -44,7 +46,7 @@ extern "C" {
 #define DMA330_MAX_BYTES 1048576
 #define DMA330_MAX_PROGRAM 8192
 #define DMA330_MAX_CHANNELS 8
-#define DMA330_MAX_REGIONS 8
+#define DMA330_MAX_REGIONS 64
 #define DMA330_MAX_SAVE 8500
 
 /* Room for the text of a program of this many bytes, whatever its instructions are. */
@@ -98,11 +100,14 @@ typedef struct dma330_report {
     uint32_t residue; /* of DMA330_FINISHED: the number of its bytes that were not stored */
 } dma330_report;
 
-/* A part of the caller's memory, whose first byte is at address `addr`. */
+/* A part of the caller's memory, whose first byte is at address `addr`. An initializer that leaves out `read_only` sets
+ * it to 0; code that sets the members one by one must set it too. The struct grew with version 1.1: compile all callers
+ * with this header. */
 typedef struct dma330_region {
     uint32_t addr;
     uint8_t *bytes;
     size_t len;
+    uint32_t read_only; /* 0 for RAM; any other number for ROM: loads and programs read it, and stores to it fail */
 } dma330_region;
 
 /* A channel, which the caller keeps and steps over the caller's memory; its members are the library's own. */
@@ -111,7 +116,8 @@ typedef struct dma330_channel {
     uint8_t is_open;
 } dma330_channel;
 
-/* What dma330_channel_step did. A member is 0 unless its comment names the turn. */
+/* What dma330_channel_step did. A member is 0 unless its comment names the turn. The struct grew with version 1.1: compile all
+ * callers anew with this header. */
 typedef struct dma330_channel_report {
     uint32_t taken; /* the number of steps, the last one included, whatever it did */
     uint32_t turn;  /* what the last one did: enum dma330_channel_turn */
@@ -119,8 +125,8 @@ typedef struct dma330_channel_report {
     uint32_t fault; /* of DMA330_CHANNEL_FAULT: enum dma330_fault */
     uint32_t pc;    /* the offset of the next instruction: of WAITING and FAULT that of the one that waits or failed, of
                      * ENDED that of the DMAEND */
-    dma330_segment written; /* the range that the steps wrote: each byte in it, and no other byte of the regions; its len is 0
-                             * if they wrote nothing */
+    dma330_segment written; /* the range that the steps wrote: each byte in it, and no other byte of the regions; its
+                             * len is 0 if they wrote nothing */
 } dma330_channel_report;
 
 /* A channel's registers and counts. */
@@ -217,8 +223,8 @@ enum dma330_code {
     DMA330_RUNNING = -16,             /* a checkpoint, and a transfer runs */
     DMA330_BAD_CHANNELS = -20,        /* the number of channels isn't 1 to 8 */
     DMA330_SIZE_OUT_OF_RANGE = -21,   /* the size of a memory isn't 1 to 4294963200 */
-    DMA330_BAD_REGIONS = -22,         /* more than 8 regions, or not in rising order, or two share an address, or one ends above
-                                       * 4294963200 */
+    DMA330_BAD_REGIONS = -22,         /* more than 64 regions, or one begins before the end of the one before it (also
+                                       * if one of them is empty), or one ends above 4294967295 */
     DMA330_EMPTY_LIST = -30,          /* a list has no segment */
     DMA330_TOO_MANY_SEGMENTS = -31,   /* a list has more than 64 segments */
     DMA330_EMPTY_SEGMENT = -32,       /* a segment has length 0 */
@@ -228,7 +234,7 @@ enum dma330_code {
     DMA330_DESTINATIONS_MEET = -36,   /* two destination segments share an address */
     DMA330_SOURCE_MEETS_DESTINATION = -37, /* a source and a destination segment share an address */
     DMA330_PROGRAM_TOO_LONG = -40,    /* a program has more than 8192 bytes */
-    DMA330_BAD_SAVE = -42,            /* the bytes are no save of a channel */
+    DMA330_BAD_SAVE = -42,            /* the bytes are no save of a channel, or one of another version */
     DMA330_BAD_MNEMONIC = -50,        /* assembly: no instruction has this name */
     DMA330_BAD_OPERAND = -51,         /* assembly: an operand is missing, of a wrong form, or one too many */
     DMA330_NUMBER_OUT_OF_RANGE = -52, /* assembly: a number is outside its range */
@@ -348,10 +354,11 @@ int32_t dma330_checkpoint(dma330_controller *controller, dma330_conflict *confli
 /* ---- a channel over the caller's memory ----
  *
  * A channel needs no controller. Its program reads and writes the caller's memory in place, which is lent for the time of a
- * call as regions: an array that rises by address, in which no `bytes` is null. Between calls memory and flags are the
- * caller's to read and to write. Several channels may step in turn over the same memory and flags. Each call but open and
- * close fails with NOT_OPEN if the channel isn't open; a call that fails changes nothing. An open channel has room for the
- * longest program, so load_program, load_from and restore allocate nothing (tested, not proved). */
+ * call as regions: an array that rises by address, in which no `bytes` is null and no two overlap (RAM that the guest
+ * sees at two addresses is lent at one). Between calls memory and flags are the caller's to read and to write. Several
+ * channels may step in turn over the same memory and flags, each call over the regions that it is lent. Each call but
+ * open and close fails with NOT_OPEN if the channel isn't open; a call that fails changes nothing. An open channel has
+ * room for the longest program, so load_program, load_from and restore allocate nothing. */
 
 /* Opens a channel without a program and without marks, with room for the longest program. Codes: ALREADY_OPEN, NO_MEMORY. */
 int32_t dma330_channel_open(dma330_channel *channel) DMA330_NO_NULLS;
@@ -368,21 +375,24 @@ int32_t dma330_channel_load_copy(dma330_channel *channel, const dma330_segment *
 int32_t dma330_channel_load_fill(dma330_channel *channel, uint32_t src, const dma330_segment *dst, size_t dst_count,
                                  int32_t wait, int32_t signal) DMA330_NO_NULLS;
 
-/* Loads a copy of a program's bytes in the same way. Codes: PROGRAM_TOO_LONG, NO_MEMORY. */
+/* Loads a copy of a program's bytes in the same way. Codes: PROGRAM_TOO_LONG. */
 int32_t dma330_channel_load_program(dma330_channel *channel, const uint8_t *program, size_t len) DMA330_NO_NULLS;
 
-/* Loads the program that begins at `addr` of the memory in the same way: the bytes from there to the end of the region, 8192
- * at most, or none if no region has the address; the first step then fails with DMA330_INSTR_FETCH_ERR. A call that fails
- * keeps the program before. Codes: BAD_REGIONS, NO_MEMORY. */
+/* Loads the program that begins at `addr` of the memory in the same way: the bytes from there up to the first address
+ * that no region has, 8192 at most, so a program may cross from one region into one that touches it. If no region has
+ * `addr`, there are no bytes, and the first step fails with DMA330_INSTR_FETCH_ERR. A call that fails keeps the program
+ * before. Codes: BAD_REGIONS. */
 int32_t dma330_channel_load_from(dma330_channel *channel, const dma330_region *regions, size_t region_count,
                                  uint32_t addr) DMA330_NO_NULLS;
 
 /* Takes at most `most` steps over the regions and the flags of events 0 to 31, which are the bits of `*flags`. It ends after
- * a step that doesn't move or that sets a flag, so that the caller can raise an interrupt, and before a step that writes
- * neither in the range written so far nor beside it: then the last step moved, and the next call goes on. Loads outside
- * the regions fail with DMA330_DATA_READ_ERR, stores with DMA330_DATA_WRITE_ERR. The array of regions isn't written, only
- * their bytes. A burst may cross from one region into one that touches it. The library keeps no fault: the next step tries
- * the instruction again, so a model stops stepping a channel that failed. Codes: BAD_REGIONS, NO_PROGRAM. */
+ * a step that doesn't move or that sets a flag, so that the caller can raise an interrupt. It also ends before a store
+ * that neither overlaps nor touches the range written so far; the report then says MOVED, and the next call begins with
+ * that store. Loads outside the regions fail with DMA330_DATA_READ_ERR, stores outside them or to a read-only region
+ * with DMA330_DATA_WRITE_ERR. The array of regions isn't written, only their bytes. A burst may cross from one region
+ * into one that touches it. A burst to address 4294967295 always fails, since no region has it. The library keeps no
+ * fault: the next step tries the instruction again, so a model stops stepping a channel that failed. Codes:
+ * BAD_REGIONS, NO_PROGRAM. */
 int32_t dma330_channel_step(dma330_channel *channel, dma330_region *regions, size_t region_count, uint32_t *flags,
                             uint32_t most, dma330_channel_report *report) DMA330_NO_NULLS;
 
@@ -403,7 +413,7 @@ int32_t dma330_channel_unmark(dma330_channel *channel) DMA330_NO_NULLS;
  * BUFFER_TOO_SMALL. */
 int32_t dma330_channel_save(dma330_channel *channel, uint8_t *out, size_t room, size_t *len) DMA330_NO_NULLS;
 
-/* Makes the channel the one that was saved. A save holds no marks; those of this channel stay. Codes: BAD_SAVE, NO_MEMORY. */
+/* Makes the channel the one that was saved. A save holds no marks; those of this channel stay. Codes: BAD_SAVE. */
 int32_t dma330_channel_restore(dma330_channel *channel, const uint8_t *save, size_t len) DMA330_NO_NULLS;
 
 /* ---- without a controller ----
@@ -455,7 +465,8 @@ DMA330_ASSERT(outcome, sizeof(dma330_outcome) == 8 && offsetof(dma330_outcome, r
 DMA330_ASSERT(conflict, sizeof(dma330_conflict) == 8 && offsetof(dma330_conflict, cookie) == 4);
 DMA330_ASSERT(run, sizeof(dma330_run) == 8 && offsetof(dma330_run, stored) == 4);
 DMA330_ASSERT(report, sizeof(dma330_report) == 28 && offsetof(dma330_report, residue) == 24);
-DMA330_ASSERT(region, sizeof(dma330_region) == 24 && offsetof(dma330_region, bytes) == 8 && offsetof(dma330_region, len) == 16);
+DMA330_ASSERT(region, sizeof(dma330_region) == 32 && offsetof(dma330_region, bytes) == 8 && offsetof(dma330_region, len) == 16
+              && offsetof(dma330_region, read_only) == 24);
 DMA330_ASSERT(channel, sizeof(dma330_channel) == 16 && offsetof(dma330_channel, is_open) == 8);
 DMA330_ASSERT(channel_report, sizeof(dma330_channel_report) == 28 && offsetof(dma330_channel_report, written) == 20);
 DMA330_ASSERT(registers, sizeof(dma330_registers) == 32 && offsetof(dma330_registers, is_loaded) == 18

@@ -43,9 +43,9 @@ void set_up(machine *m, unsigned channels, unsigned events, bool nonsecure)
 {
     const board_config config = {channels, events, nonsecure};
     const dma330_region regions[] = {
-        {LOW, m->bytes + LOW_AT, NEXT - LOW},
-        {NEXT, m->bytes + NEXT_AT, NEXT_END - NEXT},
-        {FAR, m->bytes + FAR_AT, FAR_END - FAR}
+        {LOW, m->bytes + LOW_AT, NEXT - LOW, 0},
+        {NEXT, m->bytes + NEXT_AT, NEXT_END - NEXT, 0},
+        {FAR, m->bytes + FAR_AT, FAR_END - FAR, 0}
     };
 
     memset(m->bytes, GUARD_BYTE, sizeof m->bytes);

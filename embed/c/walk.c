@@ -158,7 +158,7 @@ static void run_whole_program(void)
 static void call_channel_with_long_lengths(uint8_t *bytes, size_t len)
 {
     dma330_channel channel = DMA330_CHANNEL_INIT;
-    dma330_region region = {0, NULL, 0};
+    dma330_region region = {0, NULL, 0, 0};
     dma330_channel_report report;
     uint32_t flags = 0;
     region.bytes = bytes;

@@ -1,32 +1,37 @@
 -- Calls from C that load a transfer into a channel and step it.
-use Rattle.std.proofs.Common.{◌≡◌, ◌≢◌, ℕ, zero, suc, ◌+◌, ◌<◌, Bool, true, false, ◌||◌, List, length, Option, Some, None, refl, sym, ap, ◌∙◌, subst, arith, inl, inr}
+use Rattle.std.proofs.Common.{◌≡◌, ◌≢◌, ℕ, zero, suc, ◌+◌, ◌<◌, Bool, true, false, ◌||◌, List, [], ◌++◌, length, take, Option, Some, None, refl, sym, ap, ◌∙◌, subst, arith, inl, inr}
 use Rattle.std.specs.Prelude.{nat_le, IsSome, unwrap_or}
+use Rattle.std.specs.List.{list_any}
 use Rattle.std.proofs.lemmas.Bool.{and_parts, le-ltb}
+use Rattle.std.proofs.lemmas.List.{append-nil}
+use Rattle.dma_insn.specs.AssemblyText.{most_bytes}
 use Rattle.dma_mem.specs.Places.{Descriptor, copying, filling, lies_below}
 use Rattle.dma_mem.specs.Refusals.{refusal_of, refusal_of_fill}
-use Rattle.dma_mem.specs.Flags.{flags_of}
-use Rattle.dma_mem.specs.Regions.{in_order, pieces_of}
+use Rattle.dma_mem.specs.Regions.{has, in_order, pieces_of, run_from}
 use Rattle.dma_mem.specs.Rules.{IsTransfer}
+use Rattle.dma_mem.specs.declared.regions.Region.{Region}
 use Rattle.dma_mem.specs.declared.segment.Segment.{Segment}
 use Rattle.dma_mem.specs.declared.transfer.TransferFault.{TransferFault}
 use Rattle.dma_mem.specs.declared.transfer.TransferFault.TheVariants as transfers
 use Rattle.dma_mem.proofs.TransferRules.{copy-from_no_refusal, fill-from_no_refusal}
-use Rattle.dma_chan.specs.Channel.{ChannelValue, loaded}
+use Rattle.dma_chan.specs.Channel.{ChannelValue}
 use Rattle.dma_chan.specs.Changes as chan
 use Rattle.dma_chan.specs.Compiled.{compiled}
-use Rattle.dma_chan.specs.Others.{Misses}
-use Rattle.dma_chan.specs.Stepping.{Machine}
+use Rattle.dma_chan.specs.Others.{IsLoadedWith, Misses}
+use Rattle.dma_chan.specs.Stepping.{Machine, Wrote}
+use Rattle.dma_chan.specs.Written.{KeepsOutside, LiesIn}
 use Rattle.dma_chan.specs.declared.lent.Taken.{Taken}
 use Rattle.dma_chan.specs.declared.turn.ChanTurn.{ChanTurn}
 use Rattle.dma_chan.specs.declared.turn.ChanTurn.TheVariants.{Moved, Waiting, Ended, Fault}
 use Rattle.dma_chan.specs.declared.turn.FaultKind.{FaultKind}
 use Rattle.dma_chan.proofs.CallsAmongOthers.{Runs, at_first, goes, survived}
-use Rattle.dma_chan.proofs.RegionsHave.{gaps_miss, lies_in_regions}
+use Rattle.dma_chan.proofs.RegionsHave.{ends_after, gaps_miss, lies_in_regions}
 use Rattle.dma_chan.proofs.SinceLoads.{has_copied, leads}
+use Rattle.dma_chan.proofs.SteppedOver.{writes_each}
 use Rattle.dma_ffi.specs.declared.channel_steps.ChannelReport.{ChannelReport}
 use Rattle.dma_ffi.specs.declared.marked_channel.MarkedChannel.{MarkedChannel}
-use Rattle.dma_ffi.specs.ChannelLaws.{HasCopied, LoadsATransfer, StepCall, StepsCopy, StepsSinceLoad, channel_of, marked_of, memory_of}
-use Rattle.dma_ffi.specs.Channels.{Lent, LoadsTransfer, ReportsSteps, StepsOver, marks_over, over, report_of}
+use Rattle.dma_ffi.specs.ChannelLaws.{HasCopied, IsMade, LoadsATransfer, StepCall, StepsCopy, StepsAreCalls, StepsKeepTheRest, StepsSinceLoad, channel_of, machine_of, marked_of, marks_in, memory_of}
+use Rattle.dma_ffi.specs.Channels.{LoadsFrom, LoadsTransfer, StepsOver, marks_over, over, report_of}
 use Rattle.dma_ffi.specs.Codes.{ok_code, transfer_code}
 
 -- ---- loads
@@ -43,8 +48,8 @@ refused transfers.SourceMeetsDestination e = cc
 refused transfers.BadEvent e = cc
 refused transfers.NoMemory e = cc
 
-was_loaded : (refusal : Option TransferFault) (t : Descriptor) (c d : ChannelValue) → LoadsTransfer refusal t c ok_code d → (refusal ≡ None) × (d ≡ loaded (compiled t))
-was_loaded refusal t c d (inl h) = (h.1, h.2)
+was_loaded : (refusal : Option TransferFault) (t : Descriptor) (c d : ChannelValue) → LoadsTransfer refusal t c ok_code d → (refusal ≡ None) × IsLoadedWith t d
+was_loaded refusal t c d (inl h) = (h.1, (compiled t, ([], sym (append-nil (compiled t).bytes)), h.2))
 was_loaded refusal t c d (inr h) = absurd (refused (unwrap_or refusal transfers.NoMemory) h.0)
 
 or_false : (b : Bool) → (b || false) ≡ b
@@ -57,12 +62,17 @@ fill_made src dst wait signal small h =
     let fits = le-ltb 4294967296 (src + 1) (omega arith) in
     rw (fits, or_false) h
 
+was_read : (t : Descriptor) (regions : List Region) (addr : ℕ) (rest : List ℕ) (c d : ChannelValue) → take most_bytes (run_from (pieces_of regions) addr) ≡ (compiled t).bytes ++ rest → LoadsFrom regions addr c ok_code d → IsLoadedWith t d
+was_read t regions addr rest c d e (inl bad) = absurd (let f = bad.0 in cc)
+was_read t regions addr rest c d e (inr ok) = (record { bytes = take most_bytes (run_from (pieces_of regions) addr); cost = None }, (rest, e), ok.2)
+
 pub loads_a_transfer : LoadsATransfer
 loads_a_transfer = record {
   copy = λ src dst wait signal c d h. let w = was_loaded (refusal_of (copying src dst wait signal)) (copying src dst wait signal) c d h in (copy-from_no_refusal src dst wait signal w.0, w.1);
   fill = λ src dst wait signal c d small h.
       let w = was_loaded (refusal_of_fill src dst wait signal) (filling src dst wait signal) c d h in
       (fill-from_no_refusal src dst wait signal (fill_made src dst wait signal small w.0), w.1);
+  from = λ t regions addr rest c d h e loads. (h, was_read t regions addr rest c d e loads);
 }
 
 -- ---- reports
@@ -91,20 +101,119 @@ signalled taken pc w (Some (Waiting x)) signal e = absurd (omega arith)
 signalled taken pc w (Some (Fault kind)) signal e = absurd (omega arith)
 signalled taken pc w (Some Ended) signal e = absurd (omega arith)
 
--- ---- steps
+waited : (taken pc : ℕ) (w : Segment) (last : Option ChanTurn) (signal : Option ℕ) → (report_of taken pc w last signal).turn ≡ 2 → last ≡ Some (Waiting (report_of taken pc w last signal).event)
+waited taken pc w (Some (Waiting x)) signal e = refl
+waited taken pc w None signal e = absurd (omega arith)
+waited taken pc w (Some Moved) None e = absurd (omega arith)
+waited taken pc w (Some Moved) (Some x) e = absurd (omega arith)
+waited taken pc w (Some (Fault kind)) signal e = absurd (omega arith)
+waited taken pc w (Some Ended) signal e = absurd (omega arith)
 
-abbrev machine_of : Lent → Machine
-machine_of l = record { channel = channel_of l; image = memory_of l; flags = flags_of l.flags }
+taken_in : (taken pc : ℕ) (w : Segment) (last : Option ChanTurn) (signal : Option ℕ) → (report_of taken pc w last signal).taken ≡ taken
+taken_in taken pc w None signal = refl
+taken_in taken pc w (Some Moved) None = refl
+taken_in taken pc w (Some Moved) (Some x) = refl
+taken_in taken pc w (Some (Waiting x)) signal = refl
+taken_in taken pc w (Some (Fault kind)) signal = refl
+taken_in taken pc w (Some Ended) signal = refl
+
+written_in : (taken pc : ℕ) (w : Segment) (last : Option ChanTurn) (signal : Option ℕ) → (report_of taken pc w last signal).written ≡ w
+written_in taken pc w None signal = refl
+written_in taken pc w (Some Moved) None = refl
+written_in taken pc w (Some Moved) (Some x) = refl
+written_in taken pc w (Some (Waiting x)) signal = refl
+written_in taken pc w (Some (Fault kind)) signal = refl
+written_in taken pc w (Some Ended) signal = refl
+
+-- ---- steps
 
 -- what a call that succeeded did
 abbrev Took : StepCall → Type 0
 Took call = (m : MarkedChannel) × (n : MarkedChannel) × (taken : Taken) × StepsOver call.lent call.most taken call.report call.left m n
 
-took : (call : StepCall) → call.code ≡ ok_code → ReportsSteps call.lent call.most call.code call.former call.report call.left → Took call
+took : (call : StepCall) → call.code ≡ ok_code → IsMade call → Took call
 took call ok (inl h) = absurd (let bad = sym ok ∙ h.0 in cc)
 took call ok (inr (inl h)) = absurd (let bad = sym ok ∙ h.0 in cc)
 took call ok (inr (inr (inl h))) = absurd (let bad = sym ok ∙ h.0 in cc)
 took call ok (inr (inr (inr h))) = h.1
+
+-- the range of the report is the one that the steps wrote
+reported_range : (call : StepCall) (d : Took call) → call.report.written ≡ d.2.written
+reported_range call d =
+    ap (λ (r : ChannelReport). r.written) d.3.reported ∙ written_in d.2.count d.1.channel.registers.pc d.2.written d.2.last d.2.signal
+
+-- a call that is refused changes nothing
+was_refused : (call : StepCall) → call.code ≢ ok_code → IsMade call → (call.left ≡ call.lent) × (call.report ≡ call.former)
+was_refused call bad (inl h) = (h.2, h.3)
+was_refused call bad (inr (inl h)) = (h.3, h.4)
+was_refused call bad (inr (inr (inl h))) = (h.3, h.4)
+was_refused call bad (inr (inr (inr h))) = absurd (bad h.0)
+
+ordered_in : (call : StepCall) → Took call → in_order (pieces_of call.lent.regions) ≡ true
+ordered_in call d =
+    let regions = call.lent.regions in
+    (and_parts (nat_le (length regions) 64) (in_order (pieces_of regions)) d.3.usable).1
+
+-- a call in the channel's own words
+abbrev as_call : ℕ → (call : StepCall) → Took call → chan.Call
+as_call ch call d = record {
+  channel = ch;
+  lends = λ a. list_any (has a) (pieces_of call.lent.regions);
+  marks = marks_over d.0 call.lent.regions;
+  most = call.most;
+  found = machine_of call.lent;
+  left = machine_of call.left;
+  taken = d.2.count;
+  last = d.2.last;
+  signal = d.2.signal;
+  written = d.2.written;
+}
+
+does_call : (ch : ℕ) (call : StepCall) (d : Took call) → chan.DoesCall (as_call ch call d)
+does_call ch call d =
+    let before : over d.0 call.lent.regions call.lent.flags ≡ machine_of call.lent = ap (λ (o : Option MarkedChannel). over (marked_of o) call.lent.regions call.lent.flags) (sym d.3.before) in
+    let after : over d.1 call.left.regions call.left.flags ≡ machine_of call.left = ap (λ (o : Option MarkedChannel). over (marked_of o) call.left.regions call.left.flags) (sym d.3.after) in
+    let at : Machine → Machine → chan.Call = λ s v. record (as_call ch call d) { found = s; left = v } in
+    let there : chan.DoesCall (at (over d.0 call.lent.regions call.lent.flags) (over d.1 call.left.regions call.left.flags)) = record { is_loaded = d.3.is_loaded; steps = d.3.steps; signal = d.3.signal; written = d.3.written } in
+    subst (λ (s : Machine). chan.DoesCall (at s (machine_of call.left))) before (subst (λ (v : Machine). chan.DoesCall (at (over d.0 call.lent.regions call.lent.flags) v)) after there)
+
+-- the report, by the channel that is left
+reported_by : (call : StepCall) (d : Took call) → call.report ≡ report_of d.2.count (channel_of call.left).registers.pc d.2.written d.2.last d.2.signal
+reported_by call d =
+    d.3.reported ∙ ap (λ (o : Option MarkedChannel). report_of d.2.count (marked_of o).channel.registers.pc d.2.written d.2.last d.2.signal) (sym d.3.after)
+
+pub steps_are_calls : StepsAreCalls
+steps_are_calls ch call made ok =
+    let d = took call ok made in (
+      as_call ch call d,
+      record {
+        does = does_call ch call d;
+        channel = refl;
+        lends = λ a. refl;
+        within = λ a lies. omega (arith, ends_after 0 (pieces_of call.lent.regions) a (ordered_in call d) lies);
+        marks = ap (λ (o : Option MarkedChannel). marks_over (marked_of o) call.lent.regions) (sym d.3.before);
+        most = refl;
+        found = refl;
+        left = refl;
+        reported = reported_by call d;
+      },
+    )
+
+-- one of its steps wrote each address in the range that a call reports as written
+each_was_written : (call : StepCall) (d : Took call) (a : ℕ) → LiesIn call.report.written a → Wrote (marks_in call.lent) (machine_of call.lent) call.report.taken a
+each_was_written call d a i =
+    let does = does_call 0 call d in
+    let s = machine_of call.lent in
+    let count : call.report.taken ≡ d.2.count = ap (λ (r : ChannelReport). r.taken) d.3.reported ∙ taken_in d.2.count d.1.channel.registers.pc d.2.written d.2.last d.2.signal in
+    let wrote = writes_each (marks_over d.0 call.lent.regions) s d.2.count a does.steps.moves (subst (λ (w : Segment). LiesIn w a) (reported_range call d ∙ does.written) i) in
+    subst (λ (o : Option MarkedChannel). Wrote (marks_over (marked_of o) call.lent.regions) s call.report.taken a) (sym d.3.before) (subst (λ (n : ℕ). Wrote (marks_over d.0 call.lent.regions) s n a) (sym count) wrote)
+
+pub steps_keep_the_rest : StepsKeepTheRest
+steps_keep_the_rest call made = record {
+  ok = λ ok. let d = took call ok made in subst (λ (w : Segment). KeepsOutside w (memory_of call.lent) (memory_of call.left)) (sym (reported_range call d)) d.3.kept;
+  writes_each = λ a ok i. each_was_written call (took call ok made) a i;
+  refused = λ bad. was_refused call bad made;
+}
 
 module _ (t : Descriptor) (count : ℕ) (calls : ℕ → StepCall) (run : StepsSinceLoad t count calls) where
   abbrev first : List ℕ
@@ -117,30 +226,19 @@ module _ (t : Descriptor) (count : ℕ) (calls : ℕ → StepCall) (run : StepsS
   does k l = took (calls k) (run.succeeds k l) (run.steps k l)
 
   ordered : (k : ℕ) → k < count → in_order (pieces_of (calls k).lent.regions) ≡ true
-  ordered k l =
-      let regions = (calls k).lent.regions in
-      (and_parts (nat_le (length regions) 8) (in_order (pieces_of regions)) (does k l).3.usable).1
+  ordered k l = ordered_in (calls k) (does k l)
 
   below : (k : ℕ) → k < count → lies_below t (length (memory_of (calls k).lent)) ≡ true
-  below k l = lies_in_regions (pieces_of (calls k).lent.regions) t rules (ordered k l) (run.have k l)
+  below k l = lies_in_regions (calls k).lent.regions t rules (ordered k l) (run.have k l)
 
   first_below : (k : ℕ) → k < count → lies_below t (length first) ≡ true
   first_below k l = below 0 (omega arith)
 
-  -- a call in the channel's own words
-  abbrev as_call : (k : ℕ) → k < count → chan.Call
-  as_call k l =
-      let d = does k l in
-      record { channel = 0; marks = marks_over d.0 (calls k).lent.regions; most = (calls k).most; taken = d.2.count; last = d.2.last; signal = d.2.signal }
+  abbrev the_call : (k : ℕ) → k < count → chan.Call
+  the_call k l = as_call 0 (calls k) (does k l)
 
-  does_call : (k : ℕ) (l : k < count) → chan.DoesCall (as_call k l) (machine_of (calls k).lent) (machine_of (calls k).left)
-  does_call k l =
-      let d = does k l in
-      let call = calls k in
-      let before : over d.0 call.lent.regions call.lent.flags ≡ machine_of call.lent = ap (λ (o : Option MarkedChannel). over (marked_of o) call.lent.regions call.lent.flags) (sym d.3.before) in
-      let after : over d.1 call.left.regions call.left.flags ≡ machine_of call.left = ap (λ (o : Option MarkedChannel). over (marked_of o) call.left.regions call.left.flags) (sym d.3.after) in
-      let there : chan.DoesCall (as_call k l) (over d.0 call.lent.regions call.lent.flags) (over d.1 call.left.regions call.left.flags) = record { is_loaded = d.3.is_loaded; steps = d.3.steps; signal = d.3.signal } in
-      subst (λ (s : Machine). chan.DoesCall (as_call k l) s (machine_of call.left)) before (subst (chan.DoesCall (as_call k l) (over d.0 call.lent.regions call.lent.flags)) after there)
+  does_it : (k : ℕ) (l : k < count) → chan.DoesCall (the_call k l)
+  does_it k l = does_call 0 (calls k) (does k l)
 
   along : (k : ℕ) → k < count → Runs t first (machine_of (calls k).lent)
   along zero l = at_first t first (machine_of (calls 0).lent) rules (first_below 0 l) run.begins.1 refl
@@ -148,28 +246,32 @@ module _ (t : Descriptor) (count : ℕ) (calls : ℕ → StepCall) (run : StepsS
       let e : k + 1 ≡ suc k = omega arith in
       let less : k + 1 < count = omega arith in
       let here : k < count = omega arith in
-      let led = leads t first rules (first_below k here) (as_call k here) (machine_of (calls k).lent) (machine_of (calls k).left) (along k here) (does_call k here) in
-      let some : IsSome (channel_of (calls k).left).program = subst (λ (c : ChannelValue). IsSome c.program) (run.goes_on k less) (does_call (k + 1) less).is_loaded in
+      let led = leads t first rules (first_below k here) (the_call k here) (along k here) (does_it k here) in
+      let some : IsSome (channel_of (calls k).left).program = subst (λ (c : ChannelValue). IsSome c.program) (run.goes_on k less) (does_it (k + 1) less).is_loaded in
       subst (λ (j : ℕ). Runs t first (machine_of (calls j).lent)) e
-      (survived t first (machine_of (calls k).left) (machine_of (calls (k + 1)).lent) (goes t first (as_call k here).last (machine_of (calls k).left) led some) (run.goes_on k less) (λ a i. run.unchanged k a less i) (below (k + 1) less))
+      (survived t first (machine_of (calls k).left) (machine_of (calls (k + 1)).lent) (goes t first (the_call k here).last (machine_of (calls k).left) led some) (run.goes_on k less) (λ a i. run.unchanged k a less i) (below (k + 1) less))
 
   copied : (k : ℕ) → k < count → HasCopied t first (calls k)
   copied k l =
       let d = does k l in
       let call = calls k in
-      let all = has_copied t first rules (first_below k l) (as_call k l) (machine_of call.lent) (machine_of call.left) (along k l) (does_call k l) in
+      let all = has_copied t first rules (first_below k l) (the_call k l) (along k l) (does_it k l) in
       let said = d.3.reported in
       let pc = d.1.channel.registers.pc in
       record {
         bytes = all.bytes;
+        writes = λ a i. all.writes a (subst (λ (w : Segment). LiesIn w a) (reported_range call d) i);
         signals = λ e.
             let s : d.2.signal ≡ Some (report_of d.2.count pc d.2.written d.2.last d.2.signal).event = signalled d.2.count pc d.2.written d.2.last d.2.signal (ap (λ (r : ChannelReport). r.turn) (sym said) ∙ e) in
             all.signals call.report.event (s ∙ ap (λ (r : ChannelReport). Some r.event) (sym said));
         ends = λ e. all.ends (ended d.2.count pc d.2.written d.2.last d.2.signal (ap (λ (r : ChannelReport). r.turn) (sym said) ∙ e));
+        waits = λ e.
+            let w : d.2.last ≡ Some (Waiting (report_of d.2.count pc d.2.written d.2.last d.2.signal).event) = waited d.2.count pc d.2.written d.2.last d.2.signal (ap (λ (r : ChannelReport). r.turn) (sym said) ∙ e) in
+            all.waits call.report.event (w ∙ ap (λ (r : ChannelReport). Some (Waiting r.event)) (sym said));
         never_fails = λ none e.
             let f = failed d.2.count pc d.2.written d.2.last d.2.signal (ap (λ (r : ChannelReport). r.turn) (sym said) ∙ e) in
             let own = subst (λ (o : Option MarkedChannel). Misses (marked_of o).marks t) d.3.before none in
-            all.never_fails f.0 (gaps_miss (pieces_of call.lent.regions) d.0.marks t (ordered k l) (run.have k l) own) f.1;
+            all.never_fails f.0 (gaps_miss call.lent.regions d.0.marks t (ordered k l) (run.have k l) own) f.1;
       }
 
 pub steps_copy : StepsCopy

@@ -1,11 +1,10 @@
 -- What a call from C on a channel does and returns.
 use Rattle.std.specs.Prelude.{◌≡◌, ℕ, ◌+◌, ◌≤◌, ◌<◌, ◌⊎◌, ◌||◌, ◌==◌, ◌&&◌, nat_lt, nat_le, Bool, true, false, ℤ, Option, Some, None, IsSome, IsSomeAnd, is_some, if◌then◌else◌, List, [], ◌∷◌, ◌++◌, length, map, take, unwrap_or}
 use Rattle.dma_mem.specs.Flags.{flags_of}
-use Rattle.dma_mem.specs.Lent.{marks_at}
 use Rattle.dma_mem.specs.Marking.{MarkList}
 use Rattle.dma_mem.specs.Places.{Descriptor, end_of_addresses, filling}
 use Rattle.dma_mem.specs.Refusals.{refusal_of, refusal_of_fill}
-use Rattle.dma_mem.specs.Regions.{in_order, pieces_of, image_of, gaps_of, rest_from}
+use Rattle.dma_mem.specs.Regions.{in_order, pieces_of, image_of, read_only_of, run_from}
 use Rattle.dma_mem.specs.declared.marks.MarkKind.{MarkKind}
 use Rattle.dma_mem.specs.declared.regions.Region.{Region}
 use Rattle.dma_mem.specs.declared.segment.Segment.{Segment}
@@ -14,7 +13,7 @@ use Rattle.dma_mem.specs.declared.transfer.TransferFault.TheVariants as transfer
 use Rattle.dma_insn.specs.AssemblyText.{most_bytes}
 use Rattle.dma_chan.specs.Channel.{ChannelValue, unloaded, loaded}
 use Rattle.dma_chan.specs.Compiled.{compiled}
-use Rattle.dma_chan.specs.LentRegions.{segment_of}
+use Rattle.dma_chan.specs.LentRegions.{segment_of, with_gaps_of}
 use Rattle.dma_chan.specs.Saved.{IsChannelValue, IsSave, most_saved, saved}
 use Rattle.dma_chan.specs.Stepping.{Machine, TakesSteps, signal_after, written_after}
 use Rattle.dma_chan.specs.Written.{KeepsOutside}
@@ -79,12 +78,11 @@ abbrev pub LoadsFill : ℕ → List Segment → Option ℕ → Option ℕ → Ch
 LoadsFill src dst wait signal = LoadsTransfer (refusal_of_fill src dst wait signal) (filling src dst wait signal)
 
 -- Loads these bytes as a program; they needn't be instructions. Fails with `program_too_long` exactly above 8,192
--- bytes, and with `no_memory` only for at most 8,192; a failed call changes nothing.
+-- bytes, and then nothing changes.
 abbrev pub LoadsBytes : List ℕ → ChannelValue → ℤ → ChannelValue → Type 0
 LoadsBytes bytes c code d =
     ((code ≡ ok_code) × (length bytes ≤ most_bytes) × (d ≡ loaded (record { bytes = bytes; cost = None })))
-    ⊎ (((code ≡ program_too_long) × (most_bytes < length bytes) × (d ≡ c))
-    ⊎ ((code ≡ no_memory) × (length bytes ≤ most_bytes) × (d ≡ c)))
+    ⊎ ((code ≡ program_too_long) × (most_bytes < length bytes) × (d ≡ c))
 
 -- the channel without its program; its marks, registers and counts are unchanged
 abbrev pub stopped : MarkedChannel → MarkedChannel
@@ -145,30 +143,27 @@ WritesSave (Some m) code buffer out len written new =
     × (length (saved m.channel) ≤ most_saved) × IsChannelValue m.channel × (new ≡ Some m)
 
 -- Makes the channel the one of a save: these bytes are its save, and no other value that satisfies `IsChannelValue`
--- has this save. Fails with `bad_save` exactly if the bytes aren't a save, and with `no_memory` only if they are one; a
--- failed call changes nothing.
+-- has this save. Fails with `bad_save` exactly if the bytes aren't a save, and then nothing changes.
 abbrev pub Restores : List ℕ → ChannelValue → ℤ → ChannelValue → Type 0
 Restores save c code d =
     ((code ≡ ok_code) × (save ≡ saved d) × ((e : ChannelValue) → IsChannelValue e → save ≡ saved e → d ≡ e))
-    ⊎ (((code ≡ bad_save) × (¬ IsSave save) × (d ≡ c))
-    ⊎ ((code ≡ no_memory) × IsSave save × (d ≡ c)))
+    ⊎ ((code ≡ bad_save) × (¬ IsSave save) × (d ≡ c))
 
 -- ---- the caller's memory
 
--- whether channels can be stepped over these regions: there are at most 8, in the order of their addresses, without a
--- shared address, and none ends above 4,294,963,200, the largest size of a memory
+-- whether channels can be stepped over these regions: there are at most 64, in the order of their addresses, without a
+-- shared address, and none ends above 4,294,967,295
 abbrev pub are_usable : List Region → Bool
-are_usable regions = nat_le (length regions) 8 && in_order (pieces_of regions)
+are_usable regions = nat_le (length regions) 64 && in_order (pieces_of regions)
 
--- Loads the program that begins at an address of the regions: the bytes from there to the end of the region with this
--- address, at most 8,192, or no bytes if no region has the address. Fails with `bad_regions` exactly if the
--- regions aren't usable, or with `no_memory`; a failed call changes nothing.
+-- Loads the program that begins at an address of the regions: the bytes from there to the first address that no region
+-- has, at most 8,192, or no bytes if no region has the address. Fails with `bad_regions` exactly if the regions aren't
+-- usable, and then nothing changes.
 abbrev pub LoadsFrom : List Region → ℕ → ChannelValue → ℤ → ChannelValue → Type 0
 LoadsFrom regions addr c code d =
     ((code ≡ bad_regions) × (are_usable regions ≡ false) × (d ≡ c))
-    ⊎ (((code ≡ ok_code) × (are_usable regions ≡ true)
-    × (d ≡ loaded (record { bytes = take most_bytes (rest_from (pieces_of regions) addr); cost = None })))
-    ⊎ ((code ≡ no_memory) × (are_usable regions ≡ true) × (d ≡ c)))
+    ⊎ ((code ≡ ok_code) × (are_usable regions ≡ true)
+    × (d ≡ loaded (record { bytes = take most_bytes (run_from (pieces_of regions) addr); cost = None })))
 
 -- ---- steps
 
@@ -182,15 +177,17 @@ pub record Lent : Type 0 where
 abbrev pub over : MarkedChannel → List Region → ℕ → Machine
 over m regions flags = record { channel = m.channel; image = image_of (pieces_of regions); flags = flags_of flags }
 
--- the marks at which the channel's bursts fail: the gaps between the regions, and the channel's own marks
+-- the marks at which the channel's bursts fail: the gaps between the regions, for stores the read-only regions, and the
+-- channel's own marks
 abbrev pub marks_over : MarkedChannel → List Region → MarkList
-marks_over m regions = marks_at (gaps_of (pieces_of regions)) ++ m.marks
+marks_over m regions = with_gaps_of regions m.marks
 
--- The regions keep their places, whatever their bytes are: the addresses and lengths are the same, and so are the
--- names of the loans of their bytes. Pointers are not compared: a contract sees where memory is lent only by the names
--- of its loans.
+-- The regions keep their places, whatever their bytes are: the addresses and lengths are the same, what is read-only,
+-- and the names of the loans of their bytes. Pointers are not compared: a contract sees where memory is lent only by
+-- the names of its loans.
 pub record StayInPlace (regions left : List Region) : Type 0 where
   pub places : map segment_of left ≡ map segment_of regions
+  pub read_only : read_only_of left ≡ read_only_of regions
   pub names : map (λ r. r.bytes.ghost_name) left ≡ map (λ r. r.bytes.ghost_name) regions
 
 -- a report of `taken` steps, with the offset of the next instruction, the range written and this turn number; event

@@ -11,22 +11,21 @@ ghost use Rattle.dma_ffi.specs.inner.Loads.{LoadsMade};
 
 use crate::codes::{
     ALREADY_OPEN, BAD_KIND, BAD_RANGE, BAD_REGIONS, BAD_SAVE, BUFFER_TOO_SMALL, NO_MEMORY,
-    NOT_OPEN, OK, code_of_program, code_of_transfer, event_of, found, kind_of,
+    NOT_OPEN, OK, PROGRAM_TOO_LONG, code_of_transfer, event_of, found, kind_of,
 };
 use crate::kept_channel::KeptChannel;
 use crate::marked_channel::MarkedChannel;
 use dma_chan::channel::Channel;
 use dma_chan::compile::compile;
 use dma_chan::program::MAX_BYTES;
-use dma_chan::save::RestoreFault;
 use dma_mem::marks::Marks;
-use dma_mem::regions::{Region, are_in_order, bytes_from};
+use dma_mem::regions::{Region, are_in_order, copy_run};
 use dma_mem::segment::Segment;
 use dma_mem::transfer::{Transfer, TransferFault};
 use std::alloc::Global;
 
 /// The maximum number of regions.
-const MAX_REGIONS: usize = 8;
+const MAX_REGIONS: usize = 64;
 
 /// A channel's registers and counts.
 #[repr(C)]
@@ -57,7 +56,7 @@ pub extern "C" fn dma330_channel_open(alloc: Global, kept: &mut KeptChannel) -> 
     if kept.is_open() {
         return ALREADY_OPEN;
     }
-    let Ok(channel) = Channel::with_room(alloc) else {
+    let Ok(channel) = Channel::new(alloc) else {
         return NO_MEMORY;
     };
     let marks = Marks::new(alloc);
@@ -138,23 +137,20 @@ pub extern "C" fn dma330_channel_load_fill(
 }
 
 /// Loads these bytes as a program in place of the former program. The bytes are copied, so later changes to them have
-/// no effect. Fails if there are more than 8,192 bytes, or if out of memory.
+/// no effect. Fails if there are more than 8,192 bytes.
 #[unsafe(no_mangle)]
-pub extern "C" fn dma330_channel_load_program(
-    alloc: Global,
-    kept: &mut KeptChannel,
-    program: &[u8],
-) -> i32
+pub extern "C" fn dma330_channel_load_program(kept: &mut KeptChannel, program: &[u8]) -> i32
     ensures { OnChannel (LoadsBytes program.now) kept.old.channel.value result
         kept.new.channel.value }
 {
     let Some(marked) = kept.as_kept().get_mut() else {
         return NOT_OPEN;
     };
-    match marked.channel.load_bytes(alloc, program) {
-        Ok(()) => OK,
-        Err(fault) => code_of_program(fault),
+    if program.len() > MAX_BYTES {
+        return PROGRAM_TOO_LONG;
     }
+    marked.channel.load_bytes(program);
+    OK
 }
 
 /// Returns whether channels can be stepped over these regions.
@@ -164,12 +160,10 @@ pub fn are_usable(regions: &[Region<'_>]) -> bool
     regions.len() <= MAX_REGIONS && are_in_order(regions)
 }
 
-/// Loads the program that begins at address `addr` of the regions, in place of the former program. Fails if the
-/// regions aren't usable, or if out of memory.
-#[tactic(auto, using(std::proofs::lemmas::List::take_min))]
+/// Loads the program that begins at address `addr` of the regions, in place of the former program. It may cross from
+/// one region into one that touches it. Fails if the regions aren't usable.
 #[unsafe(no_mangle)]
 pub extern "C" fn dma330_channel_load_from(
-    alloc: Global,
     kept: &mut KeptChannel,
     regions: &[Region<'_>],
     addr: u32,
@@ -183,12 +177,10 @@ pub extern "C" fn dma330_channel_load_from(
     if !are_usable(regions) {
         return BAD_REGIONS;
     }
-    let rest = bytes_from(regions, addr);
-    let program = &rest[..MAX_BYTES.min(rest.len())];
-    match marked.channel.load_bytes(alloc, program) {
-        Ok(()) => OK,
-        Err(_) => NO_MEMORY,
-    }
+    let mut program = [0; MAX_BYTES];
+    let len = copy_run(regions, addr, &mut program);
+    marked.channel.load_bytes(&program[..len]);
+    OK
 }
 
 /// Drops the program. Registers and counts are unchanged.
@@ -292,17 +284,16 @@ pub extern "C" fn dma330_channel_save(
     found(marked.channel.save(out), len, BUFFER_TOO_SMALL)
 }
 
-/// Restores the channel from a save. Its marks are unchanged. Fails if the bytes aren't a save, or if out of memory.
+/// Restores the channel from a save. Its marks are unchanged. Fails if the bytes aren't a save.
 #[unsafe(no_mangle)]
-pub extern "C" fn dma330_channel_restore(alloc: Global, kept: &mut KeptChannel, save: &[u8]) -> i32
+pub extern "C" fn dma330_channel_restore(kept: &mut KeptChannel, save: &[u8]) -> i32
     ensures { OnChannel (Restores save.now) kept.old.channel.value result kept.new.channel.value }
 {
     let Some(marked) = kept.as_kept().get_mut() else {
         return NOT_OPEN;
     };
-    match marked.channel.restore(alloc, save) {
+    match marked.channel.restore(save) {
         Ok(()) => OK,
-        Err(RestoreFault::BadSave) => BAD_SAVE,
-        Err(RestoreFault::NoMemory) => NO_MEMORY,
+        Err(_) => BAD_SAVE,
     }
 }

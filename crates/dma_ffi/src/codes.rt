@@ -34,7 +34,7 @@ pub const NO_PROGRAM: i32 = -9;
 pub const BAD_RANGE: i32 = -15;
 /// A memory can't have this size.
 pub const SIZE_OUT_OF_RANGE: i32 = -21;
-/// There are more than 8 regions, they aren't in order, or one ends above the largest size of a memory.
+/// There are more than 64 regions, they aren't in order, or one ends above 4,294,967,295.
 pub const BAD_REGIONS: i32 = -22;
 /// A program is longer than 8,192 bytes.
 pub const PROGRAM_TOO_LONG: i32 = -40;

@@ -1,6 +1,6 @@
 //! Laws about what calls from C return and write. Each law is the clause of a function that does nothing.
 
-ghost use Rattle.dma_ffi.specs.ChannelLaws.{LoadsATransfer, StepsCopy};
+ghost use Rattle.dma_ffi.specs.ChannelLaws.{LoadsATransfer, StepsAreCalls, StepsCopy, StepsKeepTheRest};
 ghost use Rattle.dma_ffi.specs.Laws.{CallsAreTheEngines, ExchangesAreTheEngines, SessionsAreTheEngines};
 
 /// A call from C on an open controller is answered by a list of the engine's own calls. So what is proved of such
@@ -18,8 +18,13 @@ pub fn exchanges_are_the_engines()
 {}
 
 /// Calls from C that load a transfer into a channel and step it copy the transfer's bytes, if nobody else writes what
-/// the transfer reads or writes between these calls, and no other call changes the channel's program.
+/// the transfer reads or writes between these calls, and no other call changes the channel's program. A call that steps
+/// a channel, whatever its program is, changes no byte outside the range that it reports, and one of its steps wrote each
+/// address in this range. For calls on several channels, each is a call of
+/// [`channels_copy`](dma_chan::laws::channels_copy).
 pub fn channel_calls_copy()
     ensures loads { LoadsATransfer }
     ensures steps { StepsCopy }
+    ensures rest { StepsKeepTheRest }
+    ensures calls { StepsAreCalls }
 {}

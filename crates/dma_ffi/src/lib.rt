@@ -3,7 +3,9 @@
 //! Proved: each call returns the code of the engine's answer and writes what the answer has (`Returns`); the calls
 //! between an open and a close are calls of one engine (`laws::exchanges_are_the_engines`); a call that steps a
 //! channel is a sequence of single steps over the caller's memory and flags, each code has its cause, and a refused
-//! call changes nothing (`specs/Channels.antt`).
+//! call changes nothing (`specs/Channels.antt`). Calls that load a transfer into a channel and step it have copied as
+//! many bytes as the channel counts, and all when a report says that it signalled or ended, if nobody else writes what
+//! the transfer reads or writes meanwhile (`laws::channel_calls_copy`).
 //!
 //! The proofs assume that the caller meets its duties (docs/EMBEDDING.md). Controllers and channels are zeros before
 //! their first call, are not copied, and are used by one call at a time, ordered by a lock, a start, a join or a

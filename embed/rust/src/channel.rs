@@ -78,9 +78,9 @@ fn turn_of(report: &sys::RawChannelReport) -> ChannelTurn {
 
 /// A channel that runs a program over memory of its caller, as many steps at a time as the caller requests.
 ///
-/// The channel borrows the memory for the time of a call, in up to 8 regions, so an emulator can step channels over its
-/// guest's RAM. It keeps no copy of the memory. The flags of events 0 to 31 are the bits of a number of the caller. The
-/// channel is closed when it is dropped.
+/// The channel borrows the memory for the time of a call, in up to 64 regions, so an emulator can step channels over
+/// its guest's RAM. It keeps no copy of the memory. The flags of events 0 to 31 are the bits of a number of the caller.
+/// The channel is closed when it is dropped.
 ///
 /// ```
 /// use dma330::{assemble, Channel, ChannelSteps, ChannelTurn, Region, Segment};
@@ -133,26 +133,27 @@ impl Channel {
 
     /// Loads a program's bytes in the same way. They need not be instructions.
     ///
-    /// Fails with `ProgramTooLong` or `NoMemory`.
+    /// Fails with `ProgramTooLong`.
     pub fn load_program(&mut self, program: &[u8]) -> Result<(), Error> {
         self.handle.load_program(program)
     }
 
     /// Loads the program that begins at an address of the memory in the same way.
     ///
-    /// It has the bytes from that address to the end of the region, 8192 at most, as they are now. If no region has the
-    /// address, the program has no bytes, and the first step fails with `InstrFetchErr`.
+    /// It has the bytes from that address up to the first address that no region has, 8192 at most, as they are now, so
+    /// it may cross from one region into one that touches it. If no region has the address, the program has no bytes,
+    /// and the first step fails with `InstrFetchErr`.
     ///
-    /// Fails with `BadRegions` or `NoMemory`.
+    /// Fails with `BadRegions`.
     pub fn load_from(&mut self, regions: &[Region<'_>], addr: u32) -> Result<(), Error> {
         self.handle.load_from(regions, addr)
     }
 
-    /// Takes at most `most` steps, and ends after a step that doesn't move or that sets a flag, and before a step that
-    /// writes neither in the range written so far nor beside it.
+    /// Takes at most `most` steps. Ends after a step that doesn't move or that sets a flag, and before a store that
+    /// neither overlaps nor touches the range written so far; the next call begins with that store.
     ///
     /// Bit `n` of `flags` is the flag of event `n`. A load outside the regions ends with the fault `DataReadErr`, a
-    /// store outside them with `DataWriteErr`.
+    /// store outside them or in a read-only one with `DataWriteErr`.
     ///
     /// Fails with `BadRegions` or `NoProgram`.
     pub fn step(&mut self, regions: &mut [Region<'_>], flags: &mut u32, most: u32) -> Result<ChannelSteps, Error> {
@@ -210,7 +211,7 @@ impl Channel {
 
     /// Makes the channel the one that was saved. The marks of this channel stay.
     ///
-    /// Fails with `BadSave` or `NoMemory`.
+    /// Fails with `BadSave`.
     pub fn restore(&mut self, save: &[u8]) -> Result<(), Error> {
         self.handle.restore(save)
     }

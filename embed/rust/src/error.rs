@@ -42,7 +42,8 @@ pub enum Error {
     BadChannels,
     /// The size of a memory isn't 1 to 4294963200 bytes.
     SizeOutOfRange,
-    /// There are more than 8 regions, or they are not in rising order, or two share an address, or one ends above 4294963200.
+    /// There are more than 64 regions, or one begins before the end of the one before it (also if one of them is
+    /// empty), or one ends above 4294967295.
     BadRegions,
     /// A list has no segment.
     EmptyList,
@@ -222,7 +223,7 @@ impl fmt::Display for Error {
             Error::Running { .. } => "a transfer is running",
             Error::BadChannels => "the number of channels is not 1 to 8",
             Error::SizeOutOfRange => "the size is not 1 to 4294963200 bytes",
-            Error::BadRegions => "there are more than 8 regions, or they are out of order, or meet, or end above 4294963200",
+            Error::BadRegions => "there are more than 64 regions, or they don't rise, overlap, or end above 4294967295",
             Error::EmptyList => "a list has no segment",
             Error::TooManySegments => "a list has more than 64 segments",
             Error::EmptySegment => "a segment has length 0",

@@ -103,13 +103,19 @@ pub struct Region<'a> {
     addr: u32,
     bytes: *mut u8,
     len: usize,
+    read_only: u32,
     lent: PhantomData<&'a mut [u8]>,
 }
 
 impl<'a> Region<'a> {
     /// Returns the region of these bytes, the first of which is at `addr`.
     pub fn new(addr: u32, bytes: &'a mut [u8]) -> Region<'a> {
-        Region { addr, bytes: bytes.as_mut_ptr(), len: bytes.len(), lent: PhantomData }
+        Region { addr, bytes: bytes.as_mut_ptr(), len: bytes.len(), read_only: 0, lent: PhantomData }
+    }
+
+    /// Returns the region of these bytes as ROM: loads and programs read it, and stores to it fail.
+    pub fn read_only(addr: u32, bytes: &'a mut [u8]) -> Region<'a> {
+        Region { read_only: 1, ..Region::new(addr, bytes) }
     }
 }
 

@@ -1,5 +1,5 @@
-//! Runs the rows of channels.txt, as the test in C does: as they are, and with a call for each single step, before
-//! which the channel is saved and restored as another one.
+//! Runs the rows of channels.txt, as the test in C does: as they are, and with a call for each single step of a row of
+//! `step`, where the channel is saved and restored as another one before each call.
 
 mod words;
 
@@ -18,6 +18,17 @@ enum Way {
 struct Part {
     addr: u32,
     bytes: Vec<u8>,
+    is_rom: bool,
+}
+
+impl Part {
+    fn region(&mut self) -> Region<'_> {
+        if self.is_rom {
+            Region::read_only(self.addr, &mut self.bytes)
+        } else {
+            Region::new(self.addr, &mut self.bytes)
+        }
+    }
 }
 
 /// Runs lines.
@@ -53,7 +64,7 @@ fn joined(a: Segment, b: Segment) -> Segment {
 
 // Returns the regions of these parts.
 fn regions(parts: &mut [Part]) -> Vec<Region<'_>> {
-    parts.iter_mut().map(|part| Region::new(part.addr, &mut part.bytes)).collect()
+    parts.iter_mut().map(Part::region).collect()
 }
 
 impl Runner {
@@ -85,6 +96,9 @@ impl Runner {
     }
 
     fn step(&mut self, most: u32) -> Result<ChannelSteps, Error> {
+        if self.way == Way::Saved {
+            self.replace_channel()?;
+        }
         let Runner { channel: Some(channel), parts, flags, .. } = self else { panic!("the group opened a channel") };
         channel.step(&mut regions(parts), flags, most)
     }
@@ -93,7 +107,6 @@ impl Runner {
         let mut taken = 0;
         let mut written = Segment::default();
         loop {
-            self.replace_channel()?;
             let steps = self.step(most.min(1))?;
             taken += steps.taken;
             written = joined(written, steps.written);
@@ -135,9 +148,11 @@ impl Runner {
     fn act(&mut self, line: &str, mut words: Words) -> Option<String> {
         match line {
             "regions" => {
-                let part = |segment: &Segment| Part { addr: segment.addr, bytes: vec![0; segment.len as usize] };
+                let zeros = |len: u32| vec![0; len as usize];
+                let part = |segment: &Segment| Part { addr: segment.addr, bytes: zeros(segment.len), is_rom: false };
                 self.parts = words.list().iter().map(part).collect();
             }
+            "rom" => self.parts[words.number() as usize].is_rom = true,
             "poke" => {
                 let (addr, bytes) = (words.number(), words.bytes());
                 (addr..).zip(bytes).for_each(|(addr, byte)| self.rest(addr)[0] = byte);
@@ -171,7 +186,7 @@ impl Runner {
                 Ok(String::new())
             }
             "step" if self.way == Way::Saved => self.single_steps(words.number()).map(steps_text),
-            "step" => self.step(words.number()).map(steps_text),
+            "step" | "call" => self.step(words.number()).map(steps_text),
             "registers" => Ok(self.registers()),
             "mark" => {
                 let (kind, range) = (words.kind(), Segment::new(words.number(), words.number()));

@@ -37,6 +37,6 @@ returns c =
       written = subst (λ (f : List Bool). taken.result.written ≡ written_after marks (at m.channel regions f) taken.result.count) flags taken.ensures.written;
       kept = taken.ensures.kept;
       reported = c.report_of.ensures ∙ ap (λ (p : ℕ). report_of taken.result.count p taken.result.written taken.result.last taken.result.signal) c.pc.ensures;
-      regions = record { places = taken.ensures.places; names = taken.ensures.names };
+      regions = record { places = taken.ensures.places; read_only = taken.ensures.read_only; names = taken.ensures.names };
     } in
     inr (inr (inr (refl, (m, n, taken.result, over))))
