@@ -1,0 +1,133 @@
+-- Rows computed from the definitions: values after a reset, a DMAGO of a program with its turns, and INTCLR.
+use Rattle.std.proofs.Common.{◌≡◌, true, false, List, [], ◌∷◌, Some, None, refl}
+use Rattle.dma_mem.specs.Flags.{flags_of}
+use Rattle.dma_mem.specs.Regions.{Piece}
+use Rattle.dma_chan.specs.Channel.{loaded}
+use Rattle.dma_chan.specs.Stepping.{Machine, after_steps, last_of, machine, signal_after}
+use Rattle.dma_chan.specs.declared.turn.ChanTurn.TheVariants.{Ended}
+use Rattle.dma_device.specs.declared.config.BusWidth.TheVariants.{Bits32, Bits128}
+use Rattle.dma_device.specs.declared.config.Config.{Config}
+use Rattle.dma_device.specs.declared.config.Revision.TheVariants.{R0p0, R1p2}
+use Rattle.dma_device.specs.Device.{DeviceValue, irq_abort, irqs, read_at, reset_device, written}
+use Rattle.dma_device.specs.Turns.{events_of, raised_with, raises, runs_at}
+
+-- eight channels, 32 events, and 16 lines of 16 bytes for each channel
+abbrev largest : Config
+largest = record { channels = 8; events = 32; nonsecure = false; bus = Bits128; lines = 128; revision = R1p2 }
+
+-- ---- after a reset
+
+cr0-reset : read_at (reset_device largest) 0xE00 ≡ 0x003E0070
+cr0-reset = refl
+
+cr1-reset : read_at (reset_device largest) 0xE04 ≡ 0x75
+cr1-reset = refl
+
+crd-reset : read_at (reset_device largest) 0xE14 ≡ 0x07FF7F74
+crd-reset = refl
+
+cr3-nonsecure : read_at (reset_device (record largest { nonsecure = true })) 0xE0C ≡ 0xFFFFFFFF
+cr3-nonsecure = refl
+
+inten-reset : read_at (reset_device largest) 0x020 ≡ 0
+inten-reset = refl
+
+-- channel 7 has its registers, and a device with one channel has none of channel 1
+csr-reset : read_at (reset_device largest) 0x138 ≡ 0
+csr-reset = refl
+
+no-channel : read_at (reset_device (record largest { channels = 1 })) 0x108 ≡ 0
+no-channel = refl
+
+-- a bus of 32 bits, and r0p0
+crd-narrow : read_at (reset_device (record largest { bus = Bits32 })) 0xE14 ≡ 0x07FF7F72
+crd-narrow = refl
+
+periph_id_2-r1p2 : read_at (reset_device largest) 0xFE8 ≡ 0x34
+periph_id_2-r1p2 = refl
+
+periph_id_2-r0p0 : read_at (reset_device (record largest { revision = R0p0 })) 0xFE8 ≡ 0x04
+periph_id_2-r0p0 = refl
+
+periph_id_0 : read_at (reset_device largest) 0xFE0 ≡ 0x30
+periph_id_0 = refl
+
+-- ---- a program: DMASEV 1 and DMAEND at 0x100
+
+abbrev ram : List Piece
+ram = record { addr = 0x100; bytes = 0x34 ∷ 0x08 ∷ 0x00 ∷ [] } ∷ []
+
+-- event 1 is an interrupt
+abbrev ready : DeviceValue
+ready = written ram 0x020 0x2 (reset_device largest)
+
+-- DMAGO of channel 3
+abbrev going : DeviceValue
+going = written ram 0xD04 0 (written ram 0xD0C 0x100 (written ram 0xD08 0x03A00000 ready))
+
+csr-going : read_at going 0x118 ≡ 1
+csr-going = refl
+
+cpc-going : read_at going 0x11C ≡ 0x100
+cpc-going = refl
+
+runs-going : runs_at going 3 ≡ true
+runs-going = refl
+
+-- its channel after the first step, and what that sets and answers; then DMAEND
+abbrev began : Machine
+began = machine (loaded (record { bytes = 0x34 ∷ 0x08 ∷ 0x00 ∷ []; cost = None })) [] (flags_of (events_of going))
+
+first-flags : (after_steps [] began 1).flags ≡ flags_of 0x2
+unfolding flags_of
+first-flags = refl
+
+first-signal : signal_after [] began 1 ≡ Some 1
+first-signal = refl
+
+raised-first : raised_with 0x2 going ≡ 0x2
+raised-first = refl
+
+interrupts-first : raises going (Some 1) ≡ true
+interrupts-first = refl
+
+second-answer : last_of [] began 2 ≡ Some Ended
+unfolding flags_of
+second-answer = refl
+
+-- DMAGO of channel 8, which no device has
+abbrev lost : DeviceValue
+lost = written ram 0xD04 0 (written ram 0xD08 0x08A00000 ready)
+
+ftrd-lost : read_at lost 0x038 ≡ 0x40000002
+ftrd-lost = refl
+
+fsrd-lost : read_at lost 0x030 ≡ 1
+fsrd-lost = refl
+
+abort-lost : irq_abort lost ≡ true
+abort-lost = refl
+
+-- a DMAKILL of the manager
+abort-killed : irq_abort (written ram 0xD04 0 (written ram 0xD08 0x00010000 lost)) ≡ false
+abort-killed = refl
+
+-- ---- INTCLR
+
+-- a DMASEV of event 1 and one of event 2, by the manager
+abbrev both : DeviceValue
+both = written ram 0xD04 0 (written ram 0xD08 0x10340000 (written ram 0xD04 0 (written ram 0xD08 0x08340000 ready)))
+
+ris-both : read_at both 0x024 ≡ 0x6
+ris-both = refl
+
+irqs-both : irqs both ≡ 0x2
+irqs-both = refl
+
+-- the interrupt is cleared, and the event is not
+ris-cleared : read_at (written ram 0x02C 0x6 both) 0x024 ≡ 0x4
+ris-cleared = refl
+
+-- channels see the event alone
+events-both : events_of both ≡ 0x4
+events-both = refl

@@ -1,0 +1,117 @@
+-- What a read of CSR returns, and the thread that a DMAGO starts.
+use Rattle.std.proofs.Common.{◌≡◌, ◌∙◌, ℕ, zero, suc, ◌+◌, ◌*◌, ◌%◌, ◌^◌, ◌<◌, Bool, true, false, ◌&&◌, List, get_or, length, Option, Some, ap, refl, sym, arith, ◌≢◌, true≢false}
+use Rattle.std.specs.Prelude.{◌==◌, if◌then◌else◌, not, slice_get, slice_set}
+use Rattle.std.proofs.Math.ListN.{length-set}
+use Rattle.std.proofs.lemmas.List.{get_or-set_same}
+use Rattle.std.proofs.lemmas.Option.{slice_get-get_or, slice_get_within}
+use Rattle.dma_insn.specs.ControlWord.{field, flag}
+use Rattle.dma_mem.specs.Regions.{Piece}
+use Rattle.dma_device.specs.Copies.{MayGo, csr_status, go_written}
+use Rattle.dma_device.specs.Device.{DeviceValue, by_manager, by_thread, csr, go, of_thread, read_at, program_at, with_thread}
+use Rattle.dma_device.specs.Thread.{is_faulting, is_faulting_status, is_stopped, is_stopped_status, reset_thread, started, status_bits}
+use Rattle.dma_device.specs.declared.thread.Status.{Status}
+use Rattle.dma_device.specs.declared.thread.Status.TheVariants.{Stopped, Executing, WaitingForEvent, Faulting}
+use Rattle.dma_device.specs.declared.thread.Thread.{Thread}
+
+-- ---- CSR
+
+read_csr : (d : DeviceValue) (n : ℕ) → n < 8 → read_at d (0x100 + 8 * n) ≡ of_thread csr (slice_get d.threads n)
+read_csr d zero h = refl
+read_csr d (suc zero) h = refl
+read_csr d (suc (suc zero)) h = refl
+read_csr d (suc (suc (suc zero))) h = refl
+read_csr d (suc (suc (suc (suc zero)))) h = refl
+read_csr d (suc (suc (suc (suc (suc zero))))) h = refl
+read_csr d (suc (suc (suc (suc (suc (suc zero)))))) h = refl
+read_csr d (suc (suc (suc (suc (suc (suc (suc zero))))))) h = refl
+read_csr d (suc (suc (suc (suc (suc (suc (suc (suc n)))))))) h = absurd (omega arith)
+
+stopped_by : (s : Status) (b : Bool) → (status_bits s + flag b * 2 ^ 21) % 16 ≡ 0 → is_stopped_status s ≡ true
+stopped_by Stopped b h = refl
+stopped_by Executing true h = absurd (omega arith)
+stopped_by Executing false h = absurd (omega arith)
+stopped_by (WaitingForEvent e) true h = absurd (omega arith)
+stopped_by (WaitingForEvent e) false h = absurd (omega arith)
+stopped_by Faulting true h = absurd (omega arith)
+stopped_by Faulting false h = absurd (omega arith)
+
+-- a thread whose CSR reads as stopped is stopped
+pub reads_stopped : (d : DeviceValue) (n : ℕ) (th : Thread) → n < 8 → slice_get d.threads n ≡ Some th → csr_status d n ≡ 0 → is_stopped th ≡ true
+reads_stopped d n th few is h =
+    let read : csr th ≡ read_at d (0x100 + 8 * n) = sym (read_csr d n few ∙ ap (of_thread csr) is) in
+    stopped_by th.status th.nonsecure (ap (λ (m : ℕ). m % 16) read ∙ h)
+
+fine_by : (s : Status) (b : Bool) → is_faulting_status s ≡ false → (status_bits s + flag b * 2 ^ 21) % 16 ≢ 15
+fine_by Stopped true h e = absurd (omega arith)
+fine_by Stopped false h e = absurd (omega arith)
+fine_by Executing true h e = absurd (omega arith)
+fine_by Executing false h e = absurd (omega arith)
+fine_by (WaitingForEvent x) true h e = absurd (omega arith)
+fine_by (WaitingForEvent x) false h e = absurd (omega arith)
+fine_by Faulting b h e = absurd (true≢false h)
+
+-- the CSR of a thread that isn't faulting doesn't read so
+pub reads_fine : (d : DeviceValue) (n : ℕ) (th : Thread) → n < 8 → slice_get d.threads n ≡ Some th → is_faulting th ≡ false → csr_status d n ≢ 15
+reads_fine d n th few is fine e =
+    let read : csr th ≡ read_at d (0x100 + 8 * n) = sym (read_csr d n few ∙ ap (of_thread csr) is) in
+    fine_by th.status th.nonsecure fine (ap (λ (m : ℕ). m % 16) read ∙ e)
+
+-- ---- DMAGO
+
+-- the debug registers of a DMAGO
+abbrev word : Bool → ℕ → ℕ
+word nonsecure n = (0xA0 + 2 * flag nonsecure) * 2 ^ 16 + n * 2 ^ 24
+
+abbrev written_both : Bool → ℕ → ℕ → DeviceValue → DeviceValue
+written_both nonsecure n addr d = record d { dbginst0 = word nonsecure n; dbginst1 = addr }
+
+for_manager : (nonsecure : Bool) (n : ℕ) → field 0 1 (word nonsecure n) ≡ 0
+for_manager true n = omega arith
+for_manager false n = omega arith
+
+opcode_is : (nonsecure : Bool) (n : ℕ) → field 16 8 (word nonsecure n) ≡ 0xA0 + 2 * flag nonsecure
+opcode_is true n = omega arith
+opcode_is false n = omega arith
+
+channel_is : (nonsecure : Bool) (n : ℕ) → n < 8 → field 24 8 (word nonsecure n) ≡ n
+channel_is true n h = omega arith
+channel_is false n h = omega arith
+
+abbrev executed : List Piece → DeviceValue → ℕ → ℕ → ℕ → ℕ → DeviceValue
+executed ram d opcode byte n b = if b == 1 then by_thread n (slice_get d.threads n) opcode byte d else by_manager ram opcode byte d
+
+flag_clear : (b : Bool) → flag b ≡ 0 → b ≡ false
+flag_clear true h = absurd (omega arith)
+flag_clear false h = refl
+
+pub set_found : (ts : List Thread) (n : ℕ) (th new : Thread) → slice_get ts n ≡ Some th → slice_get (slice_set ts n new) n ≡ Some new
+set_found ts n th new is =
+    let within = slice_get_within ts n th is in
+    let fits : n < length (slice_set ts n new) = omega (arith, length-set {A = Thread}) in
+    slice_get-get_or (slice_set ts n new) n th fits ∙ ap Some (get_or-set_same ts n new th within)
+
+-- what the manager does
+by_opcode : (ram : List Piece) (nonsecure : Bool) (n : ℕ) (e : DeviceValue) → e.manager.is_faulting ≡ false → by_manager ram (0xA0 + 2 * flag nonsecure) n e ≡ go ram nonsecure n (slice_get e.threads n) e
+by_opcode ram true n e calm = rw calm refl
+by_opcode ram false n e calm = rw calm refl
+
+go_starts : (ram : List Piece) (nonsecure : Bool) (n : ℕ) (th : Thread) (e : DeviceValue) → (e.config.nonsecure && not nonsecure) ≡ false → is_stopped th ≡ true → go ram nonsecure n (Some th) e ≡ with_thread n (started nonsecure e.dbginst1 (program_at ram e.dbginst1)) e
+go_starts ram nonsecure n th e allowed stopped = rw (allowed, stopped) refl
+
+-- the thread after a driver's writes of a DMAGO
+pub dmago_starts : (ram : List Piece) (nonsecure : Bool) (n addr : ℕ) (d : DeviceValue) → MayGo d nonsecure n → slice_get (go_written ram nonsecure n addr d).threads n ≡ Some (started nonsecure addr (program_at ram addr))
+dmago_starts ram nonsecure n addr d may =
+    let e = written_both nonsecure n addr d in
+    let w = word nonsecure n in
+    let th = get_or d.threads n reset_thread in
+    let is = slice_get-get_or d.threads n reset_thread may.channel in
+    let stopped = reads_stopped d n th may.few is may.stopped in
+    let new = started nonsecure addr (program_at ram addr) in
+    let all : go_written ram nonsecure n addr d ≡ with_thread n new e =
+    ap (λ (o : ℕ). executed ram e o (field 24 8 w) (field 8 3 w) (field 0 1 w)) (opcode_is nonsecure n)
+    ∙ ap (λ (b : ℕ). executed ram e (0xA0 + 2 * flag nonsecure) b (field 8 3 w) (field 0 1 w)) (channel_is nonsecure n may.few)
+    ∙ ap (executed ram e (0xA0 + 2 * flag nonsecure) n (field 8 3 w)) (for_manager nonsecure n)
+    ∙ by_opcode ram nonsecure n e (flag_clear d.manager.is_faulting may.manager)
+    ∙ ap (λ (o : Option Thread). go ram nonsecure n o e) is
+    ∙ go_starts ram nonsecure n th e may.allowed stopped in
+    ap (λ (v : DeviceValue). slice_get v.threads n) all ∙ set_found d.threads n th new is

@@ -1,0 +1,66 @@
+-- Accesses in a row: what a guest's driver and its processor do to a device and to RAM, and the turns that a host gives
+-- to channels, in any order.
+use Rattle.std.specs.Prelude.{◌≡◌, ℕ, List, [], ◌∷◌, map, slice_set}
+use Rattle.dma_mem.specs.Regions.{image_of, pieces_of, read_only_of}
+use Rattle.dma_mem.specs.declared.regions.Region.{Region}
+use Rattle.dma_chan.specs.LentRegions.{segment_of}
+use Rattle.dma_device.specs.declared.device.turns.Turn.{Turn}
+use Rattle.dma_device.specs.Device.{DeviceValue, read_at, written}
+use Rattle.dma_device.specs.Turns.{TakesTurn}
+
+-- A read or a write of the register at an offset, a turn of channel n of at most `most` steps, or a byte that the
+-- processor writes to an address of RAM.
+pub data Access : Type 0 where
+  Reads : ℕ → Access
+  Writes : ℕ → ℕ → Access
+  Turns : ℕ → ℕ → Access
+  Stores : ℕ → ℕ → Access
+
+-- what an access returns
+pub data Answer : Type 0 where
+  Value : ℕ → Answer
+  Done : Answer
+  Turned : Turn → Answer
+
+-- Regions have the same pieces as others, and the same of them are read-only.
+pub record AreAlike (left regions : List Region) : Type 0 where
+  pub pieces : pieces_of left ≡ pieces_of regions
+  pub read_only : read_only_of left ≡ read_only_of regions
+
+-- What an access makes of a device and of the regions, and what it returns.
+abbrev pub Does : Access → DeviceValue → List Region → Answer → DeviceValue → List Region → Type 0
+Does (Reads at) d regions answer e left =
+    (answer ≡ Value (read_at d at)) × (e ≡ d) × AreAlike left regions
+Does (Writes at value) d regions answer e left =
+    (answer ≡ Done) × (e ≡ written (pieces_of regions) at value d) × AreAlike left regions
+Does (Turns n most) d regions answer e left =
+    (turn : Turn) × ((answer ≡ Turned turn) × TakesTurn d regions n most e left turn)
+Does (Stores addr byte) d regions answer e left =
+    (answer ≡ Done) × (e ≡ d) × (map segment_of left ≡ map segment_of regions)
+    × (read_only_of left ≡ read_only_of regions)
+    × (image_of (pieces_of left) ≡ slice_set (image_of (pieces_of regions)) addr byte)
+
+-- the next of some accesses, and those after it, which `Rest` describes
+pub record Next (a : Access) (Rest : DeviceValue → List Region → List Answer → Type 0) (d : DeviceValue)
+    (regions : List Region) (answers : List Answer) : Type 0 where
+  pub answer : Answer
+  pub later : List Answer
+  pub both : answers ≡ answer ∷ later
+  pub middle : DeviceValue
+  pub lent : List Region
+  pub does : Does a d regions answer middle lent
+  pub rest : Rest middle lent later
+
+-- What these accesses in a row make of a device and of the regions, and what they return.
+abbrev pub Happens : List Access → DeviceValue → List Region → List Answer → DeviceValue → List Region → Type 0
+Happens [] d regions answers e left = (answers ≡ []) × (e ≡ d) × AreAlike left regions
+Happens (a ∷ more) d regions answers e left =
+    Next a (λ middle lent later. Happens more middle lent later e left) d regions answers
+
+-- For every list of accesses, the device and RAM before them determine what each returns, and the device, with its
+-- lines, and all of RAM after them.
+abbrev pub AccessesAreDetermined : Type 0
+AccessesAreDetermined =
+    (accesses : List Access) (d e f : DeviceValue) (regions left other : List Region) (answers again : List Answer) →
+    Happens accesses d regions answers e left → Happens accesses d regions again f other →
+    (again ≡ answers) × (f ≡ e) × AreAlike other left

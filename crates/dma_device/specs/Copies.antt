@@ -1,0 +1,90 @@
+-- What a program that a DMAGO starts copies, if it is the compiled program of a transfer.
+use Rattle.std.specs.Prelude.{◌≡◌, ◌≢◌, ℕ, ◌+◌, ◌*◌, ◌%◌, ◌^◌, ◌<◌, Bool, true, false, not, ◌&&◌, List, ◌++◌, length, slice_get, slice_index, IfSome, IsTrue}
+use Rattle.dma_insn.specs.ControlWord.{flag}
+use Rattle.dma_mem.specs.Image.{laid}
+use Rattle.dma_mem.specs.Places.{Descriptor, lies_below, size_of}
+use Rattle.dma_mem.specs.Regions.{Piece, image_of, in_order, pieces_of}
+use Rattle.dma_mem.specs.Rules.{IsTransfer}
+use Rattle.dma_mem.specs.declared.regions.Region.{Region}
+use Rattle.dma_chan.specs.Compiled.{compiled}
+use Rattle.dma_chan.specs.LentRegions.{HaveAll}
+use Rattle.dma_chan.specs.Others.{Touches}
+use Rattle.dma_device.specs.Device.{DeviceValue, program_at, read_at, written}
+use Rattle.dma_device.specs.Turns.{TakesTurn}
+use Rattle.dma_device.specs.declared.config.BusWidth.TheVariants.{Bits128}
+use Rattle.dma_device.specs.declared.device.turns.Turn.{Turn}
+
+-- the device after the writes of a driver that starts channel n by a DMAGO of the program at an address
+abbrev pub go_written : List Piece → Bool → ℕ → ℕ → DeviceValue → DeviceValue
+go_written ram nonsecure n addr d =
+    written ram 0xD04 0 (written ram 0xD0C addr (
+    written ram 0xD08 ((0xA0 + 2 * flag nonsecure) * 2 ^ 16 + n * 2 ^ 24) d))
+
+-- bits 3:0 of CSR n, as a read returns them: 0 if the channel is stopped
+abbrev pub csr_status : DeviceValue → ℕ → ℕ
+csr_status d n = read_at d (0x100 + 8 * n) % 16
+
+-- A driver may start channel n: the device has it, it is stopped, FSRD reads as 0, and a non-secure manager starts only
+-- non-secure channels.
+pub record MayGo (d : DeviceValue) (nonsecure : Bool) (n : ℕ) : Type 0 where
+  pub channel : n < length d.threads
+  pub few : n < 8
+  pub stopped : csr_status d n ≡ 0
+  pub manager : read_at d 0x030 ≡ 0
+  pub allowed : (d.config.nonsecure && not nonsecure) ≡ false
+
+-- the bytes that a DMAGO reads at an address begin with a transfer's program
+abbrev pub HasProgram : List Piece → ℕ → Descriptor → Type 0
+HasProgram ram addr t = (extra : List ℕ) × (program_at ram addr ≡ (compiled t).bytes ++ extra)
+
+-- the image of the memory that regions lend
+abbrev pub image_in : List Region → List ℕ
+image_in regions = image_of (pieces_of regions)
+
+-- Turns of channel n, which a DMAGO has started. Turn number k goes from `before k` and the regions `lent k` to
+-- `after k` and `left k`. Between two turns the guest and other channels may do anything to the device except to thread
+-- n, and may write any byte that the transfer neither reads nor writes. In each turn the transfer's ranges lie below the
+-- end of the regions.
+pub record TurnsAmongOthers (t : Descriptor) (ram : List Piece) (nonsecure : Bool) (n addr : ℕ) (d : DeviceValue)
+    (turns : ℕ) (before after : ℕ → DeviceValue) (lent left : ℕ → List Region) : Type 0 where
+  pub begins : slice_get (before 0).threads n ≡ slice_get (go_written ram nonsecure n addr d).threads n
+  pub takes : (k : ℕ) → k < turns →
+      (most : ℕ) × ((turn : Turn) × TakesTurn (before k) (lent k) n most (after k) (left k) turn)
+  pub below : (k : ℕ) → k < turns → lies_below t (length (image_in (lent k))) ≡ true
+  pub goes_on : (k : ℕ) → k + 1 < turns → slice_get (before (k + 1)).threads n ≡ slice_get (after k).threads n
+  pub unchanged : (k a : ℕ) → k + 1 < turns → Touches t a →
+      slice_index (image_in (lent (k + 1))) a ≡ slice_index (image_in (left k)) a
+
+-- If the program in RAM is that of a transfer, then once CSR n reads as stopped after a turn, each address that the
+-- transfer touches has the same byte as after one simultaneous copy of all the transfer's bytes in the memory at the
+-- first turn.
+abbrev pub DmagoCopies : Type 0
+DmagoCopies =
+    (t : Descriptor) (ram : List Piece) (nonsecure : Bool) (n addr : ℕ) (d : DeviceValue) (turns : ℕ)
+    (before after : ℕ → DeviceValue) (lent left : ℕ → List Region) →
+    IsTransfer t → MayGo d nonsecure n → HasProgram ram addr t →
+    TurnsAmongOthers t ram nonsecure n addr d turns before after lent left →
+    (k a : ℕ) → k < turns → csr_status (after k) n ≡ 0 → Touches t a →
+    slice_index (image_in (left k)) a ≡ slice_index (laid (image_in (lent 0)) t (size_of t)) a
+
+-- Regions are in order and contain all addresses that a transfer touches, and none that it writes is read-only.
+pub record Reach (regions : List Region) (t : Descriptor) : Type 0 where
+  pub order : IsTrue (in_order (pieces_of regions))
+  pub have : HaveAll regions t
+
+-- A device has the events that a transfer waits for and signals.
+pub record HasEvents (d : DeviceValue) (t : Descriptor) : Type 0 where
+  pub wait : IfSome t.wait (λ e. e < d.config.events)
+  pub signal : IfSome t.signal (λ e. e < d.config.events)
+
+-- If in each turn the regions contain all addresses that the transfer touches, and the device has its events and a bus
+-- of 128 bits, then CSR n never reads as faulting after a turn.
+abbrev pub DmagoNeverFails : Type 0
+DmagoNeverFails =
+    (t : Descriptor) (ram : List Piece) (nonsecure : Bool) (n addr : ℕ) (d : DeviceValue) (turns : ℕ)
+    (before after : ℕ → DeviceValue) (lent left : ℕ → List Region) →
+    IsTransfer t → MayGo d nonsecure n → HasProgram ram addr t →
+    TurnsAmongOthers t ram nonsecure n addr d turns before after lent left →
+    ((k : ℕ) → k < turns → Reach (lent k) t) → ((k : ℕ) → k < turns → HasEvents (before k) t) →
+    ((k : ℕ) → k < turns → (before k).config.bus ≡ Bits128) →
+    (k : ℕ) → k < turns → csr_status (after k) n ≢ 15

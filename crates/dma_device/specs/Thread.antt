@@ -1,0 +1,142 @@
+-- A channel thread: its status and its fault, and what a call of its channel makes of them.
+use Rattle.std.specs.Prelude.{ℕ, ◌+◌, ◌-◌, ◌*◌, ◌%◌, ◌^◌, Bool, true, false, not, ◌&&◌, ◌||◌, ◌==◌, nat_lt, List, Option, Some, None, Result, Ok, is_some, if◌then◌else◌}
+use Rattle.std.specs.Int.{bit_at}
+use Rattle.dma_insn.specs.ControlWord.{field}
+use Rattle.dma_insn.specs.declared.insn.Insn.{Insn}
+use Rattle.dma_insn.specs.declared.insn.Insn.TheVariants.{Mov}
+use Rattle.dma_insn.specs.declared.insn.Reg.TheVariants.{Ccr}
+use Rattle.dma_chan.specs.Channel.{unloaded, loaded}
+use Rattle.dma_chan.specs.declared.turn.ChanTurn.{ChanTurn}
+use Rattle.dma_chan.specs.declared.turn.ChanTurn.TheVariants.{Moved, Waiting, Ended, Fault}
+use Rattle.dma_chan.specs.declared.turn.FaultKind.{FaultKind}
+use Rattle.dma_chan.specs.declared.turn.FaultKind.TheVariants.{UndefInstr, OperandInvalid, MfifoErr, StDataUnavailable, InstrFetchErr, DataWriteErr, DataReadErr}
+use Rattle.dma_device.specs.Config.{bus_code}
+use Rattle.dma_device.specs.declared.config.BusWidth.{BusWidth}
+use Rattle.dma_device.specs.declared.config.BusWidth.TheVariants.{Bits128}
+use Rattle.dma_device.specs.declared.thread.Status.{Status}
+use Rattle.dma_device.specs.declared.thread.Status.TheVariants.{Stopped, Executing, WaitingForEvent, Faulting}
+use Rattle.dma_device.specs.declared.thread.Thread.{Thread}
+
+-- ---- faults (DMA-330 manual, fault type registers)
+
+abbrev pub undef_instr : ℕ
+undef_instr = 2 ^ 0
+
+abbrev pub operand_invalid : ℕ
+operand_invalid = 2 ^ 1
+
+abbrev pub dmago_err : ℕ
+dmago_err = 2 ^ 4
+
+abbrev pub lockup_err : ℕ
+lockup_err = 2 ^ 31
+
+-- beside another bit: the instruction came from the debug registers
+abbrev pub dbg_instr : ℕ
+dbg_instr = 2 ^ 30
+
+-- the bit of a channel's fault in FTR
+abbrev pub fault_bit : FaultKind → ℕ
+fault_bit UndefInstr = undef_instr
+fault_bit OperandInvalid = operand_invalid
+fault_bit MfifoErr = 2 ^ 12
+fault_bit StDataUnavailable = 2 ^ 13
+fault_bit InstrFetchErr = 2 ^ 16
+fault_bit DataWriteErr = 2 ^ 17
+fault_bit DataReadErr = 2 ^ 18
+
+-- ---- a thread
+
+-- bits 8:0 of CSR (DMA-330 manual, channel status registers): the status in bits 3:0, the awaited event in bits 8:4
+abbrev pub status_bits : Status → ℕ
+status_bits Stopped = 0
+status_bits Executing = 1
+status_bits (WaitingForEvent e) = 4 + e * 16
+status_bits Faulting = 15
+
+abbrev pub is_faulting_status : Status → Bool
+is_faulting_status Faulting = true
+is_faulting_status s = false
+
+-- whether a thread is faulting
+abbrev pub is_faulting : Thread → Bool
+is_faulting t = is_faulting_status t.status
+
+abbrev pub is_stopped_status : Status → Bool
+is_stopped_status Stopped = true
+is_stopped_status s = false
+
+-- whether a thread is stopped
+abbrev pub is_stopped : Thread → Bool
+is_stopped t = is_stopped_status t.status
+
+-- Whether a thread is executing or waiting: it has a program and isn't faulting.
+abbrev pub runs : Thread → Bool
+runs t = is_some t.channel.program && not (is_faulting t)
+
+-- whether a status is no wait, or one for an event whose flag is set
+abbrev pub is_signalled : ℕ → Status → Bool
+is_signalled events (WaitingForEvent e) = bit_at events e == 1
+is_signalled events s = true
+
+-- whether a step of a thread does more than wait, with these flags of events
+abbrev pub can_step : ℕ → Thread → Bool
+can_step events t = runs t && is_signalled events t.status
+
+-- Whether an instruction is a DMAMOV CCR whose beats are wider than a bus of less than 128 bits. The codes of the sizes
+-- are in bits 3:1 and 17:15 (DMA-330 manual, channel control registers).
+abbrev pub is_too_wide : BusWidth → Result Insn FaultKind → Bool
+is_too_wide Bits128 next = false
+is_too_wide bus (Ok (Mov Ccr v)) = nat_lt (bus_code bus) (field 1 3 v) || nat_lt (bus_code bus) (field 15 3 v)
+is_too_wide bus next = false
+
+-- a thread after a reset
+abbrev pub reset_thread : Thread
+reset_thread = record { channel = unloaded; status = Stopped; fault = 0; nonsecure = false; base = 0; pc = 0 }
+
+-- A thread that fails. FTR keeps the fault until the next DMAGO, and the thread stays faulting until a DMAKILL.
+abbrev pub failed : ℕ → Thread → Thread
+failed why t = record t { status = Faulting; fault = why }
+
+-- a thread after a DMAKILL; its registers and FTR keep their values
+abbrev pub killed : Thread → Thread
+killed t = record t { channel = record (t.channel) { program = None }; status = Stopped }
+
+-- a thread after a DMAGO with a program that begins at address `base`; its registers are 0 (profile)
+abbrev pub started : Bool → ℕ → List ℕ → Thread
+started nonsecure base program = record {
+  channel = loaded (record { bytes = program; cost = None });
+  status = Executing;
+  fault = 0;
+  nonsecure = nonsecure;
+  base = base;
+  pc = base;
+}
+
+-- ---- a call of its channel
+
+-- The thread after its channel moved. The flag that the last step set, if any, is that of an event; one that the device
+-- doesn't have is an invalid operand, and CPC is that of the DMASEV, which has two bytes.
+abbrev pub moved : ℕ → Thread → Option ℕ → Thread
+moved events t None = record t { status = Executing }
+moved events t (Some e) =
+    if nat_lt e events then record t { status = Executing }
+    else failed operand_invalid (record t { pc = (t.pc + (2 ^ 32 - 2)) % 2 ^ 32 })
+
+-- the thread at a DMAWFE of an event; one that the device doesn't have is an invalid operand
+abbrev pub waited : ℕ → Thread → ℕ → Thread
+waited events t e = if nat_lt e events then record t { status = WaitingForEvent e } else failed operand_invalid t
+
+-- The thread after a call of its channel, in a device with this number of events, by the answer of the call's last step
+-- and the event whose flag it set. A call without a step is a program that has executed 2^32 - 1 instructions.
+abbrev pub answer : ℕ → Thread → Option ChanTurn → Option ℕ → Thread
+answer events t None signal = failed lockup_err t
+answer events t (Some Moved) signal = moved events t signal
+answer events t (Some (Waiting e)) signal = waited events t e
+answer events t (Some Ended) signal = record t { status = Stopped }
+answer events t (Some (Fault kind)) signal = failed (fault_bit kind) t
+
+-- `answer`, with CPC the address of the next instruction
+abbrev pub answered : ℕ → Thread → Option ChanTurn → Option ℕ → Thread
+answered events t last signal =
+    answer events (record t { pc = (t.base + t.channel.registers.pc) % 2 ^ 32 }) last signal

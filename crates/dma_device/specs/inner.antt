@@ -1,0 +1,2 @@
+-- Definitions that no reader of a contract has to trust.
+pub mod Fields

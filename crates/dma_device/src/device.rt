@@ -1,0 +1,176 @@
+//! The device: its registers, its manager and its channel threads.
+
+ghost use Rattle.std.specs.Prelude.{◌≡◌, ◌^◌, ◌-◌, ◌≤◌, true, length, replicate, IfErr, IfOk, OnOk, if◌then◌else◌};
+ghost use Rattle.dma_device.specs.Config.{is_valid};
+ghost use Rattle.dma_device.specs.Device.{all_events, irq_abort, irqs, reset_device};
+ghost use Rattle.dma_device.specs.Thread.{can_step, reset_thread};
+ghost use Rattle.dma_device.specs.Turns.{events_of};
+ghost use Rattle.std.specs.List.{list_any};
+
+use crate::config::{Config, NewFault};
+use crate::device::registers::any_faulting;
+use crate::thread::Thread;
+use dma_mem::marks::Marks;
+use std::alloc::{AllocError, Global};
+use std::marker::Model;
+
+mod debug;
+mod registers;
+mod saving;
+pub mod turns;
+
+/// The manager thread.
+#[derive(Clone, Copy, Debug, PartialEq, Eq)]
+pub struct Manager {
+    /// Whether it is faulting; else it is stopped.
+    pub is_faulting: bool,
+    /// FTRD: why it is, or was, faulting.
+    pub fault: u32,
+}
+
+/// A DMA-330. Contracts see its configuration, its registers and its threads, and not what a channel keeps beside its
+/// value.
+#[derive(Drop)]
+pub struct Device {
+    config: Config,
+    // INT_EVENT_RIS and INTEN.
+    raised: u32,
+    inten: u32,
+    dbginst0: u32,
+    dbginst1: u32,
+    manager: Manager,
+    threads: Vec<Thread>,
+    // Always empty.
+    marks: Marks,
+}
+
+impl Model for Device {
+    ghost use Rattle.dma_device.specs.Device.{DeviceValue};
+
+    ghost Value = { DeviceValue };
+
+    ghost use Rattle.dma_device.specs.inner.Fields.{IsDevice, device_value};
+
+    ghost view = { device_value };
+
+    ghost invariant = { IsDevice };
+}
+
+// Returns threads in their state after a reset.
+fn new_threads(alloc: Global, count: u8) -> Result<Vec<Thread>, AllocError>
+    ensures { IfOk result (λ threads. threads.items ≡ replicate count reset_thread) }
+{
+    let mut threads = Vec::new(alloc);
+    for _n in 0..count {
+        let thread = Thread::new(alloc)?;
+        threads.push(thread)?;
+    }
+    Ok(threads)
+}
+
+// Returns whether a step of a thread does more than wait, with these flags of events.
+fn any_can_step(threads: &[Thread], events: u32) -> bool
+    ensures { result ≡ list_any (can_step events) threads.now }
+{
+    for thread in threads {
+        if thread.can_step(events) {
+            return true;
+        }
+    }
+    false
+}
+
+// Puts threads into their state after a reset.
+fn reset_threads(threads: &mut [Thread])
+    ensures { threads.new ≡ replicate (length threads.old) reset_thread }
+{
+    for n in 0..threads.len() {
+        threads[n].reset();
+    }
+}
+
+impl Device {
+    /// Returns a device in its state after a reset. Only this call allocates memory: its channels have room for the
+    /// longest programs.
+    ///
+    /// The error is `BadConfig` for a configuration that no device can have, else `NoMemory`.
+    pub fn new(alloc: Global, config: Config) -> Result<Device, NewFault>
+        ensures ok { IfOk result (λ device. device ≡ reset_device config) }
+        ensures valid { OnOk result (is_valid config ≡ true) }
+        ensures err { IfErr result (λ fault.
+            fault ≡ (if is_valid config then NewFault.NoMemory else NewFault.BadConfig)) }
+    {
+        if !config.is_valid() {
+            return Err(NewFault::BadConfig);
+        }
+        match Device::after_reset(alloc, config) {
+            Ok(device) => Ok(device),
+            Err(_) => Err(NewFault::NoMemory),
+        }
+    }
+
+    // Returns a device in its state after a reset.
+    fn after_reset(alloc: Global, config: Config) -> Result<Device, AllocError>
+        requires { is_valid config ≡ true }
+        ensures { IfOk result (λ device. device ≡ reset_device config) }
+    {
+        let threads = new_threads(alloc, config.channels)?;
+        Ok(Device {
+            config,
+            raised: 0,
+            inten: 0,
+            dbginst0: 0,
+            dbginst1: 0,
+            manager: Manager {
+                is_faulting: false,
+                fault: 0,
+            },
+            threads,
+            marks: Marks::new(alloc),
+        })
+    }
+
+    /// Puts the device into its state after a reset.
+    pub fn reset(&mut self)
+        ensures { self.new ≡ reset_device self.old.config }
+    {
+        reset_threads(&mut self.threads);
+        self.raised = 0;
+        self.inten = 0;
+        self.dbginst0 = 0;
+        self.dbginst1 = 0;
+        self.manager = Manager {
+            is_faulting: false,
+            fault: 0,
+        };
+    }
+
+    /// Returns the lines irq[31:0]. irq[n] is high until the guest clears interrupt n.
+    pub fn irqs(&self) -> u32
+        ensures { result ≡ irqs self.now }
+    {
+        self.raised & self.inten
+    }
+
+    /// Returns the line irq_abort, which is high until the guest kills each faulting thread.
+    pub fn irq_abort(&self) -> bool
+        ensures { result ≡ irq_abort self.now }
+    {
+        self.manager.is_faulting || any_faulting(&self.threads)
+    }
+
+    /// Returns whether a step of any channel does more than wait. If not, nothing happens until the guest's next write.
+    pub fn can_step(&self) -> bool
+        ensures { result ≡ list_any (can_step (events_of self.now)) self.now.threads }
+    {
+        any_can_step(&self.threads, self.events())
+    }
+
+    // Returns a bit for each event that the device has.
+    fn all_events(&self) -> u32
+        ensures { result ≡ all_events self.now }
+    {
+        let count = self.config.events;
+        ((1u64 << count) - 1) as u32
+    }
+}

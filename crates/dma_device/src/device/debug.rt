@@ -1,0 +1,145 @@
+//! Writes of the registers, and the debug instruction.
+
+ghost use Rattle.std.specs.Prelude.{◌≡◌, ◌^◌, ◌<◌, Some, length, slice_get, if◌then◌else◌};
+ghost use Rattle.dma_mem.specs.Regions.{pieces_of};
+ghost use Rattle.dma_insn.specs.ControlWord.{field};
+ghost use Rattle.dma_device.specs.Device.{by_manager, by_thread, debugged, go, gone, is_event, manager_failed, program_at, signalled, with_thread, written};
+ghost use Rattle.dma_device.specs.Thread.{failed, killed, started};
+
+use crate::device::Device;
+use crate::thread::{DBG_INSTR, DMAGO_ERR, OPERAND_INVALID, UNDEF_INSTR};
+use dma_chan::program::MAX_BYTES;
+use dma_mem::regions::{Region, copy_run};
+
+impl Device {
+    /// Writes the register at this offset for the guest. An offset that has no register ignores writes. A DMAGO reads
+    /// its program from the regions.
+    pub fn write(&mut self, offset: u32, value: u32, regions: &[Region<'_>])
+        ensures { self.new ≡ written (pieces_of regions.now) offset value self.old }
+    {
+        match offset {
+            0x020 => self.inten = value & self.all_events(),
+            0x02C => self.raised &= !(value & self.inten),
+            0xD04 => {
+                if value % 4 == 0 {
+                    self.debug(regions);
+                }
+            }
+            0xD08 => self.dbginst0 = value,
+            0xD0C => self.dbginst1 = value,
+            _ => {}
+        }
+    }
+
+    // Executes the debug instruction.
+    fn debug(&mut self, regions: &[Region<'_>])
+        ensures { self.new ≡ debugged (pieces_of regions.now) self.old }
+    {
+        let word = self.dbginst0;
+        let opcode = (word >> 16) % 256;
+        let byte = (word >> 24) % 256;
+        if word % 2 == 1 {
+            self.debug_thread(((word >> 8) % 8) as usize, opcode, byte);
+        } else {
+            self.debug_manager(regions, opcode, byte);
+        }
+    }
+
+    // Executes an instruction by the manager.
+    fn debug_manager(&mut self, regions: &[Region<'_>], opcode: u32, byte: u32)
+        requires { byte < 2 ^ 8 }
+        ensures { self.new ≡ by_manager (pieces_of regions.now) opcode byte self.old }
+    {
+        if opcode == 0x01 {
+            self.manager.is_faulting = false;
+        } else if self.manager.is_faulting {
+            return;
+        } else if opcode == 0x34 {
+            if self.is_event(byte) {
+                self.signal(byte);
+            } else {
+                self.fail_manager(OPERAND_INVALID);
+            }
+        } else if opcode == 0xA0 || opcode == 0xA2 {
+            self.go(regions, opcode == 0xA2, byte as usize);
+        } else {
+            self.fail_manager(UNDEF_INSTR);
+        }
+    }
+
+    // Makes the manager faulting.
+    fn fail_manager(&mut self, why: u32)
+        requires { why < 2 ^ 30 }
+        ensures { self.new ≡ manager_failed why self.old }
+    {
+        self.manager.is_faulting = true;
+        self.manager.fault = why + DBG_INSTR;
+    }
+
+    // Returns whether this byte is the event of a DMASEV that the device has.
+    fn is_event(&self, byte: u32) -> bool
+        ensures { result ≡ is_event self.now byte }
+    {
+        byte % 8 == 0 && byte / 8 < u32::from(self.config.events)
+    }
+
+    // Sets the flag of a DMASEV's event.
+    fn signal(&mut self, byte: u32)
+        requires { byte < 2 ^ 8 }
+        ensures { self.new ≡ signalled byte self.old }
+    {
+        self.raised |= 1 << (byte / 8);
+    }
+
+    // Executes a DMAGO for channel `n`.
+    fn go(&mut self, regions: &[Region<'_>], nonsecure: bool, n: usize)
+        ensures { self.new
+            ≡ go (pieces_of regions.now) nonsecure n (slice_get self.old.threads n) self.old }
+    {
+        let Some(thread) = self.threads.get(n) else {
+            self.fail_manager(OPERAND_INVALID);
+            return;
+        };
+        let is_stopped = thread.is_stopped();
+        if self.config.nonsecure && !nonsecure {
+            self.fail_manager(DMAGO_ERR);
+        } else if is_stopped {
+            self.start(regions, nonsecure, n);
+        }
+    }
+
+    // Starts channel `n`.
+    fn start(&mut self, regions: &[Region<'_>], nonsecure: bool, n: usize)
+        requires { n < length self.old.threads }
+        ensures { let base = self.old.dbginst1 in self.new
+            ≡ with_thread n (started nonsecure base (program_at (pieces_of regions.now) base))
+            self.old }
+    {
+        let base = self.dbginst1;
+        let mut program = [0; MAX_BYTES];
+        let len = copy_run(regions, base, &mut program);
+        self.threads[n].start(nonsecure, base, &program[..len]);
+    }
+
+    // Executes an instruction by channel thread `n`.
+    fn debug_thread(&mut self, n: usize, opcode: u32, byte: u32)
+        requires { byte < 2 ^ 8 }
+        ensures { self.new ≡ by_thread n (slice_get self.old.threads n) opcode byte self.old }
+    {
+        let Some(thread) = self.threads.get(n) else {
+            return;
+        };
+        let is_faulting = thread.is_faulting();
+        if opcode == 0x01 {
+            self.threads[n].kill();
+        } else if is_faulting {
+            return;
+        } else if opcode != 0x34 {
+            self.threads[n].fail(UNDEF_INSTR + DBG_INSTR);
+        } else if self.is_event(byte) {
+            self.signal(byte);
+        } else {
+            self.threads[n].fail(OPERAND_INVALID + DBG_INSTR);
+        }
+    }
+}

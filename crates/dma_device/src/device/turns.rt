@@ -1,0 +1,140 @@
+//! Turns of channels.
+
+ghost use Rattle.std.specs.Prelude.{◌≡◌, ◌+◌, ◌^◌, ◌<◌, ◌&&◌, IsTrue, length, map, slice_get};
+ghost use Rattle.dma_mem.specs.Regions.{in_order, pieces_of};
+ghost use Rattle.dma_chan.specs.LentRegions.{segment_of};
+ghost use Rattle.dma_device.specs.Turns.{CallsIf, CallsOne, TakesTurn, events_of, nothing, raised_with, raises, runs_at};
+
+use crate::device::Device;
+use crate::thread::OPERAND_INVALID;
+use dma_chan::lent::step_regions;
+use dma_chan::written::joined;
+use dma_insn::insn::Event;
+use dma_mem::events::Events;
+use dma_mem::regions::Region;
+use dma_mem::segment::Segment;
+
+/// What a turn did.
+#[derive(Clone, Copy, Debug, PartialEq, Eq)]
+pub struct Turn {
+    /// The smallest range that contains all addresses that it wrote.
+    pub written: Segment,
+    /// Whether a line of `irqs`, or `irq_abort`, has changed.
+    pub lines_changed: bool,
+}
+
+// What a call did.
+#[derive(Clone, Copy)]
+pub(crate) struct Called {
+    pub written: Segment,
+    // The event whose flag its last step set, if any.
+    pub signal: Option<Event>,
+}
+
+impl Called {
+    // Nothing.
+    fn nothing() -> Called
+        ensures { result ≡ nothing }
+    {
+        Called {
+            written: Segment { addr: 0, len: 0 },
+            signal: None,
+        }
+    }
+}
+
+impl Device {
+    /// Takes a turn of channel `n` over these regions: at most `most` steps, until one ends, waits, fails or sets a
+    /// flag, or before one that writes apart from the range written so far. On a bus narrower than 128 bits it is one
+    /// step. If the last step raised an interrupt, it takes one more. A channel that is stopped or faulting does
+    /// nothing. A burst that touches an address outside all regions fails, and so does a store that touches a
+    /// read-only region.
+    pub fn step(&mut self, n: u8, most: u32, regions: &mut [Region<'_>]) -> Turn
+        requires { IsTrue (in_order (pieces_of regions.old)) }
+        ensures { TakesTurn self.old regions.old n most self.new regions.new result }
+    {
+        let n = usize::from(n);
+        let before = (self.irqs(), self.irq_abort());
+        let first = self.call_if(most > 0, n, most, regions);
+        let second = self.call_if(self.raises(first.signal), n, 1, regions);
+        Turn {
+            written: joined(first.written, second.written),
+            lines_changed: before.0 != self.irqs() || before.1 != self.irq_abort(),
+        }
+    }
+
+    // Calls channel `n` if `wanted`, unless it doesn't run.
+    fn call_if(&mut self, wanted: bool, n: usize, most: u32, regions: &mut [Region<'_>]) -> Called
+        requires { IsTrue (in_order (pieces_of regions.old)) }
+        ensures calls { CallsIf (wanted && runs_at self.old n) self.old regions.old n most
+            self.new regions.new result }
+        ensures places { map segment_of regions.new ≡ map segment_of regions.old }
+        ensures end { result.written.addr + result.written.len < 2 ^ 32 }
+    {
+        if !wanted || !self.runs(n) {
+            return Called::nothing();
+        }
+        self.call(n, most, regions)
+    }
+
+    // Returns whether the device has thread `n`, and it runs.
+    fn runs(&self, n: usize) -> bool
+        ensures runs { result ≡ runs_at self.now n }
+        ensures within { IsTrue result → n < length self.now.threads }
+    {
+        match self.threads.get(n) {
+            Some(thread) => thread.runs(),
+            None => false,
+        }
+    }
+
+    // Calls channel `n`, which runs.
+    fn call(&mut self, n: usize, most: u32, regions: &mut [Region<'_>]) -> Called
+        requires order { IsTrue (in_order (pieces_of regions.old)) }
+        requires runs { IsTrue (runs_at self.old n) }
+        ensures calls { CallsOne (slice_get self.old.threads n) self.old regions.old n most
+            self.new regions.new result }
+        ensures places { map segment_of regions.new ≡ map segment_of regions.old }
+        ensures end { result.written.addr + result.written.len < 2 ^ 32 }
+    {
+        let config = self.config;
+        if self.threads[n].is_too_wide(config.bus) {
+            self.threads[n].fail(OPERAND_INVALID);
+            return Called::nothing();
+        }
+        let most = config.most(most);
+        let mut events = Events::from_bits(self.events());
+        let thread = &mut self.threads[n];
+        let taken = step_regions(&mut thread.channel, regions, &mut events, &self.marks, most);
+        thread.answer(config.events, taken.last, taken.signal);
+        self.raised = self.raised_with(events.bits());
+        Called {
+            written: taken.written,
+            signal: taken.signal,
+        }
+    }
+
+    // Returns the flags that a channel sees.
+    pub(super) fn events(&self) -> u32
+        ensures { result ≡ events_of self.now }
+    {
+        self.raised & !self.inten
+    }
+
+    // Returns what is raised after a call that left a channel these flags.
+    fn raised_with(&self, flags: u32) -> u32
+        ensures { result ≡ raised_with flags self.now }
+    {
+        self.raised & self.inten | flags & self.all_events()
+    }
+
+    // Returns whether a call raised an interrupt that set the flag of this event, if any.
+    fn raises(&self, signal: Option<Event>) -> bool
+        ensures { result ≡ raises self.now signal }
+    {
+        match signal {
+            Some(event) => (self.inten >> event.number()) % 2 == 1,
+            None => false,
+        }
+    }
+}

@@ -1,0 +1,250 @@
+//! The threads of a device: the manager and the channels.
+
+ghost use Rattle.std.specs.Prelude.{◌≡◌, ◌≤◌, ◌<◌, ◌^◌, length, IsSome, Some, IfOk};
+ghost use Rattle.dma_insn.specs.AssemblyText.{most_bytes};
+ghost use Rattle.dma_chan.specs.Channel.{ahead_of};
+ghost use Rattle.dma_device.specs.Thread.{answer, answered, can_step, fault_bit, is_faulting, is_signalled, is_stopped, is_too_wide, killed, failed, moved, reset_thread, runs, started, status_bits, waited};
+
+use crate::config::BusWidth;
+use dma_chan::channel::Channel;
+use dma_chan::turn::{ChanTurn, FaultKind};
+use dma_insn::insn::{Event, Insn, Reg};
+use std::alloc::{AllocError, Global};
+
+/// Faults by their bits in FTRD and FTR (DMA-330 manual, fault type registers).
+pub const UNDEF_INSTR: u32 = 1 << 0;
+
+pub const OPERAND_INVALID: u32 = 1 << 1;
+
+pub const DMAGO_ERR: u32 = 1 << 4;
+
+pub const MFIFO_ERR: u32 = 1 << 12;
+
+pub const ST_DATA_UNAVAILABLE: u32 = 1 << 13;
+
+pub const INSTR_FETCH_ERR: u32 = 1 << 16;
+
+pub const DATA_WRITE_ERR: u32 = 1 << 17;
+
+pub const DATA_READ_ERR: u32 = 1 << 18;
+/// The instruction came from the debug registers.
+pub const DBG_INSTR: u32 = 1 << 30;
+
+pub const LOCKUP_ERR: u32 = 1 << 31;
+
+/// The status of a channel thread.
+#[derive(Clone, Copy, Debug, PartialEq, Eq)]
+pub enum Status {
+    Stopped,
+    Executing,
+    /// It waits for this event.
+    WaitingForEvent(Event),
+    Faulting,
+}
+
+/// A channel thread.
+#[derive(Drop)]
+pub struct Thread {
+    /// Its program, registers and buffer.
+    pub channel: Channel,
+    pub status: Status,
+    /// FTR: why it is, or was, faulting.
+    pub fault: u32,
+    /// Whether it is in the non-secure state.
+    pub nonsecure: bool,
+    /// The address at which its program begins.
+    pub base: u32,
+    /// CPC: the address of its next instruction.
+    pub pc: u32,
+}
+
+// Returns the bit of a channel's fault in FTR.
+fn fault_bit(kind: FaultKind) -> u32
+    ensures { result ≡ fault_bit kind }
+{
+    match kind {
+        FaultKind::UndefInstr => UNDEF_INSTR,
+        FaultKind::OperandInvalid => OPERAND_INVALID,
+        FaultKind::MfifoErr => MFIFO_ERR,
+        FaultKind::StDataUnavailable => ST_DATA_UNAVAILABLE,
+        FaultKind::InstrFetchErr => INSTR_FETCH_ERR,
+        FaultKind::DataWriteErr => DATA_WRITE_ERR,
+        FaultKind::DataReadErr => DATA_READ_ERR,
+    }
+}
+
+impl Status {
+    /// Returns bits 8:0 of CSR.
+    pub fn bits(self) -> u32
+        ensures bits { result ≡ status_bits self }
+        ensures range { result < 2 ^ 9 }
+    {
+        match self {
+            Status::Stopped => 0,
+            Status::Executing => 1,
+            Status::WaitingForEvent(event) => 4 + u32::from(event.number()) * 16,
+            Status::Faulting => 15,
+        }
+    }
+
+    // Returns whether the status is no wait, or one for an event whose flag is set.
+    fn is_signalled(self, events: u32) -> bool
+        ensures { result ≡ is_signalled events self }
+    {
+        match self {
+            Status::WaitingForEvent(event) => (events >> event.number()) % 2 == 1,
+            _ => true,
+        }
+    }
+}
+
+impl Thread {
+    /// Returns a thread in its state after a reset.
+    pub fn new(alloc: Global) -> Result<Thread, AllocError>
+        ensures { IfOk result (λ thread. thread ≡ reset_thread) }
+    {
+        let channel = Channel::new(alloc)?;
+        Ok(Thread {
+            channel,
+            status: Status::Stopped,
+            fault: 0,
+            nonsecure: false,
+            base: 0,
+            pc: 0,
+        })
+    }
+
+    /// Puts the thread into its state after a reset.
+    pub fn reset(&mut self)
+        ensures { self.new ≡ reset_thread }
+    {
+        self.channel.reset();
+        self.status = Status::Stopped;
+        self.fault = 0;
+        self.nonsecure = false;
+        self.base = 0;
+        self.pc = 0;
+    }
+
+    /// Returns whether the thread is faulting.
+    pub fn is_faulting(&self) -> bool
+        ensures { result ≡ is_faulting self.now }
+    {
+        matches!(self.status, Status::Faulting)
+    }
+
+    /// Returns whether the thread is stopped.
+    pub fn is_stopped(&self) -> bool
+        ensures { result ≡ is_stopped self.now }
+    {
+        matches!(self.status, Status::Stopped)
+    }
+
+    /// Returns whether the thread has a program and isn't faulting.
+    pub fn runs(&self) -> bool
+        ensures { result ≡ runs self.now }
+    {
+        self.channel.is_loaded() && !self.is_faulting()
+    }
+
+    /// Returns whether a step of the thread does more than wait, with these flags of events.
+    pub fn can_step(&self, events: u32) -> bool
+        ensures { result ≡ can_step events self.now }
+    {
+        self.runs() && self.status.is_signalled(events)
+    }
+
+    /// Returns whether the next instruction is a DMAMOV CCR whose beats are wider than a bus of less than 128 bits. (The
+    /// channel itself refuses beats of more than 128 bits.)
+    pub fn is_too_wide(&self, bus: BusWidth) -> bool
+        requires { IsSome self.now.channel.program }
+        ensures { result ≡ is_too_wide bus (ahead_of self.now.channel) }
+    {
+        if let BusWidth::Bits128 = bus {
+            return false;
+        }
+        match self.channel.ahead() {
+            Ok(Insn::Mov(Reg::Ccr, value)) => {
+                bus.code() < (value >> 1) % 8 || bus.code() < (value >> 15) % 8
+            }
+            _ => false,
+        }
+    }
+
+    /// Makes the thread faulting.
+    pub fn fail(&mut self, why: u32)
+        ensures { self.new ≡ failed why self.old }
+    {
+        self.status = Status::Faulting;
+        self.fault = why;
+    }
+
+    /// Stops the thread, as DMAKILL does.
+    pub fn kill(&mut self)
+        ensures { self.new ≡ killed self.old }
+    {
+        self.channel.unload();
+        self.status = Status::Stopped;
+    }
+
+    /// Starts the thread with these bytes as its program, which begins at address `base`.
+    pub fn start(&mut self, nonsecure: bool, base: u32, program: &[u8])
+        requires { length program.now ≤ most_bytes }
+        ensures { self.new ≡ started nonsecure base program.now }
+    {
+        self.channel.load_bytes(program);
+        self.status = Status::Executing;
+        self.fault = 0;
+        self.nonsecure = nonsecure;
+        self.base = base;
+        self.pc = base;
+    }
+
+    /// Sets what the thread shows after a call of its channel with this last answer, which set the flag of `signal`, if
+    /// any. The device has `events` events.
+    pub fn answer(&mut self, events: u8, last: Option<ChanTurn>, signal: Option<Event>)
+        ensures { self.new ≡ answered events self.old last signal }
+    {
+        self.pc = self.base.wrapping_add(self.channel.pc());
+        match last {
+            None => self.fail(LOCKUP_ERR),
+            Some(turn) => self.answer_turn(events, turn, signal),
+        }
+    }
+
+    // Sets what the thread shows after a step with this answer.
+    fn answer_turn(&mut self, events: u8, turn: ChanTurn, signal: Option<Event>)
+        ensures { self.new ≡ answer events self.old (Some turn) signal }
+    {
+        match turn {
+            ChanTurn::Moved => self.go_on(events, signal),
+            ChanTurn::Waiting(event) => self.wait(events, event),
+            ChanTurn::Ended => self.status = Status::Stopped,
+            ChanTurn::Fault(kind) => self.fail(fault_bit(kind)),
+        }
+    }
+
+    // Sets the status after a step that moved and that set the flag of `signal`, if any.
+    fn go_on(&mut self, events: u8, signal: Option<Event>)
+        ensures { self.new ≡ moved events self.old signal }
+    {
+        self.status = Status::Executing;
+        if let Some(event) = signal {
+            if event.number() >= events {
+                self.pc = self.pc.wrapping_add(u32::MAX - 1);
+                self.fail(OPERAND_INVALID);
+            }
+        }
+    }
+
+    // Sets the status at a DMAWFE of this event.
+    fn wait(&mut self, events: u8, event: Event)
+        ensures { self.new ≡ waited events self.old event }
+    {
+        if event.number() < events {
+            self.status = Status::WaitingForEvent(event);
+        } else {
+            self.fail(OPERAND_INVALID);
+        }
+    }
+}
