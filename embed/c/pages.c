@@ -1,12 +1,12 @@
-/* Checks which pages a controller makes: at a start those of the transfer's destinations, and none in the steps after it. It
- * counts the bytes that the library requests: a page has 4,096, everything else here is smaller. Link it with
- * -Wl,--wrap=malloc,--wrap=realloc */
+/* Checks for which pages a controller allocates memory: at a start for those of the transfer's destinations, and for none
+ * in the steps after it. It counts the bytes that the library requests: a chunk of four pages has 16,384, everything else
+ * here is smaller. Link it with -Wl,--wrap=malloc,--wrap=realloc */
 #include "dma330.h"
 
 #include <stdio.h>
 #include <stdlib.h>
 
-#define PAGE 4096
+#define CHUNK 16384
 
 void *__real_malloc(size_t size);
 void *__real_realloc(void *block, size_t size);
@@ -37,13 +37,13 @@ static void is_right(int holds, const char *what)
         failed++, printf("WRONG: %s\n", what);
 }
 
-/* Returns how many whole pages of bytes a call of `most` steps requests. */
-static size_t pages_of_steps(dma330_controller *controller, uint32_t most)
+/* Returns how many whole chunks of bytes a call of `most` steps requests. */
+static size_t chunks_of_steps(dma330_controller *controller, uint32_t most)
 {
     dma330_report report;
     requested = 0;
     is_right(dma330_step(controller, 0, most, &report) == DMA330_OK, "a step failed");
-    return requested / PAGE;
+    return requested / CHUNK;
 }
 
 /* Submits and issues a copy of four bytes. */
@@ -65,19 +65,19 @@ int main(void)
     is_right(dma330_write(&controller, 0x80000, bytes, 4, &conflict) == DMA330_OK, "a write failed");
 
     submit(&controller, 0x80000, 0x80010);
-    is_right(pages_of_steps(&controller, 1) == 0, "a start makes a page, though its destination's page exists");
-    is_right(pages_of_steps(&controller, 100) == 0, "steps make a page");
+    is_right(chunks_of_steps(&controller, 1) == 0, "a start makes a chunk, though its destination's page exists");
+    is_right(chunks_of_steps(&controller, 100) == 0, "steps make a chunk");
 
     submit(&controller, 0x10000, 0x80020);
-    is_right(pages_of_steps(&controller, 1) == 0, "a start makes the page of its source");
-    is_right(pages_of_steps(&controller, 100) == 0, "steps make the page of a source");
+    is_right(chunks_of_steps(&controller, 1) == 0, "a start makes the chunk of its source");
+    is_right(chunks_of_steps(&controller, 100) == 0, "steps make the chunk of a source");
 
     submit(&controller, 0x80000, 0x20000);
-    is_right(pages_of_steps(&controller, 1) == 1, "a start makes another number of pages than its one destination's");
-    is_right(pages_of_steps(&controller, 100) == 0, "steps make a page after the start");
+    is_right(chunks_of_steps(&controller, 1) == 1, "a start makes another number of chunks than its one destination's");
+    is_right(chunks_of_steps(&controller, 100) == 0, "steps make a chunk after the start");
 
-    submit(&controller, 0x80000, 0x30ffe);
-    is_right(pages_of_steps(&controller, 1) == 2, "a start makes another number of pages than its two destinations'");
+    submit(&controller, 0x80000, 0x33ffe);
+    is_right(chunks_of_steps(&controller, 1) == 2, "a start makes another number of chunks than its two destinations'");
     dma330_close(&controller);
     printf("%d passed, %d failed\n", passed, failed);
     return failed != 0;

@@ -70,7 +70,7 @@ pub enum Ask {
     Raise(u8),
     CheckSubmit(u8, CopyOfFour),
     Submit(u8, CopyOfFour),
-    /// A copy of four bytes from 0x100 on, whose destinations lie on the first three pages.
+    /// A copy of four bytes from 0x100 on, whose destinations lie in the first three chunks of memory.
     SubmitOverPages(u8),
     Issue(u8),
     Terminate(u8),
@@ -158,7 +158,7 @@ pub fn answer_to(alloc: Global, engine: &mut Engine, ask: Ask) -> Result<Answer,
 }
 
 fn over_pages(alloc: Global) -> Result<Transfer, TransferFault> {
-    let destinations = [segment(0x0FFE, 3), segment(0x2000, 1)];
+    let destinations = [segment(0x3FFE, 3), segment(0x8000, 1)];
     Transfer::new(alloc, &[segment(0x100, 4)], &destinations, None, None)
 }
 

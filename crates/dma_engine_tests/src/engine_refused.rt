@@ -126,34 +126,34 @@ fn asked_after(
 }
 
 fn pair_after(alloc: Global, lines: &[Line]) -> Result<Pair, Fail> {
-    let asked = engine_after(alloc, 0x3000, lines)?;
-    let other = engine_after(alloc, 0x3000, lines)?;
+    let asked = engine_after(alloc, 0xC000, lines)?;
+    let other = engine_after(alloc, 0xC000, lines)?;
     Ok(Pair { asked, other })
 }
 
 #[test]
 fn calls_without_room(rt: HostRuntime) -> Result<(), Fail> {
     // The lists have no room, since the checkpoint freed it. On channel 0 cookie 1 is finished, cookie 2 is issued,
-    // with destinations on two pages that no write made, and cookie 3 is given.
+    // with destinations in two chunks that no write made, and cookie 3 is given.
     let before = [
         (Write(0x100, &[1, 2, 3, 4]), Done),
         (Submit(0, copy(0x100, 0x200)), Count(1)),
-        (Submit(0, copy(0x200, 0x1FFE)), Count(2)),
+        (Submit(0, copy(0x200, 0x7FFE)), Count(2)),
         (Issue(0), Count(2)),
         (Step(0), Turned(Turn::Started(1))),
         (Advance(0, 9), Advanced(None, 7, Some(Ok(COPIED)))),
-        (Submit(0, copy(0x100, 0x2000)), Count(3)),
+        (Submit(0, copy(0x100, 0x8000)), Count(3)),
         (Raise(5), Done),
-        (Mark(Writing, segment(0x2FFF, 1)), Done),
+        (Mark(Writing, segment(0xBFFF, 1)), Done),
         (Checkpoint, Done),
     ];
     let with_events = CopyOfFour(0x100, 0x200, (Some(3), Some(7)));
     let rows = [
-        // over two pages, one of which isn't made
-        ("write", Write(0x0FFE, &[7, 8, 9]), Done),
-        ("write_owned", WriteOwned(0x0FFE, &[7, 8, 9]), Done),
-        ("read", Read(0x0FFE, 4), Four([0; 4])),
-        ("read_back", ReadBack(0x0FFE, 4), Four([0; 4])),
+        // in two chunks, one of which isn't made
+        ("write", Write(0x3FFE, &[7, 8, 9]), Done),
+        ("write_owned", WriteOwned(0x3FFE, &[7, 8, 9]), Done),
+        ("read", Read(0x3FFE, 4), Four([0; 4])),
+        ("read_back", ReadBack(0x3FFE, 4), Four([0; 4])),
         ("mark", Mark(Reading, segment(0x103, 1)), Done),
         ("unmark", Unmark, Done),
         ("raise", Raise(3), Done),
@@ -201,9 +201,9 @@ fn steps_that_add_an_entry(rt: HostRuntime) -> Result<(), Fail> {
     Ok(())
 }
 
-// The first page exists. If the allocation of the third page is refused, the second one was already made.
+// The first chunk exists. If the allocation of the third chunk is refused, the second one was already made.
 #[test]
-fn a_start_that_makes_two_pages(rt: HostRuntime) -> Result<(), Fail> {
+fn a_start_that_makes_two_chunks(rt: HostRuntime) -> Result<(), Fail> {
     let before = [
         (Write(0x100, &[1, 2, 3, 4]), Done),
         (SubmitOverPages(0), Count(1)),
@@ -211,7 +211,7 @@ fn a_start_that_makes_two_pages(rt: HostRuntime) -> Result<(), Fail> {
         (Checkpoint, Done),
     ];
     let row = (
-        "step that makes two pages",
+        "step that makes two chunks",
         Step(0),
         Turned(Turn::Started(1)),
     );
@@ -221,7 +221,7 @@ fn a_start_that_makes_two_pages(rt: HostRuntime) -> Result<(), Fail> {
     Ok(())
 }
 
-// A front that one call carries out at once allocates room for its entries and its outcome, and two pages. If one of
+// A front that one call carries out at once allocates room for its entries and its outcome, and two chunks. If one of
 // these allocations is refused, the steps follow, and the call is not out of memory.
 #[test]
 fn a_front_within_one_call(rt: HostRuntime) -> Result<(), Fail> {

@@ -4,12 +4,13 @@ pub mod SharedPlaces
 pub mod OverTransfers
 pub mod BytesPut
 pub mod BlockCopies
-pub mod PageChanges
 pub mod TransferRules
 pub mod PlaceAt
 pub mod MarkHits
 pub mod GapMarks
-pub mod PageTables
+pub mod ChunkTables
+pub mod ChunkImages
+pub mod ChunkChanges
 pub mod PageImages
 pub mod PrepareAll
 pub mod WholeMemory

@@ -1,6 +1,6 @@
 -- Definitions behind the private parts: invariants of the types, and contracts of the private functions. No public
 -- clause cites them.
-pub mod PageTable
+pub mod ChunkTable
 pub mod Blocks
 pub mod RangesInOrder
 pub mod MarkRanges

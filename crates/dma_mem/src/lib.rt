@@ -19,6 +19,7 @@ pub mod lists;
 pub mod marks;
 pub mod memory;
 mod ordered;
+mod page_flags;
 pub mod ram;
 pub mod range_set;
 pub mod regions;

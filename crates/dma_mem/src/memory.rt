@@ -1,11 +1,12 @@
 //! A memory of bytes.
 
-ghost use Rattle.std.specs.Prelude.{◌≡◌, ◌≢◌, ℕ, ◌+◌, ◌%◌, ◌/◌, ◌≤◌, ◌⊎◌, ◌++◌, length, take, drop, replicate, slice_get, nat_lt, true, false, if◌then◌else◌, IsTrue, IfOk, IfErr, IfSome, IsSome, OnOk, OnErr};
+ghost use Rattle.std.specs.Prelude.{◌≡◌, ◌≢◌, ℕ, ◌+◌, ◌%◌, ◌/◌, ◌<◌, ◌≤◌, ◌⊎◌, ◌++◌, length, take, drop, replicate, slice_get, nat_lt, true, false, if◌then◌else◌, IsTrue, IfOk, IfErr, IfSome, IsSome, OnOk, OnErr};
 ghost use Rattle.std.specs.List.{list_all, range_with_len};
 ghost use Rattle.dma_mem.specs.Places.{range_of, places, all_below};
 ghost use Rattle.dma_mem.specs.Image.{put, bytes_at, is_size, largest_size};
 ghost use Rattle.dma_mem.specs.Pages.{has_page, is_made, page_size, range_fault, AllMade, Keeps, MakesNoOther};
 
+use crate::page_flags::PageFlags;
 use crate::segment::Segment;
 use crate::table::Table;
 use std::alloc::{AllocError, Global};
@@ -32,26 +33,29 @@ pub enum MemFault {
 /// A memory of 1 to [`MAX_SIZE`] bytes (profile), with addresses from 0. Its pages of 4,096 bytes are made on first
 /// write and kept. Contracts see its image, and which of its pages are made.
 ///
-/// A new memory takes 24 bytes for each 4 MiB of its size. A page that is made takes 4,096 bytes and what the allocator
-/// adds. The first page of each 4 MiB also takes 24 KiB, for the list of their 1,024 pages.
+/// A new memory takes 24 bytes for each 4 MiB of its size. Its bytes are in chunks of four pages. The first page of a
+/// chunk that is made takes 16,384 bytes and what the allocator adds; the other three take nothing. The first page of
+/// each 4 MiB also takes 6 KiB, for the list of their 256 chunks. Flags take a byte or two for each page up to the last
+/// one that is made.
 #[derive(Debug, Drop)]
 pub struct Memory {
     size: u32,
     table: Table,
+    flags: PageFlags,
 }
 
 impl Model for Memory {
     ghost use Rattle.std.specs.Prelude.{◌≤◌, ◌*◌, length};
     ghost use Rattle.dma_mem.specs.Image.{largest_size};
-    ghost use Rattle.dma_mem.specs.Pages.{page_size, Paged};
-    ghost use Rattle.dma_mem.specs.inner.PageTable.{paged};
+    ghost use Rattle.dma_mem.specs.Pages.{Paged};
+    ghost use Rattle.dma_mem.specs.inner.ChunkTable.{chunk_size, paged, HasChunks};
 
     ghost Value = { Paged };
 
-    ghost view = { λ m. paged m.size m.table };
+    ghost view = { λ m. paged m.size m.table m.flags };
 
     ghost invariant = { λ m. (1 ≤ m.size) × (m.size ≤ largest_size)
-        × (m.size ≤ page_size * length m.table) };
+        × (m.size ≤ chunk_size * length m.table) × HasChunks m.flags m.table };
 }
 
 impl Memory {
@@ -68,10 +72,11 @@ impl Memory {
         if size == 0 || size > MAX_SIZE {
             return Err(MemFault::SizeOutOfRange);
         }
-        let Ok(table) = Table::new(alloc, (size as usize).div_ceil(PAGE_SIZE)) else {
+        let Ok(table) = Table::new(alloc, size as usize) else {
             return Err(MemFault::NoMemory);
         };
-        Ok(Memory { size, table })
+        let flags = PageFlags::new(alloc);
+        Ok(Memory { size, table, flags })
     }
 
     /// Returns the size of the memory in bytes, 1 to [`MAX_SIZE`].
@@ -121,6 +126,28 @@ impl Memory {
         self.table.to_vec(alloc, addr as usize, len as usize)
     }
 
+    // Makes the pages of a segment that has bytes and ends below the size.
+    //
+    // The flags are set last, so a call that is out of memory makes no page. It isn't inlined, since it is rare.
+    #[inline(never)]
+    fn make(&mut self, segment: Segment) -> Result<(), AllocError>
+        requires some { 0 < segment.len }
+        requires within { segment.addr + segment.len ≤ length self.old.image }
+        ensures ok { OnOk result (AllMade self.new (range_of segment)) }
+        ensures short { OnErr result (¬ AllMade self.new (range_of segment)) }
+        ensures image { self.new.image ≡ self.old.image }
+        ensures keeps { Keeps self.old self.new }
+        ensures others { MakesNoOther self.old self.new (range_of segment) }
+    {
+        let start = segment.addr as usize;
+        let end = start + segment.len as usize;
+        let page_end = end.div_ceil(PAGE_SIZE);
+        self.flags.make_room(page_end)?;
+        self.table.make(start, end)?;
+        self.flags.set(start / PAGE_SIZE, page_end);
+        Ok(())
+    }
+
     /// Makes the pages of a segment that aren't made yet, and fills them with zeros.
     ///
     /// The error is `OutOfMemoryRange` if the segment ends above the size; then nothing changes. Otherwise it is
@@ -141,8 +168,10 @@ impl Memory {
         if segment.addr as usize + segment.len as usize > self.size as usize {
             return Err(MemFault::OutOfMemoryRange);
         }
-        let start = segment.addr as usize;
-        let Ok(()) = self.table.make(start, start + segment.len as usize) else {
+        if self.made(segment) {
+            return Ok(());
+        }
+        let Ok(()) = self.make(segment) else {
             return Err(MemFault::NoMemory);
         };
         Ok(())
@@ -181,10 +210,14 @@ impl Memory {
         if start == end {
             return true;
         }
-        end <= self.size as usize && self.table.are_made(start, end)
+        end <= self.size as usize
+            && self
+                .flags
+                .are_set(start / PAGE_SIZE, end.div_ceil(PAGE_SIZE))
     }
 
-    /// Returns the `len` bytes from `addr` on without copying them, or `None` if they don't lie on one page.
+    /// Returns the `len` bytes from `addr` on without copying them, or `None` if they aren't in one piece. Those on one
+    /// page are.
     pub fn part(&self, addr: u32, len: u32) -> Option<&[u8]>
         requires { addr + len ≤ length self.now.image }
         ensures bytes { IfSome result (λ part. part.now ≡ take len (drop addr self.now.image)) }
@@ -193,8 +226,8 @@ impl Memory {
         self.table.part(addr as usize, len as usize)
     }
 
-    /// Returns the bytes from `addr` on, as many as `block` has. They are copied to `block` only if they don't lie on
-    /// one page.
+    /// Returns the bytes from `addr` on, as many as `block` has. They are copied to `block` only if they aren't in one
+    /// piece.
     pub fn bytes<'a>(&'a self, addr: u32, block: &'a mut [u8]) -> &'a [u8]
         requires { addr + length block.old ≤ length self.now.image }
         ensures { result.now ≡ take (length block.old) (drop addr self.now.image) }
@@ -264,9 +297,11 @@ impl Memory {
         if addr as usize + bytes.len() > self.size as usize {
             return Err(MemFault::OutOfMemoryRange);
         }
-        let Ok(()) = self.table.write(addr as usize, bytes) else {
+        let len = bytes.len() as u32;
+        let Ok(()) = self.prepare(Segment { addr, len }) else {
             return Err(MemFault::NoMemory);
         };
+        self.write_parts(addr, bytes, &[]);
         Ok(())
     }
 
@@ -275,9 +310,11 @@ impl Memory {
         ensures { IfOk result (λ copy. copy ≡ self.now) }
     {
         let table = self.table.try_copy()?;
+        let flags = self.flags.try_copy()?;
         Ok(Memory {
             size: self.size,
             table,
+            flags,
         })
     }
 }

@@ -35,10 +35,10 @@ fn a_transfer_is_compiled_when_asked_again(rt: HostRuntime) -> Result<(), Fail> 
     Ok(())
 }
 
-// Copies eight bytes from 0x100 to 0x1FF8 and the next eight to 0x2000, each with one beat. Three instructions set the
-// registers; then follow a load and a store, a load and a store, and the end. Each store is the first on its page.
+// Copies eight bytes from 0x100 to 0x7FF8 and the next eight to 0x8000, each with one beat. Three instructions set the
+// registers; then follow a load and a store, a load and a store, and the end. Each store is the first in its chunk.
 static TWO_STORES: &[u8] =
-    b"\xbc\0\0\x01\0\0\xbc\x02\xf8\x1f\0\0\xbc\x01\x07\xc0\x01\0\x04\x08\x04\x08\0";
+    b"\xbc\0\0\x01\0\0\xbc\x02\xf8\x7f\0\0\xbc\x01\x07\xc0\x01\0\x04\x08\x04\x08\0";
 
 static SIXTEEN: [u8; 16] = [1, 2, 3, 4, 5, 6, 7, 8, 9, 10, 11, 12, 13, 14, 15, 16];
 
@@ -47,7 +47,7 @@ static FIRST_EIGHT: [u8; 16] = [1, 2, 3, 4, 5, 6, 7, 8, 0, 0, 0, 0, 0, 0, 0, 0];
 
 // Returns a memory with the bytes to copy.
 fn with_sixteen(alloc: Global) -> Result<Memory, MemFault> {
-    let mut memory = Memory::new(alloc, 0x4000)?;
+    let mut memory = Memory::new(alloc, 0xc000)?;
     memory.write(0x100, &SIXTEEN)?;
     Ok(memory)
 }
@@ -55,7 +55,7 @@ fn with_sixteen(alloc: Global) -> Result<Memory, MemFault> {
 // Returns the bytes of a memory where the program stores.
 fn stored(memory: &Memory) -> Result<[u8; 16], MemFault> {
     let mut bytes = [9; 16];
-    memory.read_into(0x1ff8, &mut bytes)?;
+    memory.read_into(0x7ff8, &mut bytes)?;
     Ok(bytes)
 }
 

@@ -160,43 +160,43 @@ fn a_memory_has_what_was_written(rt: HostRuntime) -> Result<(), Fail> {
     Ok(())
 }
 
-// Copies three bytes that lie on two pages to two other pages.
+// Copies three bytes that lie in two chunks to two other chunks.
 fn copy_three(rt: &impl Abort, memory: &mut Memory) -> Result<(), MemFault> {
-    memory.write(0x0FFE, &[1, 2, 3])?;
+    memory.write(0x3FFE, &[1, 2, 3])?;
     memory.prepare(Segment {
-        addr: 0x2FFF,
+        addr: 0xBFFF,
         len: 3,
     })?;
-    assert!(rt; memory.size() == 0x4000);
-    memory.copy_apart(0x0FFE, 0x2FFF, 3);
+    assert!(rt; memory.size() == 0x1_0000);
+    memory.copy_apart(0x3FFE, 0xBFFF, 3);
     Ok(())
 }
 
-// Fills three addresses that lie on two pages.
+// Fills three addresses that lie in two chunks.
 fn fill_three(rt: &impl Abort, memory: &mut Memory) -> Result<(), MemFault> {
     memory.prepare(Segment {
-        addr: 0x1FFE,
+        addr: 0x7FFE,
         len: 3,
     })?;
-    assert!(rt; memory.size() == 0x4000);
-    memory.fill(0x1FFE, 3, 7);
+    assert!(rt; memory.size() == 0x1_0000);
+    memory.fill(0x7FFE, 3, 7);
     Ok(())
 }
 
 #[test]
-fn blocks_are_moved_across_pages(rt: HostRuntime) -> Result<(), Fail> {
-    let mut memory = Memory::new(rt.alloc(), 0x4000)?;
+fn blocks_are_moved_across_chunks(rt: HostRuntime) -> Result<(), Fail> {
+    let mut memory = Memory::new(rt.alloc(), 0x1_0000)?;
     copy_three(&rt, &mut memory)?;
     fill_three(&rt, &mut memory)?;
     let mut buf = [9; 5];
-    assert!(rt; memory.read_into(0x2FFE, &mut buf) == Ok(()));
+    assert!(rt; memory.read_into(0xBFFE, &mut buf) == Ok(()));
     assert!(rt; buf == [0, 1, 2, 3, 0]);
-    assert!(rt; memory.read_into(0x1FFD, &mut buf) == Ok(()));
+    assert!(rt; memory.read_into(0x7FFD, &mut buf) == Ok(()));
     assert!(rt; buf == [0, 7, 7, 7, 0]);
     Ok(())
 }
 
-// Returns whether, of four pages, exactly the second and the third are allocated, as far as the test looks.
+// Returns whether, of four pages, exactly the second and the third are made, as far as the test looks.
 fn has_middle_pages(memory: &Memory) -> bool {
     memory.made(segment(0x1000, 8192))
         && memory.made(segment(0x0FFF, 0))
@@ -215,7 +215,7 @@ fn the_pages_of_a_segment_are_made(rt: HostRuntime) -> Result<(), Fail> {
     Ok(())
 }
 
-// Returns a memory of four pages, of which a list allocates the first and the last.
+// Returns a memory of four pages, of which a list makes the first and the last.
 fn first_and_last(alloc: Global) -> Result<Memory, MemFault> {
     let mut memory = Memory::new(alloc, 0x4000)?;
     memory.prepare_all(&[segment(0x0FFF, 1), segment(0x3000, 1)])?;

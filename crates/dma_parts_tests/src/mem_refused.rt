@@ -18,8 +18,8 @@ fn memory_with_seven(alloc: Global, size: u32) -> Result<Memory, MemFault> {
     Ok(memory)
 }
 
-// Checks that a memory of 8 MiB has these bytes across its middle, where the second list of pages begins. The pages
-// next to the middle ones aren't allocated.
+// Checks that a memory of 8 MiB has these bytes across its middle, where the second list of chunks begins. The pages
+// next to the middle ones aren't made.
 fn assert_has(rt: &impl Abort, memory: &Memory, middle: [u8; 4]) -> Result<(), Fail> {
     let mut bytes = [9; 4];
     memory.read_into(0x3F_FFFE, &mut bytes)?;
@@ -29,7 +29,7 @@ fn assert_has(rt: &impl Abort, memory: &Memory, middle: [u8; 4]) -> Result<(), F
     Ok(())
 }
 
-// Allocates the page of the 7 and three more, twice if the first call is out of memory.
+// Makes the page of the 7 and three more, twice if the first call is out of memory.
 fn prepare_again(rt: &(impl Abort + Print), memory: &mut Memory) -> Result<(), Fail> {
     let pages = segment(0x3F_DFFF, 0x2002);
     if let Err(fault) = memory.prepare(pages) {

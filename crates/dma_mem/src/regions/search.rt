@@ -45,7 +45,7 @@ fn place_by_search(regions: &[Region<'_>], addr: u32) -> usize
 /// Returns the index of the region that has an address, or the number of regions if none has it. The common case, one of
 /// the first two regions, is decided inline; every other case by binary search.
 #[inline(always)]
-pub fn place(regions: &[Region<'_>], addr: u32) -> usize
+pub(crate) fn place(regions: &[Region<'_>], addr: u32) -> usize
     requires { IsTrue (in_order (pieces_of regions.now)) }
     ensures within { result ≤ length regions.now }
     ensures before { (k : ℕ) → k < result
@@ -73,7 +73,7 @@ pub fn place(regions: &[Region<'_>], addr: u32) -> usize
 /// Returns the index of the region that has all `len` addresses from `addr` on, or the number of regions if none has
 /// them.
 #[inline(always)]
-pub fn region_with_range(regions: &[Region<'_>], addr: u32, len: usize) -> usize
+pub(crate) fn region_with_range(regions: &[Region<'_>], addr: u32, len: usize) -> usize
     requires { IsTrue (in_order (pieces_of regions.now)) }
     ensures within { result ≤ length regions.now }
     ensures found { result < length regions.now → Holds (pieces_of regions.now) result addr len }
@@ -122,7 +122,7 @@ fn clear_by_walk(regions: &[Region<'_>], kind: MarkKind, segment: Segment) -> u3
 /// length if it fails at none. Bursts fail in gaps, and stores also in read-only regions.
 /// The common case, a segment in one region, is decided inline.
 #[inline(always)]
-pub fn clear_of(regions: &[Region<'_>], kind: MarkKind, segment: Segment) -> u32
+pub(crate) fn clear_of(regions: &[Region<'_>], kind: MarkKind, segment: Segment) -> u32
     requires { IsTrue (in_order (pieces_of regions.now)) }
     ensures few { result ≤ segment.len }
     ensures none { Avoids
@@ -144,7 +144,7 @@ pub fn clear_of(regions: &[Region<'_>], kind: MarkKind, segment: Segment) -> u32
 
 /// Returns the end of the last region, or 0 if there are no regions.
 #[inline(always)]
-pub fn size_of(regions: &[Region<'_>]) -> u32
+pub(crate) fn size_of(regions: &[Region<'_>]) -> u32
     requires { IsTrue (in_order (pieces_of regions.now)) }
     ensures { result ≡ length (image_of (pieces_of regions.now)) }
 {

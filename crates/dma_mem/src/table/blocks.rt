@@ -1,34 +1,23 @@
-//! Copies and fills blocks of bytes, whose destinations are on pages that are already made.
+//! Copies and fills blocks of bytes, whose destinations lie in chunks that are already made.
 
 ghost use Rattle.std.specs.Prelude.{◌≡◌, ◌+◌, ◌%◌, ◌<◌, ◌≤◌, ◌⊎◌, ◌^◌, length, slice_set};
 ghost use Rattle.dma_mem.specs.inner.Blocks.{copied, filled, CopiesBlock, FillsBlock};
-ghost use Rattle.dma_mem.specs.Pages.{page_size};
-ghost use Rattle.dma_mem.specs.inner.PageTable.{page_at, page_of, RangeMade, SameLengths};
+ghost use Rattle.dma_mem.specs.inner.ChunkTable.{chunk_size, chunk_at, chunk_of, RangeMade, SameLengths};
 
-use crate::memory::PAGE_SIZE;
-use crate::table::{GROUP_SIZE, Group, Page, Table, put_bytes, shown};
+use crate::table::{CHUNK_SIZE, Chunk, GROUP_SIZE, Group, Table, put_bytes, shown};
 use std::mem;
 
-// Returns how many of the `len` bytes from `start` on lie on the same page as the first.
-fn on_one_page(start: usize, len: usize) -> usize
+// Returns how many of the `len` bytes from `start` on lie in the same chunk as the first.
+fn in_one_chunk(start: usize, len: usize) -> usize
     ensures most { result ≤ len }
     ensures some { 0 < len → 0 < result }
-    ensures fits { start % page_size + result ≤ page_size }
+    ensures fits { start % chunk_size + result ≤ chunk_size }
 {
-    len.min(PAGE_SIZE - start % PAGE_SIZE)
-}
-
-// Copies `len` bytes of a slice from index `from` to index `to`.
-pub(crate) fn copy_bytes(all: &mut [u8], from: usize, to: usize, len: usize)
-    requires source { from + len ≤ length all.old }
-    requires within { to + len ≤ length all.old }
-    ensures { all.new ≡ copied all.old from to len }
-{
-    all.copy_within(from..from + len, to);
+    len.min(CHUNK_SIZE - start % CHUNK_SIZE)
 }
 
 // Copies `len` bytes of a slice from index `from` to index `to`. The two ranges share no index, so they are copied as
-// one block, while `copy_bytes` copies byte by byte.
+// one block, while `copy_within` copies byte by byte.
 pub(crate) fn copy_bytes_apart(all: &mut [u8], from: usize, to: usize, len: usize)
     requires source { from + len ≤ length all.old }
     requires within { to + len ≤ length all.old }
@@ -52,24 +41,25 @@ pub(crate) fn fill_bytes(all: &mut [u8], start: usize, len: usize, byte: u8)
     all[start..start + len].fill(byte);
 }
 
-impl Page {
-    // Copies `len` bytes of the page from offset `from` to offset `to`.
-    fn copy_within(&mut self, from: usize, to: usize, len: usize)
+impl Chunk {
+    // Copies `len` bytes of the chunk from offset `from` to offset `to`. The two ranges share no offset.
+    fn copy_apart(&mut self, from: usize, to: usize, len: usize)
         requires made { 0 < length self.old }
-        requires source { from + len ≤ page_size }
-        requires within { to + len ≤ page_size }
-        ensures whole { length self.new ≡ page_size }
+        requires source { from + len ≤ chunk_size }
+        requires within { to + len ≤ chunk_size }
+        requires apart { (from + len ≤ to) ⊎ (to + len ≤ from) }
+        ensures whole { length self.new ≡ chunk_size }
         ensures len { length self.new ≡ length self.old }
         ensures bytes { self.new ≡ copied self.old from to len }
     {
-        copy_bytes(&mut self.bytes, from, to, len);
+        copy_bytes_apart(&mut self.bytes, from, to, len);
     }
 
-    // Sets the `len` bytes of the page from an offset on to one byte.
+    // Sets the `len` bytes of the chunk from an offset on to one byte.
     fn fill(&mut self, offset: usize, len: usize, byte: u8)
         requires made { 0 < length self.old }
-        requires fits { offset + len ≤ page_size }
-        ensures whole { length self.new ≡ page_size }
+        requires fits { offset + len ≤ chunk_size }
+        ensures whole { length self.new ≡ chunk_size }
         ensures len { length self.new ≡ length self.old }
         ensures bytes { self.new ≡ filled self.old offset len byte }
     {
@@ -78,54 +68,56 @@ impl Page {
 }
 
 impl Group {
-    // Puts a page at an index, and returns the one that was there.
-    fn replace(&mut self, index: usize, page: Page) -> Page
+    // Puts a chunk at an index, and returns the one that was there.
+    fn replace(&mut self, index: usize, chunk: Chunk) -> Chunk
         requires { index < length self.old }
-        ensures old { result ≡ page_at self.old index }
-        ensures new { self.new ≡ slice_set self.old index page }
+        ensures old { result ≡ chunk_at self.old index }
+        ensures new { self.new ≡ slice_set self.old index chunk }
     {
-        mem::replace(&mut self.pages[index], page)
+        mem::replace(&mut self.chunks[index], chunk)
     }
 
-    // Sets `len` bytes of a page that is already made, from an offset on, to one byte.
+    // Sets `len` bytes of a chunk that is already made, from an offset on, to one byte.
     fn fill(&mut self, index: usize, offset: usize, len: usize, byte: u8)
-        requires made { 0 < length (page_at self.old index) }
-        requires fits { offset + len ≤ page_size }
-        ensures whole { length (page_at self.old index) ≡ page_size }
+        requires made { 0 < length (chunk_at self.old index) }
+        requires fits { offset + len ≤ chunk_size }
+        ensures whole { length (chunk_at self.old index) ≡ chunk_size }
         ensures new { self.new
-            ≡ slice_set self.old index (filled (page_at self.old index) offset len byte) }
+            ≡ slice_set self.old index (filled (chunk_at self.old index) offset len byte) }
     {
-        let page = &mut self.pages[index];
-        page.fill(offset, len, byte);
+        let chunk = &mut self.chunks[index];
+        chunk.fill(offset, len, byte);
     }
 }
 
 impl Table {
-    // Copies `len` bytes that lie on one page to addresses that lie on one page, which is already made.
+    // Copies `len` bytes that lie in one chunk to addresses that lie in one chunk, which is already made. The two ranges
+    // share no address.
     //
-    // The destination's page is taken out of the table during the copy, so that the source's page can be read in place.
-    fn copy_on_pages(&mut self, from: usize, to: usize, len: usize)
-        requires source { from % page_size + len ≤ page_size }
-        requires within { to % page_size + len ≤ page_size }
-        requires made { 0 < length (page_of self.old to) }
+    // The destination's chunk is taken out of the table during the copy, so that the source's chunk can be read in place.
+    fn copy_in_chunks(&mut self, from: usize, to: usize, len: usize)
+        requires source { from % chunk_size + len ≤ chunk_size }
+        requires within { to % chunk_size + len ≤ chunk_size }
+        requires made { 0 < length (chunk_of self.old to) }
+        requires apart { (from + len ≤ to) ⊎ (to + len ≤ from) }
         ensures len { SameLengths self.old self.new }
         ensures count { length self.new ≡ length self.old }
         ensures image { CopiesBlock self.old self.new from to len }
     {
-        let (number, offset) = (to / PAGE_SIZE, to % PAGE_SIZE);
-        let empty = Page::new(*self.groups.allocator());
-        let mut page = self.groups[number / GROUP_SIZE].replace(number % GROUP_SIZE, empty);
-        if from / PAGE_SIZE == number {
-            page.copy_within(from % PAGE_SIZE, offset, len);
+        let (number, offset) = (to / CHUNK_SIZE, to % CHUNK_SIZE);
+        let empty = Chunk::new(*self.groups.allocator());
+        let mut chunk = self.groups[number / GROUP_SIZE].replace(number % GROUP_SIZE, empty);
+        if from / CHUNK_SIZE == number {
+            chunk.copy_apart(from % CHUNK_SIZE, offset, len);
         } else {
-            let source = shown(self.page(from / PAGE_SIZE));
-            let start = from % PAGE_SIZE;
-            page.put(offset, &source[start..start + len], &[]);
+            let source = shown(self.chunk(from / CHUNK_SIZE));
+            let start = from % CHUNK_SIZE;
+            chunk.put(offset, &source[start..start + len], &[]);
         }
-        self.groups[number / GROUP_SIZE].replace(number % GROUP_SIZE, page);
+        self.groups[number / GROUP_SIZE].replace(number % GROUP_SIZE, chunk);
     }
 
-    /// Copies `len` bytes from `from` to `to`. The pages of the destination are already made, and the two ranges share
+    /// Copies `len` bytes from `from` to `to`. The chunks of the destination are already made, and the two ranges share
     /// no address.
     #[inline(never)]
     pub(crate) fn copy_apart(&mut self, from: usize, to: usize, len: usize)
@@ -140,26 +132,26 @@ impl Table {
         let mut done = 0;
         while done < len {
             let (source, target) = (from + done, to + done);
-            let count = on_one_page(source, on_one_page(target, len - done));
-            self.copy_on_pages(source, target, count);
+            let count = in_one_chunk(source, in_one_chunk(target, len - done));
+            self.copy_in_chunks(source, target, count);
             done += count;
         }
     }
 
-    // Sets `len` bytes that lie on one page, which is already made, to one byte.
-    fn fill_on_page(&mut self, start: usize, len: usize, byte: u8)
-        requires within { start % page_size + len ≤ page_size }
-        requires made { 0 < length (page_of self.old start) }
+    // Sets `len` bytes that lie in one chunk, which is already made, to one byte.
+    fn fill_in_chunk(&mut self, start: usize, len: usize, byte: u8)
+        requires within { start % chunk_size + len ≤ chunk_size }
+        requires made { 0 < length (chunk_of self.old start) }
         ensures len { SameLengths self.old self.new }
         ensures count { length self.new ≡ length self.old }
         ensures image { FillsBlock self.old self.new start len byte }
     {
-        let number = start / PAGE_SIZE;
+        let number = start / CHUNK_SIZE;
         let group = &mut self.groups[number / GROUP_SIZE];
-        group.fill(number % GROUP_SIZE, start % PAGE_SIZE, len, byte);
+        group.fill(number % GROUP_SIZE, start % CHUNK_SIZE, len, byte);
     }
 
-    /// Sets the `len` bytes from `start` on to one byte. Their pages are already made.
+    /// Sets the `len` bytes from `start` on to one byte. Their chunks are already made.
     #[inline(never)]
     pub(crate) fn fill(&mut self, start: usize, len: usize, byte: u8)
         requires limit { start + len < 2 ^ 33 }
@@ -170,8 +162,8 @@ impl Table {
     {
         let mut done = 0;
         while done < len {
-            let count = on_one_page(start + done, len - done);
-            self.fill_on_page(start + done, count, byte);
+            let count = in_one_chunk(start + done, len - done);
+            self.fill_in_chunk(start + done, count, byte);
             done += count;
         }
     }

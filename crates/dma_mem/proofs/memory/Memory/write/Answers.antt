@@ -1,60 +1,39 @@
-use Rattle.std.proofs.Common.{◌+◌, length, refl, arith}
-use Rattle.std.proofs.lemmas.Bool.{lt-ltb, le-ltb, ltb-true}
-use Rattle.dma_mem.proofs.PageImages.{size_seen, AllMade-from, short-from, image_seen, keeps_seen, others_seen}
+use Rattle.std.proofs.Common.{◌+◌, ◌++◌, Bool, List, [], false, length, get_or, ap, ◌∙◌, refl, arith}
+use Rattle.std.specs.List.{range_with_len}
+use Rattle.std.proofs.lemmas.Bool.{lt-ltb, le-ltb}
+use Rattle.dma_mem.specs.Image.{bytes_at}
+use Rattle.dma_mem.specs.Pages.{Keeps}
+use Rattle.dma_mem.proofs.ImagePut.{length-put}
+use Rattle.dma_mem.proofs.PageImages.{size_seen, Keeps-same}
+use Rattle.dma_mem.proofs.PrepareAll.{keeps_made, Keeps-trans}
 use Rattle.dma_mem.proofs.memory.Memory.write.Goals as goal
-
-pub write-requires-clause-within : goal.write-requires-clause-within
-write-requires-clause-within c = omega (arith, c.if-addr-bytes.false, c.self.invariant)
-
-pub write-requires-clause-limit : goal.write-requires-clause-limit
-write-requires-clause-limit c = omega (arith, c.if-addr-bytes.false, c.self.invariant)
+use Rattle.dma_mem.proofs.memory.Memory.write.Goals.{After-write_parts}
 
 pub returns-then-addr-bytes-clause-short : goal.returns-then-addr-bytes-clause-short
 returns-then-addr-bytes-clause-short c = λ fits all.
-    omega (arith, fits, size_seen c.self.inside.size c.self.inside.table c.args.self.now c.self.view_is, c.if-addr-bytes.true)
+    omega (arith, fits, size_seen c.self.inside.size c.self.inside.table c.self.inside.flags c.args.self.now c.self.view_is, c.if-addr-bytes.true)
 
 pub returns-then-addr-bytes-clause-fault : goal.returns-then-addr-bytes-clause-fault
 returns-then-addr-bytes-clause-fault c =
-    let long = size_seen c.self.inside.size c.self.inside.table c.args.self.now c.self.view_is in
+    let long = size_seen c.self.inside.size c.self.inside.table c.self.inside.flags c.args.self.now c.self.view_is in
     rw (lt-ltb (length c.args.self.now.image) (c.args.addr + length c.args.bytes.now) (omega (arith, long, c.if-addr-bytes.true))) refl
-
-pub returns-in_default-clause-err : goal.returns-in_default-clause-err
-returns-in_default-clause-err c = image_seen c.self.inside.size c.self.inside.table c.write.new.self c.args.self.now c.self.view_is c.in_default.ensures.err
 
 pub returns-in_default-clause-fault : goal.returns-in_default-clause-fault
 returns-in_default-clause-fault c =
-    let long = size_seen c.self.inside.size c.self.inside.table c.args.self.now c.self.view_is in
+    let long = size_seen c.self.inside.size c.self.inside.table c.self.inside.flags c.args.self.now c.self.view_is in
     rw (le-ltb (length c.args.self.now.image) (c.args.addr + length c.args.bytes.now) (omega (arith, long, c.if-addr-bytes.false))) refl
 
-pub returns-in_default-clause-short : goal.returns-in_default-clause-short
-returns-in_default-clause-short c = λ fits. short-from c.self.inside.size c.write.new.self c.args.addr (length c.args.bytes.now) c.in_default.ensures.short
-
-pub returns-in_default-clause-keeps : goal.returns-in_default-clause-keeps
-returns-in_default-clause-keeps c = keeps_seen c.self.inside.size c.self.inside.table c.write.new.self c.args.self.now c.self.view_is c.write.ensures.kept
-
-pub returns-in_default-clause-others : goal.returns-in_default-clause-others
-returns-in_default-clause-others c =
-    others_seen c.self.inside.size c.self.inside.table c.write.new.self c.args.self.now c.args.addr (length c.args.bytes.now) c.self.view_is c.write.ensures.others
-
-pub returns-in_default-clause-refused : goal.returns-in_default-clause-refused
-returns-in_default-clause-refused c = λ past.
-    let long = size_seen c.self.inside.size c.self.inside.table c.args.self.now c.self.view_is in
-    absurd (omega (arith, long, c.if-addr-bytes.false, ltb-true (length c.args.self.now.image) (c.args.addr + length c.args.bytes.now) past))
-
-pub returns-clause-within : goal.returns-clause-within
-returns-clause-within c = omega (arith, size_seen c.self.inside.size c.self.inside.table c.args.self.now c.self.view_is, c.if-addr-bytes.false)
+-- the pages that were prepared are still made after the write
+written : (c : After-write_parts) → Keeps c.prepare.new.self c.write_parts.new.self
+written c =
+    Keeps-same c.prepare.new.self c.write_parts.new.self (ap length c.write_parts.ensures.image ∙ length-put c.prepare.new.self.image (bytes_at c.args.addr (c.args.bytes.now ++ []))) (λ p. ap (λ (xs : List Bool). get_or xs p false) c.write_parts.ensures.made)
 
 pub returns-clause-made : goal.returns-clause-made
-returns-clause-made c = AllMade-from c.self.inside.size c.write.new.self c.args.addr (length c.args.bytes.now) (omega (arith, c.if-addr-bytes.false)) c.in-Ok.ensures.made
+returns-clause-made c =
+    let here = (goal.at.returns-clause-made c).After-write_parts in
+    keeps_made here.prepare.new.self here.write_parts.new.self (range_with_len here.args.addr (length here.args.bytes.now)) (written here) here.in-Ok.ensures.ok
 
 pub returns-clause-keeps : goal.returns-clause-keeps
-returns-clause-keeps c = keeps_seen c.self.inside.size c.self.inside.table c.write.new.self c.args.self.now c.self.view_is c.write.ensures.kept
-
-pub returns-clause-others : goal.returns-clause-others
-returns-clause-others c =
-    others_seen c.self.inside.size c.self.inside.table c.write.new.self c.args.self.now c.args.addr (length c.args.bytes.now) c.self.view_is c.write.ensures.others
-
-pub returns-clause-refused : goal.returns-clause-refused
-returns-clause-refused c = λ past.
-    let long = size_seen c.self.inside.size c.self.inside.table c.args.self.now c.self.view_is in
-    absurd (omega (arith, long, c.if-addr-bytes.false, ltb-true (length c.args.self.now.image) (c.args.addr + length c.args.bytes.now) past))
+returns-clause-keeps c =
+    let here = (goal.at.returns-clause-keeps c).After-write_parts in
+    Keeps-trans here.args.self.now here.prepare.new.self here.write_parts.new.self here.prepare.ensures.keeps (written here)

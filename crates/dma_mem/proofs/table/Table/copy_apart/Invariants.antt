@@ -1,13 +1,13 @@
 use Rattle.std.proofs.Common.{◌≡◌, ℕ, ◌-◌, ◌≤◌, length}
 use Rattle.dma_mem.specs.inner.Blocks.{CopiesBlock}
-use Rattle.dma_mem.specs.inner.PageTable.{page_at}
+use Rattle.dma_mem.specs.inner.ChunkTable.{chunk_at}
 use Rattle.dma_mem.proofs.table.Table.copy_apart.Given as goal
 
 abbrev pub invariant-loop-done : goal.invariant-loop-done
 invariant-loop-done l = record {
   within : l.done ≤ l.len;
   count : length l.self ≡ length l.fn.self;
-  len : (p : ℕ) → length (page_at l.self p) ≡ length (page_at l.fn.self p);
+  len : (p : ℕ) → length (chunk_at l.self p) ≡ length (chunk_at l.fn.self p);
   image : CopiesBlock l.fn.self l.self l.from l.to l.done;
 }
 

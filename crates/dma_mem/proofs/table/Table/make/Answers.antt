@@ -1,7 +1,7 @@
 use Rattle.std.proofs.Common.{◌≡◌, ◌+◌, ◌*◌, ◌/◌, ◌<◌, length, get_or, max, refl, ap, sym, ◌∙◌, arith, inl, inr}
 use Rattle.std.proofs.lemmas.Bool.{cases_eq}
 use Rattle.std.proofs.lemmas.Result.{err_from_is_err_and}
-use Rattle.dma_mem.specs.inner.PageTable.{page_at}
+use Rattle.dma_mem.specs.inner.ChunkTable.{chunk_at}
 use Rattle.dma_mem.proofs.table.Table.make.Goals as goal
 
 pub loop-number-preserved : goal.loop-number-preserved
@@ -9,39 +9,34 @@ loop-number-preserved c =
     let inv = c.loop-number.invariant in
     let number = c.loop-number.number in
     let old = c.loop-number.self in
-    let new = c.make_page.new.self in
-    let first = max c.args.start (4096 * number) in
-    let below : 4096 * number < c.args.end = omega (arith, c.loop-number-test.true, c.if-start-end.false) in
-    let high : c.args.start < 4096 * number + 4096 = omega (arith, inv.from) in
-    let on : first / 4096 ≡ number = omega arith in
+    let new = c.make_chunk.new.self in
     record {
       end = refl;
       from = omega (arith, inv.from);
-      count = c.make_page.ensures.count ∙ inv.count;
+      count = c.make_chunk.ensures.count ∙ inv.count;
       made = λ p low high. elim (cases_eq p number) [
-        | inl e ↦ omega (arith, ap (λ q. length (page_at new q)) e, c.in_ok-make_page.ensures.whole)
-        | inr n ↦ omega (arith, ap length (c.make_page.ensures.others p n), inv.made p low (omega arith))
+        | inl e ↦ omega (arith, ap (λ q. length (chunk_at new q)) e, c.in_ok-make_chunk.ensures.whole)
+        | inr n ↦ omega (arith, ap length (c.make_chunk.ensures.others p n), inv.made p low (omega arith))
       ];
       bytes = λ p k. elim (cases_eq p number) [
-        | inl e ↦ ap (λ q. get_or (page_at new q) k 0) e ∙ c.make_page.ensures.bytes k ∙ ap (λ q. get_or (page_at old q) k 0) (sym e) ∙ inv.bytes p k
-        | inr n ↦ ap (λ x. get_or x k 0) (c.make_page.ensures.others p n) ∙ inv.bytes p k
+        | inl e ↦ ap (λ q. get_or (chunk_at new q) k 0) e ∙ c.make_chunk.ensures.bytes k ∙ ap (λ q. get_or (chunk_at old q) k 0) (sym e) ∙ inv.bytes p k
+        | inr n ↦ ap (λ x. get_or x k 0) (c.make_chunk.ensures.others p n) ∙ inv.bytes p k
       ];
       kept = λ p h. elim (cases_eq p number) [
         | inl e ↦
-            let some : 0 < length (page_at old number) = omega (arith, h, ap length (inv.kept p h), ap (λ q. length (page_at old q)) e) in
-            ap (λ x. page_at x p) (c.make_page.ensures.kept some) ∙ inv.kept p h
-        | inr n ↦ c.make_page.ensures.others p n ∙ inv.kept p h
+            let some : 0 < length (chunk_at old number) = omega (arith, h, ap length (inv.kept p h), ap (λ q. length (chunk_at old q)) e) in
+            ap (λ x. chunk_at x p) (c.make_chunk.ensures.kept some) ∙ inv.kept p h
+        | inr n ↦ c.make_chunk.ensures.others p n ∙ inv.kept p h
       ];
-      others = λ p off. c.make_page.ensures.others p (λ e. off first (omega arith) (omega (arith, c.if-start-end.false)) (on ∙ sym e)) ∙ inv.others p off;
     }
 
-pub returns-in_err-make_page-clause-short : goal.returns-in_err-make_page-clause-short
-returns-in_err-make_page-clause-short c =
+pub returns-in_err-make_chunk-clause-short : goal.returns-in_err-make_chunk-clause-short
+returns-in_err-make_chunk-clause-short c =
     let p = err_from_is_err_and c.from_residual.result c.from_residual.ensures.1 in
     let number = c.loop-number.number in
-    let first = max c.args.start (4096 * number) in
-    let below : 4096 * number < c.args.end = omega (arith, c.loop-number-test.true, c.if-start-end.false) in
-    let high : c.args.start < 4096 * number + 4096 = omega (arith, c.loop-number.invariant.from) in
-    let on : first / 4096 ≡ number = omega arith in
-    let none : length (page_at c.make_page.new.self (first / 4096)) ≡ 0 = ap (λ q. length (page_at c.make_page.new.self q)) on ∙ ap (λ x. length (page_at x number)) c.in_err-make_page.ensures.err ∙ c.in_err-make_page.ensures.short in
+    let first = max c.args.start (16384 * number) in
+    let below : 16384 * number < c.args.end = omega (arith, c.loop-number-test.true, c.if-start-end.false) in
+    let high : c.args.start < 16384 * number + 16384 = omega (arith, c.loop-number.invariant.from) in
+    let on : first / 16384 ≡ number = omega arith in
+    let none : length (chunk_at c.make_chunk.new.self (first / 16384)) ≡ 0 = ap (λ q. length (chunk_at c.make_chunk.new.self q)) on ∙ ap (λ x. length (chunk_at x number)) c.in_err-make_chunk.ensures.err ∙ c.in_err-make_chunk.ensures.short in
     rw p.1 (first, omega arith, omega (arith, c.if-start-end.false), none)

@@ -1,5 +1,5 @@
 use Rattle.std.proofs.Common.{◌≡◌, ℕ, ◌-◌, ◌≤◌, length, take}
-use Rattle.dma_mem.specs.inner.PageTable.{page_at, image_of}
+use Rattle.dma_mem.specs.inner.ChunkTable.{chunk_at, image_of}
 use Rattle.dma_mem.specs.Image.{put, bytes_at}
 use Rattle.dma_mem.proofs.table.Table.put.Given as goal
 
@@ -7,7 +7,7 @@ abbrev pub invariant-loop-done : goal.invariant-loop-done
 invariant-loop-done l = record {
   within : l.done ≤ length l.bytes;
   count : length l.self ≡ length l.fn.self;
-  len : (p : ℕ) → length (page_at l.self p) ≡ length (page_at l.fn.self p);
+  len : (p : ℕ) → length (chunk_at l.self p) ≡ length (chunk_at l.fn.self p);
   image : (size : ℕ) → image_of size l.self ≡ put (image_of size l.fn.self) (bytes_at l.start (take l.done l.bytes));
 }
 

@@ -1,0 +1,70 @@
+use Rattle.std.proofs.Common.{◌≡◌, ◌/◌, ◌%◌, ◌+◌, List, [], ◌++◌, ℕ, length, get_or, take, drop, append-nil, ◌-◌, ap, sym, ◌∙◌, arith, inl, inr}
+use Rattle.dma_mem.specs.Image.{put, bytes_at}
+use Rattle.dma_mem.specs.inner.ChunkTable.{chunk_at, flat}
+use Rattle.dma_mem.proofs.ChunkChanges.{HasCopy, group_found, chunk_in_group, within_group, within_taken, replaced, put_back, lengths_kept, has_copy, block_copied}
+use Rattle.dma_mem.proofs.table.Table.copy_in_chunks.Goals as goal
+use Rattle.dma_mem.proofs.table.Table.copy_in_chunks.Goals.{then-from-number, else-from-number}
+
+pub index_mut-requires : goal.index_mut-requires
+index_mut-requires c =
+    let v : flat c.self.inside.groups.items ≡ c.args.self.now = c.self.view_is in
+    omega (arith, group_found c.self.inside.groups.items c.args.self.now (c.args.to / 16384) v c.requires.made, c.self.inside.groups.ok)
+
+pub replace-chunk-requires : goal.replace-chunk-requires
+replace-chunk-requires c =
+    within_group c.self.inside.groups.items c.args.self.now (c.args.to / 16384) c.index_mut.result.now c.self.view_is c.requires.made c.index_mut.ensures.value
+
+pub copy_apart-requires-clause-made : goal.copy_apart-requires-clause-made
+copy_apart-requires-clause-made c =
+    rw (c.replace-chunk.ensures.old, chunk_in_group c.self.inside.groups.items c.args.self.now (c.args.to / 16384) c.index_mut.result.now c.self.view_is c.requires.made c.index_mut.ensures.value) c.requires.made
+
+pub copy_apart-requires-clause-apart : goal.copy_apart-requires-clause-apart
+copy_apart-requires-clause-apart c = elim c.requires.apart [
+  | inl before ↦ inl (omega (arith, before, c.if-from-number.true, c.requires.source))
+  | inr past ↦ inr (omega (arith, past, c.if-from-number.true, c.requires.within))
+]
+
+pub put-requires-clause-made : goal.put-requires-clause-made
+put-requires-clause-made c =
+    rw (c.replace-chunk.ensures.old, chunk_in_group c.self.inside.groups.items c.args.self.now (c.args.to / 16384) c.index_mut.result.now c.self.view_is c.requires.made c.index_mut.ensures.value) c.requires.made
+
+pub index_mut-requires-2 : goal.index_mut-requires-2
+index_mut-requires-2 c =
+    let v : flat c.self.inside.groups.items ≡ c.args.self.now = c.self.view_is in
+    omega (arith, group_found c.self.inside.groups.items c.args.self.now (c.args.to / 16384) v c.requires.made, c.self.inside.groups.ok)
+
+pub replace-requires : goal.replace-requires
+replace-requires c =
+    within_taken c.self.inside.groups.items c.args.self.now (c.args.to / 16384) c.index_mut.result.now c.replace-chunk.new.self c.index_mut-2.result.now c.new-empty.result c.self.view_is c.requires.made c.index_mut.ensures.value c.replace-chunk.ensures.new c.index_mut-2.ensures.value
+
+pub returns : goal.returns
+returns c =
+    let groups = c.self.inside.groups.items in
+    let old = c.args.self.now in
+    let from = c.args.from in
+    let len = c.args.len in
+    let n = c.args.to / 16384 in
+    let offset = c.args.to % 16384 in
+    let chunk = c.if-from-number.chunk in
+    let found : c.replace-chunk.result ≡ chunk_at old n = c.replace-chunk.ensures.old ∙ chunk_in_group groups old n c.index_mut.result.now c.self.view_is c.requires.made c.index_mut.ensures.value in
+    let change = put_back groups old n c.index_mut.result.now c.replace-chunk.new.self c.index_mut-2.result.now c.replace.new.self c.new-empty.result chunk c.self.view_is c.requires.made c.index_mut.ensures.value c.replace-chunk.ensures.new c.index_mut-2.ensures.value c.replace.ensures.new in
+    let copy : HasCopy old from c.args.to len chunk = elim c.if-from-number.branch [
+      | then-from-number w ↦
+          let whole = w.copy_apart.ensures.whole in
+          let kept = w.copy_apart.ensures.len ∙ ap length found in
+          let is = w.copy_apart.ensures.bytes ∙ ap (λ x. put x (bytes_at offset (take len (drop (from % 16384) x)))) found in
+          rw w.chunk-is (has_copy old from c.args.to len (chunk_at old n) w.copy_apart.new.self (sym kept ∙ whole) (λ k. ap (λ p. get_or (chunk_at old p) k 0) (sym w.if-from-number.true)) c.requires.source whole kept is)
+      | else-from-number w ↦
+          let source = w.shown-source.result.now in
+          let rest = replaced groups old n c.index_mut.result.now c.replace-chunk.new.self c.new-empty.result c.self.view_is c.requires.made c.index_mut.ensures.value c.replace-chunk.ensures.new in
+          let bytes : (k : ℕ) → get_or source k 0 ≡ get_or (chunk_at old (from / 16384)) k 0 = λ k. w.shown-source.ensures.bytes k ∙ ap (λ (xs : List ℕ). get_or xs k 0) (w.chunk.ensures.bytes ∙ rest.others (from / 16384) w.if-from-number.false) in
+          let count : (from % 16384 + len) - from % 16384 ≡ len = omega arith in
+          let part = append-nil _ ∙ ap (λ i. take i (drop (from % 16384) source)) count in
+          let is = w.put.ensures.bytes ∙ ap (λ x. put x (bytes_at offset (take ((from % 16384 + len) - from % 16384) (drop (from % 16384) source) ++ []))) found ∙ ap (λ bs. put (chunk_at old n) (bytes_at offset bs)) part in
+          rw w.chunk-is (has_copy old from c.args.to len source w.put.new.self w.shown-source.ensures.len bytes c.requires.source w.put.ensures.whole (w.put.ensures.len ∙ ap length found) is)
+    ] in
+    record {
+      len = lengths_kept old _ n chunk change copy.kept;
+      count = change.count;
+      image = block_copied old _ from c.args.to len chunk change copy c.requires.within;
+    }
