@@ -18,6 +18,7 @@ pub mod StepCases
 pub mod Fronts
 pub mod MovingSteps
 pub mod InstructionSteps
+pub mod InstructionAnswers
 pub mod Starts
 pub mod StepsInRow
 pub mod Rooms

@@ -5,7 +5,8 @@ use Rattle.dma_chan.specs.declared.turn.FaultKind.TheVariants.{DataReadErr, Data
 use Rattle.dma_engine.specs.inner.Due.{IsDue, IsNext, Finishes, failure_of}
 use Rattle.dma_engine.specs.inner.Holds.{view_of}
 use Rattle.dma_engine.specs.inner.Inside.{parts_of}
-use Rattle.dma_engine.proofs.InstructionSteps.{ready-here, taken-small, the_step, shared, went_on, went_on-answers, failed, only-so}
+use Rattle.dma_engine.proofs.InstructionSteps.{ready-here, the_step, shared}
+use Rattle.dma_engine.proofs.InstructionAnswers.{taken-small, went_on, went_on-answers, failed, only-so}
 use Rattle.dma_engine.proofs.StepCases.{GoesOn, due, due-ahead, due-other}
 use Rattle.dma_engine.proofs.engine.Engine.execute_other.Goals as goal
 
