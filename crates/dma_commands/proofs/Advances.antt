@@ -1,8 +1,11 @@
 -- Steps of one channel in a row.
-use Rattle.std.proofs.Common.{◌≡◌, ◌≢◌, ℕ, ◌+◌, List, [], ◌∷◌, ◌++◌, map, refl, ap, sym, ◌∙◌, subst, zero, suc, inl, inr, append_assoc}
-use Rattle.std.specs.Prelude.{if◌then◌else◌, is_some, replicate, ◌⊎◌, Option, Some, None, Result, Ok}
+use Rattle.std.proofs.Common.{◌≡◌, ◌≢◌, ℕ, ◌+◌, ◌-◌, ◌<◌, arith, List, [], ◌∷◌, ◌++◌, map, refl, ap, sym, ◌∙◌, subst, zero, suc, inl, inr, append_assoc}
+use Rattle.std.specs.Prelude.{if◌then◌else◌, is_some, replicate, ◌⊎◌, OnErr, OnOk, Option, Some, None, Result, Ok}
+use Rattle.std.proofs.lemmas.Result.{on_ok_weaker}
 use Rattle.std.specs.Option.{option_map}
-use Rattle.std.proofs.lemmas.List.{map-append, replicate-append-replicate}
+use Rattle.std.proofs.lemmas.List.{append-nil, map-append, replicate-append-replicate}
+use Rattle.dma_script.specs.Command.{text_of}
+use Rattle.dma_engine.specs.declared.outcome.TransResult.TheVariants.{NoError}
 use Rattle.dma_engine.specs.declared.turn.Advanced.{Advanced}
 use Rattle.dma_engine.specs.declared.call.Call.{Call}
 use Rattle.dma_engine.specs.declared.call.Call.TheVariants.{Step}
@@ -11,14 +14,18 @@ use Rattle.dma_engine.specs.declared.call.Reply.TheVariants.{Turned, Refused}
 use Rattle.dma_engine.specs.declared.fault.EngineFault.{EngineFault}
 use Rattle.dma_engine.specs.declared.fault.EngineFault.TheVariants.{NoMemory}
 use Rattle.dma_engine.specs.declared.turn.Turn.{Turn}
-use Rattle.dma_engine.specs.declared.turn.Turn.TheVariants.{Started, Moved}
+use Rattle.dma_engine.specs.declared.turn.Turn.TheVariants.{Started, Moved, Finished}
 use Rattle.dma_engine.specs.Advance.{AllMove, IsAdvance, TakesStep, steps_before}
 use Rattle.dma_engine.specs.Answer.{CallAnswers, StepAnswers, answer, answers, reply_of}
 use Rattle.dma_engine.specs.View.{View}
-use Rattle.dma_commands.specs.Printed.{reply_text}
+use Rattle.dma_commands.specs.Printed.{reply_text, turn_text}
+use Rattle.dma_commands.specs.Run.{step_answer, step_lines}
+use Rattle.dma_commands.specs.inner.RunSteps.{RunsLine}
+use Rattle.dma_commands.proofs.RunLemmas.{printed_runs}
+use Rattle.dma_commands.proofs.StepLemmas.{transfer_lines}
 use Rattle.dma_engine.specs.Room.{IsIdle}
 use Rattle.dma_engine.proofs.IdleSteps.{idle_steps_stay}
-use Rattle.dma_commands.specs.inner.Counting.{start_replies}
+use Rattle.dma_commands.specs.inner.Counting.{start_replies, transfer_text}
 use Rattle.dma_commands.proofs.Served.{AreServed, answers-append, served-all, served-one}
 
 -- ---- an idle answer is repeated
@@ -113,3 +120,25 @@ both-texts a n last w all rest is =
     ∙ ap (λ t. map reply_text f ++ (t ++ rest)) (sym (map-replicate reply_text n last))
     ∙ sym (append_assoc (map reply_text f) (map reply_text l) rest)
     ∙ ap (λ t. t ++ rest) (sym (map-append reply_text f l) ∙ ap (λ (x : List Reply × View). map reply_text x.0) is)
+
+-- ---- a transfer that starts, moves and finishes in one call
+
+transfer_steps : (v w : View) (ch count : ℕ) (a : Advanced) (cookie finished : ℕ) → IsAdvance v ch a w → a.started ≡ Some cookie → a.last ≡ Some (Ok (Finished finished NoError 0)) → 0 < a.moved → count - a.moved ≡ 2
+    → (text_of (step_answer v ch count).0 ≡ transfer_text ch cookie a.moved finished) × (w ≡ (step_answer v ch count).1)
+transfer_steps v w ch count a cookie finished h started last some sum =
+    let finish = Finished finished NoError 0 in
+    let all = steps-then v w ch a 1 (Ok finish) (Turned finish) h last (refl, λ e. cc) (inl refl) in
+    let two : 1 + a.moved + 1 ≡ count = omega (arith, sum) in
+    let number : steps_before a + 1 ≡ count = ap (λ (o : Option ℕ). (if is_some o then 1 else 0) + a.moved + 1) started ∙ two in
+    let steps = all ∙ ap (λ (k : ℕ). answers v (replicate k (Step ch))) number in
+    let texts = ap (λ (o : Option ℕ). map reply_text (start_replies o) ++ (replicate a.moved (turn_text Moved) ++ turn_text finish ∷ [])) (sym started)
+    ∙ both-texts a 1 (Turned finish) w (answers v (replicate count (Step ch))) [] steps
+    ∙ append-nil (map reply_text (answers v (replicate count (Step ch))).0) in
+    (ap (λ t. text_of (step_lines ch t)) (sym texts) ∙ transfer_lines ch cookie a.moved finished some, ap (λ (x : List Reply × View). x.1) steps)
+
+-- A transfer that starts, moves and finishes in one call, and its lines.
+pub whole_runs : {A E : Type 0} (v w : View) (ch count : ℕ) (a : Advanced) (cookies : ℕ × ℕ) (result : Result A E) (out out' : List ℕ) → IsAdvance v ch a w → (a.started ≡ Some cookies.0) × (a.last ≡ Some (Ok (Finished cookies.1 NoError 0))) → 0 < a.moved → count - a.moved ≡ 2
+    → OnOk result (out' ≡ out ++ transfer_text ch cookies.0 a.moved cookies.1) → OnErr result (out' ≡ out) → RunsLine (step_answer v ch count) w result out out'
+whole_runs v w ch count a cookies result out out' h is some sum prints kept =
+    let steps = transfer_steps v w ch count a cookies.0 cookies.1 h is.0 is.1 some sum in
+    printed_runs (step_answer v ch count) w result out out' (on_ok_weaker result (λ _. steps.1) prints) (on_ok_weaker result (λ p. p ∙ ap (λ (l : List ℕ). out ++ l) (sym steps.0)) prints) kept

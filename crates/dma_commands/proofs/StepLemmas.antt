@@ -1,6 +1,6 @@
 -- Runs of equal answers, and the lines of the runs before the last.
 use Rattle.std.proofs.Common.{◌≡◌, ◌≢◌, ℕ, ◌+◌, ◌<◌, List, [], ◌∷◌, ◌++◌, map, Bool, true, false, refl, ap, sym, subst, ◌∙◌, zero, suc, add-one, append_assoc, arith, codes, lit<}
-use Rattle.std.specs.Prelude.{Result, decimal, replicate}
+use Rattle.std.specs.Prelude.{Err, Ok, OnErr, OnOk, Result, decimal, replicate}
 use Rattle.std.specs.Str.{bytes_eq}
 use Rattle.std.proofs.Math.Nat.{zero-lt-suc}
 use Rattle.std.proofs.lemmas.Fmt.{decimal_digit}
@@ -13,12 +13,14 @@ use Rattle.dma_engine.specs.declared.call.Reply.{Reply}
 use Rattle.dma_engine.specs.declared.call.Reply.TheVariants.{Turned, Refused}
 use Rattle.dma_engine.specs.declared.fault.EngineFault.{EngineFault}
 use Rattle.dma_engine.specs.declared.fault.EngineFault.TheVariants.{NoMemory}
+use Rattle.dma_engine.specs.declared.outcome.TransResult.TheVariants.{NoError}
 use Rattle.dma_engine.specs.declared.turn.Turn.{Turn}
+use Rattle.dma_engine.specs.declared.turn.Turn.TheVariants.{Started, Moved, Finished}
 use Rattle.dma_engine.specs.View.{View}
 use Rattle.dma_engine.specs.Answer.{CallAnswers, StepAnswers, answer, answers, reply_of}
-use Rattle.dma_commands.specs.Printed.{reply_text}
-use Rattle.dma_commands.specs.inner.Counting.{text_with}
-use Rattle.dma_commands.specs.inner.RunSteps.{AnswersLine}
+use Rattle.dma_commands.specs.Printed.{reply_text, turn_text}
+use Rattle.dma_commands.specs.inner.Counting.{text_with, transfer_text}
+use Rattle.dma_commands.specs.inner.RunSteps.{AnswersLine, RunsLine}
 use Rattle.dma_commands.specs.Run.{joined, runs_of, step_answer, step_line, step_lines}
 use Rattle.dma_commands.proofs.Served.{answers-append, served-one}
 
@@ -124,3 +126,88 @@ one_step_parts line a b c d ch text first blank answer last =
     ∙ ap (λ (l : List ℕ). l ++ (codes " x" ++ decimal 1)) (answer ∙ ap (λ (l : List ℕ). l ++ text) (blank ∙ ap (λ (l : List ℕ). l ++ codes " ") first ∙ append_assoc line front (codes " ")) ∙ append_assoc line (front ++ codes " ") text)
     ∙ append_assoc line (front ++ codes " " ++ text) (codes " x" ++ decimal 1)
     ∙ ap (λ (l : List ℕ). line ++ l) (sym (append_assoc (front ++ codes " " ++ text) (codes " x") (decimal 1)))
+
+-- ---- a transfer that starts, moves and finishes
+
+-- three runs
+three_lines : (ch : ℕ) (a b c : List ℕ) (n : ℕ) → bytes_eq a b ≡ false → bytes_eq b c ≡ false → 0 < n → text_of (step_lines ch (a ∷ (replicate n b ++ c ∷ []))) ≡ text_of (step_line ch (a, 1) ∷ step_line ch (b, n) ∷ step_line ch (c, 1) ∷ [])
+three_lines ch a b c zero ab bc some = absurd (omega (arith, some))
+three_lines ch a b c (suc n) ab bc some =
+    ap (λ r. text_of (map (step_line ch) r)) (runs-more zero a b (replicate n b ++ c ∷ []) ab ∙ ap (λ r. (a, 1) ∷ r) (runs-more n b c [] bc))
+
+-- the lines of the answers
+pub transfer_lines : (ch cookie moved finished : ℕ) → 0 < moved → text_of (step_lines ch (turn_text (Started cookie) ∷ (replicate moved (turn_text Moved) ++ turn_text (Finished finished NoError 0) ∷ []))) ≡ transfer_text ch cookie moved finished
+transfer_lines ch cookie moved finished some =
+    three_lines ch (turn_text (Started cookie)) (turn_text Moved) (turn_text (Finished finished NoError 0)) moved refl refl some
+
+-- ---- texts in parts
+
+-- a text in five parts
+in-parts : (a b c d e : List ℕ) → (((a ++ b) ++ c) ++ d) ++ e ≡ a ++ (b ++ (c ++ (d ++ e)))
+in-parts a b c d e =
+    append_assoc ((a ++ b) ++ c) d e ∙ append_assoc (a ++ b) c (d ++ e) ∙ append_assoc a b (c ++ (d ++ e))
+
+-- the line of an answer and its count, and a text after it
+row : (ch answer count rest : List ℕ) → (((codes "step " ++ ch ++ codes " " ++ answer) ++ codes " x" ++ count) ++ 10 ∷ []) ++ rest ≡ codes "step " ++ (ch ++ (codes " " ++ (answer ++ (codes " x" ++ (count ++ (10 ∷ rest))))))
+row ch answer count rest =
+    in-parts (codes "step " ++ ch ++ codes " " ++ answer) (codes " x") count (10 ∷ []) rest
+    ∙ in-parts (codes "step ") ch (codes " ") answer (codes " x" ++ (count ++ (10 ∷ rest)))
+
+-- the text of a transfer's lines, of the texts of its numbers
+abbrev rows : List ℕ → List ℕ → List ℕ → List ℕ → List ℕ → List ℕ → List ℕ
+rows ch started moved finished none one = text_of (
+    (codes "step " ++ ch ++ codes " " ++ (codes "started " ++ started) ++ codes " x" ++ one)
+    ∷ (codes "step " ++ ch ++ codes " " ++ codes "moved" ++ codes " x" ++ moved)
+    ∷ (codes "step " ++ ch ++ codes " " ++ (codes "finished " ++ finished ++ codes " " ++ (codes "NoError" ++ codes " residue " ++ none)) ++ codes " x" ++ one)
+    ∷ [])
+
+-- the same text, as it is printed
+abbrev printed : List ℕ → List ℕ → List ℕ → List ℕ → List ℕ
+printed ch started moved finished =
+    (codes "step " ++ ch ++ codes " started " ++ started)
+    ++ ((codes " x1" ++ 10 ∷ codes "step ") ++ ch ++ codes " moved x" ++ moved)
+    ++ ((10 ∷ codes "step ") ++ ch ++ codes " finished " ++ finished)
+    ++ (codes " NoError residue 0 x1" ++ 10 ∷ [])
+
+printed-rows : (ch started moved finished : List ℕ) → printed ch started moved finished ≡ rows ch started moved finished (codes "0") (codes "1")
+printed-rows ch started moved finished =
+    let end = codes " NoError residue 0 x1" ++ 10 ∷ [] in
+    let second = (codes " x1" ++ 10 ∷ codes "step ") ++ ch ++ codes " moved x" ++ moved in
+    let third = (10 ∷ codes "step ") ++ ch ++ codes " finished " ++ finished in
+    let result = codes "NoError" ++ codes " residue " ++ codes "0" in
+    let third-row = (codes "step " ++ ch ++ codes " " ++ (codes "finished " ++ finished ++ codes " " ++ result) ++ codes " x" ++ codes "1") ++ 10 ∷ [] in
+    let second-row = (codes "step " ++ ch ++ codes " " ++ codes "moved" ++ codes " x" ++ moved) ++ 10 ∷ [] in
+    let left =
+    append_assoc (codes "step " ++ ch ++ codes " started " ++ started ++ second) third end
+    ∙ append_assoc (codes "step " ++ ch ++ codes " started " ++ started) second (third ++ end)
+    ∙ in-parts (codes "step ") ch (codes " started ") started (second ++ (third ++ end))
+    ∙ ap (λ l. codes "step " ++ (ch ++ (codes " started " ++ (started ++ l)))) (in-parts (codes " x1" ++ 10 ∷ codes "step ") ch (codes " moved x") moved (third ++ end))
+    ∙ ap (λ l. codes "step " ++ (ch ++ (codes " started " ++ (started ++ ((codes " x1" ++ 10 ∷ codes "step ") ++ (ch ++ (codes " moved x" ++ (moved ++ l)))))))) (in-parts (10 ∷ codes "step ") ch (codes " finished ") finished end) in
+    let right =
+    row ch (codes "started " ++ started) (codes "1") (second-row ++ (third-row ++ []))
+    ∙ ap (λ l. codes "step " ++ (ch ++ (codes " " ++ l))) (append_assoc (codes "started ") started (codes " x" ++ (codes "1" ++ (10 ∷ (second-row ++ (third-row ++ []))))))
+    ∙ ap (λ l. codes "step " ++ (ch ++ (codes " started " ++ (started ++ (codes " x1" ++ 10 ∷ l))))) (row ch (codes "moved") moved (third-row ++ []))
+    ∙ ap (λ l. codes "step " ++ (ch ++ (codes " started " ++ (started ++ ((codes " x1" ++ 10 ∷ codes "step ") ++ (ch ++ (codes " moved x" ++ (moved ++ (10 ∷ l))))))))) (row ch (codes "finished " ++ finished ++ codes " " ++ result) (codes "1") [])
+    ∙ ap (λ l. codes "step " ++ (ch ++ (codes " started " ++ (started ++ ((codes " x1" ++ 10 ∷ codes "step ") ++ (ch ++ (codes " moved x" ++ (moved ++ (10 ∷ (codes "step " ++ (ch ++ (codes " " ++ l)))))))))))) (in-parts (codes "finished ") finished (codes " ") result (codes " x" ++ (codes "1" ++ (10 ∷ [])))) in
+    left ∙ sym right
+
+-- The text of a transfer's lines, as it is printed.
+pub transfer_parts : (ch started moved finished : ℕ) → printed (decimal ch) (decimal started) (decimal moved) (decimal finished) ≡ transfer_text ch started moved finished
+transfer_parts ch started moved finished =
+    let rows-of = rows (decimal ch) (decimal started) (decimal moved) (decimal finished) in
+    printed-rows (decimal ch) (decimal started) (decimal moved) (decimal finished)
+    ∙ ap (λ (l : List ℕ). rows-of l (codes "1")) (sym (decimal_digit 0 (lit< tt)))
+    ∙ ap (λ (l : List ℕ). rows-of (decimal 0) l) (sym (decimal_digit 1 (lit< tt)))
+
+moved_parts : (ch : ℕ) → codes "step " ++ decimal ch ++ (codes " moved x1" ++ 10 ∷ []) ≡ text_of (step_line ch (codes "moved", 1) ∷ [])
+moved_parts ch =
+    append_assoc (codes "step ") (decimal ch) (codes " moved x1" ++ 10 ∷ [])
+    ∙ sym (row (decimal ch) (codes "moved") (codes "1") [])
+    ∙ ap (λ (l : List ℕ). text_of ((codes "step " ++ decimal ch ++ codes " " ++ codes "moved" ++ codes " x" ++ l) ∷ [])) (sym (decimal_digit 1 (lit< tt)))
+
+-- A step that moved, and its line.
+pub moved_runs : {A E : Type 0} (v w : View) (ch : ℕ) (turned : Turn) (result : Result A E) (out out' : List ℕ) → StepAnswers v ch (Ok turned) w → turned ≡ Moved → OnOk result (out' ≡ out ++ (codes "step " ++ decimal ch ++ (codes " moved x1" ++ 10 ∷ []))) → OnErr result (out' ≡ out) → RunsLine (step_answer v ch 1) w result out out'
+moved_runs v w ch turned (Ok a) out out' answers is prints kept =
+    let moved : StepAnswers v ch (Ok Moved) w = subst (λ (t : Turn). StepAnswers v ch (Ok t) w) is answers in
+    record { ok = step_prints v w ch (Ok Moved) (Turned Moved) out out' moved (refl, λ e. cc) (prints ∙ ap (λ l. out ++ l) (moved_parts ch)); err = tt }
+moved_runs v w ch turned (Err e) out out' answers is prints kept = record { ok = tt; err = kept }

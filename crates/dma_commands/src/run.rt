@@ -13,11 +13,11 @@ use crate::run::calls::{
     answer_totals, answer_write,
 };
 use crate::run::copies::{answer_copy, answer_fill};
-use crate::run::steps::{StepLines, answer_steps};
+use crate::run::steps::{StepLines, answer_step, answer_steps};
 use dma_engine::{Engine, NewFault};
 use dma_script::command::{Command, SUCCESS, refuse, serve};
 use dma_script::input::Source;
-use dma_script::interpreter::{Interpreter, interpret_lines};
+use dma_script::interpreter::Interpreter;
 use dma_script::output::Sink;
 use dma_script::statements::{Statement, Statements, read_run_script};
 use std::alloc::{AllocError, Global};
@@ -43,6 +43,7 @@ fn run_statement(
         Statement::Issue { ch } => answer_issue(engine, ch, out),
         Statement::Pause { ch } => answer_pause(engine, ch, out),
         Statement::Resume { ch } => answer_resume(engine, ch, out),
+        Statement::Step { ch, count: 1 } => answer_step(engine, ch, out),
         Statement::Step { ch, count } => answer_steps(engine, ch, count, steps, out),
         Statement::Totals => answer_totals(engine, out),
         line => answer_call(engine, line, out),
@@ -62,6 +63,8 @@ impl Interpreter for LinesOnEngine<'_> {
     ghost acts = { λ found line group left. line_answer found.engine.now.view line
         ≡ (group, left.engine.now.view) };
 
+    // Inlined into the code for each kind of line.
+    #[inline(always)]
     fn interpret(&mut self, line: Statement, out: &mut Vec<u8>) -> Result<(), AllocError> {
         run_statement(self.engine, line, &mut self.steps, out)
     }
@@ -80,7 +83,7 @@ pub fn run_statements(
 {
     let steps = StepLines::new(alloc);
     let mut lines = LinesOnEngine { engine, steps };
-    interpret_lines(&mut lines, statements, out)?;
+    statements.run(&mut lines, out)?;
     Ok(SUCCESS)
 }
 

@@ -1,5 +1,5 @@
 -- Lines that run one after another.
-use Rattle.std.proofs.Common.{◌≡◌, ℕ, List, [], ◌∷◌, ◌++◌, length, refl, ap, sym, ◌∙◌, subst, append_assoc, arith, length-append}
+use Rattle.std.proofs.Common.{◌≡◌, ℕ, List, [], ◌∷◌, ◌++◌, length, refl, ap, sym, ◌∙◌, subst, suc, append_assoc, arith, length-append}
 use Rattle.std.proofs.Math.Seq.{get_or-append_seam}
 use Rattle.std.proofs.lemmas.List.{append-nil}
 use Rattle.std.specs.List.{All}
@@ -70,3 +70,9 @@ all-after P done line after every =
 -- What holds of all lines holds of the next one.
 pub taken-next : {S L : Type 0} {acts : S → L → List (List ℕ) → S → Type 0} {found now : S} {all left : List L} {old new : List ℕ} (takes : L → Type 0) (line : L) (after : List L) → RanSoFar acts found all left now old new → left ≡ line ∷ after → All takes all → takes line
 taken-next takes line after ran is every = all-after takes ran.done line after (subst (All takes) (ran.split ∙ ap (λ l. ran.done ++ l) is) every)
+
+-- What holds of all lines holds of those after the first.
+pub taken-rest : {L : Type 0} (takes : L → Type 0) (lines : List L) (line : L) (after : List L) → lines ≡ line ∷ after → All takes lines → All takes after
+taken-rest takes lines line after is every =
+    let all : All takes (line ∷ after) = subst (All takes) is every in
+    λ k d below. all (suc k) d (omega (arith, below))

@@ -2,13 +2,14 @@
 ghost use Rattle.std.specs.Prelude.{◌≡◌, ◌==◌, ◌≤◌, if◌then◌else◌, Err, IfOk, Ok, OnOk, is_some, unwrap_or};
 ghost use Rattle.dma_script.specs.Words.{hex_pair_of, list_of, words_of};
 ghost use Rattle.dma_script.specs.Arguments.{bytes_at};
-ghost use Rattle.dma_script.specs.inner.Reading.{LineRead, after_word, begins, bytes_from, byte_from, count_from, ended, event_from, fixed_from, list_from, next_of, noted, number_from, segment_from, skip_from, to_list_from, unread, within_from};
+ghost use Rattle.dma_script.specs.inner.Reading.{LineRead, after_word, begins, bytes_from, byte_from, count_from, ended, event_from, fixed_from, kind_from, list_from, next_of, noted, number_from, segment_from, skip_from, to_list_from, unread, within_from};
 ghost use Rattle.dma_script.specs.Causes.{where_not};
 
 use crate::fault::Cause;
 use crate::pairs::spaced_pairs;
 use crate::words::{is_blank, next_word, number, segment_in, without_blanks};
 use dma_mem::lists::{Bytes, Segments};
+use dma_mem::marks::MarkKind;
 use dma_mem::segment::Segment;
 use dma_text::bytes::is_text;
 use dma_text::digits::digit_value;
@@ -134,7 +135,7 @@ impl<'a> Arguments<'a> {
     }
 
     /// Reads a number of at most 255, such as that of a channel or an event.
-    #[inline(always)]
+    #[inline(never)]
     pub(crate) fn byte(&mut self) -> u8
         ensures { (result, self.new) ≡ byte_from self.old }
     {
@@ -183,6 +184,17 @@ impl<'a> Arguments<'a> {
     {
         self.fixed(b"to");
         self.list(alloc)
+    }
+
+    /// Reads the kind of a mark: loads fail at a `read` mark, stores at a `write` mark.
+    pub(crate) fn mark_kind(&mut self) -> MarkKind
+        ensures { (result, self.new) ≡ kind_from self.old }
+    {
+        if self.skip(b"read") {
+            return MarkKind::Reading;
+        }
+        self.fixed(b"write");
+        MarkKind::Writing
     }
 
     /// Reads all words that are left, at least one, as hexadecimal digits, and returns their joined bytes. `kept` is

@@ -1,8 +1,10 @@
 //! The statements of a script, kept in little memory: most lines take 12 bytes.
-ghost use Rattle.std.specs.Prelude.{◌≡◌, ◌++◌, ◌∷◌, [], IfErr, IfOk, OnOk};
-ghost use Rattle.dma_script.specs.inner.Queued.{IsWhole, statements_in};
+ghost use Rattle.std.specs.Prelude.{◌≡◌, ◌++◌, ◌∷◌, [], IfErr, IfOk, IfSome, IsNone, OnErr, OnOk};
+ghost use Rattle.std.specs.List.{All};
+ghost use Rattle.dma_script.specs.Interpreted.{PrintsLines, StopsAtALine};
+ghost use Rattle.dma_script.specs.inner.Queued.{IsWhole, RunsFirst, statements_in};
 
-use crate::interpreter::Lines;
+use crate::interpreter::{Interpreter, Lines};
 use crate::statements::Statement;
 use dma_mem::lists::Bytes;
 use dma_mem::segment::Segment;
@@ -103,6 +105,77 @@ impl Statements {
                 Ok(())
             }
         }
+    }
+}
+
+impl Statements {
+    /// Runs the next statement, if any is left. Each kind of line calls the interpreter itself, so that only the code
+    /// for this kind follows.
+    #[inline(always)]
+    fn run_next<I: Interpreter<Line = Statement>>(
+        &mut self,
+        interpreter: &mut I,
+        out: &mut Vec<u8>,
+    ) -> Option<Result<(), AllocError>>
+        requires taken { All I.takes self.old }
+        requires ready { I.is_ready interpreter.old }
+        ensures none { IsNone result
+            → (self.old ≡ []) × (interpreter.new ≡ interpreter.old)
+            × (out.new.items ≡ out.old.items) }
+        ensures some { IfSome result (λ ran. RunsFirst I.acts I.is_refused I.is_ready
+            self.old self.new interpreter.old interpreter.new out.old.items out.new.items ran) }
+    {
+        let Some(line) = self.lines.pop_front() else {
+            return None;
+        };
+        match line {
+            Line::Write { addr } => match self.bytes.pop_front() {
+                Some(bytes) => Some(interpreter.interpret(Statement::Write { addr, bytes }, out)),
+                None => unreachable!(),
+            },
+            Line::Read(segment) => Some(interpreter.interpret(Statement::Read(segment), out)),
+            Line::Issue { ch } => Some(interpreter.interpret(Statement::Issue { ch }, out)),
+            Line::Pause { ch } => Some(interpreter.interpret(Statement::Pause { ch }, out)),
+            Line::Resume { ch } => Some(interpreter.interpret(Statement::Resume { ch }, out)),
+            Line::Terminate { ch } => Some(interpreter.interpret(Statement::Terminate { ch }, out)),
+            Line::Step { ch, count } => {
+                Some(interpreter.interpret(Statement::Step { ch, count }, out))
+            }
+            Line::Status { ch, cookie } => {
+                Some(interpreter.interpret(Statement::Status { ch, cookie }, out))
+            }
+            Line::Result { ch, cookie } => {
+                Some(interpreter.interpret(Statement::Result { ch, cookie }, out))
+            }
+            Line::Long => match self.long.pop_front() {
+                Some(long) => Some(interpreter.interpret(long, out)),
+                None => unreachable!(),
+            },
+        }
+    }
+
+    /// Runs the statements one after another, as [`interpret_lines`] does, but with a call of the interpreter for each
+    /// kind of line.
+    ///
+    /// [`interpret_lines`]: crate::interpreter::interpret_lines
+    pub fn run<I: Interpreter<Line = Statement>>(
+        self,
+        interpreter: &mut I,
+        out: &mut Vec<u8>,
+    ) -> Result<(), AllocError>
+        requires taken { All I.takes self }
+        requires ready { I.is_ready interpreter.old }
+        ensures ok { OnOk result (PrintsLines I.acts
+            interpreter.old self interpreter.new out.old.items out.new.items) }
+        ensures ready_again { OnOk result (I.is_ready interpreter.new) }
+        ensures err { OnErr result (StopsAtALine I.acts I.is_refused
+            interpreter.old self interpreter.new out.old.items out.new.items) }
+    {
+        let mut left = self;
+        while let Some(ran) = left.run_next(interpreter, out) {
+            ran?;
+        }
+        Ok(())
     }
 }
 

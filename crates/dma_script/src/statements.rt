@@ -3,7 +3,7 @@ ghost use Rattle.std.specs.Prelude.{◌≡◌, IfOk};
 ghost use Rattle.dma_script.specs.Lines.{Gives};
 ghost use Rattle.dma_script.specs.Words.{words_of};
 ghost use Rattle.dma_script.specs.Statements.{IsWithin, first_line, keyword_of, run_script_of};
-ghost use Rattle.dma_script.specs.inner.Reading.{kind_from, line_added, statement_added};
+ghost use Rattle.dma_script.specs.inner.Reading.{line_added, statement_added};
 
 use crate::arguments::Arguments;
 pub use crate::arguments::MAX_STEPS;
@@ -170,17 +170,6 @@ pub(crate) fn first_line(alloc: Global, keyword: Keyword, words: &[u8]) -> Resul
     })
 }
 
-/// Reads the kind of a mark: loads fail at a `read` mark, stores at a `write` mark.
-fn mark_kind(words: &mut Arguments<'_>) -> MarkKind
-    ensures { (result, words.new) ≡ kind_from words.old }
-{
-    if words.skip(b"read") {
-        return MarkKind::Reading;
-    }
-    words.fixed(b"write");
-    MarkKind::Writing
-}
-
 /// Reads `ADDR HEX` and adds the statement of a `write` line. `kept` is as in [`Arguments::bytes`].
 ///
 /// The lines with bytes or lists have functions of their own that are not inlined, since the locals of all arms of a
@@ -282,7 +271,7 @@ fn read_statement(
             cookie: words.number(),
         })?),
         Keyword::Mark => Ok(statements.push(Statement::Mark {
-            kind: mark_kind(words),
+            kind: words.mark_kind(),
             segment: words.segment(),
         })?),
         Keyword::Unmark => Ok(statements.push(Statement::Unmark)?),
@@ -344,6 +333,16 @@ impl ReadSoFar {
         }
     }
 
+    /// Reads the first line. Not inlined, so that no other line clears its locals.
+    #[inline(never)]
+    fn take_first(&mut self, alloc: Global, keyword: Keyword, words: &[u8]) -> Result<(), LineError>
+        requires { self.old ≡ None }
+        ensures { Gives (λ _. self.new) result (next_line None keyword (words_of words.now)) }
+    {
+        self.script = Some(first_line(alloc, keyword, words)?);
+        Ok(())
+    }
+
     /// Reads a line by its keyword and the words after it.
     #[inline(always)]
     pub(crate) fn take(
@@ -355,10 +354,7 @@ impl ReadSoFar {
         ensures { Gives (λ _. self.new) result (next_line self.old keyword (words_of words.now)) }
     {
         match &mut self.script {
-            None => {
-                self.script = Some(first_line(alloc, keyword, words)?);
-                Ok(())
-            }
+            None => self.take_first(alloc, keyword, words),
             Some(script) => {
                 let statements = &mut script.statements;
                 later_line(alloc, &mut self.bytes, keyword, words, statements)

@@ -33,14 +33,16 @@ pub fn split_line(input: &[u8]) -> (&[u8], &[u8])
     }
 }
 
-/// Returns whether a byte is a space or a tab.
+/// Returns whether a byte is a space or a tab. Most bytes of a line are above both, and take one comparison.
+#[inline(always)]
 pub(crate) fn is_blank(byte: u8) -> bool
     ensures { result ≡ is_blank byte }
 {
-    byte == b' ' || byte == b'\t'
+    byte <= b' ' && (byte == b' ' || byte == b'\t')
 }
 
 /// Returns a line without its leading blanks.
+#[inline(always)]
 pub(crate) fn without_blanks(line: &[u8]) -> &[u8]
     ensures words { words_of result.now ≡ words_of line.now }
     ensures within { length result.now ≤ length line.now }
@@ -74,6 +76,7 @@ fn blank_from(line: &[u8], start: usize) -> Option<usize>
 }
 
 /// Returns the word at the front of a line, and the rest of the line after the blank that ends the word.
+#[inline(always)]
 fn cut_word(line: &[u8]) -> (&[u8], &[u8])
     requires some { 0 < length line.now }
     requires first { is_blank (slice_index line.now 0) ≡ false }
@@ -95,6 +98,7 @@ fn cut_word(line: &[u8]) -> (&[u8], &[u8])
 }
 
 /// Returns the first word of a line and the rest of the line, or `None` if there is no word.
+#[inline(always)]
 pub(crate) fn next_word(line: &[u8]) -> Option<(&[u8], &[u8])>
     ensures { MatchOption result
         (words_of line.now ≡ []) (λ w. words_of line.now ≡ w.0.now ∷ words_of w.1.now) }
@@ -138,6 +142,7 @@ pub(crate) fn is_plain_text(text: &[u8]) -> bool
 
 /// Returns the number that one or more digits of a base spell, or `None` for any other bytes or a number above
 /// 4,294,967,295.
+#[inline(always)]
 fn number_in(digits: &[u8], radix: u32) -> Option<u32>
     requires low { 2 ≤ radix }
     requires high { radix ≤ 16 }

@@ -2,9 +2,11 @@
 use Rattle.std.specs.Prelude.{ℕ, ◌++◌, List, [], ◌∷◌, Option, Some, None, replicate}
 use Rattle.dma_engine.specs.declared.call.Reply.{Reply}
 use Rattle.dma_engine.specs.declared.call.Reply.TheVariants.{Turned}
-use Rattle.dma_engine.specs.declared.turn.Turn.TheVariants.{Started}
+use Rattle.dma_engine.specs.declared.outcome.TransResult.TheVariants.{NoError}
+use Rattle.dma_engine.specs.declared.turn.Turn.TheVariants.{Started, Moved, Finished}
 use Rattle.dma_script.specs.Command.{text_of}
-use Rattle.dma_commands.specs.Run.{step_lines}
+use Rattle.dma_commands.specs.Printed.{turn_text}
+use Rattle.dma_commands.specs.Run.{step_line, step_lines}
 
 -- The text of a step line whose finished lines are `lines`, whose last answer was counted `count` times so far, and
 -- whose remaining answers are `rest`.
@@ -15,3 +17,12 @@ text_with ch lines answer count rest = lines ++ text_of (step_lines ch (replicat
 abbrev pub start_replies : Option ℕ → List Reply
 start_replies None = []
 start_replies (Some cookie) = Turned (Started cookie) ∷ []
+
+-- The text of a step line whose answers are the start, the moves and the finish of one transfer.
+abbrev pub transfer_text : ℕ → ℕ → ℕ → ℕ → List ℕ
+transfer_text ch started moved finished = text_of (
+    step_line ch (turn_text (Started started), 1)
+    ∷ step_line ch (turn_text Moved, moved)
+    ∷ step_line ch (turn_text (Finished finished NoError 0), 1)
+    ∷ []
+    )

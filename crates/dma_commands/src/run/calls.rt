@@ -16,7 +16,7 @@ use dma_mem::segment::Segment;
 use dma_script::plan::TransferLine;
 use dma_script::printing::print_line;
 use dma_script::statements::Statement;
-use dma_text::text::{Address, SpacedBytes};
+use dma_text::text::{Address, SpacedBytes, print};
 use std::alloc::AllocError;
 
 /// Returns the call of a line that makes exactly one call, or any other line unchanged.
@@ -78,7 +78,7 @@ pub(crate) fn answer_pause(engine: &mut Engine, ch: u8, out: &mut Vec<u8>) -> Re
         result out.old.items out.new.items }
 {
     match engine.pause(ch) {
-        Ok(()) => print_line(out, &"ok"),
+        Ok(()) => print(out, &"ok\n"),
         Err(fault) => print_line(out, &("refused ", Shown(fault))),
     }
 }
@@ -94,7 +94,7 @@ pub(crate) fn answer_resume(
         result out.old.items out.new.items }
 {
     match engine.resume(ch) {
-        Ok(()) => print_line(out, &"ok"),
+        Ok(()) => print(out, &"ok\n"),
         Err(fault) => print_line(out, &("refused ", Shown(fault))),
     }
 }
@@ -123,7 +123,7 @@ pub(crate) fn answer_write(
         result out.old.items out.new.items }
 {
     match engine.write_owned(addr, bytes) {
-        Ok(()) => print_line(out, &"ok"),
+        Ok(()) => print(out, &"ok\n"),
         Err(fault) => print_line(out, &("refused ", Shown(fault))),
     }
 }

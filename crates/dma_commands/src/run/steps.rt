@@ -1,17 +1,19 @@
 //! The `step` lines of a script. Equal consecutive answers are counted and printed as one line.
 
-ghost use Rattle.std.specs.Prelude.{◌≡◌, ◌≢◌, ◌≤◌, ◌<◌, ◌+◌, ◌++◌, ◌∷◌, [], List, ℕ, OnOk, OnErr, IfOk, IsTrue, Err, is_some, map, replicate, if◌then◌else◌};
+ghost use Rattle.std.specs.Prelude.{◌≡◌, ◌≢◌, ◌≤◌, ◌<◌, ◌+◌, ◌++◌, ◌∷◌, [], List, ℕ, OnOk, OnErr, IfOk, IfSome, IsNone, IsTrue, Err, is_some, map, replicate, if◌then◌else◌};
 ghost use Rattle.dma_engine.specs.Answer.{answers, reply_of};
 ghost use Rattle.dma_engine.specs.Room.{IsIdle};
 ghost use Rattle.dma_engine.specs.declared.call.Call.TheVariants as calls;
 ghost use Rattle.dma_script.specs.Command.{text_of};
 ghost use Rattle.dma_commands.specs.Printed.{reply_text};
-ghost use Rattle.dma_commands.specs.inner.Counting.{start_replies, text_with};
+ghost use Rattle.dma_engine.specs.Advance.{IsAdvance, steps_before};
+ghost use Rattle.dma_engine.specs.View.{View};
+ghost use Rattle.dma_commands.specs.inner.Counting.{start_replies, text_with, transfer_text};
 ghost use Rattle.dma_commands.specs.inner.RunSteps.{RunsLine};
 ghost use Rattle.dma_commands.specs.Run.{step_answer, step_line};
 
 use crate::printing::Shown;
-use dma_engine::{Engine, EngineFault, Reply, Turn};
+use dma_engine::{Advanced, Engine, EngineFault, Reply, TransResult, Turn};
 use dma_script::printing::print_line;
 use dma_text::text::{Text, print};
 use std::alloc::{AllocError, Global};
@@ -128,28 +130,28 @@ fn is_idle(turn: Result<Turn, EngineFault>) -> bool
     )
 }
 
-/// Steps a channel at most `most` times, until a step neither starts nor moves, and adds the answers. An answer that
-/// every later step repeats is counted for all remaining steps, which are not executed. Returns the number of answers
-/// that it added. Fails if memory runs out.
+/// Adds the answers to the steps of a channel, at most `most`, that the engine took in one call. An answer that every
+/// later step repeats is counted for all remaining steps, which are not executed. Returns the number of answers that it
+/// added. Fails if memory runs out.
 fn take_steps(
-    engine: &mut Engine,
+    steps: Advanced,
     ch: u8,
     most: u32,
     printed: &mut StepLines,
 ) -> Result<u32, AllocError>
-    requires some { 0 < most }
+    requires all { IsNone steps.last → steps_before steps ≡ most }
+    requires other { IfSome steps.last (λ _. steps_before steps < most) }
     requires few { printed.old.count + most ≤ u32.MAX }
-    ensures many { IfOk result (λ many. (0 < many) × (many ≤ most)) }
-    ensures view { IfOk result
-        (λ many. engine.new.view ≡ (answers engine.old.view (replicate many (calls.Step ch))).1) }
+    ensures many { IfOk result (λ many. (0 < most → 0 < many) × (many ≤ most)) }
+    ensures view { IfOk result (λ many. (v w : View) → IsAdvance v ch steps w
+        → w ≡ (answers v (replicate many (calls.Step ch))).1) }
     ensures text { IfOk result
-        (λ many. (rest : List (List ℕ))
+        (λ many. (v w : View) → IsAdvance v ch steps w → (rest : List (List ℕ))
         → text_with ch printed.new.lines.items printed.new.last.items printed.new.count rest
         ≡ text_with ch printed.old.lines.items printed.old.last.items printed.old.count
-        (map reply_text (answers engine.old.view (replicate many (calls.Step ch))).0 ++ rest)) }
+        (map reply_text (answers v (replicate many (calls.Step ch))).0 ++ rest)) }
     ensures count { IfOk result (λ many. printed.new.count ≤ printed.old.count + many) }
 {
-    let steps = engine.advance(ch, most);
     printed.take_start(ch, steps.started)?;
     printed.take(ch, &Reply::Turned(Turn::Moved), steps.moved)?;
     let before = steps.steps_before();
@@ -162,17 +164,77 @@ fn take_steps(
     Ok(before + many)
 }
 
-/// Executes a `step` line of one step. The line is appended directly to the output.
-fn answer_step(engine: &mut Engine, ch: u8, out: &mut Vec<u8>) -> Result<(), AllocError>
-    ensures { RunsLine (step_answer engine.old.view ch 1) engine.new.view
-        result out.old.items out.new.items }
+/// Appends the line of one step with this answer. Not inlined, since most steps move.
+#[inline(never)]
+fn print_step(
+    ch: u8,
+    turned: Result<Turn, EngineFault>,
+    out: &mut Vec<u8>,
+) -> Result<(), AllocError>
+    ensures ok { OnOk result (out.new.items ≡ out.old.items ++ text_of
+        (step_line ch (reply_text (reply_of (λ turn. Reply.Turned turn) turned), 1) ∷ [])) }
+    ensures printed { OnOk result
+        (reply_of (λ turn. Reply.Turned turn) turned ≢ Reply.Refused EngineFault.NoMemory) }
+    ensures err { OnErr result (out.new.items ≡ out.old.items) }
 {
-    let turned = engine.step(ch);
     print_line(out, &(("step ", ch, " ", Shown(turned)), " x", 1u32))
 }
 
-/// Executes `step CH [N]`. No step allocates memory for its answer, and the steps after one that changed nothing are
-/// only counted.
+/// Executes a `step` line of one step. The line is appended directly to the output.
+#[inline(never)]
+pub fn answer_step(engine: &mut Engine, ch: u8, out: &mut Vec<u8>) -> Result<(), AllocError>
+    ensures { RunsLine (step_answer engine.old.view ch 1) engine.new.view
+        result out.old.items out.new.items }
+{
+    match engine.step(ch) {
+        // Most steps move.
+        Ok(Turn::Moved) => print(out, &("step ", ch, " moved x1\n")),
+        turned => print_step(ch, turned, out),
+    }
+}
+
+/// Returns the cookie of the transfer that steps started, and that of the transfer that they finished without an error,
+/// if they did both.
+#[inline(always)]
+fn whole_transfer(steps: Advanced) -> Option<(u32, u32)>
+    ensures { IfSome result (λ cookies. (steps.started ≡ Some cookies.0)
+        × (steps.last ≡ Some (Ok (Turn.Finished cookies.1 TransResult.NoError 0)))) }
+{
+    let started = steps.started?;
+    match steps.last {
+        Some(
+            Ok(
+                Turn::Finished {
+                    cookie,
+                    result: TransResult::NoError,
+                    residue: 0,
+                },
+            ),
+        ) => Some((started, cookie)),
+        _ => None,
+    }
+}
+
+/// Appends the lines of a transfer that starts, moves and finishes without an error within one `step` line.
+fn print_transfer(
+    ch: u8,
+    started: u32,
+    moved: u32,
+    finished: u32,
+    out: &mut Vec<u8>,
+) -> Result<(), AllocError>
+    ensures ok { OnOk result
+        (out.new.items ≡ out.old.items ++ transfer_text ch started moved finished) }
+    ensures err { OnErr result (out.new.items ≡ out.old.items) }
+{
+    let start = ("step ", ch, " started ", started);
+    let moves = (" x1\nstep ", ch, " moved x", moved);
+    let finish = ("\nstep ", ch, " finished ", finished);
+    print(out, &(start, moves, finish, " NoError residue 0 x1\n"))
+}
+
+/// Executes `step CH N` of several steps. No step allocates memory for its answer, and the steps after one that changed
+/// nothing are only counted.
 #[inline(never)]
 pub fn answer_steps(
     engine: &mut Engine,
@@ -184,14 +246,21 @@ pub fn answer_steps(
     ensures { RunsLine (step_answer engine.old.view ch count) engine.new.view
         result out.old.items out.new.items }
 {
-    if count == 1 {
-        return answer_step(engine, ch, out);
+    let first = engine.advance(ch, count);
+    if let Some((started, finished)) = whole_transfer(first)
+        && 0 < first.moved
+        && count - first.moved == 2
+    {
+        return print_transfer(ch, started, first.moved, finished, out);
     }
     steps.lines.clear();
     steps.count = 0;
-    let mut left = count;
+    let added = take_steps(first, ch, count, steps)?;
+    let mut left = count - added;
     while left > 0 {
-        left -= take_steps(engine, ch, left, steps)?;
+        let next = engine.advance(ch, left);
+        let more = take_steps(next, ch, left, steps)?;
+        left -= more;
     }
     steps.end_line(ch)?;
     print(out, &steps.lines.as_slice())

@@ -1,6 +1,7 @@
 -- How the statements of a script are kept: the bytes of `write` lines, and the statements that have lists, are in lists
 -- of their own.
-use Rattle.std.specs.Prelude.{ℕ, List, [], ◌∷◌}
+use Rattle.std.specs.Prelude.{◌≡◌, ℕ, List, [], ◌∷◌, OnErr, OnOk, Result}
+use Rattle.dma_script.specs.Interpreted.{PrintsLine}
 use Rattle.dma_script.specs.declared.queue.Line.{Line}
 use Rattle.dma_script.specs.declared.queue.Line.TheVariants as lines
 use Rattle.dma_script.specs.declared.statements.Statement.{Statement}
@@ -31,3 +32,16 @@ IsWhole (lines.Write addr ∷ rest) [] long = ⊥
 IsWhole (lines.Long ∷ rest) bytes (first ∷ long) = IsWhole rest bytes long
 IsWhole (lines.Long ∷ rest) bytes [] = ⊥
 IsWhole (_ ∷ rest) bytes long = IsWhole rest bytes long
+
+-- The first of several lines ran, and the others are left: it printed its lines, or was out of memory and appended
+-- nothing.
+pub record RunsFirst
+    {S L E : Type 0} (acts : S → L → List (List ℕ) → S → Type 0) (is_refused : S → L → S → Type 0) (is_ready : S → Type 0)
+    (lines left : List L) (found now : S) (old new : List ℕ) (ran : Result (Unit {0}) E)
+    : Type 0 where
+  pub first : L
+  pub split : lines ≡ first ∷ left
+  pub printed : OnOk ran (PrintsLine (acts found first) now old new)
+  pub ready : OnOk ran (is_ready now)
+  pub refused : OnErr ran (is_refused found first now)
+  pub kept : OnErr ran (new ≡ old)

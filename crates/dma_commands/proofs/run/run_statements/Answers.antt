@@ -6,12 +6,12 @@ use Rattle.dma_commands.proofs.run.run_statements.Goals as goal
 pub returns : goal.returns
 returns c =
     record {
-      text = answered-all (λ (lines : LinesOnEngine). lines.engine.now.view) _ _ _ _ _ c.in_ok-interpret_lines.ensures.ok;
+      text = answered-all (λ (lines : LinesOnEngine). lines.engine.now.view) _ _ _ _ _ c.in_ok-run.ensures.ok;
       status = refl;
       refused = tt;
     }
 
-pub returns-in_err-interpret_lines : goal.returns-in_err-interpret_lines
-returns-in_err-interpret_lines c =
-    let first = answered-some (λ (lines : LinesOnEngine). lines.engine.now.view) _ _ _ _ _ _ c.in_err-interpret_lines.ensures.err in
+pub returns-in_err-run : goal.returns-in_err-run
+returns-in_err-run c =
+    let first = answered-some (λ (lines : LinesOnEngine). lines.engine.now.view) _ _ _ _ _ _ c.in_err-run.ensures.err in
     answers_some _ c.from_residual.result _ _ c.from_residual.ensures.0 first

@@ -9,28 +9,54 @@ use Rattle.dma_commands.specs.Printed.{reply_text}
 use Rattle.dma_commands.specs.Run.{step_answer, step_lines}
 use Rattle.dma_commands.proofs.RunLemmas.{printed_runs}
 use Rattle.dma_commands.proofs.StepLemmas.{ended, more-view, more-texts}
+use Rattle.dma_commands.proofs.Advances.{whole_runs}
 use Rattle.dma_commands.proofs.run.steps.answer_steps.Goals as goal
+
+pub loop-left-init : goal.loop-left-init
+loop-left-init c =
+    let v = c.args.engine.now.view in
+    let w = c.advance-first.new.self.view in
+    let step = Step c.args.ch in
+    let is = c.advance-first.ensures.answers in
+    let added = c.in_ok-added.added in
+    let within : added ≤ c.args.count = c.in_ok-added.ensures.many.1 in
+    let back : added ≡ c.args.count - (c.args.count - added) = omega (arith, within) in
+    record {
+      left = omega (arith);
+      counted = omega (arith, c.in_ok-added.ensures.count, back);
+      view = c.in_ok-added.ensures.view v w is ∙ ap (λ (k : ℕ). (answers v (replicate k step)).1) back;
+      text = λ rest. c.in_ok-added.ensures.text v w is rest
+          ∙ ap (λ (l : List ℕ). l ++ text_of (step_lines c.args.ch (map reply_text (answers v (replicate added step)).0 ++ rest))) c.clear.ensures.items
+          ∙ ap (λ (k : ℕ). text_of (step_lines c.args.ch (map reply_text (answers v (replicate k step)).0 ++ rest))) back;
+    }
 
 pub loop-left-preserved : goal.loop-left-preserved
 loop-left-preserved c =
     let v = c.args.engine.now.view in
     let w = c.loop-left.engine.view in
+    let u = c.advance-next.new.self.view in
     let step = Step c.args.ch in
+    let is = c.advance-next.ensures.answers in
     let inv = c.loop-left.invariant in
     let left = c.loop-left.left in
-    let many = c.in_ok-left.field-0 in
-    let within : many ≤ left = c.in_ok-left.ensures.many.1 in
+    let many = c.in_ok-more.more in
+    let within : many ≤ left = c.in_ok-more.ensures.many.1 in
     let sum : (c.args.count - left) + many ≡ c.args.count - (left - many) = omega (arith, within, inv.left) in
     record {
       left = omega (arith, inv.left);
-      counted = omega (arith, c.in_ok-left.ensures.count, inv.counted, within, inv.left);
-      view = c.in_ok-left.ensures.view ∙ more-view v w step _ (c.args.count - left) many _ sum inv.view refl;
-      text = λ rest. c.in_ok-left.ensures.text rest ∙ inv.text _
+      counted = omega (arith, c.in_ok-more.ensures.count, inv.counted, within, inv.left);
+      view = c.in_ok-more.ensures.view w u is ∙ more-view v w step _ (c.args.count - left) many _ sum inv.view refl;
+      text = λ rest. c.in_ok-more.ensures.text w u is rest ∙ inv.text _
           ∙ ap (λ l. text_of (step_lines c.args.ch l)) (more-texts v w step _ (c.args.count - left) many _ rest sum inv.view refl);
     }
 
 pub returns : goal.returns
 returns c =
+    whole_runs c.args.engine.now.view c.advance-first.new.self.view c.args.ch c.args.count c.advance-first.result (c.in-Some.started, c.in-Some.finished) c.print_transfer.result c.args.out.now.items c.print_transfer.new.out.items
+    c.advance-first.ensures.answers c.in-Some.ensures c.if-first-gt0.true c.if-count-first-eq2.true c.print_transfer.ensures.ok c.print_transfer.ensures.err
+
+pub returns-2 : goal.returns-2
+returns-2 c =
     let v = c.args.engine.now.view in
     let ch = c.args.ch in
     let steps = c.loop-left.steps in

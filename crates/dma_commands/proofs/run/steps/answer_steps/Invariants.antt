@@ -13,7 +13,7 @@ decreases-loop-left l = l.left
 
 abbrev pub invariant-loop-left : goal.invariant-loop-left
 invariant-loop-left l =
-    let so_far = answers l.initial.engine.view (replicate (l.count - l.left) (Step l.ch)) in
+    let so_far = answers l.fn.engine.view (replicate (l.count - l.left) (Step l.ch)) in
     record {
       left : l.left ≤ l.count;
       counted : l.steps.count ≤ l.count - l.left;

@@ -16,44 +16,38 @@ use Rattle.dma_commands.proofs.run.steps.take_steps.Goals.{then-is_idle, else-is
 
 pub returns-in_default-clause-view : goal.returns-in_default-clause-view
 returns-in_default-clause-view c =
-    let a = c.advance-steps.result in
-    rw c.steps_before-before.ensures (ap (λ (x : List Reply × View). x.1) (all-steps c.args.engine.now.view c.advance-steps.new.self.view c.args.ch a c.advance-steps.ensures.answers c.in_default.is))
+    let a = c.args.steps in
+    rw c.steps_before-before.ensures (λ v w is. ap (λ (x : List Reply × View). x.1) (all-steps v w c.args.ch a is c.in_default.is))
 
 pub returns-in_default-clause-text : goal.returns-in_default-clause-text
 returns-in_default-clause-text c =
-    let a = c.advance-steps.result in
+    let a = c.args.steps in
     let printed = c.args.printed.now in
-    let v = c.args.engine.now.view in
-    let w = c.advance-steps.new.self.view in
-    let all = all-steps v w c.args.ch a c.advance-steps.ensures.answers c.in_default.is in
-    rw c.steps_before-before.ensures (λ rest. c.in_ok-take.ensures.text rest
+    rw c.steps_before-before.ensures (λ v w is rest. c.in_ok-take.ensures.text rest
     ∙ c.in_ok-take_start.ensures.text (replicate a.moved (reply_text (Turned Moved)) ++ rest)
-    ∙ ap (text_with c.args.ch printed.lines.items printed.last.items printed.count) (all-texts a w (answers v (replicate (steps_before a) (Step c.args.ch))) rest all))
+    ∙ ap (text_with c.args.ch printed.lines.items printed.last.items printed.count) (all-texts a w (answers v (replicate (steps_before a) (Step c.args.ch))) rest (all-steps v w c.args.ch a is c.in_default.is)))
 
 pub returns-clause-view : goal.returns-clause-view
 returns-clause-view c =
-    let a = c.advance-steps.result in
+    let a = c.args.steps in
     let many = c.if-is_idle.many in
     let times : (many ≡ 1) ⊎ IsIdle c.in-Some.last = elim c.if-is_idle.branch [
       | then-is_idle w ↦ inr (c.is_idle.ensures.idle w.if-is_idle.true)
       | else-is_idle w ↦ inl w.many-is
     ] in
-    rw c.steps_before-before.ensures (ap (λ (x : List Reply × View). x.1) (steps-then c.args.engine.now.view c.advance-steps.new.self.view c.args.ch a many c.in-Some.last c.in_ok-reply.reply c.advance-steps.ensures.answers c.in-Some.is c.in_ok-reply.ensures.reply times))
+    rw c.steps_before-before.ensures (λ v w is. ap (λ (x : List Reply × View). x.1) (steps-then v w c.args.ch a many c.in-Some.last c.in_ok-reply.reply is c.in-Some.is c.in_ok-reply.ensures.reply times))
 
 pub returns-clause-text : goal.returns-clause-text
 returns-clause-text c =
-    let a = c.advance-steps.result in
+    let a = c.args.steps in
     let printed = c.args.printed.now in
-    let v = c.args.engine.now.view in
-    let w = c.advance-steps.new.self.view in
     let many = c.if-is_idle.many in
     let reply = c.in_ok-reply.reply in
     let times : (many ≡ 1) ⊎ IsIdle c.in-Some.last = elim c.if-is_idle.branch [
       | then-is_idle w ↦ inr (c.is_idle.ensures.idle w.if-is_idle.true)
       | else-is_idle w ↦ inl w.many-is
     ] in
-    let all = steps-then v w c.args.ch a many c.in-Some.last reply c.advance-steps.ensures.answers c.in-Some.is c.in_ok-reply.ensures.reply times in
-    rw c.steps_before-before.ensures (λ rest. c.in_ok-take-2.ensures.text rest
+    rw c.steps_before-before.ensures (λ v w is rest. c.in_ok-take-2.ensures.text rest
     ∙ c.in_ok-take.ensures.text (replicate many (reply_text reply) ++ rest)
     ∙ c.in_ok-take_start.ensures.text (replicate a.moved (reply_text (Turned Moved)) ++ (replicate many (reply_text reply) ++ rest))
-    ∙ ap (text_with c.args.ch printed.lines.items printed.last.items printed.count) (both-texts a many reply w (answers v (replicate (steps_before a + many) (Step c.args.ch))) rest all))
+    ∙ ap (text_with c.args.ch printed.lines.items printed.last.items printed.count) (both-texts a many reply w (answers v (replicate (steps_before a + many) (Step c.args.ch))) rest (steps-then v w c.args.ch a many c.in-Some.last reply is c.in-Some.is c.in_ok-reply.ensures.reply times)))
