@@ -1,10 +1,18 @@
--- The bits of FSRC; the order of regions, by their places; threads and their saves; rows computed from the definitions.
+-- The bits of FSRC; the order of regions, by their places; rows computed from the definitions.
 pub mod Faulting
 pub mod InOrder
-pub mod Snapshots
+pub mod SavedParts
 pub mod Starts
-pub mod Copies
+pub mod CallKeeps
+pub mod TurnRaises
+pub mod WriteRaises
 pub mod Interrupts
-pub mod Determined
-pub mod Accesses
+pub mod Answered
+pub mod Sound
+pub mod SavedDevices
+pub mod Stored
+pub mod WidePrograms
+pub mod SavedPrograms
+pub mod Copies
+pub mod Runs
 pub mod Rows

@@ -1,5 +1,5 @@
 -- Rows computed from the definitions: values after a reset, a DMAGO of a program with its turns, and INTCLR.
-use Rattle.std.proofs.Common.{◌≡◌, true, false, List, [], ◌∷◌, Some, None, refl}
+use Rattle.std.proofs.Common.{◌≡◌, ℕ, true, false, List, [], ◌∷◌, get_or, Some, None, refl}
 use Rattle.dma_mem.specs.Flags.{flags_of}
 use Rattle.dma_mem.specs.Regions.{Piece}
 use Rattle.dma_chan.specs.Channel.{loaded}
@@ -9,7 +9,10 @@ use Rattle.dma_device.specs.declared.config.BusWidth.TheVariants.{Bits32, Bits12
 use Rattle.dma_device.specs.declared.config.Config.{Config}
 use Rattle.dma_device.specs.declared.config.Revision.TheVariants.{R0p0, R1p2}
 use Rattle.dma_device.specs.Device.{DeviceValue, irq_abort, irqs, read_at, reset_device, written}
-use Rattle.dma_device.specs.Turns.{events_of, raised_with, raises, runs_at}
+use Rattle.dma_device.specs.Turns.{raises, runs_at, visible_events, with_flags}
+use Rattle.dma_device.specs.Accesses.{Access, Reads, Turned, Turns, Value, Writes}
+use Rattle.dma_device.specs.Run.{Board, next, run}
+use Rattle.dma_chan.specs.Written.{range_at}
 
 -- eight channels, 32 events, and 16 lines of 16 bytes for each channel
 abbrev largest : Config
@@ -76,7 +79,7 @@ runs-going = refl
 
 -- its channel after the first step, and what that sets and answers; then DMAEND
 abbrev began : Machine
-began = machine (loaded (record { bytes = 0x34 ∷ 0x08 ∷ 0x00 ∷ []; cost = None })) [] (flags_of (events_of going))
+began = machine (loaded (record { bytes = 0x34 ∷ 0x08 ∷ 0x00 ∷ []; cost = None })) [] (flags_of (visible_events going))
 
 first-flags : (after_steps [] began 1).flags ≡ flags_of 0x2
 unfolding flags_of
@@ -85,11 +88,14 @@ first-flags = refl
 first-signal : signal_after [] began 1 ≡ Some 1
 first-signal = refl
 
-raised-first : raised_with 0x2 going ≡ 0x2
-raised-first = refl
-
-interrupts-first : raises going (Some 1) ≡ true
+interrupts-first : (with_flags 0x2 going).interrupts ≡ 0x2
 interrupts-first = refl
+
+events-first : (with_flags 0x2 going).events ≡ 0
+events-first = refl
+
+raises-first : raises going (Some 1) ≡ true
+raises-first = refl
 
 second-answer : last_of [] began 2 ≡ Some Ended
 unfolding flags_of
@@ -129,5 +135,51 @@ ris-cleared : read_at (written ram 0x02C 0x6 both) 0x024 ≡ 0x4
 ris-cleared = refl
 
 -- channels see the event alone
-events-both : events_of both ≡ 0x4
+events-both : visible_events both ≡ 0x4
 events-both = refl
+
+-- ---- INTEN
+
+-- the event becomes no interrupt, and the interrupt no event; neither can a channel see
+abbrev turned_over : DeviceValue
+turned_over = written ram 0x020 0x4 both
+
+irqs-turned_over : irqs turned_over ≡ 0x2
+irqs-turned_over = refl
+
+events-turned_over : visible_events turned_over ≡ 0
+events-turned_over = refl
+
+-- INTCLR clears an interrupt only while INTEN makes it one
+ris-turned_over : read_at (written ram 0x02C 0x6 turned_over) 0x024 ≡ 0x6
+ris-turned_over = refl
+
+-- ---- a run: INTEN, DMAGO of channel 3, a turn, INTCLR
+
+abbrev accesses : List Access
+accesses =
+    Writes 0x020 0x2 ∷ Writes 0xD08 0x03A00000 ∷ Writes 0xD0C 0x100 ∷ Writes 0xD04 0 ∷ Turns 3 10 ∷ Reads 0x118
+    ∷ Writes 0x02C 0x2 ∷ []
+
+abbrev access : ℕ → Access
+access k = get_or accesses k (Reads 0x028)
+
+abbrev start : Board
+start = record { device = reset_device largest; ram = record { pieces = ram; read_only = [] } }
+
+-- the turn raises the interrupt and ends the program, and writes nothing
+turn-run : (next (access 4) (run access start 4)).1 ≡ Turned (record { written = range_at 0 0; lines_changed = true })
+unfolding flags_of
+turn-run = refl
+
+line-run : irqs (run access start 5).device ≡ 0x2
+unfolding flags_of
+line-run = refl
+
+csr-run : (next (access 5) (run access start 5)).1 ≡ Value 0
+unfolding flags_of
+csr-run = refl
+
+intmis-run : (next (access 7) (run access start 7)).1 ≡ Value 0
+unfolding flags_of
+intmis-run = refl

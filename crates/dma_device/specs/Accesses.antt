@@ -1,6 +1,6 @@
 -- Accesses in a row: what a guest's driver and its processor do to a device and to RAM, and the turns that a host gives
 -- to channels, in any order.
-use Rattle.std.specs.Prelude.{◌≡◌, ℕ, List, [], ◌∷◌, map, slice_set}
+use Rattle.std.specs.Prelude.{◌≡◌, ℕ, ◌+◌, ◌<◌, List, map, slice_set}
 use Rattle.dma_mem.specs.Regions.{image_of, pieces_of, read_only_of}
 use Rattle.dma_mem.specs.declared.regions.Region.{Region}
 use Rattle.dma_chan.specs.LentRegions.{segment_of}
@@ -40,27 +40,8 @@ Does (Stores addr byte) d regions answer e left =
     × (read_only_of left ≡ read_only_of regions)
     × (image_of (pieces_of left) ≡ slice_set (image_of (pieces_of regions)) addr byte)
 
--- the next of some accesses, and those after it, which `Rest` describes
-pub record Next (a : Access) (Rest : DeviceValue → List Region → List Answer → Type 0) (d : DeviceValue)
-    (regions : List Region) (answers : List Answer) : Type 0 where
-  pub answer : Answer
-  pub later : List Answer
-  pub both : answers ≡ answer ∷ later
-  pub middle : DeviceValue
-  pub lent : List Region
-  pub does : Does a d regions answer middle lent
-  pub rest : Rest middle lent later
-
--- What these accesses in a row make of a device and of the regions, and what they return.
-abbrev pub Happens : List Access → DeviceValue → List Region → List Answer → DeviceValue → List Region → Type 0
-Happens [] d regions answers e left = (answers ≡ []) × (e ≡ d) × AreAlike left regions
-Happens (a ∷ more) d regions answers e left =
-    Next a (λ middle lent later. Happens more middle lent later e left) d regions answers
-
--- For every list of accesses, the device and RAM before them determine what each returns, and the device, with its
--- lines, and all of RAM after them.
-abbrev pub AccessesAreDetermined : Type 0
-AccessesAreDetermined =
-    (accesses : List Access) (d e f : DeviceValue) (regions left other : List Region) (answers again : List Answer) →
-    Happens accesses d regions answers e left → Happens accesses d regions again f other →
-    (again ≡ answers) × (f ≡ e) × AreAlike other left
+-- Accesses in a row, of which there are `count`: number k finds the device `before k` and the regions `lent k`, returns
+-- `answer k`, and leaves `before (k + 1)` and `lent (k + 1)`.
+abbrev pub Happen : (ℕ → Access) → (ℕ → Answer) → (ℕ → DeviceValue) → (ℕ → List Region) → ℕ → Type 0
+Happen access answer before lent count =
+    (k : ℕ) → k < count → Does (access k) (before k) (lent k) (answer k) (before (k + 1)) (lent (k + 1))

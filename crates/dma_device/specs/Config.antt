@@ -1,5 +1,5 @@
 -- The choices of a chip's designer.
-use Rattle.std.specs.Prelude.{ℕ, ◌*◌, ◌^◌, Bool, ◌&&◌, min, nat_le}
+use Rattle.std.specs.Prelude.{ℕ, ◌*◌, ◌^◌, Bool, ◌&&◌, nat_le}
 use Rattle.dma_device.specs.declared.config.BusWidth.{BusWidth}
 use Rattle.dma_device.specs.declared.config.BusWidth.TheVariants.{Bits32, Bits64, Bits128}
 use Rattle.dma_device.specs.declared.config.Config.{Config}
@@ -25,8 +25,3 @@ abbrev pub is_valid : Config → Bool
 is_valid g =
     nat_le 1 g.channels && (nat_le g.channels 8 && (nat_le 1 g.events && (nat_le g.events 32
     && (nat_le g.channels g.lines && (nat_le g.lines 1024 && nat_le (g.lines * 2 ^ bus_code g.bus) (256 * g.channels))))))
-
--- how many of `most` steps a call takes at most: one on a bus narrower than 128 bits, so that each DMAMOV CCR is tested
-abbrev pub most_on : BusWidth → ℕ → ℕ
-most_on Bits128 most = most
-most_on bus most = min most 1

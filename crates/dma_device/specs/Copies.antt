@@ -1,5 +1,5 @@
 -- What a program that a DMAGO starts copies, if it is the compiled program of a transfer.
-use Rattle.std.specs.Prelude.{◌≡◌, ◌≢◌, ℕ, ◌+◌, ◌*◌, ◌%◌, ◌^◌, ◌<◌, Bool, true, false, not, ◌&&◌, List, ◌++◌, length, slice_get, slice_index, IfSome, IsTrue}
+use Rattle.std.specs.Prelude.{◌≡◌, ◌≢◌, ◌⊎◌, ℕ, ◌+◌, ◌*◌, ◌%◌, ◌^◌, ◌<◌, ◌≤◌, Bool, true, false, not, ◌&&◌, List, ◌++◌, length, slice_get, slice_index, IfSome, IsTrue, Ok}
 use Rattle.dma_insn.specs.ControlWord.{flag}
 use Rattle.dma_mem.specs.Image.{laid}
 use Rattle.dma_mem.specs.Places.{Descriptor, lies_below, size_of}
@@ -9,9 +9,12 @@ use Rattle.dma_mem.specs.declared.regions.Region.{Region}
 use Rattle.dma_chan.specs.Compiled.{compiled}
 use Rattle.dma_chan.specs.LentRegions.{HaveAll}
 use Rattle.dma_chan.specs.Others.{Touches}
-use Rattle.dma_device.specs.Device.{DeviceValue, program_at, read_at, written}
+use Rattle.dma_chan.specs.Traffic.{member}
+use Rattle.dma_device.specs.Device.{DeviceValue, irqs, program_at, read_at, written}
+use Rattle.dma_device.specs.Interrupts.{HasLine, IsHigh}
+use Rattle.dma_device.specs.Thread.{is_too_wide}
 use Rattle.dma_device.specs.Turns.{TakesTurn}
-use Rattle.dma_device.specs.declared.config.BusWidth.TheVariants.{Bits128}
+use Rattle.dma_device.specs.declared.config.BusWidth.{BusWidth}
 use Rattle.dma_device.specs.declared.device.turns.Turn.{Turn}
 
 -- the device after the writes of a driver that starts channel n by a DMAGO of the program at an address
@@ -55,16 +58,29 @@ pub record TurnsAmongOthers (t : Descriptor) (ram : List Piece) (nonsecure : Boo
   pub unchanged : (k a : ℕ) → k + 1 < turns → Touches t a →
       slice_index (image_in (lent (k + 1))) a ≡ slice_index (image_in (left k)) a
 
--- If the program in RAM is that of a transfer, then once CSR n reads as stopped after a turn, each address that the
--- transfer touches has the same byte as after one simultaneous copy of all the transfer's bytes in the memory at the
--- first turn.
+-- Line i rises: it is low before a turn and high after it.
+pub record RaisesLine (d e : DeviceValue) (i : ℕ) : Type 0 where
+  pub line : HasLine d i
+  pub low : ¬ IsHigh (irqs d) i
+  pub high : IsHigh (irqs e) i
+
+-- a line rose in one of the turns up to number k
+pub record HasInterrupted (before after : ℕ → DeviceValue) (k : ℕ) : Type 0 where
+  pub turn : ℕ
+  pub line : ℕ
+  pub early : turn ≤ k
+  pub raises : RaisesLine (before turn) (after turn) line
+
+-- If the program in RAM is that of a transfer, then once CSR n reads as stopped after a turn of channel n, or once a
+-- line rose in one, each address that the transfer touches has the same byte as after one simultaneous copy of all the
+-- transfer's bytes in the memory at the first turn.
 abbrev pub DmagoCopies : Type 0
 DmagoCopies =
     (t : Descriptor) (ram : List Piece) (nonsecure : Bool) (n addr : ℕ) (d : DeviceValue) (turns : ℕ)
     (before after : ℕ → DeviceValue) (lent left : ℕ → List Region) →
     IsTransfer t → MayGo d nonsecure n → HasProgram ram addr t →
     TurnsAmongOthers t ram nonsecure n addr d turns before after lent left →
-    (k a : ℕ) → k < turns → csr_status (after k) n ≡ 0 → Touches t a →
+    (k a : ℕ) → k < turns → (csr_status (after k) n ≡ 0) ⊎ HasInterrupted before after k → Touches t a →
     slice_index (image_in (left k)) a ≡ slice_index (laid (image_in (lent 0)) t (size_of t)) a
 
 -- Regions are in order and contain all addresses that a transfer touches, and none that it writes is read-only.
@@ -77,8 +93,13 @@ pub record HasEvents (d : DeviceValue) (t : Descriptor) : Type 0 where
   pub wait : IfSome t.wait (λ e. e < d.config.events)
   pub signal : IfSome t.signal (λ e. e < d.config.events)
 
--- If in each turn the regions contain all addresses that the transfer touches, and the device has its events and a bus
--- of 128 bits, then CSR n never reads as faulting after a turn.
+-- Each beat of a transfer's program fits the bus: none of its instructions is a DMAMOV CCR whose beats are too wide. On a
+-- bus of 128 bits each does.
+abbrev pub FitsBus : BusWidth → Descriptor → Type 0
+FitsBus bus t = (n : ℕ) → is_too_wide bus (Ok (member t n)) ≡ false
+
+-- If in each turn the regions contain all addresses that the transfer touches, the device has its events, and each beat
+-- fits the bus, then CSR n never reads as faulting after a turn.
 abbrev pub DmagoNeverFails : Type 0
 DmagoNeverFails =
     (t : Descriptor) (ram : List Piece) (nonsecure : Bool) (n addr : ℕ) (d : DeviceValue) (turns : ℕ)
@@ -86,5 +107,5 @@ DmagoNeverFails =
     IsTransfer t → MayGo d nonsecure n → HasProgram ram addr t →
     TurnsAmongOthers t ram nonsecure n addr d turns before after lent left →
     ((k : ℕ) → k < turns → Reach (lent k) t) → ((k : ℕ) → k < turns → HasEvents (before k) t) →
-    ((k : ℕ) → k < turns → (before k).config.bus ≡ Bits128) →
+    ((k : ℕ) → k < turns → FitsBus (before k).config.bus t) →
     (k : ℕ) → k < turns → csr_status (after k) n ≢ 15

@@ -1,6 +1,6 @@
 -- The registers of a DMA-330 as a guest's driver sees them (DMA-330 manual, register summary), and what a write does.
 use Rattle.std.specs.Prelude.{ℕ, ◌+◌, ◌-◌, ◌*◌, ◌/◌, ◌%◌, ◌^◌, Bool, true, false, not, ◌&&◌, ◌||◌, ◌==◌, nat_le, nat_lt, List, [], ◌∷◌, take, replicate, Option, Some, None, slice_get, slice_set, bit_and, bit_or, if◌then◌else◌}
-use Rattle.std.specs.Int.{w32, bit_not}
+use Rattle.std.specs.Int.{w32, bit_at, bit_not}
 use Rattle.std.specs.List.{list_any}
 use Rattle.dma_mem.specs.Regions.{Piece, run_from}
 use Rattle.dma_insn.specs.AssemblyText.{most_bytes}
@@ -13,11 +13,12 @@ use Rattle.dma_device.specs.declared.device.Manager.{Manager}
 use Rattle.dma_device.specs.declared.thread.Thread.{Thread}
 use Rattle.dma_device.specs.Thread.{is_faulting, is_stopped, status_bits, reset_thread, failed, killed, started, undef_instr, operand_invalid, dmago_err, dbg_instr}
 
--- A device: its configuration; INT_EVENT_RIS, the events and interrupts that are set; INTEN, which of them are
--- interrupts; the debug registers; the manager; and the channel threads.
+-- A device: its configuration; the events and the interrupts that are set; INTEN, which says for each event whether a
+-- DMASEV raises it as an interrupt; the debug registers; the manager; and the channel threads.
 pub record DeviceValue : Type 0 where
   pub config : Config
-  pub raised : ℕ
+  pub events : ℕ
+  pub interrupts : ℕ
   pub inten : ℕ
   pub dbginst0 : ℕ
   pub dbginst1 : ℕ
@@ -28,7 +29,8 @@ pub record DeviceValue : Type 0 where
 abbrev pub reset_device : Config → DeviceValue
 reset_device g = record {
   config = g;
-  raised = 0;
+  events = 0;
+  interrupts = 0;
   inten = 0;
   dbginst0 = 0;
   dbginst1 = 0;
@@ -42,7 +44,7 @@ all_events d = 2 ^ d.config.events - 1
 
 -- the lines irq[31:0], and INTMIS: the interrupts that are set
 abbrev pub irqs : DeviceValue → ℕ
-irqs d = bit_and d.raised d.inten
+irqs d = d.interrupts
 
 -- the line irq_abort: a thread is faulting
 abbrev pub irq_abort : DeviceValue → Bool
@@ -119,13 +121,14 @@ id revision at =
     if at == 0xFF8 then 0x05 else (
     if at == 0xFFC then 0xB1 else 0)))))))
 
--- The registers outside the channels'. DPC (0x004), CR2 (0xE08), CR4 (0xE10) and DBGSTATUS (0xD00) are 0, and so are
--- the write-only ones: INTCLR (0x02C), DBGCMD (0xD04), DBGINST0 (0xD08) and DBGINST1 (0xD0C).
+-- The registers outside the channels'. INT_EVENT_RIS (0x024) has both the events and the interrupts that are set. DPC
+-- (0x004), CR2 (0xE08), CR4 (0xE10) and DBGSTATUS (0xD00) are 0, and so are the write-only ones: INTCLR (0x02C),
+-- DBGCMD (0xD04), DBGINST0 (0xD08) and DBGINST1 (0xD0C).
 abbrev pub device_register : DeviceValue → ℕ → ℕ
 device_register d at =
     if at == 0x000 then dsr d else (
     if at == 0x020 then d.inten else (
-    if at == 0x024 then d.raised else (
+    if at == 0x024 then bit_or d.events d.interrupts else (
     if at == 0x028 then irqs d else (
     if at == 0x030 then flag d.manager.is_faulting else (
     if at == 0x034 then faulting_bits d.threads else (
@@ -157,9 +160,16 @@ with_thread n t d = record d { threads = slice_set d.threads n t }
 abbrev pub is_event : DeviceValue → ℕ → Bool
 is_event d byte = byte % 8 == 0 && nat_lt (byte / 8) d.config.events
 
--- the device with the flag of a DMASEV's event set
+-- whether INTEN makes event n an interrupt
+abbrev pub is_interrupt : DeviceValue → ℕ → Bool
+is_interrupt d n = bit_at d.inten n == 1
+
+-- The device after a DMASEV of event n (DMA-330 manual, INTEN): interrupt n is set if INTEN makes it an interrupt, else
+-- event n is.
 abbrev pub signalled : ℕ → DeviceValue → DeviceValue
-signalled byte d = record d { raised = bit_or d.raised (2 ^ (byte / 8)) }
+signalled n d =
+    if is_interrupt d n then record d { interrupts = bit_or d.interrupts (2 ^ n) }
+    else record d { events = bit_or d.events (2 ^ n) }
 
 -- the program that begins at an address: the bytes of RAM from there up to the first address that isn't in RAM, at most
 -- 8,192
@@ -184,7 +194,7 @@ by_manager ram opcode byte d =
     if opcode == 0x01 then record d { manager = record (d.manager) { is_faulting = false } } else (
     if d.manager.is_faulting then d else (
     if opcode == 0x34 then
-    (if is_event d byte then signalled byte d else manager_failed operand_invalid d) else (
+    (if is_event d byte then signalled (byte / 8) d else manager_failed operand_invalid d) else (
     if opcode == 0xA0 then go ram false byte (slice_get d.threads byte) d else (
     if opcode == 0xA2 then go ram true byte (slice_get d.threads byte) d else
     manager_failed undef_instr d))))
@@ -197,7 +207,7 @@ by_thread n (Some t) opcode byte d =
     if opcode == 0x01 then with_thread n (killed t) d else (
     if is_faulting t then d else (
     if opcode == 0x34 then
-    (if is_event d byte then signalled byte d else with_thread n (failed (operand_invalid + dbg_instr) t) d) else
+    (if is_event d byte then signalled (byte / 8) d else with_thread n (failed (operand_invalid + dbg_instr) t) d) else
     with_thread n (failed (undef_instr + dbg_instr) t) d))
 
 -- the device after the debug instruction
@@ -211,13 +221,14 @@ debugged ram d =
 
 -- ---- writes
 
--- The device after a write to the register at an offset, with this RAM: INTEN; INTCLR, which clears interrupts and not
--- events; DBGINST0 and DBGINST1; and DBGCMD, to which a write of 0 in bits 1:0 executes the debug instruction. A write
--- to INTEN changes no flag, and other writes are ignored.
+-- The device after a write to the register at an offset, with this RAM: INTEN, which changes neither events nor
+-- interrupts; INTCLR, which clears those interrupts that INTEN makes interrupts, and no event (DMA-330 manual, INTCLR);
+-- DBGINST0 and DBGINST1; and DBGCMD, to which a write of 0 in bits 1:0 executes the debug instruction. Other writes are
+-- ignored.
 abbrev pub written : List Piece → ℕ → ℕ → DeviceValue → DeviceValue
 written ram at value d =
     if at == 0x020 then record d { inten = bit_and value (all_events d) } else (
-    if at == 0x02C then record d { raised = bit_and d.raised (bit_not w32 (bit_and value d.inten)) } else (
+    if at == 0x02C then record d { interrupts = bit_and d.interrupts (bit_not w32 (bit_and value d.inten)) } else (
     if at == 0xD04 then (if value % 4 == 0 then debugged ram d else d) else (
     if at == 0xD08 then record d { dbginst0 = value } else (
     if at == 0xD0C then record d { dbginst1 = value } else d))))

@@ -1,11 +1,11 @@
 -- Interrupts are neither lost nor invented: what raises and lowers the lines irq[31:0].
-use Rattle.std.specs.Prelude.{◌≡◌, ◌≢◌, ◌⊎◌, ◌↔◌, ℕ, ◌*◌, ◌%◌, ◌^◌, ◌<◌, ◌≤◌, Bool, true, false, not, ◌==◌, List, Option, Some, None, slice_get, if◌then◌else◌}
+use Rattle.std.specs.Prelude.{◌≡◌, ◌⊎◌, ◌↔◌, ℕ, ◌+◌, ◌*◌, ◌%◌, ◌^◌, ◌<◌, ◌≤◌, Bool, true, false, not, ◌==◌, List, Option, Some, None, slice_get, if◌then◌else◌}
 use Rattle.std.specs.Int.{bit_at}
 use Rattle.dma_insn.specs.ControlWord.{field}
-use Rattle.dma_mem.specs.Regions.{Piece}
 use Rattle.dma_mem.specs.declared.regions.Region.{Region}
 use Rattle.dma_device.specs.declared.device.turns.Turn.{Turn}
-use Rattle.dma_device.specs.Device.{DeviceValue, irqs, written}
+use Rattle.dma_device.specs.Accesses.{Access, Answer, Happen, Turns, Writes}
+use Rattle.dma_device.specs.Device.{DeviceValue, irqs}
 use Rattle.dma_device.specs.Thread.{is_faulting}
 use Rattle.dma_device.specs.declared.thread.Thread.{Thread}
 use Rattle.dma_device.specs.Turns.{TakesTurn}
@@ -14,34 +14,9 @@ use Rattle.dma_device.specs.Turns.{TakesTurn}
 abbrev pub IsHigh : ℕ → ℕ → Type 0
 IsHigh bits k = bit_at bits k ≡ 1
 
--- The device has line k. It has at most 32 events, and INTEN has 32 bits.
-pub record HasLine (d : DeviceValue) (k : ℕ) : Type 0 where
-  pub events : d.config.events ≤ 32
-  pub event : k < d.config.events
-  pub inten : d.inten < 2 ^ 32
+-- ---- what executes a DMASEV
 
--- After a turn a line is high exactly if it was high before, or INTEN makes event k an interrupt and the last step of
--- one of the turn's two calls is a DMASEV of event k. No other step of a call is a DMASEV.
-abbrev pub TurnsRaise : Type 0
-TurnsRaise =
-    (d e : DeviceValue) (regions left : List Region) (n most k : ℕ) (turn : Turn) →
-    (x : TakesTurn d regions n most e left turn) → HasLine d k →
-    IsHigh (irqs e) k
-    ↔ (IsHigh (irqs d) k ⊎ (IsHigh d.inten k × ((x.first.signal ≡ Some k) ⊎ (x.second.signal ≡ Some k))))
-
--- After a write to INTCLR a line is high exactly if it was high before and bit k of the value is 0.
-abbrev pub IntclrLowers : Type 0
-IntclrLowers =
-    (d : DeviceValue) (ram : List Piece) (value k : ℕ) → HasLine d k → value < 2 ^ 32 →
-    IsHigh (irqs (written ram 0x02C value d)) k ↔ (IsHigh (irqs d) k × ¬ IsHigh value k)
-
--- A write to any register but INTEN, INTCLR and DBGCMD leaves the lines as they are.
-abbrev pub OthersKeepLines : Type 0
-OthersKeepLines =
-    (d : DeviceValue) (ram : List Piece) (at value : ℕ) → at ≢ 0x020 → at ≢ 0x02C → at ≢ 0xD04 →
-    irqs (written ram at value d) ≡ irqs d
-
--- The debug instruction is a DMASEV of event k: byte 0 is 0x34, and byte 1 has the event in bits 7:3.
+-- the debug instruction is a DMASEV of event k: byte 0 is 0x34, and byte 1 has the event in bits 7:3
 abbrev pub IsDmasev : DeviceValue → ℕ → Type 0
 IsDmasev d k = (field 16 8 d.dbginst0 ≡ 0x34) × (field 24 8 d.dbginst0 ≡ 8 * k)
 
@@ -57,18 +32,64 @@ can_debug d =
     if field 0 1 d.dbginst0 == 1 then is_fine (slice_get d.threads (field 8 3 d.dbginst0))
     else not d.manager.is_faulting
 
--- A write of a value to DBGCMD signals event k: its bits 1:0 are 0, the debug instruction is a DMASEV of event k, which
--- the device has, and its thread can execute it.
+-- A write of a value to DBGCMD executes a DMASEV of event k: bits 1:0 of the value are 0, the debug instruction is this
+-- DMASEV, the device has the event, and the instruction's thread can execute it.
 pub record DebugSignals (d : DeviceValue) (value k : ℕ) : Type 0 where
   pub command : value % 4 ≡ 0
   pub dmasev : IsDmasev d k
   pub event : k < d.config.events
   pub executes : can_debug d ≡ true
 
--- After a write to DBGCMD a line is high exactly if it was high before, or INTEN makes event k an interrupt and the
--- write signals event k.
-abbrev pub DbgcmdRaises : Type 0
-DbgcmdRaises =
-    (d : DeviceValue) (ram : List Piece) (value k : ℕ) →
-    IsHigh (irqs (written ram 0xD04 value d)) k
-    ↔ (IsHigh (irqs d) k ⊎ (IsHigh d.inten k × DebugSignals d value k))
+-- A turn executes a DMASEV of event k: it is the last step of one of the turn's two calls. No other step of a call is a
+-- DMASEV.
+abbrev pub TurnSignals : DeviceValue → List Region → ℕ → ℕ → DeviceValue → List Region → ℕ → Type 0
+TurnSignals d regions n most e left k =
+    (turn : Turn) × ((x : TakesTurn d regions n most e left turn)
+    × ((x.first.signal ≡ Some k) ⊎ (x.second.signal ≡ Some k)))
+
+-- An access executes a DMASEV of event k: a turn of a channel, or a write to DBGCMD.
+abbrev pub Signals : ℕ → Access → DeviceValue → List Region → DeviceValue → List Region → Type 0
+Signals k (Turns n most) d regions e left = TurnSignals d regions n most e left k
+Signals k (Writes at value) d regions e left = (at ≡ 0xD04) × DebugSignals d value k
+Signals k a d regions e left = ⊥
+
+-- ---- what raises and clears an interrupt (DMA-330 manual, INTEN and INTCLR)
+
+-- An access raises interrupt k: it executes a DMASEV of event k while bit k of INTEN is 1.
+abbrev pub Raises : ℕ → Access → DeviceValue → List Region → DeviceValue → List Region → Type 0
+Raises k a d regions e left = IsHigh d.inten k × Signals k a d regions e left
+
+-- An access clears interrupt k: a write to INTCLR with bit k, while bit k of INTEN is 1.
+abbrev pub Clears : ℕ → Access → DeviceValue → Type 0
+Clears k (Writes at value) d = (at ≡ 0x02C) × (IsHigh value k × IsHigh d.inten k)
+Clears k a d = ⊥
+
+-- ---- along the accesses
+
+-- none of the accesses from number i up to, and without, number n clears interrupt k
+abbrev pub StaysSet : (ℕ → Access) → (ℕ → DeviceValue) → ℕ → ℕ → ℕ → Type 0
+StaysSet access before k i n = (j : ℕ) → i ≤ j → j < n → ¬ Clears k (access j) (before j)
+
+-- one of the accesses below number n raises interrupt k, and none after it clears the interrupt
+pub record RaisedSince (access : ℕ → Access) (before : ℕ → DeviceValue) (lent : ℕ → List Region)
+    (k n : ℕ) : Type 0 where
+  pub at : ℕ
+  pub below : at < n
+  pub raises : Raises k (access at) (before at) (lent at) (before (at + 1)) (lent (at + 1))
+  pub stays : StaysSet access before k (at + 1) n
+
+-- The device has line k. It has at most 32 events, and INTEN has 32 bits.
+pub record HasLine (d : DeviceValue) (k : ℕ) : Type 0 where
+  pub events : d.config.events ≤ 32
+  pub event : k < d.config.events
+  pub inten : d.inten < 2 ^ 32
+
+-- For every list of accesses, line k (and bit k of INTMIS) is high before access number n exactly if an access raised
+-- interrupt k, and none after it cleared the interrupt; or if the line was high at first, as it is not after a reset,
+-- and no access cleared it.
+abbrev pub InterruptsAreExact : Type 0
+InterruptsAreExact =
+    (access : ℕ → Access) (answer : ℕ → Answer) (before : ℕ → DeviceValue) (lent : ℕ → List Region) (count k n : ℕ) →
+    Happen access answer before lent count → HasLine (before 0) k → n ≤ count →
+    IsHigh (irqs (before n)) k
+    ↔ (RaisedSince access before lent k n ⊎ (IsHigh (irqs (before 0)) k × StaysSet access before k 0 n))

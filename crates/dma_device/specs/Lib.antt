@@ -4,7 +4,8 @@ pub mod Thread
 pub mod Device
 pub mod Turns
 pub mod Snapshot
-pub mod Interrupts
 pub mod Accesses
+pub mod Run
+pub mod Interrupts
 pub mod Copies
 pub mod inner

@@ -1,69 +1,106 @@
--- The state of a device in a snapshot.
-use Rattle.std.specs.Prelude.{◌≡◌, ℕ, ◌-◌, ◌≤◌, false, List, length, take, drop, replicate, Some, slice_get}
-use Rattle.dma_chan.specs.Saved.{IsChannelValue, most_saved, saved}
+-- The bytes of a saved device. Numbers of several bytes are little-endian.
+use Rattle.std.specs.Prelude.{◌≡◌, ◌≢◌, ℕ, ◌^◌, ◌<◌, ◌≤◌, true, List, [], ◌∷◌, ◌++◌, length, take, drop}
+use Rattle.std.specs.Int.{w16, w32, to_le_bytes}
+use Rattle.std.specs.List.{All, flat_map}
+use Rattle.dma_insn.specs.ControlWord.{flag}
+use Rattle.dma_chan.specs.Saved.{IsChannelValue, saved}
 use Rattle.dma_device.specs.declared.config.Config.{Config}
-use Rattle.dma_device.specs.declared.snapshot.SavedThread.{SavedThread}
-use Rattle.dma_device.specs.declared.snapshot.Snapshot.{Snapshot}
-use Rattle.dma_device.specs.declared.thread.Status.TheVariants.{Stopped}
+use Rattle.dma_device.specs.declared.save.head.Head.{Head}
 use Rattle.dma_device.specs.declared.thread.Thread.{Thread}
-use Rattle.dma_device.specs.Device.{DeviceValue}
+use Rattle.dma_device.specs.Config.{bus_code, is_valid, revision_code}
+use Rattle.dma_device.specs.Device.{DeviceValue, csr}
+use Rattle.dma_device.specs.Thread.{IsSound}
 
--- The snapshot has this thread, and the first `len` bytes are its channel's save.
-pub record IsSavedThread (s : SavedThread) (t : Thread) : Type 0 where
-  pub fits : s.len ≤ most_saved
-  pub channel : take s.len s.bytes ≡ saved t.channel
-  pub status : s.status ≡ t.status
-  pub fault : s.fault ≡ t.fault
-  pub nonsecure : s.nonsecure ≡ t.nonsecure
-  pub base : s.base ≡ t.base
-  pub pc : s.pc ≡ t.pc
+-- ---- what every device satisfies
 
--- the snapshot begins with these threads, in order
-abbrev pub AreSaved : List SavedThread → List Thread → Type 0
-AreSaved ss ts =
-    (n : ℕ) (s : SavedThread) (t : Thread) → slice_get ss n ≡ Some s → slice_get ts n ≡ Some t → IsSavedThread s t
+-- A thread is sound, its numbers are in their ranges, and its channel satisfies what every channel does.
+pub record IsThreadValue (events : ℕ) (t : Thread) : Type 0 where
+  pub sound : IsSound events t
+  pub fault : t.fault < 2 ^ 32
+  pub base : t.base < 2 ^ 32
+  pub pc : t.pc < 2 ^ 32
+  pub channel : IsChannelValue t.channel
 
--- A place of a snapshot without a thread: all is 0.
-abbrev pub no_thread : SavedThread
-no_thread = record {
-  bytes = replicate most_saved 0;
-  len = 0;
-  status = Stopped;
-  fault = 0;
-  nonsecure = false;
-  base = 0;
-  pc = 0;
+-- The events and the interrupts that are set, and those that INTEN makes interrupts, are among those of the device.
+pub record HasKnownEvents (h : Head) : Type 0 where
+  pub events : h.events < 2 ^ h.config.events
+  pub interrupts : h.interrupts < 2 ^ h.config.events
+  pub inten : h.inten < 2 ^ h.config.events
+
+-- the values in the head of a device's save
+abbrev pub head_of : DeviceValue → Head
+head_of d = record {
+  config = d.config;
+  manager = d.manager;
+  events = d.events;
+  interrupts = d.interrupts;
+  inten = d.inten;
+  dbginst0 = d.dbginst0;
+  dbginst1 = d.dbginst1;
 }
 
--- The bytes after the save are 0.
-abbrev pub IsPadded : SavedThread → Type 0
-IsPadded s = drop s.len s.bytes ≡ replicate (most_saved - s.len) 0
-
--- Each place has zeros after its save, and those past the threads are empty.
-abbrev pub HasNoMore : List SavedThread → List Thread → Type 0
-HasNoMore ss ts =
-    (n : ℕ) (s : SavedThread) → slice_get ss n ≡ Some s → IsPadded s × (length ts ≤ n → s ≡ no_thread)
-
--- The snapshot has version 1 and this device.
-pub record IsSnapshot (s : Snapshot) (d : DeviceValue) : Type 0 where
-  pub version : s.version ≡ 1
-  pub config : s.config ≡ d.config
-  pub raised : s.raised ≡ d.raised
-  pub inten : s.inten ≡ d.inten
-  pub dbginst0 : s.dbginst0 ≡ d.dbginst0
-  pub dbginst1 : s.dbginst1 ≡ d.dbginst1
-  pub manager : s.manager ≡ d.manager
-  pub threads : AreSaved s.threads d.threads
-
--- each thread's channel satisfies what every channel does
-abbrev pub HaveValues : List Thread → Type 0
-HaveValues ts = (n : ℕ) (t : Thread) → slice_get ts n ≡ Some t → IsChannelValue t.channel
-
--- What every device satisfies: it has a thread for each channel of its configuration, and what every channel satisfies.
+-- What every device satisfies: its configuration is valid, its events are known, its other registers have 32 bits, and
+-- it has a thread for each channel.
 pub record IsDeviceValue (d : DeviceValue) : Type 0 where
+  pub config : is_valid d.config ≡ true
+  pub known : HasKnownEvents (head_of d)
+  pub dbginst0 : d.dbginst0 < 2 ^ 32
+  pub dbginst1 : d.dbginst1 < 2 ^ 32
+  pub fault : d.manager.fault < 2 ^ 32
   pub count : length d.threads ≡ d.config.channels
-  pub values : HaveValues d.threads
+  pub threads : All (IsThreadValue d.config.events) d.threads
 
--- The snapshot is of version 1 and of this configuration.
-abbrev pub IsOf : Snapshot → Config → Type 0
-IsOf s g = (s.version ≡ 1) × (s.config ≡ g)
+-- ---- the format
+
+-- Each save begins with `dma330` and a 1. (The save of a channel has a 0 there.)
+abbrev pub magic : List ℕ
+magic = 100 ∷ 109 ∷ 97 ∷ 51 ∷ 51 ∷ 48 ∷ 1 ∷ []
+
+-- The version, 1, and the configuration: channels, events, 1 if the manager is non-secure after a reset, else 0, the
+-- codes of the bus in CRD and of the revision in periph_id_2, and the lines in two bytes.
+abbrev pub identity : Config → List ℕ
+identity g =
+    1 ∷ g.channels ∷ g.events ∷ flag g.nonsecure ∷ bus_code g.bus ∷ revision_code g.revision ∷ to_le_bytes w16 g.lines
+
+-- The head of a save, 40 bytes: the magic; the version and the configuration; 1 if the manager is faulting, else 0; and
+-- four bytes each of FTRD, the events and the interrupts that are set, INTEN, DBGINST0 and DBGINST1.
+unfoldable pub head_bytes : Head → List ℕ
+head_bytes h =
+    magic
+    ++ identity h.config
+    ++ (flag h.manager.is_faulting ∷ [])
+    ++ to_le_bytes w32 h.manager.fault
+    ++ to_le_bytes w32 h.events
+    ++ to_le_bytes w32 h.interrupts
+    ++ to_le_bytes w32 h.inten
+    ++ to_le_bytes w32 h.dbginst0
+    ++ to_le_bytes w32 h.dbginst1
+
+-- A thread without its channel, 20 bytes: four each of CSR, FTR, the address at which its program begins, CPC, and the
+-- length of its channel's save.
+unfoldable pub thread_bytes : Thread → ℕ → List ℕ
+thread_bytes t len =
+    to_le_bytes w32 (csr t)
+    ++ to_le_bytes w32 t.fault
+    ++ to_le_bytes w32 t.base
+    ++ to_le_bytes w32 t.pc
+    ++ to_le_bytes w32 len
+
+-- a thread, and its channel's save
+unfoldable pub saved_thread : Thread → List ℕ
+saved_thread t = thread_bytes t (length (saved t.channel)) ++ saved t.channel
+
+-- A save: the head, and the threads in order.
+unfoldable pub saved_device : DeviceValue → List ℕ
+saved_device d = head_bytes (head_of d) ++ flat_map saved_thread d.threads
+
+-- the most bytes of a save: 40 of the head, and for each of 8 threads 20 and the 8,500 of the longest save of a channel
+abbrev pub most_saved : ℕ
+most_saved = 68200
+
+-- Bytes begin as the save of a device of another version or configuration: with the magic, but not with this version
+-- and this configuration behind it.
+pub record IsOfOther (g : Config) (save : List ℕ) : Type 0 where
+  pub long : 15 ≤ length save
+  pub magic : take 7 save ≡ magic
+  pub other : take 8 (drop 7 save) ≢ identity g

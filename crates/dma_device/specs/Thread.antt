@@ -1,11 +1,12 @@
 -- A channel thread: its status and its fault, and what a call of its channel makes of them.
-use Rattle.std.specs.Prelude.{ℕ, ◌+◌, ◌-◌, ◌*◌, ◌%◌, ◌^◌, Bool, true, false, not, ◌&&◌, ◌||◌, ◌==◌, nat_lt, List, Option, Some, None, Result, Ok, is_some, if◌then◌else◌}
+use Rattle.std.specs.Prelude.{◌≡◌, ℕ, ◌+◌, ◌-◌, ◌*◌, ◌%◌, ◌^◌, Bool, true, false, not, ◌&&◌, ◌||◌, ◌==◌, min, nat_lt, List, [], ◌∷◌, Option, Some, None, Result, Ok, is_some, if◌then◌else◌}
 use Rattle.std.specs.Int.{bit_at}
 use Rattle.dma_insn.specs.ControlWord.{field}
 use Rattle.dma_insn.specs.declared.insn.Insn.{Insn}
 use Rattle.dma_insn.specs.declared.insn.Insn.TheVariants.{Mov}
 use Rattle.dma_insn.specs.declared.insn.Reg.TheVariants.{Ccr}
 use Rattle.dma_chan.specs.Channel.{unloaded, loaded}
+use Rattle.dma_chan.specs.Next.{next_of}
 use Rattle.dma_chan.specs.declared.turn.ChanTurn.{ChanTurn}
 use Rattle.dma_chan.specs.declared.turn.ChanTurn.TheVariants.{Moved, Waiting, Ended, Fault}
 use Rattle.dma_chan.specs.declared.turn.FaultKind.{FaultKind}
@@ -74,12 +75,24 @@ is_stopped t = is_stopped_status t.status
 abbrev pub runs : Thread → Bool
 runs t = is_some t.channel.program && not (is_faulting t)
 
+-- Whether a thread of a device with this number of events can have this status, with a program or without: a stopped
+-- thread has none, and one that executes or waits has one. The event for which it waits is one of the device's.
+abbrev pub has_status : ℕ → Bool → Status → Bool
+has_status events is_loaded Stopped = not is_loaded
+has_status events is_loaded Executing = is_loaded
+has_status events is_loaded (WaitingForEvent e) = is_loaded && nat_lt e events
+has_status events is_loaded Faulting = true
+
+-- A thread is sound: it has a status that goes with its program.
+abbrev pub IsSound : ℕ → Thread → Type 0
+IsSound events t = has_status events (is_some t.channel.program) t.status ≡ true
+
 -- whether a status is no wait, or one for an event whose flag is set
 abbrev pub is_signalled : ℕ → Status → Bool
 is_signalled events (WaitingForEvent e) = bit_at events e == 1
 is_signalled events s = true
 
--- whether a step of a thread does more than wait, with these flags of events
+-- whether a thread has a program, isn't faulting, and by its status doesn't wait for an event whose flag is clear
 abbrev pub can_step : ℕ → Thread → Bool
 can_step events t = runs t && is_signalled events t.status
 
@@ -89,6 +102,16 @@ abbrev pub is_too_wide : BusWidth → Result Insn FaultKind → Bool
 is_too_wide Bits128 next = false
 is_too_wide bus (Ok (Mov Ccr v)) = nat_lt (bus_code bus) (field 1 3 v) || nat_lt (bus_code bus) (field 15 3 v)
 is_too_wide bus next = false
+
+-- whether a program has such an instruction at any offset
+abbrev pub has_too_wide : BusWidth → List ℕ → Bool
+has_too_wide bus [] = false
+has_too_wide bus (b ∷ bs) = has_too_wide bus bs || is_too_wide bus (next_of (b ∷ bs) 0)
+
+-- How many of `most` steps a call of a channel with this program takes at most: one if the program has a DMAMOV CCR whose
+-- beats are too wide, so that each instruction is tested before it is executed.
+abbrev pub most_on : BusWidth → List ℕ → ℕ → ℕ
+most_on bus program most = if has_too_wide bus program then min most 1 else most
 
 -- a thread after a reset
 abbrev pub reset_thread : Thread

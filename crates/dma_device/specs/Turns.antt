@@ -1,37 +1,42 @@
 -- What a turn of a channel does.
 use Rattle.std.specs.Prelude.{◌≡◌, ℕ, ◌^◌, ◌<◌, Bool, true, false, not, ◌&&◌, ◌==◌, nat_lt, List, [], map, Option, Some, None, slice_get, bit_and, bit_or}
-use Rattle.std.specs.Int.{w32, bit_at, bit_not}
+use Rattle.std.specs.Int.{w32, bit_not}
 use Rattle.dma_insn.specs.ControlWord.{flag}
 use Rattle.dma_mem.specs.Flags.{flags_of}
 use Rattle.dma_mem.specs.Regions.{image_of, names_of, pieces_of, read_only_of}
 use Rattle.dma_mem.specs.declared.regions.Region.{Region}
-use Rattle.dma_chan.specs.Channel.{ChannelValue, ahead_of}
+use Rattle.dma_chan.specs.Channel.{ChannelValue, ahead_of, code_of}
 use Rattle.dma_chan.specs.LentRegions.{segment_of, with_gaps_of}
 use Rattle.dma_chan.specs.Stepping.{machine, TakesSteps, signal_after, written_after}
 use Rattle.dma_chan.specs.Written.{joined, range_at}
 use Rattle.dma_chan.specs.declared.turn.ChanTurn.{ChanTurn}
 use Rattle.dma_device.specs.declared.thread.Thread.{Thread}
-use Rattle.dma_device.specs.Config.{most_on}
 use Rattle.dma_device.specs.declared.device.turns.Called.{Called}
 use Rattle.dma_device.specs.declared.device.turns.Turn.{Turn}
-use Rattle.dma_device.specs.Device.{DeviceValue, all_events, irq_abort, irqs, with_thread}
-use Rattle.dma_device.specs.Thread.{answered, failed, is_too_wide, operand_invalid, runs}
+use Rattle.dma_device.specs.Device.{DeviceValue, all_events, irq_abort, irqs, is_interrupt, with_thread}
+use Rattle.dma_device.specs.Thread.{answered, failed, is_too_wide, most_on, operand_invalid, runs}
 
--- The flags that a channel sees: those of events. The flags that INTEN makes interrupts are for the guest's processor.
--- A DMAWFE that passes clears its event's flag, so one DMASEV wakes one waiting channel, the first that is stepped
--- (profile).
-abbrev pub events_of : DeviceValue → ℕ
-events_of d = bit_and d.raised (bit_not w32 d.inten)
+-- The flags that a channel sees: the events that are set. While INTEN makes an event an interrupt, channels don't see
+-- it (profile). A DMAWFE that passes clears its event, so one DMASEV wakes one waiting channel, the first that is
+-- stepped (profile).
+abbrev pub visible_events : DeviceValue → ℕ
+visible_events d = bit_and d.events (bit_not w32 d.inten)
 
--- what is raised after a call that left a channel these flags: the interrupts from before, and the flags of the events
--- and interrupts that the device has
-abbrev pub raised_with : ℕ → DeviceValue → ℕ
-raised_with flags d = bit_or (bit_and d.raised d.inten) (bit_and flags (all_events d))
+-- The device after a call that left a channel these flags. The call has set those that INTEN makes interrupts: they are
+-- raised. The others are events, and the events that the channel didn't see stay. A flag of an event that the device
+-- doesn't have is dropped.
+abbrev pub with_flags : ℕ → DeviceValue → DeviceValue
+with_flags flags d =
+    let known = bit_and flags (all_events d) in
+    record d {
+      events = bit_or (bit_and d.events d.inten) (bit_and known (bit_not w32 d.inten));
+      interrupts = bit_or d.interrupts (bit_and known d.inten);
+    }
 
 -- whether a call that set the flag of this event, if any, raised an interrupt
 abbrev pub raises : DeviceValue → Option ℕ → Bool
 raises d None = false
-raises d (Some e) = bit_at d.inten e == 1
+raises d (Some e) = is_interrupt d e
 
 -- whether there is a thread, and it runs
 abbrev pub runs_if : Option Thread → Bool
@@ -54,14 +59,14 @@ pub record CallsThread (d : DeviceValue) (t : Thread) (regions : List Region) (n
   pub flags : ℕ
   pub range : flags < 2 ^ 32
   pub steps : TakesSteps (with_gaps_of regions [])
-      (machine t.channel (image_of (pieces_of regions)) (flags_of (events_of d))) most taken last
+      (machine t.channel (image_of (pieces_of regions)) (flags_of (visible_events d))) most taken last
       (machine channel (image_of (pieces_of left)) (flags_of flags))
   pub signal : called.signal ≡ signal_after (with_gaps_of regions [])
-      (machine t.channel (image_of (pieces_of regions)) (flags_of (events_of d))) taken
+      (machine t.channel (image_of (pieces_of regions)) (flags_of (visible_events d))) taken
   pub device : e ≡ with_thread n (answered d.config.events (record t { channel = channel }) last called.signal)
-      (record d { raised = raised_with flags d })
+      (with_flags flags d)
   pub written : called.written ≡ written_after (with_gaps_of regions [])
-      (machine t.channel (image_of (pieces_of regions)) (flags_of (events_of d))) taken
+      (machine t.channel (image_of (pieces_of regions)) (flags_of (visible_events d))) taken
   pub places : map segment_of left ≡ map segment_of regions
   pub read_only : read_only_of left ≡ read_only_of regions
   pub names : names_of left ≡ names_of regions
@@ -74,7 +79,7 @@ nothing = record { written = range_at 0 0; signal = None }
 abbrev pub CallsUnless : Bool → DeviceValue → Thread → List Region → ℕ → ℕ → DeviceValue → List Region → Called → Type 0
 CallsUnless true d t regions n most e left called =
     (e ≡ with_thread n (failed operand_invalid t) d) × (left ≡ regions) × (called ≡ nothing)
-CallsUnless false d t regions n most e left called = CallsThread d t regions n (most_on d.config.bus most) e left called
+CallsUnless false d t regions n most e left called = CallsThread d t regions n (most_on d.config.bus (code_of t.channel) most) e left called
 
 -- `CallsUnless` for a thread that the device has
 abbrev pub CallsOne : Option Thread → DeviceValue → List Region → ℕ → ℕ → DeviceValue → List Region → Called → Type 0

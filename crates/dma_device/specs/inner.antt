@@ -1,2 +1,3 @@
 -- Definitions that no reader of a contract has to trust.
 pub mod Fields
+pub mod Saves

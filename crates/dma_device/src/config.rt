@@ -1,7 +1,7 @@
 //! The choices of a chip's designer.
 
 ghost use Rattle.std.specs.Prelude.{◌≡◌, ◌≤◌};
-ghost use Rattle.dma_device.specs.Config.{bus_code, is_valid, most_on, revision_code};
+ghost use Rattle.dma_device.specs.Config.{bus_code, is_valid, revision_code};
 
 use thiserror::Error;
 
@@ -104,15 +104,5 @@ impl Config {
             && channels <= lines
             && self.lines <= MAX_LINES
             && lines * (1 << self.bus.code()) <= MAX_BUFFER * channels
-    }
-
-    /// Returns how many of `most` steps a call takes at most.
-    pub fn most(self, most: u32) -> u32
-        ensures { result ≡ most_on self.bus most }
-    {
-        match self.bus {
-            BusWidth::Bits128 => most,
-            BusWidth::Bits32 | BusWidth::Bits64 => most.min(1),
-        }
     }
 }

@@ -4,7 +4,7 @@ ghost use Rattle.std.specs.Prelude.{◌≡◌, ◌^◌, ◌-◌, ◌≤◌, true
 ghost use Rattle.dma_device.specs.Config.{is_valid};
 ghost use Rattle.dma_device.specs.Device.{all_events, irq_abort, irqs, reset_device};
 ghost use Rattle.dma_device.specs.Thread.{can_step, reset_thread};
-ghost use Rattle.dma_device.specs.Turns.{events_of};
+ghost use Rattle.dma_device.specs.Turns.{visible_events};
 ghost use Rattle.std.specs.List.{list_any};
 
 use crate::config::{Config, NewFault};
@@ -33,13 +33,16 @@ pub struct Manager {
 #[derive(Drop)]
 pub struct Device {
     config: Config,
-    // INT_EVENT_RIS and INTEN.
-    raised: u32,
+    // The events and the interrupts that are set. INT_EVENT_RIS has both, and INTMIS the interrupts.
+    events: u32,
+    interrupts: u32,
     inten: u32,
     dbginst0: u32,
     dbginst1: u32,
     manager: Manager,
     threads: Vec<Thread>,
+    // For each thread with a program, whether the program has a DMAMOV CCR whose beats are wider than the bus.
+    wide: [bool; 8],
     // Always empty.
     marks: Marks,
 }
@@ -117,7 +120,8 @@ impl Device {
         let threads = new_threads(alloc, config.channels)?;
         Ok(Device {
             config,
-            raised: 0,
+            events: 0,
+            interrupts: 0,
             inten: 0,
             dbginst0: 0,
             dbginst1: 0,
@@ -126,6 +130,7 @@ impl Device {
                 fault: 0,
             },
             threads,
+            wide: [false; 8],
             marks: Marks::new(alloc),
         })
     }
@@ -135,7 +140,8 @@ impl Device {
         ensures { self.new ≡ reset_device self.old.config }
     {
         reset_threads(&mut self.threads);
-        self.raised = 0;
+        self.events = 0;
+        self.interrupts = 0;
         self.inten = 0;
         self.dbginst0 = 0;
         self.dbginst1 = 0;
@@ -149,7 +155,7 @@ impl Device {
     pub fn irqs(&self) -> u32
         ensures { result ≡ irqs self.now }
     {
-        self.raised & self.inten
+        self.interrupts
     }
 
     /// Returns the line irq_abort, which is high until the guest kills each faulting thread.
@@ -159,11 +165,12 @@ impl Device {
         self.manager.is_faulting || any_faulting(&self.threads)
     }
 
-    /// Returns whether a step of any channel does more than wait. If not, nothing happens until the guest's next write.
+    /// Returns whether any channel runs and, by its status, doesn't wait for an event whose flag is clear. If not, nothing
+    /// happens until the guest's next write, a reset or a restore.
     pub fn can_step(&self) -> bool
-        ensures { result ≡ list_any (can_step (events_of self.now)) self.now.threads }
+        ensures { result ≡ list_any (can_step (visible_events self.now)) self.now.threads }
     {
-        any_can_step(&self.threads, self.events())
+        any_can_step(&self.threads, self.visible_events())
     }
 
     // Returns a bit for each event that the device has.

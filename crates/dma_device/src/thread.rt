@@ -1,9 +1,11 @@
 //! The threads of a device: the manager and the channels.
 
-ghost use Rattle.std.specs.Prelude.{◌≡◌, ◌≤◌, ◌<◌, ◌^◌, length, IsSome, Some, IfOk};
+ghost use Rattle.std.specs.Prelude.{◌≡◌, ◌↔◌, ◌≤◌, ◌<◌, ◌^◌, length, IsSome, IsTrue, Some, IfOk};
 ghost use Rattle.dma_insn.specs.AssemblyText.{most_bytes};
 ghost use Rattle.dma_chan.specs.Channel.{ahead_of};
-ghost use Rattle.dma_device.specs.Thread.{answer, answered, can_step, fault_bit, is_faulting, is_signalled, is_stopped, is_too_wide, killed, failed, moved, reset_thread, runs, started, status_bits, waited};
+ghost use Rattle.dma_device.specs.Device.{csr};
+ghost use Rattle.dma_device.specs.declared.thread.Status.{Status};
+ghost use Rattle.dma_device.specs.Thread.{IsSound, answer, answered, can_step, fault_bit, is_faulting, is_signalled, is_stopped, is_too_wide, killed, failed, moved, reset_thread, runs, started, status_bits, waited};
 
 use crate::config::BusWidth;
 use dma_chan::channel::Channel;
@@ -87,6 +89,20 @@ impl Status {
         }
     }
 
+    // Returns the status of bits 8:0 of CSR, or `None` if no status has them.
+    pub(crate) fn from_bits(bits: u32) -> Option<Status>
+        requires { bits < 2 ^ 9 }
+        ensures { (s : Status) → bits ≡ status_bits s → result ≡ Some s }
+    {
+        match bits % 16 {
+            0 => Some(Status::Stopped),
+            1 => Some(Status::Executing),
+            4 => Some(Status::WaitingForEvent(Event::of_number((bits / 16) as u8))),
+            15 => Some(Status::Faulting),
+            _ => None,
+        }
+    }
+
     // Returns whether the status is no wait, or one for an event whose flag is set.
     fn is_signalled(self, events: u32) -> bool
         ensures { result ≡ is_signalled events self }
@@ -138,6 +154,27 @@ impl Thread {
         ensures { result ≡ is_stopped self.now }
     {
         matches!(self.status, Status::Stopped)
+    }
+
+    /// Returns CSR.
+    pub fn csr(&self) -> u32
+        ensures { result ≡ csr self.now }
+    {
+        let nonsecure = if self.nonsecure { 1 << 21 } else { 0 };
+        self.status.bits() + nonsecure
+    }
+
+    // Returns whether the thread's status goes with its program, in a device with this number of events.
+    pub(crate) fn is_sound(&self, events: u8) -> bool
+        ensures { IsTrue result ↔ IsSound events self.now }
+    {
+        let is_loaded = self.channel.is_loaded();
+        match self.status {
+            Status::Stopped => !is_loaded,
+            Status::Executing => is_loaded,
+            Status::WaitingForEvent(event) => is_loaded && event.number() < events,
+            Status::Faulting => true,
+        }
     }
 
     /// Returns whether the thread has a program and isn't faulting.

@@ -3,11 +3,12 @@
 ghost use Rattle.std.specs.Prelude.{◌≡◌, ◌^◌, ◌<◌, Some, length, slice_get, if◌then◌else◌};
 ghost use Rattle.dma_mem.specs.Regions.{pieces_of};
 ghost use Rattle.dma_insn.specs.ControlWord.{field};
-ghost use Rattle.dma_device.specs.Device.{by_manager, by_thread, debugged, go, gone, is_event, manager_failed, program_at, signalled, with_thread, written};
+ghost use Rattle.dma_device.specs.Device.{by_manager, by_thread, debugged, go, gone, is_event, is_interrupt, manager_failed, program_at, signalled, with_thread, written};
 ghost use Rattle.dma_device.specs.Thread.{failed, killed, started};
 
 use crate::device::Device;
 use crate::thread::{DBG_INSTR, DMAGO_ERR, OPERAND_INVALID, UNDEF_INSTR};
+use crate::wide::has_too_wide;
 use dma_chan::program::MAX_BYTES;
 use dma_mem::regions::{Region, copy_run};
 
@@ -19,7 +20,7 @@ impl Device {
     {
         match offset {
             0x020 => self.inten = value & self.all_events(),
-            0x02C => self.raised &= !(value & self.inten),
+            0x02C => self.interrupts &= !(value & self.inten),
             0xD04 => {
                 if value % 4 == 0 {
                     self.debug(regions);
@@ -56,7 +57,7 @@ impl Device {
             return;
         } else if opcode == 0x34 {
             if self.is_event(byte) {
-                self.signal(byte);
+                self.signal(byte / 8);
             } else {
                 self.fail_manager(OPERAND_INVALID);
             }
@@ -83,12 +84,24 @@ impl Device {
         byte % 8 == 0 && byte / 8 < u32::from(self.config.events)
     }
 
-    // Sets the flag of a DMASEV's event.
-    fn signal(&mut self, byte: u32)
-        requires { byte < 2 ^ 8 }
-        ensures { self.new ≡ signalled byte self.old }
+    // Executes a DMASEV of an event.
+    fn signal(&mut self, event: u32)
+        requires { event < self.old.config.events }
+        ensures { self.new ≡ signalled event self.old }
     {
-        self.raised |= 1 << (byte / 8);
+        if self.is_interrupt(event) {
+            self.interrupts |= 1 << event;
+        } else {
+            self.events |= 1 << event;
+        }
+    }
+
+    // Returns whether INTEN makes this event an interrupt.
+    pub(super) fn is_interrupt(&self, event: u32) -> bool
+        requires { event < 32 }
+        ensures { result ≡ is_interrupt self.now event }
+    {
+        (self.inten >> event) % 2 == 1
     }
 
     // Executes a DMAGO for channel `n`.
@@ -118,6 +131,7 @@ impl Device {
         let base = self.dbginst1;
         let mut program = [0; MAX_BYTES];
         let len = copy_run(regions, base, &mut program);
+        self.wide[n] = has_too_wide(self.config.bus, &program[..len]);
         self.threads[n].start(nonsecure, base, &program[..len]);
     }
 
@@ -137,7 +151,7 @@ impl Device {
         } else if opcode != 0x34 {
             self.threads[n].fail(UNDEF_INSTR + DBG_INSTR);
         } else if self.is_event(byte) {
-            self.signal(byte);
+            self.signal(byte / 8);
         } else {
             self.threads[n].fail(OPERAND_INVALID + DBG_INSTR);
         }

@@ -3,7 +3,7 @@
 ghost use Rattle.std.specs.Prelude.{◌≡◌, ℕ, ◌+◌, ◌*◌, ◌-◌, ◌^◌, ◌≤◌, ◌<◌, length, slice_get};
 ghost use Rattle.std.specs.List.{list_any};
 ghost use Rattle.dma_insn.specs.ControlWord.{flag};
-ghost use Rattle.dma_device.specs.Device.{address_register, channel_register, cr0, cr3, crd, csr, device_register, dsr, faulting_bits, id, read_at};
+ghost use Rattle.dma_device.specs.Device.{address_register, channel_register, cr0, cr3, crd, device_register, dsr, faulting_bits, id, read_at};
 ghost use Rattle.dma_device.specs.Thread.{is_faulting};
 
 use crate::config::{Config, Revision};
@@ -45,13 +45,6 @@ fn faulting_bits(threads: &[Thread]) -> u32
     bits
 }
 
-// Returns CSR.
-fn csr(thread: &Thread) -> u32
-    ensures { result ≡ csr thread.now }
-{
-    thread.status.bits() + flag(thread.nonsecure) * (1 << 21)
-}
-
 // Returns SAR, DAR, CCR, LC0 or LC1, by its offset from SAR.
 fn address_register(channel: &Channel, at: u32) -> u32
     ensures { result ≡ address_register channel.now.registers at }
@@ -78,7 +71,7 @@ fn channel_register(threads: &[Thread], at: u32) -> u32
         }
     } else if at < 0x400 {
         match threads.get(((at - 0x100) / 8) as usize) {
-            Some(thread) if at % 8 == 0 => csr(thread),
+            Some(thread) if at % 8 == 0 => thread.csr(),
             Some(thread) => thread.pc,
             None => 0,
         }
@@ -153,7 +146,7 @@ impl Device {
         match at {
             0x000 => 15 * flag(self.manager.is_faulting) + flag(self.config.nonsecure) * (1 << 9),
             0x020 => self.inten,
-            0x024 => self.raised,
+            0x024 => self.events | self.interrupts,
             0x028 => self.irqs(),
             0x030 => flag(self.manager.is_faulting),
             0x034 => faulting_bits(&self.threads),

@@ -3,7 +3,8 @@
 ghost use Rattle.std.specs.Prelude.{◌≡◌, ◌+◌, ◌^◌, ◌<◌, ◌&&◌, IsTrue, length, map, slice_get};
 ghost use Rattle.dma_mem.specs.Regions.{in_order, pieces_of};
 ghost use Rattle.dma_chan.specs.LentRegions.{segment_of};
-ghost use Rattle.dma_device.specs.Turns.{CallsIf, CallsOne, TakesTurn, events_of, nothing, raised_with, raises, runs_at};
+ghost use Rattle.dma_device.specs.inner.Fields.{most_for};
+ghost use Rattle.dma_device.specs.Turns.{CallsIf, CallsOne, TakesTurn, nothing, raises, runs_at, visible_events, with_flags};
 
 use crate::device::Device;
 use crate::thread::OPERAND_INVALID;
@@ -32,7 +33,7 @@ pub(crate) struct Called {
 }
 
 impl Called {
-    // Nothing.
+    // Returns what a call that does nothing did.
     fn nothing() -> Called
         ensures { result ≡ nothing }
     {
@@ -45,10 +46,10 @@ impl Called {
 
 impl Device {
     /// Takes a turn of channel `n` over these regions: at most `most` steps, until one ends, waits, fails or sets a
-    /// flag, or before one that writes apart from the range written so far. On a bus narrower than 128 bits it is one
-    /// step. If the last step raised an interrupt, it takes one more. A channel that is stopped or faulting does
-    /// nothing. A burst that touches an address outside all regions fails, and so does a store that touches a
-    /// read-only region.
+    /// flag, or before one that writes apart from the range written so far. It is one step if the channel's program has,
+    /// at any offset, a DMAMOV CCR with beats wider than the bus. If the last step raised an interrupt, it takes one more.
+    /// A channel that is stopped or faulting does nothing. A burst that touches an address outside all regions fails, and
+    /// so does a store that touches a read-only region.
     pub fn step(&mut self, n: u8, most: u32, regions: &mut [Region<'_>]) -> Turn
         requires { IsTrue (in_order (pieces_of regions.old)) }
         ensures { TakesTurn self.old regions.old n most self.new regions.new result }
@@ -102,38 +103,48 @@ impl Device {
             self.threads[n].fail(OPERAND_INVALID);
             return Called::nothing();
         }
-        let most = config.most(most);
-        let mut events = Events::from_bits(self.events());
+        let most = self.most(n, most);
+        let mut events = Events::from_bits(self.visible_events());
         let thread = &mut self.threads[n];
         let taken = step_regions(&mut thread.channel, regions, &mut events, &self.marks, most);
         thread.answer(config.events, taken.last, taken.signal);
-        self.raised = self.raised_with(events.bits());
+        self.set_flags(events.bits());
         Called {
             written: taken.written,
             signal: taken.signal,
         }
     }
 
+    // Returns how many of `most` steps a call of channel `n`, which runs, takes at most.
+    fn most(&self, n: usize, most: u32) -> u32
+        requires { IsTrue (runs_at self.now n) }
+        ensures { result ≡ most_for self.now.config.bus (slice_get self.now.threads n) most }
+    {
+        if self.wide[n] { most.min(1) } else { most }
+    }
+
     // Returns the flags that a channel sees.
-    pub(super) fn events(&self) -> u32
-        ensures { result ≡ events_of self.now }
+    pub(super) fn visible_events(&self) -> u32
+        ensures { result ≡ visible_events self.now }
     {
-        self.raised & !self.inten
+        self.events & !self.inten
     }
 
-    // Returns what is raised after a call that left a channel these flags.
-    fn raised_with(&self, flags: u32) -> u32
-        ensures { result ≡ raised_with flags self.now }
+    // Sets the events and interrupts after a call that left a channel these flags.
+    fn set_flags(&mut self, flags: u32)
+        ensures { self.new ≡ with_flags flags self.old }
     {
-        self.raised & self.inten | flags & self.all_events()
+        let known = flags & self.all_events();
+        self.events = self.events & self.inten | known & !self.inten;
+        self.interrupts |= known & self.inten;
     }
 
-    // Returns whether a call raised an interrupt that set the flag of this event, if any.
+    // Returns whether a call that set the flag of this event, if any, raised an interrupt.
     fn raises(&self, signal: Option<Event>) -> bool
         ensures { result ≡ raises self.now signal }
     {
         match signal {
-            Some(event) => (self.inten >> event.number()) % 2 == 1,
+            Some(event) => self.is_interrupt(u32::from(event.number())),
             None => false,
         }
     }

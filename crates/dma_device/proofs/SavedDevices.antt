@@ -1,0 +1,81 @@
+-- The parts of the save of a device.
+use Rattle.std.proofs.Common.{◌≡◌, ◌∙◌, ℕ, ◌+◌, ◌-◌, ◌<◌, ◌≤◌, true, false, List, length, take, drop, ap, inl, inr, nat_le, refl, sym, arith}
+use Rattle.std.proofs.lemmas.List.{drop_at, length-append}
+use Rattle.std.specs.List.{All, flat_map}
+use Rattle.std.proofs.lemmas.Bool.{le-leb}
+use Rattle.std.proofs.lemmas.Bool.Decides.{leb_tells}
+use Rattle.dma_device.specs.declared.config.Config.{Config}
+use Rattle.dma_device.specs.declared.save.head.Head.{Head}
+use Rattle.dma_device.specs.declared.thread.Thread.{Thread}
+use Rattle.dma_device.specs.Device.{DeviceValue}
+use Rattle.dma_device.specs.Snapshot.{IsDeviceValue, IsThreadValue, head_bytes, head_of, identity, saved_device, saved_thread}
+use Rattle.dma_device.specs.Config.{is_valid}
+use Rattle.dma_device.specs.inner.Fields.{AreKnown}
+use Rattle.dma_device.specs.inner.Saves.{HasHeadRanges}
+use Rattle.dma_device.proofs.SavedParts.{head_length, tail_is}
+use Rattle.dma_device.proofs.Sound.{few_events, fits_word, known_of}
+
+-- The numbers of a device's head are in their ranges.
+pub device_ranges : (d : DeviceValue) → IsDeviceValue d → HasHeadRanges (head_of d)
+device_ranges d v =
+    let few = few_events d.config v.config in
+    record {
+      fault = v.fault;
+      events = fits_word d.events d.config.events few v.known.events;
+      interrupts = fits_word d.interrupts d.config.events few v.known.interrupts;
+      inten = fits_word d.inten d.config.events few v.known.inten;
+      dbginst0 = v.dbginst0;
+      dbginst1 = v.dbginst1;
+    }
+
+-- What every device satisfies, in parts.
+pub device_value_is : (d : DeviceValue) → is_valid d.config ≡ true → AreKnown d.config.events d.events d.interrupts d.inten → HasHeadRanges (head_of d) → length d.threads ≡ d.config.channels → All (IsThreadValue d.config.events) d.threads → IsDeviceValue d
+device_value_is d valid known r count values =
+    let k = known_of d.config.events d.events d.interrupts d.inten known in
+    record {
+      config = valid;
+      known = record { events = k.0; interrupts = k.1.0; inten = k.1.1 };
+      dbginst0 = r.dbginst0;
+      dbginst1 = r.dbginst1;
+      fault = r.fault;
+      count = count;
+      threads = values;
+    }
+
+-- the device of a configuration, a head and threads
+abbrev pub from_head : Config → Head → List Thread → DeviceValue
+from_head g h ts = record {
+  config = g;
+  events = h.events;
+  interrupts = h.interrupts;
+  inten = h.inten;
+  dbginst0 = h.dbginst0;
+  dbginst1 = h.dbginst1;
+  manager = h.manager;
+  threads = ts;
+}
+
+-- The saves of the threads follow the head.
+pub threads_behind : (d : DeviceValue) (save : List ℕ) → save ≡ saved_device d → take (length save - 40) (drop 40 save) ≡ flat_map saved_thread d.threads
+unfolding saved_device
+threads_behind d save e =
+    tail_is 40 save ∙ ap (drop 40) e ∙ drop_at (head_bytes (head_of d)) (flat_map saved_thread d.threads) 40 (head_length (head_of d))
+
+pub device_length : (d : DeviceValue) → length (saved_device d) ≡ 40 + length (flat_map saved_thread d.threads)
+unfolding saved_device
+device_length d = omega (arith, length-append (head_bytes (head_of d)) (flat_map saved_thread d.threads), head_length (head_of d))
+
+-- the version and the configuration, at their place
+pub own_identity : (d : DeviceValue) → take 8 (drop 7 (saved_device d)) ≡ identity d.config
+unfolding saved_device head_bytes
+own_identity d = refl
+
+pub room_is : (a b : ℕ) → a ≤ b → true ≡ nat_le a b
+room_is a b h = sym (le-leb a b h)
+
+pub no_room : (a b : ℕ) → b < a → false ≡ nat_le a b
+no_room a b h =
+    elim (leb_tells a b) [
+      | inl w ↦ (let most = w.1 in absurd (omega arith))
+      | inr w ↦ sym w.0
+    ]

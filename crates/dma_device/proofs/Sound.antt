@@ -1,0 +1,202 @@
+-- Each thread has a status that goes with its program, after a call too, and events stay among those of the device.
+use Rattle.std.proofs.Common.{◌≡◌, ◌∙◌, ◌⊎◌, ℕ, zero, suc, ◌+◌, ◌-◌, ◌*◌, ◌%◌, ◌^◌, ◌<◌, ◌≤◌, Bool, true, false, List, [], Option, Some, None, ap, get_or, inl, inr, length, refl, replicate, sym, subst, arith, bit_and}
+use Rattle.std.specs.Prelude.{is_some, nat_le, nat_lt, if◌then◌else◌}
+use Rattle.std.proofs.Math.Nat.{mod-le}
+use Rattle.std.proofs.Math.Pow.{pow-lt, pow_mono}
+use Rattle.std.proofs.lemmas.Bool.{and_parts, leb-true}
+use Rattle.std.proofs.lemmas.List.{drop_all, length-set, with_items_is}
+use Rattle.std.proofs.lemmas.List.Elements.{All-replicate, All-set}
+use Rattle.std.specs.List.{All}
+use Rattle.std.specs.Vec.{with_item, with_items}
+use Rattle.std.proofs.lemmas.Nat.{and_le_l, and_le_r, pow_pos}
+use Rattle.dma_mem.specs.Marking.{MarkList}
+use Rattle.dma_chan.specs.Channel.{ChannelValue, after_turn, ahead_of, bytes_of_program, state_of}
+use Rattle.dma_chan.specs.Exec.{State, exec_fetched}
+use Rattle.dma_chan.specs.Next.{fetched, next_of}
+use Rattle.dma_insn.specs.Decoding.{decoded}
+use Rattle.dma_chan.specs.Programs.{ProgramValue}
+use Rattle.dma_chan.specs.Stepping.{Machine, TakesSteps, after_step, after_steps, answer_at, goes_on_after}
+use Rattle.dma_chan.specs.declared.turn.ChanTurn.{ChanTurn}
+use Rattle.dma_chan.specs.declared.turn.ChanTurn.TheVariants.{Moved, Waiting, Ended, Fault}
+use Rattle.dma_chan.specs.declared.turn.FaultKind.TheVariants.{InstrFetchErr}
+use Rattle.dma_chan.proofs.SteppedOver.{was_moved, went_before}
+use Rattle.dma_device.specs.Config.{is_valid}
+use Rattle.dma_device.specs.declared.config.Config.{Config}
+use Rattle.dma_device.specs.declared.device.Device.TheInside.{Inside}
+use Rattle.dma_device.specs.inner.Fields.{AreKnown, AreSound, IsDevice, KnowsWide}
+use Rattle.dma_device.proofs.WidePrograms.{wide_kept}
+use Rattle.dma_device.specs.Thread.{IsSound, answer, answered, failed, moved, operand_invalid, reset_thread}
+use Rattle.dma_device.specs.declared.thread.Status.TheVariants.{Executing, WaitingForEvent}
+use Rattle.dma_device.specs.declared.thread.Thread.{Thread}
+
+-- ---- a thread after a call
+
+if_sound : (events : ℕ) (b : Bool) (t u : Thread) → IsSound events t → IsSound events u → IsSound events (if b then t else u)
+if_sound events true t u left right = left
+if_sound events false t u left right = right
+
+moved_sound : (events : ℕ) (t : Thread) (signal : Option ℕ) → is_some t.channel.program ≡ true → IsSound events (moved events t signal)
+moved_sound events t None loaded = loaded
+moved_sound events t (Some e) loaded =
+    if_sound events (nat_lt e events) (record t { status = Executing }) (failed operand_invalid (record t { pc = (t.pc + (2 ^ 32 - 2)) % 2 ^ 32 })) loaded refl
+
+waits_sound : (events e : ℕ) (t : Thread) (b : Bool) → nat_lt e events ≡ b → is_some t.channel.program ≡ true → IsSound events (if b then record t { status = WaitingForEvent e } else failed operand_invalid t)
+waits_sound events e t true less loaded = rw (loaded, less) refl
+waits_sound events e t false less loaded = refl
+
+-- after a step of a channel that has a program
+by_turn : (events : ℕ) (t : Thread) (turn : ChanTurn) (signal : Option ℕ) (s : State) (n : ℕ) (c : ChannelValue) → is_some c.program ≡ true → t.channel ≡ after_turn turn s n c → IsSound events (answer events t (Some turn) signal)
+by_turn events t Moved signal s n c loaded is = moved_sound events t signal (ap (λ (x : ChannelValue). is_some x.program) is ∙ loaded)
+by_turn events t (Waiting e) signal s n c loaded is = waits_sound events e t (nat_lt e events) refl (ap (λ (x : ChannelValue). is_some x.program) is ∙ loaded)
+by_turn events t Ended signal s n c loaded is = rw is refl
+by_turn events t (Fault kind) signal s n c loaded is = refl
+
+moved_keeps : (turn : ChanTurn) (s : State) (n : ℕ) (c : ChannelValue) → turn ≡ Moved → (after_turn turn s n c).program ≡ c.program
+moved_keeps turn s n c is = rw is refl
+
+-- A step that moves keeps the program.
+pub program_after : (marks : MarkList) (u : Machine) → answer_at marks u ≡ Moved → (after_step marks u).channel.program ≡ u.channel.program
+program_after marks u moved = moved_keeps (answer_at marks u) _ _ u.channel moved
+
+-- So the steps that others follow keep it.
+pub program_kept : (marks : MarkList) (s : Machine) (j : ℕ) → ((k : ℕ) → k < suc j → goes_on_after marks s k ≡ true) → (after_steps marks s j).channel.program ≡ s.channel.program
+program_kept marks s zero moves = refl
+program_kept marks s (suc j) moves =
+    let u = after_steps marks s j in
+    let moved = was_moved (ahead_of u.channel) (answer_at marks u) (went_before marks s (suc j) (moves (suc j) (omega arith))) in
+    program_after marks u moved ∙ program_kept marks s j (λ k l. moves k (omega arith))
+
+-- A channel without a program fails to fetch.
+unloaded_fails : (marks : MarkList) (s : Machine) → s.channel.program ≡ None → answer_at marks s ≡ Fault InstrFetchErr
+unloaded_fails marks s none =
+    let c = s.channel in
+    let from = state_of c s.image s.flags in
+    ap (λ (o : Option ProgramValue). (exec_fetched marks (next_of (bytes_of_program o) c.registers.pc) from).0) none
+    ∙ ap (λ (l : List ℕ). (exec_fetched marks (fetched (decoded l)) from).0) (drop_all c.registers.pc [] (omega arith))
+
+-- A thread is sound after a call of its channel, by whether that has a program.
+by_program : (marks : MarkList) (s v : Machine) (most taken events : ℕ) (last : Option ChanTurn) (t : Thread) (signal : Option ℕ) (o : Option ProgramValue) → s.channel.program ≡ o → TakesSteps marks s most taken last v → t.channel ≡ v.channel → IsSound events (answered events t last signal)
+by_program marks s v most zero events last t signal o program x is =
+    subst (λ (l : Option ChanTurn). IsSound events (answered events t l signal)) (sym x.answer) refl
+by_program marks s v most (suc j) events last t signal (Some p) program x is =
+    let u = after_steps marks s j in
+    let here = ap (λ (q : Option ProgramValue). is_some q) (program_kept marks s j x.moves ∙ program) in
+    let ends = is ∙ ap (λ (m : Machine). m.channel) x.ends_at in
+    subst (λ (l : Option ChanTurn). IsSound events (answered events t l signal)) (sym x.answer)
+    (by_turn events (record t { pc = (t.base + t.channel.registers.pc) % 2 ^ 32 }) (answer_at marks u) signal _ _ u.channel here ends)
+by_program marks s v most (suc zero) events last t signal None program x is =
+    subst (λ (l : Option ChanTurn). IsSound events (answered events t l signal)) (sym (x.answer ∙ ap (λ (a : ChanTurn). Some a) (unloaded_fails marks s program))) refl
+by_program marks s v most (suc (suc j)) events last t signal None program x is =
+    let moved = was_moved (ahead_of s.channel) (answer_at marks s) (went_before marks s 1 (x.moves 1 (omega arith))) in
+    let fails = unloaded_fails marks s program in
+    absurd (cc (moved, fails))
+
+-- A thread is sound after a call of its channel.
+pub answered_sound : (marks : MarkList) (s v : Machine) (most taken events : ℕ) (last : Option ChanTurn) (t : Thread) (signal : Option ℕ) → TakesSteps marks s most taken last v → t.channel ≡ v.channel → IsSound events (answered events t last signal)
+answered_sound marks s v most taken events last t signal x is = by_program marks s v most taken events last t signal s.channel.program refl x is
+
+turn_program : (turn : ChanTurn) (s : State) (n : ℕ) (c : ChannelValue) → ((after_turn turn s n c).program ≡ c.program) ⊎ ((after_turn turn s n c).program ≡ None)
+turn_program Moved s n c = inl refl
+turn_program (Waiting e) s n c = inl refl
+turn_program (Fault kind) s n c = inl refl
+turn_program Ended s n c = inr refl
+
+-- A call keeps the program or drops it.
+pub call_program : (marks : MarkList) (s v : Machine) (most taken : ℕ) (last : Option ChanTurn) → TakesSteps marks s most taken last v → (v.channel.program ≡ s.channel.program) ⊎ (v.channel.program ≡ None)
+call_program marks s v most zero last x = inl (ap (λ (m : Machine). m.channel.program) x.ends_at)
+call_program marks s v most (suc j) last x =
+    let u = after_steps marks s j in
+    let ends = ap (λ (m : Machine). m.channel.program) x.ends_at in
+    elim (turn_program (answer_at marks u) _ _ u.channel) [
+      | inl kept ↦ inl (ends ∙ kept ∙ program_kept marks s j x.moves)
+      | inr none ↦ inr (ends ∙ none)
+    ]
+
+-- ---- events
+
+-- the events that a device has, of some
+pub and_known : (a n : ℕ) → bit_and a (2 ^ n - 1) < 2 ^ n
+and_known a n = omega (arith, and_le_r a (2 ^ n - 1), pow_pos n)
+
+pub and_fewer : (a b n : ℕ) → a < 2 ^ n → bit_and a b < 2 ^ n
+and_fewer a b n less = omega (arith, and_le_l a b)
+
+-- the event of a DMASEV
+pub one_event : (k n : ℕ) → k < n → 1 * 2 ^ k % 4294967296 < 2 ^ n
+one_event k n less = omega (arith, mod-le (1 * 2 ^ k) 4294967296, pow-lt {i = k} {j = n} less)
+
+-- A device has at most 32 events.
+pub few_events : (g : Config) → is_valid g ≡ true → g.events ≤ 32
+few_events g h =
+    let a = (and_parts (nat_le 1 g.channels) _ h).1 in
+    let b = (and_parts (nat_le g.channels 8) _ a).1 in
+    let c = (and_parts (nat_le 1 g.events) _ b).1 in
+    leb-true g.events 32 (and_parts (nat_le g.events 32) _ c).0
+
+-- and at most 8 channels
+pub few_channels : (g : Config) → is_valid g ≡ true → g.channels ≤ 8
+few_channels g h = leb-true g.channels 8 (and_parts (nat_le g.channels 8) _ (and_parts (nat_le 1 g.channels) _ h).1).0
+
+-- So a word of events has 32 bits.
+pub fits_word : (a n : ℕ) → n ≤ 32 → a < 2 ^ n → a < 2 ^ 32
+fits_word a n few less = omega (arith, pow_mono {i = n} {j = 32} few)
+
+-- ---- a device's fields
+
+pub are_sound : (events : ℕ) (ts : List Thread) → All (IsSound events) ts → AreSound events ts
+unfolding AreSound
+are_sound events ts h = h
+
+pub sound_of : (events : ℕ) (ts : List Thread) → AreSound events ts → All (IsSound events) ts
+unfolding AreSound
+sound_of events ts h = h
+
+pub all_reset : (events n : ℕ) → AreSound events (replicate n reset_thread)
+unfolding AreSound
+all_reset events n = All-replicate (IsSound events) n reset_thread refl
+
+pub are_known : (n events interrupts inten : ℕ) → events < 2 ^ n → interrupts < 2 ^ n → inten < 2 ^ n → AreKnown n events interrupts inten
+unfolding AreKnown
+are_known n events interrupts inten a b c = (a, (b, c))
+
+pub known_of : (n events interrupts inten : ℕ) → AreKnown n events interrupts inten → (events < 2 ^ n) × ((interrupts < 2 ^ n) × (inten < 2 ^ n))
+unfolding AreKnown
+known_of n events interrupts inten h = h
+
+-- a thread is replaced by one with its program, or with none
+pub with_new : (d : Inside) (n : ℕ) (old new : Thread) → IsDevice d → old ≡ get_or d.threads.items n old → (new.channel.program ≡ old.channel.program) ⊎ (new.channel.program ≡ None) → IsSound d.config.events new → IsDevice (record d { threads = with_item d.threads n new })
+with_new d n old new h is same sound = record {
+  config = h.config;
+  known = h.known;
+  count = length-set d.threads.items n new ∙ h.count;
+  sound = are_sound d.config.events _ (All-set (IsSound d.config.events) d.threads.items n new sound (sound_of d.config.events d.threads.items h.sound));
+  wide = wide_kept d.config.bus d.threads.items d.wide n old new h.wide is same;
+  room = h.room;
+  marks = h.marks;
+}
+
+-- all threads are replaced, and the events are these
+pub with_all : (d : Inside) (events interrupts inten : ℕ) (wide : List Bool) (ts : List Thread) → IsDevice d → AreKnown d.config.events events interrupts inten → length ts ≡ d.threads.len → length ts ≡ length d.threads.items → AreSound d.config.events ts → KnowsWide d.config.bus ts wide → length wide ≡ 8 → IsDevice (record d { events = events; interrupts = interrupts; inten = inten; wide = wide; threads = with_items d.threads ts })
+with_all d events interrupts inten wide ts h known len count sound knows room =
+    let is = with_items_is d.threads ts len in
+    record {
+      config = h.config;
+      known = known;
+      count = ap length is ∙ count ∙ h.count;
+      sound = subst (AreSound d.config.events) (sym is) sound;
+      wide = subst (λ (us : List Thread). KnowsWide d.config.bus us wide) (sym is) knows;
+      room = room;
+      marks = h.marks;
+    }
+
+-- the events change
+pub with_events : (d : Inside) (events interrupts inten : ℕ) → IsDevice d → AreKnown d.config.events events interrupts inten → IsDevice (record d { events = events; interrupts = interrupts; inten = inten })
+with_events d events interrupts inten h known = record {
+  config = h.config;
+  known = known;
+  count = h.count;
+  sound = h.sound;
+  wide = h.wide;
+  room = h.room;
+  marks = h.marks;
+}

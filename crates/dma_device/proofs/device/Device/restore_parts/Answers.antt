@@ -1,0 +1,110 @@
+use Rattle.std.proofs.Common.{◌≡◌, ◌∙◌, ◌^◌, ◌<◌, ◌++◌, List, ap, arith, drop, length, refl, subst, sym, true≢false, ℕ}
+use Rattle.std.proofs.lemmas.List.{take-append-drop, with_items_is}
+use Rattle.std.specs.List.{All, flat_map}
+use Rattle.std.specs.Vec.{with_items}
+use Rattle.dma_device.specs.Device.{DeviceValue}
+use Rattle.dma_device.specs.Snapshot.{IsThreadValue, head_bytes, head_of, saved_device, saved_thread}
+use Rattle.dma_device.specs.Thread.{IsSound}
+use Rattle.dma_device.specs.declared.config.Config.{Config}
+use Rattle.dma_device.specs.declared.save.head.Head.{Head}
+use Rattle.dma_device.specs.declared.thread.Thread.{Thread}
+use Rattle.dma_device.proofs.SavedParts.{tail_is}
+use Rattle.dma_device.proofs.SavedDevices.{device_ranges, from_head, threads_behind}
+use Rattle.dma_device.specs.inner.Fields.{AreSound, KnowsWide}
+use Rattle.dma_device.proofs.WidePrograms.{wide_reset}
+use Rattle.dma_device.proofs.Sound.{all_reset, are_known, are_sound, few_channels, sound_of, with_all}
+use Rattle.dma_device.proofs.device.Device.restore_parts.Goals as goal
+
+pub returns-in_default-clause-all : goal.returns-in_default-clause-all
+unfolding saved_device
+returns-in_default-clause-all c d v config e =
+    let same = config ∙ sym (ap (λ (x : DeviceValue). x.config) c.self.view_is) in
+    let found = c.in_default.ensures.only (head_of d) (flat_map saved_thread d.threads) (device_ranges d v) v.known same e in
+    absurd (cc found)
+
+pub restore_threads-requires-clause-sound : goal.restore_threads-requires-clause-sound
+restore_threads-requires-clause-sound c =
+    let d = c.self.inside in
+    subst (All (IsSound d.config.events)) (sym c.deref_mut.ensures.value) (sound_of d.config.events d.threads.items c.self.invariant.sound)
+
+pub invariant_of-self : goal.invariant_of-self
+invariant_of-self c =
+    let d = c.self.inside in
+    let h = c.self.invariant in
+    let one = c.restore_threads.new.threads in
+    let two = c.reset_threads.new.threads in
+    let first = with_items_is d.threads one (omega (arith, c.restore_threads.auto.threads, c.deref_mut.ensures.len)) in
+    let second = with_items_is (with_items d.threads one) two (omega (arith, c.reset_threads.auto.threads, c.deref_mut-then-not-restore_threads.ensures.len)) in
+    let reset = second ∙ c.reset_threads.ensures in
+    record {
+      config = h.config;
+      known = h.known;
+      count = omega (arith, ap length second, c.reset_threads.auto.threads, ap length c.deref_mut-then-not-restore_threads.ensures.value, ap length first, c.restore_threads.auto.threads, ap length c.deref_mut.ensures.value, h.count);
+      sound = subst (AreSound d.config.events) (sym reset) (all_reset d.config.events _);
+      wide = subst (λ (ts : List Thread). KnowsWide d.config.bus ts d.wide) (sym reset) (wide_reset d.config.bus _ d.wide);
+      room = h.room;
+      marks = h.marks;
+    }
+
+pub wide_programs-self-inside-requires : goal.wide_programs-self-inside-requires
+wide_programs-self-inside-requires c =
+    let d = c.self.inside in
+    let one = c.restore_threads.new.threads in
+    let first = with_items_is d.threads one (omega (arith, c.restore_threads.auto.threads, c.deref_mut.ensures.len)) in
+    omega (arith, ap length c.deref.ensures.value, ap length first, c.restore_threads.auto.threads, ap length c.deref_mut.ensures.value, c.self.invariant.count, few_channels d.config c.self.invariant.config)
+
+pub returns-then-not-restore_threads-clause-all : goal.returns-then-not-restore_threads-clause-all
+returns-then-not-restore_threads-clause-all c d v config e =
+    let same = config ∙ sym (ap (λ (x : DeviceValue). x.config) c.self.view_is) in
+    let count = v.count ∙ ap (λ (g : Config). g.channels) same ∙ sym c.self.invariant.count ∙ ap length (sym c.deref_mut.ensures.value) in
+    let values = subst (λ (g : Config). All (IsThreadValue g.events) d.threads) same v.threads in
+    let w = c.restore_threads.ensures.all d.threads count values (threads_behind d c.args.save.now e) in
+    absurd (true≢false (sym w.0 ∙ c.if-not-restore_threads.true))
+
+pub invariant_of-self-2 : goal.invariant_of-self-2
+invariant_of-self-2 c =
+    let d = c.self.inside in
+    let new = c.restore_threads.new.threads in
+    let len : length new ≡ d.threads.len = omega (arith, c.restore_threads.auto.threads, c.deref_mut.ensures.len) in
+    let k = c.in-Some.ensures.known in
+    let n = d.config.events in
+    let same = ap (λ (g : Config). 2 ^ g.events) c.in-Some.ensures.config in
+    let h = c.in-Some.head in
+    let known = are_known n h.events h.interrupts h.inten (subst (λ (m : ℕ). h.events < m) same k.events) (subst (λ (m : ℕ). h.interrupts < m) same k.interrupts) (subst (λ (m : ℕ). h.inten < m) same k.inten) in
+    let all = with_all d h.events h.interrupts h.inten c.wide_programs-self-inside.result new c.self.invariant known len (c.restore_threads.auto.threads ∙ ap length c.deref_mut.ensures.value) (are_sound d.config.events new c.restore_threads.ensures.sound)
+    (subst (λ (ts : List Thread). KnowsWide d.config.bus ts c.wide_programs-self-inside.result) (c.deref.ensures.value ∙ with_items_is d.threads new len) c.wide_programs-self-inside.ensures.knows) c.wide_programs-self-inside.ensures.room in
+    record { config = all.config; known = all.known; count = all.count; sound = all.sound; wide = all.wide; room = all.room; marks = all.marks }
+
+pub returns-clause-ok : goal.returns-clause-ok
+unfolding saved_device
+returns-clause-ok c =
+    λ _. (let d = c.self.inside in
+    let save = c.args.save.now in
+    let h = c.in-Some.head in
+    let new = c.restore_threads.new.threads in
+    let len : length new ≡ d.threads.len = omega (arith, c.restore_threads.auto.threads, c.deref_mut.ensures.len) in
+    let back : drop 40 save ≡ flat_map saved_thread new = sym (tail_is 40 save) ∙ c.restore_threads.ensures.ok c.if-not-restore_threads.false in
+    sym (take-append-drop 40 save) ∙ ap (λ (l : List ℕ). l ++ drop 40 save) c.in-Some.ensures.found
+    ∙ ap (λ (l : List ℕ). head_bytes h ++ l) back
+    ∙ ap (λ (g : Config). head_bytes (record h { config = g }) ++ flat_map saved_thread new) c.in-Some.ensures.config
+    ∙ ap (λ (ts : List Thread). head_bytes (record h { config = d.config }) ++ flat_map saved_thread ts) (sym (with_items_is d.threads new len)))
+
+pub returns-clause-all : goal.returns-clause-all
+unfolding saved_device
+returns-clause-all c e v config is =
+    let d = c.self.inside in
+    let save = c.args.save.now in
+    let h = c.in-Some.head in
+    let new = c.restore_threads.new.threads in
+    let len : length new ≡ d.threads.len = omega (arith, c.restore_threads.auto.threads, c.deref_mut.ensures.len) in
+    let same = config ∙ sym (ap (λ (x : DeviceValue). x.config) c.self.view_is) in
+    let found = c.in-Some.ensures.only (head_of e) (flat_map saved_thread e.threads) (device_ranges e v) v.known same is in
+    let head : h ≡ head_of e = cc found in
+    let count = v.count ∙ ap (λ (g : Config). g.channels) same ∙ sym c.self.invariant.count ∙ ap length (sym c.deref_mut.ensures.value) in
+    let values = subst (λ (g : Config). All (IsThreadValue g.events) e.threads) same v.threads in
+    let w = c.restore_threads.ensures.all e.threads count values (threads_behind e save is) in (
+      refl,
+      ap (λ (ts : List Thread). from_head d.config h ts) (with_items_is d.threads new len ∙ w.1)
+          ∙ ap (λ (k : Head). from_head d.config k e.threads) head
+          ∙ ap (λ (g : Config). from_head g (head_of e) e.threads) (sym same),
+    )

@@ -1,0 +1,58 @@
+use Rattle.std.proofs.Common.{◌≡◌, ◌∙◌, ◌<◌, ◌≤◌, ◌++◌, ℕ, List, [], ◌∷◌, add-one, ap, append-nil, arith, drop, get_or, length, suc, sym, take}
+use Rattle.std.proofs.Math.Seq.{take-add, take-suc}
+use Rattle.std.proofs.lemmas.List.{length-set, length-take, take_more_set}
+use Rattle.std.proofs.lemmas.List.Concat.{flat_map-append}
+use Rattle.std.proofs.lemmas.List.Elements.{All-set}
+use Rattle.std.specs.List.{flat_map}
+use Rattle.dma_device.specs.Snapshot.{saved_thread}
+use Rattle.dma_device.specs.Thread.{IsSound}
+use Rattle.dma_device.specs.declared.thread.Thread.{Thread}
+use Rattle.dma_device.proofs.SavedParts.{part_at, tail_is}
+use Rattle.dma_device.proofs.save.threads.restore_threads.Goals as goal
+
+-- what is left to read begins with the save of thread n
+here : (ts threads : List Thread) (n at : ℕ) (bytes : List ℕ) (x : Thread) → n < length ts → at ≤ length bytes → take at bytes ≡ flat_map saved_thread (take n threads) → take n threads ≡ take n ts → bytes ≡ flat_map saved_thread ts → drop at bytes ≡ saved_thread (get_or ts n x) ++ flat_map saved_thread (drop (suc n) ts)
+here ts threads n at bytes x less fits before same is =
+    let front : take at bytes ≡ flat_map saved_thread (take n ts) = before ∙ ap (flat_map saved_thread) same in
+    part_at saved_thread ts n at bytes x less is (omega (arith, ap length front, length-take at bytes))
+
+pub loop-n-preserved : goal.loop-n-preserved
+loop-n-preserved c =
+    let bytes = c.args.bytes.now in
+    let threads = c.loop-n.threads in
+    let n = c.loop-n.n in
+    let at = c.loop-n.at in
+    let len = c.in-Some.len in
+    let new = c.restore.new.self in
+    let set = take_more_set threads n new (omega arith) in
+    record {
+      at = omega (arith, c.in-Some.ensures.long, ap length (tail_is at bytes), c.loop-n.invariant.at);
+      bytes = take-add at len bytes
+          ∙ ap (λ (l : List ℕ). take at bytes ++ l) (ap (take len) (sym (tail_is at bytes)) ∙ c.in-Some.ensures.found)
+          ∙ ap (λ (l : List ℕ). l ++ saved_thread new) c.loop-n.invariant.bytes
+          ∙ ap (λ (l : List ℕ). flat_map saved_thread (take n threads) ++ l) (sym (append-nil (saved_thread new)))
+          ∙ sym (flat_map-append saved_thread (take n threads) (new ∷ []))
+          ∙ ap (flat_map saved_thread) (sym set);
+      sound = All-set (IsSound c.args.events) threads n new c.in-Some.ensures.sound c.loop-n.invariant.sound;
+      all = λ ts count values is.
+          let same : length ts ≡ length threads = count ∙ length-set threads n new in
+          let less : n < length ts = omega arith in
+          let before = c.loop-n.invariant.all ts same values is in
+          let behind = here ts threads n at bytes new less c.loop-n.invariant.at c.loop-n.invariant.bytes before is in
+          let w = c.in-Some.ensures.all (get_or ts n new) (flat_map saved_thread (drop (suc n) ts)) (values n new less) (tail_is at bytes ∙ behind) in
+          set ∙ ap (λ (us : List Thread). us ++ new ∷ []) before ∙ ap (λ (u : Thread). take n ts ++ u ∷ []) w.1
+          ∙ sym (take-suc ts n new less) ∙ ap (λ (m : ℕ). take m ts) (sym (add-one n));
+    }
+
+pub returns-in_default-clause-all : goal.returns-in_default-clause-all
+returns-in_default-clause-all c ts count values is =
+    let threads = c.loop-n.threads in
+    let n = c.loop-n.n in
+    let new = c.restore.new.self in
+    let same : length ts ≡ length threads = omega arith in
+    let less : n < length ts = omega arith in
+    let before = c.loop-n.invariant.all ts same values is in
+    let behind = here ts threads n c.loop-n.at c.args.bytes.now new less c.loop-n.invariant.at c.loop-n.invariant.bytes before is in
+    let w = c.in_default.ensures.all (get_or ts n new) (flat_map saved_thread (drop (suc n) ts)) (values n new less) (tail_is c.loop-n.at c.args.bytes.now ∙ behind) in
+    let none = w.0 in
+    absurd (cc none)

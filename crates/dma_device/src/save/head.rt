@@ -1,0 +1,151 @@
+//! The head of a save.
+
+ghost use Rattle.std.specs.Prelude.{◌≡◌, ◌↔◌, ◌^◌, ◌<◌, ◌≤◌, ◌++◌, IsTrue, IfSome, List, ℕ, Some, length, take};
+ghost use Rattle.arrayvec.specs.ArrayVec.{array_vec_len};
+ghost use Rattle.dma_insn.specs.ControlWord.{flag};
+ghost use Rattle.dma_device.specs.Snapshot.{HasKnownEvents, IsOfOther, head_bytes, identity};
+ghost use Rattle.dma_device.specs.declared.save.head.Head.{Head};
+ghost use Rattle.dma_device.specs.inner.Saves.{HasHeadRanges};
+
+use crate::config::Config;
+use crate::device::Manager;
+use crate::save::{HEAD_LEN, HeadBytes, push, u32_at};
+use arrayvec::ArrayVec;
+
+// The bytes at the start of every save of a device.
+const MAGIC: [u8; 7] = [100, 109, 97, 51, 51, 48, 1];
+
+// The version of the format.
+const VERSION: u8 = 1;
+
+/// What a save has before its threads.
+#[derive(Clone, Copy)]
+pub struct Head {
+    pub config: Config,
+    pub manager: Manager,
+    pub events: u32,
+    pub interrupts: u32,
+    pub inten: u32,
+    pub dbginst0: u32,
+    pub dbginst1: u32,
+}
+
+// Returns 1 for true and 0 for false.
+fn flag_of(value: bool) -> u8
+    ensures { result ≡ flag value }
+{
+    if value { 1 } else { 0 }
+}
+
+// Returns the version and a configuration, as bytes.
+fn identity(config: Config) -> [u8; 8]
+    ensures { result ≡ identity config }
+{
+    let lines = config.lines.to_le_bytes();
+    [
+        VERSION,
+        config.channels,
+        config.events,
+        flag_of(config.nonsecure),
+        config.bus.code() as u8,
+        config.revision.code() as u8,
+        lines[0],
+        lines[1],
+    ]
+}
+
+// Returns whether bytes begin as the save of a device of another version or configuration.
+pub(crate) fn is_of_other(bytes: &[u8], config: Config) -> bool
+    ensures { IsTrue result ↔ IsOfOther config bytes.now }
+{
+    let own = identity(config);
+    bytes.len() >= 15 && bytes[..7] == MAGIC[..] && bytes[7..15] != own[..]
+}
+
+// Returns whether a word has bits only for events that the device has.
+fn is_known(word: u32, config: Config) -> bool
+    requires { config.events ≤ 32 }
+    ensures { IsTrue result ↔ (word < 2 ^ config.events) }
+{
+    u64::from(word) < 1 << config.events
+}
+
+impl Head {
+    // Returns the bytes of the head.
+    pub fn bytes(&self) -> HeadBytes
+        ensures bytes { result.items ≡ head_bytes self.now }
+        ensures len { array_vec_len result ≡ 40 }
+        ensures ranges { HasHeadRanges self.now }
+    {
+        let mut out = ArrayVec::new();
+        push(&mut out, &MAGIC);
+        push(&mut out, &identity(self.config));
+        push(&mut out, &[flag_of(self.manager.is_faulting)]);
+        push(&mut out, &self.manager.fault.to_le_bytes());
+        push(&mut out, &self.events.to_le_bytes());
+        push(&mut out, &self.interrupts.to_le_bytes());
+        push(&mut out, &self.inten.to_le_bytes());
+        push(&mut out, &self.dbginst0.to_le_bytes());
+        push(&mut out, &self.dbginst1.to_le_bytes());
+        out
+    }
+
+    // Returns the head of these bytes if they are the save of a device of this configuration. For other bytes it is
+    // another head.
+    fn read(config: Config, bytes: &[u8]) -> Head
+        requires { 40 ≤ length bytes.now }
+        ensures config { result.config ≡ config }
+        ensures same { (h : Head) (rest : List ℕ) → HasHeadRanges h → h.config ≡ config
+            → bytes.now ≡ head_bytes h ++ rest → result ≡ h }
+    {
+        Head {
+            config,
+            manager: Manager {
+                is_faulting: bytes[15] != 0,
+                fault: u32_at(bytes, 16),
+            },
+            events: u32_at(bytes, 20),
+            interrupts: u32_at(bytes, 24),
+            inten: u32_at(bytes, 28),
+            dbginst0: u32_at(bytes, 32),
+            dbginst1: u32_at(bytes, 36),
+        }
+    }
+
+    // Returns whether the events and the interrupts that are set, and INTEN, are those that the device has.
+    fn has_known_events(&self) -> bool
+        requires { self.now.config.events ≤ 32 }
+        ensures { IsTrue result ↔ HasKnownEvents self.now }
+    {
+        is_known(self.events, self.config)
+            && is_known(self.interrupts, self.config)
+            && is_known(self.inten, self.config)
+    }
+
+    // Returns the head with which these bytes begin, if it is that of a device of this configuration. They begin with
+    // such a head exactly if writing what was read gives them again.
+    pub fn of_save(config: Config, bytes: &[u8]) -> Option<Head>
+        requires { config.events ≤ 32 }
+        ensures long { IfSome result (λ h. 40 ≤ length bytes.now) }
+        ensures found { IfSome result (λ h. take 40 bytes.now ≡ head_bytes h) }
+        ensures config { IfSome result (λ h. h.config ≡ config) }
+        ensures known { IfSome result (λ h. HasKnownEvents h) }
+        ensures only { (h : Head) (rest : List ℕ)
+            → HasHeadRanges h → HasKnownEvents h → h.config ≡ config
+            → bytes.now ≡ head_bytes h ++ rest → result ≡ Some h }
+    {
+        if bytes.len() < HEAD_LEN {
+            return None;
+        }
+        let head = Head::read(config, bytes);
+        if !head.has_known_events() {
+            return None;
+        }
+        let again = head.bytes();
+        if again.as_slice() == &bytes[..HEAD_LEN] {
+            Some(head)
+        } else {
+            None
+        }
+    }
+}
