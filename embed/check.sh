@@ -126,12 +126,11 @@ in_c() {
     make_it "$set threads.c" "$@" -pthread -o "$to/threads" c/threads.c "$LIB" && try "$set threads.c" "$to/threads"
     make_it "$set walk.c" "$@" -o "$to/walk" c/walk.c $rows "$LIB" &&
         count "$set walk.c" "$last_line" "$to/walk" rows.txt
-    board="c/board.c c/guest.c"
-    make_it "$set board_test.c" "$@" -o "$to/board_test" c/board_test.c $board "$LIB" &&
-        count "$set board_test.c" "$last_line" "$to/board_test"
-    make_it "$set board_wild.c" "$@" -o "$to/board_wild" c/board_wild.c $board "$LIB" &&
-        count "$set board_wild.c" "$last_line" "$to/board_wild"
     wrap=-Wl,--wrap=malloc,--wrap=realloc,--wrap=free
+    for it in device_test device_registers device_saves device_wild; do
+        make_it "$set $it.c" "$@" $wrap -o "$to/$it" "c/$it.c" c/guest.c c/heap.c "$LIB" &&
+            count "$set $it.c" "$last_line" "$to/$it"
+    done
     make_it "$set refuse.c" "$@" $wrap -o "$to/refuse" c/refuse.c c/heap.c $rows "$LIB" &&
         count "$set refuse.c" "$last_line" "$to/refuse" rows.txt
     make_it "$set channels.c" "$@" $wrap -o "$to/channels" c/channels.c c/heap.c c/words.c c/rows.c "$LIB" &&

@@ -22,7 +22,11 @@ const any_call all_calls[] = {
     (any_call)dma330_channel_load_fill, (any_call)dma330_channel_load_program, (any_call)dma330_channel_load_from,
     (any_call)dma330_channel_step, (any_call)dma330_channel_stop, (any_call)dma330_channel_registers,
     (any_call)dma330_channel_mark, (any_call)dma330_channel_unmark, (any_call)dma330_channel_save,
-    (any_call)dma330_channel_restore
+    (any_call)dma330_channel_restore,
+    (any_call)dma330_device_open, (any_call)dma330_device_close, (any_call)dma330_device_reset,
+    (any_call)dma330_device_read, (any_call)dma330_device_write, (any_call)dma330_device_step,
+    (any_call)dma330_device_irqs, (any_call)dma330_device_irq_abort, (any_call)dma330_device_can_step,
+    (any_call)dma330_device_save, (any_call)dma330_device_restore
 };
 
 int main(void)

@@ -1,9 +1,9 @@
 /* A verified software DMA controller (ARM DMA-330, memory to memory) for programs in C, from C89 on, and in C++.
  *
  * Link it with libdma330.a. docs/EMBEDDING.md has all duties of a caller; in short:
- * - Before its first call a dma330_controller is DMA330_CONTROLLER_INIT and a dma330_channel is DMA330_CHANNEL_INIT
- *   (zeros). Their members are the library's: the caller doesn't change them. An open one is not copied; it may be
- *   moved, and its old place is zeroed before it is used again.
+ * - Before its first call a dma330_controller is DMA330_CONTROLLER_INIT, a dma330_channel DMA330_CHANNEL_INIT and a
+ *   dma330_device DMA330_DEVICE_INIT (zeros). Their members are the library's: the caller doesn't change them. An open
+ *   one is not copied; it may be moved, and its old place is zeroed before it is used again.
  * - One call at a time uses it. Threads that share one take turns by a lock.
  * - No pointer is null, not even one to zero elements. No two pointers of a call overlap, except lists that are only read.
  *   While a call runs, nobody else writes what its pointers point to, or reads what it writes, except a guest's running
@@ -12,7 +12,8 @@
  * A call returns DMA330_OK, which is 0, or a negative code; dma330_status returns a state instead of DMA330_OK. A
  * call's comment lists its codes in the order in which they are tested; the first that applies is returned.
  * DMA330_NOT_OPEN comes before all others. A refused call, which returns a negative code, changes nothing and writes no
- * output, except `*place` where the code has a place, and `*conflict` for DMA330_BUSY and DMA330_RUNNING.
+ * output, except `*place` where the code has a place, `*conflict` for DMA330_BUSY and DMA330_RUNNING, and a device for
+ * DMA330_BAD_SAVE.
  *
  * Further duties: 32 KiB of stack are free; no call comes from a signal handler or from the child of a fork of a program with
  * threads; malloc, realloc and free are one allocator. Addresses and lengths of segments have 32 bits, channels and events 8:
@@ -27,27 +28,29 @@
 extern "C" {
 #endif
 
-/* What dma330_version writes, and room for what it writes in any version. */
-#define DMA330_VERSION "dilkwafam 1.1"
+/* What dma330_version writes, and room for what it writes in any version. Version 1.2 added dma330_device. */
+#define DMA330_VERSION "dilkwafam 1.2"
 #define DMA330_MAX_VERSION 32
 
 /* A controller that isn't open: dma330_controller controller = DMA330_CONTROLLER_INIT; (or one cleared by memset) */
 #define DMA330_CONTROLLER_INIT {0, 0}
 
-/* A channel that isn't open, in the same way. */
+/* A channel, and a device, that isn't open, in the same way. */
 #define DMA330_CHANNEL_INIT {0, 0}
+#define DMA330_DEVICE_INIT {0, 0}
 
 /* No event to wait for, or to signal; so is each other negative number. */
 #define DMA330_NO_EVENT (-1)
 
-/* The most segments of a list, bytes of a transfer, bytes of a program, channels of a controller, regions of the caller's
- * memory, and bytes of a channel's save. */
+/* The most segments of a list, bytes of a transfer, bytes of a program, channels of a controller or device, regions of the
+ * caller's memory, and bytes of a channel's and of a device's save. */
 #define DMA330_MAX_SEGMENTS 64
 #define DMA330_MAX_BYTES 1048576
 #define DMA330_MAX_PROGRAM 8192
 #define DMA330_MAX_CHANNELS 8
 #define DMA330_MAX_REGIONS 64
 #define DMA330_MAX_SAVE 8500
+#define DMA330_MAX_DEVICE_SAVE 68200
 
 /* Room for the text of a program of this many bytes, whatever its instructions are. */
 #define DMA330_MAX_TEXT(bytes) (9 * (bytes))
@@ -142,6 +145,29 @@ typedef struct dma330_registers {
     uint64_t stored;   /* the number of bytes stored since then */
 } dma330_registers;
 
+/* A device, which the caller keeps; its members are the library's own. */
+typedef struct dma330_device {
+    void *device;
+    uint8_t is_open;
+} dma330_device;
+
+/* The choices of a chip's designer, which a guest's driver reads in CR0 to CRD and periph_id_2. */
+typedef struct dma330_device_config {
+    uint32_t channels;  /* 1 to 8 */
+    uint32_t events;    /* 1 to 32, each an event or an interrupt, as INTEN says */
+    uint32_t nonsecure; /* 0 if the manager is in the secure state after a reset */
+    uint32_t bus;       /* the width of the data bus in bits: 32, 64 or 128; a wider beat is an invalid operand */
+    uint32_t lines;     /* of the buffer, each as wide as the bus: for each channel a line at least, 256 bytes at most */
+    uint32_t revision;  /* 0 for r0p0, 1 for r1p0, 2 for r1p1, 3 for r1p2; Linux uses barriers only for r0p0 */
+} dma330_device_config;
+
+/* What dma330_device_step did. */
+typedef struct dma330_device_turn {
+    dma330_segment written; /* the smallest range with all addresses that it wrote; its len is 0 if it wrote nothing */
+    uint32_t lines_changed; /* 1 if a line of irq[31:0], or irq_abort, has changed, else 0 */
+    uint32_t can_step;      /* what dma330_device_can_step writes now */
+} dma330_device_turn;
+
 /* How a program that ran alone ended. A member is 0 unless its comment names the end. */
 typedef struct dma330_run_end {
     uint32_t end;   /* enum dma330_end */
@@ -205,8 +231,8 @@ enum dma330_fault {
 /* What a call returns. */
 enum dma330_code {
     DMA330_OK = 0,
-    DMA330_NOT_OPEN = -1,             /* the controller or the channel is zeroed or closed */
-    DMA330_ALREADY_OPEN = -2,         /* dma330_open or dma330_channel_open of one that is open */
+    DMA330_NOT_OPEN = -1,             /* the controller, channel or device is zeroed or closed */
+    DMA330_ALREADY_OPEN = -2,         /* an open of a controller, channel or device that is open */
     DMA330_NO_MEMORY = -3,            /* malloc or realloc returned NULL */
     DMA330_BAD_EVENT = -4,            /* an event is above 31 */
     DMA330_BAD_KIND = -5,             /* a kind of mark is neither 0 nor 1 */
@@ -225,6 +251,7 @@ enum dma330_code {
     DMA330_SIZE_OUT_OF_RANGE = -21,   /* the size of a memory isn't 1 to 4294963200 */
     DMA330_BAD_REGIONS = -22,         /* more than 64 regions, or one begins before the end of the one before it (also
                                        * if one of them is empty), or one ends above 4294967295 */
+    DMA330_BAD_CONFIG = -23,          /* no device can have this configuration */
     DMA330_EMPTY_LIST = -30,          /* a list has no segment */
     DMA330_TOO_MANY_SEGMENTS = -31,   /* a list has more than 64 segments */
     DMA330_EMPTY_SEGMENT = -32,       /* a segment has length 0 */
@@ -234,7 +261,8 @@ enum dma330_code {
     DMA330_DESTINATIONS_MEET = -36,   /* two destination segments share an address */
     DMA330_SOURCE_MEETS_DESTINATION = -37, /* a source and a destination segment share an address */
     DMA330_PROGRAM_TOO_LONG = -40,    /* a program has more than 8192 bytes */
-    DMA330_BAD_SAVE = -42,            /* the bytes are no save of a channel, or one of another version */
+    DMA330_BAD_SAVE = -42,            /* the bytes are no save of a channel in this version, or of any device */
+    DMA330_OTHER_DEVICE = -43,        /* the save is of a device of another version or configuration */
     DMA330_BAD_MNEMONIC = -50,        /* assembly: no instruction has this name */
     DMA330_BAD_OPERAND = -51,         /* assembly: an operand is missing, of a wrong form, or one too many */
     DMA330_NUMBER_OUT_OF_RANGE = -52, /* assembly: a number is outside its range */
@@ -416,6 +444,58 @@ int32_t dma330_channel_save(dma330_channel *channel, uint8_t *out, size_t room, 
 /* Makes the channel the one that was saved. A save holds no marks; those of this channel stay. Codes: BAD_SAVE. */
 int32_t dma330_channel_restore(dma330_channel *channel, const uint8_t *save, size_t len) DMA330_NO_NULLS;
 
+/* ---- a device over the caller's memory ----
+ *
+ * The registers of a DMA-330 as a guest's driver sees them (Technical Reference Manual, ARM DDI 0424). Its channels
+ * execute the guest's programs in the caller's memory, which is lent as for a channel. An emulator forwards the guest's
+ * accesses to read and write, lets channels take turns by step while can_step writes 1, and sets its interrupt lines
+ * from irqs and irq_abort after each write, reset and restore, and after each turn that reports lines_changed. The head
+ * of crates/dma_device/src/lib.rt lists what differs from the chip. Only open allocates. Each call but open and close
+ * fails with NOT_OPEN if the device isn't open; a call that fails changes nothing, except a restore of BAD_SAVE. */
+
+/* Opens a device in its state after a reset. Codes: ALREADY_OPEN, BAD_CONFIG, NO_MEMORY. */
+int32_t dma330_device_open(dma330_device *device, const dma330_device_config *config) DMA330_NO_NULLS;
+
+/* Frees what an open device holds; it may be opened again. Does nothing if it isn't open. */
+void dma330_device_close(dma330_device *device) DMA330_NO_NULLS;
+
+/* Puts the device into its state after a reset. */
+int32_t dma330_device_reset(dma330_device *device) DMA330_NO_NULLS;
+
+/* Reads a register for the guest, 32 bits wide, by its offset, from 0 to 4095. Any other offset, and one that has no
+ * register, reads as 0. No read changes the device. */
+int32_t dma330_device_read(dma330_device *device, uint32_t offset, uint32_t *value) DMA330_NO_NULLS;
+
+/* Writes a register for the guest. A write to an offset without a register that can be written is ignored. A DMAGO
+ * reads its program from the regions, as dma330_channel_load_from does; each write tests them. Codes: BAD_REGIONS. */
+int32_t dma330_device_write(dma330_device *device, uint32_t offset, uint32_t value, const dma330_region *regions,
+                            size_t region_count) DMA330_NO_NULLS;
+
+/* Takes a turn of a channel: at most `most` steps, until one ends, waits, fails or executes a DMASEV, or before a store
+ * that neither overlaps nor touches the range written so far. It takes one step if the program has, at any offset, a
+ * DMAMOV CCR with beats wider than the bus. After the DMASEV of an interrupt it takes one more, mostly the DMAEND, since
+ * a driver's handler expects its channel to be stopped. Does nothing for a channel that is stopped or faulting, or that
+ * the device doesn't have. Codes: BAD_REGIONS. */
+int32_t dma330_device_step(dma330_device *device, uint8_t channel, uint32_t most, dma330_region *regions,
+                           size_t region_count, dma330_device_turn *turn) DMA330_NO_NULLS;
+
+/* Writes the lines irq[31:0]. A high line stays high until the guest clears its interrupt. */
+int32_t dma330_device_irqs(dma330_device *device, uint32_t *lines) DMA330_NO_NULLS;
+
+/* Writes 1 if the line irq_abort is high, else 0. It is high until the guest kills each faulting thread. */
+int32_t dma330_device_irq_abort(dma330_device *device, uint32_t *line) DMA330_NO_NULLS;
+
+/* Writes 1 if any channel runs and doesn't wait for an event that is clear. Else it writes 0, and nothing happens until
+ * the guest's next write, a reset or a restore. */
+int32_t dma330_device_can_step(dma330_device *device, uint32_t *can_step) DMA330_NO_NULLS;
+
+/* Writes the whole device as bytes, and their number, at most DMA330_MAX_DEVICE_SAVE. Codes: BUFFER_TOO_SMALL. */
+int32_t dma330_device_save(dma330_device *device, uint8_t *out, size_t room, size_t *len) DMA330_NO_NULLS;
+
+/* Makes the device the one that was saved. Codes: OTHER_DEVICE; BAD_SAVE, after which the device is in its state after a
+ * reset. */
+int32_t dma330_device_restore(dma330_device *device, const uint8_t *save, size_t len) DMA330_NO_NULLS;
+
 /* ---- without a controller ----
  *
  * Programs have the instructions DMAMOV, DMALD, DMAST, DMALP with DMALPEND, DMARMB, DMAWMB, DMANOP, DMASEV, DMAWFE and DMAEND;
@@ -471,6 +551,9 @@ DMA330_ASSERT(channel, sizeof(dma330_channel) == 16 && offsetof(dma330_channel, 
 DMA330_ASSERT(channel_report, sizeof(dma330_channel_report) == 28 && offsetof(dma330_channel_report, written) == 20);
 DMA330_ASSERT(registers, sizeof(dma330_registers) == 32 && offsetof(dma330_registers, is_loaded) == 18
               && offsetof(dma330_registers, taken) == 20 && offsetof(dma330_registers, stored) == 24);
+DMA330_ASSERT(device, sizeof(dma330_device) == 16 && offsetof(dma330_device, is_open) == 8);
+DMA330_ASSERT(device_config, sizeof(dma330_device_config) == 24 && offsetof(dma330_device_config, revision) == 20);
+DMA330_ASSERT(device_turn, sizeof(dma330_device_turn) == 16 && offsetof(dma330_device_turn, can_step) == 12);
 DMA330_ASSERT(run_end, sizeof(dma330_run_end) == 20 && offsetof(dma330_run_end, pc) == 16);
 #undef DMA330_ASSERT
 

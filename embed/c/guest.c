@@ -1,5 +1,7 @@
 #include "guest.h"
 
+#include "heap.h"
+
 #include <stdio.h>
 #include <stdlib.h>
 #include <string.h>
@@ -18,10 +20,46 @@ void check(bool holds, const char *what, uint32_t n)
         printf("WRONG: %s (%lu)\n", what, (unsigned long)n);
 }
 
+/* Counts a check only if it fails: for what holds in each call of a test. */
+static void always(bool holds, const char *what, uint32_t n)
+{
+    if (!holds)
+        check(false, what, n);
+}
+
 int end_checks(void)
 {
+    check(live_blocks == 0, "no block is leaked", (uint32_t)live_blocks);
     printf("%ld passed, %ld failed\n", passed, failed);
     return failed != 0;
+}
+
+/* Ends the tests: a call that can't fail has failed. */
+static void must(int32_t code, const char *what)
+{
+    if (code == DMA330_OK)
+        return;
+    printf("WRONG: %s returned %ld\n%ld passed, %ld failed\n", what, (long)code, passed, failed + 1);
+    exit(1);
+}
+
+/* ---- the heap ---- */
+
+long allocations_left;
+
+int allocation_fails(void)
+{
+    return allocations_left-- <= 0;
+}
+
+int32_t open_device(dma330_device *device, const dma330_device_config *config)
+{
+    int32_t code;
+
+    allocations_left = 1000;
+    code = dma330_device_open(device, config);
+    allocations_left = 0;
+    return code;
 }
 
 /* ---- a machine ---- */
@@ -39,27 +77,39 @@ static bool are_guards_whole(const machine *m)
     return are_whole;
 }
 
-void set_up(machine *m, unsigned channels, unsigned events, bool nonsecure)
+dma330_device_config plain(uint32_t channels, uint32_t events, bool nonsecure)
 {
-    const board_config config = {channels, events, nonsecure};
+    const dma330_device_config config = {channels, events, nonsecure, 128, 16 * channels, 3};
+
+    return config;
+}
+
+void lend(machine *m)
+{
     const dma330_region regions[] = {
         {LOW, m->bytes + LOW_AT, NEXT - LOW, 0},
         {NEXT, m->bytes + NEXT_AT, NEXT_END - NEXT, 0},
         {FAR, m->bytes + FAR_AT, FAR_END - FAR, 0}
     };
 
-    memset(m->bytes, GUARD_BYTE, sizeof m->bytes);
     memcpy(m->regions, regions, sizeof regions);
-    for (unsigned n = 0; n < 3; n++)
-        for (size_t k = 0; k < regions[n].len; k++)
-            regions[n].bytes[k] = (uint8_t)((k + 17 * n) % 251);
-    check(board_open(&m->board, &config, m->regions, 3), "a board is opened", channels);
+}
+
+void set_up(machine *m, dma330_device_config config)
+{
+    memset(&m->device, 0, sizeof m->device);
+    memset(m->bytes, GUARD_BYTE, sizeof m->bytes);
+    lend(m);
+    for (unsigned n = 0; n < REGIONS; n++)
+        for (size_t k = 0; k < m->regions[n].len; k++)
+            m->regions[n].bytes[k] = (uint8_t)((k + 17 * n) % 251);
+    must(open_device(&m->device, &config), "dma330_device_open");
 }
 
 void tear_down(machine *m)
 {
-    check(are_guards_whole(m), "nothing but RAM is written", m->board.config.channels);
-    board_close(&m->board);
+    check(are_guards_whole(m), "nothing but RAM is written", 0);
+    dma330_device_close(&m->device);
 }
 
 uint8_t *byte_at(uint8_t bytes[ALL_BYTES], uint32_t addr)
@@ -117,11 +167,11 @@ void put_copy(machine *m, uint32_t at, uint32_t wait, uint32_t src, uint32_t dst
 
     if (wait < NO_EVENT)
         at = put_two(m, at, DMAWFE, wait << 3);
-    at = put_move(m, at, TO_CCR, BY_128);
+    at = put_move(m, at, TO_CCR, BURSTS_OF(2));
     at = put_move(m, at, TO_SAR, src);
     at = put_move(m, at, TO_DAR, dst);
     outer = at = put_two(m, at, DMALP, blocks - 1);
-    inner = at = put_two(m, at, DMALP | 2, 512 / 128 - 1);
+    inner = at = put_two(m, at, DMALP | 2, 512 / 64 - 1);
     for (size_t n = 0; n < sizeof body; n++)
         at = put(m, at, body[n]);
     at = put_two(m, at, DMALPEND | 4, at - inner);
@@ -131,16 +181,61 @@ void put_copy(machine *m, uint32_t at, uint32_t wait, uint32_t src, uint32_t dst
     put(m, at, DMAEND);
 }
 
+void put_signal(machine *m, uint32_t at, uint32_t event)
+{
+    put(m, put_two(m, at, DMASEV, event << 3), DMAEND);
+}
+
+void put_wait(machine *m, uint32_t at, uint32_t event)
+{
+    put(m, put_two(m, at, DMAWFE, event << 3), DMAEND);
+}
+
 /* ---- the driver ---- */
 
 uint32_t get(machine *m, uint32_t offset)
 {
-    return board_read(&m->board, offset);
+    uint32_t value = 0;
+
+    must(dma330_device_read(&m->device, offset, &value), "dma330_device_read");
+    return value;
 }
 
 void set(machine *m, uint32_t offset, uint32_t value)
 {
-    board_write(&m->board, offset, value);
+    must(dma330_device_write(&m->device, offset, value, m->regions, REGIONS), "dma330_device_write");
+}
+
+uint32_t irqs(machine *m)
+{
+    uint32_t lines = 0;
+
+    must(dma330_device_irqs(&m->device, &lines), "dma330_device_irqs");
+    return lines;
+}
+
+/* Returns a number that is 0 or 1. */
+static bool truth(int32_t code, uint32_t number, const char *what)
+{
+    must(code, what);
+    always(number < 2, what, number);
+    return number != 0;
+}
+
+bool irq_abort(machine *m)
+{
+    uint32_t line = 2;
+    int32_t code = dma330_device_irq_abort(&m->device, &line);
+
+    return truth(code, line, "dma330_device_irq_abort");
+}
+
+bool can_step(machine *m)
+{
+    uint32_t can = 2;
+    int32_t code = dma330_device_can_step(&m->device, &can);
+
+    return truth(code, can, "dma330_device_can_step");
 }
 
 void debug(machine *m, int thread, uint32_t code, uint32_t operand, uint32_t number)
@@ -161,6 +256,50 @@ void stop(machine *m, int thread)
     debug(m, thread, DMAKILL, 0, 0);
 }
 
+/* Returns whether the bytes that have changed lie in the range. */
+static bool wrote_only(machine *m, dma330_segment range)
+{
+    for (uint32_t n = 0; n < range.len; n++)
+        for (int k = 0; k < REGIONS; k++)
+            if (range.addr + n - m->regions[k].addr < m->regions[k].len)
+                *byte_at(m->former, range.addr + n) = *byte_at(m->bytes, range.addr + n);
+    return memcmp(m->former, m->bytes, sizeof m->bytes) == 0;
+}
+
+/* An interrupt is the device's only news to a host that doesn't read registers, so the report must not miss one. A
+ * device with a channel that executes can step, and one whose channels are stopped or faulting can't. */
+bool turn(machine *m, uint32_t channel, uint32_t most)
+{
+    dma330_device_turn t = {{1, 1}, 2, 2};
+    uint32_t lines = irqs(m), executing = 0, waiting = 0, status;
+    bool line = irq_abort(m);
+
+    memcpy(m->former, m->bytes, sizeof m->bytes);
+    must(dma330_device_step(&m->device, (uint8_t)channel, most, m->regions, REGIONS, &t), "dma330_device_step");
+    always(t.lines_changed == (lines != irqs(m) || line != irq_abort(m)), "a turn reports a change of the lines", channel);
+    always(wrote_only(m, t.written), "a turn reports what it wrote", channel);
+    always(t.can_step == can_step(m), "a turn reports whether there is more to do", channel);
+    for (uint32_t n = 0; n < DMA330_MAX_CHANNELS; n++) {
+        status = get(m, CSR + 8 * n) % 16;
+        executing += status == 1;
+        waiting += status == 4;
+    }
+    always(executing > 0 ? t.can_step == 1 : waiting > 0 || t.can_step == 0, "whether a channel can step", channel);
+    status = get(m, CSR + 8 * channel) % 16;
+    return status == 1 || status == 4;
+}
+
+bool run(machine *m, uint32_t channel)
+{
+    for (int n = 0; n < 100000 && get(m, CSR + 8 * channel) % 16 != 0; n++) {
+        if (!turn(m, channel, 1000))
+            return false;
+        if (get(m, CSR + 8 * channel) % 16 == 4)
+            return true;
+    }
+    return false;
+}
+
 bool are_registers_0(machine *m)
 {
     for (uint32_t offset = 0; offset < 0xE00; offset += 4)
@@ -171,10 +310,11 @@ bool are_registers_0(machine *m)
 
 bool are_same(machine *m, machine *other)
 {
-    for (uint32_t offset = 0; offset < BOARD_REGISTERS; offset += 4)
+    for (uint32_t offset = 0; offset < REGISTERS; offset += 4)
         if (get(m, offset) != get(other, offset))
             return false;
-    return memcmp(m->bytes, other->bytes, sizeof m->bytes) == 0;
+    return irqs(m) == irqs(other) && irq_abort(m) == irq_abort(other) && can_step(m) == can_step(other) &&
+           memcmp(m->bytes, other->bytes, sizeof m->bytes) == 0;
 }
 
 void check_work(machine *m, uint32_t channel, const char *what, uint32_t n)
@@ -184,8 +324,8 @@ void check_work(machine *m, uint32_t channel, const char *what, uint32_t n)
     want_copy(m, NEXT + 0x1003, FAR + 0x805, 2);
     set(m, INTEN, 1);
     start(m, channel, LOW + 0x2F00);
-    check(!board_step(&m->board, channel, 1000) && is_ram_wanted(m), what, n);
-    check(board_irqs(&m->board) == 1 && get(m, INTMIS) == 1 && get(m, CSR + 8 * channel) % 16 == 0, what, n);
+    check(!run(m, channel) && is_ram_wanted(m), what, n);
+    check(irqs(m) == 1 && get(m, INTMIS) == 1 && get(m, CSR + 8 * channel) % 16 == 0, what, n);
     set(m, INTCLR, 1);
-    check(board_irqs(&m->board) == 0 && get(m, INT_EVENT_RIS) % 2 == 0 && !board_irq_abort(&m->board), what, n);
+    check(irqs(m) == 0 && get(m, INTMIS) == 0 && !irq_abort(m), what, n);
 }

@@ -23,23 +23,10 @@ use Rattle.dma_chan.specs.declared.lent.Taken.{Taken}
 use Rattle.dma_ffi.specs.declared.channels.ChannelRegisters.{ChannelRegisters}
 use Rattle.dma_ffi.specs.declared.channel_steps.ChannelReport.{ChannelReport}
 use Rattle.dma_ffi.specs.declared.marked_channel.MarkedChannel.{MarkedChannel}
-use Rattle.dma_ffi.specs.Programs.{laid_into, room_code, where_fits}
+use Rattle.dma_ffi.specs.Calls.{OnOpen}
 use Rattle.dma_ffi.specs.Codes.{ok_code, not_open, already_open, no_memory, no_program, bad_kind, bad_range, bad_regions, bad_save, program_too_long, kind_number, transfer_code}
 
 -- ---- calls
-
--- A call on a channel and its marks. On a channel that isn't open it returns `not_open` and changes nothing. On an
--- open one it acts and returns a code as `does` says, and the channel stays open.
-abbrev pub OnOpen : (MarkedChannel → ℤ → MarkedChannel → Type 0)
-    → Option MarkedChannel → ℤ → Option MarkedChannel → Type 0
-OnOpen does None code new = (code ≡ not_open) × (new ≡ None)
-OnOpen does (Some m) code new = IsSomeAnd new (λ n. does m code n)
-
--- A call that can't fail on an open channel: it applies `change` and returns `ok_code`. On a channel that isn't open
--- it returns `not_open` and changes nothing.
-abbrev pub Becomes : (MarkedChannel → MarkedChannel) → Option MarkedChannel → ℤ → Option MarkedChannel → Type 0
-Becomes change None code new = (code ≡ not_open) × (new ≡ None)
-Becomes change (Some m) code new = (code ≡ ok_code) × (new ≡ Some (change m))
 
 -- A call that acts on the channel alone; the marks are unchanged.
 pub record OfChannel (does : ChannelValue → ℤ → ChannelValue → Type 0)
@@ -104,12 +91,6 @@ registers_of c = record {
   stored = c.stored;
 }
 
--- Writes the registers of an open channel and returns `ok_code`. On a channel that isn't open it writes nothing and
--- returns `not_open`. The channel is unchanged.
-abbrev pub WritesRegisters : Option MarkedChannel → ℤ → ChannelRegisters → ChannelRegisters → Option MarkedChannel → Type 0
-WritesRegisters None code before after new = (code ≡ not_open) × (after ≡ before) × (new ≡ None)
-WritesRegisters (Some m) code before after new = (code ≡ ok_code) × (after ≡ registers_of m.channel) × (new ≡ Some m)
-
 -- ---- marks
 
 -- whether a range can't be marked: it is empty, or ends above 2^32
@@ -131,16 +112,13 @@ unmarked m = record m { marks = [] }
 
 -- ---- saves
 
--- Writes the save of an open channel to the front of a buffer, and the length of the save, if the buffer has room for
--- it; else it writes nothing and returns `buffer_too_small`. The save has at most 8,500 bytes, and the channel
--- satisfies `IsChannelValue`. On a channel that isn't open it writes nothing and returns `not_open`. The channel is
--- unchanged.
-abbrev pub WritesSave : Option MarkedChannel → ℤ → List ℕ → List ℕ → ℕ → ℕ → Option MarkedChannel → Type 0
-WritesSave None code buffer out len written new = (code ≡ not_open) × (out ≡ buffer) × (written ≡ len) × (new ≡ None)
-WritesSave (Some m) code buffer out len written new =
-    (code ≡ room_code (saved m.channel) buffer) × (out ≡ laid_into (saved m.channel) buffer)
-    × (written ≡ where_fits (saved m.channel) buffer (length (saved m.channel)) len)
-    × (length (saved m.channel) ≤ most_saved) × IsChannelValue m.channel × (new ≡ Some m)
+-- the save of a channel; its marks aren't saved
+abbrev pub save_of : MarkedChannel → List ℕ
+save_of m = saved m.channel
+
+-- The save has at most 8,500 bytes, and the channel satisfies what every channel does.
+abbrev pub FitsSave : MarkedChannel → Type 0
+FitsSave m = (length (saved m.channel) ≤ most_saved) × IsChannelValue m.channel
 
 -- Makes the channel the one of a save: these bytes are its save, and no other value that satisfies `IsChannelValue`
 -- has this save. Fails with `bad_save` exactly if the bytes aren't a save, and then nothing changes.

@@ -12,6 +12,8 @@ use Rattle.dma_chan.specs.declared.program.ProgramFault.{ProgramFault}
 use Rattle.dma_chan.specs.declared.program.ProgramFault.TheVariants as programs
 use Rattle.dma_chan.specs.declared.turn.FaultKind.{FaultKind}
 use Rattle.dma_chan.specs.declared.turn.FaultKind.TheVariants.{UndefInstr, OperandInvalid, MfifoErr, StDataUnavailable, InstrFetchErr, DataWriteErr, DataReadErr}
+use Rattle.dma_device.specs.declared.config.NewFault.{NewFault as DeviceFault}
+use Rattle.dma_device.specs.declared.config.NewFault.TheVariants as devices
 use Rattle.dma_engine.specs.declared.call.Reply.{Reply}
 use Rattle.dma_engine.specs.declared.call.Reply.TheVariants.{Done, Bytes, Cookie, Count, Turned, State, Result as Resulted, Refused}
 use Rattle.dma_engine.specs.declared.fault.EngineFault.{EngineFault}
@@ -29,11 +31,11 @@ use Rattle.dma_engine.specs.declared.turn.Status.TheVariants.{Unknown, InProgres
 abbrev pub ok_code : ℤ
 ok_code = pos 0
 
--- the controller has no engine, or the channel isn't open
+-- the controller has no engine, or the channel or device isn't open
 abbrev pub not_open : ℤ
 not_open = negsuc 0
 
--- the controller has an engine already, or the channel is open already
+-- the controller has an engine already, or the channel or device is open already
 abbrev pub already_open : ℤ
 already_open = negsuc 1
 
@@ -73,17 +75,25 @@ bad_range = negsuc 14
 abbrev pub size_out_of_range : ℤ
 size_out_of_range = negsuc 20
 
--- there are more than 8 regions, they aren't in order, or one ends above the largest size of a memory
+-- there are more than 64 regions, they aren't in order, or one ends above 4,294,967,295
 abbrev pub bad_regions : ℤ
 bad_regions = negsuc 21
+
+-- no device can have this configuration
+abbrev pub bad_config : ℤ
+bad_config = negsuc 22
 
 -- a program is longer than 8,192 bytes
 abbrev pub program_too_long : ℤ
 program_too_long = negsuc 39
 
--- the bytes aren't a save of a channel
+-- the bytes aren't a save of a channel, or of any device
 abbrev pub bad_save : ℤ
 bad_save = negsuc 41
+
+-- the save is of a device of another version or configuration
+abbrev pub other_device : ℤ
+other_device = negsuc 42
 
 -- the code of a refused call
 abbrev pub fault_code : EngineFault → ℤ
@@ -102,6 +112,11 @@ abbrev pub new_code : NewFault → ℤ
 new_code engines.BadChannels = negsuc 19
 new_code engines.SizeOutOfRange = size_out_of_range
 new_code engines.NoMemory = no_memory
+
+-- the code of a fault for which no device is made
+abbrev pub device_code : DeviceFault → ℤ
+device_code devices.BadConfig = bad_config
+device_code devices.NoMemory = no_memory
 
 -- the code of a fault for which no transfer is made
 abbrev pub transfer_code : TransferFault → ℤ

@@ -5,7 +5,8 @@
 
 ghost use Rattle.std.specs.Prelude.{◌≡◌, None};
 ghost use Rattle.dma_mem.specs.Places.{copying};
-ghost use Rattle.dma_ffi.specs.Channels.{Becomes, LoadsBytes, LoadsCopy, LoadsFill, LoadsFrom, MarksRange, OnChannel, OnOpen, Opens, Restores, WritesRegisters, WritesSave, are_usable, registers_of, stopped, unmarked};
+ghost use Rattle.dma_ffi.specs.Calls.{Becomes, OnOpen, WritesSave, WritesValue};
+ghost use Rattle.dma_ffi.specs.Channels.{FitsSave, LoadsBytes, LoadsCopy, LoadsFill, LoadsFrom, MarksRange, OnChannel, Opens, Restores, are_usable, registers_of, save_of, stopped, unmarked};
 ghost use Rattle.dma_ffi.specs.Codes.{event_of, mark_kind};
 ghost use Rattle.dma_ffi.specs.inner.Loads.{LoadsMade};
 
@@ -221,8 +222,8 @@ pub extern "C" fn dma330_channel_registers(
     kept: &mut KeptChannel,
     registers: &mut ChannelRegisters,
 ) -> i32
-    ensures { WritesRegisters kept.old.channel.value result registers.old registers.new
-        kept.new.channel.value }
+    ensures { WritesValue (λ m. registers_of m.channel) kept.old.channel.value result
+        registers.old registers.new kept.new.channel.value }
 {
     let Some(marked) = kept.as_kept().get_mut() else {
         return NOT_OPEN;
@@ -275,8 +276,8 @@ pub extern "C" fn dma330_channel_save(
     out: &mut [u8],
     len: &mut usize,
 ) -> i32
-    ensures { WritesSave kept.old.channel.value result out.old out.new len.old len.new
-        kept.new.channel.value }
+    ensures { WritesSave save_of FitsSave kept.old.channel.value result out.old out.new
+        len.old len.new kept.new.channel.value }
 {
     let Some(marked) = kept.as_kept().get_mut() else {
         return NOT_OPEN;

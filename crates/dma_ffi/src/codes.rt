@@ -1,10 +1,11 @@
 //! The numbers that calls from C return and write.
 
 ghost use Rattle.std.specs.Prelude.{◌≡◌, unwrap_or};
-ghost use Rattle.dma_ffi.specs.Codes.{answer_code, cause_code, decode_code, event_of, fault_code, found_code, kind_number, mark_kind, new_code, program_code, result_number, status_code, transfer_code, value_or};
+ghost use Rattle.dma_ffi.specs.Codes.{answer_code, cause_code, decode_code, device_code, event_of, fault_code, found_code, kind_number, mark_kind, new_code, program_code, result_number, status_code, transfer_code, value_or};
 
 use dma_chan::program::ProgramFault;
 use dma_chan::turn::FaultKind;
+use dma_device::config;
 use dma_engine::{EngineFault, MarkKind, NewFault, Status, TransResult};
 use dma_insn::assembler::Cause;
 use dma_insn::codec::DecodeFault;
@@ -12,9 +13,9 @@ use dma_mem::transfer::TransferFault;
 
 /// The call succeeded.
 pub const OK: i32 = 0;
-/// The controller has no engine, or the channel isn't open.
+/// The controller has no engine, or the channel or device isn't open.
 pub const NOT_OPEN: i32 = -1;
-/// The controller has an engine already, or the channel is open already.
+/// The controller has an engine already, or the channel or device is open already.
 pub const ALREADY_OPEN: i32 = -2;
 /// Out of memory.
 pub const NO_MEMORY: i32 = -3;
@@ -36,10 +37,14 @@ pub const BAD_RANGE: i32 = -15;
 pub const SIZE_OUT_OF_RANGE: i32 = -21;
 /// There are more than 64 regions, they aren't in order, or one ends above 4,294,967,295.
 pub const BAD_REGIONS: i32 = -22;
+/// No device can have this configuration.
+pub const BAD_CONFIG: i32 = -23;
 /// A program is longer than 8,192 bytes.
 pub const PROGRAM_TOO_LONG: i32 = -40;
-/// The bytes aren't a save of a channel.
+/// The bytes aren't a save of a channel, or of any device.
 pub const BAD_SAVE: i32 = -42;
+/// The save is of a device of another version or configuration.
+pub const OTHER_DEVICE: i32 = -43;
 
 /// Returns the code of a refused call.
 pub fn code_of_fault(fault: EngineFault) -> i32
@@ -66,6 +71,16 @@ pub fn code_of_new(fault: NewFault) -> i32
         NewFault::BadChannels => -20,
         NewFault::SizeOutOfRange => SIZE_OUT_OF_RANGE,
         NewFault::NoMemory => NO_MEMORY,
+    }
+}
+
+/// Returns the code of a fault for which no device is made.
+pub fn code_of_device(fault: config::NewFault) -> i32
+    ensures { result ≡ device_code fault }
+{
+    match fault {
+        config::NewFault::BadConfig => BAD_CONFIG,
+        config::NewFault::NoMemory => NO_MEMORY,
     }
 }
 

@@ -1,6 +1,7 @@
 //! Laws about what calls from C return and write. Each law is the clause of a function that does nothing.
 
 ghost use Rattle.dma_ffi.specs.ChannelLaws.{LoadsATransfer, StepsAreCalls, StepsCopy, StepsKeepTheRest};
+ghost use Rattle.dma_ffi.specs.Devices.{CallsAreAccesses};
 ghost use Rattle.dma_ffi.specs.Laws.{CallsAreTheEngines, ExchangesAreTheEngines, SessionsAreTheEngines};
 
 /// A call from C on an open controller is answered by a list of the engine's own calls. So what is proved of such
@@ -27,4 +28,10 @@ pub fn channel_calls_copy()
     ensures steps { StepsCopy }
     ensures rest { StepsKeepTheRest }
     ensures calls { StepsAreCalls }
+{}
+
+/// Calls from C on an open device are accesses of the laws of `dma_device`. So what these say of lists of accesses holds
+/// of C's reads, writes and turns over the same regions, between which no call resets or restores the device.
+pub fn device_calls_are_accesses()
+    ensures { CallsAreAccesses }
 {}

@@ -1,4 +1,5 @@
-//! The C library: controllers and channels that the caller keeps, with one function for each call of `dma330.h`.
+//! The C library: controllers, channels and devices that the caller keeps, with one function for each call of
+//! `dma330.h`.
 //!
 //! Proved: each call returns the code of the engine's answer and writes what the answer has (`Returns`); the calls
 //! between an open and a close are calls of one engine (`laws::exchanges_are_the_engines`); a call that steps a
@@ -19,9 +20,12 @@ pub mod channels;
 mod codes;
 mod controller;
 pub mod controllers;
+mod device_config;
+pub mod devices;
 mod heap_pointer;
 mod kept;
 mod kept_channel;
+mod kept_device;
 pub mod laws;
 mod marked_channel;
 pub mod programs;

@@ -4,7 +4,7 @@ use std::error;
 use std::fmt;
 
 /// Why a call was refused: of the causes that the call's documentation lists, the first that applies. A refused call changes
-/// nothing.
+/// nothing, except for [`Device::restore`](crate::Device::restore) with `BadSave`.
 #[derive(Clone, Copy, Debug, PartialEq, Eq, Hash)]
 #[non_exhaustive]
 pub enum Error {
@@ -45,6 +45,8 @@ pub enum Error {
     /// There are more than 64 regions, or one begins before the end of the one before it (also if one of them is
     /// empty), or one ends above 4294967295.
     BadRegions,
+    /// No device can have this configuration.
+    BadConfig,
     /// A list has no segment.
     EmptyList,
     /// A list has more than 64 segments.
@@ -63,8 +65,10 @@ pub enum Error {
     SourceMeetsDestination,
     /// A program has more than 8192 bytes.
     ProgramTooLong,
-    /// The bytes are no save of a channel.
+    /// The bytes are no save of a channel, or of any device.
     BadSave,
+    /// The save is of a device of another version or configuration.
+    OtherDevice,
     /// A line of assembly text has a fault.
     Assembly {
         /// Its number, from 1.
@@ -110,7 +114,7 @@ pub(crate) const RUNNING: i32 = -16;
 const PROGRAM_TOO_LONG: i32 = -40;
 
 // The numbers of dma330.h.
-const CODES: [(i32, Error); 21] = [
+const CODES: [(i32, Error); 23] = [
     (-3, Error::NoMemory),
     (-4, Error::BadEvent),
     (-9, Error::NoProgram),
@@ -122,6 +126,7 @@ const CODES: [(i32, Error); 21] = [
     (-20, Error::BadChannels),
     (-21, Error::SizeOutOfRange),
     (-22, Error::BadRegions),
+    (-23, Error::BadConfig),
     (-30, Error::EmptyList),
     (-31, Error::TooManySegments),
     (-32, Error::EmptySegment),
@@ -132,6 +137,7 @@ const CODES: [(i32, Error); 21] = [
     (-37, Error::SourceMeetsDestination),
     (PROGRAM_TOO_LONG, Error::ProgramTooLong),
     (-42, Error::BadSave),
+    (-43, Error::OtherDevice),
 ];
 
 const ASSEMBLY_CODES: [(i32, AssemblyFault); 4] = [
@@ -224,6 +230,7 @@ impl fmt::Display for Error {
             Error::BadChannels => "the number of channels is not 1 to 8",
             Error::SizeOutOfRange => "the size is not 1 to 4294963200 bytes",
             Error::BadRegions => "there are more than 64 regions, or they don't rise, overlap, or end above 4294967295",
+            Error::BadConfig => "no device can have this configuration",
             Error::EmptyList => "a list has no segment",
             Error::TooManySegments => "a list has more than 64 segments",
             Error::EmptySegment => "a segment has length 0",
@@ -233,7 +240,8 @@ impl fmt::Display for Error {
             Error::DestinationsMeet => "two destination segments share an address",
             Error::SourceMeetsDestination => "a source and a destination segment share an address",
             Error::ProgramTooLong => "the program has more than 8192 bytes",
-            Error::BadSave => "the bytes are no save of a channel",
+            Error::BadSave => "the bytes are no save of a channel, or of any device",
+            Error::OtherDevice => "the save is of a device of another version or configuration",
             Error::Assembly { line, fault } => return write!(f, "line {line}: {fault}"),
             Error::Disassembly { offset, fault } => return write!(f, "offset {offset}: {fault}"),
         })

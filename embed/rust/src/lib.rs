@@ -19,7 +19,8 @@
 //! # Ok::<(), dma330::Error>(())
 //! ```
 //!
-//! A [`Channel`] runs a program over memory of its caller instead, as the RAM of a guest (`examples/guest_ram.rs`).
+//! A [`Channel`] runs a program over memory of its caller instead, as the RAM of a guest (`examples/guest_ram.rs`). A
+//! [`Device`] is the registers of a DMA-330, over channels that run a guest's programs in its RAM.
 //!
 //! The library behind it is proved. Not proved are this crate's own code and its declarations in `sys`, which a test
 //! compares with the library's. `docs/EMBEDDING.md` of the repository has more on memory, threads and marks.
@@ -27,11 +28,13 @@
 #![deny(missing_docs, unsafe_code)]
 
 mod channel;
+mod device;
 mod error;
 #[allow(missing_docs, unsafe_code)]
 mod sys;
 
 pub use channel::{Channel, ChannelSteps, ChannelTurn, Registers};
+pub use device::{BusWidth, Device, DeviceConfig, DeviceTurn, Revision};
 pub use error::{AssemblyFault, DisassemblyFault, Error};
 pub use sys::Region;
 
@@ -488,7 +491,7 @@ impl fmt::Debug for Controller {
 /// Returns the version of the library.
 ///
 /// ```
-/// assert_eq!(dma330::version(), "dilkwafam 1.1");
+/// assert_eq!(dma330::version(), "dilkwafam 1.2");
 /// ```
 pub fn version() -> String {
     let mut out = vec![0; 64];

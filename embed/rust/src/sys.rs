@@ -4,7 +4,8 @@
 //!
 //! - A controller is zeroed before it is opened, its members are never touched, and an open one is never copied:
 //!   [`Handle`] starts with zeros, gives nobody access to its members, and is neither `Copy` nor `Clone`. After a
-//!   move only the new owner can use it. The same is true of a channel and [`ChannelHandle`].
+//!   move only the new owner can use it. The same is true of a channel and [`ChannelHandle`], and of a device and
+//!   [`DeviceHandle`].
 //! - One call at a time: calls that change something take `&mut self`. Calls that only read take `&self` of a type that
 //!   isn't `Sync` (it is a cell), and no call of the library calls back. A handle may move to another thread, since the
 //!   check of the library proves that the type it holds is `Send`, and Rust orders what one thread does with a value
@@ -80,6 +81,32 @@ pub struct RawRunEnd {
 struct RawChannel {
     channel: *mut c_void,
     is_open: u8,
+}
+
+// Only the library reads and writes them.
+#[allow(dead_code)]
+#[repr(C)]
+struct RawDevice {
+    device: *mut c_void,
+    is_open: u8,
+}
+
+#[repr(C)]
+pub struct RawDeviceConfig {
+    pub channels: u32,
+    pub events: u32,
+    pub nonsecure: u32,
+    pub bus: u32,
+    pub lines: u32,
+    pub revision: u32,
+}
+
+#[repr(C)]
+#[derive(Default)]
+pub struct RawDeviceTurn {
+    pub written: Segment,
+    pub lines_changed: u32,
+    pub can_step: u32,
 }
 
 /// A part of the caller's memory, which a channel reads and writes while it is stepped: bytes, and the address of the first.
@@ -230,6 +257,25 @@ extern "C" {
     fn dma330_channel_unmark(channel: *mut RawChannel) -> i32;
     fn dma330_channel_save(channel: *mut RawChannel, out: *mut u8, room: usize, len: *mut usize) -> i32;
     fn dma330_channel_restore(channel: *mut RawChannel, save: *const u8, len: usize) -> i32;
+    fn dma330_device_open(device: *mut RawDevice, config: *const RawDeviceConfig) -> i32;
+    fn dma330_device_close(device: *mut RawDevice);
+    fn dma330_device_reset(device: *mut RawDevice) -> i32;
+    fn dma330_device_read(device: *mut RawDevice, offset: u32, value: *mut u32) -> i32;
+    fn dma330_device_write(device: *mut RawDevice, offset: u32, value: u32, regions: *const Region<'_>, count: usize)
+        -> i32;
+    fn dma330_device_step(
+        device: *mut RawDevice,
+        channel: u8,
+        most: u32,
+        regions: *mut Region<'_>,
+        count: usize,
+        turn: *mut RawDeviceTurn,
+    ) -> i32;
+    fn dma330_device_irqs(device: *mut RawDevice, lines: *mut u32) -> i32;
+    fn dma330_device_irq_abort(device: *mut RawDevice, line: *mut u32) -> i32;
+    fn dma330_device_can_step(device: *mut RawDevice, can_step: *mut u32) -> i32;
+    fn dma330_device_save(device: *mut RawDevice, out: *mut u8, room: usize, len: *mut usize) -> i32;
+    fn dma330_device_restore(device: *mut RawDevice, save: *const u8, len: usize) -> i32;
     fn dma330_version(out: *mut u8, room: usize, len: *mut usize) -> i32;
     fn dma330_run_program(
         program: *const u8,
@@ -517,6 +563,83 @@ impl ChannelHandle {
 impl Drop for ChannelHandle {
     fn drop(&mut self) {
         unsafe { dma330_channel_close(self.raw.get_mut()) }
+    }
+}
+
+/// A device that is open, and is closed when it is dropped.
+pub struct DeviceHandle {
+    raw: UnsafeCell<RawDevice>,
+}
+
+unsafe impl Send for DeviceHandle {}
+
+impl DeviceHandle {
+    pub fn open(config: &RawDeviceConfig) -> Result<DeviceHandle, Error> {
+        let closed = RawDevice { device: ptr::null_mut(), is_open: 0 };
+        let mut handle = DeviceHandle { raw: UnsafeCell::new(closed) };
+        let code = unsafe { dma330_device_open(handle.raw.get_mut(), config) };
+        checked(code, handle)
+    }
+
+    pub fn reset(&mut self) {
+        let code = unsafe { dma330_device_reset(self.raw.get_mut()) };
+        assert_eq!(code, OK);
+    }
+
+    // Returns the number that a call writes.
+    fn number(&self, call: unsafe extern "C" fn(*mut RawDevice, *mut u32) -> i32) -> u32 {
+        let mut number = 0;
+        let code = unsafe { call(self.raw.get(), &mut number) };
+        assert_eq!(code, OK);
+        number
+    }
+
+    pub fn read(&self, offset: u32) -> u32 {
+        let mut value = 0;
+        let code = unsafe { dma330_device_read(self.raw.get(), offset, &mut value) };
+        assert_eq!(code, OK);
+        value
+    }
+
+    pub fn write(&mut self, offset: u32, value: u32, regions: &[Region<'_>]) -> Result<(), Error> {
+        let (lent, count) = (regions.as_ptr(), regions.len());
+        checked(unsafe { dma330_device_write(self.raw.get_mut(), offset, value, lent, count) }, ())
+    }
+
+    pub fn step(&mut self, channel: u8, most: u32, regions: &mut [Region<'_>]) -> Result<RawDeviceTurn, Error> {
+        let mut turn = RawDeviceTurn::default();
+        let (lent, count) = (regions.as_mut_ptr(), regions.len());
+        let code = unsafe { dma330_device_step(self.raw.get_mut(), channel, most, lent, count, &mut turn) };
+        checked(code, turn)
+    }
+
+    pub fn irqs(&self) -> u32 {
+        self.number(dma330_device_irqs)
+    }
+
+    pub fn irq_abort(&self) -> bool {
+        self.number(dma330_device_irq_abort) != 0
+    }
+
+    pub fn can_step(&self) -> bool {
+        self.number(dma330_device_can_step) != 0
+    }
+
+    /// Writes a save of the device, and returns its length; `None` if it doesn't fit.
+    pub fn save(&self, out: &mut [u8]) -> Option<usize> {
+        let mut len = 0;
+        let code = unsafe { dma330_device_save(self.raw.get(), out.as_mut_ptr(), out.len(), &mut len) };
+        value_unless(BUFFER_TOO_SMALL, code, len)
+    }
+
+    pub fn restore(&mut self, save: &[u8]) -> Result<(), Error> {
+        checked(unsafe { dma330_device_restore(self.raw.get_mut(), save.as_ptr(), save.len()) }, ())
+    }
+}
+
+impl Drop for DeviceHandle {
+    fn drop(&mut self) {
+        unsafe { dma330_device_close(self.raw.get_mut()) }
     }
 }
 

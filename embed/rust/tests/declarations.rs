@@ -214,7 +214,7 @@ fn compare(wanted: &Calls, found: &Calls, whose: &str) {
 #[test]
 fn the_header_declares_what_the_library_exports() {
     let library = calls_of_library();
-    assert!(library.len() >= 41);
+    assert!(library.len() >= 52);
     compare(&library, &calls_of_header(), "dma330.h");
 }
 

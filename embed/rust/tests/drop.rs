@@ -1,6 +1,6 @@
-//! A dropped controller or channel is closed: its memory goes back to the heap.
+//! A dropped controller, channel or device is closed: its memory goes back to the heap.
 
-use dma330::{Channel, Controller, Error};
+use dma330::{BusWidth, Channel, Controller, Device, DeviceConfig, Error, Revision};
 use std::fs;
 use std::sync::Mutex;
 
@@ -22,7 +22,7 @@ fn open_write_and_drop(times: usize) -> Result<(), Error> {
     Ok(())
 }
 
-// Both tests measure the whole process, so only one may run at a time.
+// Each test measures the whole process, so only one may run at a time.
 static ALONE: Mutex<()> = Mutex::new(());
 
 #[test]
@@ -52,5 +52,19 @@ fn a_dropped_channel_gives_its_memory_back() -> Result<(), Error> {
     open_load_and_drop(50_000)?;
     let grown = resident().saturating_sub(before);
     assert!(grown < 40 * MIB / 1024, "50000 channels were dropped, and {grown} KiB are held");
+    Ok(())
+}
+
+#[test]
+fn a_dropped_device_gives_its_memory_back() -> Result<(), Error> {
+    let _alone = ALONE.lock();
+    let (bus, revision) = (BusWidth::Bits128, Revision::R1p2);
+    let config = DeviceConfig { channels: 8, events: 32, nonsecure: false, bus, lines: 128, revision };
+    let open_and_drop = |times| (0..times).try_for_each(|_| Device::open(config).map(drop));
+    open_and_drop(100)?;
+    let before = resident();
+    open_and_drop(10_000)?;
+    let grown = resident().saturating_sub(before);
+    assert!(grown < 40 * MIB / 1024, "10000 devices were dropped, and {grown} KiB are held");
     Ok(())
 }

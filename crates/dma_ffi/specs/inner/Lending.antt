@@ -2,6 +2,8 @@
 use Rattle.std.specs.Prelude.{Option, Some, true, refl}
 use Rattle.std.specs.Borrow.{Lends, LendsIf, MutBor, Fml}
 use denote.RattleType.{RattleType}
+use Rattle.dma_device.specs.Device.{DeviceValue}
+use Rattle.dma_device.specs.contracts.device.Device.{the_row as device_row}
 use Rattle.dma_engine.specs.View.{EngineState}
 use Rattle.dma_engine.specs.contracts.engine.Engine.{the_row as engine_row}
 use Rattle.dma_ffi.specs.declared.heap_pointer.HeapPointer.{HeapPointer}
@@ -12,6 +14,8 @@ use Rattle.dma_ffi.specs.declared.controller.Controller.{Controller}
 use Rattle.dma_ffi.specs.contracts.controller.Controller.{the_row as controller_row}
 use Rattle.dma_ffi.specs.declared.kept_channel.KeptChannel.{KeptChannel}
 use Rattle.dma_ffi.specs.contracts.kept_channel.KeptChannel.{the_row as kept_channel_row}
+use Rattle.dma_ffi.specs.declared.kept_device.KeptDevice.{KeptDevice}
+use Rattle.dma_ffi.specs.contracts.kept_device.KeptDevice.{the_row as kept_device_row}
 use Rattle.dma_ffi.specs.declared.marked_channel.MarkedChannel.{MarkedChannel}
 use Rattle.dma_ffi.specs.contracts.marked_channel.MarkedChannel.{the_row as channel_row}
 
@@ -42,3 +46,11 @@ as_channel k = record { channel = record { at = k.at.at; value = k.at.value }; i
 -- a channel lends itself as a kept one
 abbrev pub LendsKeptChannel : MutBor KeptChannel → MutBor (Kept MarkedChannel) → Fml
 LendsKeptChannel s r = Lends kept_channel_row (kept_row channel_row) s r as_channel
+
+-- a kept device in the form for C
+abbrev pub as_device : Kept DeviceValue → KeptDevice
+as_device k = record { device = record { at = k.at.at; value = k.at.value }; is_open = k.is_open; holds = k.holds }
+
+-- a device lends itself as a kept one
+abbrev pub LendsKeptDevice : MutBor KeptDevice → MutBor (Kept DeviceValue) → Fml
+LendsKeptDevice s r = Lends kept_device_row (kept_row device_row) s r as_device

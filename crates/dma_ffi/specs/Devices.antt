@@ -1,0 +1,156 @@
+-- What a call from C on a device does and returns.
+use Rattle.std.specs.Prelude.{◌≡◌, ℕ, ◌≤◌, ◌⊎◌, ◌==◌, Bool, true, false, not, ℤ, Option, Some, None, IsSomeAnd, if◌then◌else◌, List, Result, Ok, Err, length, min}
+use Rattle.std.specs.List.{list_any}
+use Rattle.dma_mem.specs.Regions.{pieces_of}
+use Rattle.dma_mem.specs.declared.regions.Region.{Region}
+use Rattle.dma_device.specs.Accesses.{Does, Done, Reads, Turned, Turns, Value, Writes}
+use Rattle.dma_device.specs.Config.{is_valid}
+use Rattle.dma_device.specs.Device.{DeviceValue, irq_abort, read_at, reset_device, written}
+use Rattle.dma_device.specs.Snapshot.{IsDeviceValue, IsOfOther, most_saved, saved_device}
+use Rattle.dma_device.specs.Thread.{can_step}
+use Rattle.dma_device.specs.Turns.{TakesTurn, visible_events}
+use Rattle.dma_device.specs.declared.config.BusWidth.{BusWidth}
+use Rattle.dma_device.specs.declared.config.BusWidth.TheVariants.{Bits32, Bits64, Bits128}
+use Rattle.dma_device.specs.declared.config.Config.{Config}
+use Rattle.dma_device.specs.declared.config.Revision.{Revision}
+use Rattle.dma_device.specs.declared.config.Revision.TheVariants.{R0p0, R1p0, R1p1, R1p2}
+use Rattle.dma_device.specs.declared.device.turns.Turn.{Turn}
+use Rattle.dma_device.specs.declared.save.RestoreFault.{RestoreFault}
+use Rattle.dma_device.specs.declared.save.RestoreFault.TheVariants.{BadSave, OtherDevice}
+use Rattle.dma_ffi.specs.declared.device_config.DeviceConfig.{DeviceConfig}
+use Rattle.dma_ffi.specs.declared.devices.DeviceTurn.{DeviceTurn}
+use Rattle.dma_ffi.specs.Calls.{OnOpen, WritesValue}
+use Rattle.dma_ffi.specs.Channels.{are_usable}
+use Rattle.dma_ffi.specs.Codes.{already_open, bad_config, bad_regions, bad_save, no_memory, not_open, ok_code, other_device}
+
+-- ---- the configuration
+
+-- the bus of this many bits, if any
+abbrev pub bus_of : ℕ → Option BusWidth
+bus_of bits =
+    if bits == 32 then Some Bits32 else (
+    if bits == 64 then Some Bits64 else (
+    if bits == 128 then Some Bits128 else None))
+
+-- the revision with this code, if any
+abbrev pub revision_of : ℕ → Option Revision
+revision_of code =
+    if code == 0 then Some R0p0 else (
+    if code == 1 then Some R1p0 else (
+    if code == 2 then Some R1p1 else (
+    if code == 3 then Some R1p2 else None)))
+
+-- the configuration of these numbers, with this bus and revision, if any
+abbrev pub config_with : DeviceConfig → Option BusWidth → Option Revision → Option Config
+config_with c (Some bus) (Some revision) = Some (record {
+  channels = min c.channels 255;
+  events = min c.events 255;
+  nonsecure = not (c.nonsecure == 0);
+  bus = bus;
+  lines = min c.lines 65535;
+  revision = revision;
+})
+config_with c _ _ = None
+
+-- The configuration of these numbers, if any. A count above the largest that its field can have becomes the largest,
+-- which no device can have either.
+abbrev pub config_of : DeviceConfig → Option Config
+config_of c = config_with c (bus_of c.bus) (revision_of c.revision)
+
+-- whether a device can have these numbers
+abbrev pub is_possible : Option Config → Bool
+is_possible None = false
+is_possible (Some g) = is_valid g
+
+-- Opens a device. If it is open already: `already_open`, and nothing changes. Else `ok_code`, and the device is that of
+-- these numbers in its state after a reset; or it stays closed, with `bad_config` exactly if no device can have the
+-- numbers, else with `no_memory`.
+abbrev pub Opens : DeviceConfig → Option DeviceValue → ℤ → Option DeviceValue → Type 0
+Opens c (Some d) code new = (code ≡ already_open) × (new ≡ Some d)
+Opens c None code None = code ≡ (if is_possible (config_of c) then no_memory else bad_config)
+Opens c None code (Some d) =
+    (code ≡ ok_code) × (is_possible (config_of c) ≡ true) × (config_of c ≡ Some d.config) × (d ≡ reset_device d.config)
+
+-- ---- registers
+
+-- Writes a register of an open device, over the RAM of these regions. Fails with `bad_regions` exactly if the regions
+-- aren't usable, and then nothing changes.
+abbrev pub WritesRegister : List Region → ℕ → ℕ → DeviceValue → ℤ → DeviceValue → Type 0
+WritesRegister regions at value d code e =
+    ((code ≡ bad_regions) × (are_usable regions ≡ false) × (e ≡ d))
+    ⊎ ((code ≡ ok_code) × (are_usable regions ≡ true) × (e ≡ written (pieces_of regions) at value d))
+
+-- ---- turns and lines
+
+-- the number of the line irq_abort
+abbrev pub abort_line : DeviceValue → ℕ
+abort_line d = if irq_abort d then 1 else 0
+
+-- 1 if a step of any channel does more than wait, else 0
+abbrev pub any_can_step : DeviceValue → ℕ
+any_can_step d = if list_any (can_step (visible_events d)) d.threads then 1 else 0
+
+-- the report of a turn that left a device like this
+abbrev pub report_of : Turn → DeviceValue → DeviceTurn
+report_of turn e = record {
+  written = turn.written;
+  lines_changed = if turn.lines_changed then 1 else 0;
+  can_step = any_can_step e;
+}
+
+-- A call from C that takes a turn of channel `n`, of at most `most` steps: the device, if it is open, the regions that
+-- C lends, and the report, before and after. On a device that isn't open, else over regions that aren't usable, it
+-- returns the code for that and changes nothing.
+abbrev pub ReportsTurn : ℕ → ℕ → Option DeviceValue → List Region → DeviceTurn → ℤ
+    → Option DeviceValue → List Region → DeviceTurn → Type 0
+ReportsTurn n most None regions before code new left report =
+    (code ≡ not_open) × (new ≡ None) × (left ≡ regions) × (report ≡ before)
+ReportsTurn n most (Some d) regions before code new left report =
+    ((code ≡ bad_regions) × (are_usable regions ≡ false) × (new ≡ Some d) × (left ≡ regions) × (report ≡ before))
+    ⊎ ((code ≡ ok_code) × (are_usable regions ≡ true) × IsSomeAnd new (λ e. (turn : Turn)
+    × TakesTurn d regions n most e left turn × (report ≡ report_of turn e)))
+
+-- ---- saves
+
+-- The save has at most 68,200 bytes, and the device satisfies what every device does.
+abbrev pub FitsSave : DeviceValue → Type 0
+FitsSave d = (length (saved_device d) ≤ most_saved) × IsDeviceValue d
+
+-- The bytes are the save of this device, which has this configuration.
+pub record IsSaveOf (save : List ℕ) (g : Config) (d : DeviceValue) : Type 0 where
+  pub value : IsDeviceValue d
+  pub config : d.config ≡ g
+  pub bytes : save ≡ saved_device d
+
+-- the code of the answer to a restore
+abbrev pub restore_code : {A : Type 0} → Result A RestoreFault → ℤ
+restore_code (Ok x) = ok_code
+restore_code (Err OtherDevice) = other_device
+restore_code (Err BadSave) = bad_save
+
+-- Makes the device the one of a save: these bytes are its save, and no other device of its configuration has this save.
+-- Fails with `other_device` exactly if the bytes begin as the save of a device of another version or configuration, and
+-- then nothing changes; else with `bad_save` exactly if they are the save of no device, and then the device is in its
+-- state after a reset.
+abbrev pub Restores : List ℕ → DeviceValue → ℤ → DeviceValue → Type 0
+Restores save d code e =
+    ((code ≡ ok_code) × (save ≡ saved_device e) × (e.config ≡ d.config)
+    × ((f : DeviceValue) → IsSaveOf save d.config f → e ≡ f))
+    ⊎ (((code ≡ other_device) × IsOfOther d.config save × (e ≡ d))
+    ⊎ ((code ≡ bad_save) × (¬ IsOfOther d.config save) × ((f : DeviceValue) → ¬ IsSaveOf save d.config f)
+    × (e ≡ reset_device d.config)))
+
+-- ---- as accesses
+
+-- Calls from C on an open device are accesses (specs/Accesses.antt of dma_device): a read; a write that returns
+-- `ok_code`; and a turn that returns `ok_code`, of which C gets the report.
+pub record CallsAreAccesses : Type 0 where
+  pub reads : (d : DeviceValue) (at before value : ℕ) (code : ℤ) (new : Option DeviceValue) (regions : List Region) →
+      WritesValue (λ (e : DeviceValue). read_at e at) (Some d) code before value new →
+      (new ≡ Some d) × Does (Reads at) d regions (Value value) d regions
+  pub writes : (d e : DeviceValue) (at value : ℕ) (regions : List Region) →
+      OnOpen (WritesRegister regions at value) (Some d) ok_code (Some e) →
+      Does (Writes at value) d regions Done e regions
+  pub turns : (d e : DeviceValue) (n most : ℕ) (regions left : List Region) (before report : DeviceTurn) →
+      ReportsTurn n most (Some d) regions before ok_code (Some e) left report →
+      (turn : Turn) × (report ≡ report_of turn e) × Does (Turns n most) d regions (Turned turn) e left

@@ -1,0 +1,234 @@
+//! Devices that C keeps: the registers of a DMA-330 over memory that C lends for the duration of a call. The caller has
+//! the same duties as for a channel.
+
+ghost use Rattle.std.specs.Prelude.{◌≡◌, None};
+ghost use Rattle.dma_device.specs.Device.{irqs, read_at, reset_device};
+ghost use Rattle.dma_device.specs.Snapshot.{saved_device};
+ghost use Rattle.dma_ffi.specs.Calls.{Becomes, OnOpen, WritesSave, WritesValue};
+ghost use Rattle.dma_ffi.specs.Devices.{FitsSave, Opens, ReportsTurn, Restores, WritesRegister, abort_line, any_can_step, report_of, restore_code};
+
+use crate::channels::are_usable;
+use crate::codes::{
+    ALREADY_OPEN, BAD_CONFIG, BAD_REGIONS, BAD_SAVE, BUFFER_TOO_SMALL, NO_MEMORY, NOT_OPEN, OK,
+    OTHER_DEVICE, code_of_device, found,
+};
+use crate::device_config::{DeviceConfig, config_of};
+use crate::kept_device::KeptDevice;
+use dma_device::device::Device;
+use dma_device::device::turns::Turn;
+use dma_device::save::RestoreFault;
+use dma_mem::regions::Region;
+use dma_mem::segment::Segment;
+use std::alloc::Global;
+
+/// What a turn of a device's channel did.
+#[repr(C)]
+#[derive(Clone, Copy)]
+pub struct DeviceTurn {
+    /// The smallest range that contains all addresses that it wrote; its length is 0 if it wrote nothing.
+    pub written: Segment,
+    /// 1 if a line of irq[31:0], or irq_abort, has changed, else 0.
+    pub lines_changed: u32,
+    /// 1 if a step of any channel does more than wait, else 0.
+    pub can_step: u32,
+}
+
+/// Opens a device in its state after a reset. Fails if it is open already, if no device can have the configuration, or
+/// if out of memory.
+#[unsafe(no_mangle)]
+pub extern "C" fn dma330_device_open(
+    alloc: Global,
+    kept: &mut KeptDevice,
+    config: &DeviceConfig,
+) -> i32
+    ensures { Opens config.now kept.old.device.value result kept.new.device.value }
+{
+    let kept = kept.as_kept();
+    if kept.is_open() {
+        return ALREADY_OPEN;
+    }
+    let Some(config) = config_of(config) else {
+        return BAD_CONFIG;
+    };
+    let device = match Device::new(alloc, config) {
+        Ok(device) => device,
+        Err(fault) => return code_of_device(fault),
+    };
+    let Ok(device) = Box::new(alloc, device) else {
+        return NO_MEMORY;
+    };
+    kept.open(device);
+    OK
+}
+
+/// Closes a device and frees its memory, if it is open.
+#[unsafe(no_mangle)]
+pub extern "C" fn dma330_device_close(alloc: Global, kept: &mut KeptDevice)
+    ensures { kept.new.device.value ≡ None }
+{
+    kept.as_kept().close(alloc);
+}
+
+/// Puts the device into its state after a reset.
+#[unsafe(no_mangle)]
+pub extern "C" fn dma330_device_reset(kept: &mut KeptDevice) -> i32
+    ensures { Becomes (λ d. reset_device d.config) kept.old.device.value result
+        kept.new.device.value }
+{
+    let Some(device) = kept.as_kept().get_mut() else {
+        return NOT_OPEN;
+    };
+    device.reset();
+    OK
+}
+
+// ---- the guest's accesses
+
+/// Reads the register at this offset for the guest. An offset that has no register reads as 0.
+#[unsafe(no_mangle)]
+pub extern "C" fn dma330_device_read(kept: &mut KeptDevice, offset: u32, value: &mut u32) -> i32
+    ensures { WritesValue (λ d. read_at d offset) kept.old.device.value result value.old value.new
+        kept.new.device.value }
+{
+    let Some(device) = kept.as_kept().get_mut() else {
+        return NOT_OPEN;
+    };
+    *value = device.read(offset);
+    OK
+}
+
+/// Writes the register at this offset for the guest. An offset that has no register ignores writes. A DMAGO reads its
+/// program from the regions, which every call tests. Fails if they aren't usable.
+#[unsafe(no_mangle)]
+pub extern "C" fn dma330_device_write(
+    kept: &mut KeptDevice,
+    offset: u32,
+    value: u32,
+    regions: &[Region<'_>],
+) -> i32
+    ensures { OnOpen (WritesRegister regions.now offset value) kept.old.device.value result
+        kept.new.device.value }
+{
+    let Some(device) = kept.as_kept().get_mut() else {
+        return NOT_OPEN;
+    };
+    if are_usable(regions) {
+        device.write(offset, value, regions);
+        OK
+    } else {
+        BAD_REGIONS
+    }
+}
+
+// ---- turns and lines
+
+// Returns the report of a turn that left the device like this.
+fn report_of(turn: Turn, device: &Device) -> DeviceTurn
+    ensures { result ≡ report_of turn device.now }
+{
+    DeviceTurn {
+        written: turn.written,
+        lines_changed: u32::from(turn.lines_changed),
+        can_step: u32::from(device.can_step()),
+    }
+}
+
+/// Takes a turn of a channel over the regions, at most `most` steps, and writes its report. A channel that the device
+/// doesn't have, or that is stopped or faulting, does nothing. Fails if the regions aren't usable.
+#[unsafe(no_mangle)]
+pub extern "C" fn dma330_device_step(
+    kept: &mut KeptDevice,
+    channel: u8,
+    most: u32,
+    regions: &mut [Region<'_>],
+    turn: &mut DeviceTurn,
+) -> i32
+    ensures { ReportsTurn channel most kept.old.device.value regions.old turn.old result
+        kept.new.device.value regions.new turn.new }
+{
+    let Some(device) = kept.as_kept().get_mut() else {
+        return NOT_OPEN;
+    };
+    if !are_usable(regions) {
+        return BAD_REGIONS;
+    }
+    let taken = device.step(channel, most, regions);
+    *turn = report_of(taken, device);
+    OK
+}
+
+/// Writes the lines irq[31:0].
+#[unsafe(no_mangle)]
+pub extern "C" fn dma330_device_irqs(kept: &mut KeptDevice, lines: &mut u32) -> i32
+    ensures { WritesValue irqs kept.old.device.value result lines.old lines.new
+        kept.new.device.value }
+{
+    let Some(device) = kept.as_kept().get_mut() else {
+        return NOT_OPEN;
+    };
+    *lines = device.irqs();
+    OK
+}
+
+/// Writes the line irq_abort: 1 if it is high, else 0.
+#[unsafe(no_mangle)]
+pub extern "C" fn dma330_device_irq_abort(kept: &mut KeptDevice, line: &mut u32) -> i32
+    ensures { WritesValue abort_line kept.old.device.value result line.old line.new
+        kept.new.device.value }
+{
+    let Some(device) = kept.as_kept().get_mut() else {
+        return NOT_OPEN;
+    };
+    *line = u32::from(device.irq_abort());
+    OK
+}
+
+/// Writes 1 if a step of any channel does more than wait, else 0.
+#[unsafe(no_mangle)]
+pub extern "C" fn dma330_device_can_step(kept: &mut KeptDevice, can_step: &mut u32) -> i32
+    ensures { WritesValue any_can_step kept.old.device.value result can_step.old can_step.new
+        kept.new.device.value }
+{
+    let Some(device) = kept.as_kept().get_mut() else {
+        return NOT_OPEN;
+    };
+    *can_step = u32::from(device.can_step());
+    OK
+}
+
+// ---- saves
+
+/// Writes the device as plain bytes to `out`, and their number to `len`. Fails if `out` is too small.
+#[unsafe(no_mangle)]
+pub extern "C" fn dma330_device_save(kept: &mut KeptDevice, out: &mut [u8], len: &mut usize) -> i32
+    ensures { WritesSave saved_device FitsSave kept.old.device.value result out.old out.new
+        len.old len.new kept.new.device.value }
+{
+    let Some(device) = kept.as_kept().get_mut() else {
+        return NOT_OPEN;
+    };
+    found(device.save(out), len, BUFFER_TOO_SMALL)
+}
+
+// Returns the code of the answer to a restore.
+fn code_of_restore(answer: Result<(), RestoreFault>) -> i32
+    ensures { result ≡ restore_code answer }
+{
+    match answer {
+        Ok(()) => OK,
+        Err(RestoreFault::OtherDevice) => OTHER_DEVICE,
+        Err(RestoreFault::BadSave) => BAD_SAVE,
+    }
+}
+
+/// Restores the device from a save. Fails if the save is of a device of another version or configuration. Fails too if
+/// the bytes are the save of no device, and then the device is in its state after a reset.
+#[unsafe(no_mangle)]
+pub extern "C" fn dma330_device_restore(kept: &mut KeptDevice, save: &[u8]) -> i32
+    ensures { OnOpen (Restores save.now) kept.old.device.value result kept.new.device.value }
+{
+    let Some(device) = kept.as_kept().get_mut() else {
+        return NOT_OPEN;
+    };
+    code_of_restore(device.restore(save))
+}

@@ -1,0 +1,357 @@
+/* Tests the saves of dma330_device, whole and forged, and RAM that the guest's processor changes and the host moves
+ * between turns. */
+#include "guest.h"
+
+#include <string.h>
+
+static machine m, other;
+
+/* ---- saves ---- */
+
+typedef struct save {
+    uint8_t bytes[DMA330_MAX_DEVICE_SAVE + 1];
+    size_t len;
+} save;
+
+static void take(machine *from, save *to)
+{
+    to->len = 0;
+    check(dma330_device_save(&from->device, to->bytes, DMA330_MAX_DEVICE_SAVE, &to->len) == DMA330_OK, "a save", 0);
+    check(to->len > 0 && to->len <= DMA330_MAX_DEVICE_SAVE, "its length", (uint32_t)to->len);
+}
+
+/* Returns whether the device has this save. */
+static bool has(machine *from, const save *wanted)
+{
+    static save found;
+
+    take(from, &found);
+    return found.len == wanted->len && memcmp(found.bytes, wanted->bytes, found.len) == 0;
+}
+
+/* The offsets in a save, and the length of its head (docs/FORMATS.md). */
+enum { VERSION = 7, CONFIG = 8, MANAGER_FAULTS = 15, EVENTS = 20, INTERRUPTS = 24, INTEN_AT = 28, HEAD = 40 };
+
+/* ---- devices of other configurations ---- */
+
+enum { OTHERS = 6 };
+
+static dma330_device strangers[OTHERS];
+
+static void open_strangers(dma330_device_config config)
+{
+    dma330_device_config g[OTHERS];
+
+    for (int n = 0; n < OTHERS; n++)
+        g[n] = config;
+    g[0].channels++;
+    g[1].events--;
+    g[2].nonsecure = 1;
+    g[3].bus = config.bus == 64 ? 128 : 64;
+    g[4].lines--;
+    g[5].revision = 0;
+    for (int n = 0; n < OTHERS; n++) {
+        memset(&strangers[n], 0, sizeof strangers[n]);
+        check(open_device(&strangers[n], &g[n]) == DMA330_OK, "another configuration", (uint32_t)n);
+        dma330_device_write(&strangers[n], INTEN, 5, m.regions, REGIONS);
+    }
+}
+
+static void check_strangers(const save *from)
+{
+    uint32_t value;
+
+    for (uint32_t n = 0; n < OTHERS; n++) {
+        check(dma330_device_restore(&strangers[n], from->bytes, from->len) == DMA330_OTHER_DEVICE, "is refused", n);
+        check(dma330_device_read(&strangers[n], INTEN, &value) == DMA330_OK && value == 5, "and changes nothing", n);
+    }
+}
+
+static void close_strangers(void)
+{
+    for (int n = 0; n < OTHERS; n++)
+        dma330_device_close(&strangers[n]);
+}
+
+/* ---- a save at each step ---- */
+
+/* Three channels, of which one copies, one waits for it and then copies, and one fails. */
+static void begin(machine *k, dma330_device_config config)
+{
+    set_up(k, config);
+    put_copy(k, LOW, NO_EVENT, LOW + 0x400, FAR + 1, 2, 1);
+    put_copy(k, LOW + 0x80, 1, FAR, NEXT, 1, 2);
+    put_copy(k, LOW + 0x100, NO_EVENT, NEXT_END - 700, FAR + 0x1000, 2, 0);
+    want_ram(k);
+    want_copy(k, LOW + 0x400, FAR + 1, 2);
+    want_copy(k, FAR, NEXT, 1);
+    memcpy(byte_at(k->wanted, FAR + 0x1000), byte_at(k->wanted, NEXT_END - 700), 640);
+    set(k, INTEN, 1 << 2);
+    for (uint32_t n = 0; n < 3; n++)
+        start(k, n, LOW + 0x80 * n);
+}
+
+static void go_to_the_end(machine *k, uint32_t step)
+{
+    run(k, 0);
+    run(k, 2);
+    check(!run(k, 1) && !can_step(k) && is_ram_wanted(k), "goes on to the end", step);
+    check(irqs(k) == 1 << 2 && get(k, INT_EVENT_RIS) == 1 << 2, "its interrupt", step);
+    check(get(k, FSRC) == 4 && get(k, FTR + 8) == 1 << 18 && irq_abort(k), "its fault", step);
+}
+
+static void restores_at_each_step(uint32_t bus)
+{
+    static save now;
+    dma330_device_config config = plain(3, 8, false);
+    uint32_t step = 0;
+
+    config.bus = bus;
+    begin(&m, config);
+    set_up(&other, config);
+    memcpy(other.wanted, m.wanted, sizeof m.wanted);
+    open_strangers(config);
+    for (bool goes_on = true; goes_on && step < 1000; step++) {
+        take(&m, &now);
+        memcpy(other.bytes, m.bytes, sizeof m.bytes);
+        check(dma330_device_restore(&other.device, now.bytes, now.len) == DMA330_OK, "a save is restored", step);
+        check(are_same(&m, &other) && has(&other, &now), "to the same device", step);
+        check_strangers(&now);
+        go_to_the_end(&other, step);
+        goes_on = false;
+        for (uint32_t n = 0; n < 3; n++)
+            goes_on = turn(&m, n, 1) || goes_on;
+    }
+    check(step > 100 && step < 1000, "it has many steps", step);
+    go_to_the_end(&m, step);
+    close_strangers();
+    tear_down(&other);
+    tear_down(&m);
+}
+
+/* ---- RAM between turns ---- */
+
+/* Channel 0's program as the DMAGO reads it, at LOW, and its buffer. */
+static uint8_t program[0x40], buffer[64];
+
+/* Does to the wanted bytes what the next instruction of channel 0 does to RAM: a DMALD takes a burst at SAR as it is now,
+ * and a DMAST writes it at DAR. */
+static void want_step(void)
+{
+    uint32_t code = program[get(&m, CPC) - LOW], sar = get(&m, SAR), dar = get(&m, DAR);
+
+    for (uint32_t n = 0; n < sizeof buffer; n++) {
+        if (code == DMALD)
+            buffer[n] = *byte_at(m.wanted, sar + n);
+        if (code == DMAST)
+            *byte_at(m.wanted, dar + n) = buffer[n];
+    }
+}
+
+/* The processor writes some bytes anywhere in RAM, the program included, whose bytes the DMAGO has read. */
+static void write_anywhere(uint32_t *seed)
+{
+    for (int n = 0; n < 40; n++) {
+        *seed = *seed * 1664525 + 1013904223;
+        *byte_at(m.bytes, LOW + *seed / 4 % 0x3000) = *byte_at(m.wanted, LOW + *seed / 4 % 0x3000) = (uint8_t)(*seed >> 24);
+    }
+}
+
+/* Between two turns the processor writes to RAM, and the host moves all of it to another place. */
+static void copies_what_is_there(uint32_t bus)
+{
+    static uint8_t places[2][ALL_BYTES];
+    dma330_device_config config = plain(1, 8, false);
+    uint32_t seed = bus, step;
+
+    config.bus = bus;
+    set_up(&m, config);
+    put_copy(&m, LOW, NO_EVENT, LOW + 0x43, LOW + 0x1801, 8, 1);
+    memcpy(program, byte_at(m.bytes, LOW), sizeof program);
+    want_ram(&m);
+    start(&m, 0, LOW);
+    for (step = 0; get(&m, CSR) != 0 && step < 1000; step++) {
+        dma330_device_turn t;
+
+        want_step();
+        memcpy(places[step % 2], m.bytes, sizeof m.bytes);
+        memset(places[1 - step % 2], 0xEE, sizeof places[0]);
+        for (int n = 0; n < REGIONS; n++)
+            m.regions[n].bytes = places[step % 2] + (m.regions[n].bytes - (step == 0 ? m.bytes : places[1 - step % 2]));
+        check(dma330_device_step(&m.device, 0, 1, m.regions, REGIONS, &t) == DMA330_OK, "a turn", step);
+        memcpy(m.bytes, places[step % 2], sizeof m.bytes);
+        check(is_ram_wanted(&m), "RAM after a turn", step);
+        write_anywhere(&seed);
+    }
+    check(step > 300 && get(&m, DAR) == LOW + 0x1801 + 8 * 512 && get(&m, INT_EVENT_RIS) == 1 << 1, "it has ended", step);
+    lend(&m);
+    tear_down(&m);
+}
+
+/* ---- forged saves ---- */
+
+static save good, bad, reset;
+
+/* Restores bytes into a device that has `good`. What is restored has exactly these bytes as its save; bytes of another
+ * device change nothing; and others leave the device as after a reset. Then anything may run. */
+static int32_t forged(const save *bytes, uint32_t n)
+{
+    int32_t code;
+
+    dma330_device_restore(&other.device, good.bytes, good.len);
+    code = dma330_device_restore(&other.device, bytes->bytes, bytes->len);
+    if (code == DMA330_OK)
+        check(has(&other, bytes), "forged bytes are the device's save", n);
+    else if (code == DMA330_OTHER_DEVICE)
+        check(has(&other, &good), "bytes of another device change nothing", n);
+    else
+        check(code == DMA330_BAD_SAVE && has(&other, &reset), "bytes of no device reset it", n);
+    for (uint32_t channel = 0; channel < 3; channel++)
+        turn(&other, channel, 100);
+    return code;
+}
+
+/* A word of the save becomes another. */
+static int32_t forged_word(size_t at, uint32_t word)
+{
+    bad = good;
+    for (int n = 0; n < 4; n++)
+        bad.bytes[at + n] = (uint8_t)(word >> 8 * n);
+    return forged(&bad, (uint32_t)at);
+}
+
+static void refuses_forged_words(void)
+{
+    static const size_t flags[] = {EVENTS, INTERRUPTS, INTEN_AT};
+
+    for (int n = 0; n < 3; n++) {
+        check(forged_word(flags[n], 0xFF) == DMA330_OK, "events of the device", (uint32_t)n);
+        check(forged_word(flags[n], 0x100) == DMA330_BAD_SAVE, "an event that it doesn't have", (uint32_t)n);
+        check(forged_word(flags[n], 0x80000000) == DMA330_BAD_SAVE, "the last event", (uint32_t)n);
+    }
+    check(forged_word(HEAD, 0) == DMA330_BAD_SAVE, "a stopped channel with a program", 0);
+    check(forged_word(HEAD, 15) == DMA330_OK, "a faulting one", 0);
+    check(forged_word(HEAD, 4 | 7 << 4) == DMA330_OK, "one that waits", 0);
+    check(forged_word(HEAD, 4 | 8 << 4) == DMA330_BAD_SAVE, "for an event that the device doesn't have", 0);
+    check(forged_word(HEAD, 2) == DMA330_BAD_SAVE, "a status that no channel has", 0);
+    check(forged_word(HEAD, 1 | 1 << 22) == DMA330_BAD_SAVE, "a bit that CSR doesn't have", 0);
+    check(forged_word(HEAD + 16, 0xFFFFFFFF) == DMA330_BAD_SAVE, "a length past the end", 0);
+    check(forged_word(MANAGER_FAULTS, good.bytes[MANAGER_FAULTS] ^ 2) == DMA330_BAD_SAVE, "a truth of 2 or 3", 0);
+}
+
+/* Each byte becomes each of some others, each save is cut at each place, and each gets one more byte. */
+static void restores_anything(void)
+{
+    static const uint8_t flips[] = {0x01, 0x80, 0xFF, 0x10};
+    int32_t code;
+
+    set_up(&other, plain(3, 8, false));
+    take(&other, &reset);
+    begin(&m, plain(3, 8, false));
+    put_copy(&m, FAR_END - 60, NO_EVENT, LOW + 0x400, FAR + 1, 2, 1);
+    for (uint32_t n = 0; n < 3; n++) {
+        stop(&m, (int)n);
+        start(&m, n, n == 1 ? NEXT_END : FAR_END - 60);
+    }
+    stop(&m, 2);
+    turn(&m, 0, 9);
+    turn(&m, 1, 1);
+    take(&m, &good);
+    check(forged(&good, 0) == DMA330_OK, "a good one", 0);
+    refuses_forged_words();
+    for (size_t at = 0; at < good.len; at++)
+        for (size_t k = 0; k < sizeof flips; k++) {
+            bad = good;
+            bad.bytes[at] ^= flips[k];
+            code = forged(&bad, (uint32_t)at);
+            if (at < VERSION)
+                check(code == DMA330_BAD_SAVE, "another kind of file", (uint32_t)at);
+            else if (at < MANAGER_FAULTS)
+                check(code == DMA330_OTHER_DEVICE, "another version or configuration", (uint32_t)at);
+            else
+                check(code != DMA330_OTHER_DEVICE, "the same configuration", (uint32_t)at);
+        }
+    bad = good;
+    for (bad.len = 0; bad.len < good.len; bad.len++)
+        check(forged(&bad, (uint32_t)bad.len) == DMA330_BAD_SAVE, "a cut save", (uint32_t)bad.len);
+    bad.len = good.len + 1;
+    check(forged(&bad, 0) == DMA330_BAD_SAVE, "a byte too many", 0);
+    memset(&bad, 0, sizeof bad);
+    bad.len = good.len;
+    check(forged(&bad, 0) == DMA330_BAD_SAVE, "zeros", 0);
+    dma330_device_reset(&other.device);
+    check_work(&other, 0, "it works after forged saves", 0);
+    tear_down(&other);
+    tear_down(&m);
+}
+
+/* A buffer that is too small isn't written, nor is the length. */
+static void needs_room(void)
+{
+    static uint8_t out[DMA330_MAX_DEVICE_SAVE];
+    static save whole;
+    dma330_device closed = DMA330_DEVICE_INIT;
+    size_t len = 7;
+    bool is_kept = true;
+
+    begin(&m, plain(3, 8, false));
+    turn(&m, 0, 9);
+    take(&m, &whole);
+    memset(out, 0xEE, sizeof out);
+    for (size_t room = 0; room < whole.len; room += room < whole.len - 40 && room > 40 ? 97 : 1)
+        is_kept = is_kept && dma330_device_save(&m.device, out, room, &len) == DMA330_BUFFER_TOO_SMALL;
+    for (size_t n = 0; n < sizeof out; n++)
+        is_kept = is_kept && out[n] == 0xEE;
+    check(is_kept && len == 7, "too little room", 0);
+    check(dma330_device_save(&m.device, out, whole.len, &len) == DMA330_OK && len == whole.len, "room for it", 0);
+    check(memcmp(out, whole.bytes, len) == 0 && out[len] == 0xEE, "its bytes, and no more", 0);
+    check(dma330_device_save(&closed, out, sizeof out, &len) == DMA330_NOT_OPEN, "a closed one has none", 0);
+    check(dma330_device_restore(&closed, out, len) == DMA330_NOT_OPEN, "and takes none", 0);
+    tear_down(&m);
+}
+
+/* A save of this layout's version 1, byte by byte as docs/FORMATS.md says: INTEN and interrupt 0 are set, and its one
+ * channel is as after a reset. Later versions have to restore it. */
+static void restores_this_layout(void)
+{
+    static const uint8_t kept[] = {
+        'd', 'm', 'a', '3', '3', '0', 1, 1,       /* the version */
+        1, 1, 0, 4, 3, 16, 0,                     /* channels, events, non-secure, bus, revision, lines */
+        0, 0, 0, 0, 0,                            /* the manager */
+        0, 0, 0, 0, 1, 0, 0, 0, 1, 0, 0, 0,       /* events, interrupts, INTEN */
+        0, 0, 0x34, 0, 0x78, 0x56, 0x34, 0x12,    /* DBGINST0, DBGINST1 */
+        0, 0, 0, 0, 0, 0, 0, 0, 0, 0, 0, 0, 0, 0, 0, 0, /* CSR, FTR, the program's address, CPC */
+        52, 0, 0, 0,
+        'd', 'm', 'a', '3', '3', '0', 0, 1,
+        0, 0, 0, 0, 0, 0, 0, 0, 0, 0, 0, 0, 0, 0, 0, 0, 0, 0, 0, 0,
+        0, 0, 0, 0, 0, 0, 0, 0, 0, 0, 0, 0, 0, 0, 0, 0, 0, 0, 0, 0,
+        0xCA, 0x01, 0x55, 0x52,                   /* Adler-32 of the 48 bytes before it */
+    };
+    static save found;
+
+    set_up(&m, plain(1, 1, false));
+    check(dma330_device_restore(&m.device, kept, sizeof kept) == DMA330_OK, "a kept save", 0);
+    check(get(&m, INTMIS) == 1 && get(&m, INTEN) == 1, "its interrupt", get(&m, INTMIS));
+    take(&m, &found);
+    check(found.len == sizeof kept && memcmp(found.bytes, kept, sizeof kept) == 0, "the same bytes", 0);
+    dma330_device_reset(&m.device);
+    set(&m, INTEN, 1);
+    set(&m, DBGINST0, 0x00340000);
+    set(&m, DBGCMD, 0);
+    set(&m, DBGINST1, 0x12345678);
+    take(&m, &found);
+    check(found.len == sizeof kept && memcmp(found.bytes, kept, sizeof kept) == 0, "the save of its registers", 0);
+    tear_down(&m);
+}
+
+int main(void)
+{
+    for (uint32_t bus = 32; bus <= 128; bus *= 2) {
+        restores_at_each_step(bus);
+        copies_what_is_there(bus);
+    }
+    restores_anything();
+    needs_room();
+    restores_this_layout();
+    return end_checks();
+}

@@ -1,0 +1,181 @@
+//! The registers of a DMA-330 over memory of the caller.
+
+use crate::{sys, Error, Region, Segment};
+use std::fmt;
+
+/// The width of a [`Device`]'s data bus. A wider beat is an invalid operand.
+#[derive(Clone, Copy, Debug, PartialEq, Eq, Hash)]
+#[allow(missing_docs)]
+pub enum BusWidth {
+    Bits32,
+    Bits64,
+    Bits128,
+}
+
+/// The revision of a [`Device`], for instance r1p2. Linux's driver uses barriers only for r0p0.
+#[derive(Clone, Copy, Debug, PartialEq, Eq, Hash)]
+#[allow(missing_docs)]
+pub enum Revision {
+    R0p0,
+    R1p0,
+    R1p1,
+    R1p2,
+}
+
+/// The choices of a chip's designer, which a guest's driver reads in CR0 to CRD and periph_id_2.
+#[derive(Clone, Copy, Debug, PartialEq, Eq, Hash)]
+pub struct DeviceConfig {
+    /// The number of channels, 1 to 8.
+    pub channels: u8,
+    /// The number of events, 1 to 32. Each is an event or an interrupt, as INTEN says.
+    pub events: u8,
+    /// Whether the manager is in the non-secure state after a reset.
+    pub nonsecure: bool,
+    /// The width of the data bus.
+    pub bus: BusWidth,
+    /// The number of lines of the buffer, each as wide as the bus: at least one and at most 256 bytes for each channel.
+    pub lines: u16,
+    /// The revision.
+    pub revision: Revision,
+}
+
+/// What a turn of a channel of a [`Device`] did.
+#[derive(Clone, Copy, Debug, PartialEq, Eq, Hash)]
+pub struct DeviceTurn {
+    /// The smallest range with all addresses that it wrote. Its length is 0 if it wrote nothing.
+    pub written: Segment,
+    /// Whether a line of [`Device::irqs`], or [`Device::irq_abort`], has changed.
+    pub lines_changed: bool,
+    /// What [`Device::can_step`] returns now.
+    pub can_step: bool,
+}
+
+/// The registers of a DMA-330 as a guest's driver sees them (ARM DDI 0424), over channels that run the guest's programs
+/// in memory of the caller.
+///
+/// An emulator forwards the guest's accesses to [`Device::read`] and [`Device::write`], lets channels take turns while
+/// [`Device::can_step`], and sets its interrupt lines after each write, reset and restore, and after each turn that
+/// reports `lines_changed`. The device borrows the memory for the time of a call, and is closed when it is dropped.
+///
+/// ```
+/// use dma330::{assemble, BusWidth, Device, DeviceConfig, Region, Revision};
+///
+/// let (bus, revision) = (BusWidth::Bits64, Revision::R1p2);
+/// let config = DeviceConfig { channels: 4, events: 16, nonsecure: false, bus, lines: 64, revision };
+/// let mut device = Device::open(config)?;
+/// assert_eq!(device.read(0xE00), 3 << 4 | 15 << 17); // CR0
+///
+/// let mut ram = vec![0; 0x1000];
+/// ram[0x100..0x104].copy_from_slice(&[1, 2, 3, 4]);
+/// let text = "DMAMOV SAR 0x80000100\nDMAMOV DAR 0x80000200\nDMAMOV CCR 0x00014005\nDMALD\nDMAST\nDMASEV 3\nDMAEND";
+/// let program = assemble(text)?;
+/// ram[..program.len()].copy_from_slice(&program);
+///
+/// let mut lent = [Region::new(0x8000_0000, &mut ram)];
+/// // INTEN; then DMAGO of channel 1, by DBGINST0, DBGINST1 and DBGCMD
+/// for (offset, value) in [(0x020, 1 << 3), (0xD08, 0x01A0_0000), (0xD0C, 0x8000_0000), (0xD04, 0)] {
+///     device.write(offset, value, &lent)?;
+/// }
+/// while device.can_step() {
+///     let turn = device.step(1, 256, &mut lent)?;
+///     assert_eq!(turn.lines_changed, device.irqs() == 1 << 3);
+/// }
+/// assert_eq!(device.read(0x108), 0); // CSR of channel 1: stopped
+/// assert_eq!(ram[0x200..0x204], [1, 2, 3, 4]);
+/// # Ok::<(), dma330::Error>(())
+/// ```
+///
+/// Like a [`Controller`](crate::Controller), it may move from thread to thread, and is not `Sync`.
+pub struct Device {
+    handle: sys::DeviceHandle,
+}
+
+// The most bytes of a save.
+const MAX_SAVE: usize = 68200;
+
+impl Device {
+    /// Opens a device in its state after a reset. No other call allocates memory in the library.
+    ///
+    /// Fails with `BadConfig` or `NoMemory`.
+    pub fn open(config: DeviceConfig) -> Result<Device, Error> {
+        let raw = sys::RawDeviceConfig {
+            channels: config.channels.into(),
+            events: config.events.into(),
+            nonsecure: config.nonsecure.into(),
+            bus: match config.bus {
+                BusWidth::Bits32 => 32,
+                BusWidth::Bits64 => 64,
+                BusWidth::Bits128 => 128,
+            },
+            lines: config.lines.into(),
+            revision: config.revision as u32,
+        };
+        Ok(Device { handle: sys::DeviceHandle::open(&raw)? })
+    }
+
+    /// Puts the device into its state after a reset.
+    pub fn reset(&mut self) {
+        self.handle.reset();
+    }
+
+    /// Returns the register at an offset, for a read by the guest. An offset that has no register reads as 0.
+    pub fn read(&self, offset: u32) -> u32 {
+        self.handle.read(offset)
+    }
+
+    /// Writes the register at an offset, for the guest. A write to an offset without a register that can be written is ignored. A
+    /// DMAGO reads its program from the memory, as [`Channel::load_from`](crate::Channel::load_from) does.
+    ///
+    /// Fails with `BadRegions`.
+    pub fn write(&mut self, offset: u32, value: u32, regions: &[Region<'_>]) -> Result<(), Error> {
+        self.handle.write(offset, value, regions)
+    }
+
+    /// Takes a turn of a channel: at most `most` steps, until one ends, waits, fails or executes a DMASEV, or before a
+    /// store that neither overlaps nor touches the range written so far. It takes one step if the program has, at any
+    /// offset, a DMAMOV CCR with beats wider than the bus. After the DMASEV of an interrupt it takes one more. It does
+    /// nothing for a channel that is stopped or faulting, or that the device doesn't have.
+    ///
+    /// Fails with `BadRegions`.
+    pub fn step(&mut self, channel: u8, most: u32, regions: &mut [Region<'_>]) -> Result<DeviceTurn, Error> {
+        let turn = self.handle.step(channel, most, regions)?;
+        let (lines_changed, can_step) = (turn.lines_changed != 0, turn.can_step != 0);
+        Ok(DeviceTurn { written: turn.written, lines_changed, can_step })
+    }
+
+    /// Returns the lines irq\[31:0\]. A high line stays high until the guest clears its interrupt.
+    pub fn irqs(&self) -> u32 {
+        self.handle.irqs()
+    }
+
+    /// Returns the line irq_abort, which is high until the guest kills each faulting thread.
+    pub fn irq_abort(&self) -> bool {
+        self.handle.irq_abort()
+    }
+
+    /// Returns whether a step of any channel does more than wait. If not, nothing happens until the guest's next write.
+    pub fn can_step(&self) -> bool {
+        self.handle.can_step()
+    }
+
+    /// Returns the whole device as bytes.
+    pub fn save(&self) -> Vec<u8> {
+        let mut out = vec![0; MAX_SAVE];
+        let len = self.handle.save(&mut out).expect("no save is longer");
+        out.truncate(len);
+        out
+    }
+
+    /// Makes the device the one that was saved.
+    ///
+    /// Fails with `OtherDevice`; or with `BadSave`, after which the device is in its state after a reset.
+    pub fn restore(&mut self, save: &[u8]) -> Result<(), Error> {
+        self.handle.restore(save)
+    }
+}
+
+impl fmt::Debug for Device {
+    fn fmt(&self, f: &mut fmt::Formatter<'_>) -> fmt::Result {
+        f.debug_struct("Device").field("irqs", &self.irqs()).field("irq_abort", &self.irq_abort()).finish_non_exhaustive()
+    }
+}

@@ -1,0 +1,113 @@
+//! Tests of `Device`: embed/c has the tests of its registers. Here are those of the crate's own code: each call
+//! gives what the library's does.
+
+use dma330::{assemble, BusWidth, Device, DeviceConfig, DeviceTurn, Error, Region, Revision, Segment};
+use std::thread;
+
+const RAM: u32 = 0x8000_0000;
+
+const CONFIG: DeviceConfig =
+    DeviceConfig { channels: 2, events: 8, nonsecure: false, bus: BusWidth::Bits128, lines: 32, revision: Revision::R1p2 };
+
+// Starts a program at the start of RAM on channel 1.
+fn start(device: &mut Device, ram: &mut [u8], text: &str) -> Result<(), Error> {
+    let program = assemble(text)?;
+    ram[..program.len()].copy_from_slice(&program);
+    let lent = [Region::new(RAM, ram)];
+    for (offset, value) in [(0xD08, 0x01A0_0000), (0xD0C, RAM), (0xD04, 0)] {
+        device.write(offset, value, &lent)?;
+    }
+    Ok(())
+}
+
+const COPY: &str = "DMAMOV SAR 0x80000100\nDMAMOV DAR 0x80000200\nDMAMOV CCR 0x00014005\nDMALD\nDMAST\nDMASEV 3\nDMAEND";
+
+#[test]
+fn a_device_has_its_configuration() -> Result<(), Error> {
+    let crd = |device: &Device| (device.read(0xE14) & 7, device.read(0xE14) >> 20);
+    for (bus, code) in [(BusWidth::Bits32, 2), (BusWidth::Bits64, 3), (BusWidth::Bits128, 4)] {
+        assert_eq!(crd(&Device::open(DeviceConfig { bus, ..CONFIG })?), (code, 31));
+    }
+    let revisions = [Revision::R0p0, Revision::R1p0, Revision::R1p1, Revision::R1p2];
+    for (revision, code) in revisions.into_iter().zip(0..) {
+        assert_eq!(Device::open(DeviceConfig { revision, ..CONFIG })?.read(0xFE8), code << 4 | 4);
+    }
+    let device = Device::open(DeviceConfig { nonsecure: true, ..CONFIG })?;
+    assert_eq!((device.read(0xE00), device.read(0x000)), (1 << 2 | 1 << 4 | 7 << 17, 1 << 9));
+    Ok(())
+}
+
+#[test]
+fn no_device_is_outside_the_limits() {
+    for config in [
+        DeviceConfig { channels: 0, ..CONFIG },
+        DeviceConfig { channels: 9, ..CONFIG },
+        DeviceConfig { events: 33, ..CONFIG },
+        DeviceConfig { lines: 1, ..CONFIG },
+        DeviceConfig { lines: 33, ..CONFIG },
+    ] {
+        assert_eq!(Device::open(config).err(), Some(Error::BadConfig), "{config:?}");
+    }
+}
+
+#[test]
+fn turns_report_what_they_did() -> Result<(), Error> {
+    let mut ram = vec![7; 0x1000];
+    let mut device = Device::open(CONFIG)?;
+    device.write(0x020, 1 << 3, &[])?;
+    start(&mut device, &mut ram, COPY)?;
+    let mut lent = [Region::new(RAM, &mut ram)];
+    let idle = DeviceTurn { written: Segment::default(), lines_changed: false, can_step: true };
+    assert_eq!(device.step(0, 100, &mut lent)?, idle);
+    assert_eq!(device.step(1, 4, &mut lent)?, idle);
+    let written = Segment::new(RAM + 0x200, 4);
+    assert_eq!(device.step(1, 100, &mut lent)?, DeviceTurn { written, lines_changed: true, can_step: false });
+    assert_eq!((device.irqs(), device.irq_abort(), device.can_step()), (1 << 3, false, false));
+    device.write(0x02C, 1 << 3, &lent)?;
+    assert_eq!(device.irqs(), 0);
+    start(&mut device, &mut ram, "DMAST")?;
+    let turn = device.step(1, 1, &mut [Region::new(RAM, &mut ram)])?;
+    assert_eq!((turn.lines_changed, device.irq_abort(), device.read(0x034)), (true, true, 1 << 1));
+    device.reset();
+    assert_eq!((device.irq_abort(), device.read(0x020), device.read(0x034)), (false, 0, 0));
+    Ok(())
+}
+
+#[test]
+fn regions_out_of_order_are_refused() -> Result<(), Error> {
+    let (mut low, mut high) = ([0; 16], [0; 16]);
+    let mut device = Device::open(CONFIG)?;
+    let mut lent = [Region::new(RAM + 16, &mut high), Region::new(RAM, &mut low)];
+    assert_eq!(device.write(0x020, 1, &lent), Err(Error::BadRegions));
+    assert_eq!(device.step(0, 1, &mut lent), Err(Error::BadRegions));
+    assert_eq!(device.read(0x020), 0);
+    Ok(())
+}
+
+#[test]
+fn a_saved_device_goes_on_elsewhere() -> Result<(), Error> {
+    let mut ram = vec![7; 0x1000];
+    ram[0x100..0x104].copy_from_slice(&[1, 2, 3, 4]);
+    let mut device = Device::open(CONFIG)?;
+    start(&mut device, &mut ram, COPY)?;
+    device.step(1, 4, &mut [Region::new(RAM, &mut ram)])?;
+    let save = device.save();
+    let mut other = Device::open(CONFIG)?;
+    other.restore(&save)?;
+    assert_eq!(other.save(), save);
+    let ended = thread::spawn(move || {
+        while other.can_step() {
+            other.step(1, 100, &mut [Region::new(RAM, &mut ram)])?;
+        }
+        Ok::<_, Error>((other.read(0x024), ram))
+    });
+    let (events, ram) = ended.join().expect("it has ended")?;
+    assert_eq!((events, &ram[0x200..0x204]), (1 << 3, &[1, 2, 3, 4][..]));
+
+    let mut stranger = Device::open(DeviceConfig { events: 9, ..CONFIG })?;
+    assert_eq!(stranger.restore(&save), Err(Error::OtherDevice));
+    device.write(0x020, 5, &[])?;
+    assert_eq!(device.restore(&save[1..]), Err(Error::BadSave));
+    assert_eq!((device.read(0x020), device.can_step()), (0, false));
+    Ok(())
+}
