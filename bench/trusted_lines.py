@@ -11,7 +11,7 @@ kit's crates aren't followed.
     bench/trusted_lines.py [FILE FUNCTION [CLAUSE..]]     without a name: the headline, crates/dma_engine/src/run.rt run
     bench/trusted_lines.py --check                        checks that docs/TRUST.md and README.md have these numbers:
                                                           the table of the headline, its totals, those of its clauses,
-                                                          and of the commands
+                                                          and of the commands and of an export
 """
 
 import re
@@ -170,8 +170,9 @@ def tens(lines):
 
 
 def file_of(command):
-    """Returns the file that has the function of a command."""
-    return next(file for file in CRATES.glob("*/src/*.rt") if f"pub fn {command}<" in file.read_text())
+    """Returns the file that has the function of a command, or an export."""
+    head = re.compile(rf"^pub (?:extern \"C\" )?fn {command}[<(]", re.M)
+    return next(file for file in CRATES.glob("*/src/*.rt") if head.search(file.read_text()))
 
 
 def sentences_of(found):
@@ -185,7 +186,7 @@ def sentences_of(found):
     for clause in ("begins", "kept", "remembers", "memory", "sound", "answers"):
         lines, _, files = total(cited(HEADLINE, "run", [clause]), "specs")
         yield trust, f"| `{clause}` | {lines} lines in {files} files |"
-    for command in ("run_script", "asm_main", "dis_main"):
+    for command in ("run_script", "asm_main", "dis_main", "dma330_device_step"):
         lines, _, files = total(cited(file_of(command), command, []), "specs")
         yield trust, f"of `{command}` some {tens(lines)} lines in {files} files"
 
