@@ -2,7 +2,8 @@
  *
  *     bench MOST COPIES                by a controller, at most MOST steps a call, over bytes that nobody wrote, as in
  *                                      desk_bench
- *     bench MOST COPIES written        the same over bytes that were written, which are compared at the end
+ *     bench MOST COPIES written        the same over bytes that were written, to pages that exist, as memcpy's do; the
+ *                                      bytes are compared at the end
  *     bench MOST COPIES small          copies of 4 bytes: each is submitted, issued and stepped, which is measured too
  *     bench MOST COPIES SHAPE BURST    by a channel over the caller's memory, with a program as drivers write it, of
  *                                      BURST bytes a burst; SHAPE is `linux` (one nest of loops), `barriers` (the same
@@ -125,8 +126,10 @@ static void step_copies(uint32_t most, long copies, int are_written, measured *m
     dma330_controller controller = DMA330_CONTROLLER_INIT;
     dma330_conflict conflict;
     load(&controller, copies);
-    if (are_written)
+    if (are_written) {
         expect(dma330_write(&controller, 0, from, MIB, &conflict) == DMA330_OK, "not written");
+        expect(dma330_write(&controller, MIB, to, MIB, &conflict) == DMA330_OK, "not written");
+    }
     step_all(&controller, most, m);
     expect(dma330_read(&controller, MIB, to, MIB, &conflict) == DMA330_OK, "not read");
     expect(!are_written || memcmp(from, to, MIB) == 0, "not copied");

@@ -4,7 +4,7 @@ ghost use Rattle.std.specs.Prelude.{◌≡◌, ◌+◌, ◌%◌, ◌<◌, ◌≤
 ghost use Rattle.dma_mem.specs.inner.Blocks.{copied, filled, CopiesBlock, FillsBlock};
 ghost use Rattle.dma_mem.specs.inner.ChunkTable.{chunk_size, chunk_at, chunk_of, RangeMade, SameLengths};
 
-use crate::table::{CHUNK_SIZE, Chunk, GROUP_SIZE, Group, Table, put_bytes, shown};
+use crate::table::{CHUNK_SIZE, Chunk, GROUP_SIZE, Group, Table, put_bytes};
 use std::mem;
 
 // Returns how many of the `len` bytes from `start` on lie in the same chunk as the first.
@@ -110,9 +110,14 @@ impl Table {
         if from / CHUNK_SIZE == number {
             chunk.copy_apart(from % CHUNK_SIZE, offset, len);
         } else {
-            let source = shown(self.chunk(from / CHUNK_SIZE));
-            let start = from % CHUNK_SIZE;
-            chunk.put(offset, &source[start..start + len], &[]);
+            let source = self.chunk(from / CHUNK_SIZE);
+            if source.is_empty() {
+                // Setting bytes to 0 is faster than copying zeros.
+                chunk.fill(offset, len, 0);
+            } else {
+                let start = from % CHUNK_SIZE;
+                chunk.put(offset, &source[start..start + len], &[]);
+            }
         }
         self.groups[number / GROUP_SIZE].replace(number % GROUP_SIZE, chunk);
     }

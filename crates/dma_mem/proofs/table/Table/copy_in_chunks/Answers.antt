@@ -1,9 +1,12 @@
-use Rattle.std.proofs.Common.{◌≡◌, ◌/◌, ◌%◌, ◌+◌, List, [], ◌++◌, ℕ, length, get_or, take, drop, append-nil, ◌-◌, ap, sym, ◌∙◌, arith, inl, inr}
+use Rattle.std.proofs.Common.{◌≡◌, ◌/◌, ◌%◌, ◌+◌, List, [], ◌++◌, ℕ, length, get_or, take, drop, append-nil, replicate, ◌-◌, ◌<◌, ap, sym, ◌∙◌, arith, inl, inr}
+use Rattle.std.proofs.lemmas.Bool.{eqb-false, eqb-true}
+use Rattle.std.proofs.lemmas.List.{drop-replicate, get_or_past, length-replicate, take-replicate}
 use Rattle.dma_mem.specs.Image.{put, bytes_at}
 use Rattle.dma_mem.specs.inner.ChunkTable.{chunk_at, flat}
+use Rattle.dma_mem.proofs.ChunkTables.{zero_at}
 use Rattle.dma_mem.proofs.ChunkChanges.{HasCopy, group_found, chunk_in_group, within_group, within_taken, replaced, put_back, lengths_kept, has_copy, block_copied}
 use Rattle.dma_mem.proofs.table.Table.copy_in_chunks.Goals as goal
-use Rattle.dma_mem.proofs.table.Table.copy_in_chunks.Goals.{then-from-number, else-from-number}
+use Rattle.dma_mem.proofs.table.Table.copy_in_chunks.Goals.{then-from-number, else-from-number+then-is_empty, else-from-number+else-is_empty}
 
 pub index_mut-requires : goal.index_mut-requires
 index_mut-requires c =
@@ -23,6 +26,10 @@ copy_apart-requires-clause-apart c = elim c.requires.apart [
   | inl before ↦ inl (omega (arith, before, c.if-from-number.true, c.requires.source))
   | inr past ↦ inr (omega (arith, past, c.if-from-number.true, c.requires.within))
 ]
+
+pub fill-requires-clause-made : goal.fill-requires-clause-made
+fill-requires-clause-made c =
+    rw (c.replace-chunk.ensures.old, chunk_in_group c.self.inside.groups.items c.args.self.now (c.args.to / 16384) c.index_mut.result.now c.self.view_is c.requires.made c.index_mut.ensures.value) c.requires.made
 
 pub put-requires-clause-made : goal.put-requires-clause-made
 put-requires-clause-made c =
@@ -54,14 +61,23 @@ returns c =
           let kept = w.copy_apart.ensures.len ∙ ap length found in
           let is = w.copy_apart.ensures.bytes ∙ ap (λ x. put x (bytes_at offset (take len (drop (from % 16384) x)))) found in
           rw w.chunk-is (has_copy old from c.args.to len (chunk_at old n) w.copy_apart.new.self (sym kept ∙ whole) (λ k. ap (λ p. get_or (chunk_at old p) k 0) (sym w.if-from-number.true)) c.requires.source whole kept is)
-      | else-from-number w ↦
-          let source = w.shown-source.result.now in
+      | else-from-number+then-is_empty w ↦
           let rest = replaced groups old n c.index_mut.result.now c.replace-chunk.new.self c.new-empty.result c.self.view_is c.requires.made c.index_mut.ensures.value c.replace-chunk.ensures.new in
-          let bytes : (k : ℕ) → get_or source k 0 ≡ get_or (chunk_at old (from / 16384)) k 0 = λ k. w.shown-source.ensures.bytes k ∙ ap (λ (xs : List ℕ). get_or xs k 0) (w.chunk.ensures.bytes ∙ rest.others (from / 16384) w.if-from-number.false) in
+          let none : length (chunk_at old (from / 16384)) ≡ 0 = ap length (sym (w.chunk-source.ensures.bytes ∙ rest.others (from / 16384) w.if-from-number.false)) ∙ eqb-true (length w.chunk-source.result.now) 0 (sym w.is_empty.ensures ∙ w.if-is_empty.true) in
+          let bytes : (k : ℕ) → get_or (replicate 16384 0) k 0 ≡ get_or (chunk_at old (from / 16384)) k 0 = λ k. zero_at 16384 k ∙ sym (get_or_past (chunk_at old (from / 16384)) k 0 (omega (arith, none))) in
+          let part : replicate len 0 ≡ take len (drop (from % 16384) (replicate 16384 0)) = sym (ap (take len) (drop-replicate (from % 16384) 16384 0) ∙ take-replicate len (16384 - from % 16384) 0 (omega (arith, c.requires.source))) in
+          let is = w.fill.ensures.bytes ∙ ap (λ x. put x (bytes_at offset (replicate len 0))) found ∙ ap (λ bs. put (chunk_at old n) (bytes_at offset bs)) part in
+          rw w.chunk-is (has_copy old from c.args.to len (replicate 16384 0) w.fill.new.self (length-replicate {A = ℕ} 16384 0) bytes c.requires.source w.fill.ensures.whole (w.fill.ensures.len ∙ ap length found) is)
+      | else-from-number+else-is_empty w ↦
+          let source = w.chunk-source.result.now in
+          let not_none = eqb-false (length source) 0 (sym w.is_empty.ensures ∙ w.if-is_empty.false) in
+          let some : 0 < length source = omega (arith, not_none) in
+          let rest = replaced groups old n c.index_mut.result.now c.replace-chunk.new.self c.new-empty.result c.self.view_is c.requires.made c.index_mut.ensures.value c.replace-chunk.ensures.new in
+          let bytes : (k : ℕ) → get_or source k 0 ≡ get_or (chunk_at old (from / 16384)) k 0 = λ k. ap (λ (xs : List ℕ). get_or xs k 0) (w.chunk-source.ensures.bytes ∙ rest.others (from / 16384) w.if-from-number.false) in
           let count : (from % 16384 + len) - from % 16384 ≡ len = omega arith in
           let part = append-nil _ ∙ ap (λ i. take i (drop (from % 16384) source)) count in
           let is = w.put.ensures.bytes ∙ ap (λ x. put x (bytes_at offset (take ((from % 16384 + len) - from % 16384) (drop (from % 16384) source) ++ []))) found ∙ ap (λ bs. put (chunk_at old n) (bytes_at offset bs)) part in
-          rw w.chunk-is (has_copy old from c.args.to len source w.put.new.self w.shown-source.ensures.len bytes c.requires.source w.put.ensures.whole (w.put.ensures.len ∙ ap length found) is)
+          rw w.chunk-is (has_copy old from c.args.to len source w.put.new.self (w.chunk-source.ensures.whole some) bytes c.requires.source w.put.ensures.whole (w.put.ensures.len ∙ ap length found) is)
     ] in
     record {
       len = lengths_kept old _ n chunk change copy.kept;
