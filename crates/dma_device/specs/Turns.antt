@@ -79,7 +79,8 @@ nothing = record { written = range_at 0 0; signal = None }
 abbrev pub CallsUnless : Bool → DeviceValue → Thread → List Region → ℕ → ℕ → DeviceValue → List Region → Called → Type 0
 CallsUnless true d t regions n most e left called =
     (e ≡ with_thread n (failed operand_invalid t) d) × (left ≡ regions) × (called ≡ nothing)
-CallsUnless false d t regions n most e left called = CallsThread d t regions n (most_on d.config.bus (code_of t.channel) most) e left called
+CallsUnless false d t regions n most e left called =
+    CallsThread d t regions n (most_on d.config.bus (code_of t.channel) most) e left called
 
 -- `CallsUnless` for a thread that the device has
 abbrev pub CallsOne : Option Thread → DeviceValue → List Region → ℕ → ℕ → DeviceValue → List Region → Called → Type 0

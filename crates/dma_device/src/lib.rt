@@ -17,10 +17,11 @@
 //! A transfer's compiled program, put into RAM and started by a DMAGO, makes one simultaneous copy. The copy is done once
 //! the channel's CSR reads as stopped, or once a line that was low is high after one of its turns
 //! (`laws::a_dmago_copies`). Drivers write other programs: of these the laws of interrupts hold, and what
-//! specs/Turns.antt says of each turn. The compiled program never fails, if the regions contain all addresses that it touches, none that it writes is read-only, the device
-//! has its events, and each of its beats fits the bus (`laws::a_dmago_never_fails`). An interrupt is neither lost nor
-//! invented: from a reset on, its line is high exactly if a turn or the debug registers executed its DMASEV while INTEN
-//! made it an interrupt, and no write to INTCLR has cleared it since (`laws::interrupts_are_exact`).
+//! specs/Turns.antt says of each turn. The compiled program never fails, if the regions contain all addresses that it
+//! touches, none that it writes is read-only, the device has its events, and each of its beats fits the bus
+//! (`laws::a_dmago_never_fails`). An interrupt is neither lost nor invented: from a reset on, its line is high exactly
+//! if a turn or the debug registers executed its DMASEV while INTEN made it an interrupt, and no write to INTCLR has
+//! cleared it since (`laws::interrupts_are_exact`).
 //!
 //! Not proved: that an allocation succeeds. Only [`device::Device::new`] allocates: no other method gets an allocator.
 //! Nor that a device which can't step is idle: the save of no run can have a channel that waits by its status, while its

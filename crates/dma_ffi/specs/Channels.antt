@@ -186,7 +186,8 @@ report_of taken pc written (Some (Fault kind)) signal = record (did taken pc wri
 -- Steps of an open channel with a program, over usable regions: the steps that were taken, the event whose flag the
 -- last of them set, if any, the range that they wrote, and the report of these and of the offset of the next
 -- instruction. The marks and all bytes outside that range are unchanged, and the regions keep their places.
-pub record StepsOver (a : Lent) (most : ℕ) (taken : Taken) (report : ChannelReport) (b : Lent) (m n : MarkedChannel) : Type 0 where
+pub record StepsOver (a : Lent) (most : ℕ) (taken : Taken) (report : ChannelReport)
+    (b : Lent) (m n : MarkedChannel) : Type 0 where
   pub before : a.channel ≡ Some m
   pub after : b.channel ≡ Some n
   pub marks : n.marks ≡ m.marks

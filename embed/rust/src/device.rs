@@ -123,8 +123,8 @@ impl Device {
         self.handle.read(offset)
     }
 
-    /// Writes the register at an offset, for the guest. A write to an offset without a register that can be written is ignored. A
-    /// DMAGO reads its program from the memory, as [`Channel::load_from`](crate::Channel::load_from) does.
+    /// Writes the register at an offset, for the guest. A write to an offset without a register that can be written is
+    /// ignored. A DMAGO reads its program from the memory, as [`Channel::load_from`](crate::Channel::load_from) does.
     ///
     /// Fails with `BadRegions`.
     pub fn write(&mut self, offset: u32, value: u32, regions: &[Region<'_>]) -> Result<(), Error> {
