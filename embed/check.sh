@@ -82,6 +82,56 @@ example() {
     "$@" >"$out/printed" && diff "$out/printed" c/example.txt
 }
 
+# waveform FILE: succeeds if the times of a waveform rise, and each change is of a declared signal and as wide
+waveform() {
+    awk '
+        $1 == "$var" {wrong += $4 in width || $3 < 1; width[$4] = $3}
+        $1 == "$enddefinitions" {begun = 1}
+        /^[#01b]/ {wrong += !begun}
+        /^#/ {wrong += $1 !~ /^#[0-9]+$/ || substr($1, 2) + 0 <= time; time = substr($1, 2) + 0}
+        /^[01]/ {wrong += width[substr($1, 2)] != 1; changes++}
+        /^b/ {wrong += $1 !~ /^b[01]+$/ || width[$2] < 2 || width[$2] != length($1) - 1; changes++}
+        !/^[$#01b]/ {wrong++}
+        END {exit wrong > 0 || changes < 1000}
+    ' "$1"
+}
+
+# driver PROGRAM: succeeds if the test of a driver prints the text of c/example_driver.txt, writes a waveform, and also
+# passes with other seeds
+driver() {
+    "$1" --vcd "$out/driver.vcd" >"$out/printed" && diff "$out/printed" c/example_driver.txt &&
+        waveform "$out/driver.vcd" || return 1
+    seed=1
+    while [ "$seed" -lt 20 ]; do
+        seed=$((seed + 1))
+        "$1" --seed "$seed" || return 1
+    done
+}
+
+# wrong_driver EDIT: succeeds if the test of the driver fails with one of 20 seeds after this edit by sed
+wrong_driver() {
+    sed "$1" c/example_driver.c >"$out/wrong.c"
+    cmp -s "$out/wrong.c" c/example_driver.c && return 1
+    $CC $c_flags -o "$out/wrong" "$out/wrong.c" c/harness.c "$LIB" || return 1
+    seed=1
+    while "$out/wrong" --seed "$seed" >"$out/printed"; do
+        [ "$seed" -lt 20 ] || return 1
+        seed=$((seed + 1))
+    done
+    grep "^WRONG: .* (seed $seed, tick [0-9]*)$" "$out/printed"
+}
+
+# wrong_drivers: tries four wrong drivers: they don't clear an interrupt, wait again for one that was lost, copy from a
+# wrong address after a restart, and take an interrupt from before a restart for that of the copy
+wrong_drivers() {
+    timer='/^static void handle_timer/,/^}/'
+    restart='/^static void restart/,/^}/'
+    try "example_driver.c: INTCLR" wrong_driver '/writel(INTCLR, done)/d'
+    try "example_driver.c: a lost interrupt" wrong_driver "$timer s/handle_irq()/jobs[channel].deadline += TIMEOUT/"
+    try "example_driver.c: a wrong address" wrong_driver "$restart s/start(channel)/jobs[channel].src += 64, &/"
+    try "example_driver.c: an old interrupt" wrong_driver "$restart {/INTCLR/d;}"
+}
+
 # readme FLAG..: succeeds if the README's lines of C compile with these flags, and copy the bytes that they write
 readme() {
     {
@@ -123,6 +173,8 @@ in_c() {
     rows="c/lines.c c/words.c c/rows.c c/readings.c"
     make_it "$set abi.c" "$@" -o "$to/abi" c/abi.c "$LIB" && try "$set abi.c" "$to/abi"
     make_it "$set example.c" "$@" -o "$to/example" c/example.c "$LIB" && try "$set example.c" example "$to/example"
+    make_it "$set example_driver.c" "$@" -pedantic -o "$to/driver" c/example_driver.c c/harness.c "$LIB" &&
+        try "$set example_driver.c" driver "$to/driver"
     make_it "$set threads.c" "$@" -pthread -o "$to/threads" c/threads.c "$LIB" && try "$set threads.c" "$to/threads"
     make_it "$set walk.c" "$@" -o "$to/walk" c/walk.c $rows "$LIB" &&
         count "$set walk.c" "$last_line" "$to/walk" rows.txt
@@ -181,6 +233,7 @@ if has "$CC"; then
         echo "there is no make: the tests of what it installs are left out"
     fi
     in_c plain $CC $c_flags
+    wrong_drivers
     with_sanitizers
     if has "$CXX"; then
         in_cxx
