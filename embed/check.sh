@@ -246,8 +246,21 @@ fi
 
 # ---- Rust ----
 
+# cargo_in FOLDER WORD..: runs cargo in a crate's folder
 cargo_in() {
-    (cd rust && DMA330_LIB="$LIB" $CARGO "$@")
+    folder=$1
+    shift
+    (cd "$folder" && DMA330_LIB="$LIB" $CARGO "$@")
+}
+
+# with_guest_memory: runs the tests of rust/vm-memory, if the crates that it uses are where Debian installs them
+with_guest_memory() {
+    if ls -d /usr/share/cargo/registry/vm-memory-0.10.* >/dev/null 2>&1; then
+        count "Rust tests of vm-memory" "$cargo_lines" cargo_in rust/vm-memory test --offline --quiet --no-fail-fast
+        try "Rust example vmm" cargo_in rust/vm-memory run --offline --quiet --example vmm
+    else
+        echo "there is no librust-vm-memory-dev 0.10: the tests of rust-vmm's guest memory are left out"
+    fi
 }
 
 if ! has "$CARGO"; then
@@ -255,10 +268,11 @@ if ! has "$CARGO"; then
 elif ! has cc; then
     echo "there is no cc, with which Rust links: the tests in Rust are left out"
 else
-    count "Rust tests" "$cargo_lines" cargo_in test --offline --quiet --no-fail-fast
-    try "Rust example emulator" example cargo_in run --offline --quiet --example emulator
-    try "Rust example threads" cargo_in run --offline --quiet --example threads
-    try "Rust example guest_ram" cargo_in run --offline --quiet --example guest_ram
+    count "Rust tests" "$cargo_lines" cargo_in rust test --offline --quiet --no-fail-fast
+    try "Rust example emulator" example cargo_in rust run --offline --quiet --example emulator
+    try "Rust example threads" cargo_in rust run --offline --quiet --example threads
+    try "Rust example guest_ram" cargo_in rust run --offline --quiet --example guest_ram
+    with_guest_memory
 fi
 
 echo "$passed passed, $failed failed"

@@ -11,7 +11,8 @@
 //!   check of the library proves that the type it holds is `Send`, and Rust orders what one thread does with a value
 //!   before what the next one does.
 //! - Pointers are not null, and are aligned and valid for their counts: each comes from a reference, or from a slice
-//!   that is passed with its length. A [`Region`] is made from a slice that nobody else uses while the region exists.
+//!   that is passed with its length. A [`Region`] is made from a slice that nobody else uses while the region exists,
+//!   or by [`Region::from_raw_parts`], whose caller ensures what a slice would.
 //! - Pointers of a call don't overlap unless both are only read, and nobody else uses what they point to: Rust's rules
 //!   of `&mut` and `&` ensure this.
 //! - The program must ensure the rest: one allocator behind `malloc`, no call from a signal handler or from the forked
@@ -143,6 +144,32 @@ impl<'a> Region<'a> {
     /// Returns the region of these bytes as ROM: loads and programs read it, and stores to it fail.
     pub fn read_only(addr: u32, bytes: &'a mut [u8]) -> Region<'a> {
         Region { read_only: 1, ..Region::new(addr, bytes) }
+    }
+
+    /// Returns the region of `len` bytes from a pointer on, the first of which is at `addr`, as ROM if `read_only`. It
+    /// is for memory that no slice may borrow, since others use it during a call: a guest's processors, or threads.
+    ///
+    /// # Safety
+    ///
+    /// - While the region exists, the bytes are mapped, and can be read and, unless `read_only`, written.
+    /// - During a call with the region, no other region of the call has one of them, and whoever else uses them allows
+    ///   for changes at any time, as a guest's processors do, and volatile and atomic accesses. A slice doesn't.
+    ///
+    /// The library copies the bytes by plain loads and stores, and does nothing else with them. `docs/EMBEDDING.md` has
+    /// what both sides see ("Beside running processors").
+    ///
+    /// ```
+    /// use dma330::{Channel, Region};
+    /// let mut ram = vec![0x18, 0x00]; // DMANOP, DMAEND
+    /// let mut channel = Channel::open()?;
+    /// // Safety: `ram` outlives the region, and nobody else uses it.
+    /// let region = unsafe { Region::from_raw_parts(0x8000_0000, ram.as_mut_ptr(), ram.len(), false) };
+    /// channel.load_from(&[region], 0x8000_0000)?;
+    /// assert_eq!(channel.step(&mut [], &mut 0, 100)?.taken, 2);
+    /// # Ok::<(), dma330::Error>(())
+    /// ```
+    pub unsafe fn from_raw_parts(addr: u32, bytes: *mut u8, len: usize, read_only: bool) -> Region<'a> {
+        Region { addr, bytes, len, read_only: read_only.into(), lent: PhantomData }
     }
 }
 
