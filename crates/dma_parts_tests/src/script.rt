@@ -1,23 +1,49 @@
-//! What no script of the program shows: that a list of statements can be inspected, and that the laws exist.
-use dma_script::interpreter::Lines;
+//! What no script of the program shows: that any interpreter can look at a statement, and that the laws exist.
+ghost use Rattle.std.specs.Prelude.{◌≡◌, []};
+
+use dma_script::interpreter::Interpreter;
 use dma_script::laws::{first_causes_are_reported, first_faults_are_reported};
 use dma_script::statements::{Statement, read_run_script};
+use std::alloc::AllocError;
 use std::test::Fail;
+
+/// Counts the lines that copy one segment to another, and all other lines. Prints nothing.
+#[derive(Drop)]
+struct Counts {
+    copies: usize,
+    others: usize,
+}
+
+impl Interpreter for Counts {
+    type Line = Statement;
+
+    ghost acts = { λ _ _ group _. group ≡ [] };
+
+    fn interpret(&mut self, line: Statement, _out: &mut Vec<u8>) -> Result<(), AllocError> {
+        match line {
+            Statement::Copy(lists) if lists.src.len() == 1 && lists.dst.len() == 1 => {
+                self.copies = self.copies.saturating_add(1);
+            }
+            _ => self.others = self.others.saturating_add(1),
+        }
+        Ok(())
+    }
+}
 
 #[test]
 fn statements_are_looked_at(rt: HostRuntime) -> Result<(), Fail> {
     first_causes_are_reported();
     first_faults_are_reported();
-    let mut script = read_run_script(rt.alloc(), b"memory 64 8\ncopy 1+1 to 2+1\n")
+    let script = read_run_script(rt.alloc(), b"memory 64 8\ncopy 1+1 to 2+1\n")
         .ok()
         .ok_or("a script")?;
     assert!(rt; script.size == 64 && script.channels == 8);
-    match script.statements.next_line() {
-        Some(Statement::Copy(line)) => {
-            assert!(rt; line.src.len() == 1 && line.dst.len() == 1);
-            assert!(rt; script.statements.next_line().is_none());
-            Ok(())
-        }
-        _ => Err(Fail::from("one copy")),
-    }
+    let mut counts = Counts {
+        copies: 0,
+        others: 0,
+    };
+    let mut out = Vec::new(rt.alloc());
+    script.statements.run(&mut counts, &mut out)?;
+    assert!(rt; counts.copies == 1 && counts.others == 0 && out.is_empty());
+    Ok(())
 }

@@ -1,6 +1,5 @@
 -- Lines that run one after another.
-use Rattle.std.proofs.Common.{◌≡◌, ℕ, List, [], ◌∷◌, ◌++◌, length, refl, ap, sym, ◌∙◌, subst, suc, append_assoc, arith, length-append}
-use Rattle.std.proofs.Math.Seq.{get_or-append_seam}
+use Rattle.std.proofs.Common.{◌≡◌, ℕ, List, [], ◌∷◌, ◌++◌, refl, ap, sym, ◌∙◌, subst, suc, append_assoc, arith}
 use Rattle.std.proofs.lemmas.List.{append-nil}
 use Rattle.std.specs.List.{All}
 use Rattle.std.proofs.lemmas.List.Concat.{flat_map-append}
@@ -35,10 +34,6 @@ prints-more acts lines line found between left old mid new before one = record {
   text = text_after old mid new before.groups one.group before.text one.text;
 }
 
--- the same with nothing appended since
-pub prints-to : {S L : Type 0} {acts : S → L → List (List ℕ) → S → Type 0} {lines : List L} {found left : S} {old mid new : List ℕ} → PrintsLines acts found lines left old mid → new ≡ mid → PrintsLines acts found lines left old new
-prints-to done same = record { groups = done.groups; acted = done.acted; text = same ∙ done.text }
-
 -- Of the lines `all` those before `left` ran.
 pub record RanSoFar {S L : Type 0} (acts : S → L → List (List ℕ) → S → Type 0) (found : S) (all left : List L) (now : S) (old new : List ℕ) : Type 0 where
   pub done : List L
@@ -56,20 +51,6 @@ ran-more acts found all before line left between now old mid new ran is one = re
   split = ran.split ∙ ap (λ l. ran.done ++ l) is ∙ sym (append_assoc ran.done (line ∷ []) left);
   printed = prints-more acts ran.done line found between now old mid new ran.printed one;
 }
-
--- All ran.
-pub ran-all : {S L : Type 0} (acts : S → L → List (List ℕ) → S → Type 0) (found : S) (all left : List L) (now : S) (old new : List ℕ) → RanSoFar acts found all left now old new → left ≡ [] → PrintsLines acts found all now old new
-ran-all acts found all left now old new ran is =
-    let same : all ≡ ran.done = ran.split ∙ ap (λ l. ran.done ++ l) is ∙ append-nil ran.done in
-    subst (λ lines. PrintsLines acts found lines now old new) (sym same) ran.printed
-
-all-after : {L : Type 0} (P : L → Type 0) (done : List L) (line : L) (after : List L) → All P (done ++ line ∷ after) → P line
-all-after P done line after every =
-    subst P (get_or-append_seam done line after line) (every (length done) line (omega (arith, length-append done (line ∷ after))))
-
--- What holds of all lines holds of the next one.
-pub taken-next : {S L : Type 0} {acts : S → L → List (List ℕ) → S → Type 0} {found now : S} {all left : List L} {old new : List ℕ} (takes : L → Type 0) (line : L) (after : List L) → RanSoFar acts found all left now old new → left ≡ line ∷ after → All takes all → takes line
-taken-next takes line after ran is every = all-after takes ran.done line after (subst (All takes) (ran.split ∙ ap (λ l. ran.done ++ l) is) every)
 
 -- What holds of all lines holds of those after the first.
 pub taken-rest : {L : Type 0} (takes : L → Type 0) (lines : List L) (line : L) (after : List L) → lines ≡ line ∷ after → All takes lines → All takes after

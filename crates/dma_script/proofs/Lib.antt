@@ -18,5 +18,6 @@ pub mod Within
 pub mod Reading
 pub mod RowLemmas
 pub mod Rows
+pub mod SegmentLemmas
 pub mod Skipped
 pub mod WordLemmas

@@ -134,12 +134,29 @@ impl<'a> Arguments<'a> {
         low
     }
 
-    /// Reads a number of at most 255, such as that of a channel or an event.
+    /// Reads a number of at most 255 of any form.
     #[inline(never)]
-    pub(crate) fn byte(&mut self) -> u8
+    fn any_byte(&mut self) -> u8
         ensures { (result, self.new) ≡ byte_from self.old }
     {
         self.within(0, 255, Cause::Range) as u8
+    }
+
+    /// Reads a number of at most 255, such as that of a channel or an event. Most have one digit, and are the last word
+    /// or have a space after them.
+    #[inline(always)]
+    pub(crate) fn byte(&mut self) -> u8
+        ensures { (result, self.new) ≡ byte_from self.old }
+    {
+        let [digit @ b'0'..=b'9', after @ ..] = self.rest else {
+            return self.any_byte();
+        };
+        self.rest = match after {
+            [] => after,
+            [b' ', rest @ ..] => rest,
+            _ => return self.any_byte(),
+        };
+        *digit - b'0'
     }
 
     /// Reads the number of a step line, which is 1 if the line has no more words.

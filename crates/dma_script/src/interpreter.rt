@@ -1,7 +1,6 @@
-//! Runs lines one after another with any interpreter, and defines what is printed when a line is out of memory.
+//! What runs the statements of a script, and defines what is printed when a statement is out of memory.
 ghost use Rattle.std.specs.Prelude.{◌≡◌, OnErr, OnOk};
-ghost use Rattle.std.specs.List.{All};
-ghost use Rattle.dma_script.specs.Interpreted.{PrintsLine, PrintsLines, StopsAtALine};
+ghost use Rattle.dma_script.specs.Interpreted.{PrintsLine};
 
 use std::alloc::AllocError;
 
@@ -34,44 +33,4 @@ pub trait Interpreter {
         ensures ready_again { OnOk result (is_ready self.new) }
         ensures refused { OnErr result (is_refused self.old line self.new) }
         ensures err { OnErr result (out.new.items ≡ out.old.items) };
-}
-
-/// Lines that are taken one after another.
-pub trait Lines {
-    ghost use Rattle.std.specs.Prelude.{List, [], ◌∷◌, ◌≡◌, MatchOption};
-
-    /// A line.
-    type Line;
-
-    // The lines that were not taken yet.
-    ghost left: { Self → List Self.Line };
-
-    /// Returns the next line, or `None` if all were taken.
-    fn next_line(&mut self) -> Option<Self::Line>
-        ensures { MatchOption result
-            (left self.old ≡ []) (λ line. left self.old ≡ line ∷ left self.new) };
-}
-
-/// Runs lines one after another, and drops each after its run.
-///
-/// If a line is out of memory, fails without running the lines after it. The complete text of the lines before it has
-/// been appended, so no printed text is lost, and text is missing only after such a failure.
-pub fn interpret_lines<I: Interpreter, L: Lines<Line = I::Line> + Drop>(
-    interpreter: &mut I,
-    lines: L,
-    out: &mut Vec<u8>,
-) -> Result<(), AllocError>
-    requires taken { All I.takes (L.left lines) }
-    requires ready { I.is_ready interpreter.old }
-    ensures ok { OnOk result (PrintsLines I.acts
-        interpreter.old (L.left lines) interpreter.new out.old.items out.new.items) }
-    ensures ready_again { OnOk result (I.is_ready interpreter.new) }
-    ensures err { OnErr result (StopsAtALine I.acts I.is_refused
-        interpreter.old (L.left lines) interpreter.new out.old.items out.new.items) }
-{
-    let mut lines = lines;
-    while let Some(line) = lines.next_line() {
-        interpreter.interpret(line, out)?;
-    }
-    Ok(())
 }

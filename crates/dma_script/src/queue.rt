@@ -4,13 +4,13 @@ ghost use Rattle.std.specs.List.{All};
 ghost use Rattle.dma_script.specs.Interpreted.{PrintsLines, StopsAtALine};
 ghost use Rattle.dma_script.specs.inner.Queued.{IsWhole, RunsFirst, statements_in};
 
-use crate::interpreter::{Interpreter, Lines};
+use crate::interpreter::Interpreter;
 use crate::statements::Statement;
 use dma_mem::lists::Bytes;
 use dma_mem::segment::Segment;
 use std::alloc::{AllocError, Global};
-use std::collections::VecDeque;
 use std::marker::Model;
+use std::vec::IntoIter;
 
 /// A statement as it is kept, or where it is kept.
 #[derive(Clone, Copy, Debug, PartialEq, Eq, Drop)]
@@ -29,14 +29,14 @@ enum Line {
     Long,
 }
 
-/// Statements in the order of their lines. Contracts see the list of those that were not taken yet.
+/// Statements in the order of their lines. Contracts see a list of statements.
 #[derive(Debug, Drop)]
 pub struct Statements {
-    lines: VecDeque<Line>,
+    lines: Vec<Line>,
     // The bytes of the `write` lines.
-    bytes: VecDeque<Bytes>,
+    bytes: Vec<Bytes>,
     // The statements that have lists, and those that are rare.
-    long: VecDeque<Statement>,
+    long: Vec<Statement>,
 }
 
 impl Model for Statements {
@@ -77,9 +77,9 @@ impl Statements {
         ensures { result ≡ [] }
     {
         Statements {
-            lines: VecDeque::new(alloc),
-            bytes: VecDeque::new(alloc),
-            long: VecDeque::new(alloc),
+            lines: Vec::new(alloc),
+            bytes: Vec::new(alloc),
+            long: Vec::new(alloc),
         }
     }
 
@@ -91,24 +91,45 @@ impl Statements {
         self.lines.reserve(1)?;
         match short_line(statement) {
             Ok(line) => {
-                self.lines.push_back_reserved(line);
+                self.lines.push_reserved(line);
                 Ok(())
             }
             Err(Statement::Write { addr, bytes }) => {
-                self.bytes.push_back(bytes)?;
-                self.lines.push_back_reserved(Line::Write { addr });
+                self.bytes.push(bytes)?;
+                self.lines.push_reserved(Line::Write { addr });
                 Ok(())
             }
             Err(long) => {
-                self.long.push_back(long)?;
-                self.lines.push_back_reserved(Line::Long);
+                self.long.push(long)?;
+                self.lines.push_reserved(Line::Long);
                 Ok(())
             }
         }
     }
 }
 
-impl Statements {
+/// The statements that did not run yet.
+#[derive(Drop)]
+struct Left<'a> {
+    lines: &'a [Line],
+    bytes: IntoIter<Bytes>,
+    long: IntoIter<Statement>,
+}
+
+impl<'a> Model for Left<'a> {
+    ghost use Rattle.std.specs.Prelude.{List};
+    ghost use Rattle.std.specs.Vec.Iter.{into_iter_items};
+    ghost use Rattle.dma_script.specs.declared.statements.Statement.{Statement};
+    ghost use Rattle.dma_script.specs.inner.Queued.{IsWhole, statements_in};
+
+    ghost Value = { List Statement };
+
+    ghost view = { λ s. statements_in s.lines.now (into_iter_items s.bytes) (into_iter_items s.long) };
+
+    ghost invariant = { λ s. IsWhole s.lines.now (into_iter_items s.bytes) (into_iter_items s.long) };
+}
+
+impl Left<'_> {
     /// Runs the next statement, if any is left. Each kind of line calls the interpreter itself, so that only the code
     /// for this kind follows.
     #[inline(always)]
@@ -125,11 +146,12 @@ impl Statements {
         ensures some { IfSome result (λ ran. RunsFirst I.acts I.is_refused I.is_ready
             self.old self.new interpreter.old interpreter.new out.old.items out.new.items ran) }
     {
-        let Some(line) = self.lines.pop_front() else {
+        let [line, rest @ ..] = self.lines else {
             return None;
         };
-        match line {
-            Line::Write { addr } => match self.bytes.pop_front() {
+        self.lines = rest;
+        match *line {
+            Line::Write { addr } => match self.bytes.next() {
                 Some(bytes) => Some(interpreter.interpret(Statement::Write { addr, bytes }, out)),
                 None => unreachable!(),
             },
@@ -147,17 +169,19 @@ impl Statements {
             Line::Result { ch, cookie } => {
                 Some(interpreter.interpret(Statement::Result { ch, cookie }, out))
             }
-            Line::Long => match self.long.pop_front() {
+            Line::Long => match self.long.next() {
                 Some(long) => Some(interpreter.interpret(long, out)),
                 None => unreachable!(),
             },
         }
     }
+}
 
-    /// Runs the statements one after another, as [`interpret_lines`] does, but with a call of the interpreter for each
-    /// kind of line.
+impl Statements {
+    /// Runs the statements one after another, and drops each after its run.
     ///
-    /// [`interpret_lines`]: crate::interpreter::interpret_lines
+    /// If a statement is out of memory, fails without running those after it. The complete text of the statements
+    /// before it has been appended, so no printed text is lost, and text is missing only after such a failure.
     pub fn run<I: Interpreter<Line = Statement>>(
         self,
         interpreter: &mut I,
@@ -171,40 +195,15 @@ impl Statements {
         ensures err { OnErr result (StopsAtALine I.acts I.is_refused
             interpreter.old self interpreter.new out.old.items out.new.items) }
     {
-        let mut left = self;
+        let Statements { lines, bytes, long } = self;
+        let mut left = Left {
+            lines: &lines,
+            bytes: bytes.into_iter(),
+            long: long.into_iter(),
+        };
         while let Some(ran) = left.run_next(interpreter, out) {
             ran?;
         }
         Ok(())
-    }
-}
-
-impl Lines for Statements {
-    ghost use Rattle.std.specs.Prelude.{List};
-
-    type Line = Statement;
-
-    ghost left = { λ statements. statements };
-
-    #[inline(always)]
-    fn next_line(&mut self) -> Option<Statement> {
-        let Some(line) = self.lines.pop_front() else {
-            return None;
-        };
-        match line {
-            Line::Write { addr } => match self.bytes.pop_front() {
-                Some(bytes) => Some(Statement::Write { addr, bytes }),
-                None => unreachable!(),
-            },
-            Line::Read(segment) => Some(Statement::Read(segment)),
-            Line::Issue { ch } => Some(Statement::Issue { ch }),
-            Line::Pause { ch } => Some(Statement::Pause { ch }),
-            Line::Resume { ch } => Some(Statement::Resume { ch }),
-            Line::Terminate { ch } => Some(Statement::Terminate { ch }),
-            Line::Step { ch, count } => Some(Statement::Step { ch, count }),
-            Line::Status { ch, cookie } => Some(Statement::Status { ch, cookie }),
-            Line::Result { ch, cookie } => Some(Statement::Result { ch, cookie }),
-            Line::Long => self.long.pop_front(),
-        }
     }
 }

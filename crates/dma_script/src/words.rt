@@ -4,6 +4,7 @@ ghost use Rattle.std.specs.List.{list_all};
 ghost use Rattle.std.specs.Str.Lines.{lines, strip_carriage_return};
 ghost use Rattle.dma_script.specs.Words.{is_blank, is_plain, segment_of, words_of, number_of, number_in};
 ghost use Rattle.dma_script.specs.inner.Reading.{NoBlank};
+ghost use Rattle.dma_script.specs.inner.Digits.{address_of, before_plus};
 
 use dma_mem::segment::Segment;
 use dma_text::bytes::position_of;
@@ -20,14 +21,34 @@ fn without_return(line: &[u8]) -> &[u8]
     }
 }
 
+/// The most bytes of a line that are compared one by one with a line feed.
+const SHORT: usize = 16;
+
+/// Returns the place of the first line feed, or `None` if there is none. Most lines are short, and a loop of a fixed
+/// number of turns takes two instructions a byte.
+#[inline(always)]
+fn line_end(input: &[u8]) -> Option<usize>
+    ensures { result ≡ position (λ b. b == 10) input.now }
+{
+    if input.len() >= SHORT {
+        for end in 0..SHORT {
+            if input[end] == b'\n' {
+                return Some(end);
+            }
+        }
+    }
+    position_of(b'\n', input)
+}
+
 /// Returns the first line, without its line feed and a carriage return before that, and the rest of the input. A last
 /// line without a line feed keeps its carriage return.
+#[inline(always)]
 pub fn split_line(input: &[u8]) -> (&[u8], &[u8])
     requires { 0 < length input.now }
     ensures first { lines input.now ≡ result.0.now ∷ lines result.1.now }
     ensures shorter { length result.1.now < length input.now }
 {
-    match position_of(b'\n', input) {
+    match line_end(input) {
         Some(end) => (without_return(&input[..end]), &input[end + 1..]),
         None => (input, &[]),
     }
@@ -173,19 +194,48 @@ pub fn number(word: &[u8]) -> Option<u32>
     }
 }
 
-/// Returns the position of the first plus. Words are short, so a plain loop is faster here than `position_of`.
-fn plus_in(word: &[u8]) -> Option<usize>
-    ensures { result ≡ position (λ b. b == 43) word.now }
+/// Returns the number that the digits of a base before the first plus spell, and what follows the plus, or `None` if
+/// there is no plus or no such number. Looks at each byte once.
+#[inline(always)]
+fn number_before_plus(digits: &[u8], radix: u32) -> Option<(u32, &[u8])>
+    requires low { 2 ≤ radix }
+    requires high { radix ≤ 16 }
+    ensures { MatchOption result (before_plus radix digits.now ≡ None)
+        (λ r. before_plus radix digits.now ≡ Some (r.0, r.1.now)) }
 {
-    word.iter().position(|b| *b == b'+')
+    let mut value = 0u32;
+    for (place, b) in digits.iter().enumerate() {
+        let digit = u32::from(digit_value(*b));
+        if digit >= radix {
+            if *b == b'+' && place > 0 {
+                return Some((value, &digits[place + 1..]));
+            }
+            return None;
+        }
+        value = value.checked_mul(radix)?.checked_add(digit)?;
+    }
+    None
+}
+
+/// Returns the number before the first plus, in decimal or, after `0x`, in hexadecimal digits, and what follows the
+/// plus, or `None` if there is no plus or no such number.
+#[inline(always)]
+fn address_in(word: &[u8]) -> Option<(u32, &[u8])>
+    ensures { MatchOption result (address_of word.now ≡ None)
+        (λ r. address_of word.now ≡ Some (r.0, r.1.now)) }
+{
+    match word {
+        [b'0', b'x', digits @ ..] => number_before_plus(digits, 16),
+        _ => number_before_plus(word, 10),
+    }
 }
 
 /// Returns the segment that a word spells: an address, a plus and a length.
+#[tactic(auto, using(crate::proofs::SegmentLemmas::segment_parts))]
 pub fn segment_in(word: &[u8]) -> Option<Segment>
     ensures { result ≡ segment_of word.now }
 {
-    let plus = plus_in(word)?;
-    let addr = number(&word[..plus])?;
-    let len = number(&word[plus + 1..])?;
+    let (addr, rest) = address_in(word)?;
+    let len = number(rest)?;
     Some(Segment { addr, len })
 }

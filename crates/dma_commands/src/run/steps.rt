@@ -1,6 +1,6 @@
 //! The `step` lines of a script. Equal consecutive answers are counted and printed as one line.
 
-ghost use Rattle.std.specs.Prelude.{◌≡◌, ◌≢◌, ◌≤◌, ◌<◌, ◌+◌, ◌++◌, ◌∷◌, [], List, ℕ, OnOk, OnErr, IfOk, IfSome, IsNone, IsTrue, Err, is_some, map, replicate, if◌then◌else◌};
+ghost use Rattle.std.specs.Prelude.{◌≡◌, ◌≢◌, ◌≤◌, ◌<◌, ◌+◌, ◌++◌, ◌∷◌, [], List, ℕ, codes, decimal, OnOk, OnErr, IfOk, IfSome, IsNone, IsTrue, Err, is_some, map, replicate, if◌then◌else◌};
 ghost use Rattle.dma_engine.specs.Answer.{answers, reply_of};
 ghost use Rattle.dma_engine.specs.Room.{IsIdle};
 ghost use Rattle.dma_engine.specs.declared.call.Call.TheVariants as calls;
@@ -180,6 +180,20 @@ fn print_step(
     print_line(out, &(("step ", ch, " ", Shown(turned)), " x", 1u32))
 }
 
+/// Appends the line of one step that moved. Most channels have one digit.
+fn print_moved(ch: u8, out: &mut Vec<u8>) -> Result<(), AllocError>
+    ensures ok { OnOk result
+        (out.new.items ≡ out.old.items ++ (codes "step " ++ decimal ch ++ (codes " moved x1" ++ 10 ∷ []))) }
+    ensures err { OnErr result (out.new.items ≡ out.old.items) }
+{
+    if ch < 10 {
+        let mut line = *b"step 0 moved x1\n";
+        line[5] += ch;
+        return out.extend_from_slice(&line);
+    }
+    print(out, &("step ", ch, " moved x1\n"))
+}
+
 /// Executes a `step` line of one step. The line is appended directly to the output.
 #[inline(never)]
 pub fn answer_step(engine: &mut Engine, ch: u8, out: &mut Vec<u8>) -> Result<(), AllocError>
@@ -188,7 +202,7 @@ pub fn answer_step(engine: &mut Engine, ch: u8, out: &mut Vec<u8>) -> Result<(),
 {
     match engine.step(ch) {
         // Most steps move.
-        Ok(Turn::Moved) => print(out, &("step ", ch, " moved x1\n")),
+        Ok(Turn::Moved) => print_moved(ch, out),
         turned => print_step(ch, turned, out),
     }
 }

@@ -11,7 +11,7 @@ use dma_commands::printing::Shown;
 use dma_commands::run::calls::call_of;
 use dma_commands::transfers::transfer_of;
 use dma_engine::{Call, Reply};
-use dma_script::interpreter::{Interpreter, interpret_lines};
+use dma_script::interpreter::Interpreter;
 use dma_script::plan::TransferLine;
 use dma_script::printing::print_line;
 use dma_script::statements::{Statement, Statements};
@@ -167,5 +167,5 @@ pub fn run_early_statements<N: DeskName, R: Wait>(
     ensures err { OnErr result (PrintsFirst lines out.old.items out.new.items) }
 {
     let mut desk = LinesOnDesk { rt, shared, reader };
-    interpret_lines(&mut desk, lines, out)
+    lines.run(&mut desk, out)
 }

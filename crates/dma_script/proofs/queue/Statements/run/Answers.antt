@@ -1,13 +1,19 @@
-use Rattle.std.proofs.Common.{rules}
-use Rattle.dma_script.proofs.InterpretedLemmas.{ran-none, ran-more, taken-rest}
+use Rattle.std.proofs.Common.{◌≡◌, rules, subst, sym}
+use Rattle.std.specs.List.{All}
+use Rattle.std.specs.Vec.Iter.{into_iter_items}
+use Rattle.dma_script.specs.inner.Queued.{statements_in}
+use Rattle.dma_script.proofs.InterpretedLemmas.{RanSoFar, ran-none, ran-more, taken-rest}
 use Rattle.dma_script.proofs.queue.Statements.run.Goals as goal
 
 pub loop-ran-init : goal.loop-ran-init
-loop-ran-init g c = record {
-  ran = ran-none g.I.Interpreter.acts c.args.interpreter.now c.args.self c.args.out.now.items;
-  taken = c.requires.taken;
-  ready = c.requires.ready;
-}
+loop-ran-init g c =
+    let whole : statements_in c.deref.result.now (into_iter_items c.into_iter.result) (into_iter_items c.into_iter-2.result) ≡ c.args.self = rw (c.deref.ensures.value, c.into_iter.ensures.rest, c.into_iter-2.ensures.rest) c.self.view_is in
+    let acts = g.I.Interpreter.acts in
+    record {
+      ran = subst (λ left. RanSoFar acts c.args.interpreter.now c.args.self left c.args.interpreter.now c.args.out.now.items c.args.out.now.items) (sym whole) (ran-none acts c.args.interpreter.now c.args.self c.args.out.now.items);
+      taken = subst (All g.I.Interpreter.takes) (sym whole) c.requires.taken;
+      ready = c.requires.ready;
+    }
 
 pub loop-ran-preserved : goal.loop-ran-preserved
 loop-ran-preserved g c =

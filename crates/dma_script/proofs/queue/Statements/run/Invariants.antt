@@ -6,7 +6,7 @@ use Rattle.dma_script.proofs.queue.Statements.run.Given as goal
 
 abbrev pub invariant-loop-ran : goal.invariant-loop-ran
 invariant-loop-ran g l = record {
-  ran : RanSoFar g.I.Interpreter.acts l.initial.interpreter l.initial.left l.left l.interpreter l.initial.out.items l.out.items;
+  ran : RanSoFar g.I.Interpreter.acts l.initial.interpreter l.fn.self l.left l.interpreter l.initial.out.items l.out.items;
   taken : All g.I.Interpreter.takes l.left;
   ready : g.I.Interpreter.is_ready l.interpreter;
 }

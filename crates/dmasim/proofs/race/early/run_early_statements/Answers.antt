@@ -3,7 +3,7 @@ use Rattle.dmasim.proofs.RaceLemmas.{all_early, first_early}
 use Rattle.dmasim.proofs.race.early.run_early_statements.Goals as goal
 
 pub returns-clause-ok : goal.returns-clause-ok
-returns-clause-ok g c = on_ok_weaker c.interpret_lines.result (λ done. all_early _ _ _ _ _ done) c.interpret_lines.ensures.ok
+returns-clause-ok g c = on_ok_weaker c.run.result (λ done. all_early _ _ _ _ _ done) c.run.ensures.ok
 
 pub returns-clause-err : goal.returns-clause-err
-returns-clause-err g c = on_err_weaker c.interpret_lines.result (λ stop. first_early _ _ _ _ _ _ c.requires.early stop) c.interpret_lines.ensures.err
+returns-clause-err g c = on_err_weaker c.run.result (λ stop. first_early _ _ _ _ _ _ c.requires.early stop) c.run.ensures.err
