@@ -183,7 +183,7 @@ def sentences_of(found):
     yield trust, f"That is {lines} lines in {files} files (with the sentences {lines + said})."
     yield trust, f"Besides, {declared} lines declare the types of the values in {sources} files of `src/`"
     yield "README.md", f"the definitions behind these words, some {tens(lines)} lines"
-    for clause in ("begins", "kept", "remembers", "memory", "sound", "answers"):
+    for clause in ("begins", "kept", "remembers", "memory", "sound", "views", "answers"):
         lines, _, files = total(cited(HEADLINE, "run", [clause]), "specs")
         yield trust, f"| `{clause}` | {lines} lines in {files} files |"
     for command in ("run_script", "asm_main", "dis_main", "dma330_device_step"):

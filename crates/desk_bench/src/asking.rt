@@ -5,7 +5,7 @@ ghost use Rattle.dma_work.specs.Desk.{Names};
 use crate::copies::{Copies, load, loaded};
 use crate::plan::{Meanwhile, Measured, Times, since};
 use crate::stepping::{settled, step_often};
-use dma_work::{DeskName, Job, NoGate, Parts, Shared, StatusReader, Tally, Worker, work};
+use dma_work::{DeskName, Job, NoGate, Parts, Shared, StatusReader, Tally, work};
 use std::alloc::Global;
 use std::rt::Clock;
 use std::sync::atomic::{AtomicBool, Ordering};
@@ -98,16 +98,14 @@ fn work_on<N: DeskName, R: Wait>(
     copies: Copies,
     job: Job,
     ended: &AtomicBool,
-) -> Vec<Tally> {
+) -> Vec<Tally<N>> {
     let mut tallies = Vec::new(alloc);
     for _ in 0..MOST_ROUNDS {
         if ended.load(Ordering::SeqCst) || tallies.reserve(1).is_err() {
             break;
         }
         submit_some(rt, alloc, shared, copies, copies.in_a_round());
-        let mut worker = Worker::<N, _>::new(shared.lent(), 0);
-        work(rt, &mut worker, job, &NoGate);
-        tallies.push_reserved(worker.into_tally());
+        tallies.push_reserved(work(rt, shared, 0, job, &NoGate));
     }
     tallies
 }
@@ -135,7 +133,7 @@ pub fn time_statuses<N: DeskName + Send + Sync, R: Threads + Wait + Clock + CpuC
     times: u32,
     meanwhile: Meanwhile,
 ) -> Option<Measured>
-    requires { Names N.steps N.finished N.base N.log parts }
+    requires { Names N.steps N.finished N.size N.channels N.base N.log parts }
 {
     let shared = Shared::<N>::new(parts);
     let asking = readers.len().min(2) as u64;
@@ -145,7 +143,7 @@ pub fn time_statuses<N: DeskName + Send + Sync, R: Threads + Wait + Clock + CpuC
         || timed_asking(rt, readers, times, &ended),
         || copy_meanwhile(rt, alloc, &shared, meanwhile, &ended),
     );
-    let totals = settled(rt, shared, tallies)?;
+    let totals = settled(rt, shared.into_desk(), tallies.as_slice())?;
     Some(Measured {
         answers: asking * u64::from(times),
         steps: totals.steps,
@@ -161,7 +159,7 @@ fn copy_meanwhile<N: DeskName, R: Wait>(
     shared: &Shared<N>,
     meanwhile: Meanwhile,
     ended: &AtomicBool,
-) -> Vec<Tally> {
+) -> Vec<Tally<N>> {
     let copies = match meanwhile {
         Meanwhile::Nothing => return Vec::new(alloc),
         Meanwhile::Apart => {

@@ -5,7 +5,7 @@ ghost use Rattle.dma_work.specs.Desk.{Names};
 
 use crate::plan::{Measured, Times, since};
 use dma_engine::Engine;
-use dma_work::{DeskName, Job, NoGate, Parts, Shared, Tally, Totals, run_workers, settle};
+use dma_work::{Desk, DeskName, Job, NoGate, Parts, Shared, Tally, Totals, run_workers};
 use std::alloc::Global;
 use std::io;
 use std::rt::Clock;
@@ -70,13 +70,14 @@ pub fn time_workers<N: DeskName + Send + Sync, R: Threads + Wait + Clock + CpuCl
     jobs: &[Job],
 ) -> Option<Measured>
     requires few { length jobs.now < 2 ^ 32 }
-    requires parts { Names N.steps N.finished N.base N.log parts }
+    requires parts { Names N.steps N.finished N.size N.channels N.base N.log parts }
 {
     let shared = Shared::<N>::new(parts);
     let watch = Watch::started(rt);
     let tallies = run_workers(rt, alloc, &shared, jobs, &NoGate);
     let times = watch.times(rt);
-    let totals = settled(rt, shared, tallies.unwrap_or(Vec::new(alloc)))?;
+    let tallies = tallies.unwrap_or(Vec::new(alloc));
+    let totals = settled(rt, shared.into_desk(), tallies.as_slice())?;
     Some(Measured {
         answers: 0,
         steps: totals.steps,
@@ -88,13 +89,13 @@ pub fn time_workers<N: DeskName + Send + Sync, R: Threads + Wait + Clock + CpuCl
 /// Ends the desk. Returns the totals, or `None` if the tallies don't add up.
 pub fn settled<N: DeskName, R: Wait>(
     rt: &R,
-    shared: Shared<N>,
-    tallies: Vec<Tally>,
+    desk: Desk<N>,
+    tallies: &[Tally<N>],
 ) -> Option<Totals> {
-    match settle(rt, shared, tallies) {
+    match desk.settle(rt, tallies) {
         Ok((_engine, totals)) => Some(totals),
-        Err(missing) => {
-            drop(missing.close(rt));
+        Err(desk) => {
+            drop(desk.close(rt));
             None
         }
     }

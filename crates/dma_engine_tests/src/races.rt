@@ -40,6 +40,8 @@ impl InStep {
 }
 
 impl Gate for InStep {
+    ghost passes = { λ worker n. Unit {0} };
+
     fn turn<R: Wait>(&self, rt: &R, worker: u32, n: u64) {
         if worker > 1 || n == 0 {
             *self.is_wrong.lock(rt) = true;
@@ -87,7 +89,7 @@ fn run_again<N: DeskName + Send + Sync, R: Threads + Wait + Sync + Abort + Print
     shared: &Shared<N>,
     jobs: [Job; 2],
     gate: &G,
-) -> Result<Vec<Tally>, Fail> {
+) -> Result<Vec<Tally<N>>, Fail> {
     println!(rt; "refused run_workers")?;
     let desk = shared.desk().lock(rt);
     let steps = desk.engine().steps();
@@ -124,12 +126,12 @@ pub fn raced<N: DeskName + Send + Sync, R: Threads + Wait + Sync + Abort + Print
     jobs: [Job; 2],
     gate: &G,
 ) -> Result<Option<(Totals, usize)>, Fail>
-    requires names { Names N.steps N.finished N.base N.log parts }
+    requires names { Names N.steps N.finished N.size N.channels N.base N.log parts }
     requires follows { (N.log ≡ reader.log) × (N.base ≡ reader.base) }
 {
     let shared = Shared::<N>::new(parts);
     if let Err(fail) = begin(rt, alloc, &shared, &mut reader) {
-        drop(shared.close(rt));
+        drop(shared.into_desk().close(rt));
         return Err(fail);
     }
     let ((mut reader, is_right), tallies) = thread::join(
@@ -144,10 +146,10 @@ pub fn raced<N: DeskName + Send + Sync, R: Threads + Wait + Sync + Abort + Print
     match tallies {
         Ok(tallies) => {
             assert!(rt; is_right && reader.status(0, 1) == COMPLETE);
-            Ok(settled(rt, shared, tallies))
+            Ok(settled(rt, shared.into_desk(), tallies.as_slice()))
         }
         Err(fail) => {
-            drop(shared.close(rt));
+            drop(shared.into_desk().close(rt));
             Err(fail)
         }
     }

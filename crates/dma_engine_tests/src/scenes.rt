@@ -7,8 +7,7 @@ use dma_engine::{Engine, EngineFault, Status, Turn};
 use dma_mem::segment::Segment;
 use dma_mem::transfer::Transfer;
 use dma_work::{
-    Desk, DeskName, Job, NoGate, Parts, Receipt, ShareFault, ShareFaultKind, Shared, StatusReader,
-    Tally, Totals, Worker, settle, work,
+    Desk, DeskName, Parts, Receipt, ShareFault, ShareFaultKind, Shared, StatusReader, Tally, Totals,
 };
 use std::alloc::Global;
 use std::marker::Brand;
@@ -135,14 +134,14 @@ fn at_a_desk<N: DeskName, R: Wait + Abort + Print, S: Scene>(
     mut reader: StatusReader,
     scene: &S,
 ) -> Result<Engine, Fail>
-    requires names { Names N.steps N.finished N.base N.log parts }
+    requires names { Names N.steps N.finished N.size N.channels N.base N.log parts }
     requires follows { (N.log ≡ reader.log) × (N.base ≡ reader.base) }
 {
     let shared = Shared::<N>::new(parts);
     let mut desk = shared.desk().lock(rt);
     let answer = scene.at(rt, alloc, &mut desk, &mut reader);
     MutexGuard::unlock(desk);
-    let engine = shared.close(rt);
+    let engine = shared.into_desk().close(rt);
     answer?;
     Ok(engine)
 }
@@ -196,23 +195,16 @@ pub fn stepped<N: DeskName, R: Wait>(rt: &R, desk: &mut Desk<N>) -> Result<Turn,
     desk.step(rt, 0, &mut tally)
 }
 
-/// Takes the turns of a job as a worker, with no gate.
-pub fn worked<N: DeskName, R: Wait>(rt: &R, shared: &Shared<N>, number: u32, job: Job) -> Tally {
-    let mut worker = Worker::<N, _>::new(shared.lent(), number);
-    work(rt, &mut worker, job, &NoGate);
-    worker.into_tally()
-}
-
 /// Settles a desk. Returns the totals and the number of entries, or `None` if the tallies don't add up.
 pub fn settled<N: DeskName, R: Wait>(
     rt: &R,
-    shared: Shared<N>,
-    tallies: Vec<Tally>,
+    desk: Desk<N>,
+    tallies: &[Tally<N>],
 ) -> Option<(Totals, usize)> {
-    match settle(rt, shared, tallies) {
+    match desk.settle(rt, tallies) {
         Ok((engine, totals)) => Some((totals, engine.history().len())),
-        Err(missing) => {
-            drop(missing.close(rt));
+        Err(desk) => {
+            drop(desk.close(rt));
             None
         }
     }

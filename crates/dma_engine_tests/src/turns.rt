@@ -1,6 +1,6 @@
 //! The turns of a job, taken by a stepper that records the channels and checks the gate before each turn.
 
-use dma_work::{Gate, Job, Stepper, work};
+use dma_work::{Gate, Job, Stepper, take_turns};
 use std::sync::Wait;
 use std::sync::atomic::{AtomicU64, Ordering};
 use std::test::Fail;
@@ -21,6 +21,8 @@ impl Counted {
 }
 
 impl Gate for Counted {
+    ghost passes = { λ worker n. Unit {0} };
+
     fn turn<R: Wait>(&self, _rt: &R, worker: u32, n: u64) {
         let is_next = worker == WORKER && self.passed().wrapping_add(1) == n;
         let passed = if is_next { n } else { u64::MAX };
@@ -37,7 +39,7 @@ struct Noted<'a> {
     taken: u64,
 }
 
-impl Stepper for Noted<'_> {
+impl Stepper<Counted> for Noted<'_> {
     ghost use Rattle.std.specs.Prelude.{◌≡◌, ◌+◌};
 
     ghost worker = { λ s. 5 };
@@ -48,6 +50,10 @@ impl Stepper for Noted<'_> {
 
     fn worker(&self) -> u32 {
         WORKER
+    }
+
+    fn taken(&self) -> u64 {
+        self.taken
     }
 
     fn turn<R: Wait>(&mut self, _rt: &R, ch: u8) {
@@ -78,7 +84,7 @@ fn channels_come_in_rotation(rt: HostRuntime) -> Result<(), Fail> {
             channels: [0; 8],
             taken: 0,
         };
-        work(&rt, &mut noted, job, &gate);
+        take_turns(&rt, &mut noted, job, &gate);
         assert!(rt; (noted.channels, noted.taken) == (channels, turns));
         assert!(rt; noted.is_gated && gate.passed() == turns);
     }

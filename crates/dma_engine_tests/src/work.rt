@@ -5,13 +5,13 @@ ghost use Rattle.dma_work.specs.Desk.{Names};
 
 use crate::scenes::{
     COMPLETE, IN_PROGRESS, Scene, UNKNOWN, copy, issued, play, seen, settled, step_often, stepped,
-    submitted, with_a_reader, without_room, worked,
+    submitted, with_a_reader, without_room,
 };
 use dma_engine::{Engine, Outcome, Status, TransResult, Turn};
 use dma_work::{
-    Desk, DeskName, Job, MissingTally, Parts, Shared, StatusReader, Tally, Totals, settle,
+    Desk, DeskName, Job, NoGate, Parts, Shared, StatusReader, Tally, Totals, work,
 };
-use std::alloc::{AllocError, Global};
+use std::alloc::Global;
 use std::marker::Brand;
 use std::process::Abort;
 use std::sync::{MutexGuard, Wait};
@@ -101,13 +101,13 @@ fn reads_more<N: DeskName>(desk: &mut Desk<N>, readers: Vec<StatusReader>) -> bo
 
 // Returns the same for a desk of these parts, and ends the desk.
 fn has_places<N: DeskName, R: Wait>(rt: &R, parts: Parts, readers: Vec<StatusReader>) -> bool
-    requires { Names N.steps N.finished N.base N.log parts }
+    requires { Names N.steps N.finished N.size N.channels N.base N.log parts }
 {
     let shared = Shared::<N>::new(parts);
     let mut desk = shared.desk().lock(rt);
     let is_right = reads_more(&mut desk, readers);
     MutexGuard::unlock(desk);
-    drop(shared.close(rt));
+    drop(shared.into_desk().close(rt));
     is_right
 }
 
@@ -127,12 +127,6 @@ fn each_reader_answers(rt: HostRuntime) -> Result<(), Fail> {
 }
 
 // ---- a desk from its first call to its settlement
-
-fn list_of(alloc: Global, tally: Tally) -> Result<Vec<Tally>, AllocError> {
-    let mut list = Vec::new(alloc);
-    list.push(tally)?;
-    Ok(list)
-}
 
 // Pauses, starts and terminates the second copy.
 fn afternoon<N: DeskName, R: Wait + Abort>(
@@ -171,7 +165,7 @@ fn run_workers_and_terminate<N: DeskName, R: Wait + Abort>(
     shared: &Shared<N>,
     reader: &mut StatusReader,
     jobs: [Job; 2],
-) -> Result<(Vec<Tally>, Vec<Tally>), Fail>
+) -> Result<[Tally<N>; 2], Fail>
     requires { (N.log ≡ reader.old.log) × (N.base ≡ reader.old.base) }
 {
     let mut desk = shared.desk().lock(rt);
@@ -182,8 +176,8 @@ fn run_workers_and_terminate<N: DeskName, R: Wait + Abort>(
     reader.learn(receipt.ticket);
     assert!(rt; seen(reader) == [IN_PROGRESS, UNKNOWN, UNKNOWN]);
     let [first, second] = jobs;
-    let busy = worked(rt, shared, 5, first);
-    let idle = worked(rt, shared, 6, second);
+    let busy = work(rt, shared, 5, first, &NoGate);
+    let idle = work(rt, shared, 6, second, &NoGate);
     assert!(rt; (busy.worker(), busy.turns(), busy.steps(), busy.finishes()) == (5, 9, 8, 1));
     assert!(rt; (idle.worker(), idle.turns(), idle.steps(), idle.finishes()) == (6, 3, 0, 0));
     assert!(rt; seen(reader) == [COMPLETE, UNKNOWN, UNKNOWN]);
@@ -191,7 +185,7 @@ fn run_workers_and_terminate<N: DeskName, R: Wait + Abort>(
     let answer = afternoon(rt, alloc, &mut desk, reader);
     MutexGuard::unlock(desk);
     answer?;
-    Ok((list_of(alloc, busy)?, list_of(alloc, idle)?))
+    Ok([busy, idle])
 }
 
 // Settles the desk without the tally of the worker that stepped, and then without that of the other worker.
@@ -202,7 +196,7 @@ fn run_and_settle<N: DeskName, R: Wait + Abort>(
     mut reader: StatusReader,
     jobs: [Job; 2],
 ) -> Result<Option<Status>, Fail>
-    requires names { Names N.steps N.finished N.base N.log parts }
+    requires names { Names N.steps N.finished N.size N.channels N.base N.log parts }
     requires follows { (N.log ≡ reader.log) × (N.base ≡ reader.base) }
 {
     let totals = Totals {
@@ -211,24 +205,19 @@ fn run_and_settle<N: DeskName, R: Wait + Abort>(
         terminated: 1,
     };
     let shared = Shared::<N>::new(parts);
-    let (busy, idle) = match run_workers_and_terminate(rt, alloc, &shared, &mut reader, jobs) {
+    let [busy, idle] = match run_workers_and_terminate(rt, alloc, &shared, &mut reader, jobs) {
         Ok(tallies) => tallies,
         Err(fail) => {
-            drop(shared.close(rt));
+            drop(shared.into_desk().close(rt));
             return Err(fail);
         }
     };
-    let Err(missing) = settle(rt, shared, idle) else {
+    let Err(desk) = shared.into_desk().settle(rt, &[idle]) else {
         return Err(Fail::from("a tally is missing"));
     };
-    let MissingTally {
-        shared,
-        tallies,
-        book,
-    } = missing;
-    assert!(rt; (book, tallies.len()) == (totals, 1));
+    assert!(rt; desk.book() == totals);
     // two submits, two issues, a finish and a terminate
-    assert!(rt; settled(rt, shared, busy) == Some((totals, 6)));
+    assert!(rt; settled(rt, desk, &[busy]) == Some((totals, 6)));
     Ok(reader.status(0, 1))
 }
 

@@ -8,7 +8,7 @@ use crate::engine_lines::{CopyOfFour, READ_FAILED, copy, execute_lines, segment}
 use crate::engine_refused::{Pair, have_same_bytes, report_the_same};
 use dma_engine::{Engine, Turn};
 use dma_mem::marks::MarkKind::Reading;
-use dma_work::{DeskName, Job, NoGate, Parts, Shared, Tally, run_workers, settle};
+use dma_work::{Desk, DeskName, Job, NoGate, Parts, Shared, Tally, run_workers};
 use std::alloc::Global;
 use std::marker::Brand;
 use std::process::Abort;
@@ -66,10 +66,10 @@ fn go_on(alloc: Global, engine: &mut Engine) -> Result<(), Fail> {
 }
 
 // Settles a desk, or closes it if tallies are missing. Returns the engine, and whether the desk was settled.
-fn ended<N: DeskName, R: Wait>(rt: &R, shared: Shared<N>, tallies: Vec<Tally>) -> (Engine, bool) {
-    match settle(rt, shared, tallies) {
+fn ended<N: DeskName, R: Wait>(rt: &R, desk: Desk<N>, tallies: &[Tally<N>]) -> (Engine, bool) {
+    match desk.settle(rt, tallies) {
         Ok((engine, _totals)) => (engine, true),
-        Err(missing) => (missing.close(rt), false),
+        Err(desk) => (desk.close(rt), false),
     }
 }
 
@@ -82,14 +82,14 @@ fn through_a_desk<N: DeskName + Send + Sync, R: Threads + Wait + Sync>(
     job: Job,
     is_reported: bool,
 ) -> (Engine, bool)
-    requires { Names N.steps N.finished N.base N.log parts }
+    requires { Names N.steps N.finished N.size N.channels N.base N.log parts }
 {
     let shared = Shared::<N>::new(parts);
     let tallies = match run_workers(rt, alloc, &shared, &[job], &NoGate) {
         Ok(tallies) if is_reported => tallies,
         _ => Vec::new(alloc),
     };
-    ended(rt, shared, tallies)
+    ended(rt, shared.into_desk(), tallies.as_slice())
 }
 
 // The job's first channel is paused, halted, or about to begin a copy, which still runs after seven rounds.

@@ -3,7 +3,7 @@ use Rattle.std.proofs.Common.{◌≡◌, ℕ, ◌+◌, ◌<◌, ◌≤◌, List,
 use Rattle.std.specs.Prelude.{if◌then◌else◌, slice_set, Result, Ok}
 use Rattle.std.specs.List.{All}
 use Rattle.std.proofs.lemmas.Bool.{cases_eq, cases_lt}
-use Rattle.std.proofs.lemmas.List.{length-set, get_or-set_same, get_or-set_other, get_or_past}
+use Rattle.std.proofs.lemmas.List.{length-map, length-set, get_or-set_same, get_or-set_other, get_or_past}
 use Rattle.std.proofs.lemmas.List.Elements.{All-head, All-tail}
 use Rattle.std.proofs.Math.ListN.{get_or-map}
 use Rattle.logbook.specs.Pages.{Book}
@@ -15,15 +15,16 @@ use Rattle.dma_engine.specs.declared.call.Reply.TheVariants.{Cookie, Count, Done
 use Rattle.dma_engine.specs.declared.entry.Entry.{Entry}
 use Rattle.dma_engine.specs.declared.fault.EngineFault.{EngineFault}
 use Rattle.dma_engine.specs.declared.turn.Turn.{Turn}
-use Rattle.dma_engine.specs.Answer.{CallAnswers, StepAnswers, reply_of}
+use Rattle.dma_engine.specs.Answer.{CallAnswers, StepAnswers, checkpoint_fault, checkpointed, reply_of}
 use Rattle.dma_engine.specs.Laws.{Adds, IsQuiet, steps_in, finishes_in, ticks_in}
-use Rattle.dma_engine.specs.Object.{channel, empty_channel, used}
+use Rattle.dma_engine.specs.Object.{Object, channel, empty_channel, forget, used}
 use Rattle.dma_engine.specs.Ticks.{Tick, Submitted, Finished, Board, Counts, added_up, board_after, board_of, counts, counts_of, no_counts, tick_channel, ticked, ticks_of}
 use Rattle.dma_engine.specs.Turn.{ends, turn}
-use Rattle.dma_engine.specs.View.{EngineState, IsSound, View, channels, object_of}
+use Rattle.dma_engine.specs.View.{EngineState, IsSound, View, channels, object_of, size}
 use Rattle.dma_engine.proofs.CallLists.{answers-extend, quiet-extends}
 use Rattle.dma_engine.proofs.AnswerCounts.{quiet_calls_keep_counts, steps_add, ends_as_reported}
-use Rattle.dma_engine.proofs.Checkpoint.{checkpoints_keep}
+use Rattle.dma_engine.proofs.Checkpoint.{accepted, checkpoints_keep}
+use Rattle.dma_engine.proofs.Sizes.{many-channels, size-object}
 use Rattle.dma_engine.proofs.CookieCounts.{boards_count, base_counts_bounded, submits_add, terminates_add, ticks_name_channels}
 use Rattle.dma_work.specs.declared.worker.Totals.{Totals}
 use Rattle.dma_work.specs.Desk.{stepped_book}
@@ -133,12 +134,21 @@ acted_next p r v m w l t u same more is ready shown =
 pub no_more : (p : PublisherState) → p ≡ record p { shown = board_and p.shown [] }
 no_more p = ap (λ l. record p { shown = record (p.shown) { ticks = l } }) (sym (append-nil p.shown.ticks))
 
-module _ (s f : ℕ) (base : Board) (log : Book) where
+-- the sizes of views with one base
+same_size : (v w : View) → w.base ≡ v.base → size w ≡ size v
+same_size v w same =
+    size-object w.base w.history ∙ ap (λ (o : Object). length o.image) same ∙ sym (size-object v.base v.history)
+
+same_many : (v w : View) → w.base ≡ v.base → channels w ≡ channels v
+same_many v w same =
+    many-channels w.base w.history ∙ ap (λ (o : Object). length o.channels) same ∙ sym (many-channels v.base v.history)
+
+module _ (s f bytes many : ℕ) (base : Board) (log : Book) where
   board : List Tick → BoardState
   board ticks = record { base = base; ticks = ticks; log = log }
 
   -- a call that adds ticks, which are published, and counts in the book as it does in the engine
-  kept_by : (old new : EngineState) (p q : PublisherState) (b e : Totals) (more : List Tick) (moves finishes : ℕ) → Adds old.view new.view more moves finishes → new.view.base ≡ old.view.base → q ≡ record p { shown = board_and p.shown more } → e.steps ≡ b.steps + moves → e.finished + e.terminated ≡ b.finished + b.terminated + finishes → IsKept s f base log old p b → IsKept s f base log new q e
+  kept_by : (old new : EngineState) (p q : PublisherState) (b e : Totals) (more : List Tick) (moves finishes : ℕ) → Adds old.view new.view more moves finishes → new.view.base ≡ old.view.base → q ≡ record p { shown = board_and p.shown more } → e.steps ≡ b.steps + moves → e.finished + e.terminated ≡ b.finished + b.terminated + finishes → IsKept s f bytes many base log old p b → IsKept s f bytes many base log new q e
   unfolding board
   kept_by old new p q b e more moves finishes a same is steps done k = rw is (record {
     shown = ap (λ (x : BoardState). board_and x more) k.shown
@@ -148,10 +158,12 @@ module _ (s f : ℕ) (base : Board) (log : Book) where
     small = k.small;
     counted = omega (arith, k.counted, a.steps, steps);
     done = omega (arith, k.done, a.finished, done);
+    bytes_are = same_size old.view new.view same ∙ k.bytes_are;
+    many_are = same_many old.view new.view same ∙ k.many_are;
   })
 
   -- a call that gives no cookie and finishes none
-  pub kept_quiet : (old new : EngineState) (p : PublisherState) (b : Totals) (call : Call) (reply : Reply) → IsQuiet call → CallAnswers old.view call reply new.view → IsKept s f base log old p b → IsKept s f base log new p b
+  pub kept_quiet : (old new : EngineState) (p : PublisherState) (b : Totals) (call : Call) (reply : Reply) → IsQuiet call → CallAnswers old.view call reply new.view → IsKept s f bytes many base log old p b → IsKept s f bytes many base log new p b
   kept_quiet old new p b call reply q h k =
       let t = quiet_calls_keep_counts old.view new.view call reply q h in
       let a : Adds old.view new.view [] 0 0 = record {
@@ -162,24 +174,24 @@ module _ (s f : ℕ) (base : Board) (log : Book) where
       kept_by old new p p b b [] 0 0 a (answers-extend old.view new.view call reply (quiet-extends call reply q) h).0 (no_more p) (omega arith) (omega arith) k
 
   -- a step
-  pub kept_step : (old new : EngineState) (p q : PublisherState) (b : Totals) (ch : ℕ) (r : Result Turn EngineFault) → StepAnswers old.view ch r new.view → q ≡ record p { shown = board_and p.shown (ticks_in ch r) } → IsKept s f base log old p b → IsKept s f base log new q (stepped_book b r)
+  pub kept_step : (old new : EngineState) (p q : PublisherState) (b : Totals) (ch : ℕ) (r : Result Turn EngineFault) → StepAnswers old.view ch r new.view → q ≡ record p { shown = board_and p.shown (ticks_in ch r) } → IsKept s f bytes many base log old p b → IsKept s f bytes many base log new q (stepped_book b r)
   kept_step old new p q b ch r h is k =
       kept_by old new p q b (stepped_book b r) (ticks_in ch r) (steps_in r) (finishes_in r) (steps_add old.view new.view ch r h) (answers-extend old.view new.view (Step ch) (reply_of Turned r) refl h).0 is refl (omega arith) k
 
   -- a step that finishes no cookie, which publishes nothing
-  pub kept_on : (old new : EngineState) (p : PublisherState) (b : Totals) (ch : ℕ) (r : Result Turn EngineFault) → ends (turn old.view ch).0 ≡ false → StepAnswers old.view ch r new.view → IsKept s f base log old p b → IsKept s f base log new p (stepped_book b r)
+  pub kept_on : (old new : EngineState) (p : PublisherState) (b : Totals) (ch : ℕ) (r : Result Turn EngineFault) → ends (turn old.view ch).0 ≡ false → StepAnswers old.view ch r new.view → IsKept s f bytes many base log old p b → IsKept s f bytes many base log new p (stepped_book b r)
   kept_on old new p b ch r on h k =
       kept_step old new p p b ch r h (no_more p ∙ ap (λ l. record p { shown = board_and p.shown l }) (sym (goes_on old.view new.view ch r on h))) k
 
   -- one more tick was made ready, the engine added it, and it was published
-  pub kept_next : (old m new : EngineState) (p r q : PublisherState) (b e : Totals) (l : List BoardState) (t u : Tick) (moves finishes : ℕ) → m.view ≡ old.view → Adds m.view new.view (u ∷ []) moves finishes → new.view.base ≡ m.view.base → t ≡ u → r ≡ record p { pending = l } → q ≡ record r { shown = board_with r.shown t; pending = [] } → e.steps ≡ b.steps + moves → e.finished + e.terminated ≡ b.finished + b.terminated + finishes → IsKept s f base log old p b → IsKept s f base log new q e
+  pub kept_next : (old m new : EngineState) (p r q : PublisherState) (b e : Totals) (l : List BoardState) (t u : Tick) (moves finishes : ℕ) → m.view ≡ old.view → Adds m.view new.view (u ∷ []) moves finishes → new.view.base ≡ m.view.base → t ≡ u → r ≡ record p { pending = l } → q ≡ record r { shown = board_with r.shown t; pending = [] } → e.steps ≡ b.steps + moves → e.finished + e.terminated ≡ b.finished + b.terminated + finishes → IsKept s f bytes many base log old p b → IsKept s f bytes many base log new q e
   kept_next old m new p r q b e l t u moves finishes same a from is ready published steps done k =
       let all : q ≡ record p { shown = board_and p.shown (u ∷ []) } =
       published ∙ rw (ready, is) (ap (λ (x : List BoardState). record p { shown = board_with p.shown u; pending = x }) (sym k.pending)) in
       kept_by old new p q b e (u ∷ []) moves finishes (subst (λ v. Adds v new.view (u ∷ []) moves finishes) same a) (from ∙ ap (λ (v : View). v.base) same) all steps done k
 
   -- a checkpoint: what was published comes before the new history
-  pub kept_checkpoint : (old new : EngineState) (p q : PublisherState) (b : Totals) → IsSound old.view → CallAnswers old.view Checkpoint Done new.view → q ≡ record p { before = p.shown.ticks } → IsKept s f base log old p b → IsKept s f base log new q b
+  pub kept_checkpoint : (old new : EngineState) (p q : PublisherState) (b : Totals) → IsSound old.view → CallAnswers old.view Checkpoint Done new.view → q ≡ record p { before = p.shown.ticks } → IsKept s f bytes many base log old p b → IsKept s f bytes many base log new q b
   unfolding board
   kept_checkpoint old new p q b sound h is k =
       let c = checkpoints_keep old.view new.view sound h in
@@ -187,6 +199,7 @@ module _ (s f : ℕ) (base : Board) (log : Book) where
       let o = base_counts_bounded old.view sound in
       let few : length (board_of old.view.base) ≤ 8 = omega (arith, o.0, o.1) in
       let there = subst (λ n. All (λ t. tick_channel t < n) ticks) (sym o.0) (ticks_name_channels old.view sound) in
+      let next : new.view ≡ checkpointed old.view = accepted (checkpoint_fault old.view) old.view new.view (checkpointed old.view) h in
       let before : p.shown.ticks ≡ p.before ++ ticks = ap (λ (x : BoardState). x.ticks) k.shown in
       rw is (record {
         shown = k.shown ∙ ap board (sym before ∙ sym (ap (λ (es : List Entry). p.shown.ticks ++ ticks_of es) c.0 ∙ append-nil p.shown.ticks));
@@ -197,6 +210,8 @@ module _ (s f : ℕ) (base : Board) (log : Book) where
         small = k.small;
         counted = k.counted ∙ sym c.2;
         done = k.done ∙ sym c.3;
+        bytes_are = ap size next ∙ k.bytes_are;
+        many_are = ap channels next ∙ length-map (object_of old.view).channels forget ∙ k.many_are;
       })
 
 -- The published board has the engine's own counts of each channel.
@@ -211,9 +226,9 @@ board_counts base before v opens h ch less =
 
 -- ---- what a ticket shows
 
-module _ (s f : ℕ) (base : Board) (log : Book) where
+module _ (s f bytes many : ℕ) (base : Board) (log : Book) where
   -- the cookie of a submit is given in the list that is published then
-  pub given_in : (new : EngineState) (q : PublisherState) (b : Totals) (v : View) (ch cookie : ℕ) (t : Descriptor) (list : List Tick) → CallAnswers v (Submit ch t) (Cookie cookie) new.view → IsSound new.view → IsKept s f base log new q b → list ≡ q.shown.ticks → IsGiven base list ch cookie
+  pub given_in : (new : EngineState) (q : PublisherState) (b : Totals) (v : View) (ch cookie : ℕ) (t : Descriptor) (list : List Tick) → CallAnswers v (Submit ch t) (Cookie cookie) new.view → IsSound new.view → IsKept s f bytes many base log new q b → list ≡ q.shown.ticks → IsGiven base list ch cookie
   given_in new q b v ch cookie t list h sound k is =
       let s = submits_add v new.view ch cookie t h in
       let all = is ∙ ap (λ (x : BoardState). x.ticks) k.shown in
@@ -222,7 +237,7 @@ module _ (s f : ℕ) (base : Board) (log : Book) where
       (s.2, omega (arith, at, s.3))
 
   -- and after a terminate all cookies of its channel are finished
-  pub finished_in : (new : EngineState) (q : PublisherState) (b : Totals) (v : View) (ch count through : ℕ) (list : List Tick) → CallAnswers v (Terminate ch) (Count count) new.view → IsSound new.view → IsKept s f base log new q b → list ≡ q.shown.ticks → through ≡ used (channel (object_of new.view) ch) → AreFinished base list ch through
+  pub finished_in : (new : EngineState) (q : PublisherState) (b : Totals) (v : View) (ch count through : ℕ) (list : List Tick) → CallAnswers v (Terminate ch) (Count count) new.view → IsSound new.view → IsKept s f bytes many base log new q b → list ≡ q.shown.ticks → through ≡ used (channel (object_of new.view) ch) → AreFinished base list ch through
   finished_in new q b v ch count through list h sound k is through_is =
       let s = terminates_add v new.view ch count h in
       let all = is ∙ ap (λ (x : BoardState). x.ticks) k.shown in

@@ -1,5 +1,5 @@
 -- Lemmas on beginnings of lists, on boards, on the log's step, on the rule of what is published, on the start of a list
--- and on rotations.
+-- on rotations and on the turns of workers.
 pub mod Beginnings
 pub mod Boards
 pub mod LogSteps
@@ -8,4 +8,5 @@ pub mod FirstBoards
 pub mod Desks
 pub mod ItemsOfLists
 pub mod Rotations
+pub mod Turns
 pub mod StatusLaws

@@ -6,7 +6,7 @@ use Rattle.dma_engine.specs.Answer.{CallAnswers, StepAnswers, reply_of}
 use Rattle.dma_engine.specs.Laws.{steps_in, finishes_in}
 use Rattle.dma_engine.specs.Object.{finished_all}
 use Rattle.dma_engine.specs.Ticks.{Board, Tick, ticks_of}
-use Rattle.dma_engine.specs.View.{EngineState, IsSound, memory_of, object_of}
+use Rattle.dma_engine.specs.View.{EngineState, IsSound, View, channels, memory_of, object_of, size}
 use Rattle.dma_engine.specs.declared.call.Call.{Call}
 use Rattle.dma_engine.specs.declared.call.Reply.{Reply}
 use Rattle.dma_engine.specs.declared.call.Reply.TheVariants.{Done}
@@ -32,10 +32,17 @@ pub record DeskState : Type 0 where
 abbrev pub published : DeskState → List Tick
 published d = d.before ++ ticks_of d.engine.view.history
 
--- These parts have this step count, number of finished cookies, base and log.
-abbrev pub Names : ℕ → ℕ → Board → Book → PartsState → Type 0
-Names steps finished base log p =
-    (steps ≡ p.engine.view.steps) × (finished ≡ finished_all (object_of p.engine.view)) × (base ≡ p.base) × (log ≡ p.log)
+-- A sound view of an engine with this size of memory and this number of channels.
+pub record IsSoundOf (bytes many : ℕ) (v : View) : Type 0 where
+  pub sound : IsSound v
+  pub bytes_are : size v ≡ bytes
+  pub many_are : channels v ≡ many
+
+-- These parts have this step count, number of finished cookies, size, number of channels, base and log.
+abbrev pub Names : ℕ → ℕ → ℕ → ℕ → Board → Book → PartsState → Type 0
+Names steps finished bytes many base log p =
+    (steps ≡ p.engine.view.steps) × (finished ≡ finished_all (object_of p.engine.view)) × (bytes ≡ size p.engine.view)
+    × (many ≡ channels p.engine.view) × (base ≡ p.base) × (log ≡ p.log)
 
 -- The book is unchanged, and so are the ticks that were published before those of the history.
 abbrev pub SameBook : DeskState → DeskState → Type 0
@@ -86,23 +93,27 @@ abbrev pub Differ : List TallyCounts → Totals → Type 0
 Differ tallies book = (steps_of tallies ≢ book.steps) ⊎ (finishes_of tallies ≢ book.finished)
 
 -- A desk has ended with this engine and this book. The tallies add up to the book, which has the increase of the
--- engine's step count and number of finished cookies since these values.
-pub record IsSettled (steps finished : ℕ) (tallies : List TallyCounts) (engine : EngineState) (book : Totals) : Type 0 where
+-- engine's step count and number of finished cookies since these values. The engine has this size and this number of
+-- channels.
+pub record IsSettled
+    (steps finished bytes many : ℕ) (tallies : List TallyCounts) (engine : EngineState) (book : Totals) : Type 0 where
   pub adds : AddUp tallies book
   pub counted : engine.view.steps ≡ steps + book.steps
   pub done : finished_all (object_of engine.view) ≡ finished + (book.finished + book.terminated)
-  pub sound : IsSound engine.view
+  pub sound : IsSoundOf bytes many engine.view
   pub memory : engine.memory ≡ memory_of engine.view
 
 -- a tally after a step with this answer, which may be a refusal
 abbrev pub counted : Result Turn EngineFault → TallyCounts → TallyCounts
 counted r t = record t { turns = t.turns + 1; steps = t.steps + steps_in r; finishes = t.finishes + finishes_in r }
 
--- A step of a channel, counted: the engine's step has some answer, which the desk's book and a tally count. The ticks
--- that were published before those of the history are unchanged.
+-- A step of a channel, counted, of a sound desk with this size and this number of channels: the engine's step has some
+-- answer, which the desk's book and a tally count. The ticks that were published before those of the history are
+-- unchanged.
 pub record CountsAStep
-    (ch : ℕ) (tally : TallyCounts) (old : DeskState) (tally_after : TallyCounts) (new : DeskState)
+    (bytes many ch : ℕ) (tally : TallyCounts) (old : DeskState) (tally_after : TallyCounts) (new : DeskState)
     : Type 0 where
+  pub sound : IsSoundOf bytes many old.engine.view
   pub answer : Result Turn EngineFault
   pub step : StepAnswers old.engine.view ch answer new.engine.view
   pub book : new.book ≡ stepped_book old.book answer
@@ -114,8 +125,13 @@ pub record WorkerState (L : Type 0) : Type 0 where
   pub lender : L
   pub tally : TallyCounts
 
--- A worker's turn: it is lent a desk for one step of the channel, and does nothing else. `lends` relates the desk that
--- is lent and the desk that is given back.
-abbrev pub TakesAStep : {L : Type 0} → (L → DeskState → DeskState → L → Type 0) → WorkerState L → ℕ → WorkerState L → Type 0
-TakesAStep lends old ch new =
-    (d : DeskState) × (e : DeskState) × lends old.lender d e new.lender × CountsAStep ch old.tally d new.tally e
+-- A worker's turn: its gate has let it pass, it is lent a desk for one step of the channel, and does nothing else.
+-- `passes` has a worker and the number of its turn; `lends` relates the desk that is lent and the desk that is given
+-- back.
+abbrev pub TakesAStep
+    : {L : Type 0} → ℕ → ℕ → (ℕ → ℕ → Type 0) → (L → DeskState → DeskState → L → Type 0) → WorkerState L → ℕ
+    → WorkerState L → Type 0
+TakesAStep bytes many passes lends old ch new =
+    passes old.tally.worker (old.tally.turns + 1)
+    × ((d : DeskState) × (e : DeskState) × lends old.lender d e new.lender
+    × CountsAStep bytes many ch old.tally d new.tally e)

@@ -6,8 +6,8 @@ ghost use Rattle.dma_engine.specs.Answer.{CallAnswers, StepAnswers, checked, rep
 ghost use Rattle.dma_engine.specs.Laws.{IsQuiet};
 ghost use Rattle.dma_engine.specs.Object.{channel, finished_all, used};
 ghost use Rattle.dma_engine.specs.Room.{HasNoSpare};
-ghost use Rattle.dma_engine.specs.View.{IsSound, memory_of, object_of};
-ghost use Rattle.dma_work.specs.Desk.{Answers, Differ, AnswersDone, IsSettled, Names, SameBook, counted, new_tally, no_totals, published, stepped_book};
+ghost use Rattle.dma_engine.specs.View.{memory_of, object_of};
+ghost use Rattle.dma_work.specs.Desk.{Answers, Differ, AnswersDone, IsSettled, IsSoundOf, Names, SameBook, counted, new_tally, no_totals, published, stepped_book};
 ghost use Rattle.dma_work.specs.Known.{knows};
 ghost use Rattle.dma_work.specs.Laws.{AreCounts};
 ghost use Rattle.dma_work.specs.Ticks.{base_of, board_from};
@@ -23,8 +23,8 @@ use dma_mem::transfer::Transfer;
 use std::marker::{Brand, Model, PhantomData};
 use std::sync::Wait;
 
-/// Names a desk by four values: the log of its published list, the counts with which its board begins, and the engine's
-/// step count and number of finished cookies when the desk was made.
+/// Names a desk by six values: the log of its published list, the counts with which its board begins, and the engine's
+/// step count, number of finished cookies, memory size and number of channels when the desk was made.
 pub trait DeskName {
     ghost use Rattle.std.specs.Prelude.{ℕ};
     ghost use Rattle.logbook.specs.Pages.{Book};
@@ -33,6 +33,10 @@ pub trait DeskName {
     ghost steps: { ℕ };
 
     ghost finished: { ℕ };
+
+    ghost size: { ℕ };
+
+    ghost channels: { ℕ };
 
     ghost base: { Board };
 
@@ -46,6 +50,10 @@ impl DeskName for Brand {
 
     ghost finished = { 0 };
 
+    ghost size = { 0 };
+
+    ghost channels = { 0 };
+
     ghost base = { [] };
 
     ghost log = { record { number = 0; log_name = 0; cells_name = 0 } };
@@ -54,9 +62,10 @@ impl DeskName for Brand {
 /// The value behind the lock: an engine, a book of the totals of what was done through the desk, and the publisher of
 /// what status readers see.
 ///
-/// Its type guarantees three facts. The published list ends with the ticks of the engine's history, and no tick is
+/// Its type guarantees four facts. The published list ends with the ticks of the engine's history, and no tick is
 /// pending. The published ticks before those add up to the counts with which the history begins. The book has the
-/// increase of the engine's step count and finished cookies since the values that N names.
+/// increase of the engine's step count and finished cookies since the values that N names. The engine's memory has the
+/// size, and the engine the number of channels, that N names.
 pub struct Desk<N: DeskName> {
     engine: Engine,
     publisher: Publisher,
@@ -72,13 +81,14 @@ impl<N: DeskName> Model for Desk<N> {
 
     ghost view = { λ d. record { engine = d.engine; book = d.book; before = d.publisher.before } };
 
-    ghost invariant = { λ d. IsKept N.steps N.finished N.base N.log d.engine d.publisher d.book };
+    ghost invariant = { λ d. IsKept N.steps N.finished N.size N.channels N.base N.log
+        d.engine d.publisher d.book };
 }
 
 impl<N: DeskName> Desk<N> {
     /// Returns a desk of these parts, with an empty book. N names the parts.
     pub fn new(parts: Parts) -> Desk<N>
-        requires { Names N.steps N.finished N.base N.log parts }
+        requires { Names N.steps N.finished N.size N.channels N.base N.log parts }
         ensures { result ≡ record { engine = parts.engine; book = no_totals; before = [] } }
     {
         let Parts { engine, publisher } = parts;
@@ -99,7 +109,7 @@ impl<N: DeskName> Desk<N> {
             ≡ finished_all (object_of self.now.engine.view) }
         ensures opens { board_from N.base self.now.before ≡ base_of self.now.engine.view }
         ensures counts { AreCounts N.base }
-        ensures sound { IsSound self.now.engine.view }
+        ensures sound { IsSoundOf N.size N.channels self.now.engine.view }
         ensures memory { self.now.engine.memory ≡ memory_of self.now.engine.view }
     {
         // gives the proof access to the engine's invariant
@@ -115,7 +125,7 @@ impl<N: DeskName> Desk<N> {
     }
 
     /// Returns a tally for a worker, with nothing counted.
-    pub fn tally(&mut self, worker: u32) -> Tally
+    pub fn tally(&mut self, worker: u32) -> Tally<N>
         ensures tally { result ≡ new_tally worker }
         ensures same { self.new ≡ self.old }
     {
@@ -247,7 +257,12 @@ impl<N: DeskName> Desk<N> {
     /// finish for `Finished`. The tally also counts a turn for each call; it has fewer than 2^64 - 1 turns before.
     ///
     /// Only a step that finishes a cookie publishes. A refused step changes nothing but the tally's number of turns.
-    pub fn step<R: Wait>(&mut self, rt: &R, ch: u8, tally: &mut Tally) -> Result<Turn, EngineFault>
+    pub fn step<R: Wait>(
+        &mut self,
+        rt: &R,
+        ch: u8,
+        tally: &mut Tally<N>,
+    ) -> Result<Turn, EngineFault>
         requires { tally.old.turns < u64.MAX }
         ensures answer { StepAnswers self.old.engine.view ch result self.new.engine.view }
         ensures book { self.new.book ≡ stepped_book self.old.book result }
@@ -346,7 +361,7 @@ impl<N: DeskName> Desk<N> {
         ensures steps { result.0.view.steps ≡ N.steps + result.1.steps }
         ensures finished { finished_all (object_of result.0.view)
             ≡ N.finished + (result.1.finished + result.1.terminated) }
-        ensures sound { IsSound result.0.view }
+        ensures sound { IsSoundOf N.size N.channels result.0.view }
         ensures memory { result.0.memory ≡ memory_of result.0.view }
     {
         let Desk {
@@ -364,17 +379,17 @@ impl<N: DeskName> Desk<N> {
     /// Ends the desk, and returns its unchanged engine. Readers see nothing from then on.
     pub fn close<R: Wait>(self, rt: &R) -> Engine
         ensures engine { result ≡ self.engine }
-        ensures sound { IsSound result.view }
+        ensures sound { IsSoundOf N.size N.channels result.view }
         ensures memory { result.memory ≡ memory_of result.view }
     {
         self.into_parts(rt).0
     }
 
-    /// Ends the desk if the tallies' steps and finishes add up to those of its book, and returns its unchanged engine
-    /// and its book. Otherwise it returns the desk.
-    pub fn settle<R: Wait>(self, rt: &R, tallies: &[Tally]) -> Result<(Engine, Totals), Desk<N>>
+    /// Ends the desk if the sums of the tallies' steps and finishes are those of its book, and returns its unchanged
+    /// engine and its book. Otherwise it returns the desk.
+    pub fn settle<R: Wait>(self, rt: &R, tallies: &[Tally<N>]) -> Result<(Engine, Totals), Desk<N>>
         ensures engine { IfOk result (λ r. (r.0 ≡ self.engine) × (r.1 ≡ self.book)) }
-        ensures settled { IfOk result (λ r. IsSettled N.steps N.finished tallies.now r.0 r.1) }
+        ensures settled { IfOk result (λ r. IsSettled N.steps N.finished N.size N.channels tallies.now r.0 r.1) }
         ensures missing { IfErr result (λ desk. Differ tallies.now desk.book) }
         ensures back { IfErr result (λ desk. desk ≡ self) }
     {

@@ -9,7 +9,7 @@ ghost use Rattle.dma_engine.specs.Ticks.{ticks_of};
 ghost use Rattle.dma_engine.specs.Turn.{ends, turn};
 ghost use Rattle.dma_work.specs.Known.{Known, knows};
 ghost use Rattle.dma_work.specs.Laws.{AreCounts};
-ghost use Rattle.dma_work.specs.inner.Published.{HasActed, IsLaterBoard, board_and, board_with, newest, snapshot_of};
+ghost use Rattle.dma_work.specs.inner.Published.{HasActed, IsLaterBoard, IsOfHistory, board_and, board_with, newest, snapshot_of};
 ghost use Rattle.dma_work.specs.Ticks.{base_of, board_from};
 
 use crate::board::{Board, BoardWriter, Counts, Published};
@@ -62,9 +62,17 @@ impl Model for Publisher {
         × (seen_by p.writer.desk.place ≡ Some (p.writer.desk.shown.value)) };
 }
 
-// Publishes what is pending.
-fn shown<R: Wait>(rt: &R, writer: BoardWriter) -> BoardWriter
-    requires { IsLaterBoard writer.desk.shown.value
+// Publishes what is pending, which the engine has already added to its history. `before` has the ticks that were
+// published before those of the history.
+fn shown<R: Wait>(
+    rt: &R,
+    writer: BoardWriter,
+    before: &Snapshot,
+    _engine: &Engine,
+) -> BoardWriter
+    requires later { IsLaterBoard writer.desk.shown.value
+        (newest writer.desk.shown.value (drop writer.behind writer.log.items)) }
+    requires acted { IsOfHistory before.now.ticks _engine.now.view
         (newest writer.desk.shown.value (drop writer.behind writer.log.items)) }
     ensures shown { result.desk.shown.value
         ≡ newest writer.desk.shown.value (drop writer.behind writer.log.items) }
@@ -128,7 +136,7 @@ impl Publisher {
             writer.take(rt);
             return None;
         };
-        let writer = shown(rt, writer);
+        let writer = shown(rt, writer, &before, engine);
         Some(Publisher {
             writer,
             log,
@@ -167,17 +175,19 @@ impl Publisher {
 
     /// Publishes the tick that was made ready, then records it in the log, and returns a snapshot. The engine has
     /// already added the tick to its history. It waits for readers that still use the board from before the last one.
-    pub fn publish<R: Wait>(&mut self, rt: &R, tick: Tick, _engine: &Engine) -> Snapshot
+    pub fn publish<R: Wait>(&mut self, rt: &R, tick: Tick, engine: &Engine) -> Snapshot
         requires pending { self.old.pending ≡ board_with self.old.shown tick ∷ [] }
         requires few { length self.old.shown.ticks < u64.MAX }
-        requires acted { HasActed self.old _engine.now.view tick }
+        requires acted { HasActed self.old engine.now.view tick }
         ensures published { self.new
             ≡ record (self.old) { shown = board_with self.old.shown tick; pending = [] } }
         ensures snapshot { result ≡ snapshot_of self.new.shown }
     {
-        replace_with(&mut self.writer, rt, |writer, rt| {
-            (shown(rt, writer), ())
-        });
+        replace_with(
+            &mut self.writer,
+            (rt, &self.before, engine),
+            |writer, (rt, before, engine)| (shown(rt, writer, before, engine), ()),
+        );
         self.log.record(rt, tick);
         self.log.snapshot()
     }

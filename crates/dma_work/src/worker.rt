@@ -21,16 +21,17 @@ pub struct Totals {
     pub terminated: u64,
 }
 
-/// A worker's counts of the steps that it took. They start at 0, only the step of a desk increases them, and a tally
-/// can't be copied.
+/// A worker's counts of the steps that it took of the desk that N names. They start at 0, only the step of that desk
+/// increases them, and a tally can't be copied.
 #[derive(Drop)]
-pub struct Tally {
+pub struct Tally<N: DeskName> {
     worker: u32,
     turns: u64,
     counts: Totals,
+    of: PhantomData<N>,
 }
 
-impl Model for Tally {
+impl<N: DeskName> Model for Tally<N> {
     ghost use Rattle.std.specs.Prelude.{◌≤◌};
     ghost use Rattle.dma_work.specs.Desk.{TallyCounts};
 
@@ -46,15 +47,16 @@ impl Model for Tally {
     ghost invariant = { λ t. (t.counts.steps ≤ t.turns) × (t.counts.finished ≤ t.turns) };
 }
 
-impl Tally {
+impl<N: DeskName> Tally<N> {
     /// Returns a tally with nothing counted.
-    pub(crate) fn new(worker: u32) -> Tally
+    pub(crate) fn new(worker: u32) -> Tally<N>
         ensures { result ≡ new_tally worker }
     {
         Tally {
             worker,
             turns: 0,
             counts: Totals::default(),
+            of: PhantomData,
         }
     }
 
@@ -114,7 +116,7 @@ impl Totals {
     }
 
     /// Returns whether the tallies' steps and finishes add up to these totals.
-    pub(crate) fn are_sums_of(&self, tallies: &[Tally]) -> bool
+    pub(crate) fn are_sums_of<N: DeskName>(&self, tallies: &[Tally<N>]) -> bool
         ensures yes { IsTrue result → AddUp tallies.now self.now }
         ensures no { result ≡ false → Differ tallies.now self.now }
     {
@@ -160,10 +162,16 @@ impl Job {
     }
 }
 
-/// A gate that a worker passes before each of its turns, without the lock. It may wait.
+/// A gate that a worker passes before each of its turns, without the lock. It may wait. Contracts see that a worker has
+/// passed it before its turn with this number: `passes worker n`.
 pub trait Gate: Sync {
+    ghost use Rattle.std.specs.Prelude.{ℕ};
+
+    ghost passes: { ℕ → ℕ → Type 0 };
+
     /// Called when worker `worker` is about to take its turn `n`, the first of which is 1.
-    fn turn<R: Wait>(&self, rt: &R, worker: u32, n: u64);
+    fn turn<R: Wait>(&self, rt: &R, worker: u32, n: u64)
+        ensures { passes worker n };
 }
 
 /// A gate that never waits.
@@ -171,13 +179,15 @@ pub trait Gate: Sync {
 pub struct NoGate;
 
 impl Gate for NoGate {
+    ghost passes = { λ worker n. Unit {0} };
+
     /// Returns at once.
     fn turn<R: Wait>(&self, _rt: &R, _worker: u32, _n: u64) {}
 }
 
-/// Takes the turns of a worker, each of which steps one channel. Contracts see the worker's number, how many turns it
-/// has taken, and the effect of a turn on a channel.
-pub trait Stepper {
+/// Takes the turns of a worker, each of which steps one channel once the worker has passed the gate. Contracts see the
+/// worker's number, how many turns it has taken, and the effect of a turn on a channel.
+pub trait Stepper<G: Gate> {
     ghost use Rattle.std.specs.Prelude.{ℕ};
 
     ghost worker: { Self → ℕ };
@@ -190,28 +200,34 @@ pub trait Stepper {
     fn worker(&self) -> u32
         ensures { result ≡ worker self.now };
 
-    /// Takes a turn, which steps a channel. Fewer than 2^64 - 1 turns were taken before.
+    /// Returns the number of turns that it has taken.
+    fn taken(&self) -> u64
+        ensures { result ≡ taken self.now };
+
+    /// Takes a turn, which steps a channel. The worker has passed the gate before this turn, and has taken fewer than
+    /// 2^64 - 1 turns.
     fn turn<R: Wait>(&mut self, rt: &R, ch: u8)
-        requires { taken self.old < u64.MAX }
+        requires few { taken self.old < u64.MAX }
+        requires passed { G.passes (worker self.old) (taken self.old + 1) }
         ensures worker { worker self.new ≡ worker self.old }
         ensures taken { taken self.new ≡ taken self.old + 1 }
         ensures acts { acts self.old ch self.new };
 }
 
-/// Takes the job's turns. In each turn it passes the gate, and then the stepper steps one channel: the job's channels
-/// in rotation, from the first one on (profile). The stepper does nothing else. With the turns that it took before,
-/// these are at most 2^64 - 1.
-pub fn work<R: Wait, S: Stepper, G: Gate>(rt: &R, stepper: &mut S, job: Job, gate: &G)
+/// Takes the job's turns. In each turn the worker passes the gate, and then the stepper steps one channel: the job's
+/// channels in rotation, from the first one on (profile). The stepper does nothing else. With the turns that it took
+/// before, these are at most 2^64 - 1.
+pub fn take_turns<R: Wait, G: Gate, S: Stepper<G>>(rt: &R, stepper: &mut S, job: Job, gate: &G)
     requires { S.taken stepper.old + job.turns < 2 ^ 64 }
     ensures worker { S.worker stepper.new ≡ S.worker stepper.old }
     ensures taken { S.taken stepper.new ≡ S.taken stepper.old + job.turns }
     ensures acts { StepsInTurn S.acts
         (rotation job.first job.last job.turns) stepper.old stepper.new }
 {
-    let worker = stepper.worker();
+    let (worker, taken) = (stepper.worker(), stepper.taken());
     let mut ch = job.first;
     for n in 0..job.turns {
-        gate.turn(rt, worker, n + 1);
+        gate.turn(rt, worker, taken + n + 1);
         stepper.turn(rt, ch);
         ch = if ch < job.last { ch + 1 } else { job.first };
     }
@@ -259,21 +275,23 @@ impl<'a, D> Lender<D> for Locked<'a, D> {
 
 // One step of a channel, counted in a tally.
 #[derive(Drop)]
-struct StepAt {
+struct StepAt<N: DeskName> {
     ch: u8,
-    tally: Tally,
+    tally: Tally<N>,
 }
 
-impl<N: DeskName> Borrower<Desk<N>> for StepAt {
+impl<N: DeskName> Borrower<Desk<N>> for StepAt<N> {
     ghost use Rattle.std.specs.Prelude.{◌≡◌, ◌<◌};
     ghost use Rattle.dma_work.specs.Desk.{CountsAStep};
 
     ghost can = { λ s. s.tally.turns < 18446744073709551615 };
 
-    ghost does = { λ s d t e. CountsAStep s.ch s.tally d t.tally e };
+    ghost does = { λ s d t e. CountsAStep N.size N.channels s.ch s.tally d t.tally e };
 
     /// Steps the desk's channel.
     fn borrow<R: Wait>(&mut self, rt: &R, lent: &mut Desk<N>) {
+        // gives the proof access to the desk's invariant
+        let _engine = lent.engine();
         let _ = lent.step(rt, self.ch, &mut self.tally);
     }
 }
@@ -281,10 +299,9 @@ impl<N: DeskName> Borrower<Desk<N>> for StepAt {
 /// Steps a desk that is lent to it for each turn, and keeps the tally of these steps. A refused step changes nothing
 /// but the tally's number of turns.
 #[derive(Drop)]
-pub struct Worker<N: DeskName, L> {
+pub(crate) struct Worker<N: DeskName, L> {
     lender: L,
-    step: StepAt,
-    of: PhantomData<N>,
+    step: StepAt<N>,
 }
 
 impl<N: DeskName, L> Model for Worker<N, L> {
@@ -305,12 +322,11 @@ impl<N: DeskName, L: Lender<Desk<N>>> Worker<N, L> {
         Worker {
             lender,
             step: StepAt { ch: 0, tally },
-            of: PhantomData,
         }
     }
 
     /// Ends the worker, and returns its tally.
-    pub fn into_tally(self) -> Tally
+    pub fn into_tally(self) -> Tally<N>
     where
         L: Drop,
         ensures { result ≡ self.tally }
@@ -319,17 +335,21 @@ impl<N: DeskName, L: Lender<Desk<N>>> Worker<N, L> {
     }
 }
 
-impl<N: DeskName, L: Lender<Desk<N>>> Stepper for Worker<N, L> {
+impl<N: DeskName, L: Lender<Desk<N>>, G: Gate> Stepper<G> for Worker<N, L> {
     ghost use Rattle.dma_work.specs.Desk.{TakesAStep};
 
     ghost worker = { λ w. w.tally.worker };
 
     ghost taken = { λ w. w.tally.turns };
 
-    ghost acts = { TakesAStep L.lends };
+    ghost acts = { TakesAStep N.size N.channels G.passes L.lends };
 
     fn worker(&self) -> u32 {
         self.step.tally.worker()
+    }
+
+    fn taken(&self) -> u64 {
+        self.step.tally.turns()
     }
 
     /// Borrows the desk, and steps its channel.

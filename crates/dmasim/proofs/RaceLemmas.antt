@@ -15,8 +15,11 @@ use Rattle.dma_engine.specs.declared.call.Call.TheVariants as calls
 use Rattle.dma_engine.specs.declared.call.Reply.{Reply}
 use Rattle.dma_engine.specs.declared.call.Reply.TheVariants.{Refused, State}
 use Rattle.dma_engine.specs.declared.fault.EngineFault.TheVariants.{NoMemory}
-use Rattle.dma_engine.specs.Answer.{CallAnswers, status_in}
-use Rattle.dma_engine.specs.View.{View, new_view}
+use Rattle.dma_engine.specs.Answer.{status_in}
+use Rattle.dma_engine.specs.View.{View, channels, new_fault, new_view, size}
+use Rattle.dma_engine.proofs.Sizes.{opening-many, opening-size}
+use Rattle.dma_engine.proofs.StaysSound.{new_views_are_sound}
+use Rattle.dma_work.specs.Desk.{DeskState, IsSoundOf}
 use Rattle.dma_script.specs.Command.{Answers, AppendsGroups, MayAppend, MayComplete, Printed, printed_text, refusal, text_of}
 use Rattle.dma_script.specs.Lines.{Gives}
 use Rattle.dma_script.specs.Printing.{error_line, fault_line}
@@ -28,155 +31,209 @@ use Rattle.dma_script.specs.declared.race.RaceScript.{RaceScript}
 use Rattle.dma_script.specs.declared.statements.Statement.{Statement}
 use Rattle.dma_script.specs.declared.statements.Statement.TheVariants.{Copy, Fill, Submit, Step, Status}
 use Rattle.dma_commands.specs.Printed.{call_line, refused_line, transfer_fault_name}
-use Rattle.dma_commands.specs.Laws.{call_of}
-use Rattle.dma_commands.specs.Run.{Answered, call_answer, line_answer, lines_answered, unless_invalid}
+use Rattle.dma_commands.specs.Run.{Answered, call_answer, line_answer, lines_answered, one_line, unless_invalid}
 use Rattle.dma_commands.specs.Transfers.{transfer_of}
 use Rattle.dmasim.specs.Race.{EachPrints, EarlyPrints, RacePrints, alone, go_line, race_may_print, race_prints_of, missing_tally, no_reader, raced_refused, raced_whole, whole}
-use Rattle.dmasim.specs.inner.RaceSteps.{PrintsAll, PrintsEarly, PrintsFirst, PrintsGo, PrintsMissing, PrintsRefusal, PrintsTotals, RunsEarly}
+use Rattle.dmasim.specs.inner.RaceSteps.{ActsEarly, AnswersOn, PrintsAll, PrintsEarly, PrintsFirst, PrintsGo, PrintsMissing, PrintsRefusal, PrintsStatus, PrintsTotals, RunsAll, RunsEarly, RunsFirst, alone_acts, breaks_a_rule, by_reader, on_desk}
 use Rattle.dma_script.specs.Interpreted.{ActsInTurn, PrintsLine, PrintsLines, StopsAtALine}
 use Rattle.dma_script.proofs.InterpretedLemmas.{printed_text-append, text_after}
 use Rattle.dma_commands.proofs.PlanLemmas.{nothing}
-use Rattle.dma_commands.proofs.RunLemmas.{line_of_call}
 use Rattle.dma_commands.proofs.Served.{served-one}
+
+-- ---- the sizes of a new engine
+
+-- what holds of the size and the number of channels of a new engine's view holds of those that it was made with
+pub at_sizes : (P : ℕ → ℕ → Type 0) (v : View) (bytes many : ℕ) → v ≡ new_view bytes many → P (size v) (channels v) → P bytes many
+at_sizes P v bytes many is h =
+    subst (λ m. P bytes m) (ap channels is ∙ opening-many bytes many) (subst (λ b. P b (channels v)) (ap size is ∙ opening-size bytes many) h)
+
+-- and the other way round
+pub at_view : (P : ℕ → ℕ → Type 0) (v : View) (bytes many : ℕ) → v ≡ new_view bytes many → P bytes many → P (size v) (channels v)
+at_view P v bytes many is h =
+    subst (λ m. P (size v) m) (sym (ap channels is ∙ opening-many bytes many)) (subst (λ b. P b many) (sym (ap size is ∙ opening-size bytes many)) h)
 
 -- ---- one line
 
--- a line that may be printed was printed, or nothing was
-pub early_runs : {A E : Type 0} (s : Statement) (result : Result A E) (line old new : List ℕ) → OnOk result (EarlyPrints s line) → OnOk result (new ≡ old ++ text_of (line ∷ [])) → OnErr result (new ≡ old) → RunsEarly s result old new
-early_runs s (Ok a) line old new allowed prints kept = record { ok = record { line = line; allowed = allowed; text = prints }; err = tt }
-early_runs s (Err e) line old new allowed prints kept = record { ok = tt; err = kept }
+-- a line ran, or nothing was printed
+pub early_runs : {L A E : Type 0} (acts : L → Statement → List ℕ → L → Type 0) (found : L) (s : Statement) (left : L) (result : Result A E) (line old new : List ℕ) → OnOk result (acts found s line left) → OnOk result (new ≡ old ++ text_of (line ∷ [])) → OnErr result (new ≡ old) → RunsEarly acts found s left result old new
+early_runs acts found s left (Ok a) line old new acted prints kept = record { ok = record { line = line; acted = acted; text = prints }; err = tt }
+early_runs acts found s left (Err e) line old new acted prints kept = record { ok = tt; err = kept }
 
--- A call was answered through the desk, and its line was printed.
-pub call_early : {A E : Type 0} (s : Statement) (call : Call) (reply : Reply) (v w : View) (result : Result A E) (old new : List ℕ) → ((line : List ℕ) → (call_answer v call).0 ≡ line ∷ [] → EarlyPrints s line) → CallAnswers v call reply w → OnOk result (reply ≢ Refused NoMemory) → OnOk result (new ≡ old ++ text_of (call_line call reply ∷ [])) → OnErr result (new ≡ old) → RunsEarly s result old new
-call_early s call reply v w result old new is_line is served prints kept =
-    early_runs s result (call_line call reply) old new
-    (on_ok_weaker result (λ other. is_line _ (ap (λ (a : Reply × View). call_line call a.0 ∷ []) (sym (served-one v call reply w other is)))) served) prints kept
+module _ {L : Type 0} (bytes many : ℕ) (lends : L → DeskState → DeskState → L → Type 0) where
+  -- A call was answered by a desk that was lent, and its line was printed.
+  pub call_early : {A E : Type 0} (s : Statement) (call : Call) (reply : Reply) (found left : L) (desk back : DeskState) (result : Result A E) (old new : List ℕ) → line_answer desk.engine.view s ≡ call_answer desk.engine.view call → lends found desk back left → AnswersOn bytes many desk call reply back → OnOk result (reply ≢ Refused NoMemory) → OnOk result (new ≡ old ++ text_of (call_line call reply ∷ [])) → OnErr result (new ≡ old) → RunsEarly (ActsEarly bytes many lends) found s left result old new
+  call_early s call reply found left desk back result old new is lent a served prints kept =
+      early_runs (ActsEarly bytes many lends) found s left result (call_line call reply) old new
+      (on_ok_weaker result (λ other. on_desk desk back lent a.sound (is ∙ ap (λ (x : Reply × View). one_line (call_line call x.0) x.1) (sym (served-one desk.engine.view call reply back.engine.view other a.answer)))) served) prints kept
 
--- a line to print to the view of some new engine
-abbrev some_view : View
-some_view = new_view 1 1
+  -- A submit line whose transfer breaks a rule.
+  pub unfit_early : {A E : Type 0} (ch : ℕ) (words : TransferLine) (e : TransferFault) (found left : L) (result : Result A E) (old new : List ℕ) → left ≡ found → refusal_of (transfer_of words) ≡ Some e → OnOk result (new ≡ old ++ text_of (refused_line (transfer_fault_name e) ∷ [])) → OnErr result (new ≡ old) → RunsEarly (ActsEarly bytes many lends) found (Submit ch words) left result old new
+  unfit_early ch words e found left (Ok a) old new same is prints kept = record { ok = record { line = refused_line (transfer_fault_name e); acted = breaks_a_rule ch words e refl is refl same; text = prints }; err = tt }
+  unfit_early ch words e found left (Err x) old new same is prints kept = record { ok = tt; err = kept }
 
--- A line with one call prints the line of its call.
-pub one_call : (s : Statement) (call : Call) (v : View) (line : List ℕ) → call_of s ≡ call ∷ [] → (call_answer v call).0 ≡ line ∷ [] → EarlyPrints s line
-one_call (Status ch cookie) call v line is e =
-    let status = status_in v ch cookie in
-    let same : calls.Status ch cookie ≡ call = cc in
-    let one : call_line (calls.Status ch cookie) (State status) ∷ [] ≡ line ∷ [] = ap (λ (c : Call). (call_answer v c).0) same ∙ e in
-    inr (status, let l : line ≡ call_line (calls.Status ch cookie) (State status) = cc in l)
-one_call s call v line is e = (v, ap (λ (a : Answered). a.0) (line_of_call v s call is) ∙ e)
+  -- A status line.
+  pub status_early : {A E : Type 0} (ch cookie : ℕ) (found left : L) (result : Result A E) (old new : List ℕ) → left ≡ found → OnOk result (PrintsStatus ch cookie old new) → OnErr result (new ≡ old) → RunsEarly (ActsEarly bytes many lends) found (Status ch cookie) left result old new
+  status_early ch cookie found left (Ok a) old new same p kept = record { ok = record { line = p.line; acted = by_reader ch cookie refl p.allowed same; text = p.text }; err = tt }
+  status_early ch cookie found left (Err x) old new same p kept = record { ok = tt; err = kept }
 
--- A submit line whose transfer breaks no rule prints the line of its call.
-pub fit_call : (ch : ℕ) (words : TransferLine) (t : Descriptor) (v : View) (line : List ℕ) → t ≡ transfer_of words → refusal_of t ≡ None → (call_answer v (calls.Submit ch t)).0 ≡ line ∷ [] → EarlyPrints (Submit ch words) line
-fit_call ch words t v line is fits e =
-    (v, subst (λ u. (unless_invalid (refusal_of u) v (call_answer v (calls.Submit ch u))).0 ≡ line ∷ []) is (rw fits e))
+-- A submit line whose transfer breaks no rule is answered as its call.
+pub fit_call : (ch : ℕ) (words : TransferLine) (t : Descriptor) (v : View) → t ≡ transfer_of words → refusal_of t ≡ None → line_answer v (Submit ch words) ≡ call_answer v (calls.Submit ch t)
+fit_call ch words t v is fits =
+    subst (λ u. unless_invalid (refusal_of u) v (call_answer v (calls.Submit ch u)) ≡ call_answer v (calls.Submit ch t)) is (rw fits refl)
 
--- A submit line whose transfer breaks a rule.
-pub unfit_early : {A E : Type 0} (ch : ℕ) (words : TransferLine) (e : TransferFault) (result : Result A E) (old new : List ℕ) → refusal_of (transfer_of words) ≡ Some e → OnOk result (new ≡ old ++ text_of (refused_line (transfer_fault_name e) ∷ [])) → OnErr result (new ≡ old) → RunsEarly (Submit ch words) result old new
-unfit_early ch words e result old new is prints kept =
-    let t = transfer_of words in
-    early_runs (Submit ch words) result (refused_line (transfer_fault_name e)) old new
-    (on_ok_weaker result (λ _. (some_view, ap (λ fault. (unless_invalid fault some_view (call_answer some_view (calls.Submit ch t))).0) is)) prints) prints kept
+-- ---- what a line may print
 
-submit_some : (fault : Option TransferFault) (answered : Answered) (line : List ℕ) → answered.0 ≡ line ∷ [] → (one : List ℕ) × ((unless_invalid fault some_view answered).0 ≡ one ∷ [])
-submit_some None answered line is = (line, is)
-submit_some (Some fault) answered line is = (refused_line (transfer_fault_name fault), refl)
+module _ (bytes many : ℕ) (made : new_fault bytes many ≡ None) where
+  -- the view of a new engine
+  pub new_view_is : IsSoundOf bytes many (new_view bytes many)
+  new_view_is = record { sound = new_views_are_sound bytes many made; bytes_are = opening-size bytes many; many_are = opening-many bytes many }
 
--- Each line that is allowed before `go` may print something.
-early_some : (statement : Statement) → IsEarly statement → (line : List ℕ) × EarlyPrints statement line
-early_some (Copy lists) early = absurd early
-early_some (Fill src dst) early = absurd early
-early_some (Step ch count) early = absurd early
-early_some (Submit ch transfer) early =
-    let one = submit_some (refusal_of (transfer_of transfer)) (call_answer some_view (calls.Submit ch (transfer_of transfer))) _ refl in
-    (one.0, (some_view, one.1))
-early_some (Status ch cookie) early = (codes "status none", inl refl)
-early_some s early = (get_or (line_answer some_view s).0 0 [], (some_view, refl))
+  -- a line that some sound view prints
+  may_print : (s : Statement) (v : View) (line : List ℕ) → IsSoundOf bytes many v → (line_answer v s).0 ≡ line ∷ [] → EarlyPrints bytes many s line
+  may_print (Status ch cookie) v line sound is =
+      let status = status_in v ch cookie in
+      let one : call_line (calls.Status ch cookie) (State status) ∷ [] ≡ line ∷ [] = is in
+      inr (status, let l : line ≡ call_line (calls.Status ch cookie) (State status) = cc in l)
+  may_print s v line sound is = (v, sound, is)
 
--- ---- the lines before `go`
+  -- a line that ran
+  acted_may : {L : Type 0} (lends : L → DeskState → DeskState → L → Type 0) (found : L) (s : Statement) (line : List ℕ) (left : L) → ActsEarly bytes many lends found s line left → EarlyPrints bytes many s line
+  acted_may lends found s line left (on_desk desk back lent sound is) = may_print s desk.engine.view line sound (ap (λ (a : Answered). a.0) is)
+  acted_may lends found s line left (breaks_a_rule ch words fault is breaks prints same) =
+      let v = new_view bytes many in
+      let t = transfer_of words in
+      subst (λ x. EarlyPrints bytes many x line) (sym is)
+      (v, new_view_is, ap (λ f. (unless_invalid f v (call_answer v (calls.Submit ch t))).0) breaks ∙ ap (λ l. l ∷ []) (sym prints))
+  acted_may lends found s line left (by_reader ch cookie is prints same) = subst (λ x. EarlyPrints bytes many x line) (sym is) prints
 
-pub each_some : (statements : List Statement) → All IsEarly statements → (lines : List (List ℕ)) × EachPrints statements lines
-each_some [] early = ([], tt)
-each_some (s ∷ rest) early =
-    let first = early_some s (All-head IsEarly s rest early) in
-    let others = each_some rest (All-tail IsEarly s rest early) in
-    (first.0 ∷ others.0, (first.1, others.1))
+  submit_some : (fault : Option TransferFault) (v : View) (answered : Answered) (line : List ℕ) → answered.0 ≡ line ∷ [] → (one : List ℕ) × ((unless_invalid fault v answered).0 ≡ one ∷ [])
+  submit_some None v answered line is = (line, is)
+  submit_some (Some fault) v answered line is = (refused_line (transfer_fault_name fault), refl)
 
-each_append : (xs ys : List Statement) (front back : List (List ℕ)) → EachPrints xs front → EachPrints ys back → EachPrints (xs ++ ys) (front ++ back)
-each_append [] ys [] back first others = others
-each_append [] ys (line ∷ front) back first others = absurd first
-each_append (s ∷ xs) ys [] back first others = absurd first
-each_append (s ∷ xs) ys (line ∷ front) back first others = (first.0, each_append xs ys front back first.1 others)
+  -- Each line that is allowed before `go` may print something.
+  early_some : (statement : Statement) → IsEarly statement → (line : List ℕ) × EarlyPrints bytes many statement line
+  early_some (Copy lists) early = absurd early
+  early_some (Fill src dst) early = absurd early
+  early_some (Step ch count) early = absurd early
+  early_some (Submit ch transfer) early =
+      let v = new_view bytes many in
+      let one = submit_some (refusal_of (transfer_of transfer)) v (call_answer v (calls.Submit ch (transfer_of transfer))) _ refl in
+      (one.0, (v, new_view_is, one.1))
+  early_some (Status ch cookie) early = (codes "status none", inl refl)
+  early_some s early = (get_or (line_answer (new_view bytes many) s).0 0 [], (new_view bytes many, new_view_is, refl))
 
-alone-append : (xs ys : List (List ℕ)) → alone (xs ++ ys) ≡ alone xs ++ alone ys
-alone-append xs ys = map-append (λ line. line ∷ []) xs ys
+  -- ---- the lines before `go`
 
--- an interpreter that executes the lines before `go`
-abbrev pub ActsEarly : {S : Type 0} → S → Statement → List (List ℕ) → S → Type 0
-ActsEarly found statement group left = (line : List ℕ) × (group ≡ line ∷ []) × EarlyPrints statement line
+  each_some : (statements : List Statement) → All IsEarly statements → (lines : List (List ℕ)) × EachPrints bytes many statements lines
+  each_some [] early = ([], tt)
+  each_some (s ∷ rest) early =
+      let first = early_some s (All-head IsEarly s rest early) in
+      let others = each_some rest (All-tail IsEarly s rest early) in
+      (first.0 ∷ others.0, (first.1, others.1))
 
--- one of them
-pub early_line : {S A E : Type 0} (found left : S) (s ran : Statement) (result : Result A E) (old new : List ℕ) → s ≡ ran → RunsEarly ran result old new → OnOk result (PrintsLine (ActsEarly found s) left old new)
-early_line found left s ran result old new is runs =
-    on_ok_weaker result
-    (λ (one : PrintsEarly ran old new). record { group = one.line ∷ []; acted = (one.line, refl, subst (λ x. EarlyPrints x one.line) (sym is) one.allowed); text = one.text }) runs.ok
+  each_append : (xs ys : List Statement) (front back : List (List ℕ)) → EachPrints bytes many xs front → EachPrints bytes many ys back → EachPrints bytes many (xs ++ ys) (front ++ back)
+  each_append [] ys [] back first others = others
+  each_append [] ys (line ∷ front) back first others = absurd first
+  each_append (s ∷ xs) ys [] back first others = absurd first
+  each_append (s ∷ xs) ys (line ∷ front) back first others = (first.0, each_append xs ys front back first.1 others)
 
--- what lines before `go` print that are executed one after another
-early-in_turn : {S : Type 0} (statements : List Statement) (found left : S) (groups : List (List (List ℕ))) → ActsInTurn ActsEarly statements found groups left → (early : List (List ℕ)) × EachPrints statements early × (groups ≡ alone early)
-early-in_turn [] found left [] done = ([], tt, refl)
-early-in_turn [] found left (g ∷ groups) done = absurd done
-early-in_turn (s ∷ statements) found left [] done = absurd done
-early-in_turn (s ∷ statements) found left (g ∷ groups) (next, (line, is, prints), rest) =
-    let others = early-in_turn statements next left groups rest in
-    (line ∷ others.0, (prints, others.1), ap (λ group. group ∷ groups) is ∙ ap (λ l. (line ∷ []) ∷ l) others.2)
+  -- what lines before `go` print that are executed one after another
+  early-in_turn : {L : Type 0} (lends : L → DeskState → DeskState → L → Type 0) (statements : List Statement) (found left : L) (groups : List (List (List ℕ))) → ActsInTurn (alone_acts (ActsEarly bytes many lends)) statements found groups left → (early : List (List ℕ)) × EachPrints bytes many statements early × (groups ≡ alone early)
+  early-in_turn lends [] found left [] done = ([], tt, refl)
+  early-in_turn lends [] found left (g ∷ groups) done = absurd done
+  early-in_turn lends (s ∷ statements) found left [] done = absurd done
+  early-in_turn lends (s ∷ statements) found left (g ∷ groups) (next, (line, is, acted), rest) =
+      let others = early-in_turn lends statements next left groups rest in
+      (line ∷ others.0, (acted_may lends found s line next acted, others.1), ap (λ group. group ∷ groups) is ∙ ap (λ l. (line ∷ []) ∷ l) others.2)
 
--- All lines were executed.
-pub all_early : {S : Type 0} (found left : S) (statements : List Statement) (old new : List ℕ) → PrintsLines ActsEarly found statements left old new → PrintsAll statements old new
-all_early found left statements old new done =
-    let lines = early-in_turn statements found left done.groups done.acted in
-    record { early = lines.0; each = lines.1; text = done.text ∙ ap (λ g. old ++ printed_text g) lines.2 }
+  printed_all : {L : Type 0} (lends : L → DeskState → DeskState → L → Type 0) (found left : L) (statements : List Statement) (old new : List ℕ) → PrintsLines (alone_acts (ActsEarly bytes many lends)) found statements left old new → PrintsAll bytes many statements old new
+  printed_all lends found left statements old new done =
+      let lines = early-in_turn lends statements found left done.groups done.acted in
+      record { early = lines.0; each = lines.1; text = done.text ∙ ap (λ g. old ++ printed_text g) lines.2 }
 
--- A line was out of memory: the lines before it printed what they may, and the others may print something.
-pub first_early : {S : Type 0} (is_refused : S → Statement → S → Type 0) (found left : S) (statements : List Statement) (old new : List ℕ) → All IsEarly statements → StopsAtALine ActsEarly is_refused found statements left old new → PrintsFirst statements old new
-first_early is_refused found left statements old new early stop =
-    let behind = stop.line ∷ stop.behind in
-    let split = stop.before ++ behind in
-    let all = all_early found stop.between stop.before old new stop.printed in
-    let those : All IsEarly (drop (length stop.before) split) = All-drop IsEarly (length stop.before) split (subst (All IsEarly) stop.split early) in
-    let others = each_some behind (subst (All IsEarly) (drop-append_seam stop.before behind) those) in
-    let front : take (length all.early) (all.early ++ others.0) ≡ all.early = take-append_seam all.early others.0 in
-    record {
-      early = all.early ++ others.0;
-      each = subst (λ xs. EachPrints xs (all.early ++ others.0)) (sym stop.split) (each_append stop.before behind all.early others.0 all.each others.1);
-      count = length all.early;
-      within = omega (arith, length-append all.early others.0);
-      text = all.text ∙ ap (λ e. old ++ printed_text (alone e)) (sym front);
-    }
+  -- All lines were executed.
+  pub all_early : {L : Type 0} (lends : L → DeskState → DeskState → L → Type 0) (found : L) (statements : List Statement) (old new : List ℕ) → RunsAll (ActsEarly bytes many lends) found statements old new → PrintsAll bytes many statements old new
+  all_early lends found statements old new h = printed_all lends found h.left statements old new h.printed
 
-pub all_then_none : (statements : List Statement) (old new : List ℕ) → PrintsAll statements old new → PrintsFirst statements old new
-all_then_none statements old new all = record {
-  early = all.early;
-  each = all.each;
-  count = length all.early;
-  within = omega arith;
-  text = all.text ∙ ap (λ e. old ++ printed_text (alone e)) (sym (take_all (length all.early) all.early (omega arith)));
-}
+  -- A line was out of memory: the lines before it printed what they may, and the others may print something.
+  pub first_early : {L : Type 0} (lends : L → DeskState → DeskState → L → Type 0) (found : L) (statements : List Statement) (old new : List ℕ) → All IsEarly statements → RunsFirst (ActsEarly bytes many lends) found statements old new → PrintsFirst bytes many statements old new
+  first_early lends found statements old new early h =
+      let stop = h.stopped in
+      let behind = stop.line ∷ stop.behind in
+      let split = stop.before ++ behind in
+      let all = printed_all lends found stop.between stop.before old new stop.printed in
+      let those : All IsEarly (drop (length stop.before) split) = All-drop IsEarly (length stop.before) split (subst (All IsEarly) stop.split early) in
+      let others = each_some behind (subst (All IsEarly) (drop-append_seam stop.before behind) those) in
+      let front : take (length all.early) (all.early ++ others.0) ≡ all.early = take-append_seam all.early others.0 in
+      record {
+        early = all.early ++ others.0;
+        each = subst (λ xs. EachPrints bytes many xs (all.early ++ others.0)) (sym stop.split) (each_append stop.before behind all.early others.0 all.each others.1);
+        count = length all.early;
+        within = omega (arith, length-append all.early others.0);
+        text = all.text ∙ ap (λ e. old ++ printed_text (alone e)) (sym front);
+      }
 
--- ---- `go`
+-- ---- an interpreter that has a lender
 
-pub go_after : (statements : List Statement) (v : View) (old mid new : List ℕ) → PrintsAll statements old mid → PrintsTotals v mid new → PrintsGo statements v old new
-go_after statements v old mid new all totals = record {
-  early = all.early;
-  each = all.each;
-  steps = totals.steps;
-  finished = totals.finished;
-  reaches = totals.reaches;
-  text = text_after old mid new (alone all.early) (go_line totals.steps totals.finished ∷ []) all.text totals.text;
-}
+module _ {S L : Type 0} (lender : S → L) (acts : L → Statement → List ℕ → L → Type 0) where
+  in_turn_of : (statements : List Statement) (found left : S) (groups : List (List (List ℕ))) → ActsInTurn (λ f s g x. alone_acts acts (lender f) s g (lender x)) statements found groups left → ActsInTurn (alone_acts acts) statements (lender found) groups (lender left)
+  in_turn_of [] found left [] done = ap lender done
+  in_turn_of [] found left (g ∷ groups) done = absurd done
+  in_turn_of (s ∷ statements) found left [] done = absurd done
+  in_turn_of (s ∷ statements) found left (g ∷ groups) (next, acted, rest) = (lender next, acted, in_turn_of statements next left groups rest)
 
--- `go` was settled, or a tally is missing.
-pub go_or_missing : {X : Type 0} (seen : X → View) (statements : List Statement) (old mid new : List ℕ) → PrintsAll statements old mid → (left : Option X) → MatchOption left (PrintsRefusal (codes "MissingTally") mid new) (λ x. PrintsTotals (seen x) mid new) → MatchOption left (PrintsMissing statements old new) (λ x. PrintsGo statements (seen x) old new)
-go_or_missing seen statements old mid new all None missing = record { before = mid; all = all; text = missing }
-go_or_missing seen statements old mid new all (Some x) totals = go_after statements (seen x) old mid new all totals
+  pub all_of : (found left : S) (statements : List Statement) (old new : List ℕ) → PrintsLines (λ f s g x. alone_acts acts (lender f) s g (lender x)) found statements left old new → RunsAll acts (lender found) statements old new
+  all_of found left statements old new h = record {
+    left = lender left;
+    printed = record { groups = h.groups; acted = in_turn_of statements found left h.groups h.acted; text = h.text };
+  }
+
+  pub first_of_lines : (is_refused : S → Statement → S → Type 0) (found left : S) (statements : List Statement) (old new : List ℕ) → StopsAtALine (λ f s g x. alone_acts acts (lender f) s g (lender x)) is_refused found statements left old new → RunsFirst acts (lender found) statements old new
+  first_of_lines is_refused found left statements old new h = record {
+    left = lender left;
+    stopped = record {
+      before = h.before;
+      line = h.line;
+      behind = h.behind;
+      split = h.split;
+      between = lender h.between;
+      printed = record { groups = h.printed.groups; acted = in_turn_of h.before found h.between h.printed.groups h.printed.acted; text = h.printed.text };
+      refused = tt;
+    };
+  }
+
+  -- one line
+  pub line_of : {A E : Type 0} (found left : S) (s ran : Statement) (result : Result A E) (old new : List ℕ) → s ≡ ran → RunsEarly acts (lender found) ran (lender left) result old new → OnOk result (PrintsLine (λ g x. alone_acts acts (lender found) s g (lender x)) left old new)
+  line_of found left s ran result old new is runs =
+      on_ok_weaker result
+      (λ (one : PrintsEarly acts (lender found) ran (lender left) old new). record { group = one.line ∷ []; acted = (one.line, refl, subst (λ x. acts (lender found) x one.line (lender left)) (sym is) one.acted); text = one.text }) runs.ok
+
+module _ (bytes many : ℕ) where
+  pub all_then_none : (statements : List Statement) (old new : List ℕ) → PrintsAll bytes many statements old new → PrintsFirst bytes many statements old new
+  all_then_none statements old new all = record {
+    early = all.early;
+    each = all.each;
+    count = length all.early;
+    within = omega arith;
+    text = all.text ∙ ap (λ e. old ++ printed_text (alone e)) (sym (take_all (length all.early) all.early (omega arith)));
+  }
+
+  -- ---- `go`
+
+  pub go_after : (statements : List Statement) (v : View) (old mid new : List ℕ) → PrintsAll bytes many statements old mid → PrintsTotals bytes many v mid new → PrintsGo bytes many statements v old new
+  go_after statements v old mid new all totals = record {
+    early = all.early;
+    each = all.each;
+    steps = totals.steps;
+    finished = totals.finished;
+    reaches = totals.reaches;
+    text = text_after old mid new (alone all.early) (go_line totals.steps totals.finished ∷ []) all.text totals.text;
+  }
+
+  -- `go` was settled, or a tally is missing.
+  pub go_or_missing : {X : Type 0} (seen : X → View) (statements : List Statement) (old mid new : List ℕ) → PrintsAll bytes many statements old mid → (left : Option X) → MatchOption left (PrintsRefusal (codes "MissingTally") mid new) (λ x. PrintsTotals bytes many (seen x) mid new) → MatchOption left (PrintsMissing bytes many statements old new) (λ x. PrintsGo bytes many statements (seen x) old new)
+  go_or_missing seen statements old mid new all None missing = record { before = mid; all = all; text = missing }
+  go_or_missing seen statements old mid new all (Some x) totals = go_after statements (seen x) old mid new all totals
 
 -- ---- whole scripts
 
@@ -216,7 +273,7 @@ pub none_append : (script : RaceScript) (old : List ℕ) → MayAppend (RacePrin
 none_append script old = record { printed = raced_refused [] (codes "NoReader"); allowed = no_reader refl; first = record { count = 0; some_left = lit< tt; whole = sym (append-nil old) } }
 
 -- A script of which a tally is missing.
-pub missing_complete : (script : RaceScript) (old new : List ℕ) → PrintsMissing script.before.statements old new → MayComplete (RacePrints script) 1 old new
+pub missing_complete : (script : RaceScript) (old new : List ℕ) → PrintsMissing script.before.size script.before.channels script.before.statements old new → MayComplete (RacePrints script) 1 old new
 missing_complete script old new missing = record {
   printed = raced_refused missing.all.early (codes "MissingTally");
   allowed = missing_tally missing.all.early missing.all.each refl;
@@ -225,7 +282,7 @@ missing_complete script old new missing = record {
 }
 
 -- Out of memory before the line of `go` was printed.
-pub first_append : (script : RaceScript) (old new : List ℕ) → PrintsFirst script.before.statements old new → MayAppend (RacePrints script) old new
+pub first_append : (script : RaceScript) (old new : List ℕ) → PrintsFirst script.before.size script.before.channels script.before.statements old new → MayAppend (RacePrints script) old new
 first_append script old new first =
     let last = (refused_line (codes "MissingTally") ∷ []) ∷ [] in
     let many : length (alone first.early) ≡ length first.early = length-map first.early (λ line. line ∷ []) in
@@ -246,7 +303,7 @@ go_then : (early : List (List ℕ)) (line : List ℕ) (after : List (List (List 
 go_then early line after = append_assoc (alone early) ((line ∷ []) ∷ []) after
 
 -- All lines were executed.
-whole_complete : (script : RaceScript) (v : View) (old mid new : List ℕ) → PrintsGo script.before.statements v old mid → new ≡ mid ++ printed_text (lines_answered v script.after) → MayComplete (RacePrints script) 0 old new
+whole_complete : (script : RaceScript) (v : View) (old mid new : List ℕ) → PrintsGo script.before.size script.before.channels script.before.statements v old mid → new ≡ mid ++ printed_text (lines_answered v script.after) → MayComplete (RacePrints script) 0 old new
 whole_complete script v old mid new go printed =
     let front = alone go.early ++ (go_line go.steps go.finished ∷ []) ∷ [] in
     let after = lines_answered v script.after in
@@ -260,12 +317,12 @@ whole_complete script v old mid new go printed =
     }
 
 -- All lines after `go` were executed, or one was out of memory.
-pub whole_answer : {E : Type 0} (script : RaceScript) (v : View) (old mid new : List ℕ) (result : Result ℕ E) → PrintsGo script.before.statements v old mid → Answers (record { groups = lines_answered v script.after; status = 0 }) result mid new → IfOk result (λ status. MayComplete (RacePrints script) status old new)
+pub whole_answer : {E : Type 0} (script : RaceScript) (v : View) (old mid new : List ℕ) (result : Result ℕ E) → PrintsGo script.before.size script.before.channels script.before.statements v old mid → Answers (record { groups = lines_answered v script.after; status = 0 }) result mid new → IfOk result (λ status. MayComplete (RacePrints script) status old new)
 whole_answer script v old mid new (Ok status) go a = subst (λ n. MayComplete (RacePrints script) n old new) (sym a.status) (whole_complete script v old mid new go a.text)
 whole_answer script v old mid new (Err e) go a = tt
 
 -- Out of memory after `go`.
-pub whole_append : (script : RaceScript) (v : View) (old mid new : List ℕ) → PrintsGo script.before.statements v old mid → AppendsGroups (lines_answered v script.after) mid new → MayAppend (RacePrints script) old new
+pub whole_append : (script : RaceScript) (v : View) (old mid new : List ℕ) → PrintsGo script.before.size script.before.channels script.before.statements v old mid → AppendsGroups (lines_answered v script.after) mid new → MayAppend (RacePrints script) old new
 whole_append script v old mid new go some =
     let front = alone go.early ++ (go_line go.steps go.finished ∷ []) ∷ [] in
     let after = lines_answered v script.after in

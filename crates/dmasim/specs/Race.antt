@@ -5,7 +5,7 @@ use Rattle.dma_engine.specs.declared.call.Call.TheVariants as calls
 use Rattle.dma_engine.specs.declared.call.Reply.TheVariants.{State}
 use Rattle.dma_engine.specs.declared.turn.Status.{Status as EngineStatus}
 use Rattle.dma_engine.specs.Object.{finished_all}
-use Rattle.dma_engine.specs.View.{View, IsSound, object_of}
+use Rattle.dma_engine.specs.View.{View, object_of}
 use Rattle.dma_script.specs.Command.{Printed, refusal}
 use Rattle.dma_script.specs.Printing.{fault_line}
 use Rattle.dma_script.specs.Race.{race_script_of}
@@ -15,6 +15,7 @@ use Rattle.dma_script.specs.declared.statements.Statement.{Statement}
 use Rattle.dma_script.specs.declared.statements.Statement.TheVariants.{Status}
 use Rattle.dma_commands.specs.Printed.{call_line, refused_line}
 use Rattle.dma_commands.specs.Run.{line_answer, lines_answered}
+use Rattle.dma_work.specs.Desk.{IsSoundOf}
 
 -- The line of a `status` before `go`. The reader answers without the lock, so the line is `status none`, or the line
 -- of any status.
@@ -22,17 +23,18 @@ abbrev pub StatusPrints : ℕ → ℕ → List ℕ → Type 0
 StatusPrints ch cookie line =
     (line ≡ codes "status none") ⊎ ((status : EngineStatus) × (line ≡ call_line (calls.Status ch cookie) (State status)))
 
--- What a line before `go` may print, always one line: what `run` prints for it on an engine with some view; for a
--- `status` line, see `StatusPrints`.
-abbrev pub EarlyPrints : Statement → List ℕ → Type 0
-EarlyPrints (Status ch cookie) line = StatusPrints ch cookie line
-EarlyPrints statement line = (v : View) × ((line_answer v statement).0 ≡ line ∷ [])
+-- What a line before `go` may print, always one line: what `run` prints for it on an engine with some sound view, of this
+-- size of memory and this number of channels; for a `status` line, see `StatusPrints`.
+abbrev pub EarlyPrints : ℕ → ℕ → Statement → List ℕ → Type 0
+EarlyPrints bytes many (Status ch cookie) line = StatusPrints ch cookie line
+EarlyPrints bytes many statement line = (v : View) × IsSoundOf bytes many v × ((line_answer v statement).0 ≡ line ∷ [])
 
 -- Each of these lines before `go` may print the corresponding text, and there are as many texts as lines.
-abbrev pub EachPrints : List Statement → List (List ℕ) → Type 0
-EachPrints [] [] = Unit {0}
-EachPrints (statement ∷ statements) (line ∷ lines) = EarlyPrints statement line × EachPrints statements lines
-EachPrints _ _ = ⊥
+abbrev pub EachPrints : ℕ → ℕ → List Statement → List (List ℕ) → Type 0
+EachPrints bytes many [] [] = Unit {0}
+EachPrints bytes many (statement ∷ statements) (line ∷ lines) =
+    EarlyPrints bytes many statement line × EachPrints bytes many statements lines
+EachPrints bytes many _ _ = ⊥
 
 -- a group for each line
 abbrev pub alone : List (List ℕ) → List (List (List ℕ))
@@ -42,10 +44,11 @@ alone lines = map (λ line. line ∷ []) lines
 abbrev pub go_line : ℕ → ℕ → List ℕ
 go_line steps finished = codes "go steps " ++ decimal steps ++ codes " finished " ++ decimal finished
 
--- The view after the workers: it is sound, its step count is the printed number of steps, and at least the printed
--- number of cookies are finished (those that were terminated before `go` are finished too).
-pub record Reaches (steps finished : ℕ) (v : View) : Type 0 where
-  pub sound : IsSound v
+-- The view after the workers: it is sound, of this size and this number of channels, its step count is the printed
+-- number of steps, and at least the printed number of cookies are finished (those that were terminated before `go` are
+-- finished too).
+pub record Reaches (bytes many steps finished : ℕ) (v : View) : Type 0 where
+  pub sound : IsSoundOf bytes many v
   pub stepped : v.steps ≡ steps
   pub ended : finished ≤ finished_all (object_of v)
 
@@ -62,11 +65,13 @@ raced_refused early name = record { groups = [] ∷ alone early ++ (refused_line
 -- prints its totals, and the lines after it print what `run` prints for them on the view after the workers. Or the
 -- desk has no place for the reader of statuses, or a tally is missing (no script is known for which either happens).
 pub data RacePrints (script : RaceScript) (p : Printed) : Type 0 where
-  whole : (early : List (List ℕ)) → EachPrints script.before.statements early
-      → (steps finished : ℕ) (v : View) → Reaches steps finished v
+  whole : (early : List (List ℕ))
+      → EachPrints script.before.size script.before.channels script.before.statements early
+      → (steps finished : ℕ) (v : View) → Reaches script.before.size script.before.channels steps finished v
       → p ≡ raced_whole early steps finished v script.after → RacePrints script p
   no_reader : p ≡ raced_refused [] (codes "NoReader") → RacePrints script p
-  missing_tally : (early : List (List ℕ)) → EachPrints script.before.statements early
+  missing_tally : (early : List (List ℕ))
+      → EachPrints script.before.size script.before.channels script.before.statements early
       → p ≡ raced_refused early (codes "MissingTally") → RacePrints script p
 
 -- What may be printed for a parsed script; a script with a fault prints its first fault.

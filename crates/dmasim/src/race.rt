@@ -1,8 +1,8 @@
 //! The command `race`: executes the lines before `go` through a desk, then steps the desk's channels with all jobs at
 //! once, and executes the lines after `go` on the resulting engine.
-ghost use Rattle.std.specs.Prelude.{◌≡◌, ◌≤◌, ◌<◌, ◌+◌, ◌^◌, ◌++◌, ◌∷◌, [], OnOk, OnErr, IfOk, IfSome, MatchOption, codes, length, vec_len};
+ghost use Rattle.std.specs.Prelude.{◌≡◌, ◌≤◌, ◌<◌, ◌+◌, ◌^◌, ◌++◌, ◌∷◌, [], None, OnOk, OnErr, IfOk, IfSome, MatchOption, codes, length, vec_len};
 ghost use Rattle.std.specs.List.{All};
-ghost use Rattle.dma_engine.specs.View.{new_view};
+ghost use Rattle.dma_engine.specs.View.{new_fault, new_view};
 ghost use Rattle.dma_script.specs.Command.{MayAppend, MayComplete, MayEnd, failures, longest_input, may_print_within, text_of};
 ghost use Rattle.dma_script.specs.Race.{IsEarly, IsJob, IsRace};
 ghost use Rattle.dma_script.specs.Statements.{IsWithin};
@@ -11,6 +11,7 @@ ghost use Rattle.dmasim.specs.inner.RaceSteps.{PrintsAll, PrintsFirst, PrintsGo,
 ghost use Rattle.dmasim.specs.Race.{RacePrints, go_line, race_may_print};
 
 mod early;
+mod on_desk;
 
 use crate::race::early::run_early_statements;
 use dma_commands::run::run_statements;
@@ -22,7 +23,7 @@ use dma_script::printing::print_line;
 use dma_script::race::{JobLine, MAX_JOBS, RaceScript, read_race_script};
 use dma_script::statements::Statements;
 use dma_work::{
-    DeskName, Job, NoGate, Parts, ShareFaultKind, Shared, StatusReader, Tally, run_workers, settle,
+    Desk, DeskName, Job, NoGate, Parts, ShareFaultKind, Shared, StatusReader, Tally, run_workers,
 };
 use std::alloc::{AllocError, Global};
 use std::marker::Brand;
@@ -67,35 +68,36 @@ fn until_go<N: DeskName + Send + Sync, R: Threads + Wait + Sync>(
     lines: Statements,
     jobs: &[Job],
     out: &mut Vec<u8>,
-) -> Result<Vec<Tally>, AllocError>
+) -> Result<Vec<Tally<N>>, AllocError>
     requires follows { (N.log ≡ reader.log) × (N.base ≡ reader.base) }
+    requires made { new_fault N.size N.channels ≡ None }
     requires early { All IsEarly lines }
     requires few { length jobs.now < 2 ^ 32 }
-    ensures ok { OnOk result (PrintsAll lines out.old.items out.new.items) }
-    ensures err { OnErr result (PrintsFirst lines out.old.items out.new.items) }
+    ensures ok { OnOk result (PrintsAll N.size N.channels lines out.old.items out.new.items) }
+    ensures err { OnErr result (PrintsFirst N.size N.channels lines out.old.items out.new.items) }
 {
-    run_early_statements(rt, shared, reader, lines, out)?;
+    run_early_statements::<N, _, _>(rt, shared.lent(), reader, lines, out)?;
     match run_workers(rt, alloc, shared, jobs, &NoGate) {
         Ok(tallies) => Ok(tallies),
         Err(NoMemory) => Err(AllocError),
     }
 }
 
-/// Compares the tallies with the book, appends the line of `go` and returns the engine. If a tally is missing, it
+/// Compares the tallies with the desk's book, appends the line of `go` and returns the engine. If a tally is missing, it
 /// appends the refusal and returns `None`. If memory runs out it fails and appends nothing.
 fn settled<N: DeskName, R: Wait>(
     rt: &R,
-    shared: Shared<N>,
-    tallies: Vec<Tally>,
+    desk: Desk<N>,
+    tallies: Vec<Tally<N>>,
     out: &mut Vec<u8>,
 ) -> Result<Option<Engine>, AllocError>
     requires { N.steps ≡ 0 }
     ensures ok { IfOk result (λ left. MatchOption left
         (PrintsRefusal (codes "MissingTally") out.old.items out.new.items)
-        (λ engine. PrintsTotals engine.view out.old.items out.new.items)) }
+        (λ engine. PrintsTotals N.size N.channels engine.view out.old.items out.new.items)) }
     ensures err { OnErr result (out.new.items ≡ out.old.items) }
 {
-    match settle(rt, shared, tallies) {
+    match desk.settle(rt, tallies.as_slice()) {
         Ok((engine, totals)) => {
             print_line(
                 out,
@@ -103,8 +105,8 @@ fn settled<N: DeskName, R: Wait>(
             )?;
             Ok(Some(engine))
         }
-        Err(missing) => {
-            missing.close(rt);
+        Err(desk) => {
+            desk.close(rt);
             print_line(out, &"refused MissingTally")?;
             Ok(None)
         }
@@ -147,21 +149,22 @@ fn raced<N: DeskName + Send + Sync, R: Threads + Wait + Sync>(
     jobs: &[Job],
     out: &mut Vec<u8>,
 ) -> Result<Option<Engine>, AllocError>
-    requires names { Names N.steps N.finished N.base N.log parts }
+    requires names { Names N.steps N.finished N.size N.channels N.base N.log parts }
     requires follows { (N.log ≡ reader.log) × (N.base ≡ reader.base) }
     requires fresh { parts.engine.view.steps ≡ 0 }
+    requires made { new_fault N.size N.channels ≡ None }
     requires early { All IsEarly lines }
     requires few { length jobs.now < 2 ^ 32 }
     ensures ok { IfOk result (λ left. MatchOption left
-        (PrintsMissing lines out.old.items out.new.items)
-        (λ engine. PrintsGo lines engine.view out.old.items out.new.items)) }
-    ensures err { OnErr result (PrintsFirst lines out.old.items out.new.items) }
+        (PrintsMissing N.size N.channels lines out.old.items out.new.items)
+        (λ engine. PrintsGo N.size N.channels lines engine.view out.old.items out.new.items)) }
+    ensures err { OnErr result (PrintsFirst N.size N.channels lines out.old.items out.new.items) }
 {
     let shared = Shared::<N>::new(parts);
     match until_go(rt, alloc, &shared, reader, lines, jobs, out) {
-        Ok(tallies) => settled(rt, shared, tallies, out),
+        Ok(tallies) => settled(rt, shared.into_desk(), tallies, out),
         Err(error) => {
-            shared.close(rt);
+            shared.into_desk().close(rt);
             Err(error)
         }
     }

@@ -2,13 +2,15 @@
 use Rattle.std.specs.Prelude.{◌≡◌, ℕ}
 use Rattle.dma_work.specs.declared.shared.Begun.{Begun}
 use Rattle.dma_work.specs.declared.shared.Begun.TheVariants.{InThread, Here}
+use Rattle.dma_work.specs.declared.worker.Job.{Job}
+use Rattle.dma_work.specs.Tallies.{TookTurns}
 
--- A job of this worker with this number of turns is in a thread or done.
-abbrev pub IsOf : Begun → ℕ → ℕ → Type 0
-IsOf (InThread thread) worker turns = (thread.promise.worker ≡ worker) × (thread.promise.job.turns ≡ turns)
-IsOf (Here tally) worker turns = (tally.worker ≡ worker) × (tally.turns ≡ turns)
+-- A job of this worker is in a thread or done.
+abbrev pub IsOf : {N G : Type 0} → ℕ → ℕ → (ℕ → ℕ → Type 0) → Begun N G → ℕ → Job → Type 0
+IsOf bytes many passes (InThread thread) worker job = (thread.promise.worker ≡ worker) × (thread.promise.job ≡ job)
+IsOf bytes many passes (Here tally) worker job = TookTurns bytes many passes worker job tally
 
--- The job runs in a thread and is this worker's with this number of turns, or it got no thread.
-abbrev pub IsBegun : Begun → ℕ → ℕ → Type 0
-IsBegun (InThread thread) worker turns = IsOf (InThread thread) worker turns
-IsBegun (Here tally) worker turns = Unit {0}
+-- The job of this worker runs in a thread, or it got no thread.
+abbrev pub IsBegun : {N G : Type 0} → ℕ → ℕ → (ℕ → ℕ → Type 0) → Begun N G → ℕ → Job → Type 0
+IsBegun bytes many passes (InThread thread) worker job = IsOf bytes many passes (InThread thread) worker job
+IsBegun bytes many passes (Here tally) worker job = Unit {0}

@@ -75,6 +75,10 @@ pub record PublisherState : Type 0 where
   pub pending : List BoardState
   pub before : List Tick
 
+-- The board has the ticks before the engine's history, and those of the history.
+abbrev pub IsOfHistory : List Tick → EngineView → BoardState → Type 0
+IsOfHistory before v b = b.ticks ≡ before ++ ticks_of v.history
+
 -- The engine has acted: the published ticks, followed by this one, are those before its history and those of its
 -- history.
 abbrev pub HasActed : PublisherState → EngineView → Tick → Type 0

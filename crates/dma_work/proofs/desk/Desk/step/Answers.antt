@@ -7,19 +7,19 @@ use Rattle.dma_work.proofs.desk.Desk.step.Given.{Over}
 use Rattle.dma_work.proofs.desk.Desk.step.Goals as goal
 use Rattle.dma_work.proofs.desk.Desk.step.Goals.{After-finished_all-finished, in-Some, in-None}
 
-kept : (g : Over) (c : After-finished_all-finished g) → IsKept g.N.DeskName.steps g.N.DeskName.finished g.N.DeskName.base g.N.DeskName.log c.match-step_unless_ending.self-inside.engine c.match-step_unless_ending.self-inside.publisher (stepped_book c.match-step_unless_ending.self-inside.book c.match-step_unless_ending.answer)
+kept : (g : Over) (c : After-finished_all-finished g) → IsKept g.N.DeskName.steps g.N.DeskName.finished g.N.DeskName.size g.N.DeskName.channels g.N.DeskName.base g.N.DeskName.log c.match-step_unless_ending.self-inside.engine c.match-step_unless_ending.self-inside.publisher (stepped_book c.match-step_unless_ending.self-inside.book c.match-step_unless_ending.answer)
 kept g c =
     let old = c.self.inside.engine in
     let on = c.step_unless_ending.new.self in
     let p = c.self.inside.publisher in
     let book = c.self.inside.book in
     elim c.match-step_unless_ending.branch [
-      | in-Some w ↦ rw (w.self-inside-is, w.answer-is) (kept_on _ _ _ _ old on p book c.args.ch w.in-Some.answer (sym w.in-Some.ensures.ends) w.in-Some.ensures.answer c.self.invariant)
+      | in-Some w ↦ rw (w.self-inside-is, w.answer-is) (kept_on _ _ _ _ _ _ old on p book c.args.ch w.in-Some.answer (sym w.in-Some.ensures.ends) w.in-Some.ensures.answer c.self.invariant)
       | in-None w ↦
           let end = w.step-answer in
-          let same : IsKept g.N.DeskName.steps g.N.DeskName.finished g.N.DeskName.base g.N.DeskName.log on p book =
-          subst (λ (e : EngineState). IsKept g.N.DeskName.steps g.N.DeskName.finished g.N.DeskName.base g.N.DeskName.log e p book) (sym (w.in-None.ensures.still refl)) c.self.invariant in
-          rw (w.self-inside-is, w.answer-is) (kept_step _ _ _ _ on end.new.engine p end.new.self book c.args.ch end.result end.ensures.answer end.ensures.published same)
+          let same : IsKept g.N.DeskName.steps g.N.DeskName.finished g.N.DeskName.size g.N.DeskName.channels g.N.DeskName.base g.N.DeskName.log on p book =
+          subst (λ (e : EngineState). IsKept g.N.DeskName.steps g.N.DeskName.finished g.N.DeskName.size g.N.DeskName.channels g.N.DeskName.base g.N.DeskName.log e p book) (sym (w.in-None.ensures.still refl)) c.self.invariant in
+          rw (w.self-inside-is, w.answer-is) (kept_step _ _ _ _ _ _ on end.new.engine p end.new.self book c.args.ch end.result end.ensures.answer end.ensures.published same)
     ]
 
 pub count-requires-clause-finished : goal.count-requires-clause-finished

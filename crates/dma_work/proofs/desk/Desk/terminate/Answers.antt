@@ -29,7 +29,7 @@ publish-requires-clause-acted g c =
     let tick : c.new-tick.result ≡ Finished ch c.in-Ok.count = c.new-tick.ensures ∙ ap (λ n. Finished ch n) (c.unfinished.ensures ∙ sym s.2) in
     acted_next c.self.inside.publisher c.ready.new.self c.self.inside.engine.view m.view w.view _ c.new-tick.result (Finished ch c.in-Ok.count) c.make_room.ensures.view s.0.ticks tick (c.ready.ensures.ready c.if-not-ready.false) (ap (λ (x : BoardState). x.ticks) (sym c.self.invariant.shown))
 
-kept : (g : Over) (c : goal.After-used-through g) → IsKept g.N.DeskName.steps g.N.DeskName.finished g.N.DeskName.base g.N.DeskName.log c.terminate.new.self c.publish.new.self (record (c.self.inside.book) { terminated = c.self.inside.book.terminated + c.from.result })
+kept : (g : Over) (c : goal.After-used-through g) → IsKept g.N.DeskName.steps g.N.DeskName.finished g.N.DeskName.size g.N.DeskName.channels g.N.DeskName.base g.N.DeskName.log c.terminate.new.self c.publish.new.self (record (c.self.inside.book) { terminated = c.self.inside.book.terminated + c.from.result })
 kept g c =
     let m = c.make_room.new.self in
     let w = c.terminate.new.self in
@@ -40,12 +40,12 @@ kept g c =
     let base = (answers-extend m.view w.view (Terminate ch) (Count count) refl h).0 in
     let tick : c.new-tick.result ≡ Finished ch count = c.new-tick.ensures ∙ ap (λ n. Finished ch n) (c.unfinished.ensures ∙ sym s.2) in
     let book : Totals = record (c.self.inside.book) { terminated = c.self.inside.book.terminated + c.from.result } in
-    kept_next _ _ _ _ c.self.inside.engine m w c.self.inside.publisher c.ready.new.self c.publish.new.self c.self.inside.book book _ c.new-tick.result (Finished ch count) 0 count c.make_room.ensures.view s.0 base tick (c.ready.ensures.ready c.if-not-ready.false) c.publish.ensures.published (omega arith) (omega (arith, c.from.ensures)) c.self.invariant
+    kept_next _ _ _ _ _ _ c.self.inside.engine m w c.self.inside.publisher c.ready.new.self c.publish.new.self c.self.inside.book book _ c.new-tick.result (Finished ch count) 0 count c.make_room.ensures.view s.0 base tick (c.ready.ensures.ready c.if-not-ready.false) c.publish.ensures.published (omega arith) (omega (arith, c.from.ensures)) c.self.invariant
 
 pub invariant_of-result : goal.invariant_of-result
 invariant_of-result g c =
     record {
-      finished = finished_in _ _ _ _ c.terminate.new.self c.publish.new.self _ c.make_room.new.self.view c.args.ch c.in-Ok.count c.used-through.result c.new-last.result c.in-Ok.ensures.answer c.history-history.ensures.sound (kept g c) (c.new-last.ensures ∙ ap (λ (x : SnapshotState). x.ticks) c.publish.ensures.snapshot) c.used-through.ensures;
+      finished = finished_in _ _ _ _ _ _ c.terminate.new.self c.publish.new.self _ c.make_room.new.self.view c.args.ch c.in-Ok.count c.used-through.result c.new-last.result c.in-Ok.ensures.answer c.history-history.ensures.sound (kept g c) (c.new-last.ensures ∙ ap (λ (x : SnapshotState). x.ticks) c.publish.ensures.snapshot) c.used-through.ensures;
     }
 
 pub invariant_of-self-2 : goal.invariant_of-self-2

@@ -4,20 +4,21 @@ use Rattle.dma_work.specs.declared.worker.Job.{Job}
 use Rattle.dma_work.specs.declared.shared.Begun.{Begun}
 use Rattle.dma_work.specs.inner.Begun.{IsBegun, IsOf}
 use Rattle.dma_work.specs.Desk.{TallyCounts}
+use Rattle.dma_work.specs.Tallies.{TookTurns}
 use Rattle.dma_work.proofs.shared.Crew.work_all.Given as goal
 
 abbrev pub invariant-loop-start : goal.invariant-loop-start
 invariant-loop-start g l = record {
   count : vec_len l.begun ≡ l.start;
   room : length l.jobs ≤ vec_capacity l.begun;
-  begun : (k : ℕ) (b : Begun) (j : Job) → k < l.start → IsBegun (slice_index_or l.begun.items k b) k (slice_index_or l.jobs k j).turns;
+  begun : (k : ℕ) (b : Begun g.row.N.Denot g.row.G.Denot) (j : Job) → k < l.start → IsBegun g.N.DeskName.size g.N.DeskName.channels g.G.Gate.passes (slice_index_or l.begun.items k b) k (slice_index_or l.jobs k j);
 }
 
 abbrev pub invariant-loop-here : goal.invariant-loop-here
 invariant-loop-here g l = record {
   count : vec_len l.begun ≡ length l.jobs;
-  owed : (k : ℕ) (b : Begun) (j : Job) → k < l.here → IsOf (slice_index_or l.begun.items k b) k (slice_index_or l.jobs k j).turns;
-  begun : (k : ℕ) (b : Begun) (j : Job) → k < length l.jobs → l.here ≤ k → IsBegun (slice_index_or l.begun.items k b) k (slice_index_or l.jobs k j).turns;
+  owed : (k : ℕ) (b : Begun g.row.N.Denot g.row.G.Denot) (j : Job) → k < l.here → IsOf g.N.DeskName.size g.N.DeskName.channels g.G.Gate.passes (slice_index_or l.begun.items k b) k (slice_index_or l.jobs k j);
+  begun : (k : ℕ) (b : Begun g.row.N.Denot g.row.G.Denot) (j : Job) → k < length l.jobs → l.here ≤ k → IsBegun g.N.DeskName.size g.N.DeskName.channels g.G.Gate.passes (slice_index_or l.begun.items k b) k (slice_index_or l.jobs k j);
 }
 
 abbrev pub invariant-loop-last : goal.invariant-loop-last
@@ -25,6 +26,6 @@ invariant-loop-last g l = record {
   count : vec_len l.begun ≡ length l.jobs;
   ended : vec_len l.tallies ≡ l.last;
   room : length l.jobs ≤ vec_capacity l.tallies;
-  owed : (k : ℕ) (b : Begun) (j : Job) → k < length l.jobs → l.last ≤ k → IsOf (slice_index_or l.begun.items k b) k (slice_index_or l.jobs k j).turns;
-  tallies : (k : ℕ) (t : TallyCounts) (j : Job) → k < l.last → ((slice_index_or l.tallies.items k t).worker ≡ k) × ((slice_index_or l.tallies.items k t).turns ≡ (slice_index_or l.jobs k j).turns);
+  owed : (k : ℕ) (b : Begun g.row.N.Denot g.row.G.Denot) (j : Job) → k < length l.jobs → l.last ≤ k → IsOf g.N.DeskName.size g.N.DeskName.channels g.G.Gate.passes (slice_index_or l.begun.items k b) k (slice_index_or l.jobs k j);
+  tallies : (k : ℕ) (t : TallyCounts) (j : Job) → k < l.last → TookTurns g.N.DeskName.size g.N.DeskName.channels g.G.Gate.passes k (slice_index_or l.jobs k j) (slice_index_or l.tallies.items k t);
 }

@@ -1,8 +1,15 @@
-use Rattle.std.proofs.Common.{◌∙◌, arith, subst, add-one}
+use Rattle.std.proofs.Common.{◌≡◌, ◌+◌, ◌∙◌, arith, subst, sym, add-one}
 use Rattle.dma_work.specs.Rotation.{channel_at, rotation}
 use Rattle.dma_work.proofs.Rotations.{channel_again, channel_next, one_more}
-use Rattle.dma_work.proofs.worker.work.Goals as goal
-use Rattle.dma_work.proofs.worker.work.Goals.{then-ch-job, else-ch-job}
+use Rattle.dma_work.proofs.worker.take_turns.Goals as goal
+use Rattle.dma_work.proofs.worker.take_turns.Goals.{then-ch-job, else-ch-job}
+
+pub turn-requires-in-loop-n-clause-passed : goal.turn-requires-in-loop-n-clause-passed
+turn-requires-in-loop-n-clause-passed g c =
+    let i = c.loop-n.invariant in
+    let number : c.worker-worker.result ≡ g.S.Stepper.worker c.loop-n.stepper = c.worker-worker.ensures ∙ sym i.worker in
+    let turn : c.taken-taken.result + c.loop-n.n + 1 ≡ g.S.Stepper.taken c.loop-n.stepper + 1 = omega (arith, c.taken-taken.ensures, i.taken) in
+    subst (λ w. g.G.Gate.passes w (g.S.Stepper.taken c.loop-n.stepper + 1)) number (subst (g.G.Gate.passes c.worker-worker.result) turn c.turn.ensures)
 
 pub loop-n-preserved : goal.loop-n-preserved
 loop-n-preserved g c =
