@@ -182,7 +182,8 @@ def sentences_of(found):
     declared, _, sources = total(found, "src")
     yield trust, f"That is {lines} lines in {files} files (with the sentences {lines + said})."
     yield trust, f"Besides, {declared} lines declare the types of the values in {sources} files of `src/`"
-    yield "README.md", f"the definitions behind these words, some {tens(lines)} lines"
+    counts = [lines] + [total(cited(file_of(it), it, []), "specs")[0] for it in ("run_script", "dma330_step")]
+    yield "README.md", "some {} lines for `run`, {} for `dmasim run`, {} for `dma330_step`".format(*map(tens, counts))
     for clause in ("begins", "kept", "remembers", "memory", "sound", "views", "answers"):
         lines, _, files = total(cited(HEADLINE, "run", [clause]), "specs")
         yield trust, f"| `{clause}` | {lines} lines in {files} files |"
@@ -210,9 +211,11 @@ def show(found):
 
 
 def main():
+    if {"-h", "--help"} & {*sys.argv}:
+        sys.exit(print(__doc__))
     if sys.argv[1:] == ["--check"]:
         wrong = list(differences(cited(HEADLINE, "run", [])))
-        print("\n".join(wrong) or "the documents have them all")
+        print("\n".join(wrong + [f"{int(not wrong)} passed, {len(wrong)} failed"]))
         sys.exit(1 if wrong else 0)
     file, function, *clauses = sys.argv[1:] or [HEADLINE, "run"]
     show(cited(TOP / file, function, clauses))

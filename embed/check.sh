@@ -77,6 +77,24 @@ names() {
     diff "$out/exported" "$out/declared"
 }
 
+# named: succeeds if the functions of the header give each code and turn the name that its enum has
+named() {
+    {
+        printf '#include "dma330.h"\n#include <string.h>\n#define CHECK(is, name) if (strcmp(is, name) != 0) return 1\n'
+        printf 'int main(void)\n{\n    dma330_report r;\n    dma330_channel_report c;\n'
+        awk '/^enum / {kind = $2} /^    DMA330_[A-Z0-9_]* = / {
+            name = substr($1, 8)
+            if (kind == "dma330_code") print "    CHECK(dma330_code_name(" $1 "), \"" name "\");"
+            if (kind == "dma330_turn") print "    r.turn = " $1 "; CHECK(dma330_turn_name(&r), \"" name "\");"
+            if (kind == "dma330_channel_turn")
+                print "    c.turn = " $1 "; CHECK(dma330_channel_turn_name(&c), \"" substr(name, 9) "\");"
+        }' c/dma330.h
+        printf '    CHECK(dma330_code_name(1), "?");\n    CHECK(dma330_code_name(-63), "?");\n    return 0;\n}\n'
+    } >"$out/named.c"
+    [ "$(grep -c '^ .*CHECK(' "$out/named.c")" -gt 50 ] &&
+        $CC -std=c99 -Wall -Wextra -Werror -Ic -o "$out/named" "$out/named.c" && "$out/named"
+}
+
 # example COMMAND..: succeeds if the command prints the text of c/example.txt
 example() {
     "$@" >"$out/printed" && diff "$out/printed" c/example.txt
@@ -225,6 +243,7 @@ if has "$CC"; then
     else
         echo "there is no nm: the comparison of the names that the library exports is left out"
     fi
+    try "names of codes and turns" named
     try "README.md" readme -Ic "$LIB"
     if has make; then
         try "make install" installed

@@ -34,6 +34,12 @@ int main(void)
     char version[DMA330_MAX_VERSION];
     size_t count = sizeof all_calls / sizeof all_calls[0];
     size_t length = 0;
+    char numbers[64];
+    sprintf(numbers, "dilkwafam %d.%d", DMA330_VERSION_MAJOR, DMA330_VERSION_MINOR);
+    if (strcmp(numbers, DMA330_VERSION) != 0) {
+        printf("the header's numbers are those of %s, and its text is %s\n", numbers, DMA330_VERSION);
+        return 1;
+    }
     if (dma330_version(version, sizeof version, &length) != DMA330_OK || strcmp(version, DMA330_VERSION) != 0) {
         printf("the library's version is not that of the header, %s\n", DMA330_VERSION);
         return 1;

@@ -352,7 +352,7 @@ static void run_row(const group *of, const row *next)
         read_arguments(c->shape, rest, &given);
         is_failing = way == WITHOUT_MEMORY;
         is_ok = make_call(c, &code);
-        append(&to, "%s", code_name(code));
+        append(&to, "%s", dma330_code_name(code));
         if (code == DMA330_OK && (c->invoke == invoke_step || c->invoke == invoke_call))
             append_report(&to, &outputs.report);
         if (code == DMA330_OK && c->invoke == invoke_registers)

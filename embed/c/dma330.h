@@ -28,8 +28,14 @@
 extern "C" {
 #endif
 
-/* What dma330_version writes, and room for what it writes in any version. Version 1.2 added dma330_device. */
+/* The version, by numbers for #if, and as dma330_version writes it. CHANGES.md has the rule: a program for this version
+ * works with all later ones of the same MAJOR. */
+#define DMA330_VERSION_MAJOR 1
+#define DMA330_VERSION_MINOR 2
+#define DMA330_VERSION_PATCH 0
 #define DMA330_VERSION "dilkwafam 1.2"
+
+/* Room for what dma330_version writes in any version. */
 #define DMA330_MAX_VERSION 32
 
 /* A controller that isn't open: dma330_controller controller = DMA330_CONTROLLER_INIT; (or one cleared by memset) */
@@ -177,8 +183,8 @@ typedef struct dma330_run_end {
     uint32_t pc;    /* of DMA330_END_FAULT: the offset of the instruction */
 } dma330_run_end;
 
-/* What the last of some steps did. A halted channel reports DMA330_HALTED, paused or not; a paused one reports
- * DMA330_PAUSED, whatever its next step is. */
+/* What the last of some steps did: the member `turn` of a dma330_report, and of nothing else. A halted channel reports
+ * DMA330_HALTED, paused or not; a paused one reports DMA330_PAUSED, whatever its next step is. */
 enum dma330_turn {
     DMA330_NO_STEP = 0,  /* no step was requested */
     DMA330_STARTED = 1,  /* the channel's next transfer began to run */
@@ -191,7 +197,8 @@ enum dma330_turn {
     DMA330_FINISHED = 8
 };
 
-/* What the last of some steps of a channel over the caller's memory did. */
+/* What the last of some steps of a channel over the caller's memory did: the member `turn` of a dma330_channel_report.
+ * These numbers aren't those of enum dma330_turn. */
 enum dma330_channel_turn {
     DMA330_CHANNEL_NO_STEP = 0,  /* `most` was 0, or 4294967295 instructions were executed since the load */
     DMA330_CHANNEL_MOVED = 1,    /* an instruction was executed */
@@ -270,6 +277,62 @@ enum dma330_code {
     DMA330_UNKNOWN_INSTRUCTION = -61, /* disassembly: no instruction begins with this byte */
     DMA330_BAD_FIELD = -62            /* disassembly: a field is outside its range */
 };
+
+/* ---- names of numbers, for messages ---- */
+
+#if defined(__cplusplus) || (defined(__STDC_VERSION__) && __STDC_VERSION__ >= 199901L)
+#define DMA330_INLINE static inline
+#elif defined(__GNUC__)
+#define DMA330_INLINE static __inline__
+#else
+#define DMA330_INLINE static
+#endif
+
+#define DMA330_NAMED(name) case DMA330_##name: return #name;
+#define DMA330_NAMED_TURN(name) case DMA330_CHANNEL_##name: return #name;
+
+/* Returns the name of a code without DMA330_, as "BUSY" for DMA330_BUSY; "?" if no code has this number. */
+DMA330_INLINE const char *dma330_code_name(int32_t code)
+{
+    switch (code) {
+        DMA330_NAMED(OK) DMA330_NAMED(NOT_OPEN) DMA330_NAMED(ALREADY_OPEN) DMA330_NAMED(NO_MEMORY)
+        DMA330_NAMED(BAD_EVENT) DMA330_NAMED(BAD_KIND) DMA330_NAMED(NO_RESULT) DMA330_NAMED(NOT_RUNNING)
+        DMA330_NAMED(BUFFER_TOO_SMALL) DMA330_NAMED(NO_PROGRAM) DMA330_NAMED(OUT_OF_MEMORY_RANGE) DMA330_NAMED(BUSY)
+        DMA330_NAMED(NO_CHANNEL) DMA330_NAMED(COOKIES_SPENT) DMA330_NAMED(STEPS_SPENT) DMA330_NAMED(BAD_RANGE)
+        DMA330_NAMED(RUNNING) DMA330_NAMED(BAD_CHANNELS) DMA330_NAMED(SIZE_OUT_OF_RANGE) DMA330_NAMED(BAD_REGIONS)
+        DMA330_NAMED(BAD_CONFIG) DMA330_NAMED(EMPTY_LIST) DMA330_NAMED(TOO_MANY_SEGMENTS)
+        DMA330_NAMED(EMPTY_SEGMENT) DMA330_NAMED(SEGMENT_WRAPS) DMA330_NAMED(TOTALS_DIFFER) DMA330_NAMED(TOO_LONG)
+        DMA330_NAMED(DESTINATIONS_MEET) DMA330_NAMED(SOURCE_MEETS_DESTINATION) DMA330_NAMED(PROGRAM_TOO_LONG)
+        DMA330_NAMED(BAD_SAVE) DMA330_NAMED(OTHER_DEVICE) DMA330_NAMED(BAD_MNEMONIC) DMA330_NAMED(BAD_OPERAND)
+        DMA330_NAMED(NUMBER_OUT_OF_RANGE) DMA330_NAMED(CUT_INSTRUCTION) DMA330_NAMED(UNKNOWN_INSTRUCTION)
+        DMA330_NAMED(BAD_FIELD)
+    default: return "?";
+    }
+}
+
+/* Returns the name of the report's turn, as "MOVED" for DMA330_MOVED. */
+DMA330_INLINE const char *dma330_turn_name(const dma330_report *report)
+{
+    switch (report->turn) {
+        DMA330_NAMED(NO_STEP) DMA330_NAMED(STARTED) DMA330_NAMED(MOVED) DMA330_NAMED(NOTHING) DMA330_NAMED(HELD)
+        DMA330_NAMED(WAITING) DMA330_NAMED(PAUSED) DMA330_NAMED(HALTED) DMA330_NAMED(FINISHED)
+    default: return "?";
+    }
+}
+
+/* Returns the name of the report's turn, as "MOVED" for DMA330_CHANNEL_MOVED. */
+DMA330_INLINE const char *dma330_channel_turn_name(const dma330_channel_report *report)
+{
+    switch (report->turn) {
+        DMA330_NAMED_TURN(NO_STEP) DMA330_NAMED_TURN(MOVED) DMA330_NAMED_TURN(WAITING) DMA330_NAMED_TURN(ENDED)
+        DMA330_NAMED_TURN(FAULT) DMA330_NAMED_TURN(SIGNALLED)
+    default: return "?";
+    }
+}
+
+#undef DMA330_NAMED
+#undef DMA330_NAMED_TURN
+#undef DMA330_INLINE
 
 /* ---- a controller and its memory ---- */
 

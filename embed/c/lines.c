@@ -454,7 +454,7 @@ static void carry_out_call(runner *p, const call *c, const char *rest, answer *t
     code = make_call(p, c);
     if (p->is_stopped)
         return;
-    append(to, "%s", code_name(code));
+    append(to, "%s", dma330_code_name(code));
     if (code == DMA330_OK)
         c->print(to, &p->arguments, &p->outputs);
     else if (has_place(c, code))
@@ -481,7 +481,7 @@ static void carry_out_single(runner *p, const char *rest, answer *to)
         if (code == DMA330_OK)
             append_turn(&turn, &p->outputs.report);
         else
-            append(&turn, "%s", code_name(code));
+            append(&turn, "%s", dma330_code_name(code));
         if (count > 0 && strcmp(now, last) != 0) {
             append(to, "%s x%lu, ", last, count);
             count = 0;

@@ -136,7 +136,7 @@ static void run_cut_programs(void)
         int32_t code = dma330_run_program(copy_of_300, cut, memory, sizeof memory, 1000, &end);
         if (!is_right(code == DMA330_OK && end.end == DMA330_END_FAULT && end.fault == DMA330_INSTR_FETCH_ERR &&
                       end.pc == last_offset(cut)))
-            printf("WRONG: a program cut at %lu bytes: %s, offset %lu\n", (unsigned long)cut, code_name(code),
+            printf("WRONG: a program cut at %lu bytes: %s, offset %lu\n", (unsigned long)cut, dma330_code_name(code),
                    (unsigned long)end.pc);
     }
 }

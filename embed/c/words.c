@@ -33,11 +33,6 @@ const char *name_of(const named *names, uint32_t number)
     return names->name != NULL ? names->name : "?";
 }
 
-const char *code_name(int32_t code)
-{
-    return name_of(all_codes, (uint32_t)code);
-}
-
 int index_of(int32_t code)
 {
     int n;

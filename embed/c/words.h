@@ -22,9 +22,6 @@ extern const named faults[];
 /* Returns the name of a number, or ? if it has none. */
 const char *name_of(const named *names, uint32_t number);
 
-/* Returns the code's name, without the DMA330_. */
-const char *code_name(int32_t code);
-
 /* Returns the index of a code in all_codes, or -1. */
 int index_of(int32_t code);
 

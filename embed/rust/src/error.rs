@@ -5,6 +5,11 @@ use std::fmt;
 
 /// Why a call was refused: of the causes that the call's documentation lists, the first that applies. A refused call changes
 /// nothing, except for [`Device::restore`](crate::Device::restore) with `BadSave`.
+///
+/// ```
+/// let busy = dma330::Error::Busy { channel: 1, cookie: 3 };
+/// assert_eq!(busy.to_string(), "cookie 3 of channel 1 runs, and conflicts");
+/// ```
 #[derive(Clone, Copy, Debug, PartialEq, Eq, Hash)]
 #[non_exhaustive]
 pub enum Error {
@@ -216,17 +221,21 @@ impl fmt::Display for DisassemblyFault {
 
 impl fmt::Display for Error {
     fn fmt(&self, f: &mut fmt::Formatter<'_>) -> fmt::Result {
-        f.write_str(match self {
+        let text = match self {
             Error::NoMemory => "out of memory",
             Error::BadEvent => "an event is above 31",
             Error::NoProgram => "the channel has no program",
             Error::OutOfMemoryRange => "a range ends above the memory's size",
-            Error::Busy { .. } => "a running transfer conflicts",
+            Error::Busy { channel, cookie } => {
+                return write!(f, "cookie {cookie} of channel {channel} runs, and conflicts");
+            }
             Error::NoChannel => "there is no such channel",
             Error::CookiesSpent => "the channel has given its last cookie",
             Error::StepsSpent => "the step count is at its end",
             Error::BadRange => "the range is empty or ends above the last address",
-            Error::Running { .. } => "a transfer is running",
+            Error::Running { channel, cookie } => {
+                return write!(f, "cookie {cookie} of channel {channel} runs");
+            }
             Error::BadChannels => "the number of channels is not 1 to 8",
             Error::SizeOutOfRange => "the size is not 1 to 4294963200 bytes",
             Error::BadRegions => "there are more than 64 regions, or they don't rise, overlap, or end above 4294967295",
@@ -244,7 +253,8 @@ impl fmt::Display for Error {
             Error::OtherDevice => "the save is of a device of another version or configuration",
             Error::Assembly { line, fault } => return write!(f, "line {line}: {fault}"),
             Error::Disassembly { offset, fault } => return write!(f, "offset {offset}: {fault}"),
-        })
+        };
+        f.write_str(text)
     }
 }
 

@@ -223,6 +223,16 @@ fn the_crate_declares_what_the_library_exports() {
     compare(&calls_of_library(), &calls_of_crate(), "sys.rs");
 }
 
+#[test]
+fn the_crate_has_the_version_of_the_header() {
+    let header = text_of(&repository().join("embed/c/dma330.h"));
+    let number = |word: &str| {
+        let define = format!("#define DMA330_VERSION_{word} ");
+        between(&header, &define, "\n").expect("the header has it").0.to_string()
+    };
+    assert_eq!(["MAJOR", "MINOR", "PATCH"].map(number).join("."), env!("CARGO_PKG_VERSION"));
+}
+
 // A channel uses its last cookie only after 2^31 submits, and the step count ends only after 2^64 steps.
 #[test]
 fn codes_that_no_row_meets_are_the_librarys() {
