@@ -99,11 +99,11 @@ stepped_to_end (suc n) v =
 abbrev pub last_answer_line : List ℕ → Reply → List ℕ
 last_answer_line start reply = start ++ reply_text reply
 
--- the limit for `stepped_through` in a copy or a fill; it cuts none of them off (`CopiesEnd`)
+-- the limit for `stepped_to_end` in a copy or a fill; it cuts none of them off (`CopiesEnd`)
 abbrev pub most_steps : ℕ
 most_steps = 524288
 
--- Issues channel 0, steps it with `stepped_through`, and prints the last answer.
+-- Issues channel 0, steps it with `stepped_to_end`, and prints the last answer.
 abbrev pub issued_and_stepped : List ℕ → View → Answered
 issued_and_stepped start v =
     let last = stepped_to_end most_steps (answer v (calls.Issue 0)).1 in one_line (last_answer_line start last.0) last.1
@@ -145,7 +145,7 @@ abbrev pub fill_answer : View → ℕ → List Segment → Answered
 fill_answer v src dst = transfer_answer v (codes "fill ") (plain_fill src dst)
 
 -- If channel 0 of a sound view isn't in use, and a transfer that meets its rules is submitted to it with success and
--- issued, then the last answer of `stepped_through most_steps` is neither Started nor Moved. So `most_steps` cuts off
+-- issued, then the last answer of `stepped_to_end most_steps` is neither Started nor Moved. So `most_steps` cuts off
 -- no copy or fill.
 abbrev pub CopiesEnd : Type 0
 CopiesEnd =

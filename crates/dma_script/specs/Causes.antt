@@ -1,6 +1,7 @@
 -- The cause that is reported for a faulty line (profile): the first that applies, where each cause is tested over all
--- words of the line, from the left, before the next one. This table of causes doesn't depend on how a line is read: it
--- has its own tests, also where those of the readers read the same.
+-- words of the line, from the left, before the next one. The table doesn't depend on the order in which a line is read.
+-- It shares with the readers what a keyword and a single word are (`keyword_of`, `number_of`, `segment_of`, `list_of`,
+-- `bytes_in`); all other tests are its own.
 -- That the readers of run, race and plan scripts report the same is the law `FirstCausesAreReported` for every line, and
 -- `FirstFaultsAreReported` for every script.
 use Rattle.std.specs.Prelude.{◌≡◌, ℕ, ◌+◌, Bool, true, false, not, ◌&&◌, ◌||◌, nat_le, nat_lt, if◌then◌else◌, List, [], ◌∷◌, length, map, Option, Some, None, Result, Ok, Err, is_some, unwrap_or, codes}
