@@ -5,11 +5,6 @@ use Rattle.dma_work.specs.Desk.{DeskState, TakesAStep, TallyCounts, WorkerState,
 use Rattle.dma_work.specs.Rotation.{StepsInTurn, rotation}
 use Rattle.dma_work.specs.Tallies.{TookTurns, any_desk, with_tally}
 
--- the promise of this worker's thread
-pub of_promise : (bytes many : ℕ) (passes : ℕ → ℕ → Type 0) (n worker : ℕ) (given job : Job) (tally : TallyCounts) → n ≡ worker → given ≡ job → TookTurns bytes many passes n given tally → TookTurns bytes many passes worker job tally
-of_promise bytes many passes n worker given job tally same_number same_job h =
-    subst (λ j. TookTurns bytes many passes worker j tally) same_job (subst (λ k. TookTurns bytes many passes k given tally) same_number h)
-
 module _ {L : Type 0} (bytes many : ℕ) (passes : ℕ → ℕ → Type 0) (lends : L → DeskState → DeskState → L → Type 0) where
   -- steps at a lender of which nothing is known
   steps_at_any : (xs : List ℕ) (a b : WorkerState L) → StepsInTurn (TakesAStep bytes many passes lends) xs a b → StepsInTurn (TakesAStep bytes many passes any_desk) xs (with_tally a.tally) (with_tally b.tally)

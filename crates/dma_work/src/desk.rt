@@ -23,8 +23,8 @@ use dma_mem::transfer::Transfer;
 use std::marker::{Brand, Model, PhantomData};
 use std::sync::Wait;
 
-/// Names a desk by six values: the log of its published list, the counts with which its board begins, and the engine's
-/// step count, number of finished cookies, memory size and number of channels when the desk was made.
+/// Names a desk by the log of its published list, the counts with which its board begins, and the engine's step count,
+/// number of finished cookies, memory size and number of channels when the desk was made.
 pub trait DeskName {
     ghost use Rattle.std.specs.Prelude.{ℕ};
     ghost use Rattle.logbook.specs.Pages.{Book};
@@ -59,13 +59,12 @@ impl DeskName for Brand {
     ghost log = { record { number = 0; log_name = 0; cells_name = 0 } };
 }
 
-/// The value behind the lock: an engine, a book of the totals of what was done through the desk, and the publisher of
-/// what status readers see.
+/// The value behind the lock: an engine, a book of what was done through it, and the publisher for status readers.
 ///
 /// Its type guarantees four facts. The published list ends with the ticks of the engine's history, and no tick is
 /// pending. The published ticks before those add up to the counts with which the history begins. The book has the
-/// increase of the engine's step count and finished cookies since the values that N names. The engine's memory has the
-/// size, and the engine the number of channels, that N names.
+/// increase of the engine's step count and finished cookies since the values that N names. The engine has N's size and
+/// number of channels.
 pub struct Desk<N: DeskName> {
     engine: Engine,
     publisher: Publisher,
@@ -81,8 +80,7 @@ impl<N: DeskName> Model for Desk<N> {
 
     ghost view = { λ d. record { engine = d.engine; book = d.book; before = d.publisher.before } };
 
-    ghost invariant = { λ d. IsKept N.steps N.finished N.size N.channels N.base N.log
-        d.engine d.publisher d.book };
+    ghost invariant = { λ d. IsKept N.steps N.finished N.size N.channels N.base N.log d.engine d.publisher d.book };
 }
 
 impl<N: DeskName> Desk<N> {
@@ -281,8 +279,7 @@ impl<N: DeskName> Desk<N> {
         answer
     }
 
-    /// Submits a transfer like [`Engine::submit`]. The receipt has the cookie, and a ticket for a published list in
-    /// which the cookie is given.
+    /// Submits a transfer like [`Engine::submit`]. The ticket is for a published list in which the cookie is given.
     pub fn submit<R: Wait>(
         &mut self,
         rt: &R,
@@ -385,8 +382,8 @@ impl<N: DeskName> Desk<N> {
         self.into_parts(rt).0
     }
 
-    /// Ends the desk if the sums of the tallies' steps and finishes are those of its book, and returns its unchanged
-    /// engine and its book. Otherwise it returns the desk.
+    /// Ends the desk if the sums of the tallies' steps and finishes are its book's, and returns its unchanged engine
+    /// and its book. Otherwise it returns the desk.
     pub fn settle<R: Wait>(self, rt: &R, tallies: &[Tally<N>]) -> Result<(Engine, Totals), Desk<N>>
         ensures engine { IfOk result (λ r. (r.0 ≡ self.engine) × (r.1 ≡ self.book)) }
         ensures settled { IfOk result (λ r. IsSettled N.steps N.finished N.size N.channels tallies.now r.0 r.1) }

@@ -185,8 +185,8 @@ impl Gate for NoGate {
     fn turn<R: Wait>(&self, _rt: &R, _worker: u32, _n: u64) {}
 }
 
-/// Takes the turns of a worker, each of which steps one channel once the worker has passed the gate. Contracts see the
-/// worker's number, how many turns it has taken, and the effect of a turn on a channel.
+/// Takes the turns of a worker, each of which steps one channel. The worker passes the gate before each turn. Contracts
+/// see the worker's number, how many turns it has taken, and the effect of a turn on a channel.
 pub trait Stepper<G: Gate> {
     ghost use Rattle.std.specs.Prelude.{ℕ};
 

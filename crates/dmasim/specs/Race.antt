@@ -23,8 +23,8 @@ abbrev pub StatusPrints : ℕ → ℕ → List ℕ → Type 0
 StatusPrints ch cookie line =
     (line ≡ codes "status none") ⊎ ((status : EngineStatus) × (line ≡ call_line (calls.Status ch cookie) (State status)))
 
--- What a line before `go` may print, always one line: what `run` prints for it on an engine with some sound view, of this
--- size of memory and this number of channels; for a `status` line, see `StatusPrints`.
+-- What a line before `go` may print, always one line: what `run` prints for it on an engine with some sound view, of
+-- this size of memory and this number of channels; for a `status` line, see `StatusPrints`.
 abbrev pub EarlyPrints : ℕ → ℕ → Statement → List ℕ → Type 0
 EarlyPrints bytes many (Status ch cookie) line = StatusPrints ch cookie line
 EarlyPrints bytes many statement line = (v : View) × IsSoundOf bytes many v × ((line_answer v statement).0 ≡ line ∷ [])

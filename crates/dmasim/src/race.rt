@@ -83,8 +83,8 @@ fn until_go<N: DeskName + Send + Sync, R: Threads + Wait + Sync>(
     }
 }
 
-/// Compares the tallies with the desk's book, appends the line of `go` and returns the engine. If a tally is missing, it
-/// appends the refusal and returns `None`. If memory runs out it fails and appends nothing.
+/// Compares the tallies with the desk's book, appends the line of `go` and returns the engine. If a tally is missing,
+/// it appends the refusal and returns `None`. If memory runs out it fails and appends nothing.
 fn settled<N: DeskName, R: Wait>(
     rt: &R,
     desk: Desk<N>,

@@ -15,7 +15,8 @@ use Rattle.dma_work.specs.Ticks.{base_of, board_from}
 -- numbers of 32 bits. The book has the increase of the step count and of the finished cookies. The engine has the size
 -- and the number of channels.
 pub record IsKept
-    (steps finished bytes many : ℕ) (base : Board) (log : Book) (engine : EngineState) (p : PublisherState) (book : Totals)
+    (steps finished bytes many : ℕ) (base : Board) (log : Book) (engine : EngineState) (p : PublisherState)
+    (book : Totals)
     : Type 0 where
   pub shown : p.shown ≡ record { base = base; ticks = p.before ++ ticks_of engine.view.history; log = log }
   pub pending : p.pending ≡ []

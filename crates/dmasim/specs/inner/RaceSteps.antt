@@ -24,9 +24,9 @@ pub record AnswersOn (bytes many : ℕ) (desk : DeskState) (call : Call) (reply 
   pub sound : IsSoundOf bytes many desk.engine.view
   pub answer : CallAnswers desk.engine.view call reply back.engine.view
 
--- How a line before `go` runs, with the lender before and after it. It is lent one desk, prints what `run` prints for it
--- on an engine with the desk's view, and leaves the view that `run` leaves; a submit of a transfer that breaks a rule
--- prints that, and is lent nothing; a status line is answered by the reader.
+-- How a line before `go` runs, with the lender before and after it. It is lent one desk, prints what `run` prints for
+-- it on an engine with the desk's view, and the view after it is that of `run`; a submit of a transfer that breaks a
+-- rule prints that, and is lent nothing; a status line is answered by the reader.
 pub data ActsEarly
     {L : Type 0} (bytes many : ℕ) (lends : L → DeskState → DeskState → L → Type 0) (old : L) (statement : Statement)
     (line : List ℕ) (new : L)
@@ -75,14 +75,16 @@ any_refusal found statement left = Unit {0}
 
 -- All lines ran, one after another, at a lender.
 pub record RunsAll
-    {L : Type 0} (acts : L → Statement → List ℕ → L → Type 0) (found : L) (statements : List Statement) (old new : List ℕ)
+    {L : Type 0} (acts : L → Statement → List ℕ → L → Type 0) (found : L) (statements : List Statement)
+    (old new : List ℕ)
     : Type 0 where
   pub left : L
   pub printed : PrintsLines (alone_acts acts) found statements left old new
 
 -- A line was out of memory. The lines before it ran, one after another, at a lender.
 pub record RunsFirst
-    {L : Type 0} (acts : L → Statement → List ℕ → L → Type 0) (found : L) (statements : List Statement) (old new : List ℕ)
+    {L : Type 0} (acts : L → Statement → List ℕ → L → Type 0) (found : L) (statements : List Statement)
+    (old new : List ℕ)
     : Type 0 where
   pub left : L
   pub stopped : StopsAtALine (alone_acts acts) any_refusal found statements left old new

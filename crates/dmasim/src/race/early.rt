@@ -1,5 +1,5 @@
-//! The lines of a race script before `go`. Each line except `status` is lent the desk once, for its one call, and prints
-//! after giving it back. A `status` line asks the reader, and is lent nothing.
+//! The lines of a race script before `go`. Each line except `status` is lent the desk once, for its one call, and
+//! prints after giving it back. A `status` line asks the reader, and is lent nothing.
 ghost use Rattle.std.specs.Prelude.{◌≡◌, ◌≢◌, [], OnOk, OnErr};
 ghost use Rattle.std.specs.List.{All};
 ghost use Rattle.dma_engine.specs.Laws.{IsQuiet};
