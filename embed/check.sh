@@ -182,6 +182,15 @@ staged() {
         grep -qx prefix=/opt/dma330 "$out/staged/opt/dma330/lib/pkgconfig/dma330.pc"
 }
 
+# qemu_device: succeeds if the device for QEMU compiles without a warning, with stubs in place of QEMU's headers
+qemu_device() {
+    for it in $(sed -n 's/^#include "\(.*\)"$/\1/p' qemu/dma330.c | grep -vx dma330.h); do
+        mkdir -p "$out/qemu/$(dirname "$it")"
+        echo '#include "stubs.h"' >"$out/qemu/$it"
+    done
+    $CC -std=gnu11 -Wall -Wextra -Wno-unused-parameter -Werror -fsyntax-only -I"$out/qemu" -Iqemu -Ic qemu/dma330.c
+}
+
 # in_c SET COMPILER FLAG..: builds the programs with these flags, and runs them
 in_c() {
     set=$1
@@ -245,6 +254,7 @@ if has "$CC"; then
     fi
     try "names of codes and turns" named
     try "README.md" readme -Ic "$LIB"
+    try "qemu device" qemu_device
     if has make; then
         try "make install" installed
         try "make install with DESTDIR" staged

@@ -1,0 +1,107 @@
+/* The declarations of QEMU that dma330.c uses, with which ../check.sh compiles it without QEMU. */
+#ifndef STUBS_H
+#define STUBS_H
+
+#include <assert.h>
+#include <errno.h>
+#include <inttypes.h>
+#include <stdbool.h>
+#include <stddef.h>
+#include <stdlib.h>
+
+#define MIN(a, b) ((a) < (b) ? (a) : (b))
+#define container_of(at, type, member) ((type *)((char *)(at) - offsetof(type, member)))
+#define extract32(value, start, length) ((value) >> (start) & ((1u << (length)) - 1))
+
+typedef uint64_t hwaddr, Int128;
+typedef void *qemu_irq;
+typedef struct Error Error;
+typedef struct QEMUTimer QEMUTimer;
+typedef struct AddressSpace { int it; } AddressSpace;
+typedef struct MemoryRegion { int it; } MemoryRegion;
+typedef struct SysBusDevice { int it; } SysBusDevice;
+typedef struct DeviceState { SysBusDevice it; } DeviceState;
+typedef struct ObjectClass ObjectClass;
+typedef struct Property Property;
+
+typedef struct MemoryRegionOps {
+    uint64_t (*read)(void *opaque, hwaddr offset, unsigned size);
+    void (*write)(void *opaque, hwaddr offset, uint64_t value, unsigned size);
+    int endianness;
+    struct { unsigned min_access_size, max_access_size; } impl;
+} MemoryRegionOps;
+typedef struct MemoryRegionSection {
+    Int128 size;
+    MemoryRegion *mr;
+    hwaddr offset_within_region, offset_within_address_space;
+    bool readonly;
+} MemoryRegionSection;
+typedef struct MemoryListener MemoryListener;
+struct MemoryListener {
+    const char *name;
+    void (*begin)(MemoryListener *listener);
+    void (*region_add)(MemoryListener *listener, MemoryRegionSection *section);
+    void (*region_nop)(MemoryListener *listener, MemoryRegionSection *section);
+};
+typedef struct VMStateField { size_t offset, size; } VMStateField;
+typedef struct VMStateDescription {
+    const char *name;
+    int version_id, minimum_version_id;
+    int (*pre_save)(void *opaque);
+    int (*post_load)(void *opaque, int version_id);
+    const VMStateField *fields;
+} VMStateDescription;
+struct Property { const char *name; size_t offset; uint32_t value; };
+typedef struct DeviceClass {
+    void (*realize)(DeviceState *dev, Error **errp);
+    void (*reset)(DeviceState *dev);
+    const VMStateDescription *vmsd;
+} DeviceClass;
+typedef struct TypeInfo {
+    const char *name, *parent;
+    size_t instance_size;
+    void (*class_init)(ObjectClass *klass, void *data);
+} TypeInfo;
+
+enum { DEVICE_LITTLE_ENDIAN, QEMU_CLOCK_VIRTUAL, LOG_GUEST_ERROR, TRACE_PL330_DMAGO };
+#define MEMTXATTRS_UNSPECIFIED 0
+#define TYPE_SYS_BUS_DEVICE "sys-bus-device"
+#define TYPE_MEMORY_REGION "memory-region"
+#define OBJECT_DECLARE_SIMPLE_TYPE(Type, NAME) typedef struct Type Type; Type *NAME(void *object);
+#define DEFINE_TYPES(types) const TypeInfo *defined_types(void); const TypeInfo *defined_types(void) { return types; }
+#define SYS_BUS_DEVICE(dev) (&(dev)->it)
+#define DEVICE_CLASS(klass) ((DeviceClass *)(klass))
+#define OBJECT(it) ((void *)(it))
+#define VMSTATE_UINT64(field, Type) {offsetof(Type, field), sizeof ((Type *)0)->field}
+#define VMSTATE_BUFFER(field, Type) {offsetof(Type, field), sizeof ((Type *)0)->field}
+#define VMSTATE_END_OF_LIST() {0, 0}
+#define DEFINE_PROP_UINT32(name, Type, field, value) {name, offsetof(Type, field), value}
+#define DEFINE_PROP_LINK(name, Type, field, type, pointer) {name, offsetof(Type, field), 0}
+#define DEFINE_PROP_END_OF_LIST() {NULL, 0, 0}
+#define qemu_log_mask(mask, ...) ((mask) == LOG_GUEST_ERROR ? qemu_log(__VA_ARGS__) : (void)0)
+
+__attribute__((format(printf, 1, 2))) void qemu_log(const char *format, ...);
+__attribute__((format(printf, 1, 2))) void error_report(const char *format, ...);
+__attribute__((format(printf, 1, 2))) void warn_report_once(const char *format, ...);
+__attribute__((format(printf, 2, 3))) void error_setg(Error **errp, const char *format, ...);
+bool trace_event_get_state_backends(int event);
+void qemu_set_irq(qemu_irq irq, int level);
+QEMUTimer *timer_new_ns(int clock, void (*call)(void *opaque), void *opaque);
+void timer_mod(QEMUTimer *timer, int64_t at);
+void timer_del(QEMUTimer *timer);
+int64_t qemu_clock_get_ns(int clock);
+uint64_t int128_get64(Int128 value);
+bool memory_access_is_direct(MemoryRegion *mr, bool is_write);
+void *memory_region_get_ram_ptr(MemoryRegion *mr);
+void memory_region_init_io(MemoryRegion *mr, void *owner, const MemoryRegionOps *ops, void *opaque, const char *name,
+                           uint64_t size);
+void memory_listener_register(MemoryListener *listener, AddressSpace *as);
+void address_space_init(AddressSpace *as, MemoryRegion *root, const char *name);
+void *address_space_map(AddressSpace *as, hwaddr addr, hwaddr *len, bool is_write, int attrs);
+void address_space_unmap(AddressSpace *as, void *bytes, hwaddr len, bool is_write, hwaddr written);
+void sysbus_init_mmio(SysBusDevice *dev, MemoryRegion *mr);
+void sysbus_init_irq(SysBusDevice *dev, qemu_irq *irq);
+void qdev_init_gpio_in(DeviceState *dev, void (*call)(void *opaque, int n, int level), int count);
+void device_class_set_props(DeviceClass *dc, Property *properties);
+
+#endif
