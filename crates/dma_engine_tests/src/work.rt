@@ -8,9 +8,7 @@ use crate::scenes::{
     submitted, with_a_reader, without_room,
 };
 use dma_engine::{Engine, Outcome, Status, TransResult, Turn};
-use dma_work::{
-    Desk, DeskName, Job, NoGate, Parts, Shared, StatusReader, Tally, Totals, work,
-};
+use dma_work::{Desk, DeskName, Job, NoGate, Parts, Shared, StatusReader, Tally, Totals, work};
 use std::alloc::Global;
 use std::marker::Brand;
 use std::process::Abort;

@@ -27,6 +27,4 @@ pub use desk::{Desk, DeskName};
 pub use publisher::{MAX_READERS, Parts, ShareFault, ShareFaultKind};
 pub use reader::{Closed, Receipt, StatusReader, Ticket};
 pub use shared::{Shared, run_workers, work};
-pub use worker::{
-    Borrower, Gate, Job, Lender, Locked, NoGate, Stepper, Tally, Totals, take_turns,
-};
+pub use worker::{Borrower, Gate, Job, Lender, Locked, NoGate, Stepper, Tally, Totals, take_turns};

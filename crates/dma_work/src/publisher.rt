@@ -64,12 +64,7 @@ impl Model for Publisher {
 
 // Publishes what is pending, which the engine has already added to its history. `before` has the ticks that were
 // published before those of the history.
-fn shown<R: Wait>(
-    rt: &R,
-    writer: BoardWriter,
-    before: &Snapshot,
-    _engine: &Engine,
-) -> BoardWriter
+fn shown<R: Wait>(rt: &R, writer: BoardWriter, before: &Snapshot, _engine: &Engine) -> BoardWriter
     requires later { IsLaterBoard writer.desk.shown.value
         (newest writer.desk.shown.value (drop writer.behind writer.log.items)) }
     requires acted { IsOfHistory before.now.ticks _engine.now.view
