@@ -163,7 +163,7 @@ fn run_workers_and_terminate<N: DeskName, R: Wait + Abort>(
     shared: &Shared<N>,
     reader: &mut StatusReader,
     jobs: [Job; 2],
-) -> Result<[Tally<N>; 2], Fail>
+) -> Result<(Tally<N>, Tally<N>), Fail>
     requires { (N.log ≡ reader.old.log) × (N.base ≡ reader.old.base) }
 {
     let mut desk = shared.desk().lock(rt);
@@ -183,7 +183,7 @@ fn run_workers_and_terminate<N: DeskName, R: Wait + Abort>(
     let answer = afternoon(rt, alloc, &mut desk, reader);
     MutexGuard::unlock(desk);
     answer?;
-    Ok([busy, idle])
+    Ok((busy, idle))
 }
 
 // Settles the desk without the tally of the worker that stepped, and then without that of the other worker.
@@ -203,7 +203,7 @@ fn run_and_settle<N: DeskName, R: Wait + Abort>(
         terminated: 1,
     };
     let shared = Shared::<N>::new(parts);
-    let [busy, idle] = match run_workers_and_terminate(rt, alloc, &shared, &mut reader, jobs) {
+    let (busy, idle) = match run_workers_and_terminate(rt, alloc, &shared, &mut reader, jobs) {
         Ok(tallies) => tallies,
         Err(fail) => {
             drop(shared.into_desk().close(rt));

@@ -5,13 +5,14 @@
 //! has seen and those that it has learnt.
 //!
 //! Proved: a method of the desk returns the engine's own answer, and publishes the tick of a finish, a submit or a
-//! terminate after it (`Desk`); a worker passes its gate before each turn, steps the channels of its job in rotation,
-//! one for each turn, and does nothing else ([`work`]); the tallies and the book count each step once, and a desk is
-//! settled if their sums agree (`Desk::settle`); a status is that of a published list that begins with all that the
-//! reader has seen and learnt (`StatusReader::status`, `laws::statuses_stay_true`).
+//! terminate after it (`Desk`); a worker passes its gate for each turn, steps the channels of its job in rotation, one
+//! for each turn, and does nothing else ([`take_turns`] of a [`Worker`]); the tallies and the book count each step once,
+//! and a desk is settled if their sums agree (`Desk::settle`); a status is that of a published list that begins with
+//! all that the reader has seen and learnt (`StatusReader::status`, `laws::statuses_stay_true`).
 //!
-//! Not proved: progress; that workers run at the same time; which desk of its name a lock holds when it is taken; that
-//! each tally of a settled desk is right, since two wrong ones may have the right sum.
+//! Not proved: progress; that workers run at the same time; when a gate is passed; which desk of its name a lock holds
+//! when it is taken, and so that [`work`], which sees the lock, does nothing else with the desk; that each tally of a
+//! settled desk is right, since two wrong ones may have the right sum.
 #![tactic(auto)]
 
 mod board;
@@ -27,4 +28,6 @@ pub use desk::{Desk, DeskName};
 pub use publisher::{MAX_READERS, Parts, ShareFault, ShareFaultKind};
 pub use reader::{Closed, Receipt, StatusReader, Ticket};
 pub use shared::{Shared, run_workers, work};
-pub use worker::{Borrower, Gate, Job, Lender, Locked, NoGate, Stepper, Tally, Totals, take_turns};
+pub use worker::{
+    Borrower, Gate, Job, Lender, Locked, NoGate, Stepper, Tally, Totals, Worker, take_turns,
+};

@@ -299,7 +299,7 @@ impl<N: DeskName> Borrower<Desk<N>> for StepAt<N> {
 /// Steps a desk that is lent to it for each turn, and keeps the tally of these steps. A refused step changes nothing
 /// but the tally's number of turns.
 #[derive(Drop)]
-pub(crate) struct Worker<N: DeskName, L> {
+pub struct Worker<N: DeskName, L> {
     lender: L,
     step: StepAt<N>,
 }
