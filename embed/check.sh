@@ -139,8 +139,8 @@ wrong_driver() {
     grep "^WRONG: .* (seed $seed, tick [0-9]*)$" "$out/printed"
 }
 
-# wrong_drivers: tries four wrong drivers: they don't clear an interrupt, wait again for one that was lost, copy from a
-# wrong address after a restart, and take an interrupt from before a restart for that of the copy
+# wrong_drivers: tries four wrong drivers: one doesn't clear an interrupt, one waits again for a lost one, one copies
+# from a wrong address after a restart, and one takes an interrupt from before a restart for that of the new run
 wrong_drivers() {
     timer='/^static void handle_timer/,/^}/'
     restart='/^static void restart/,/^}/'

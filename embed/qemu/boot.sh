@@ -1,23 +1,29 @@
 #!/bin/sh
 # Boots Linux in the two emulators that build.sh has built, and compares their PL330: ./boot.sh [--migrate N] [FOLDER]
 #
-# FOLDER is that of build.sh, the current one if none is given. Linux is Debian's linux-source-6.1 with its driver pl330
-# and its test dmatest; it is built once. The tests copy 1,600 times at random on eight channels, and 1 MiB at a time on
-# one. With --migrate, a third machine is moved to a new process N times while qemu-dma330 makes 4,000 N copies. The
-# consoles are in FOLDER/*.log. The status is 0 only if no test failed.
+# FOLDER is that of build.sh, the current one if none is given; its path has no spaces or colons. Linux is Debian's
+# linux-source-6.1 with its driver pl330 and its test dmatest; it is built once. The tests copy 1,600 times at random on
+# eight channels, and 64 times 1 MiB on one. With --migrate, a third machine is moved to a new process N times while
+# qemu-dma330 makes 4,000 N copies. The consoles are in FOLDER/*.log. The status is 0 only if no test failed.
 set -eu
 here=$(cd "$(dirname "$0")" && pwd)
-migrations=0
-if [ "${1:-}" = --migrate ]; then
-    migrations=$2
-    shift 2
-fi
-cd "${1:-.}"
 
 fail() {
     printf '%s\n' "$@" >&2
     exit 1
 }
+
+migrations=0
+if [ "${1:-}" = --migrate ]; then
+    migrations=${2:-none}
+    shift
+    [ $# -eq 0 ] || shift
+fi
+case $migrations in
+    *[!0-9]*) fail "usage: boot.sh [--migrate N] [FOLDER]" ;;
+esac
+[ $# -le 1 ] || fail "usage: boot.sh [--migrate N] [FOLDER]"
+cd "${1:-.}"
 
 for it in qemu-stock qemu-dma330; do
     [ -x "$it" ] || fail "$PWD has no $it: build.sh builds it"
@@ -34,7 +40,12 @@ options="MMU ARCH_MULTI_V7 ARCH_ZYNQ AEABI VFP PRINTK TTY SERIAL_XILINX_PS_UART 
     BLK_DEV_INITRD BINFMT_ELF SYSFS MULTIUSER POSIX_TIMERS HIGH_RES_TIMERS COMPAT_32BIT_TIME
     DMADEVICES PL330_DMA DMATEST"
 if ! [ -f zImage ]; then
-    [ -d linux-source-6.1 ] || tar -xf /usr/src/linux-source-6.1.tar.xz
+    [ -d linux-source-6.1 ] || {
+        rm -rf part
+        mkdir part
+        tar -C part -xf /usr/src/linux-source-6.1.tar.xz
+        mv part/linux-source-6.1 .
+    }
     for it in $options; do
         echo "CONFIG_$it=y"
     done >linux.config
@@ -86,10 +97,12 @@ move() {
     printf 'migrate unix:socket\ninfo migrate\nquit\n' >&4 || true
     exec 4>&-
     wait "$old" || true
+    old=
     if [ "$(grep -c 'Migration status: completed' monitor.log)" -gt "$moved" ]; then
         moved=$((moved + 1))
     else
         kill "$pid"
+        finish
     fi
 }
 
@@ -110,9 +123,10 @@ check() {
 }
 
 pid=
+old=
 trap '' PIPE
 trap 'exit 1' INT TERM
-trap '[ -z "$pid" ] || kill "$pid"' EXIT
+trap 'for it in $pid $old; do kill "$it"; done' EXIT
 rm -f monitor.log qemu-stock.log qemu-dma330.log migrated.log
 failed=0
 for it in qemu-stock qemu-dma330; do

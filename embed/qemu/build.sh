@@ -1,13 +1,13 @@
 #!/bin/sh
 # Builds the arm emulator of Debian 12's QEMU twice: ./build.sh [FOLDER]
 #
-# FOLDER, mostly an empty one, is the current folder if none is given. It gets the source package, and two programs with
-# the Zynq and Exynos4 machines: qemu-stock has QEMU's own PL330, qemu-dma330 has dma330.c in its place. LIB may name the
-# library's archive, else it is ../out/libdma330.a; JOBS may say how many compilers run at once. A later run builds
-# qemu-dma330 anew and keeps the rest. Nothing outside FOLDER changes.
+# FOLDER, mostly an empty one, is the current folder if none is given; its path has no spaces or colons. It gets the
+# source package, and two programs with the Zynq and Exynos4 machines: qemu-stock has QEMU's own PL330, qemu-dma330 has
+# dma330.c in its place. LIB may name the library's archive, else it is ../out/libdma330.a; JOBS may say how many
+# compilers run at once. A later run builds qemu-dma330 anew and keeps the rest. Nothing outside FOLDER changes.
 set -eu
 here=$(cd "$(dirname "$0")" && pwd)
-lib=$(realpath "${LIB:-$here/../out/libdma330.a}")
+lib=$(realpath -m "${LIB:-$here/../out/libdma330.a}")
 jobs=${JOBS:-$(nproc)}
 mkdir -p "${1:-.}"
 cd "${1:-.}"
@@ -25,11 +25,12 @@ done
 [ -z "$missing" ] || fail "packages are missing: apt-get install --no-install-recommends$missing"
 
 if ! [ -d source ]; then
-    apt-cache showsrc qemu 2>/dev/null | grep -q '^Version: 1:7\.2' || fail \
+    version=$(apt-cache showsrc qemu 2>/dev/null | sed -n 's/^Version: \(1:7\.2.*\)/\1/p' | sort -V | tail -n 1)
+    [ -n "$version" ] || fail \
         "apt has no source package of QEMU 7.2. It needs Debian 12's lists with deb-src, for example" \
         "    echo deb-src http://deb.debian.org/debian bookworm main >/etc/apt/sources.list.d/src.list" \
         "    apt-get update"
-    apt-get source qemu
+    apt-get source "qemu=$version"
     mv qemu-7.2*/ source
 fi
 

@@ -31,7 +31,7 @@ static void set(const char *name, const char *value)
     close(file);
 }
 
-/* Returns whether a test runs, once its threads had time to begin. A read after their end releases the channels. */
+/* Returns whether a test still runs. The first read after its end releases the channels. */
 static int runs(void)
 {
     char answer = 'N';

@@ -12,7 +12,7 @@
 //!   before what the next one does.
 //! - Pointers are not null, and are aligned and valid for their counts: each comes from a reference, or from a slice
 //!   that is passed with its length. A [`Region`] is made from a slice that nobody else uses while the region exists,
-//!   or by [`Region::from_raw_parts`], whose caller ensures what a slice would.
+//!   or by [`Region::from_raw_parts`], whose caller ensures what its section Safety lists.
 //! - Pointers of a call don't overlap unless both are only read, and nobody else uses what they point to: Rust's rules
 //!   of `&mut` and `&` ensure this.
 //! - The program must ensure the rest: one allocator behind `malloc`, no call from a signal handler or from the forked
