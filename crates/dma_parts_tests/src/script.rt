@@ -20,11 +20,14 @@ impl Interpreter for Counts {
     ghost acts = { λ _ _ group _. group ≡ [] };
 
     fn interpret(&mut self, line: Statement, _out: &mut Vec<u8>) -> Result<(), AllocError> {
-        match line {
-            Statement::Copy(lists) if lists.src.len() == 1 && lists.dst.len() == 1 => {
-                self.copies = self.copies.saturating_add(1);
-            }
-            _ => self.others = self.others.saturating_add(1),
+        let (sources, destinations) = match line {
+            Statement::Copy(lists) => (lists.src.len(), lists.dst.len()),
+            _other => (0, 0),
+        };
+        if (sources, destinations) == (1, 1) {
+            self.copies = self.copies.saturating_add(1);
+        } else {
+            self.others = self.others.saturating_add(1);
         }
         Ok(())
     }
