@@ -1,5 +1,5 @@
 -- What the parts of a race script print.
-use Rattle.std.specs.Prelude.{◌≡◌, ℕ, ◌≤◌, Option, Some, List, [], ◌∷◌, ◌++◌, take, length, codes, OnErr, OnOk, Result}
+use Rattle.std.specs.Prelude.{◌≡◌, ℕ, ◌≤◌, Some, List, [], ◌∷◌, ◌++◌, take, length, codes, OnErr, OnOk, Result}
 use Rattle.dma_mem.specs.Refusals.{refusal_of}
 use Rattle.dma_mem.specs.declared.transfer.TransferFault.{TransferFault}
 use Rattle.dma_engine.specs.Answer.{CallAnswers}
