@@ -8,7 +8,6 @@ pub mod FaultLemmas
 pub mod HexLemmas
 pub mod InterpretedLemmas
 pub mod LineLemmas
-pub mod ListLemmas
 pub mod NumberLemmas
 pub mod PairLemmas
 pub mod Parts

@@ -24,11 +24,6 @@ digits_next base ds i within so_far digit =
     let here : nat_lt (digit_value (get_or ds i 0)) base ≡ true = lt-ltb _ _ digit in
     list_all_more (λ c. nat_lt (digit_value c) base) ds i 0 within ∙ rw (so_far, here) refl
 
--- The same where the next digit makes it too large.
-pub number_in_above_more : (base : ℕ) (ds : List ℕ) (i value d : ℕ) → 1 ≤ base → i < length ds → value ≡ digits_value base (take i ds) → d ≡ digit_value (get_or ds i 0) → 2 ^ 32 ≤ value * base + d → number_in base ds ≡ None
-number_in_above_more base ds i value d one within e digit big =
-    number_in_above base ds (i + 1) one (subst (λ n. 2 ^ 32 ≤ n) (digits_value_next base ds i value d within e digit) big)
-
 -- Digits that are all digits, and whose value fits.
 pub number_in_whole : (base value i : ℕ) (ds : List ℕ) → 0 < length ds → length ds ≤ i → list_all (λ c. nat_lt (digit_value c) base) (take i ds) ≡ true → value ≡ digits_value base (take i ds) → value < 2 ^ 32 → number_in base ds ≡ Some value
 number_in_whole base value i ds some all digits e small =

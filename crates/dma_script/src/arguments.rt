@@ -7,7 +7,7 @@ ghost use Rattle.dma_script.specs.Causes.{where_not};
 
 use crate::fault::Cause;
 use crate::pairs::spaced_pairs;
-use crate::words::{is_blank, next_word, number, segment_in, without_blanks};
+use crate::words::{is_blank, next_word, number, segment_before, segment_in, without_blanks};
 use dma_mem::lists::{Bytes, Segments};
 use dma_mem::marks::MarkKind;
 use dma_mem::segment::Segment;
@@ -249,11 +249,13 @@ fn list_in(alloc: Global, word: &[u8]) -> Result<Option<Segments>, AllocError>
     ensures { IfOk result (λ list. list ≡ list_of word.now) }
 {
     let mut list = Segments::new(alloc);
-    for part in word.split(|b| *b == b',') {
-        let Some(segment) = segment_in(part) else {
+    let mut left = Some(word);
+    while let Some(rest) = left {
+        let Some((segment, after)) = segment_before(rest) else {
             return Ok(None);
         };
         list.push(segment)?;
+        left = after;
     }
     Ok(Some(list))
 }

@@ -2,9 +2,11 @@
 ghost use Rattle.std.specs.Prelude.{◌≡◌, ◌==◌, ◌||◌, ◌∷◌, [], ◌<◌, ◌≤◌, MatchOption, false, true, length, position, slice_index};
 ghost use Rattle.std.specs.List.{list_all};
 ghost use Rattle.std.specs.Str.Lines.{lines, strip_carriage_return};
-ghost use Rattle.dma_script.specs.Words.{is_blank, is_plain, segment_of, words_of, number_of, number_in};
+ghost use Rattle.dma_script.specs.Words.{is_blank, is_plain, segment_of, words_of, number_of};
 ghost use Rattle.dma_script.specs.inner.Reading.{NoBlank};
-ghost use Rattle.dma_script.specs.inner.Digits.{address_of, before_plus};
+ghost use Rattle.dma_script.specs.inner.Digits.{digits_before, number_before, segment_before};
+ghost use Rattle.std.specs.Option.{option_map};
+ghost use Rattle.std.specs.Char.{digit_value};
 
 use dma_mem::segment::Segment;
 use dma_text::bytes::position_of;
@@ -161,81 +163,77 @@ pub(crate) fn is_plain_text(text: &[u8]) -> bool
     plain
 }
 
-/// Returns the number that one or more digits of a base spell, or `None` for any other bytes or a number above
-/// 4,294,967,295.
+/// Returns the number that one or more digits of a base before the first `stop` spell, and what follows the `stop`, if
+/// there is one. Returns `None` for any other bytes or a number above 4,294,967,295. Looks at each byte once.
 #[inline(always)]
-fn number_in(digits: &[u8], radix: u32) -> Option<u32>
+fn digits_before(stop: u8, digits: &[u8], radix: u32) -> Option<(u32, Option<&[u8]>)>
+    requires stop { digit_value stop ≡ 36 }
     requires low { 2 ≤ radix }
     requires high { radix ≤ 16 }
-    ensures { result ≡ number_in radix digits.now }
-{
-    if digits.is_empty() {
-        return None;
-    }
-    let mut value = 0u32;
-    for b in digits {
-        let digit = u32::from(digit_value(*b));
-        if digit >= radix {
-            return None;
-        }
-        value = value.checked_mul(radix)?.checked_add(digit)?;
-    }
-    Some(value)
-}
-
-/// Returns the number that a word spells, in decimal or, after `0x`, in hexadecimal digits. Leading zeros are allowed.
-/// Returns `None` for any other word or a number above 4,294,967,295.
-pub fn number(word: &[u8]) -> Option<u32>
-    ensures { result ≡ number_of word.now }
-{
-    match word {
-        [b'0', b'x', digits @ ..] => number_in(digits, 16),
-        _ => number_in(word, 10),
-    }
-}
-
-/// Returns the number that the digits of a base before the first plus spell, and what follows the plus, or `None` if
-/// there is no plus or no such number. Looks at each byte once.
-#[inline(always)]
-fn number_before_plus(digits: &[u8], radix: u32) -> Option<(u32, &[u8])>
-    requires low { 2 ≤ radix }
-    requires high { radix ≤ 16 }
-    ensures { MatchOption result (before_plus radix digits.now ≡ None)
-        (λ r. before_plus radix digits.now ≡ Some (r.0, r.1.now)) }
+    ensures { option_map (λ r. (r.0, option_map (λ rest. rest.now) r.1)) result
+        ≡ digits_before radix stop digits.now }
 {
     let mut value = 0u32;
     for (place, b) in digits.iter().enumerate() {
         let digit = u32::from(digit_value(*b));
         if digit >= radix {
-            if *b == b'+' && place > 0 {
-                return Some((value, &digits[place + 1..]));
+            if *b == stop && place > 0 {
+                return Some((value, Some(&digits[place + 1..])));
             }
             return None;
         }
         value = value.checked_mul(radix)?.checked_add(digit)?;
     }
-    None
+    if digits.is_empty() {
+        return None;
+    }
+    Some((value, None))
 }
 
-/// Returns the number before the first plus, in decimal or, after `0x`, in hexadecimal digits, and what follows the
-/// plus, or `None` if there is no plus or no such number.
+/// Returns the number before the first `stop`, in decimal or, after `0x`, in hexadecimal digits, and what follows the
+/// `stop`, if there is one. Leading zeros are allowed. Returns `None` for any other word or a number above
+/// 4,294,967,295.
 #[inline(always)]
-fn address_in(word: &[u8]) -> Option<(u32, &[u8])>
-    ensures { MatchOption result (address_of word.now ≡ None)
-        (λ r. address_of word.now ≡ Some (r.0, r.1.now)) }
+fn number_before(stop: u8, word: &[u8]) -> Option<(u32, Option<&[u8]>)>
+    requires { digit_value stop ≡ 36 }
+    ensures { option_map (λ r. (r.0, option_map (λ rest. rest.now) r.1)) result
+        ≡ number_before stop word.now }
 {
     match word {
-        [b'0', b'x', digits @ ..] => number_before_plus(digits, 16),
-        _ => number_before_plus(word, 10),
+        [b'0', b'x', digits @ ..] => digits_before(stop, digits, 16),
+        _ => digits_before(stop, word, 10),
     }
 }
 
-/// Returns the segment that a word spells: an address, a plus and a length.
+/// Returns the number that a word spells, or `None` for any other word.
+#[tactic(auto, using(crate::proofs::SegmentLemmas::number_alone))]
+pub fn number(word: &[u8]) -> Option<u32>
+    ensures { result ≡ number_of word.now }
+{
+    match number_before(b'+', word)? {
+        (number, None) => Some(number),
+        _ => None,
+    }
+}
+
+/// Returns the segment before the first comma, which is an address, a plus and a length, and what follows the comma, if
+/// there is one. Returns `None` if there is no segment.
 #[tactic(auto, using(crate::proofs::SegmentLemmas::segment_parts))]
+pub(crate) fn segment_before(list: &[u8]) -> Option<(Segment, Option<&[u8]>)>
+    ensures { option_map (λ r. (r.0, option_map (λ rest. rest.now) r.1)) result
+        ≡ segment_before list.now }
+{
+    let (addr, rest) = number_before(b'+', list)?;
+    let (len, after) = number_before(b',', rest?)?;
+    Some((Segment { addr, len }, after))
+}
+
+/// Returns the segment that a word spells, or `None` for any other word.
+#[tactic(auto, using(crate::proofs::SegmentLemmas::segment_is))]
 pub fn segment_in(word: &[u8]) -> Option<Segment>
     ensures { result ≡ segment_of word.now }
 {
-    let (addr, rest) = address_in(word)?;
-    let len = number(rest)?;
+    let (addr, rest) = number_before(b'+', word)?;
+    let len = number(rest?)?;
     Some(Segment { addr, len })
 }

@@ -1,11 +1,12 @@
 -- Bytes that were read before, and then those of the rest of a text.
-use Rattle.std.specs.Prelude.{ℕ, ◌+◌, ◌==◌, nat_eq, if◌then◌else◌, List, ◌++◌, drop, take, position, Option, Result, Ok, codes}
+use Rattle.std.specs.Prelude.{ℕ, ◌==◌, nat_eq, if◌then◌else◌, List, [], ◌∷◌, ◌++◌, drop, Option, Some, None, Result, Ok, codes}
 use Rattle.std.specs.List.{starts_with}
-use Rattle.std.specs.Option.{option_and_then, option_map}
+use Rattle.std.specs.Option.{option_map}
+use Rattle.dma_mem.specs.declared.segment.Segment.{Segment}
 use Rattle.dma_script.specs.Lines.{◌>>=◌}
 use Rattle.dma_script.specs.Arguments.{bytes_at}
 use Rattle.dma_script.specs.Pairs.{pairs_from}
-use Rattle.dma_script.specs.Words.{number_in}
+use Rattle.dma_script.specs.Words.{number_in, segment_of}
 use Rattle.dma_script.specs.declared.fault.Cause.{Cause}
 use Rattle.dma_script.specs.declared.fault.Fault.{Fault}
 
@@ -21,12 +22,25 @@ pairs_after before line rest = do
   more ← pairs_from line rest
   Ok (before ++ more)
 
--- the number that the digits of a base before the first plus spell, and what follows the plus
-abbrev pub before_plus : ℕ → List ℕ → Option (ℕ × List ℕ)
-before_plus base bytes =
-    option_and_then (λ plus.
-    option_map (λ n. (n, drop (plus + 1) bytes)) (number_in base (take plus bytes))) (position (λ b. b == 43) bytes)
+-- the bytes before the first `stop`, or all if there is none
+abbrev pub front : ℕ → List ℕ → List ℕ
+front stop [] = []
+front stop (b ∷ bytes) = if b == stop then [] else b ∷ front stop bytes
 
--- the number before the first plus, in decimal or, after 0x, in hexadecimal digits, and what follows the plus
-abbrev pub address_of : List ℕ → Option (ℕ × List ℕ)
-address_of word = if starts_with nat_eq word (codes "0x") then before_plus 16 (drop 2 word) else before_plus 10 word
+-- what follows the first `stop`, if there is one
+abbrev pub behind : ℕ → List ℕ → Option (List ℕ)
+behind stop [] = None
+behind stop (b ∷ bytes) = if b == stop then Some bytes else behind stop bytes
+
+-- the number that the digits of a base before the first `stop` spell, and what follows it
+abbrev pub digits_before : ℕ → ℕ → List ℕ → Option (ℕ × Option (List ℕ))
+digits_before base stop bytes = option_map (λ n. (n, behind stop bytes)) (number_in base (front stop bytes))
+
+-- the number before the first `stop`, in decimal or, after 0x, in hexadecimal digits, and what follows it
+abbrev pub number_before : ℕ → List ℕ → Option (ℕ × Option (List ℕ))
+number_before stop word =
+    if starts_with nat_eq word (codes "0x") then digits_before 16 stop (drop 2 word) else digits_before 10 stop word
+
+-- the segment before the first comma, and what follows the comma
+abbrev pub segment_before : List ℕ → Option (Segment × Option (List ℕ))
+segment_before word = option_map (λ segment. (segment, behind 44 word)) (segment_of (front 44 word))

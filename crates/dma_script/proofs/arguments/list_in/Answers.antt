@@ -1,30 +1,29 @@
-use Rattle.std.proofs.Common.{◌==◌, ◌∙◌, ap, sym, length, take_all, rules, arith, map}
-use Rattle.std.proofs.lemmas.List.{length_push}
-use Rattle.std.proofs.lemmas.Iterator.Consumers.{YieldsList-turn, YieldsList-end, YieldsList-at}
-use Rattle.std.proofs.lemmas.Iterator.Splits.{YieldsList-from_slice_split}
-use Rattle.dma_script.specs.Words.{parts_at, each_of, segment_of}
-use Rattle.dma_script.proofs.ListLemmas.{segments_more, segments_none}
+use Rattle.std.proofs.Common.{rules, arith, ◌≡◌, ◌∙◌, sym, ap, Some, None, Bor, List, ℕ, Option, subst, ◌<◌, length, ◌+◌}
+use Rattle.std.specs.Option.{option_map}
+use Rattle.dma_script.specs.Words.{list_of}
+use Rattle.dma_script.specs.inner.Digits.{segment_before}
+use Rattle.dma_script.proofs.SegmentLemmas.{left_less, left_of, segment_more, segment_none, with_all, with_rest}
 use Rattle.dma_script.proofs.arguments.list_in.Goals as goal
 
+pub loop-left-init : goal.loop-left-init
+loop-left-init c = rw c.new-list.ensures (with_all c.args.word.now)
+
+pub returns-in_default-segment_before : goal.returns-in_default-segment_before
+returns-in_default-segment_before c =
+    let left : list_of c.args.word.now ≡ with_rest c.loop-left.list (Some c.in-Some.rest.now) = c.loop-left.invariant ∙ ap (λ o. with_rest c.loop-left.list (option_map (λ (rest : Bor (List ℕ)). rest.now) o)) c.in-Some.is in
+    let none : segment_before c.in-Some.rest.now ≡ None = sym c.in_default-segment_before.ensures in
+    sym (left ∙ segment_none c.loop-left.list c.in-Some.rest.now none)
+
+pub loop-left-smaller : goal.loop-left-smaller
+loop-left-smaller c =
+    let next : segment_before c.in-Some.rest.now ≡ Some (c.in-Some-segment_before.segment, option_map (λ (rest : Bor (List ℕ)). rest.now) c.in-Some-segment_before.after) = sym c.in-Some-segment_before.ensures in
+    subst (λ o. left_of c.in-Some-segment_before.after < left_of o) (sym c.in-Some.is) (left_less c.in-Some.rest.now c.in-Some-segment_before.segment c.in-Some-segment_before.after next)
+
+pub loop-left-preserved : goal.loop-left-preserved
+loop-left-preserved c =
+    let left : list_of c.args.word.now ≡ with_rest c.loop-left.list (Some c.in-Some.rest.now) = c.loop-left.invariant ∙ ap (λ o. with_rest c.loop-left.list (option_map (λ (rest : Bor (List ℕ)). rest.now) o)) c.in-Some.is in
+    let next : segment_before c.in-Some.rest.now ≡ Some (c.in-Some-segment_before.segment, option_map (λ (rest : Bor (List ℕ)). rest.now) c.in-Some-segment_before.after) = sym c.in-Some-segment_before.ensures in
+    rw c.in_ok-push.ensures.ok (left ∙ segment_more c.loop-left.list c.in-Some.rest.now c.in-Some-segment_before.segment (option_map (λ (rest : Bor (List ℕ)). rest.now) c.in-Some-segment_before.after) next)
+
 pub returns : goal.returns
-returns c =
-    let split = c.split-part-items in
-    let all = YieldsList-end (YieldsList-at c.into_iter-part-iterator.ensures.into_iter_gives (YieldsList-from_slice_split _ (λ b. b == 44) c.args.word.now split.ensures.rest split.ensures.done split.ensures.closure (λ x b q k. search rules))) c.loop-part.yielded c.loop-part.part-iterator c.loop-part.yielded_by _ _ c.in-None.is c.next.ensures.steps in
-    let whole = take_all (length c.loop-part.yielded) (parts_at 44 c.args.word.now) (omega (arith, all.1)) in
-    sym (ap (λ l. each_of (map segment_of l)) (sym whole) ∙ c.loop-part.invariant.segments)
-
-pub loop-part-preserved : goal.loop-part-preserved
-loop-part-preserved c =
-    let split = c.split-part-items in
-    let turn = YieldsList-turn (YieldsList-at c.into_iter-part-iterator.ensures.into_iter_gives (YieldsList-from_slice_split _ (λ b. b == 44) c.args.word.now split.ensures.rest split.ensures.done split.ensures.closure (λ x b q k. search rules))) c.loop-part.yielded c.loop-part.part-iterator c.loop-part.yielded_by _ _ c.in-Some.part c.in-Some.is c.next.ensures.steps in
-    record {
-      can = search rules;
-      ends = search rules;
-      segments = rw (length_push c.loop-part.yielded c.in-Some.part, c.in_ok-push.ensures.ok) (segments_more (parts_at 44 c.args.word.now) (length c.loop-part.yielded) c.in-Some.part.now c.in-Some-segment_in.segment c.loop-part.list turn.0 turn.1 (sym c.in-Some-segment_in.ensures) c.loop-part.invariant.segments);
-    }
-
-pub returns-in_default : goal.returns-in_default
-returns-in_default c =
-    let split = c.split-part-items in
-    let turn = YieldsList-turn (YieldsList-at c.into_iter-part-iterator.ensures.into_iter_gives (YieldsList-from_slice_split _ (λ b. b == 44) c.args.word.now split.ensures.rest split.ensures.done split.ensures.closure (λ x b q k. search rules))) c.loop-part.yielded c.loop-part.part-iterator c.loop-part.yielded_by _ _ c.in-Some.part c.in-Some.is c.next.ensures.steps in
-    sym (segments_none (parts_at 44 c.args.word.now) (length c.loop-part.yielded) c.in-Some.part.now turn.0 turn.1 (sym c.in_default.ensures))
+returns c = sym (c.loop-left.invariant ∙ ap (λ o. with_rest c.loop-left.list (option_map (λ (rest : Bor (List ℕ)). rest.now) o)) c.in_default.is)

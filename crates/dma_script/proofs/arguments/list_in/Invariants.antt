@@ -1,11 +1,12 @@
--- The parts so far are segments, and the list has them.
-use Rattle.std.proofs.Common.{◌≡◌, map, take, length, Some}
-use Rattle.dma_script.specs.Words.{each_of, segment_of, parts_at}
+-- The list has the segments before what is left.
+use Rattle.std.proofs.Common.{◌≡◌, Bor, List, ℕ}
+use Rattle.std.specs.Option.{option_map}
+use Rattle.dma_script.specs.Words.{list_of}
+use Rattle.dma_script.proofs.SegmentLemmas.{left_of, with_rest}
 use Rattle.dma_script.proofs.arguments.list_in.Given as goal
 
-abbrev pub invariant-loop-part : goal.invariant-loop-part
-invariant-loop-part l = record {
-  can : goal.iterator-loop-part.can_next l.part-iterator;
-  ends : goal.iterator-loop-part.is_finite l.part-iterator;
-  segments : each_of (map segment_of (take (length l.yielded) (parts_at 44 l.word))) ≡ Some l.list;
-}
+abbrev pub invariant-loop-left : goal.invariant-loop-left
+invariant-loop-left l = list_of l.word ≡ with_rest l.list (option_map (λ (rest : Bor (List ℕ)). rest.now) l.left)
+
+abbrev pub decreases-loop-left : goal.decreases-loop-left
+decreases-loop-left l = left_of l.left

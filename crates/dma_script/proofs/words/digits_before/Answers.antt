@@ -3,24 +3,28 @@ use Rattle.std.specs.Char.{digit_value}
 use Rattle.std.proofs.lemmas.Bool.{le-ltb}
 use Rattle.std.proofs.lemmas.List.{take_rest}
 use Rattle.dma_script.proofs.NumberLemmas.{digits_next, digits_value_next}
-use Rattle.dma_script.proofs.SegmentLemmas.{no_plus, no_plus_digit, plus_at, too_large, wrong_byte}
-use Rattle.dma_script.proofs.words.number_before_plus.Goals as goal
-use Rattle.dma_script.proofs.words.number_before_plus.Goals.{else-b-eq43-via-then-b-eq43+else-place-gt0, else-b-eq43-via-else-b-eq43}
+use Rattle.dma_script.proofs.SegmentLemmas.{no_stop, no_stop_digit, stop_at, stop_first, too_large, wrong_byte}
+use Rattle.dma_script.proofs.words.digits_before.Goals as goal
+use Rattle.dma_script.proofs.words.digits_before.Goals.{else-b-stop-via-then-b-stop+else-place-gt0, else-b-stop-via-else-b-stop}
 
 pub returns-then-place-gt0 : goal.returns-then-place-gt0
 returns-then-place-gt0 c =
     let at = c.loop-place in
-    plus_at c.args.radix c.args.digits.now at.place at.value c.if-place-gt0.true (omega arith) c.if-b-eq43.true at.invariant.none at.invariant.digits at.invariant.value at.invariant.small
-    ∙ ap (λ rest. Some (at.value, rest)) (sym (take_rest c.args.digits.now (at.place + 1)))
+    ap (λ rest. Some (at.value, Some rest)) (take_rest c.args.digits.now (at.place + 1))
+    ∙ sym (stop_at c.args.radix c.args.stop c.args.digits.now at.place at.value c.if-place-gt0.true (omega arith) c.if-b-stop.true at.invariant.none at.invariant.digits at.invariant.value at.invariant.small)
 
 pub returns-then-digit-radix : goal.returns-then-digit-radix
 returns-then-digit-radix c =
-    let digit : c.from-digit.result ≡ digit_value (get_or c.args.digits.now c.loop-place.place 0) = search rules in
-    let wrong : nat_lt (digit_value (get_or c.args.digits.now c.loop-place.place 0)) c.args.radix ≡ false = le-ltb _ _ (subst (λ d. c.args.radix ≤ d) digit c.if-digit-radix.true) in
-    wrong_byte c.args.radix c.args.digits.now c.loop-place.place (omega arith) c.loop-place.invariant.none wrong (λ plus. elim c.else-b-eq43.branch [
-      | else-b-eq43-via-then-b-eq43+else-place-gt0 w ↦ omega (arith, w.if-place-gt0.false)
-      | else-b-eq43-via-else-b-eq43 w ↦ absurd (w.if-b-eq43.false plus)
-    ])
+    let at = c.loop-place in
+    let digit : c.from-digit.result ≡ digit_value (get_or c.args.digits.now at.place 0) = search rules in
+    let wrong : nat_lt (digit_value (get_or c.args.digits.now at.place 0)) c.args.radix ≡ false = le-ltb _ _ (subst (λ d. c.args.radix ≤ d) digit c.if-digit-radix.true) in
+    elim c.else-b-stop.branch [
+      | else-b-stop-via-then-b-stop+else-place-gt0 w ↦
+          let first : at.place ≡ 0 = omega (arith, w.if-place-gt0.false) in
+          sym (stop_first c.args.radix c.args.stop c.args.digits.now (omega arith) (subst (λ n. get_or c.args.digits.now n 0 ≡ c.args.stop) first w.if-b-stop.true))
+      | else-b-stop-via-else-b-stop w ↦
+          sym (wrong_byte c.args.radix c.args.stop c.args.digits.now at.place (omega arith) (below_more _ _ at.invariant.none w.if-b-stop.false) wrong)
+    ]
 
 pub returns-in_err-checked_mul : goal.returns-in_err-checked_mul
 returns-in_err-checked_mul c =
@@ -28,8 +32,8 @@ returns-in_err-checked_mul c =
     let small : c.from-digit.result < c.args.radix = omega (arith, c.if-digit-radix.false) in
     let here : digit_value (get_or c.args.digits.now c.loop-place.place 0) < c.args.radix = subst (λ d. d < c.args.radix) digit small in
     let big : 2 ^ 32 ≤ c.loop-place.value * c.args.radix + c.from-digit.result = omega (arith, c.in_err-checked_mul.ensures) in
-    rw c.from_residual.ensures (too_large c.args.radix c.args.digits.now c.loop-place.place (omega arith) (omega arith) (below_more _ _ c.loop-place.invariant.none (no_plus_digit c.args.radix _ (omega arith) here))
-    (subst (λ n. 2 ^ 32 ≤ n) (digits_value_next c.args.radix c.args.digits.now c.loop-place.place c.loop-place.value c.from-digit.result (omega arith) c.loop-place.invariant.value digit) big))
+    rw c.from_residual.ensures (sym (too_large c.args.radix c.args.stop c.args.digits.now c.loop-place.place (omega arith) (below_more _ _ c.loop-place.invariant.none (no_stop_digit c.args.stop c.args.radix _ (search rules) (omega arith) here))
+    (subst (λ n. 2 ^ 32 ≤ n) (digits_value_next c.args.radix c.args.digits.now c.loop-place.place c.loop-place.value c.from-digit.result (omega arith) c.loop-place.invariant.value digit) big)))
 
 pub returns-in_err-value : goal.returns-in_err-value
 returns-in_err-value c =
@@ -37,8 +41,8 @@ returns-in_err-value c =
     let small : c.from-digit.result < c.args.radix = omega (arith, c.if-digit-radix.false) in
     let here : digit_value (get_or c.args.digits.now c.loop-place.place 0) < c.args.radix = subst (λ d. d < c.args.radix) digit small in
     let big : 2 ^ 32 ≤ c.loop-place.value * c.args.radix + c.from-digit.result = omega (arith, c.in_err-value.ensures, c.in_ok-checked_mul.ensures) in
-    rw c.from_residual-in_err-value.ensures (too_large c.args.radix c.args.digits.now c.loop-place.place (omega arith) (omega arith) (below_more _ _ c.loop-place.invariant.none (no_plus_digit c.args.radix _ (omega arith) here))
-    (subst (λ n. 2 ^ 32 ≤ n) (digits_value_next c.args.radix c.args.digits.now c.loop-place.place c.loop-place.value c.from-digit.result (omega arith) c.loop-place.invariant.value digit) big))
+    rw c.from_residual-in_err-value.ensures (sym (too_large c.args.radix c.args.stop c.args.digits.now c.loop-place.place (omega arith) (below_more _ _ c.loop-place.invariant.none (no_stop_digit c.args.stop c.args.radix _ (search rules) (omega arith) here))
+    (subst (λ n. 2 ^ 32 ≤ n) (digits_value_next c.args.radix c.args.digits.now c.loop-place.place c.loop-place.value c.from-digit.result (omega arith) c.loop-place.invariant.value digit) big)))
 
 pub loop-place-preserved : goal.loop-place-preserved
 loop-place-preserved c =
@@ -50,8 +54,10 @@ loop-place-preserved c =
       digits = digits_next c.args.radix c.args.digits.now c.loop-place.place (omega arith) c.loop-place.invariant.digits here;
       small = omega (arith, c.in_ok-value.ensures);
       value = sum ∙ digits_value_next c.args.radix c.args.digits.now c.loop-place.place c.loop-place.value c.from-digit.result (omega arith) c.loop-place.invariant.value digit;
-      none = below_more _ _ c.loop-place.invariant.none (no_plus_digit c.args.radix _ (omega arith) here);
+      none = below_more _ _ c.loop-place.invariant.none (no_stop_digit c.args.stop c.args.radix _ (search rules) (omega arith) here);
     }
 
 pub returns : goal.returns
-returns c = no_plus c.args.radix c.args.digits.now c.loop-place.place (omega arith) c.loop-place.invariant.none
+returns c =
+    let at = c.loop-place in
+    sym (no_stop c.args.radix c.args.stop c.args.digits.now at.place at.value (search rules) (omega arith) at.invariant.none at.invariant.digits at.invariant.value at.invariant.small)
