@@ -11,7 +11,8 @@ kit's crates aren't followed.
     bench/trusted_lines.py [FILE FUNCTION [CLAUSE..]]     without a name: the headline, crates/dma_engine/src/run.rt run
     bench/trusted_lines.py --check                        checks that docs/TRUST.md and README.md have these numbers:
                                                           the table of the headline, its totals, those of its clauses,
-                                                          and of the commands and of an export
+                                                          and of the commands and of an export; and that each file and
+                                                          name in the table of rules in docs/ARCHITECTURE.md exists
 """
 
 import re
@@ -26,6 +27,7 @@ SPECS_IMPORT = re.compile(r"use Rattle\.((?:\w+\.)*\w+)\.\{([^}]*)\}")
 CODE_IMPORT = re.compile(r"^(?:pub )?use ((?:\w+::)*)(?:(\w+)|\{([^}]*)\});", re.M)
 DEFINITION = re.compile(r"(?:(?:abbrev|unfoldable|data|record|pub) )+([A-Za-z_][\w']*|◌\S+◌)")
 LABEL = re.compile(r"(?<=ensures |equires )\w+(?= \{)")
+RULE = re.compile(r"(?:(dma\w+) )?([\w/.]+)(?: \((\w+)\))?")
 DECLARATION = re.compile(r"pub(?:\(crate\))? (?:enum|struct|const|trait) (\w+)")
 
 
@@ -164,6 +166,25 @@ def rows_that_differ(found):
     return [f"{at}: {counted.get(at)} in the table, {wanted.get(at)} in the tree" for at in differ]
 
 
+def rules_astray():
+    """Yields what the table of rules in docs/ARCHITECTURE.md names and the tree lacks, each with its row."""
+    table = (TOP / "docs/ARCHITECTURE.md").read_text().split("## Where each rule is\n")[1].split("\n## ")[0]
+    head, *rows = filter(str.strip, table.splitlines())
+    specs, code = head.index("Definition"), head.index("Code")
+    for row in rows:
+        crate = folder = ""
+        for named in RULE.finditer(row, specs):
+            crate, name, definition = named[1] or crate, named[2], named[3]
+            if named.start() < code:
+                file = CRATES / crate / "specs" / f"{name}.antt"
+                is_there = file.exists() and (definition is None or definition in Source(file).blocks)
+            else:
+                is_there = any((CRATES / crate / "src" / it / name).exists() for it in ("", folder))
+                folder = name.rpartition("/")[0] or folder
+            if not is_there:
+                yield f"docs/ARCHITECTURE.md, {row[:specs].strip()}: {crate} has no {named[0]}"
+
+
 def tens(lines):
     """Returns a number of lines, rounded to the nearest ten."""
     return (lines + 5) // 10 * 10
@@ -195,6 +216,7 @@ def sentences_of(found):
 def differences(found):
     """Yields the differences between the documents and the tree."""
     yield from rows_that_differ(found)
+    yield from rules_astray()
     for file, sentence in sentences_of(found):
         if sentence not in " ".join((TOP / file).read_text().split()):
             yield f"{file} lacks: {sentence}"

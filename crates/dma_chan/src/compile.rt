@@ -6,7 +6,7 @@ ghost use Rattle.dma_insn.specs.ControlWord.{beat_bytes};
 ghost use Rattle.dma_chan.specs.Tree.{bytes_of, in_order, Repeat};
 ghost use Rattle.dma_chan.specs.inner.Compiling.{Appends, cost_of, word_of};
 ghost use Rattle.dma_chan.specs.Compiled.{where_some, body, bursts, under, fits, beat_of, parts, piece_tree, wait_tree, signal_tree, tree_of, cost, compiled, pieces_of, most_compiled};
-ghost use Rattle.dma_mem.specs.Places.{last_event};
+ghost use Rattle.dma_mem.specs.Limits.{last_event};
 ghost use Rattle.dma_mem.specs.Rules.{IsTransfer};
 
 use crate::pieces::{Piece, Pieces, pieces_of};

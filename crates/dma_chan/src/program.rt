@@ -4,7 +4,7 @@ ghost use Rattle.std.specs.Prelude.{◌≡◌, ◌≤◌, ◌<◌, length, None,
 ghost use Rattle.dma_insn.specs.AssemblyText.{most_bytes};
 ghost use Rattle.dma_chan.specs.Programs.{program_fault};
 
-pub use dma_insn::assembler::MAX_BYTES;
+pub use dma_insn::assembler::MAX_PROGRAM_BYTES;
 use std::alloc::Global;
 use std::marker::Model;
 use thiserror::Error;
@@ -12,13 +12,13 @@ use thiserror::Error;
 /// Why bytes aren't accepted as a program.
 #[derive(Clone, Copy, Debug, PartialEq, Eq, Error)]
 pub enum ProgramFault {
-    #[error("the program has more than {} bytes", MAX_BYTES)]
+    #[error("the program has more than {} bytes", MAX_PROGRAM_BYTES)]
     ProgramTooLong,
     #[error("out of memory")]
     NoMemory,
 }
 
-/// The bytes of a program, at most [`MAX_BYTES`], and for a compiled program how many instructions it executes.
+/// The bytes of a program, at most [`MAX_PROGRAM_BYTES`], and for a compiled program how many instructions it executes.
 #[derive(Drop)]
 pub struct Program {
     bytes: Vec<u8>,
@@ -40,14 +40,14 @@ impl Model for Program {
 impl Program {
     /// Returns the program of these bytes, which need not be instructions. It has no cost.
     ///
-    /// The error is `ProgramTooLong` above [`MAX_BYTES`], else `NoMemory`.
+    /// The error is `ProgramTooLong` above [`MAX_PROGRAM_BYTES`], else `NoMemory`.
     pub fn from_bytes(alloc: Global, bytes: &[u8]) -> Result<Program, ProgramFault>
         ensures ok { IfOk result
             (λ program. program ≡ record { bytes = bytes.now; cost = None }) }
         ensures fits { OnOk result (length bytes.now ≤ most_bytes) }
         ensures err { IfErr result (λ fault. fault ≡ program_fault bytes.now) }
     {
-        if bytes.len() > MAX_BYTES {
+        if bytes.len() > MAX_PROGRAM_BYTES {
             return Err(ProgramFault::ProgramTooLong);
         }
         let bytes = Vec::from_slice(alloc, bytes).map_err(|_| ProgramFault::NoMemory)?;

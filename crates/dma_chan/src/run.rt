@@ -32,7 +32,7 @@ pub enum RunEnd {
 /// Why a program wasn't run to its end.
 #[derive(Clone, Copy, Debug, PartialEq, Eq, Error)]
 pub enum RunFault {
-    #[error("the program has more than {} bytes", crate::program::MAX_BYTES)]
+    #[error("the program has more than {} bytes", crate::program::MAX_PROGRAM_BYTES)]
     ProgramTooLong,
     /// A page that a store writes could not be allocated. `turns` instructions were executed before that store, and
     /// what they stored stays in memory.
@@ -105,7 +105,7 @@ fn run_on<M: Ram>(
 /// clear, for at most `limit` instructions. The pages that a store writes are made just before it is executed, and no
 /// others. They stay made.
 ///
-/// The error is `ProgramTooLong` above [`MAX_BYTES`](crate::program::MAX_BYTES), or `NoMemory`; then nothing has run.
+/// The error is `ProgramTooLong` above [`MAX_PROGRAM_BYTES`](crate::program::MAX_PROGRAM_BYTES), or `NoMemory`; then nothing has run.
 /// Or it is `PageRefused`; then memory contains the stores of all instructions before the one whose page could not
 /// be allocated.
 pub fn run_program<M: Ram>(

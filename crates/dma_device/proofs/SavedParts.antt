@@ -1,5 +1,5 @@
 -- What is read from the bytes of a save is what was written there.
-use Rattle.std.proofs.Common.{◌≡◌, ◌∙◌, append_assoc, ℕ, suc, ◌+◌, ◌-◌, ◌*◌, ◌%◌, ◌/◌, ◌^◌, ◌<◌, ◌≤◌, Bool, true, false, eqb, not, List, [], ◌∷◌, ◌++◌, get_or, length, take, drop, ap, append-nil, add-one, refl, sym, subst, arith}
+use Rattle.std.proofs.Common.{◌≡◌, ◌∙◌, append_assoc, ℕ, suc, ◌+◌, ◌-◌, ◌*◌, ◌%◌, ◌/◌, ◌^◌, ◌<◌, ◌≤◌, Bool, true, false, eqb, List, [], ◌∷◌, ◌++◌, get_or, length, take, drop, ap, append-nil, add-one, refl, sym, subst, arith}
 use Rattle.std.proofs.Math.Seq.{drop-cons, take-suc}
 use Rattle.std.proofs.lemmas.Bool.{and_parts}
 use Rattle.std.proofs.lemmas.List.{drop-drop, drop_all, drop_at, length-append, length-drop, length-take, take-append-drop, take_all, take_at}
@@ -53,11 +53,6 @@ written h rest r = record {
 -- Bytes that begin with a head have its fields.
 pub head_fields : (h : Head) (rest bytes : List ℕ) → HasHeadRanges h → bytes ≡ head_bytes h ++ rest → HasFieldsOf h bytes
 head_fields h rest bytes r e = subst (HasFieldsOf h) (sym e) (written h rest r)
-
--- A flag's byte is read as the flag.
-pub flag_back : (b : Bool) → not (eqb (flag b) 0) ≡ b
-flag_back true = refl
-flag_back false = refl
 
 -- ---- a thread
 

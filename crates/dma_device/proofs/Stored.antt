@@ -1,7 +1,5 @@
 -- The bytes that a transfer's program has stored: they become no fewer, and all are stored from its DMASEV on.
 use Rattle.std.proofs.Common.{◌≡◌, ◌≢◌, ◌∙◌, ◌⊎◌, ℕ, zero, suc, ◌+◌, ◌≤◌, ◌<◌, true, List, length, get_or, Option, Some, ap, refl, sym, subst, arith, inl, inr}
-use Rattle.dma_insn.specs.declared.insn.Insn.{Insn}
-use Rattle.dma_insn.specs.declared.insn.Insn.TheVariants.{Mov, Ld, St, Rmb, Wmb, Nop, End, Lp, LpEnd, Sev, Wfe}
 use Rattle.dma_mem.specs.Image.{laid}
 use Rattle.dma_mem.specs.Marking.{MarkList}
 use Rattle.dma_mem.specs.Places.{Descriptor, lies_below, size_of}
@@ -16,21 +14,8 @@ use Rattle.dma_chan.specs.declared.turn.ChanTurn.TheVariants.{Moved, Waiting, En
 use Rattle.dma_chan.proofs.AmongOthers.{Among}
 use Rattle.dma_chan.proofs.CallsAmongOthers.{Leads, Runs, call, many, moved_on}
 use Rattle.dma_chan.proofs.CopyAlone.{laid_over_all}
-use Rattle.dma_chan.proofs.ShapeLaws.{stored_is}
+use Rattle.dma_chan.proofs.ShapeLaws.{is_store, stored_is}
 use Rattle.dma_chan.proofs.SteppedOver.{is_still, was_moved, went_before}
-
-is_store : (i : Insn) → (i ≡ St) ⊎ (i ≢ St)
-is_store St = inl refl
-is_store (Mov r v) = inr (λ e. cc)
-is_store Ld = inr (λ e. cc)
-is_store Rmb = inr (λ e. cc)
-is_store Wmb = inr (λ e. cc)
-is_store Nop = inr (λ e. cc)
-is_store End = inr (λ e. cc)
-is_store (Lp c n) = inr (λ e. cc)
-is_store (LpEnd c b) = inr (λ e. cc)
-is_store (Sev x) = inr (λ e. cc)
-is_store (Wfe x v) = inr (λ e. cc)
 
 is_end : (turn : ChanTurn) → (turn ≡ Ended) ⊎ (turn ≢ Ended)
 is_end Ended = inl refl

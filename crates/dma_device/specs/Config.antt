@@ -1,5 +1,6 @@
 -- The choices of a chip's designer.
 use Rattle.std.specs.Prelude.{ℕ, ◌*◌, ◌^◌, Bool, ◌&&◌, nat_le}
+use Rattle.dma_mem.specs.Limits.{most_channels}
 use Rattle.dma_device.specs.declared.config.BusWidth.{BusWidth}
 use Rattle.dma_device.specs.declared.config.BusWidth.TheVariants.{Bits32, Bits64, Bits128}
 use Rattle.dma_device.specs.declared.config.Config.{Config}
@@ -23,5 +24,5 @@ revision_code R1p2 = 3
 -- each as wide as the bus, with at least one line and at most 256 bytes for each channel.
 abbrev pub is_valid : Config → Bool
 is_valid g =
-    nat_le 1 g.channels && (nat_le g.channels 8 && (nat_le 1 g.events && (nat_le g.events 32
+    nat_le 1 g.channels && (nat_le g.channels most_channels && (nat_le 1 g.events && (nat_le g.events 32
     && (nat_le g.channels g.lines && (nat_le g.lines 1024 && nat_le (g.lines * 2 ^ bus_code g.bus) (256 * g.channels))))))

@@ -2,6 +2,7 @@
 use Rattle.std.specs.Prelude.{◌≡◌, ◌≢◌, ◌⊎◌, ℕ, ◌+◌, ◌*◌, ◌%◌, ◌^◌, ◌<◌, ◌≤◌, Bool, true, false, not, ◌&&◌, List, ◌++◌, length, slice_get, slice_index, IfSome, IsTrue, Ok}
 use Rattle.dma_insn.specs.ControlWord.{flag}
 use Rattle.dma_mem.specs.Image.{laid}
+use Rattle.dma_mem.specs.Limits.{most_channels}
 use Rattle.dma_mem.specs.Places.{Descriptor, lies_below, size_of}
 use Rattle.dma_mem.specs.Regions.{Piece, image_of, in_order, pieces_of}
 use Rattle.dma_mem.specs.Rules.{IsTransfer}
@@ -31,7 +32,7 @@ csr_status d n = read_at d (0x100 + 8 * n) % 16
 -- non-secure channels.
 pub record MayGo (d : DeviceValue) (nonsecure : Bool) (n : ℕ) : Type 0 where
   pub channel : n < length d.threads
-  pub few : n < 8
+  pub few : n < most_channels
   pub stopped : csr_status d n ≡ 0
   pub manager : read_at d 0x030 ≡ 0
   pub allowed : (d.config.nonsecure && not nonsecure) ≡ false

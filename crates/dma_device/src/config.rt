@@ -3,10 +3,8 @@
 ghost use Rattle.std.specs.Prelude.{◌≡◌, ◌≤◌};
 ghost use Rattle.dma_device.specs.Config.{bus_code, is_valid, revision_code};
 
+use dma_mem::limits::MAX_CHANNELS;
 use thiserror::Error;
-
-/// The most channels that a device can have.
-pub const MAX_CHANNELS: u8 = 8;
 
 /// The most events that a device can have.
 pub const MAX_EVENTS: u8 = 32;

@@ -2,6 +2,7 @@
 
 ghost use Rattle.std.specs.Prelude.{◌≡◌, ◌+◌, ◌≤◌, drop, length};
 ghost use Rattle.std.specs.Int.{w16, from_le_bytes};
+ghost use Rattle.dma_mem.specs.Limits.{most_channels};
 ghost use Rattle.dma_chan.specs.Channel.{code_of};
 ghost use Rattle.dma_chan.specs.Next.{next_of};
 ghost use Rattle.dma_device.specs.Thread.{has_too_wide, is_too_wide};
@@ -78,7 +79,7 @@ impl Thread {
 
 // Returns for each thread whether its program has a DMAMOV CCR whose beats are wider than the bus.
 pub(crate) fn wide_programs(bus: BusWidth, threads: &[Thread]) -> [bool; 8]
-    requires { length threads.now ≤ 8 }
+    requires { length threads.now ≤ most_channels }
     ensures knows { KnowsWide bus threads.now result }
     ensures room { length result ≡ 8 }
 {

@@ -5,6 +5,7 @@ use Rattle.std.proofs.lemmas.Bool.{cases_eq, eq-eqb, ne_eqb}
 use Rattle.std.proofs.lemmas.List.{ext_get_or, length-set, length-drop, length-map, get_or-drop, map_more, get_or-set_same, get_or-set_other}
 use Rattle.std.proofs.lemmas.List.Elements.{All-append}
 use Rattle.dma_mem.specs.Image.{put, after_moves, laid}
+use Rattle.dma_mem.specs.Limits.{most_transfer_bytes}
 use Rattle.dma_mem.specs.Places.{Descriptor, size_of}
 use Rattle.dma_mem.specs.Meeting.{IsFree}
 use Rattle.dma_mem.proofs.ImagePut.{length-put, get_or-put}
@@ -197,7 +198,7 @@ length-aborted done (t ∷ ts) = ap suc (length-map ts _)
 -- ---- the readings of what runs
 
 -- what its machine has stored
-pub stored-small : (p : Parts) → Holds p → (ch : ℕ) (q : Queue) → ch < length p.queues → q ≡ slice_index_or p.queues ch q → is_some q.channel.program ≡ true → (q.channel.stored ≤ 1048576) × (q.channel.stored ≡ done_on (view_of p) ch)
+pub stored-small : (p : Parts) → Holds p → (ch : ℕ) (q : Queue) → ch < length p.queues → q ≡ slice_index_or p.queues ch q → is_some q.channel.program ≡ true → (q.channel.stored ≤ most_transfer_bytes) × (q.channel.stored ≡ done_on (view_of p) ch)
 stored-small p h ch q less read loaded =
     let r = running p h ch q less read loaded in
     let stores = stored_is r.transfer r.rules in

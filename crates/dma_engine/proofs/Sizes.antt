@@ -4,7 +4,7 @@ use Rattle.std.specs.Prelude.{nat_le, nat_lt, ◌==◌, if◌then◌else◌}
 use Rattle.std.proofs.lemmas.Bool.{and_parts, leb-true, ltb-false, or_parts}
 use Rattle.std.proofs.lemmas.List.{length-replicate, length-set, length-map}
 use Rattle.dma_mem.specs.Image.{bytes_at, is_size}
-use Rattle.dma_mem.specs.declared.memory.TheConstants.{MAX_SIZE}
+use Rattle.dma_mem.specs.Limits.{largest_size}
 use Rattle.dma_mem.proofs.ImageOver.{length-after_moves}
 use Rattle.dma_mem.proofs.ImagePut.{length-put}
 use Rattle.dma_engine.specs.declared.entry.Entry.{Entry}
@@ -117,5 +117,5 @@ pub size-small : (p : Parts) → Holds p → size (view_of p) ≤ 4294967295
 size-small p h =
     let v : View = view_of p in
     let m = made (length v.base.image) (length v.base.channels) h.sound.makes in
-    let parts = and_parts (nat_le 1 (length v.base.image)) (nat_le (length v.base.image) MAX_SIZE) m.1 in
+    let parts = and_parts (nat_le 1 (length v.base.image)) (nat_le (length v.base.image) largest_size) m.1 in
     omega (arith, leb-true _ _ parts.1, size-object v.base p.history)

@@ -1,7 +1,8 @@
 -- The answer to each call.
 use Rattle.std.specs.Prelude.{◌≡◌, ◌≤◌, ◌⊎◌, ℕ, ◌+◌, ◌-◌, if◌then◌else◌, ◌==◌, ◌||◌, Bool, true, false, nat_lt, nat_le, not, is_none, Option, Some, None, Result, Ok, Err, List, [], ◌∷◌, ◌++◌, length, take, drop, slice_get, slice_set, find}
 use Rattle.std.specs.Option.{option_map}
-use Rattle.dma_mem.specs.Places.{Descriptor, end_of_addresses, last_event, touches, writes, lies_below}
+use Rattle.dma_mem.specs.Limits.{last_event}
+use Rattle.dma_mem.specs.Places.{Descriptor, end_of_addresses, touches, writes, lies_below}
 use Rattle.dma_mem.specs.declared.segment.Segment.{Segment}
 use Rattle.dma_engine.specs.declared.entry.Entry.{Entry}
 use Rattle.dma_engine.specs.declared.entry.Entry.TheVariants.{Wrote, ReadBack, Submitted, Issued, Signalled, Terminated, Marked, Unmarked}

@@ -2,6 +2,7 @@
 -- answers; and answers to consecutive calls.
 use Rattle.std.specs.Prelude.{◌≡◌, ◌≢◌, ℕ, ◌+◌, ◌≤◌, ◌<◌, ◌⊎◌, false, if◌then◌else◌, None, Result, Ok, Err, List, [], ◌∷◌, ◌++◌, length, take, drop}
 use Rattle.std.specs.List.{All}
+use Rattle.dma_mem.specs.Limits.{most_channels}
 use Rattle.dma_mem.specs.Places.{Descriptor}
 use Rattle.dma_mem.specs.Rules.{IsTransfer}
 use Rattle.dma_engine.specs.declared.call.Call.{Call}
@@ -119,7 +120,7 @@ StatusByTicks =
 abbrev pub BaseCountsBounded : Type 0
 BaseCountsBounded =
     (v : View) → IsSound v
-    → (length (board_of v.base) ≡ channels v) × (channels v ≤ 8)
+    → (length (board_of v.base) ≡ channels v) × (channels v ≤ most_channels)
     × ((ch : ℕ)
     → ((counts (board_of v.base) ch).used ≤ last_cookie) × ((counts (board_of v.base) ch).finished ≤ last_cookie))
 

@@ -2,7 +2,8 @@
 -- the object and how it changes it.
 use Rattle.std.specs.Prelude.{◌≡◌, ℕ, ◌+◌, ◌-◌, ◌<◌, ◌≤◌, if◌then◌else◌, Bool, true, false, nat_lt, Option, Some, None, IsSome, IsSomeAnd, MatchOption, unwrap_or, List, [], ◌∷◌, ◌++◌, length, map, take, drop, replicate, slice_get, slice_index_or, slice_set}
 use Rattle.std.specs.List.{All, sum_by}
-use Rattle.dma_mem.specs.Places.{Descriptor, end_of_addresses, last_event, lies_below, size_of, sources, destinations}
+use Rattle.dma_mem.specs.Limits.{last_event}
+use Rattle.dma_mem.specs.Places.{Descriptor, end_of_addresses, lies_below, size_of, sources, destinations}
 use Rattle.dma_mem.specs.Rules.{IsTransfer}
 use Rattle.dma_mem.specs.Image.{put, bytes_at, laid}
 use Rattle.dma_mem.specs.declared.segment.Segment.{Segment}

@@ -2,6 +2,7 @@
 use Rattle.std.specs.Prelude.{◌≡◌, ◌≢◌, ℕ, ◌+◌, ◌-◌, ◌<◌, ◌==◌, ◌||◌, if◌then◌else◌, Bool, true, false, ◌&&◌, not, nat_lt, Option, Some, None, is_some, List, [], length, map, replicate, slice_index_or}
 use Rattle.std.specs.Option.{option_map}
 use Rattle.std.specs.List.{filter_map, range_with_len}
+use Rattle.dma_mem.specs.Limits.{most_channels}
 use Rattle.dma_mem.specs.Places.{Descriptor, is_free_of}
 use Rattle.dma_mem.specs.Image.{over, is_size}
 use Rattle.dma_engine.specs.declared.entry.Entry.{Entry}
@@ -132,7 +133,7 @@ pub record Fits (o : Object) (schedule : List ChannelSchedule) : Type 0 where
 -- of channel threads is configurable), or a size that a memory can't have.
 abbrev pub new_fault : ℕ → ℕ → Option NewFault
 new_fault bytes many =
-    if many == 0 || nat_lt 8 many then Some BadChannels else (if not (is_size bytes) then Some SizeOutOfRange else None)
+    if many == 0 || nat_lt most_channels many then Some BadChannels else (if not (is_size bytes) then Some SizeOutOfRange else None)
 
 -- the view of a new engine
 abbrev pub new_view : ℕ → ℕ → View

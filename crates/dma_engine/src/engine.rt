@@ -18,6 +18,7 @@ use crate::outcome::Outcome;
 use crate::queue::Queue;
 use crate::turn::{Running, Status, Turn};
 use dma_mem::events::Events;
+use dma_mem::limits::MAX_CHANNELS;
 use dma_mem::marks::Marks;
 use dma_mem::memory::{MemFault, Memory};
 use dma_mem::transfer::Transfer;
@@ -32,9 +33,6 @@ mod host_calls;
 mod queue_calls;
 mod steps;
 mod totals;
-
-/// The most channels that an engine can have (PL330 manual: the number of channel threads is configurable).
-pub const MAX_CHANNELS: u8 = 8;
 
 /// Queues of transfers on channels over one memory. Contracts see its base, its history, its step count, its schedule
 /// and its memory's bytes. They do not see which pages of the memory are made.

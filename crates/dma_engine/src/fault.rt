@@ -3,6 +3,7 @@
 ghost use Rattle.std.specs.Prelude.{◌≡◌};
 
 use dma_chan::compile;
+use dma_mem::limits::{MAX_CHANNELS, MAX_SIZE};
 use dma_mem::transfer::Transfer;
 use std::alloc::AllocError;
 use thiserror::Error;
@@ -64,11 +65,11 @@ impl From<AllocError> for EngineFault {
 /// Why no engine was made, in the order of the checks.
 #[derive(Clone, Copy, Debug, PartialEq, Eq, Error)]
 pub enum NewFault {
-    /// The number of channels is 0 or above 8.
-    #[error("the number of channels is not 1 to 8")]
+    /// The number of channels is 0 or above [`MAX_CHANNELS`].
+    #[error("the number of channels is not 1 to {}", MAX_CHANNELS)]
     BadChannels,
-    /// The size is 0 or above 4,294,963,200 bytes.
-    #[error("the size is not 1 to 4294963200 bytes")]
+    /// The size is 0 or above [`MAX_SIZE`] bytes.
+    #[error("the size is not 1 to {} bytes", MAX_SIZE)]
     SizeOutOfRange,
     /// Memory ran out.
     #[error("out of memory")]

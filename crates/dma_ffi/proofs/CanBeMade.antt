@@ -3,6 +3,7 @@ use Rattle.std.proofs.Common.{◌≡◌, ℕ, ◌+◌, ◌<◌, Bool, true, fals
 use Rattle.std.specs.List.{All, list_any}
 use Rattle.std.proofs.lemmas.Bool.{le-ltb, true≢false}
 use Rattle.std.proofs.lemmas.List.Elements.{All-cons, All-replicate}
+use Rattle.dma_mem.specs.Limits.{most_transfer_bytes}
 use Rattle.dma_mem.specs.Places.{Descriptor, filling}
 use Rattle.dma_mem.specs.Meeting.{meets}
 use Rattle.dma_mem.specs.Refusals.{cause, has_empty_segment, has_too_many, has_wrapping_segment, is_bad_event, is_empty_list, refusal_of, refusal_of_fill, some_meet, total}
@@ -29,7 +30,7 @@ refusal_by dst wait signal wraps met =
     cause (has_too_many dst) TooManySegments (
     cause (has_empty_segment dst) EmptySegment (
     cause wraps SegmentWraps (
-    cause (nat_lt 1048576 (total dst)) TooLong (
+    cause (nat_lt most_transfer_bytes (total dst)) TooLong (
     cause (some_meet dst) DestinationsMeet (
     cause met SourceMeetsDestination (
     cause (is_bad_event wait || is_bad_event signal) BadEvent None)))))))

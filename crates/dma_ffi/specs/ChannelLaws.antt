@@ -18,7 +18,7 @@ use Rattle.dma_chan.specs.Stepping.{Machine, Wrote, machine}
 use Rattle.dma_chan.specs.Written.{KeepsOutside, LiesIn}
 use Rattle.dma_ffi.specs.declared.channel_steps.ChannelReport.{ChannelReport}
 use Rattle.dma_ffi.specs.declared.marked_channel.MarkedChannel.{MarkedChannel}
-use Rattle.dma_ffi.specs.Channels.{Lent, LoadsCopy, LoadsFill, LoadsFrom, ReportsSteps, marks_over, report_of}
+use Rattle.dma_ffi.specs.Channels.{Lent, LoadsCopy, LoadsFill, LoadsFrom, ReportsSteps, ended_turn, fault_turn, marks_over, report_of, signalled_turn, waiting_turn}
 use Rattle.dma_ffi.specs.Codes.{ok_code}
 
 -- ---- loads
@@ -126,17 +126,17 @@ pub record StepsSinceLoad (t : Descriptor) (count : ℕ) (calls : ℕ → StepCa
 
 -- The result of such a call, if `first` is the memory that the first call was lent. As many bytes are copied as the
 -- channel counts in `stored`, which its registers show. The range that the call reports as written has only
--- destinations. All bytes are copied when the report's turn is 5, the transfer's signal, or 3, the end. If the turn is
--- 2, the channel waits for the transfer's event. The turn is not 4, a fault, if no mark of the channel lies at an address
--- that the transfer touches.
+-- destinations. All bytes are copied when the report's turn is a signal, which is the transfer's, or the end. If the turn
+-- is a wait, the channel waits for the transfer's event. The turn is no fault if no mark of the channel lies at an
+-- address that the transfer touches.
 pub record HasCopied (t : Descriptor) (first : List ℕ) (call : StepCall) : Type 0 where
   pub bytes : HasFirst t (channel_of call.left).stored (bytes_in first) (bytes_in (memory_of call.left))
   pub writes : (a : ℕ) → LiesIn call.report.written a → Contains (destinations t) a
-  pub signals : call.report.turn ≡ 5 →
+  pub signals : call.report.turn ≡ signalled_turn →
       (t.signal ≡ Some call.report.event) × ((channel_of call.left).stored ≡ size_of t)
-  pub ends : call.report.turn ≡ 3 → (channel_of call.left).stored ≡ size_of t
-  pub waits : call.report.turn ≡ 2 → t.wait ≡ Some call.report.event
-  pub never_fails : Misses (marked_of call.lent.channel).marks t → call.report.turn ≢ 4
+  pub ends : call.report.turn ≡ ended_turn → (channel_of call.left).stored ≡ size_of t
+  pub waits : call.report.turn ≡ waiting_turn → t.wait ≡ Some call.report.event
+  pub never_fails : Misses (marked_of call.lent.channel).marks t → call.report.turn ≢ fault_turn
 
 -- Each of these calls has copied.
 abbrev pub StepsCopy : Type 0

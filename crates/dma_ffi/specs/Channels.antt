@@ -168,6 +168,30 @@ pub record StayInPlace (regions left : List Region) : Type 0 where
   pub read_only : read_only_of left ≡ read_only_of regions
   pub names : map (λ r. r.bytes.ghost_name) left ≡ map (λ r. r.bytes.ghost_name) regions
 
+-- the number of a report without a step
+abbrev pub no_step_turn : ℕ
+no_step_turn = 0
+
+-- the number of a last step that moved
+abbrev pub moved_turn : ℕ
+moved_turn = 1
+
+-- the number of a last step that waits
+abbrev pub waiting_turn : ℕ
+waiting_turn = 2
+
+-- the number of a last step that ended the program
+abbrev pub ended_turn : ℕ
+ended_turn = 3
+
+-- the number of a last step that failed
+abbrev pub fault_turn : ℕ
+fault_turn = 4
+
+-- the number of a last step that set a flag
+abbrev pub signalled_turn : ℕ
+signalled_turn = 5
+
 -- a report of `taken` steps, with the offset of the next instruction, the range written and this turn number; event
 -- and fault are 0
 abbrev pub did : ℕ → ℕ → Segment → ℕ → ChannelReport
@@ -176,12 +200,12 @@ did taken pc written turn = record { taken = taken; turn = turn; event = 0; faul
 -- the report of `taken` steps, with the offset of the next instruction, the range written, what the last step did, and
 -- the event whose flag it set, if any; an event or fault that doesn't belong to this turn is 0
 abbrev pub report_of : ℕ → ℕ → Segment → Option ChanTurn → Option ℕ → ChannelReport
-report_of taken pc written None signal = did taken pc written 0
-report_of taken pc written (Some Moved) None = did taken pc written 1
-report_of taken pc written (Some Moved) (Some e) = record (did taken pc written 5) { event = e }
-report_of taken pc written (Some (Waiting e)) signal = record (did taken pc written 2) { event = e }
-report_of taken pc written (Some Ended) signal = did taken pc written 3
-report_of taken pc written (Some (Fault kind)) signal = record (did taken pc written 4) { fault = kind_number kind }
+report_of taken pc written None signal = did taken pc written no_step_turn
+report_of taken pc written (Some Moved) None = did taken pc written moved_turn
+report_of taken pc written (Some Moved) (Some e) = record (did taken pc written signalled_turn) { event = e }
+report_of taken pc written (Some (Waiting e)) signal = record (did taken pc written waiting_turn) { event = e }
+report_of taken pc written (Some Ended) signal = did taken pc written ended_turn
+report_of taken pc written (Some (Fault kind)) signal = record (did taken pc written fault_turn) { fault = kind_number kind }
 
 -- Steps of an open channel with a program, over usable regions: the steps that were taken, the event whose flag the
 -- last of them set, if any, the range that they wrote, and the report of these and of the offset of the next

@@ -1,5 +1,5 @@
--- The numbers that calls from C return and write. In ℤ, negsuc n is -(n + 1).
-use Rattle.std.specs.Prelude.{ℕ, ℤ, pos, negsuc, min, ◌==◌, if◌then◌else◌, Option, None, Some, Result, Ok, Err}
+-- The numbers that calls from C return and write.
+use Rattle.std.specs.Prelude.{ℕ, ℤ, pos, negsuc, min, ◌-◌, ◌==◌, if◌then◌else◌, Option, None, Some, Result, Ok, Err}
 use Rattle.dma_mem.specs.declared.marks.MarkKind.{MarkKind}
 use Rattle.dma_mem.specs.declared.marks.MarkKind.TheVariants.{Reading, Writing}
 use Rattle.dma_mem.specs.declared.transfer.TransferFault.{TransferFault}
@@ -27,89 +27,93 @@ use Rattle.dma_engine.specs.declared.turn.Status.TheVariants.{Unknown, InProgres
 
 -- ---- codes: 0 for success, and a negative number for each refusal
 
+-- the number -n, for n above 0: in ℤ, negsuc n is -(n + 1)
+abbrev pub minus : ℕ → ℤ
+minus n = negsuc (n - 1)
+
 -- the call succeeded
 abbrev pub ok_code : ℤ
 ok_code = pos 0
 
 -- the controller has no engine, or the channel or device isn't open
 abbrev pub not_open : ℤ
-not_open = negsuc 0
+not_open = minus 1
 
 -- the controller has an engine already, or the channel or device is open already
 abbrev pub already_open : ℤ
-already_open = negsuc 1
+already_open = minus 2
 
 -- out of memory
 abbrev pub no_memory : ℤ
-no_memory = negsuc 2
+no_memory = minus 3
 
 -- an event is above 31
 abbrev pub bad_event : ℤ
-bad_event = negsuc 3
+bad_event = minus 4
 
 -- no kind of mark has this number
 abbrev pub bad_kind : ℤ
-bad_kind = negsuc 4
+bad_kind = minus 5
 
 -- how the cookie finished isn't known
 abbrev pub no_result : ℤ
-no_result = negsuc 5
+no_result = minus 6
 
 -- nothing runs on the channel
 abbrev pub not_running : ℤ
-not_running = negsuc 6
+not_running = minus 7
 
 -- the buffer is too small for what is to be written
 abbrev pub buffer_too_small : ℤ
-buffer_too_small = negsuc 7
+buffer_too_small = minus 8
 
 -- the channel has no program
 abbrev pub no_program : ℤ
-no_program = negsuc 8
+no_program = minus 9
 
 -- a range to be marked is empty, or ends above 2^32
 abbrev pub bad_range : ℤ
-bad_range = negsuc 14
+bad_range = minus 15
 
 -- a memory can't have this size
 abbrev pub size_out_of_range : ℤ
-size_out_of_range = negsuc 20
+size_out_of_range = minus 21
 
 -- there are more than 64 regions, they aren't in order, or one ends above 4,294,967,295
 abbrev pub bad_regions : ℤ
-bad_regions = negsuc 21
+bad_regions = minus 22
 
 -- no device can have this configuration
 abbrev pub bad_config : ℤ
-bad_config = negsuc 22
+bad_config = minus 23
 
 -- a program is longer than 8,192 bytes
 abbrev pub program_too_long : ℤ
-program_too_long = negsuc 39
+program_too_long = minus 40
 
 -- the bytes aren't a save of a channel, or of any device
 abbrev pub bad_save : ℤ
-bad_save = negsuc 41
+bad_save = minus 42
 
 -- the save is of a device of another version or configuration
 abbrev pub other_device : ℤ
-other_device = negsuc 42
+other_device = minus 43
 
 -- the code of a refused call
 abbrev pub fault_code : EngineFault → ℤ
-fault_code OutOfMemoryRange = negsuc 9
-fault_code (Busy ch cookie) = negsuc 10
-fault_code NoChannel = negsuc 11
-fault_code CookiesSpent = negsuc 12
-fault_code StepsSpent = negsuc 13
+fault_code OutOfMemoryRange = minus 10
+fault_code (Busy ch cookie) = minus 11
+fault_code NoChannel = minus 12
+fault_code CookiesSpent = minus 13
+fault_code StepsSpent = minus 14
 fault_code BadEvent = bad_event
 fault_code BadRange = bad_range
-fault_code (Running ch cookie) = negsuc 15
+fault_code (Running ch cookie) = minus 16
 fault_code NoMemory = no_memory
 
 -- the code of a fault for which no engine is made
 abbrev pub new_code : NewFault → ℤ
-new_code engines.BadChannels = negsuc 19
+new_code engines.BadChannels = minus 20
 new_code engines.SizeOutOfRange = size_out_of_range
 new_code engines.NoMemory = no_memory
 
@@ -120,14 +124,14 @@ device_code devices.NoMemory = no_memory
 
 -- the code of a fault for which no transfer is made
 abbrev pub transfer_code : TransferFault → ℤ
-transfer_code transfers.EmptyList = negsuc 29
-transfer_code transfers.TooManySegments = negsuc 30
-transfer_code transfers.EmptySegment = negsuc 31
-transfer_code transfers.SegmentWraps = negsuc 32
-transfer_code transfers.TotalsDiffer = negsuc 33
-transfer_code transfers.TooLong = negsuc 34
-transfer_code transfers.DestinationsMeet = negsuc 35
-transfer_code transfers.SourceMeetsDestination = negsuc 36
+transfer_code transfers.EmptyList = minus 30
+transfer_code transfers.TooManySegments = minus 31
+transfer_code transfers.EmptySegment = minus 32
+transfer_code transfers.SegmentWraps = minus 33
+transfer_code transfers.TotalsDiffer = minus 34
+transfer_code transfers.TooLong = minus 35
+transfer_code transfers.DestinationsMeet = minus 36
+transfer_code transfers.SourceMeetsDestination = minus 37
 transfer_code transfers.BadEvent = bad_event
 transfer_code transfers.NoMemory = no_memory
 
@@ -138,15 +142,15 @@ program_code programs.NoMemory = no_memory
 
 -- the code of the reason that a line isn't an instruction
 abbrev pub cause_code : Cause → ℤ
-cause_code Mnemonic = negsuc 49
-cause_code Operand = negsuc 50
-cause_code Range = negsuc 51
+cause_code Mnemonic = minus 50
+cause_code Operand = minus 51
+cause_code Range = minus 52
 
 -- the code of the reason that bytes aren't an instruction
 abbrev pub decode_code : DecodeFault → ℤ
-decode_code Cut = negsuc 59
-decode_code (UnknownByte byte) = negsuc 60
-decode_code BadField = negsuc 61
+decode_code Cut = minus 60
+decode_code (UnknownByte byte) = minus 61
+decode_code BadField = minus 62
 
 -- the code of a cookie's status
 abbrev pub status_code : Status → ℤ

@@ -13,20 +13,34 @@ use dma_mem::events::Events;
 use dma_mem::regions::Region;
 use dma_mem::segment::Segment;
 
+// The turn of a report without a step.
+const NO_STEP: u32 = 0;
+// An instruction was executed.
+const MOVED: u32 = 1;
+// It waits for an event.
+const WAITING: u32 = 2;
+// It was DMAEND.
+const ENDED: u32 = 3;
+// It failed.
+const FAULT: u32 = 4;
+// It set a flag.
+const SIGNALLED: u32 = 5;
+
 /// The number of steps that were taken, and what the last one did.
 #[repr(C)]
 #[derive(Clone, Copy)]
 pub struct ChannelReport {
     /// The number of steps that were taken, including the last one.
     pub taken: u32,
-    /// What the last one did: 0 if none was taken, else 1 moved, 2 waiting, 3 ended, 4 failed, 5 signalled. `event`
-    /// and `fault` are 0 except for the turns that they name.
+    /// The number of what the last one did, `NO_STEP` if none was taken. `event` and `fault` are 0 except for the turns
+    /// that they name.
     pub turn: u32,
-    /// The event, for 2 and 5.
+    /// The event, for `WAITING` and `SIGNALLED`.
     pub event: u32,
-    /// The number of the fault, for 4.
+    /// The number of the fault, for `FAULT`.
     pub fault: u32,
-    /// The offset of the next instruction in the program. For 2 and 4 it is the instruction that waits or failed.
+    /// The offset of the next instruction in the program. For `WAITING` and `FAULT` it is the instruction that waits or
+    /// failed.
     pub pc: u32,
     /// The range that the steps wrote; its length is 0 if they wrote nothing. Each byte in it was written, and no other
     /// byte of the regions was.
@@ -58,7 +72,7 @@ fn report_of(steps: Taken, pc: u32) -> ChannelReport
         written,
     } = steps;
     match last {
-        None => did(taken, pc, written, 0),
+        None => did(taken, pc, written, NO_STEP),
         Some(turn) => report_of_turn(taken, pc, written, turn, signal),
     }
 }
@@ -75,20 +89,20 @@ fn report_of_turn(
 {
     match turn {
         ChanTurn::Moved => match signal {
-            None => did(taken, pc, written, 1),
+            None => did(taken, pc, written, MOVED),
             Some(event) => ChannelReport {
                 event: u32::from(event.number()),
-                ..did(taken, pc, written, 5)
+                ..did(taken, pc, written, SIGNALLED)
             },
         },
         ChanTurn::Waiting(event) => ChannelReport {
             event: u32::from(event.number()),
-            ..did(taken, pc, written, 2)
+            ..did(taken, pc, written, WAITING)
         },
-        ChanTurn::Ended => did(taken, pc, written, 3),
+        ChanTurn::Ended => did(taken, pc, written, ENDED),
         ChanTurn::Fault(kind) => ChannelReport {
             fault: number_of_kind(kind),
-            ..did(taken, pc, written, 4)
+            ..did(taken, pc, written, FAULT)
         },
     }
 }

@@ -18,7 +18,7 @@ use crate::kept_channel::KeptChannel;
 use crate::marked_channel::MarkedChannel;
 use dma_chan::channel::Channel;
 use dma_chan::compile::compile;
-use dma_chan::program::MAX_BYTES;
+use dma_chan::program::MAX_PROGRAM_BYTES;
 use dma_mem::marks::Marks;
 use dma_mem::regions::{Region, are_in_order, copy_run};
 use dma_mem::segment::Segment;
@@ -147,7 +147,7 @@ pub extern "C" fn dma330_channel_load_program(kept: &mut KeptChannel, program: &
     let Some(marked) = kept.as_kept().get_mut() else {
         return NOT_OPEN;
     };
-    if program.len() > MAX_BYTES {
+    if program.len() > MAX_PROGRAM_BYTES {
         return PROGRAM_TOO_LONG;
     }
     marked.channel.load_bytes(program);
@@ -178,7 +178,7 @@ pub extern "C" fn dma330_channel_load_from(
     if !are_usable(regions) {
         return BAD_REGIONS;
     }
-    let mut program = [0; MAX_BYTES];
+    let mut program = [0; MAX_PROGRAM_BYTES];
     let len = copy_run(regions, addr, &mut program);
     marked.channel.load_bytes(&program[..len]);
     OK

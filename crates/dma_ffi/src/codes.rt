@@ -31,34 +31,76 @@ pub const NOT_RUNNING: i32 = -7;
 pub const BUFFER_TOO_SMALL: i32 = -8;
 /// The channel has no program.
 pub const NO_PROGRAM: i32 = -9;
+/// A range or a segment ends above the memory's size.
+pub const OUT_OF_MEMORY_RANGE: i32 = -10;
+/// A running transfer conflicts.
+pub const BUSY: i32 = -11;
+/// There is no such channel.
+pub const NO_CHANNEL: i32 = -12;
+/// The channel has used its last cookie.
+pub const COOKIES_SPENT: i32 = -13;
+/// The step count is at its end.
+pub const STEPS_SPENT: i32 = -14;
 /// A range is empty or ends above the last address.
 pub const BAD_RANGE: i32 = -15;
+/// A transfer runs.
+pub const RUNNING: i32 = -16;
+/// The number of channels is 0 or above 8.
+pub const BAD_CHANNELS: i32 = -20;
 /// A memory can't have this size.
 pub const SIZE_OUT_OF_RANGE: i32 = -21;
 /// There are more than 64 regions, they aren't in order, or one ends above 4,294,967,295.
 pub const BAD_REGIONS: i32 = -22;
 /// No device can have this configuration.
 pub const BAD_CONFIG: i32 = -23;
+/// A list has no segment.
+pub const EMPTY_LIST: i32 = -30;
+/// A list has more than 64 segments.
+pub const TOO_MANY_SEGMENTS: i32 = -31;
+/// A segment is empty.
+pub const EMPTY_SEGMENT: i32 = -32;
+/// A segment ends above the last address.
+pub const SEGMENT_WRAPS: i32 = -33;
+/// The lists have different numbers of bytes.
+pub const TOTALS_DIFFER: i32 = -34;
+/// A list has more than 1,048,576 bytes.
+pub const TOO_LONG: i32 = -35;
+/// Two destination segments share an address.
+pub const DESTINATIONS_MEET: i32 = -36;
+/// A source and a destination segment share an address.
+pub const SOURCE_MEETS_DESTINATION: i32 = -37;
 /// A program is longer than 8,192 bytes.
 pub const PROGRAM_TOO_LONG: i32 = -40;
 /// The bytes aren't a save of a channel, or of any device.
 pub const BAD_SAVE: i32 = -42;
 /// The save is of a device of another version or configuration.
 pub const OTHER_DEVICE: i32 = -43;
+/// No instruction has this name.
+pub const BAD_MNEMONIC: i32 = -50;
+/// An operand is missing, of a wrong form, or one too many.
+pub const BAD_OPERAND: i32 = -51;
+/// A number in assembly text is outside its range.
+pub const NUMBER_OUT_OF_RANGE: i32 = -52;
+/// The bytes end within an instruction.
+pub const CUT_INSTRUCTION: i32 = -60;
+/// No instruction begins with this byte.
+pub const UNKNOWN_INSTRUCTION: i32 = -61;
+/// A field of an instruction is outside its range.
+pub const BAD_FIELD: i32 = -62;
 
 /// Returns the code of a refused call.
 pub fn code_of_fault(fault: EngineFault) -> i32
     ensures { result ≡ fault_code fault }
 {
     match fault {
-        EngineFault::OutOfMemoryRange => -10,
-        EngineFault::Busy { .. } => -11,
-        EngineFault::NoChannel => -12,
-        EngineFault::CookiesSpent => -13,
-        EngineFault::StepsSpent => -14,
+        EngineFault::OutOfMemoryRange => OUT_OF_MEMORY_RANGE,
+        EngineFault::Busy { .. } => BUSY,
+        EngineFault::NoChannel => NO_CHANNEL,
+        EngineFault::CookiesSpent => COOKIES_SPENT,
+        EngineFault::StepsSpent => STEPS_SPENT,
         EngineFault::BadEvent => BAD_EVENT,
         EngineFault::BadRange => BAD_RANGE,
-        EngineFault::Running { .. } => -16,
+        EngineFault::Running { .. } => RUNNING,
         EngineFault::NoMemory => NO_MEMORY,
     }
 }
@@ -68,7 +110,7 @@ pub fn code_of_new(fault: NewFault) -> i32
     ensures { result ≡ new_code fault }
 {
     match fault {
-        NewFault::BadChannels => -20,
+        NewFault::BadChannels => BAD_CHANNELS,
         NewFault::SizeOutOfRange => SIZE_OUT_OF_RANGE,
         NewFault::NoMemory => NO_MEMORY,
     }
@@ -89,14 +131,14 @@ pub fn code_of_transfer(fault: TransferFault) -> i32
     ensures { result ≡ transfer_code fault }
 {
     match fault {
-        TransferFault::EmptyList => -30,
-        TransferFault::TooManySegments => -31,
-        TransferFault::EmptySegment => -32,
-        TransferFault::SegmentWraps => -33,
-        TransferFault::TotalsDiffer => -34,
-        TransferFault::TooLong => -35,
-        TransferFault::DestinationsMeet => -36,
-        TransferFault::SourceMeetsDestination => -37,
+        TransferFault::EmptyList => EMPTY_LIST,
+        TransferFault::TooManySegments => TOO_MANY_SEGMENTS,
+        TransferFault::EmptySegment => EMPTY_SEGMENT,
+        TransferFault::SegmentWraps => SEGMENT_WRAPS,
+        TransferFault::TotalsDiffer => TOTALS_DIFFER,
+        TransferFault::TooLong => TOO_LONG,
+        TransferFault::DestinationsMeet => DESTINATIONS_MEET,
+        TransferFault::SourceMeetsDestination => SOURCE_MEETS_DESTINATION,
         TransferFault::BadEvent => BAD_EVENT,
         TransferFault::NoMemory => NO_MEMORY,
     }
@@ -117,9 +159,9 @@ pub fn code_of_cause(cause: Cause) -> i32
     ensures { result ≡ cause_code cause }
 {
     match cause {
-        Cause::Mnemonic => -50,
-        Cause::Operand => -51,
-        Cause::Range => -52,
+        Cause::Mnemonic => BAD_MNEMONIC,
+        Cause::Operand => BAD_OPERAND,
+        Cause::Range => NUMBER_OUT_OF_RANGE,
     }
 }
 
@@ -128,9 +170,9 @@ pub fn code_of_decode(fault: DecodeFault) -> i32
     ensures { result ≡ decode_code fault }
 {
     match fault {
-        DecodeFault::Cut => -60,
-        DecodeFault::Unknown(_) => -61,
-        DecodeFault::BadField => -62,
+        DecodeFault::Cut => CUT_INSTRUCTION,
+        DecodeFault::Unknown(_) => UNKNOWN_INSTRUCTION,
+        DecodeFault::BadField => BAD_FIELD,
     }
 }
 

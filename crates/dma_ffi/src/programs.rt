@@ -11,7 +11,7 @@ use crate::reports::{DmaRunEnd, end_of};
 use dma_chan::lent::run_over;
 use dma_insn::assembler::{AsmFault, assemble};
 use dma_insn::disassembler::{DisFault, disassemble};
-use dma_mem::memory::MAX_SIZE;
+use dma_mem::limits::MAX_SIZE;
 use std::alloc::Global;
 
 /// The version's text, ended by a zero byte.

@@ -9,6 +9,34 @@ use crate::steps::Taken;
 use dma_chan::run::RunEnd;
 use dma_engine::{EngineFault, Outcome, Turn};
 
+// The turn of a report without a step.
+const NO_STEP: u32 = 0;
+// The next transfer began to run.
+const STARTED: u32 = 1;
+// An instruction was executed.
+const MOVED: u32 = 2;
+// No transfer is issued and unfinished.
+const NOTHING: u32 = 3;
+// The next transfer conflicts with a running one.
+const HELD: u32 = 4;
+// The transfer waits for an event.
+const WAITING: u32 = 5;
+// The channel is paused.
+const PAUSED: u32 = 6;
+// The channel is halted.
+const HALTED: u32 = 7;
+// The transfer finished.
+const FINISHED: u32 = 8;
+
+// The program ended by DMAEND.
+const END_ENDED: u32 = 1;
+// It was out of turns.
+const END_OUT_OF_TURNS: u32 = 2;
+// It waits for an event.
+const END_WAITING: u32 = 3;
+// An instruction failed.
+const END_FAULT: u32 = 4;
+
 /// How a cookie finished.
 #[repr(C)]
 #[derive(Clone, Copy)]
@@ -35,18 +63,18 @@ pub struct DmaConflict {
 pub struct DmaReport {
     /// The number of steps that were taken, including the last one.
     pub taken: u32,
-    /// What the last one did: 0 if none was taken, else 1 started, 2 moved, 3 nothing, 4 held, 5 waiting, 6 paused, 7
-    /// halted, 8 finished. Each field below is 0 except for the turns that it names.
+    /// The number of what the last one did, `NO_STEP` if none was taken. Each field below is 0 except for the turns that
+    /// it names.
     pub turn: u32,
-    /// The channel of the conflicting transfer, for 4.
+    /// The channel of the conflicting transfer, for `HELD`.
     pub channel: u32,
-    /// The cookie, for 1, 4 and 8.
+    /// The cookie, for `STARTED`, `HELD` and `FINISHED`.
     pub cookie: u32,
-    /// The event, for 5.
+    /// The event, for `WAITING`.
     pub event: u32,
-    /// The number of how it finished, for 8.
+    /// The number of how it finished, for `FINISHED`.
     pub result: u32,
-    /// The number of its bytes that were not stored, for 8.
+    /// The number of its bytes that were not stored, for `FINISHED`.
     pub residue: u32,
 }
 
@@ -54,16 +82,15 @@ pub struct DmaReport {
 #[repr(C)]
 #[derive(Clone, Copy)]
 pub struct DmaRunEnd {
-    /// How it ended: 1 by DMAEND, 2 out of turns, 3 at a wait, 4 at a fault. Each field below is 0 except for the ends
-    /// that it names.
+    /// The number of how it ended. Each field below is 0 except for the ends that it names.
     pub end: u32,
-    /// The number of executed instructions, including DMAEND, for 1.
+    /// The number of executed instructions, including DMAEND, for `END_ENDED`.
     pub turns: u32,
-    /// The event, for 3.
+    /// The event, for `END_WAITING`.
     pub event: u32,
-    /// The number of the fault, for 4.
+    /// The number of the fault, for `END_FAULT`.
     pub fault: u32,
-    /// The offset of the instruction, for 4.
+    /// The offset of the instruction, for `END_FAULT`.
     pub pc: u32,
 }
 
@@ -112,24 +139,24 @@ pub fn report_of(steps: Taken) -> DmaReport
 {
     let taken = steps.count;
     match steps.last {
-        None => did(taken, 0),
+        None => did(taken, NO_STEP),
         Some(Turn::Started(cookie)) => DmaReport {
             cookie,
-            ..did(taken, 1)
+            ..did(taken, STARTED)
         },
-        Some(Turn::Moved) => did(taken, 2),
-        Some(Turn::Nothing) => did(taken, 3),
+        Some(Turn::Moved) => did(taken, MOVED),
+        Some(Turn::Nothing) => did(taken, NOTHING),
         Some(Turn::Held { ch, cookie }) => DmaReport {
             channel: u32::from(ch),
             cookie,
-            ..did(taken, 4)
+            ..did(taken, HELD)
         },
         Some(Turn::Waiting(event)) => DmaReport {
             event: u32::from(event),
-            ..did(taken, 5)
+            ..did(taken, WAITING)
         },
-        Some(Turn::Paused) => did(taken, 6),
-        Some(Turn::Halted) => did(taken, 7),
+        Some(Turn::Paused) => did(taken, PAUSED),
+        Some(Turn::Halted) => did(taken, HALTED),
         Some(
             Turn::Finished {
                 cookie,
@@ -140,7 +167,7 @@ pub fn report_of(steps: Taken) -> DmaReport
             cookie,
             result: number_of_result(how),
             residue,
-            ..did(taken, 8)
+            ..did(taken, FINISHED)
         },
     }
 }
@@ -163,16 +190,19 @@ pub fn end_of(how: RunEnd) -> DmaRunEnd
     ensures { result ≡ end_of how }
 {
     match how {
-        RunEnd::Ended { turns } => DmaRunEnd { turns, ..ended(1) },
-        RunEnd::OutOfTurns => ended(2),
+        RunEnd::Ended { turns } => DmaRunEnd {
+            turns,
+            ..ended(END_ENDED)
+        },
+        RunEnd::OutOfTurns => ended(END_OUT_OF_TURNS),
         RunEnd::Waiting(event) => DmaRunEnd {
             event: u32::from(event.number()),
-            ..ended(3)
+            ..ended(END_WAITING)
         },
         RunEnd::Fault { kind, pc } => DmaRunEnd {
             fault: number_of_kind(kind),
             pc,
-            ..ended(4)
+            ..ended(END_FAULT)
         },
     }
 }

@@ -12,7 +12,7 @@ use std::alloc::{AllocError, Global};
 use thiserror::Error;
 
 /// The most bytes that a program has (profile).
-pub const MAX_BYTES: usize = 8192;
+pub const MAX_PROGRAM_BYTES: usize = 8192;
 
 /// Why a line of assembly text is not an instruction, in the order in which the causes are tested.
 #[derive(Clone, Copy, PartialEq, Eq, Debug, Error)]
@@ -35,7 +35,7 @@ pub enum AsmFault {
     #[error("line {n}: {cause}")]
     Line { n: usize, cause: Cause },
     /// With this line the program would be longer than 8,192 bytes.
-    #[error("line {0}: the program is longer than 8192 bytes")]
+    #[error("line {0}: the program is longer than {max} bytes", max = MAX_PROGRAM_BYTES)]
     ProgramTooLong(usize),
     #[error("no memory")]
     NoMemory,
@@ -80,7 +80,7 @@ pub fn reading_reports()
 {}
 
 // Assembles a whole text, line by line, without allocating.
-fn read_text(text: &[u8]) -> Result<ArrayVec<u8, MAX_BYTES>, AsmFault>
+fn read_text(text: &[u8]) -> Result<ArrayVec<u8, MAX_PROGRAM_BYTES>, AsmFault>
     ensures { ResultIs (λ program. program.items) result (assembled text.now) }
 {
     let mut program = ArrayVec::new();
@@ -97,7 +97,11 @@ fn read_text(text: &[u8]) -> Result<ArrayVec<u8, MAX_BYTES>, AsmFault>
 
 // Appends the instruction of line `n`, unless the line is skipped.
 #[tactic(auto, unfolding(crate::specs::LineReading::after_line))]
-fn add_line(program: &mut ArrayVec<u8, MAX_BYTES>, n: usize, line: &[u8]) -> Result<(), AsmFault>
+fn add_line(
+    program: &mut ArrayVec<u8, MAX_PROGRAM_BYTES>,
+    n: usize,
+    line: &[u8],
+) -> Result<(), AsmFault>
     ensures { ResultIs (λ _. program.new.items) result (after_line n program.old.items line.now) }
 {
     if is_skipped(line) {

@@ -3,8 +3,8 @@ use Rattle.std.proofs.Common.{◌≡◌, ℕ, ◌+◌, ◌*◌, ◌<◌, ◌≤�
 use Rattle.std.specs.List.{Contains, range_with_len}
 use Rattle.dma_mem.specs.declared.segment.Segment.{Segment}
 use Rattle.dma_mem.specs.declared.transfer.TransferFault.TheVariants.{TooManySegments, SegmentWraps, TooLong, SourceMeetsDestination, BadEvent}
-use Rattle.dma_mem.specs.declared.transfer.TheConstants.{MAX_SEGMENTS, MAX_BYTES, LAST_EVENT}
-use Rattle.dma_mem.specs.declared.memory.TheConstants.{MAX_SIZE}
+use Rattle.dma_mem.specs.declared.limits.TheConstants as code
+use Rattle.dma_mem.specs.Limits as limits
 use Rattle.dma_mem.specs.Places.{Descriptor, filling, moves, places, share, sources}
 use Rattle.dma_mem.specs.Flags.{all_clear}
 use Rattle.dma_mem.specs.Image.{is_size}
@@ -16,17 +16,23 @@ use Rattle.std.proofs.lemmas.List.FromFn.{length-range_with_len, get_or-range_wi
 
 -- ---- the code's constants
 
-most_segments : MAX_SEGMENTS ≡ 64
+largest_size : code.MAX_SIZE ≡ limits.largest_size
+largest_size = refl
+
+most_segments : code.MAX_SEGMENTS ≡ limits.most_segments
 most_segments = refl
 
-most_bytes : MAX_BYTES ≡ 1048576
-most_bytes = refl
+most_transfer_bytes : code.MAX_TRANSFER_BYTES ≡ limits.most_transfer_bytes
+most_transfer_bytes = refl
 
-last_event : LAST_EVENT ≡ 31
+last_event : code.LAST_EVENT ≡ limits.last_event
 last_event = refl
 
-most_memory : MAX_SIZE ≡ 4294963200
-most_memory = refl
+most_channels : code.MAX_CHANNELS ≡ limits.most_channels
+most_channels = refl
+
+last_channel : code.LAST_CHANNEL ≡ limits.last_channel
+last_channel = refl
 
 -- ---- sizes
 

@@ -2,13 +2,10 @@
 use Rattle.std.specs.Prelude.{ℕ, Bool, ◌&&◌, List, length, map, slice_index, unwrap_or, nat_eq, nat_le}
 use Rattle.std.specs.List.{flat_map, range_with_len, zip}
 use Rattle.std.specs.Map.{lookup}
+use Rattle.dma_mem.specs.Limits.{largest_size}
 use Rattle.dma_mem.specs.Places.{Descriptor, moves}
 
 -- An image is a list with one byte for each address below its length, the size of the memory.
-
--- the most bytes of a memory (profile): 4,096 below the end of the 32-bit addresses
-abbrev pub largest_size : ℕ
-largest_size = 4294963200
 
 -- whether a memory may have this size: 1 to 4,294,963,200 bytes
 abbrev pub is_size : ℕ → Bool

@@ -1,4 +1,5 @@
 -- Memory as an image; a transfer as two lists of places that don't overlap.
+pub mod Limits
 pub mod Places
 pub mod Image
 pub mod Rules

@@ -36,18 +36,6 @@ pub record Descriptor : Type 0 where
 abbrev pub copying : List Segment → List Segment → Option ℕ → Option ℕ → Descriptor
 copying src dst wait signal = record { fill = false; src = src; dst = dst; wait = wait; signal = signal }
 
--- the most segments in one list (profile)
-abbrev pub most_segments : ℕ
-most_segments = 64
-
--- the most bytes in one transfer (profile)
-abbrev pub most_copied : ℕ
-most_copied = 1048576
-
--- the last event of the controller, which has 32 (PL330 manual, DMASEV and DMAWFE)
-abbrev pub last_event : ℕ
-last_event = 31
-
 -- a fill: the byte at one address is copied to every place of a list (profile, after dmaengine memset; its source
 -- address doesn't increment: PL330 manual, CCR bit 0)
 abbrev pub filling : ℕ → List Segment → Option ℕ → Option ℕ → Descriptor

@@ -4,7 +4,8 @@ use Rattle.std.specs.List.{list_any}
 use Rattle.dma_mem.specs.declared.segment.Segment.{Segment}
 use Rattle.dma_mem.specs.declared.transfer.TransferFault.{TransferFault}
 use Rattle.dma_mem.specs.declared.transfer.TransferFault.TheVariants.{EmptyList, TooManySegments, EmptySegment, SegmentWraps, TotalsDiffer, TooLong, DestinationsMeet, SourceMeetsDestination, BadEvent}
-use Rattle.dma_mem.specs.Places.{Descriptor, end_of_addresses, last_event, most_copied, most_segments}
+use Rattle.dma_mem.specs.Limits.{last_event, most_segments, most_transfer_bytes}
+use Rattle.dma_mem.specs.Places.{Descriptor, end_of_addresses}
 use Rattle.dma_mem.specs.Meeting.{meets}
 
 -- whether a test holds of the sources or of the destinations
@@ -62,7 +63,7 @@ refusal_of t =
     cause (of_either_list has_empty_segment t) EmptySegment (
     cause (of_either_list has_wrapping_segment t) SegmentWraps (
     cause (not t.fill && not (total t.src == total t.dst)) TotalsDiffer (
-    cause (nat_lt most_copied (total t.dst)) TooLong (
+    cause (nat_lt most_transfer_bytes (total t.dst)) TooLong (
     cause (some_meet t.dst) DestinationsMeet (
     cause (meets_any t.src t.dst) SourceMeetsDestination (
     cause (is_bad_event t.wait || is_bad_event t.signal) BadEvent None))))))))
@@ -74,7 +75,7 @@ refusal_of_fill src dst wait signal =
     cause (has_too_many dst) TooManySegments (
     cause (has_empty_segment dst) EmptySegment (
     cause (has_wrapping_segment dst) SegmentWraps (
-    cause (nat_lt most_copied (total dst)) TooLong (
+    cause (nat_lt most_transfer_bytes (total dst)) TooLong (
     cause (some_meet dst) DestinationsMeet (
     cause (list_any (meets (record { addr = src; len = 1 })) dst) SourceMeetsDestination (
     cause (is_bad_event wait || is_bad_event signal) BadEvent None)))))))

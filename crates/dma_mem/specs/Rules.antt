@@ -1,7 +1,8 @@
 -- The rules of a transfer.
 use Rattle.std.specs.Prelude.{◌≡◌, ◌≢◌, ◌+◌, ◌<◌, ◌≤◌, ℕ, List, [], ◌∷◌, length, true, All, AllPairs, IfSome}
 use Rattle.dma_mem.specs.declared.segment.Segment.{Segment}
-use Rattle.dma_mem.specs.Places.{Descriptor, Apart, end_of_addresses, last_event, most_copied, most_segments, sources, destinations, size_of}
+use Rattle.dma_mem.specs.Limits.{last_event, most_segments, most_transfer_bytes}
+use Rattle.dma_mem.specs.Places.{Descriptor, Apart, end_of_addresses, sources, destinations, size_of}
 
 -- A list has 1 to 64 segments, none of them empty, and none ends above 2 ^ 32.
 pub record IsSegmentList (list : List Segment) : Type 0 where
@@ -22,7 +23,7 @@ pub record IsTransfer (t : Descriptor) : Type 0 where
   pub source_list : IsSegmentList t.src
   pub destination_list : IsSegmentList t.dst
   pub same_length : length (sources t) ≡ length (destinations t)
-  pub short : size_of t ≤ most_copied
+  pub short : size_of t ≤ most_transfer_bytes
   pub once : AllPairs (λ a b. a ≢ b) (destinations t)
   pub apart : Apart (sources t) (destinations t)
   pub wait_event : IfSome t.wait (λ event. event ≤ last_event)

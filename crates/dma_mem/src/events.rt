@@ -2,7 +2,7 @@
 
 ghost use Rattle.std.specs.Prelude.{◌≡◌, ◌≤◌, length, slice_index_or, slice_set, true, false};
 ghost use Rattle.dma_mem.specs.Flags.{all_clear, flags_of};
-ghost use Rattle.dma_mem.specs.Places.{last_event};
+ghost use Rattle.dma_mem.specs.Limits.{last_event};
 
 use std::marker::Model;
 

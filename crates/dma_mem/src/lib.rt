@@ -15,6 +15,7 @@
 #![tactic(auto)]
 
 pub mod events;
+pub mod limits;
 pub mod lists;
 pub mod marks;
 pub mod memory;

@@ -3,18 +3,17 @@
 ghost use Rattle.std.specs.Prelude.{◌≡◌, ◌≢◌, ℕ, ◌+◌, ◌%◌, ◌/◌, ◌<◌, ◌≤◌, ◌⊎◌, ◌++◌, length, take, drop, replicate, slice_get, nat_lt, true, false, if◌then◌else◌, IsTrue, IfOk, IfErr, IfSome, IsSome, OnOk, OnErr};
 ghost use Rattle.std.specs.List.{list_all, range_with_len};
 ghost use Rattle.dma_mem.specs.Places.{range_of, places, all_below};
-ghost use Rattle.dma_mem.specs.Image.{put, bytes_at, is_size, largest_size};
+ghost use Rattle.dma_mem.specs.Limits.{largest_size};
+ghost use Rattle.dma_mem.specs.Image.{put, bytes_at, is_size};
 ghost use Rattle.dma_mem.specs.Pages.{has_page, is_made, page_size, range_fault, AllMade, Keeps, MakesNoOther};
 
+use crate::limits::MAX_SIZE;
 use crate::page_flags::PageFlags;
 use crate::segment::Segment;
 use crate::table::Table;
 use std::alloc::{AllocError, Global};
 use std::marker::Model;
 use thiserror::Error;
-
-/// The most bytes that a memory can have (profile).
-pub const MAX_SIZE: u32 = 4_294_963_200;
 
 /// The number of bytes in a page (profile).
 pub const PAGE_SIZE: usize = 4096;
@@ -46,7 +45,7 @@ pub struct Memory {
 
 impl Model for Memory {
     ghost use Rattle.std.specs.Prelude.{◌≤◌, ◌*◌, length};
-    ghost use Rattle.dma_mem.specs.Image.{largest_size};
+    ghost use Rattle.dma_mem.specs.Limits.{largest_size};
     ghost use Rattle.dma_mem.specs.Pages.{Paged};
     ghost use Rattle.dma_mem.specs.inner.ChunkTable.{chunk_size, paged, HasChunks};
 

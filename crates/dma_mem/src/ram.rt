@@ -3,7 +3,8 @@
 ghost use Rattle.std.specs.Prelude.{◌≡◌, ℕ, ◌+◌, ◌≤◌, ◌<◌, ◌⊎◌, ◌++◌, [], ◌∷◌, length, take, drop, replicate, nat_lt, true, IfOk, IfErr, OnOk, OnErr, IsTrue};
 ghost use Rattle.std.specs.List.{list_all, range_with_len};
 ghost use Rattle.dma_mem.specs.Places.{range_of};
-ghost use Rattle.dma_mem.specs.Image.{put, bytes_at, largest_size};
+ghost use Rattle.dma_mem.specs.Limits.{largest_size};
+ghost use Rattle.dma_mem.specs.Image.{put, bytes_at};
 ghost use Rattle.dma_mem.specs.Lent.{Loan, Avoids, barred_of, lies_in_any};
 ghost use Rattle.dma_mem.specs.Pages.{Paged, is_made, range_fault, AllMade, Keeps, MakesNoOther};
 

@@ -1,7 +1,8 @@
 //! Transfers from one list of segments to another.
 
 ghost use Rattle.std.specs.Prelude.{◌≡◌, ◌+◌, ◌<◌, ◌≤◌, ◌↔◌, All, IsTrue, IfOk, IfErr, MatchResult, length, slice_get, unwrap_or};
-ghost use Rattle.dma_mem.specs.Places.{Descriptor, copying, filling, end_of_addresses, most_copied, places, sources, destinations, size_of, lies_below, all_below, touches, writes, is_free_of};
+ghost use Rattle.dma_mem.specs.Limits.{most_transfer_bytes};
+ghost use Rattle.dma_mem.specs.Places.{Descriptor, copying, filling, end_of_addresses, places, sources, destinations, size_of, lies_below, all_below, touches, writes, is_free_of};
 ghost use Rattle.dma_mem.specs.Meeting.{meets, IsFree};
 ghost use Rattle.dma_mem.specs.declared.segment.Segment.{Segment};
 ghost use Rattle.dma_mem.specs.Rules.{IsTransfer};
@@ -10,21 +11,13 @@ ghost use Rattle.dma_mem.specs.Refusals.{refusal_of, refusal_of_fill};
 
 pub(crate) mod rules;
 
+use crate::limits::{LAST_EVENT, MAX_SEGMENTS, MAX_TRANSFER_BYTES};
 use crate::lists::Segments;
 use crate::segment::Segment;
 use crate::transfer::rules::{Totals, checked_fill, checked_len, lists_meet, meets_list};
 use std::alloc::{AllocError, Global};
 use std::marker::Model;
 use thiserror::Error;
-
-/// The most segments in one list (profile).
-pub const MAX_SEGMENTS: usize = 64;
-
-/// The most bytes in one transfer (profile).
-pub const MAX_BYTES: u32 = 1_048_576;
-
-/// The last event of the controller (PL330 manual, DMASEV).
-pub const LAST_EVENT: u8 = 31;
 
 /// Why a transfer is refused, in the order in which the rules are tested.
 #[derive(Clone, Copy, Debug, PartialEq, Eq, Error)]
@@ -39,7 +32,7 @@ pub enum TransferFault {
     SegmentWraps,
     #[error("the lists have different lengths")]
     TotalsDiffer,
-    #[error("the lists have more than {} bytes", MAX_BYTES)]
+    #[error("the lists have more than {} bytes", MAX_TRANSFER_BYTES)]
     TooLong,
     #[error("two destination segments meet")]
     DestinationsMeet,
@@ -153,7 +146,7 @@ impl Transfer {
     ///
     /// The error is the first that applies; each is tested over the sources and then the destinations before the next:
     /// `EmptyList`; `TooManySegments` for more than [`MAX_SEGMENTS`]; `EmptySegment`; `SegmentWraps` if a segment ends
-    /// above 2^32; `TotalsDiffer` if the lists have different numbers of bytes; `TooLong` for more than [`MAX_BYTES`];
+    /// above 2^32; `TotalsDiffer` if the lists have different numbers of bytes; `TooLong` for more than [`MAX_TRANSFER_BYTES`];
     /// `DestinationsMeet`; `SourceMeetsDestination`; `BadEvent` for an event above [`LAST_EVENT`]; and last `NoMemory`.
     /// Source segments may meet each other.
     pub fn new(
@@ -295,12 +288,12 @@ impl Transfer {
         self.signal
     }
 
-    /// Returns the number of bytes that it copies, 1 to [`MAX_BYTES`].
+    /// Returns the number of bytes that it copies, 1 to [`MAX_TRANSFER_BYTES`].
     pub fn len(&self) -> u32
         ensures size { result ≡ size_of self.now }
         ensures sources { result ≡ length (sources self.now) }
         ensures low { 1 ≤ result }
-        ensures high { result ≤ most_copied }
+        ensures high { result ≤ most_transfer_bytes }
         ensures rules { IsTransfer self.now }
     {
         self.len

@@ -9,8 +9,9 @@ use Rattle.dma_script.specs.Words.{number_of, list_of, bytes_in}
 use Rattle.dma_script.specs.Lines.{◌>>=◌}
 use Rattle.dma_script.specs.Arguments.{both, one as one_made, byte_at, bytes_at, list_at, number_at, segment_at}
 use Rattle.dma_script.specs.Plan.{events_at, transfer_at, transfer_line}
-use Rattle.dma_script.specs.Statements.{largest_size, most_channels, most_steps, memory_line, later_line}
-use Rattle.dma_script.specs.Race.{job_line, last_channel, no_words, where_holds}
+use Rattle.dma_mem.specs.Limits.{largest_size, last_channel, most_channels}
+use Rattle.dma_script.specs.Statements.{most_steps, memory_line, later_line}
+use Rattle.dma_script.specs.Race.{job_line, no_words, where_holds}
 use Rattle.dma_script.specs.inner.Reading.{LineRead, begins, both_from, byte_from, ended, event_from, list_from, number_from, skipped, statement_from, to_list_from, transfer_from, unless, unread, within_from}
 use Rattle.dma_script.specs.Causes.{where_not, cause_reported, is_memory, first_reported, number, byte, steps, size, channels, segment, list, hex, Form, Operand, form_cause, range_cause, size_cause, channels_cause, first_over, one, two, events, one_to_list_and_events, transfer, operands_of}
 use Rattle.dma_script.specs.declared.fault.Cause.{Cause}

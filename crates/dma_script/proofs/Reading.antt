@@ -3,8 +3,9 @@ use Rattle.std.proofs.Common.{◌≡◌, ℕ, ◌<◌, ◌≤◌, ◌⊎◌, inl
 use Rattle.std.proofs.lemmas.Bool.{le-leb, lt-leb}
 use Rattle.dma_script.specs.Lines.{◌>>=◌, Gives}
 use Rattle.dma_script.specs.Plan.{transfer_line}
-use Rattle.dma_script.specs.Race.{RaceRead, job_line, last_channel, line_beside_go}
-use Rattle.dma_script.specs.Statements.{largest_size, later_line, memory_line, most_channels, next_line}
+use Rattle.dma_mem.specs.Limits.{largest_size, last_channel, most_channels}
+use Rattle.dma_script.specs.Race.{RaceRead, job_line, line_beside_go}
+use Rattle.dma_script.specs.Statements.{later_line, memory_line, next_line}
 use Rattle.dma_script.specs.inner.Reading.{LineRead, added_to, both_from, ended, line_added, number_from, statement_added, statement_from, transfer_from, unread, within_from}
 use Rattle.dma_script.specs.declared.fault.Cause.{Cause}
 use Rattle.dma_script.specs.declared.fault.Cause.TheVariants as causes

@@ -9,8 +9,9 @@ use Rattle.dma_script.specs.Words.{is_plain, words_of}
 use Rattle.dma_script.specs.Lines.{◌>>=◌, Gives, after_line, after_lines, at_line, is_skipped}
 use Rattle.dma_script.specs.Arguments.{both, byte_at, bytes_at, number_at, one, segment_at, within_at}
 use Rattle.dma_script.specs.Plan.{transfer_line}
-use Rattle.dma_script.specs.Statements.{IsWithin, largest_size, most_channels, keyword_of, memory_line, first_line, later_line, next_line, run_step, run_script_of}
-use Rattle.dma_script.specs.Race.{IsEarly, IsJob, IsRace, RaceRead, behind_memory, is_early, job_line, last_channel, line_after_go, line_beside_go, most_jobs, no_words, nothing_read, race_keyword_of, race_step, race_script_of, where_holds}
+use Rattle.dma_mem.specs.Limits.{largest_size, last_channel, most_channels}
+use Rattle.dma_script.specs.Statements.{IsWithin, keyword_of, memory_line, first_line, later_line, next_line, run_step, run_script_of}
+use Rattle.dma_script.specs.Race.{IsEarly, IsJob, IsRace, RaceRead, behind_memory, is_early, job_line, line_after_go, line_beside_go, most_jobs, no_words, nothing_read, race_keyword_of, race_step, race_script_of, where_holds}
 use Rattle.dma_script.specs.declared.fault.Cause.{Cause}
 use Rattle.dma_script.specs.declared.fault.Cause.TheVariants.{Command}
 use Rattle.dma_script.specs.declared.fault.ReadError.{ReadError}

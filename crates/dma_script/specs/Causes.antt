@@ -1,7 +1,7 @@
 -- The cause that is reported for a faulty line (profile): the first that applies, where each cause is tested over all
 -- words of the line, from the left, before the next one. The table doesn't depend on the order in which a line is read.
--- It shares with the readers what a keyword and a single word are (`keyword_of`, `number_of`, `segment_of`, `list_of`,
--- `bytes_in`); all other tests are its own.
+-- It shares with the readers the limits, and what a keyword and a single word are (`keyword_of`, `number_of`,
+-- `segment_of`, `list_of`, `bytes_in`); all other tests are its own.
 -- That the readers of run, race and plan scripts report the same is the law `FirstCausesAreReported` for every line, and
 -- `FirstFaultsAreReported` for every script.
 use Rattle.std.specs.Prelude.{◌≡◌, ℕ, ◌+◌, Bool, true, false, not, ◌&&◌, ◌||◌, nat_le, nat_lt, if◌then◌else◌, List, [], ◌∷◌, length, map, Option, Some, None, Result, Ok, Err, is_some, unwrap_or, codes}
@@ -9,11 +9,12 @@ use Rattle.std.specs.List.{list_all, list_any}
 use Rattle.std.specs.Option.{option_map, option_or}
 use Rattle.std.specs.Str.{bytes_eq}
 use Rattle.std.specs.Str.Lines.{lines}
+use Rattle.dma_mem.specs.Limits.{largest_size, last_channel, most_channels}
 use Rattle.dma_script.specs.Words.{words_of, is_plain, number_of, segment_of, list_of, bytes_in}
 use Rattle.dma_script.specs.Lines.{is_skipped, after_line}
-use Rattle.dma_script.specs.Statements.{keyword_of, run_step, run_script_of}
+use Rattle.dma_script.specs.Statements.{keyword_of, most_steps, run_step, run_script_of}
 use Rattle.dma_script.specs.Plan.{plan_step, plan_of}
-use Rattle.dma_script.specs.Race.{RaceRead, race_keyword_of, is_early, race_step, race_script_of}
+use Rattle.dma_script.specs.Race.{RaceRead, most_jobs, race_keyword_of, is_early, race_step, race_script_of}
 use Rattle.dma_script.specs.declared.fault.Cause.{Cause}
 use Rattle.dma_script.specs.declared.fault.Cause.TheVariants as causes
 use Rattle.dma_script.specs.declared.fault.Fault.{Fault}
@@ -70,17 +71,17 @@ form_cause _ word = where_not (is_some (number_of word)) causes.Number
 -- `Range` for a channel or an event above 255, or a number of steps that is 0 or above 1,000,000
 abbrev pub range_cause : Form → List ℕ → Option Cause
 range_cause byte word = where_not (is_between 0 255 (number_or_zero word)) causes.Range
-range_cause steps word = where_not (is_between 1 1000000 (number_or_zero word)) causes.Range
+range_cause steps word = where_not (is_between 1 most_steps (number_or_zero word)) causes.Range
 range_cause _ word = None
 
 -- `SizeOutOfRange` for a size of 0 or above 4,294,963,200
 abbrev pub size_cause : Form → List ℕ → Option Cause
-size_cause size word = where_not (is_between 1 4294963200 (number_or_zero word)) causes.SizeOutOfRange
+size_cause size word = where_not (is_between 1 largest_size (number_or_zero word)) causes.SizeOutOfRange
 size_cause _ word = None
 
 -- `BadChannels` for 0 or more than 8 channels
 abbrev pub channels_cause : Form → List ℕ → Option Cause
-channels_cause channels word = where_not (is_between 1 8 (number_or_zero word)) causes.BadChannels
+channels_cause channels word = where_not (is_between 1 most_channels (number_or_zero word)) causes.BadChannels
 channels_cause _ word = None
 
 -- the first cause of one test over all words, from the left
@@ -252,7 +253,7 @@ plan_asks behind words =
 
 -- whether FIRST is at most LAST, and LAST at most 7; true if there are not three words
 abbrev pub job_in_range : List (List ℕ) → Bool
-job_in_range (first ∷ last ∷ turns ∷ []) = nat_le (number_or_zero first) (number_or_zero last) && nat_le (number_or_zero last) 7
+job_in_range (first ∷ last ∷ turns ∷ []) = nat_le (number_or_zero first) (number_or_zero last) && nat_le (number_or_zero last) last_channel
 job_in_range _ = true
 
 -- the position in a race script: whether it is after the memory line, whether it is after `go`, and the number of jobs
@@ -272,7 +273,7 @@ race_asked side race_keywords.Job words =
       command = not side.after_go;
       first = side.behind;
       operands = three_numbers words;
-      in_range = job_in_range words && nat_lt side.jobs 16;
+      in_range = job_in_range words && nat_lt side.jobs most_jobs;
     }
 race_asked side race_keywords.Go words =
     record { command = not side.after_go; first = side.behind; operands = bare words; in_range = true }

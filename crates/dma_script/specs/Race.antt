@@ -4,6 +4,7 @@ use Rattle.std.specs.Prelude.{ℕ, ◌≤◌, ◌&&◌, Bool, true, false, nat_l
 use Rattle.std.specs.List.{All}
 use Rattle.std.specs.Option.{ok_or, option_map}
 use Rattle.std.specs.Str.{bytes_eq}
+use Rattle.dma_mem.specs.Limits.{last_channel}
 use Rattle.dma_script.specs.Lines.{◌>>=◌, after_script}
 use Rattle.dma_script.specs.Arguments.{number_at}
 use Rattle.dma_script.specs.Statements.{IsWithin, keyword_of, later_line, next_line}
@@ -45,10 +46,6 @@ where_holds holds cause = if holds then Ok tt else Err cause
 -- the most jobs of a race script (profile)
 abbrev pub most_jobs : ℕ
 most_jobs = 16
-
--- the highest channel of a job (profile)
-abbrev pub last_channel : ℕ
-last_channel = 7
 
 -- the job of the words after `job`, `FIRST LAST TURNS`; `Range` if FIRST is above LAST, or LAST above 7
 abbrev pub job_line : List (List ℕ) → Result JobLine Cause

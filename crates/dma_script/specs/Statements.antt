@@ -2,6 +2,7 @@
 use Rattle.std.specs.Prelude.{ℕ, ◌≤◌, if◌then◌else◌, List, [], ◌∷◌, ◌++◌, Option, Some, None, Result, Ok, Err, codes}
 use Rattle.std.specs.Option.{ok_or}
 use Rattle.std.specs.Str.{bytes_eq}
+use Rattle.dma_mem.specs.Limits.{largest_size, most_channels}
 use Rattle.dma_mem.specs.declared.marks.MarkKind.{MarkKind}
 use Rattle.dma_mem.specs.declared.marks.MarkKind.TheVariants.{Reading, Writing}
 use Rattle.dma_script.specs.Lines.{◌>>=◌, after_script}
@@ -37,14 +38,6 @@ keyword_of word =
     if bytes_eq word (codes "raise") then Some keywords.Raise else (
     if bytes_eq word (codes "checkpoint") then Some keywords.Checkpoint else (
     if bytes_eq word (codes "totals") then Some keywords.Totals else None)))))))))))))))))
-
--- the most bytes of a memory (profile)
-abbrev pub largest_size : ℕ
-largest_size = 4294963200
-
--- the most channels of a script (profile)
-abbrev pub most_channels : ℕ
-most_channels = 8
 
 -- the most steps of a step line (profile)
 abbrev pub most_steps : ℕ

@@ -17,8 +17,8 @@ use std::marker::Model;
 /// The most jobs of a script (profile).
 pub const MAX_JOBS: usize = 16;
 
-/// The highest channel that a job may name (profile).
-pub const LAST_CHANNEL: u32 = 7;
+/// The highest channel that a job may name.
+pub const LAST_CHANNEL: u32 = dma_mem::limits::LAST_CHANNEL as u32;
 
 /// A line `job FIRST LAST TURNS`: what one worker does.
 #[derive(Clone, Copy, Debug, PartialEq, Eq, Drop)]

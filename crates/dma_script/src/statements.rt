@@ -12,16 +12,13 @@ use crate::lines::{Script, read_script};
 use crate::plan::{TransferLine, transfer};
 pub use crate::queue::Statements;
 use crate::words::next_word;
+use dma_mem::limits::{MAX_CHANNELS, MAX_SIZE};
 use dma_mem::lists::{Bytes, Segments};
 use dma_mem::marks::MarkKind;
-use dma_mem::memory::MAX_SIZE;
 use dma_mem::segment::Segment;
 use dma_text::bytes::is_text;
 use std::alloc::Global;
 use std::marker::Model;
-
-/// The most channels of a script (profile).
-pub const MAX_CHANNELS: u32 = 8;
 
 /// The word that begins a line.
 #[derive(Clone, Copy, Debug, PartialEq, Eq, Drop)]
@@ -161,7 +158,7 @@ pub(crate) fn first_line(alloc: Global, keyword: Keyword, words: &[u8]) -> Resul
     };
     let mut words = Arguments::new(words);
     let size = words.within(1, MAX_SIZE, Cause::SizeOutOfRange);
-    let channels = words.within(1, MAX_CHANNELS, Cause::BadChannels);
+    let channels = words.within(1, u32::from(MAX_CHANNELS), Cause::BadChannels);
     words.end()?;
     Ok(RunScript {
         size,

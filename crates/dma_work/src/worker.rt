@@ -2,11 +2,13 @@
 
 ghost use Rattle.std.specs.Prelude.{◌≡◌, ◌+◌, ◌<◌, ◌≤◌, ◌^◌, ◌↔◌, IfSome, IsSome, IsTrue, false};
 ghost use Rattle.dma_engine.specs.Laws.{finishes_in, steps_in};
+ghost use Rattle.dma_mem.specs.Limits.{last_channel};
 ghost use Rattle.dma_work.specs.Desk.{AddUp, Differ, counted, new_tally, stepped_book};
 ghost use Rattle.dma_work.specs.Rotation.{StepsInTurn, rotation};
 
 use crate::desk::{Desk, DeskName};
 use dma_engine::{EngineFault, Turn};
+use dma_mem::limits::LAST_CHANNEL;
 use std::marker::{Model, PhantomData};
 use std::sync::{Mutex, MutexGuard, Wait};
 
@@ -138,23 +140,23 @@ impl Totals {
 pub struct Job {
     /// The first channel.
     pub first: u8,
-    /// The last channel, at most 7.
+    /// The last channel, at most [`LAST_CHANNEL`].
     pub last: u8,
     /// The number of turns.
     pub turns: u64,
     ghost in_order: { first ≤ last },
-    ghost in_range: { last ≤ 7 },
+    ghost in_range: { last ≤ last_channel },
 }
 
 impl Job {
     /// Returns a job for the channels from `first` to `last`, or `None` unless `first` is at most `last` and `last` at
-    /// most 7.
+    /// most [`LAST_CHANNEL`].
     pub fn new(first: u8, last: u8, turns: u64) -> Option<Job>
-        ensures there { IsSome result ↔ ((first ≤ last) × (last ≤ 7)) }
+        ensures there { IsSome result ↔ ((first ≤ last) × (last ≤ last_channel)) }
         ensures some { IfSome result
             (λ j. (j.first ≡ first) × (j.last ≡ last) × (j.turns ≡ turns)) }
     {
-        if first <= last && last <= 7 {
+        if first <= last && last <= LAST_CHANNEL {
             Some(Job { first, last, turns })
         } else {
             None

@@ -4,7 +4,7 @@ ghost use Rattle.std.specs.Prelude.{◌≡◌, ◌≤◌, length, is_some, None,
 ghost use Rattle.dma_insn.specs.AssemblyText.{most_bytes};
 ghost use Rattle.dma_chan.specs.Channel.{bytes_of_program, cost_of_program};
 
-use crate::program::MAX_BYTES;
+use crate::program::MAX_PROGRAM_BYTES;
 use std::alloc::{AllocError, Global};
 use std::marker::Model;
 
@@ -34,7 +34,7 @@ impl Code {
         ensures { IfOk result (λ code. code ≡ None) }
     {
         Ok(Code {
-            bytes: Vec::with_capacity(alloc, MAX_BYTES)?,
+            bytes: Vec::with_capacity(alloc, MAX_PROGRAM_BYTES)?,
             cost: None,
             is_loaded: false,
         })

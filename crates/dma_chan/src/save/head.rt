@@ -10,7 +10,7 @@ ghost use Rattle.dma_chan.specs.inner.Saves.{buffer_in, program_in, channel_in, 
 
 use crate::bursts::BUFFER_SIZE;
 use crate::exec::Registers;
-use crate::program::MAX_BYTES;
+use crate::program::MAX_PROGRAM_BYTES;
 use crate::save::write;
 use dma_insn::control::ControlWord;
 
@@ -123,7 +123,7 @@ impl Head {
         };
         loads
             && usize::from(self.buffer_len) <= BUFFER_SIZE
-            && program_len <= MAX_BYTES
+            && program_len <= MAX_PROGRAM_BYTES
             && len == HEAD_LEN + usize::from(self.buffer_len) + program_len + CHECKSUM_LEN
             && self.stored <= 256 * u64::from(self.taken)
     }

@@ -9,7 +9,7 @@ ghost use Rattle.dma_device.specs.Thread.{failed, killed, started};
 use crate::device::Device;
 use crate::thread::{DBG_INSTR, DMAGO_ERR, OPERAND_INVALID, UNDEF_INSTR};
 use crate::wide::has_too_wide;
-use dma_chan::program::MAX_BYTES;
+use dma_chan::program::MAX_PROGRAM_BYTES;
 use dma_mem::regions::{Region, copy_run};
 
 impl Device {
@@ -129,7 +129,7 @@ impl Device {
             self.old }
     {
         let base = self.dbginst1;
-        let mut program = [0; MAX_BYTES];
+        let mut program = [0; MAX_PROGRAM_BYTES];
         let len = copy_run(regions, base, &mut program);
         self.wide[n] = has_too_wide(self.config.bus, &program[..len]);
         self.threads[n].start(nonsecure, base, &program[..len]);

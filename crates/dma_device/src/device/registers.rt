@@ -3,6 +3,7 @@
 ghost use Rattle.std.specs.Prelude.{◌≡◌, ℕ, ◌+◌, ◌*◌, ◌-◌, ◌^◌, ◌≤◌, ◌<◌, length, slice_get};
 ghost use Rattle.std.specs.List.{list_any};
 ghost use Rattle.dma_insn.specs.ControlWord.{flag};
+ghost use Rattle.dma_mem.specs.Limits.{most_channels};
 ghost use Rattle.dma_device.specs.Device.{address_register, channel_register, cr0, cr3, crd, device_register, dsr, faulting_bits, id, read_at};
 ghost use Rattle.dma_device.specs.Thread.{is_faulting};
 
@@ -33,7 +34,7 @@ pub(super) fn any_faulting(threads: &[Thread]) -> bool
 
 // Returns FSRC.
 fn faulting_bits(threads: &[Thread]) -> u32
-    requires { length threads.now ≤ 8 }
+    requires { length threads.now ≤ most_channels }
     ensures { result ≡ faulting_bits threads.now }
 {
     let mut bits = 0;
@@ -85,7 +86,7 @@ fn channel_register(threads: &[Thread], at: u32) -> u32
 
 // Returns CR0.
 fn cr0(config: Config) -> u32
-    requires channels { config.channels ≤ 8 }
+    requires channels { config.channels ≤ most_channels }
     requires events { config.events ≤ 32 }
     ensures { result ≡ cr0 config }
 {

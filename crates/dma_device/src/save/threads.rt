@@ -3,6 +3,7 @@
 ghost use Rattle.std.specs.Prelude.{◌≡◌, ◌+◌, ◌*◌, ◌^◌, ◌<◌, ◌≤◌, ◌++◌, ℕ, IsTrue, List, Some, IfSome, true, length, drop, take};
 ghost use Rattle.std.specs.List.{All, flat_map};
 ghost use Rattle.arrayvec.specs.ArrayVec.{array_vec_len};
+ghost use Rattle.dma_mem.specs.Limits.{most_channels};
 ghost use Rattle.dma_device.specs.Snapshot.{IsThreadValue, saved_thread, thread_bytes};
 ghost use Rattle.dma_device.specs.Thread.{IsSound};
 ghost use Rattle.dma_device.specs.declared.thread.Thread.{Thread};
@@ -104,7 +105,7 @@ impl Thread {
 
 // Returns the length of the threads' saves together.
 pub(crate) fn threads_len(threads: &[Thread], events: u8) -> usize
-    requires few { length threads.now ≤ 8 }
+    requires few { length threads.now ≤ most_channels }
     requires sound { All (IsSound events) threads.now }
     ensures len { result ≡ length (flat_map saved_thread threads.now) }
     ensures limit { result ≤ 8520 * length threads.now }

@@ -10,11 +10,11 @@ use crate::call::{Call, Reply};
 use crate::engine::Engine;
 use crate::entry::{Entry, Signaller};
 use crate::fault::EngineFault;
+use dma_mem::limits::LAST_EVENT;
 use dma_mem::lists::Bytes;
 use dma_mem::marks::{MarkKind, Marks};
 use dma_mem::memory::Memory;
 use dma_mem::segment::Segment;
-use dma_mem::transfer::LAST_EVENT;
 use std::alloc::{AllocError, Global};
 
 impl Engine {

@@ -1,7 +1,8 @@
 //! The rules of a transfer, tested one after another.
 
 ghost use Rattle.std.specs.Prelude.{◌≡◌, ◌+◌, ◌<◌, ◌≤◌, All, IfOk, IfErr, MatchResult, length, OnOk};
-ghost use Rattle.dma_mem.specs.Places.{Descriptor, filling, most_segments, places, range_of, share};
+ghost use Rattle.dma_mem.specs.Limits.{most_segments};
+ghost use Rattle.dma_mem.specs.Places.{Descriptor, filling, places, range_of, share};
 ghost use Rattle.dma_mem.specs.Meeting.{meets};
 ghost use Rattle.std.specs.List.{list_any};
 ghost use Rattle.std.specs.List.Sorted.{IsNonDecreasingBy};
@@ -9,9 +10,10 @@ ghost use Rattle.dma_mem.specs.declared.segment.Segment.{Segment};
 ghost use Rattle.dma_mem.specs.inner.Checking.{may_differ};
 ghost use Rattle.dma_mem.specs.Refusals.{refusal_of, refusal_of_fill, overlap_of, total, some_meet, meets_any, has_empty_segment, has_wrapping_segment, is_bad_event};
 
+use crate::limits::{LAST_EVENT, MAX_SEGMENTS, MAX_TRANSFER_BYTES};
 use crate::ordered::{any_meets_ordered, sort_by_address};
 use crate::segment::{Segment, meets};
-use crate::transfer::{LAST_EVENT, MAX_BYTES, MAX_SEGMENTS, TransferFault};
+use crate::transfer::TransferFault;
 
 // Returns whether a segment of the list has no byte.
 fn has_empty_segment(list: &[Segment]) -> bool
@@ -158,7 +160,7 @@ pub(crate) fn checked_len(
     if totals == Totals::Same && total(src) != len {
         return Err(TransferFault::TotalsDiffer);
     }
-    if len > u64::from(MAX_BYTES) {
+    if len > u64::from(MAX_TRANSFER_BYTES) {
         return Err(TransferFault::TooLong);
     }
     if let Some(fault) = overlap(src, dst) {
