@@ -7,8 +7,8 @@ use Rattle.std.proofs.lemmas.List.{append-nil, map-append, replicate-append-repl
 use Rattle.dma_script.specs.Command.{text_of}
 use Rattle.dma_engine.specs.declared.outcome.TransResult.TheVariants.{NoError}
 use Rattle.dma_engine.specs.declared.turn.Advanced.{Advanced}
-use Rattle.dma_engine.specs.declared.call.Call.{Call}
-use Rattle.dma_engine.specs.declared.call.Call.TheVariants.{Step}
+use Rattle.dma_mem.specs.declared.call.Call.{Call}
+use Rattle.dma_mem.specs.declared.call.Call.TheVariants.{Step}
 use Rattle.dma_engine.specs.declared.call.Reply.{Reply}
 use Rattle.dma_engine.specs.declared.call.Reply.TheVariants.{Turned, Refused}
 use Rattle.dma_engine.specs.declared.fault.EngineFault.{EngineFault}

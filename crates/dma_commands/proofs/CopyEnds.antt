@@ -14,7 +14,7 @@ use Rattle.dma_mem.specs.Marking.{meets_mark}
 use Rattle.dma_chan.specs.Traffic.{member, read_places, written_places}
 use Rattle.dma_chan.proofs.TreeCosts.{cost_is}
 use Rattle.dma_chan.proofs.ShapeLaws.{shape_is}
-use Rattle.dma_engine.specs.declared.call.Call.TheVariants as calls
+use Rattle.dma_mem.specs.declared.call.Call.TheVariants as calls
 use Rattle.dma_engine.specs.declared.call.Reply.{Reply}
 use Rattle.dma_engine.specs.declared.call.Reply.TheVariants.{Turned, Cookie, Count}
 use Rattle.dma_engine.specs.declared.entry.Entry.{Entry}

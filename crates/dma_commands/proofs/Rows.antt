@@ -1,14 +1,14 @@
 -- Small scripts, and what each of their lines prints, computed from the definitions.
 use Rattle.std.proofs.Common.{◌≡◌, ℕ, List, [], ◌∷◌, ◌++◌, refl}
-use Rattle.std.specs.Prelude.{Result, Ok, Err, codes, decimal}
+use Rattle.std.specs.Prelude.{None, Result, Ok, Err, codes, decimal}
 use Rattle.dma_mem.specs.Image.{put, after_moves}
-use Rattle.dma_mem.specs.Places.{Descriptor, share}
+use Rattle.dma_mem.specs.Places.{Descriptor, copying, share}
 use Rattle.dma_engine.specs.Object.{opening}
 use Rattle.dma_engine.specs.View.{running}
 use Rattle.dma_script.specs.Printing.{fault_line}
 use Rattle.dma_script.specs.declared.fault.Cause.TheVariants.{First, SizeOutOfRange}
-use Rattle.dma_engine.specs.declared.call.Call.{Call}
-use Rattle.dma_engine.specs.declared.call.Call.TheVariants as calls
+use Rattle.dma_mem.specs.declared.call.Call.{Call}
+use Rattle.dma_mem.specs.declared.call.Call.TheVariants as calls
 use Rattle.dma_engine.specs.declared.call.Reply.{Reply}
 use Rattle.dma_engine.specs.declared.call.Reply.TheVariants as replies
 use Rattle.dma_engine.specs.declared.fault.EngineFault.TheVariants.{Busy, OutOfMemoryRange}
@@ -18,7 +18,7 @@ use Rattle.dma_script.specs.declared.fault.Fault.{Fault}
 use Rattle.dma_script.specs.declared.statements.RunScript.{RunScript}
 use Rattle.dma_commands.specs.Laws.{printed_from, script_calls}
 use Rattle.dma_commands.specs.Printed.{fault_text, refused_line}
-use Rattle.dma_commands.specs.Run.{plain_copy, printed, step_line, totals_line}
+use Rattle.dma_commands.specs.Run.{printed, step_line, totals_line}
 
 -- lines, each ended by a line feed
 abbrev script : List (List ℕ) → List ℕ
@@ -81,7 +81,7 @@ abbrev some_lines : List ℕ
 some_lines = script (codes "memory 8 1" ∷ codes "write 1 AA" ∷ codes "copy 0+0 to 4+0" ∷ codes "copy 0+2 to 7+2" ∷ codes "submit 0 0+2 to 2+2" ∷ codes "fill 0 to 1+1" ∷ codes "issue 0" ∷ codes "totals" ∷ codes "step 0 3" ∷ codes "status 0 1" ∷ [])
 
 abbrev from_to : ℕ → ℕ → Descriptor
-from_to a b = plain_copy (record { addr = a; len = 2 } ∷ []) (record { addr = b; len = 2 } ∷ [])
+from_to a b = copying (record { addr = a; len = 2 } ∷ []) (record { addr = b; len = 2 } ∷ []) None None
 
 calls_in_order : calls_read (run_script_of some_lines) ≡ calls.Write 1 (170 ∷ []) ∷ calls.Submit 0 (from_to 0 7) ∷ calls.Submit 0 (from_to 0 2) ∷ calls.Issue 0 ∷ calls.Step 0 ∷ calls.Step 0 ∷ calls.Step 0 ∷ calls.Status 0 1 ∷ []
 unfolding put after_moves opening share running

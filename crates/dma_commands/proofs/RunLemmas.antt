@@ -6,8 +6,8 @@ use Rattle.std.proofs.lemmas.Result.{on_err_weaker, on_ok_weaker}
 use Rattle.std.specs.Prelude.{Err, IsErr, Ok, OnErr, OnOk, Result, cond, count_by, is_some}
 use Rattle.std.specs.List.{filter_map, range_with_len, cons_option}
 use Rattle.dma_mem.specs.Places.{Descriptor}
-use Rattle.dma_engine.specs.declared.call.Call.{Call}
-use Rattle.dma_engine.specs.declared.call.Call.TheVariants.{Read, Submit as SubmitCall, Issue as IssueCall}
+use Rattle.dma_mem.specs.declared.call.Call.{Call}
+use Rattle.dma_mem.specs.declared.call.Call.TheVariants.{Read, Submit as SubmitCall, Issue as IssueCall}
 use Rattle.dma_engine.specs.declared.call.Reply.{Reply}
 use Rattle.dma_engine.specs.declared.call.Reply.TheVariants.{Bytes, Cookie, Refused}
 use Rattle.dma_engine.specs.declared.entry.Entry.TheVariants.{ReadBack}
@@ -23,10 +23,8 @@ use Rattle.dma_engine.specs.View.{View, ChannelSchedule, object_of, running, run
 use Rattle.dma_script.specs.Command.{Answers, AppendsGroups, Printed, printed_text, text_of}
 use Rattle.dma_script.specs.Interpreted.{ActsInTurn, PrintsLines, StopsAtALine}
 use Rattle.dma_script.specs.declared.statements.Statement.{Statement}
-use Rattle.dma_script.specs.declared.statements.Statement.TheVariants.{Write, Read as ReadLine, Copy, Fill, Submit, Issue, Pause, Resume, Terminate, Step, Status, Result as Outcome, Mark, Unmark, Raise, Checkpoint, Totals}
 use Rattle.dma_text.specs.Digits.{hex_digits, spaced_bytes}
 use Rattle.dma_commands.specs.Printed.{call_line, fault_text, transfer_fault_name, refused_line}
-use Rattle.dma_commands.specs.Laws.{call_of}
 use Rattle.dma_commands.specs.Run.{Answered, call_answer, copied, copied_after, is_in_use, line_answer, lines_answered, most_steps, stepped_to_end, last_answer_line, one_line, unless_invalid}
 use Rattle.dma_commands.specs.inner.RunSteps.{RunsLine, read_at, read_in}
 use Rattle.dma_commands.proofs.Served.{refused-served, served-one}
@@ -43,31 +41,6 @@ pub call_runs : {A E : Type 0} (v w : View) (call : Call) (reply : Reply) (resul
 call_runs {A = A} {E = E} v w call reply (Ok a) out out' is served prints kept =
     subst (λ (x : Reply × View). RunsLine {A = A} {E = E} (one_line (call_line call x.0) x.1) w (Ok a) out out') (served-one v call reply w served is) (printed_runs {A = A} {E = E} (one_line (call_line call reply) w) w (Ok a) out out' refl prints tt)
 call_runs v w call reply (Err e) out out' is served prints kept = record { ok = tt; err = kept }
-
--- the answer of the first call, if any
-abbrev first_answer : View → List Call → Answered
-first_answer v [] = ([], v)
-first_answer v (call ∷ calls) = call_answer v call
-
--- a line with one call is answered as the call
-pub line_of_call : (v : View) (line : Statement) (call : Call) → call_of line ≡ call ∷ [] → line_answer v line ≡ call_answer v call
-line_of_call v (Copy lists) call is = absurd cc
-line_of_call v (Fill src dst) call is = absurd cc
-line_of_call v (Submit ch transfer) call is = absurd cc
-line_of_call v (Step ch count) call is = absurd cc
-line_of_call v Totals call is = absurd cc
-line_of_call v (Write addr bytes) call is = ap (first_answer v) is
-line_of_call v (ReadLine segment) call is = ap (first_answer v) is
-line_of_call v (Issue ch) call is = ap (first_answer v) is
-line_of_call v (Pause ch) call is = ap (first_answer v) is
-line_of_call v (Resume ch) call is = ap (first_answer v) is
-line_of_call v (Terminate ch) call is = ap (first_answer v) is
-line_of_call v (Status ch cookie) call is = ap (first_answer v) is
-line_of_call v (Outcome ch cookie) call is = ap (first_answer v) is
-line_of_call v (Mark kind segment) call is = ap (first_answer v) is
-line_of_call v Unmark call is = ap (first_answer v) is
-line_of_call v (Raise event) call is = ap (first_answer v) is
-line_of_call v Checkpoint call is = ap (first_answer v) is
 
 -- ---- a transfer's rules
 

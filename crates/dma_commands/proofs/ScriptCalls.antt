@@ -5,15 +5,15 @@ use Rattle.std.proofs.Math.Seq.{take-append_seam, drop-append_seam}
 use Rattle.dma_mem.specs.Places.{Descriptor}
 use Rattle.dma_mem.specs.Refusals.{refusal_of}
 use Rattle.dma_mem.specs.declared.transfer.TransferFault.{TransferFault}
-use Rattle.dma_engine.specs.declared.call.Call.{Call}
-use Rattle.dma_engine.specs.declared.call.Call.TheVariants as calls
+use Rattle.dma_mem.specs.declared.call.Call.{Call}
+use Rattle.dma_mem.specs.declared.call.Call.TheVariants as calls
 use Rattle.dma_engine.specs.declared.call.Reply.{Reply}
 use Rattle.dma_engine.specs.View.{View}
 use Rattle.dma_engine.specs.Answer.{answer, answers}
 use Rattle.dma_script.specs.declared.statements.Statement.{Statement}
-use Rattle.dma_script.specs.declared.statements.Statement.TheVariants.{Write, Read, Copy, Fill, Submit, Issue, Pause, Resume, Terminate, Step, Status, Result as Outcome, Mark, Unmark, Raise, Checkpoint, Totals}
+use Rattle.dma_script.specs.declared.statements.Statement.TheVariants as statements
 use Rattle.dma_commands.specs.Printed.{refused_line, reply_text}
-use Rattle.dma_commands.specs.Run.{Answered, call_answer, issued_and_stepped, copied, copied_after, goes_on, is_in_use, is_refused, line_answer, lines_answered, most_steps, plain_copy, plain_fill, stepped_to_end, last_answer_line, one_line, unless_invalid}
+use Rattle.dma_commands.specs.Run.{Answered, call_answer, issued_and_stepped, copied, copied_after, goes_on, is_in_use, is_refused, line_answer, lines_answered, most_steps, start_of, stepped_to_end, last_answer_line, one_line, unless_invalid}
 use Rattle.dma_commands.specs.Transfers.{transfer_of}
 use Rattle.dma_commands.specs.Laws.{call_lines, calls_after, calls_in, calls_of, issue_and_step_calls, groups_from, if_valid, last_of, lines_from, rule_or, steps_taken, transfer_calls, transfer_lines, view_after}
 use Rattle.dma_commands.proofs.Served.{answers-append}
@@ -86,26 +86,13 @@ abbrev pub line_made : View → Statement → List Reply × View → Answered
 line_made v line a = (lines_from v line a.0, a.1)
 
 pub line_is : (v : View) (line : Statement) → line_answer v line ≡ line_made v line (answers v (calls_of v line))
-line_is v (Write addr bytes) = refl
-line_is v (Read segment) = refl
-line_is v (Copy lists) =
-    let t = plain_copy lists.src lists.dst in through_is (codes "copy ") v t (refusal_of t)
-line_is v (Fill src dst) =
-    let t = plain_fill src dst in through_is (codes "fill ") v t (refusal_of t)
-line_is v (Submit ch line) =
+line_is v (statements.Call call) = refl
+line_is v (statements.Submit ch line) =
     let t = transfer_of line in submit_is v ch t (refusal_of t)
-line_is v (Issue ch) = refl
-line_is v (Pause ch) = refl
-line_is v (Resume ch) = refl
-line_is v (Terminate ch) = refl
-line_is v (Step ch count) = refl
-line_is v (Status ch cookie) = refl
-line_is v (Outcome ch cookie) = refl
-line_is v (Mark kind segment) = refl
-line_is v Unmark = refl
-line_is v (Raise event) = refl
-line_is v Checkpoint = refl
-line_is v Totals = refl
+line_is v (statements.Copy line) =
+    let t = transfer_of line in through_is (start_of line.src) v t (refusal_of t)
+line_is v (statements.Step ch count) = refl
+line_is v statements.Totals = refl
 
 -- ---- the lines of a script
 

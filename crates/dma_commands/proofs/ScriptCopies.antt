@@ -1,13 +1,15 @@
 -- No copy or fill of a script is cut off.
 use Rattle.std.proofs.Common.{◌≡◌, ℕ, ◌+◌, zero, suc, Bool, true, false, if◌then◌else◌, List, [], ◌∷◌, Option, Some, None, refl, ap, sym, subst}
 use Rattle.std.specs.Prelude.{replicate}
+use Rattle.std.specs.List.{All}
+use Rattle.std.proofs.lemmas.List.Elements.{All-head, All-tail}
 use Rattle.dma_mem.specs.Places.{Descriptor}
 use Rattle.dma_mem.specs.Refusals.{refusal_of}
 use Rattle.dma_mem.specs.Rules.{HasOneByte, IsTransfer}
 use Rattle.dma_mem.specs.declared.transfer.TransferFault.{TransferFault}
 use Rattle.dma_mem.proofs.TransferRules.{IsTransfer-from_no_refusal}
-use Rattle.dma_engine.specs.declared.call.Call.{Call}
-use Rattle.dma_engine.specs.declared.call.Call.TheVariants as calls
+use Rattle.dma_mem.specs.declared.call.Call.{Call}
+use Rattle.dma_mem.specs.declared.call.Call.TheVariants as calls
 use Rattle.dma_engine.specs.declared.call.Reply.{Reply}
 use Rattle.dma_engine.specs.declared.call.Reply.TheVariants.{Cookie}
 use Rattle.dma_engine.specs.declared.fault.EngineFault.{EngineFault}
@@ -19,11 +21,13 @@ use Rattle.dma_engine.specs.Answer.{answer, answers, submit_fault, unless}
 use Rattle.dma_engine.specs.Laws.{CallsStaySound, NewViewsAreSound}
 use Rattle.dma_engine.proofs.JoinedCalls.{answers_are_answers, answers_unless_no_memory}
 use Rattle.dma_script.specs.declared.statements.Statement.{Statement}
-use Rattle.dma_script.specs.declared.statements.Statement.TheVariants.{Write, Read, Copy, Fill, Submit, Issue, Pause, Resume, Terminate, Step, Status, Result as Outcome, Mark, Unmark, Raise, Checkpoint, Totals}
-use Rattle.dma_commands.specs.Run.{CopiesEnd, goes_on, is_in_use, most_steps, plain_copy, plain_fill, stepped_to_end}
+use Rattle.dma_script.specs.declared.statements.Statement.TheVariants as statements
+use Rattle.dma_script.proofs.Within.{IsNoSubmit}
+use Rattle.dma_commands.specs.Run.{CopiesEnd, goes_on, is_in_use, most_steps, stepped_to_end}
+use Rattle.dma_commands.specs.Transfers.{transfer_of}
 use Rattle.dma_commands.specs.Laws.{AreWhole, CopiesAreWhole, IsWhole, IsWholeCopy, StepsEnd, calls_after, calls_in, calls_of, if_valid, opening_of, script_calls, steps_taken, transfer_calls, view_after}
 use Rattle.dma_commands.proofs.ScriptCalls.{first-replies, later-replies, one-more}
-use Rattle.dma_commands.proofs.ScriptSubmits.{copy-byte, fill-byte, line-made}
+use Rattle.dma_commands.proofs.ScriptSubmits.{line-byte, line-made}
 use Rattle.dma_commands.proofs.ScriptsWithin.{can-be-made, script_within}
 
 -- ---- steps
@@ -74,43 +78,27 @@ fit-whole ends v t (Some fault) sound one is = tt
 -- ---- the lines of a script
 
 line-whole : CopiesEnd → (v : View) (line : Statement) → IsSound v → IsWhole line (answers v (calls_of v line)).0
-line-whole ends v (Copy lists) sound =
-    let t = plain_copy lists.src lists.dst in
-    fit-whole ends v t (refusal_of t) sound (copy-byte lists.src lists.dst None None) refl
-line-whole ends v (Fill src dst) sound =
-    let t = plain_fill src dst in
-    fit-whole ends v t (refusal_of t) sound (fill-byte src dst) refl
-line-whole ends v (Write addr bytes) sound = tt
-line-whole ends v (Read segment) sound = tt
-line-whole ends v (Submit ch line) sound = tt
-line-whole ends v (Issue ch) sound = tt
-line-whole ends v (Pause ch) sound = tt
-line-whole ends v (Resume ch) sound = tt
-line-whole ends v (Terminate ch) sound = tt
-line-whole ends v (Step ch count) sound = tt
-line-whole ends v (Status ch cookie) sound = tt
-line-whole ends v (Outcome ch cookie) sound = tt
-line-whole ends v (Mark kind segment) sound = tt
-line-whole ends v Unmark sound = tt
-line-whole ends v (Raise event) sound = tt
-line-whole ends v Checkpoint sound = tt
-line-whole ends v Totals sound = tt
+line-whole ends v (statements.Copy line) sound =
+    let t = transfer_of line in
+    fit-whole ends v t (refusal_of t) sound (line-byte line) refl
+line-whole ends v _ sound = tt
 
-lines-whole : CopiesEnd → CallsStaySound → (v : View) (lines : List Statement) → IsSound v → AreWhole v lines (answers v (calls_in v lines)).0
-lines-whole ends stay v [] sound = tt
-lines-whole ends stay v (line ∷ rest) sound =
+lines-whole : CopiesEnd → CallsStaySound → (v : View) (lines : List Statement) → All IsNoSubmit lines → IsSound v → AreWhole v lines (answers v (calls_in v lines)).0
+lines-whole ends stay v [] read sound = tt
+lines-whole ends stay v (line ∷ rest) read sound =
     let own = calls_of v line in
     let a = answers v own in
     let w = view_after v line in
-    let next : IsSound w = (stay v w own a.0 (line-made v line) sound (answers_are_answers v own)).0 in (
+    let next : IsSound w = (stay v w own a.0 (line-made v line (All-head IsNoSubmit line rest read)) sound (answers_are_answers v own)).0 in (
       subst (λ (r : List Reply). IsWhole line r) (sym (first-replies v line rest)) (line-whole ends v line sound),
-      subst (λ (r : List Reply). AreWhole w rest r) (sym (later-replies v line rest)) (lines-whole ends stay w rest next),
+      subst (λ (r : List Reply). AreWhole w rest r) (sym (later-replies v line rest)) (lines-whole ends stay w rest (All-tail IsNoSubmit line rest read) next),
     )
 
 pub copies_are_whole : CopiesEnd → NewViewsAreSound → CallsStaySound → CopiesAreWhole
 copies_are_whole ends opens stay input script replies left read served made =
     let v = opening_of script in
     let cs = script_calls script in
-    let sound : IsSound v = opens script.size script.channels (can-be-made script (script_within input script read)) in
+    let within = script_within input script read in
+    let sound : IsSound v = opens script.size script.channels (can-be-made script within.0) in
     subst (λ (x : List Reply × View). AreWhole v script.statements x.0) (sym (answers_unless_no_memory v left cs replies served made))
-    (lines-whole ends stay v script.statements sound)
+    (lines-whole ends stay v script.statements within.1 sound)

@@ -2,8 +2,8 @@
 use Rattle.std.proofs.Common.{◌≡◌, ◌≢◌, ℕ, zero, suc, Bool, true, false, ◌||◌, List, [], ◌∷◌, length, Option, Some, None, refl, ap, sym, subst, ◌∙◌, arith}
 use Rattle.std.specs.Prelude.{nat_lt, is_none, Ok}
 use Rattle.std.proofs.lemmas.Bool.{false≢true}
-use Rattle.dma_engine.specs.declared.call.Call.{Call}
-use Rattle.dma_engine.specs.declared.call.Call.TheVariants.{Write, Read, Submit, Issue, Pause, Resume, Terminate, Step, Status, Result as ResultOf, Mark, Unmark, Raise, Checkpoint}
+use Rattle.dma_mem.specs.declared.call.Call.{Call}
+use Rattle.dma_mem.specs.declared.call.Call.TheVariants.{Write, Read, Submit, Issue, Pause, Resume, Terminate, Step, Status, Result as ResultOf, Mark, Unmark, Raise, Checkpoint}
 use Rattle.dma_engine.specs.declared.call.Reply.{Reply}
 use Rattle.dma_engine.specs.declared.call.Reply.TheVariants.{Done, Refused}
 use Rattle.dma_engine.specs.declared.fault.EngineFault.{EngineFault}
@@ -89,11 +89,12 @@ printed-is input script read =
 
 pub scripts_print_answers : ScriptsPrintAnswers
 scripts_print_answers input script read =
+    let within = script_within input script read in
     let v = opening_of script in
     let cs = script_calls script in
     let a = answers v cs in (
-      can-be-made script (script_within input script read),
-      calls-made v script.statements,
+      can-be-made script within.0,
+      calls-made v script.statements within.1,
       (a.0, a.1, have_memory v cs, answers_are_answers v cs, printed-is input script read),
     )
 

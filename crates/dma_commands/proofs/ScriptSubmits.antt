@@ -2,22 +2,25 @@
 use Rattle.std.proofs.Common.{◌≡◌, ℕ, zero, suc, Bool, true, false, if◌then◌else◌, List, [], ◌∷◌, ◌++◌, Option, Some, None, refl, arith}
 use Rattle.std.specs.Prelude.{replicate}
 use Rattle.std.specs.List.{All}
+use Rattle.std.proofs.lemmas.List.Elements.{All-head, All-tail}
 use Rattle.dma_mem.specs.Places.{Descriptor}
 use Rattle.dma_mem.specs.Refusals.{refusal_of}
 use Rattle.dma_mem.specs.Rules.{HasOneByte, IsTransfer}
 use Rattle.dma_mem.specs.declared.segment.Segment.{Segment}
 use Rattle.dma_mem.specs.declared.transfer.TransferFault.{TransferFault}
 use Rattle.dma_mem.proofs.TransferRules.{IsTransfer-from_no_refusal}
-use Rattle.dma_engine.specs.declared.call.Call.{Call}
-use Rattle.dma_engine.specs.declared.call.Call.TheVariants as calls
+use Rattle.dma_mem.specs.declared.call.Call.{Call}
+use Rattle.dma_mem.specs.declared.call.Call.TheVariants as calls
 use Rattle.dma_engine.specs.View.{View}
 use Rattle.dma_engine.specs.Answer.{answer}
 use Rattle.dma_engine.specs.Laws.{IsCall}
 use Rattle.dma_script.specs.declared.plan.Origin.{Origin}
 use Rattle.dma_script.specs.declared.plan.Origin.TheVariants as origins
+use Rattle.dma_script.specs.declared.plan.TransferLine.{TransferLine}
 use Rattle.dma_script.specs.declared.statements.Statement.{Statement}
-use Rattle.dma_script.specs.declared.statements.Statement.TheVariants.{Write, Read, Copy, Fill, Submit, Issue, Pause, Resume, Terminate, Step, Status, Result as Outcome, Mark, Unmark, Raise, Checkpoint, Totals}
-use Rattle.dma_commands.specs.Run.{is_in_use, is_refused, most_steps, plain_copy, plain_fill}
+use Rattle.dma_script.specs.declared.statements.Statement.TheVariants as statements
+use Rattle.dma_script.proofs.Within.{IsNoSubmit}
+use Rattle.dma_commands.specs.Run.{is_in_use, is_refused, most_steps}
 use Rattle.dma_commands.specs.Transfers.{transfer_from, transfer_of}
 use Rattle.dma_commands.specs.Laws.{calls_after, calls_in, calls_of, issue_and_step_calls, if_valid, steps_taken, transfer_calls, view_after}
 
@@ -48,15 +51,12 @@ either false xs ys f g = g
 
 -- ---- the transfers of lines
 
-pub copy-byte : (src dst : List Segment) (wait signal : Option ℕ) → HasOneByte (record { fill = false; src = src; dst = dst; wait = wait; signal = signal })
-copy-byte src dst wait signal = λ e. absurd cc
+from-byte : (src : Origin) (dst : List Segment) (wait signal : Option ℕ) → HasOneByte (transfer_from src dst wait signal)
+from-byte (origins.List src) dst wait signal = λ e. absurd cc
+from-byte (origins.Place src) dst wait signal = λ _. (src, refl)
 
-pub fill-byte : (src : ℕ) (dst : List Segment) → HasOneByte (plain_fill src dst)
-fill-byte src dst = λ _. (src, refl)
-
-line-byte : (src : Origin) (dst : List Segment) (wait signal : Option ℕ) → HasOneByte (transfer_from src dst wait signal)
-line-byte (origins.List src) dst wait signal = copy-byte src dst wait signal
-line-byte (origins.Place src) dst wait signal = λ _. (src, refl)
+pub line-byte : (line : TransferLine) → HasOneByte (transfer_of line)
+line-byte line = from-byte line.src line.dst line.wait line.signal
 
 -- the calls of a transfer that is made where it breaks no rule
 fit-made : (t : Descriptor) (fault : Option TransferFault) (cs : List Call) → HasOneByte t → refusal_of t ≡ fault → (IsTransfer t → All IsCall cs) → All IsCall (if_valid fault cs)
@@ -73,33 +73,24 @@ through-made v t rules =
     (one-before (calls.Issue 0) (replicate (steps_taken most_steps w) (calls.Step 0)) tt
     (equal-calls (steps_taken most_steps w) (calls.Step 0) tt))))
 
-pub line-made : (v : View) (line : Statement) → All IsCall (calls_of v line)
-line-made v (Write addr bytes) = alone (calls.Write addr bytes) tt
-line-made v (Read segment) = alone (calls.Read segment.addr segment.len) tt
-line-made v (Copy lists) =
-    let t = plain_copy lists.src lists.dst in
-    fit-made t (refusal_of t) (transfer_calls v t) (copy-byte lists.src lists.dst None None) refl (through-made v t)
-line-made v (Fill src dst) =
-    let t = plain_fill src dst in
-    fit-made t (refusal_of t) (transfer_calls v t) (fill-byte src dst) refl (through-made v t)
-line-made v (Submit ch line) =
+-- the call of a line that is read
+plain-made : (call : Call) → IsNoSubmit (statements.Call call) → IsCall call
+plain-made (calls.Submit ch t) read = absurd read
+plain-made _ read = tt
+
+pub line-made : (v : View) (line : Statement) → IsNoSubmit line → All IsCall (calls_of v line)
+line-made v (statements.Call call) read = alone call (plain-made call read)
+line-made v (statements.Submit ch line) read =
     let t = transfer_of line in
-    fit-made t (refusal_of t) (calls.Submit ch t ∷ []) (line-byte line.src line.dst line.wait line.signal) refl (alone (calls.Submit ch t))
-line-made v (Issue ch) = alone (calls.Issue ch) tt
-line-made v (Pause ch) = alone (calls.Pause ch) tt
-line-made v (Resume ch) = alone (calls.Resume ch) tt
-line-made v (Terminate ch) = alone (calls.Terminate ch) tt
-line-made v (Step ch count) = equal-calls count (calls.Step ch) tt
-line-made v (Status ch cookie) = alone (calls.Status ch cookie) tt
-line-made v (Outcome ch cookie) = alone (calls.Result ch cookie) tt
-line-made v (Mark kind segment) = alone (calls.Mark kind segment) tt
-line-made v Unmark = alone calls.Unmark tt
-line-made v (Raise event) = alone (calls.Raise event) tt
-line-made v Checkpoint = alone calls.Checkpoint tt
-line-made v Totals = none-made
+    fit-made t (refusal_of t) (calls.Submit ch t ∷ []) (line-byte line) refl (alone (calls.Submit ch t))
+line-made v (statements.Copy line) read =
+    let t = transfer_of line in
+    fit-made t (refusal_of t) (transfer_calls v t) (line-byte line) refl (through-made v t)
+line-made v (statements.Step ch count) read = equal-calls count (calls.Step ch) tt
+line-made v statements.Totals read = none-made
 
 -- all calls of a script can be made
-pub calls-made : (v : View) (lines : List Statement) → All IsCall (calls_in v lines)
-calls-made v [] = none-made
-calls-made v (line ∷ rest) =
-    both (calls_of v line) (calls_in (view_after v line) rest) (line-made v line) (calls-made (view_after v line) rest)
+pub calls-made : (v : View) (lines : List Statement) → All IsNoSubmit lines → All IsCall (calls_in v lines)
+calls-made v [] read = none-made
+calls-made v (line ∷ rest) read =
+    both (calls_of v line) (calls_in (view_after v line) rest) (line-made v line (All-head IsNoSubmit line rest read)) (calls-made (view_after v line) rest (All-tail IsNoSubmit line rest read))

@@ -8,10 +8,10 @@ use Rattle.dma_engine.specs.View.{new_fault}
 use Rattle.dma_script.specs.Statements.{IsWithin, run_script_of}
 use Rattle.dma_script.specs.declared.fault.Fault.{Fault}
 use Rattle.dma_script.specs.declared.statements.RunScript.{RunScript}
-use Rattle.dma_script.proofs.Within.{run_script_within}
+use Rattle.dma_script.proofs.Within.{IsBefore, IsNoSubmit, run_script_within}
 
-pub script_within : (input : List ℕ) (script : RunScript) → run_script_of input ≡ Ok script → IsWithin script
-script_within input script is = subst (λ (r : Result RunScript Fault). IfOk r IsWithin) is (run_script_within input)
+pub script_within : (input : List ℕ) (script : RunScript) → run_script_of input ≡ Ok script → IsBefore IsNoSubmit script
+script_within input script is = subst (λ (r : Result RunScript Fault). IfOk r (IsBefore IsNoSubmit)) is (run_script_within input)
 
 -- ---- the engine
 

@@ -1,6 +1,6 @@
 -- Calls in order, none of which is out of memory.
 use Rattle.std.proofs.Common.{◌≡◌, ◌≢◌, List, [], ◌∷◌, ◌++◌, refl, ap, ◌∙◌}
-use Rattle.dma_engine.specs.declared.call.Call.{Call}
+use Rattle.dma_mem.specs.declared.call.Call.{Call}
 use Rattle.dma_engine.specs.declared.call.Reply.{Reply}
 use Rattle.dma_engine.specs.declared.call.Reply.TheVariants.{Done, Bytes, Cookie, Count, Turned, State, Result, Refused}
 use Rattle.dma_engine.specs.declared.fault.EngineFault.{EngineFault}

@@ -4,8 +4,8 @@ use Rattle.std.specs.List.{All}
 use Rattle.dma_mem.specs.Places.{Descriptor}
 use Rattle.dma_mem.specs.Refusals.{refusal_of}
 use Rattle.dma_mem.specs.declared.transfer.TransferFault.{TransferFault}
-use Rattle.dma_engine.specs.declared.call.Call.{Call}
-use Rattle.dma_engine.specs.declared.call.Call.TheVariants as calls
+use Rattle.dma_mem.specs.declared.call.Call.{Call}
+use Rattle.dma_mem.specs.declared.call.Call.TheVariants as calls
 use Rattle.dma_engine.specs.declared.call.Reply.{Reply}
 use Rattle.dma_engine.specs.declared.call.Reply.TheVariants.{Cookie, Refused}
 use Rattle.dma_engine.specs.declared.fault.EngineFault.TheVariants.{NoMemory}
@@ -16,29 +16,12 @@ use Rattle.dma_script.specs.Command.{Printed}
 use Rattle.dma_script.specs.Statements.{run_script_of}
 use Rattle.dma_script.specs.declared.statements.RunScript.{RunScript}
 use Rattle.dma_script.specs.declared.statements.Statement.{Statement}
-use Rattle.dma_script.specs.declared.statements.Statement.TheVariants.{Write, Read, Copy, Fill, Submit, Issue, Pause, Resume, Terminate, Step, Status, Result as Outcome, Mark, Unmark, Raise, Checkpoint, Totals}
+use Rattle.dma_script.specs.declared.statements.Statement.TheVariants as statements
 use Rattle.dma_commands.specs.Printed.{call_line, refused_line, reply_text, transfer_fault_name}
-use Rattle.dma_commands.specs.Run.{goes_on, is_in_use, is_refused, line_answer, most_steps, plain_copy, plain_fill, printed, step_lines, last_answer_line, totals_of}
+use Rattle.dma_commands.specs.Run.{goes_on, is_in_use, is_refused, line_answer, most_steps, printed, start_of, step_lines, last_answer_line, totals_of}
 use Rattle.dma_commands.specs.Transfers.{transfer_of}
 
 -- ---- the calls of a line
-
--- the call of a line that makes exactly one call on every view; no call for `copy`, `fill`, `submit`, `step` and
--- `totals`
-abbrev pub call_of : Statement → List Call
-call_of (Write addr bytes) = calls.Write addr bytes ∷ []
-call_of (Read segment) = calls.Read segment.addr segment.len ∷ []
-call_of (Issue ch) = calls.Issue ch ∷ []
-call_of (Pause ch) = calls.Pause ch ∷ []
-call_of (Resume ch) = calls.Resume ch ∷ []
-call_of (Terminate ch) = calls.Terminate ch ∷ []
-call_of (Status ch cookie) = calls.Status ch cookie ∷ []
-call_of (Outcome ch cookie) = calls.Result ch cookie ∷ []
-call_of (Mark kind segment) = calls.Mark kind segment ∷ []
-call_of Unmark = calls.Unmark ∷ []
-call_of (Raise event) = calls.Raise event ∷ []
-call_of Checkpoint = calls.Checkpoint ∷ []
-call_of _ = []
 
 -- These calls for a transfer that breaks no rule; no call for one that does.
 abbrev pub if_valid : Option TransferFault → List Call → List Call
@@ -68,17 +51,13 @@ transfer_calls v t = if is_in_use v then [] else calls.Submit 0 t ∷ calls_afte
 
 -- The calls of a line, in order, on an engine with this view. Only those of a copy and a fill depend on the view.
 abbrev pub calls_of : View → Statement → List Call
-calls_of v (Copy lists) =
-    let t = plain_copy lists.src lists.dst in
-    if_valid (refusal_of t) (transfer_calls v t)
-calls_of v (Fill src dst) =
-    let t = plain_fill src dst in
-    if_valid (refusal_of t) (transfer_calls v t)
-calls_of v (Submit ch line) =
-    let t = transfer_of line in
-    if_valid (refusal_of t) (calls.Submit ch t ∷ [])
-calls_of v (Step ch count) = replicate count (calls.Step ch)
-calls_of v line = call_of line
+calls_of v (statements.Call call) = call ∷ []
+calls_of v (statements.Submit ch line) =
+    let t = transfer_of line in if_valid (refusal_of t) (calls.Submit ch t ∷ [])
+calls_of v (statements.Copy line) =
+    let t = transfer_of line in if_valid (refusal_of t) (transfer_calls v t)
+calls_of v (statements.Step ch count) = replicate count (calls.Step ch)
+calls_of v statements.Totals = []
 
 -- the view after the calls of a line
 abbrev pub view_after : View → Statement → View
@@ -113,22 +92,15 @@ transfer_lines start [] = refused_line (codes "ChannelInUse") ∷ []
 transfer_lines start (submitted ∷ []) = reply_text submitted ∷ []
 transfer_lines start (submitted ∷ issued ∷ steps) = last_answer_line start (last_of issued steps) ∷ []
 
--- What a line prints, computed from the replies to its calls alone.
-abbrev pub reply_lines : Statement → List Reply → List (List ℕ)
-reply_lines (Copy lists) replies =
-    rule_or (refusal_of (plain_copy lists.src lists.dst)) (transfer_lines (codes "copy ") replies)
-reply_lines (Fill src dst) replies = rule_or (refusal_of (plain_fill src dst)) (transfer_lines (codes "fill ") replies)
-reply_lines (Submit ch line) replies =
-    let t = transfer_of line in
-    rule_or (refusal_of t) (call_lines (calls.Submit ch t ∷ []) replies)
-reply_lines (Step ch count) replies = step_lines ch (map reply_text replies)
-reply_lines line replies = call_lines (call_of line) replies
-
--- What any line prints, computed from the replies to its calls. `totals` makes no call and prints the counts of the
--- view.
+-- What a line prints, computed from the replies to its calls. `totals` makes no call and prints the counts of the view.
 abbrev pub lines_from : View → Statement → List Reply → List (List ℕ)
-lines_from v Totals replies = totals_of v ∷ []
-lines_from v line replies = reply_lines line replies
+lines_from v (statements.Call call) replies = call_lines (call ∷ []) replies
+lines_from v (statements.Submit ch line) replies =
+    let t = transfer_of line in rule_or (refusal_of t) (call_lines (calls.Submit ch t ∷ []) replies)
+lines_from v (statements.Copy line) replies =
+    rule_or (refusal_of (transfer_of line)) (transfer_lines (start_of line.src) replies)
+lines_from v (statements.Step ch count) replies = step_lines ch (map reply_text replies)
+lines_from v statements.Totals replies = totals_of v ∷ []
 
 -- what each line prints, computed from the replies to its own calls
 abbrev pub groups_from : View → List Statement → List Reply → List (List (List ℕ))
@@ -204,8 +176,7 @@ IsWholeCopy _ = ⊥
 
 -- the replies to the calls of a copy or a fill satisfy `IsWholeCopy`; nothing is required of other lines
 abbrev pub IsWhole : Statement → List Reply → Type 0
-IsWhole (Copy lists) replies = IsWholeCopy replies
-IsWhole (Fill src dst) replies = IsWholeCopy replies
+IsWhole (statements.Copy line) replies = IsWholeCopy replies
 IsWhole _ replies = Unit {0}
 
 -- `IsWhole` holds for each of these lines, one after another, with the replies to its own calls

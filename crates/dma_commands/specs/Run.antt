@@ -1,13 +1,12 @@
 -- What `dmasim run` prints for an input.
 use Rattle.std.specs.Prelude.{◌≡◌, ℕ, ◌+◌, ◌++◌, ◌∷◌, [], if◌then◌else◌, ◌||◌, Bool, true, false, nat_lt, zero, suc, Option, Some, None, Result, Ok, Err, List, length, map, replicate, codes, decimal}
 use Rattle.std.specs.Str.{bytes_eq}
-use Rattle.dma_mem.specs.declared.segment.Segment.{Segment}
 use Rattle.dma_mem.specs.declared.transfer.TransferFault.{TransferFault}
-use Rattle.dma_mem.specs.Places.{Descriptor, filling}
+use Rattle.dma_mem.specs.Places.{Descriptor}
 use Rattle.dma_mem.specs.Rules.{IsTransfer}
 use Rattle.dma_mem.specs.Refusals.{refusal_of}
-use Rattle.dma_engine.specs.declared.call.Call.{Call}
-use Rattle.dma_engine.specs.declared.call.Call.TheVariants as calls
+use Rattle.dma_mem.specs.declared.call.Call.{Call}
+use Rattle.dma_mem.specs.declared.call.Call.TheVariants as calls
 use Rattle.dma_engine.specs.declared.call.Reply.{Reply}
 use Rattle.dma_engine.specs.declared.call.Reply.TheVariants.{Turned, Cookie, Refused}
 use Rattle.dma_engine.specs.Advance as steps
@@ -18,10 +17,12 @@ use Rattle.dma_script.specs.Command.{Printed, refusal}
 use Rattle.dma_script.specs.Statements.{run_script_of}
 use Rattle.dma_script.specs.Printing.{fault_line}
 use Rattle.dma_script.specs.declared.fault.Fault.{Fault}
+use Rattle.dma_script.specs.declared.plan.Origin.{Origin}
+use Rattle.dma_script.specs.declared.plan.Origin.TheVariants as origins
 use Rattle.dma_script.specs.declared.plan.TransferLine.{TransferLine}
 use Rattle.dma_script.specs.declared.statements.RunScript.{RunScript}
 use Rattle.dma_script.specs.declared.statements.Statement.{Statement}
-use Rattle.dma_script.specs.declared.statements.Statement.TheVariants.{Write, Read, Copy, Fill, Submit, Issue, Pause, Resume, Terminate, Step, Status, Result as Outcome, Mark, Unmark, Raise, Checkpoint, Totals}
+use Rattle.dma_script.specs.declared.statements.Statement.TheVariants as statements
 use Rattle.dma_commands.specs.Printed.{transfer_fault_name, refused_line, reply_text, call_line}
 use Rattle.dma_commands.specs.Transfers.{transfer_of}
 
@@ -124,25 +125,18 @@ abbrev pub copied : List ℕ → View → Descriptor → Answered
 copied start v t =
     if is_in_use v then one_line (refused_line (codes "ChannelInUse")) v else copied_after start (answer v (calls.Submit 0 t))
 
--- the transfer of a copy line, which neither waits nor signals
-abbrev pub plain_copy : List Segment → List Segment → Descriptor
-plain_copy src dst = record { fill = false; src = src; dst = dst; wait = None; signal = None }
-
--- the transfer of a fill line, which neither waits nor signals
-abbrev pub plain_fill : ℕ → List Segment → Descriptor
-plain_fill src dst = filling src dst None None
-
 -- a copy or a fill line whose printed answer begins with `start`: checks the transfer's own rules first
 abbrev pub transfer_answer : View → List ℕ → Descriptor → Answered
 transfer_answer v start t = unless_invalid (refusal_of t) v (copied start v t)
 
--- a copy line
-abbrev pub copy_answer : View → List Segment → List Segment → Answered
-copy_answer v src dst = transfer_answer v (codes "copy ") (plain_copy src dst)
+-- the beginning of the printed answer of a copy or a fill
+abbrev pub start_of : Origin → List ℕ
+start_of (origins.List src) = codes "copy "
+start_of (origins.Place addr) = codes "fill "
 
--- a fill line
-abbrev pub fill_answer : View → ℕ → List Segment → Answered
-fill_answer v src dst = transfer_answer v (codes "fill ") (plain_fill src dst)
+-- a copy or a fill line
+abbrev pub copy_answer : View → TransferLine → Answered
+copy_answer v line = transfer_answer v (start_of line.src) (transfer_of line)
 
 -- If channel 0 of a sound view isn't in use, and a transfer that meets its rules is submitted to it with success and
 -- issued, then the last answer of `stepped_to_end most_steps` is neither Started nor Moved. So `most_steps` cuts off
@@ -166,23 +160,11 @@ totals_of v = totals_line (length v.history) v.steps (length (running (object_of
 
 -- What a script line prints on an engine with this view, and the view after it.
 abbrev pub line_answer : View → Statement → Answered
-line_answer v (Write addr bytes) = call_answer v (calls.Write addr bytes)
-line_answer v (Read segment) = call_answer v (calls.Read segment.addr segment.len)
-line_answer v (Copy lists) = copy_answer v lists.src lists.dst
-line_answer v (Fill src dst) = fill_answer v src dst
-line_answer v (Submit ch transfer) = submit_answer v ch transfer
-line_answer v (Issue ch) = call_answer v (calls.Issue ch)
-line_answer v (Pause ch) = call_answer v (calls.Pause ch)
-line_answer v (Resume ch) = call_answer v (calls.Resume ch)
-line_answer v (Terminate ch) = call_answer v (calls.Terminate ch)
-line_answer v (Step ch count) = step_answer v ch count
-line_answer v (Status ch cookie) = call_answer v (calls.Status ch cookie)
-line_answer v (Outcome ch cookie) = call_answer v (calls.Result ch cookie)
-line_answer v (Mark kind segment) = call_answer v (calls.Mark kind segment)
-line_answer v Unmark = call_answer v calls.Unmark
-line_answer v (Raise event) = call_answer v (calls.Raise event)
-line_answer v Checkpoint = call_answer v calls.Checkpoint
-line_answer v Totals = one_line (totals_of v) v
+line_answer v (statements.Call call) = call_answer v call
+line_answer v (statements.Submit ch transfer) = submit_answer v ch transfer
+line_answer v (statements.Copy transfer) = copy_answer v transfer
+line_answer v (statements.Step ch count) = step_answer v ch count
+line_answer v statements.Totals = one_line (totals_of v) v
 
 -- what each line prints: the first runs on this view, each other on the view after the line before it
 abbrev pub lines_answered : View → List Statement → List (List (List ℕ))

@@ -4,7 +4,7 @@ ghost use Rattle.dma_script.specs.Command.{Answers, Ends, failures, longest_inpu
 ghost use Rattle.dma_commands.specs.Run.{line_answer, lines_answered, printed};
 ghost use Rattle.dma_commands.specs.inner.RunSteps.{RunsLine};
 
-pub mod calls;
+mod calls;
 mod copies;
 mod steps;
 
@@ -12,9 +12,9 @@ use crate::run::calls::{
     answer_call, answer_issue, answer_pause, answer_read, answer_resume, answer_submit,
     answer_totals, answer_write,
 };
-use crate::run::copies::{answer_copy, answer_fill};
+use crate::run::copies::answer_copy;
 use crate::run::steps::{StepLines, answer_step, answer_steps};
-use dma_engine::{Engine, NewFault};
+use dma_engine::{Call, Engine, NewFault};
 use dma_script::command::{Command, SUCCESS, refuse, serve};
 use dma_script::input::Source;
 use dma_script::interpreter::Interpreter;
@@ -35,18 +35,17 @@ fn run_statement(
         result out.old.items out.new.items }
 {
     match statement {
-        Statement::Write { addr, bytes } => answer_write(engine, addr, bytes, out),
-        Statement::Read(segment) => answer_read(engine, segment, out),
-        Statement::Copy(lists) => answer_copy(engine, lists, out),
-        Statement::Fill { src, dst } => answer_fill(engine, src, dst, out),
+        Statement::Call(Call::Write { addr, bytes }) => answer_write(engine, addr, bytes, out),
+        Statement::Call(Call::Read { addr, len }) => answer_read(engine, addr, len, out),
+        Statement::Call(Call::Issue { ch }) => answer_issue(engine, ch, out),
+        Statement::Call(Call::Pause { ch }) => answer_pause(engine, ch, out),
+        Statement::Call(Call::Resume { ch }) => answer_resume(engine, ch, out),
+        Statement::Call(call) => answer_call(engine, call, out),
         Statement::Submit { ch, transfer } => answer_submit(engine, ch, transfer, out),
-        Statement::Issue { ch } => answer_issue(engine, ch, out),
-        Statement::Pause { ch } => answer_pause(engine, ch, out),
-        Statement::Resume { ch } => answer_resume(engine, ch, out),
+        Statement::Copy(transfer) => answer_copy(engine, transfer, out),
         Statement::Step { ch, count: 1 } => answer_step(engine, ch, out),
         Statement::Step { ch, count } => answer_steps(engine, ch, count, steps, out),
         Statement::Totals => answer_totals(engine, out),
-        line => answer_call(engine, line, out),
     }
 }
 

@@ -6,8 +6,8 @@ use Rattle.std.proofs.lemmas.List.Sums.{sum_by-set, sum-map}
 use Rattle.std.proofs.Math.ListN.{get_or-map}
 use Rattle.dma_mem.specs.Places.{Descriptor}
 use Rattle.dma_chan.specs.Traffic.{stored_after}
-use Rattle.dma_engine.specs.declared.call.Call.{Call}
-use Rattle.dma_engine.specs.declared.call.Call.TheVariants.{Write, Read, Submit, Issue, Pause, Resume, Terminate, Step, Status, Result as ResultOf, Mark, Unmark, Raise, Checkpoint}
+use Rattle.dma_mem.specs.declared.call.Call.{Call}
+use Rattle.dma_mem.specs.declared.call.Call.TheVariants.{Write, Read, Submit, Issue, Pause, Resume, Terminate, Step, Status, Result as ResultOf, Mark, Unmark, Raise, Checkpoint}
 use Rattle.dma_engine.specs.declared.call.Reply.{Reply}
 use Rattle.dma_engine.specs.declared.call.Reply.TheVariants.{Done, Cookie, Count}
 use Rattle.dma_engine.specs.declared.entry.Entry.{Entry}

@@ -5,8 +5,8 @@ use Rattle.std.specs.Prelude.{IsErrAnd, Result, nat_lt, nat_le, unwrap_or, Ok, E
 use Rattle.std.proofs.lemmas.Bool.{lt-ltb, le-ltb, le-leb, lt-leb, leb-false}
 use Rattle.std.proofs.lemmas.List.{length_push}
 use Rattle.dma_mem.specs.Places.{Descriptor, lies_below}
-use Rattle.dma_engine.specs.declared.call.Call.{Call}
-use Rattle.dma_engine.specs.declared.call.Call.TheVariants.{Write, Read, Submit, Issue, Pause, Resume, Terminate, Checkpoint}
+use Rattle.dma_mem.specs.declared.call.Call.{Call}
+use Rattle.dma_mem.specs.declared.call.Call.TheVariants.{Write, Read, Submit, Issue, Pause, Resume, Terminate, Checkpoint}
 use Rattle.dma_engine.specs.declared.call.Reply.{Reply}
 use Rattle.dma_engine.specs.declared.call.Reply.TheVariants.{Done, Bytes, Cookie, Count, Refused}
 use Rattle.dma_engine.specs.declared.entry.Entry.{Entry}

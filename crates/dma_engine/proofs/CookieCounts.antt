@@ -7,7 +7,7 @@ use Rattle.std.proofs.lemmas.List.{length-map, length_push, get_or-set_same, get
 use Rattle.std.proofs.lemmas.List.Elements.{All-cons, All-nil}
 use Rattle.std.proofs.Math.ListN.{get_or-map}
 use Rattle.dma_mem.specs.Places.{Descriptor}
-use Rattle.dma_engine.specs.declared.call.Call.TheVariants.{Submit, Terminate}
+use Rattle.dma_mem.specs.declared.call.Call.TheVariants.{Submit, Terminate}
 use Rattle.dma_engine.specs.declared.call.Reply.{Reply}
 use Rattle.dma_engine.specs.declared.call.Reply.TheVariants.{Cookie, Count, Refused}
 use Rattle.dma_engine.specs.declared.fault.EngineFault.{EngineFault}

@@ -4,7 +4,7 @@ use Rattle.std.specs.Prelude.{slice_set, is_some, nat_lt, ◌==◌}
 use Rattle.std.proofs.lemmas.List.{set-get_or}
 use Rattle.dma_mem.specs.Places.{Descriptor}
 use Rattle.dma_chan.specs.Compiled.{cost}
-use Rattle.dma_engine.specs.declared.call.Call.{Call}
+use Rattle.dma_mem.specs.declared.call.Call.{Call}
 use Rattle.dma_engine.specs.declared.call.Reply.{Reply}
 use Rattle.dma_engine.specs.declared.entry.Entry.{Entry}
 use Rattle.dma_engine.specs.Object.{Object, Allows, after, channel, finished}

@@ -11,7 +11,7 @@ use Rattle.dma_chan.specs.Ready.{OnPages}
 use Rattle.dma_chan.specs.Traffic.{member, stored_after}
 use Rattle.dma_chan.proofs.LayerLaws.{starts_at}
 use Rattle.dma_chan.proofs.ShapeLaws.{shape_is, stored_is}
-use Rattle.dma_engine.specs.declared.call.Call.TheVariants.{Step}
+use Rattle.dma_mem.specs.declared.call.Call.TheVariants.{Step}
 use Rattle.dma_engine.specs.declared.call.Reply.{Reply}
 use Rattle.dma_engine.specs.declared.call.Reply.TheVariants.{Turned, Refused}
 use Rattle.dma_engine.specs.declared.entry.Entry.TheVariants.{Finished}

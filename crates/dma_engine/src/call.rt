@@ -3,43 +3,8 @@
 use crate::fault::EngineFault;
 use crate::outcome::Outcome;
 use crate::turn::{Status, Turn};
+pub use dma_mem::call::Call;
 use dma_mem::lists::Bytes;
-use dma_mem::marks::MarkKind;
-use dma_mem::segment::Segment;
-use dma_mem::transfer::Transfer;
-
-/// A call on an engine. Each variant calls the method of the same name.
-#[derive(Drop)]
-pub enum Call {
-    /// `write`
-    Write { addr: u32, bytes: Bytes },
-    /// `read`
-    Read { addr: u32, len: u32 },
-    /// `submit`
-    Submit { ch: u8, transfer: Transfer },
-    /// `issue`
-    Issue { ch: u8 },
-    /// `pause`
-    Pause { ch: u8 },
-    /// `resume`
-    Resume { ch: u8 },
-    /// `terminate`
-    Terminate { ch: u8 },
-    /// `step`
-    Step { ch: u8 },
-    /// `status`
-    Status { ch: u8, cookie: u32 },
-    /// `result`
-    Result { ch: u8, cookie: u32 },
-    /// `mark`
-    Mark { kind: MarkKind, segment: Segment },
-    /// `unmark`
-    Unmark,
-    /// `raise`
-    Raise { event: u8 },
-    /// `checkpoint`
-    Checkpoint,
-}
 
 /// The reply to a call.
 #[derive(Drop)]

@@ -13,8 +13,8 @@ use Rattle.dma_mem.specs.declared.segment.Segment.{Segment}
 use Rattle.dma_mem.specs.declared.transfer.TransferFault.{TransferFault}
 use Rattle.dma_mem.specs.declared.transfer.TransferFault.TheVariants.{EmptyList, TooManySegments, EmptySegment, SegmentWraps, TooLong, DestinationsMeet, SourceMeetsDestination, BadEvent}
 use Rattle.dma_mem.proofs.TransferRules.{IsTransfer-from_no_refusal, fill-from_no_refusal}
-use Rattle.dma_engine.specs.declared.call.Call.{Call}
-use Rattle.dma_engine.specs.declared.call.Call.TheVariants.{Submit, Step, Mark}
+use Rattle.dma_mem.specs.declared.call.Call.{Call}
+use Rattle.dma_mem.specs.declared.call.Call.TheVariants.{Submit, Step, Mark}
 use Rattle.dma_engine.specs.View.{View}
 use Rattle.dma_engine.specs.Laws.{IsCall}
 use Rattle.dma_ffi.specs.Codes.{mark_kind}

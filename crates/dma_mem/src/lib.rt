@@ -1,4 +1,4 @@
-//! Memory, transfers, marks and event flags.
+//! Memory, transfers, marks and event flags; and the calls on an engine.
 //!
 //! Contracts see a [`memory::Memory`] as its image, which has a byte for each address, and which of its pages are made;
 //! a [`transfer::Transfer`] as its lists and events; [`marks::Marks`] as a list of ranges with their kinds; a
@@ -14,6 +14,7 @@
 //! tests run each with ample memory.
 #![tactic(auto)]
 
+pub mod call;
 pub mod events;
 pub mod limits;
 pub mod lists;

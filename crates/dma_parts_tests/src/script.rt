@@ -3,6 +3,7 @@ ghost use Rattle.std.specs.Prelude.{◌≡◌, []};
 
 use dma_script::interpreter::Interpreter;
 use dma_script::laws::{first_causes_are_reported, first_faults_are_reported};
+use dma_script::plan::{Origin, TransferLine};
 use dma_script::statements::{Statement, read_run_script};
 use std::alloc::AllocError;
 use std::test::Fail;
@@ -21,7 +22,11 @@ impl Interpreter for Counts {
 
     fn interpret(&mut self, line: Statement, _out: &mut Vec<u8>) -> Result<(), AllocError> {
         let (sources, destinations) = match line {
-            Statement::Copy(lists) => (lists.src.len(), lists.dst.len()),
+            Statement::Copy(TransferLine {
+                src: Origin::List(src),
+                dst,
+                ..
+            }) => (src.len(), dst.len()),
             _other => (0, 0),
         };
         if (sources, destinations) == (1, 1) {

@@ -2,13 +2,14 @@
 use Rattle.std.proofs.Common.{◌≡◌, ℕ, inl, inr, Bool, true, false, not, ◌&&◌, nat_le, if◌then◌else◌, List, [], ◌∷◌, ◌++◌, map, refl, ap, subst, ◌∙◌, sym, Option, Some, None, Result, Ok, Err, is_some, unwrap_or, codes}
 use Rattle.std.specs.Option.{ok_or, option_map, option_or}
 use Rattle.std.specs.Str.{bytes_eq}
+use Rattle.dma_mem.specs.declared.call.Call.TheVariants as calls
 use Rattle.dma_mem.specs.declared.marks.MarkKind.{MarkKind}
 use Rattle.dma_mem.specs.declared.marks.MarkKind.TheVariants.{Reading, Writing}
 use Rattle.dma_mem.specs.declared.segment.Segment.{Segment}
 use Rattle.dma_script.specs.Words.{number_of, list_of, bytes_in}
 use Rattle.dma_script.specs.Lines.{◌>>=◌}
 use Rattle.dma_script.specs.Arguments.{both, one as one_made, byte_at, bytes_at, list_at, number_at, segment_at}
-use Rattle.dma_script.specs.Plan.{events_at, transfer_at, transfer_line}
+use Rattle.dma_script.specs.Plan.{events_at, plain, transfer_at, transfer_line}
 use Rattle.dma_mem.specs.Limits.{largest_size, last_channel, most_channels}
 use Rattle.dma_script.specs.Statements.{most_steps, memory_line, later_line}
 use Rattle.dma_script.specs.Race.{job_line, no_words, where_holds}
@@ -287,12 +288,12 @@ pair_agrees ch cookie make = part_agrees (both_read (byte_is ch) (number_is cook
 pub statement_agrees : (keyword : Keyword) (words : List (List ℕ)) → Agrees (later_line keyword words) (statement_from keyword (unread words) >>= whole) (first_reported (where_not (not (is_memory keyword)) causes.First ∷ word_tests (operands_of keyword words) true))
 statement_agrees keywords.Memory words = record { same = refl; caused = refl }
 statement_agrees keywords.Write (a ∷ b ∷ more) =
-    part_agrees (both_read (number_is a) (bytes_is (b ∷ more)) (λ addr bytes. statements.Write addr bytes))
+    part_agrees (both_read (number_is a) (bytes_is (b ∷ more)) (λ addr bytes. statements.Call (calls.Write addr bytes)))
     (forms_alone (form_cause number a) (cause_reported (bytes_at (b ∷ more))) _ _ _ _ (hex_reported (b ∷ more)) (no_hex_cause range_cause (λ word. refl) (b ∷ more)) (no_hex_cause size_cause (λ word. refl) (b ∷ more)) (no_hex_cause channels_cause (λ word. refl) (b ∷ more)))
-statement_agrees keywords.Read (a ∷ []) = part_agrees (one_is (segment_is a) (λ segment. statements.Read segment)) (in_order None None (form_cause segment a ∷ []) [])
+statement_agrees keywords.Read (a ∷ []) = part_agrees (one_is (segment_is a) (λ s. statements.Call (calls.Read s.addr s.len))) (in_order None None (form_cause segment a ∷ []) [])
 statement_agrees keywords.Copy (a ∷ b ∷ []) = elim (choose (bytes_eq b (codes "to"))) [ inl is ↦ rw is (words_agree refl) | inr is ↦ rw is (words_agree refl) ]
 statement_agrees keywords.Copy (a ∷ b ∷ d ∷ []) =
-    let make : List Segment → List Segment → Statement = λ src dst. statements.Copy (record { src = src; dst = dst }) in
+    let make : List Segment → List Segment → Statement = λ src dst. statements.Copy (plain (origins.List src) dst) in
     elim (choose (bytes_eq b (codes "to"))) [
       | inl is ↦ rw is (part_agrees (both_read (list_is a) (list_is d) make) (in_order None None (form_cause list a ∷ form_cause list d ∷ []) []))
       | inr is ↦ rw is (words_agree (words_right (list_is a) make))
@@ -300,7 +301,7 @@ statement_agrees keywords.Copy (a ∷ b ∷ d ∷ []) =
 statement_agrees keywords.Copy (a ∷ b ∷ d ∷ e ∷ rest) = elim (choose (bytes_eq b (codes "to"))) [ inl is ↦ rw is (words_agree refl) | inr is ↦ rw is (words_agree refl) ]
 statement_agrees keywords.Fill (a ∷ b ∷ []) = elim (choose (bytes_eq b (codes "to"))) [ inl is ↦ rw is (words_agree refl) | inr is ↦ rw is (words_agree refl) ]
 statement_agrees keywords.Fill (a ∷ b ∷ d ∷ []) =
-    let make : ℕ → List Segment → Statement = λ src dst. statements.Fill src dst in
+    let make : ℕ → List Segment → Statement = λ src dst. statements.Copy (plain (origins.Place src) dst) in
     elim (choose (bytes_eq b (codes "to"))) [
       | inl is ↦ rw is (part_agrees (both_read (number_is a) (list_is d) make) (in_order None None (form_cause number a ∷ form_cause list d ∷ []) []))
       | inr is ↦ rw is (words_agree (words_right (number_is a) make))
@@ -309,22 +310,22 @@ statement_agrees keywords.Fill (a ∷ b ∷ d ∷ e ∷ rest) = elim (choose (by
 statement_agrees keywords.Submit (ch ∷ words) =
     let all = after_part (byte_is ch) words (λ ch transfer. statements.Submit ch transfer) in
     record { same = all.same; caused = all.caused ∙ channel_reported ch (transfer words) }
-statement_agrees keywords.Issue (a ∷ []) = byte_agrees a (λ ch. statements.Issue ch)
-statement_agrees keywords.Pause (a ∷ []) = byte_agrees a (λ ch. statements.Pause ch)
-statement_agrees keywords.Resume (a ∷ []) = byte_agrees a (λ ch. statements.Resume ch)
-statement_agrees keywords.Terminate (a ∷ []) = byte_agrees a (λ ch. statements.Terminate ch)
+statement_agrees keywords.Issue (a ∷ []) = byte_agrees a (λ ch. statements.Call (calls.Issue ch))
+statement_agrees keywords.Pause (a ∷ []) = byte_agrees a (λ ch. statements.Call (calls.Pause ch))
+statement_agrees keywords.Resume (a ∷ []) = byte_agrees a (λ ch. statements.Call (calls.Resume ch))
+statement_agrees keywords.Terminate (a ∷ []) = byte_agrees a (λ ch. statements.Call (calls.Terminate ch))
 statement_agrees keywords.Step (a ∷ []) = byte_agrees a (λ ch. statements.Step ch 1)
 statement_agrees keywords.Step (a ∷ b ∷ []) =
     part_agrees (both_is (byte_is a) (within_is 1 most_steps causes.Range b refl) (λ ch count. statements.Step ch count))
     (in_order None None (form_cause byte a ∷ form_cause steps b ∷ []) (range_cause byte a ∷ range_cause steps b ∷ []))
-statement_agrees keywords.Status (a ∷ b ∷ []) = pair_agrees a b (λ ch cookie. statements.Status ch cookie)
-statement_agrees keywords.Result (a ∷ b ∷ []) = pair_agrees a b (λ ch cookie. statements.Result ch cookie)
+statement_agrees keywords.Status (a ∷ b ∷ []) = pair_agrees a b (λ ch cookie. statements.Call (calls.Status ch cookie))
+statement_agrees keywords.Result (a ∷ b ∷ []) = pair_agrees a b (λ ch cookie. statements.Call (calls.Result ch cookie))
 statement_agrees keywords.Mark (a ∷ []) = elim (choose (bytes_eq a (codes "read"))) [
   | inl reads ↦ rw reads (words_agree refl)
   | inr reads ↦ elim (choose (bytes_eq a (codes "write"))) [ inl writes ↦ rw (reads, writes) (words_agree refl) | inr writes ↦ rw (reads, writes) (words_agree refl) ]
 ]
 statement_agrees keywords.Mark (a ∷ b ∷ []) =
-    let make : MarkKind → Segment → Statement = λ kind segment. statements.Mark kind segment in
+    let make : MarkKind → Segment → Statement = λ kind segment. statements.Call (calls.Mark kind segment) in
     elim (choose (bytes_eq a (codes "read"))) [
       | inl reads ↦ rw reads (part_agrees (both_is (ok_is Reading) (segment_is b) make) (in_order None None (form_cause segment b ∷ []) []))
       | inr reads ↦ elim (choose (bytes_eq a (codes "write"))) [
@@ -337,7 +338,7 @@ statement_agrees keywords.Mark (a ∷ b ∷ d ∷ rest) = elim (choose (bytes_eq
   | inr reads ↦ elim (choose (bytes_eq a (codes "write"))) [ inl writes ↦ rw (reads, writes) (words_agree refl) | inr writes ↦ rw (reads, writes) (words_agree refl) ]
 ]
 statement_agrees keywords.Unmark [] = record { same = refl; caused = refl }
-statement_agrees keywords.Raise (a ∷ []) = byte_agrees a (λ event. statements.Raise event)
+statement_agrees keywords.Raise (a ∷ []) = byte_agrees a (λ event. statements.Call (calls.Raise event))
 statement_agrees keywords.Checkpoint [] = record { same = refl; caused = refl }
 statement_agrees keywords.Totals [] = record { same = refl; caused = refl }
 statement_agrees _ words = words_agree refl

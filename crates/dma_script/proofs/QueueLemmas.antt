@@ -1,5 +1,6 @@
 -- Statements as they are kept.
 use Rattle.std.proofs.Common.{◌≡◌, ℕ, List, [], ◌∷◌, ◌++◌, refl, ap, subst, append-nil}
+use Rattle.dma_mem.specs.declared.call.Call.TheVariants as calls
 use Rattle.dma_script.specs.declared.queue.Line.{Line}
 use Rattle.dma_script.specs.declared.queue.Line.TheVariants as lines
 use Rattle.dma_script.specs.declared.statements.Statement.{Statement}
@@ -11,16 +12,16 @@ added : (rest : List Line) (bytes : List (List ℕ)) (long : List Statement) (li
 added [] [] [] line more others whole = refl
 added [] [] (s ∷ long) line more others whole = absurd whole
 added [] (b ∷ bytes) long line more others whole = absurd whole
-added (lines.Write addr ∷ rest) (b ∷ bytes) long line more others whole = ap (λ r. statements.Write addr b ∷ r) (added rest bytes long line more others whole)
+added (lines.Write addr ∷ rest) (b ∷ bytes) long line more others whole = ap (λ r. statements.Call (calls.Write addr b) ∷ r) (added rest bytes long line more others whole)
 added (lines.Write addr ∷ rest) [] long line more others whole = absurd whole
-added (lines.Read segment ∷ rest) bytes long line more others whole = ap (λ r. statements.Read segment ∷ r) (added rest bytes long line more others whole)
-added (lines.Issue ch ∷ rest) bytes long line more others whole = ap (λ r. statements.Issue ch ∷ r) (added rest bytes long line more others whole)
-added (lines.Pause ch ∷ rest) bytes long line more others whole = ap (λ r. statements.Pause ch ∷ r) (added rest bytes long line more others whole)
-added (lines.Resume ch ∷ rest) bytes long line more others whole = ap (λ r. statements.Resume ch ∷ r) (added rest bytes long line more others whole)
-added (lines.Terminate ch ∷ rest) bytes long line more others whole = ap (λ r. statements.Terminate ch ∷ r) (added rest bytes long line more others whole)
+added (lines.Read addr len ∷ rest) bytes long line more others whole = ap (λ r. statements.Call (calls.Read addr len) ∷ r) (added rest bytes long line more others whole)
+added (lines.Issue ch ∷ rest) bytes long line more others whole = ap (λ r. statements.Call (calls.Issue ch) ∷ r) (added rest bytes long line more others whole)
+added (lines.Pause ch ∷ rest) bytes long line more others whole = ap (λ r. statements.Call (calls.Pause ch) ∷ r) (added rest bytes long line more others whole)
+added (lines.Resume ch ∷ rest) bytes long line more others whole = ap (λ r. statements.Call (calls.Resume ch) ∷ r) (added rest bytes long line more others whole)
+added (lines.Terminate ch ∷ rest) bytes long line more others whole = ap (λ r. statements.Call (calls.Terminate ch) ∷ r) (added rest bytes long line more others whole)
 added (lines.Step ch count ∷ rest) bytes long line more others whole = ap (λ r. statements.Step ch count ∷ r) (added rest bytes long line more others whole)
-added (lines.Status ch cookie ∷ rest) bytes long line more others whole = ap (λ r. statements.Status ch cookie ∷ r) (added rest bytes long line more others whole)
-added (lines.Result ch cookie ∷ rest) bytes long line more others whole = ap (λ r. statements.Result ch cookie ∷ r) (added rest bytes long line more others whole)
+added (lines.Status ch cookie ∷ rest) bytes long line more others whole = ap (λ r. statements.Call (calls.Status ch cookie) ∷ r) (added rest bytes long line more others whole)
+added (lines.Result ch cookie ∷ rest) bytes long line more others whole = ap (λ r. statements.Call (calls.Result ch cookie) ∷ r) (added rest bytes long line more others whole)
 added (lines.Long ∷ rest) bytes (s ∷ long) line more others whole = ap (λ r. s ∷ r) (added rest bytes long line more others whole)
 added (lines.Long ∷ rest) bytes [] line more others whole = absurd whole
 
@@ -30,7 +31,7 @@ whole_added [] [] (s ∷ long) line more others whole one = absurd whole
 whole_added [] (b ∷ bytes) long line more others whole one = absurd whole
 whole_added (lines.Write addr ∷ rest) (b ∷ bytes) long line more others whole one = whole_added rest bytes long line more others whole one
 whole_added (lines.Write addr ∷ rest) [] long line more others whole one = absurd whole
-whole_added (lines.Read segment ∷ rest) bytes long line more others whole one = whole_added rest bytes long line more others whole one
+whole_added (lines.Read addr len ∷ rest) bytes long line more others whole one = whole_added rest bytes long line more others whole one
 whole_added (lines.Issue ch ∷ rest) bytes long line more others whole one = whole_added rest bytes long line more others whole one
 whole_added (lines.Pause ch ∷ rest) bytes long line more others whole one = whole_added rest bytes long line more others whole one
 whole_added (lines.Resume ch ∷ rest) bytes long line more others whole one = whole_added rest bytes long line more others whole one
@@ -52,9 +53,9 @@ short_whole rest bytes long line whole one =
     subst (λ b. IsWhole (rest ++ line ∷ []) b long) (append-nil bytes) (subst (λ l. IsWhole (rest ++ line ∷ []) (bytes ++ []) l) (append-nil long) (whole_added rest bytes long line [] [] whole one))
 
 -- a `write` line
-pub write_added : (rest : List Line) (bytes : List (List ℕ)) (long : List Statement) (addr : ℕ) (first : List ℕ) → IsWhole rest bytes long → statements_in (rest ++ lines.Write addr ∷ []) (bytes ++ first ∷ []) long ≡ statements_in rest bytes long ++ statements.Write addr first ∷ []
+pub write_added : (rest : List Line) (bytes : List (List ℕ)) (long : List Statement) (addr : ℕ) (first : List ℕ) → IsWhole rest bytes long → statements_in (rest ++ lines.Write addr ∷ []) (bytes ++ first ∷ []) long ≡ statements_in rest bytes long ++ statements.Call (calls.Write addr first) ∷ []
 write_added rest bytes long addr first whole =
-    subst (λ l. statements_in (rest ++ lines.Write addr ∷ []) (bytes ++ first ∷ []) l ≡ statements_in rest bytes long ++ statements.Write addr first ∷ []) (append-nil long) (added rest bytes long (lines.Write addr) (first ∷ []) [] whole)
+    subst (λ l. statements_in (rest ++ lines.Write addr ∷ []) (bytes ++ first ∷ []) l ≡ statements_in rest bytes long ++ statements.Call (calls.Write addr first) ∷ []) (append-nil long) (added rest bytes long (lines.Write addr) (first ∷ []) [] whole)
 
 pub write_whole : (rest : List Line) (bytes : List (List ℕ)) (long : List Statement) (addr : ℕ) (first : List ℕ) → IsWhole rest bytes long → IsWhole (rest ++ lines.Write addr ∷ []) (bytes ++ first ∷ []) long
 write_whole rest bytes long addr first whole =

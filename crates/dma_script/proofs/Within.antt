@@ -5,20 +5,22 @@ use Rattle.std.specs.Option.{ok_or}
 use Rattle.std.specs.Str.Lines.{lines}
 use Rattle.std.proofs.lemmas.Bool.{and_parts, leb-true, ltb-true}
 use Rattle.std.proofs.lemmas.List.Elements.{All-push, All-nil}
+use Rattle.dma_mem.specs.declared.call.Call.TheVariants as calls
 use Rattle.dma_script.specs.Words.{is_plain, words_of}
 use Rattle.dma_script.specs.Lines.{◌>>=◌, Gives, after_line, after_lines, at_line, is_skipped}
-use Rattle.dma_script.specs.Arguments.{both, byte_at, bytes_at, number_at, one, segment_at, within_at}
+use Rattle.dma_script.specs.Arguments.{both, byte_at, bytes_at, list_at, number_at, one, segment_at, to_list_at, within_at}
 use Rattle.dma_script.specs.Plan.{transfer_line}
 use Rattle.dma_mem.specs.Limits.{largest_size, last_channel, most_channels}
-use Rattle.dma_script.specs.Statements.{IsWithin, keyword_of, memory_line, first_line, later_line, next_line, run_step, run_script_of}
+use Rattle.dma_script.specs.Statements.{IsWithin, most_steps, keyword_of, kind_at, memory_line, first_line, later_line, next_line, run_step, run_script_of}
 use Rattle.dma_script.specs.Race.{IsEarly, IsJob, IsRace, RaceRead, behind_memory, is_early, job_line, line_after_go, line_beside_go, most_jobs, no_words, nothing_read, race_keyword_of, race_step, race_script_of, where_holds}
 use Rattle.dma_script.specs.declared.fault.Cause.{Cause}
-use Rattle.dma_script.specs.declared.fault.Cause.TheVariants.{Command}
+use Rattle.dma_script.specs.declared.fault.Cause.TheVariants.{Command, Range}
 use Rattle.dma_script.specs.declared.fault.ReadError.{ReadError}
 use Rattle.dma_script.specs.declared.statements.Keyword.{Keyword}
 use Rattle.dma_script.specs.declared.statements.Keyword.TheVariants as keywords
 use Rattle.dma_script.specs.declared.statements.RunScript.{RunScript}
 use Rattle.dma_script.specs.declared.statements.Statement.{Statement}
+use Rattle.dma_script.specs.declared.statements.Statement.TheVariants as statements
 use Rattle.dma_script.specs.declared.race.RaceKeyword.{RaceKeyword}
 use Rattle.dma_script.specs.declared.race.RaceKeyword.TheVariants.{Line, Job, Go}
 
@@ -94,35 +96,62 @@ fits_within low high n false b cause x y = tt
 number_within : (low high : ℕ) (cause : Cause) (word : List ℕ) → IfOk (within_at low high cause word) (LiesWithin low high)
 number_within low high cause word = bind_holds (LiesWithin low high) (number_at word) _ (λ n. fits_within low high n (nat_le low n) (nat_le n high) cause refl refl)
 
--- what holds of a script with lines before `go`
-abbrev IsBefore : RunScript → Type 0
-IsBefore script = IsWithin script × All IsEarly script.statements
+-- what holds of a script, given what holds of each of its statements
+abbrev pub IsBefore : (Statement → Type 0) → RunScript → Type 0
+IsBefore P script = IsWithin script × All P script.statements
 
-is_before : (size channels : ℕ) → LiesWithin 1 largest_size size → LiesWithin 1 most_channels channels → IsBefore (record { size = size; channels = channels; statements = [] })
-is_before size channels s c = ((s.0, s.1, c.0, c.1), All-nil IsEarly)
+is_before : (P : Statement → Type 0) (size channels : ℕ) → LiesWithin 1 largest_size size → LiesWithin 1 most_channels channels → IsBefore P (record { size = size; channels = channels; statements = [] })
+is_before P size channels s c = ((s.0, s.1, c.0, c.1), All-nil P)
 
-memory_holds : (words : List (List ℕ)) → IfOk (memory_line words) IsBefore
-memory_holds (size ∷ channels ∷ []) = both_hold (LiesWithin 1 largest_size) (LiesWithin 1 most_channels) IsBefore _ _ _ (number_within 1 largest_size _ size) (number_within 1 most_channels _ channels) is_before
-memory_holds _ = tt
+memory_holds : (P : Statement → Type 0) (words : List (List ℕ)) → IfOk (memory_line words) (IsBefore P)
+memory_holds P (size ∷ channels ∷ []) = both_hold (LiesWithin 1 largest_size) (LiesWithin 1 most_channels) (IsBefore P) _ _ _ (number_within 1 largest_size _ size) (number_within 1 most_channels _ channels) (is_before P)
+memory_holds P _ = tt
 
-first_holds : (keyword : Keyword) (words : List (List ℕ)) → IfOk (first_line keyword words) IsBefore
-first_holds keywords.Memory words = memory_holds words
-first_holds _ words = tt
+first_holds : (P : Statement → Type 0) (keyword : Keyword) (words : List (List ℕ)) → IfOk (first_line keyword words) (IsBefore P)
+first_holds P keywords.Memory words = memory_holds P words
+first_holds P _ words = tt
 
-abbrev ReadWithin : Option RunScript → Type 0
-ReadWithin read = IfSome read IsWithin
+abbrev ReadBefore : (Statement → Type 0) → Option RunScript → Type 0
+ReadBefore P read = IfSome read (IsBefore P)
 
-next_within : (read : Option RunScript) (keyword : Keyword) (words : List (List ℕ)) → ReadWithin read → IfOk (next_line read keyword words) ReadWithin
-next_within None keyword words h = then_holds IsBefore ReadWithin (first_line keyword words) (λ script. Ok (Some script)) (first_holds keyword words) (λ script is. is.0)
-next_within (Some script) keyword words h = bind_holds ReadWithin (later_line keyword words) _ (λ statement. h)
+next_holds : (P : Statement → Type 0) (keyword : Keyword) (words : List (List ℕ)) (read : Option RunScript) → IfOk (later_line keyword words) P → ReadBefore P read → IfOk (next_line read keyword words) (ReadBefore P)
+next_holds P keyword words None later h = then_holds (IsBefore P) (ReadBefore P) (first_line keyword words) (λ script. Ok (Some script)) (first_holds P keyword words) (λ script is. is)
+next_holds P keyword words (Some script) later h =
+    then_holds P (ReadBefore P) (later_line keyword words) _ later (λ statement is. (h.0, All-push P script.statements statement h.1 is))
 
-run_within : (read : Option RunScript) (words : List (List ℕ)) → ReadWithin read → IfOk (run_step read words) ReadWithin
-run_within read [] h = tt
-run_within read (word ∷ words) h = bind_holds ReadWithin (ok_or (keyword_of word) _) _ (λ keyword. next_within read keyword words h)
+-- a statement that submits no transfer whose rules were not tested
+abbrev pub IsNoSubmit : Statement → Type 0
+IsNoSubmit (statements.Call (calls.Submit ch transfer)) = ⊥
+IsNoSubmit _ = Unit {0}
 
--- The memory line of a run script is in range.
-pub run_script_within : (input : List ℕ) → IfOk (run_script_of input) IsWithin
-run_script_within input = then_holds ReadWithin IsWithin (after_lines run_step 0 None (lines input)) _ (lines_hold run_step ReadWithin run_within 0 None (lines input) tt) (λ read h. some_holds IsWithin read _ h)
+later_is : (keyword : Keyword) (words : List (List ℕ)) → IfOk (later_line keyword words) IsNoSubmit
+later_is keywords.Write (addr ∷ word ∷ words) = each_made IsNoSubmit (number_at addr) (bytes_at (word ∷ words)) _ (λ a b. tt {0})
+later_is keywords.Read (word ∷ []) = one_made IsNoSubmit (segment_at word) _ (λ a. tt {0})
+later_is keywords.Copy (src ∷ to ∷ dst ∷ []) = each_made IsNoSubmit (list_at src) (to_list_at to dst) _ (λ a b. tt {0})
+later_is keywords.Fill (src ∷ to ∷ dst ∷ []) = each_made IsNoSubmit (number_at src) (to_list_at to dst) _ (λ a b. tt {0})
+later_is keywords.Submit (ch ∷ words) = each_made IsNoSubmit (byte_at ch) (transfer_line words) _ (λ a b. tt {0})
+later_is keywords.Issue (ch ∷ []) = one_made IsNoSubmit (byte_at ch) _ (λ a. tt {0})
+later_is keywords.Pause (ch ∷ []) = one_made IsNoSubmit (byte_at ch) _ (λ a. tt {0})
+later_is keywords.Resume (ch ∷ []) = one_made IsNoSubmit (byte_at ch) _ (λ a. tt {0})
+later_is keywords.Terminate (ch ∷ []) = one_made IsNoSubmit (byte_at ch) _ (λ a. tt {0})
+later_is keywords.Step (ch ∷ []) = one_made IsNoSubmit (byte_at ch) _ (λ a. tt {0})
+later_is keywords.Step (ch ∷ n ∷ []) = each_made IsNoSubmit (byte_at ch) (within_at 1 most_steps Range n) _ (λ a b. tt {0})
+later_is keywords.Status (ch ∷ cookie ∷ []) = each_made IsNoSubmit (byte_at ch) (number_at cookie) _ (λ a b. tt {0})
+later_is keywords.Result (ch ∷ cookie ∷ []) = each_made IsNoSubmit (byte_at ch) (number_at cookie) _ (λ a b. tt {0})
+later_is keywords.Mark (kind ∷ word ∷ []) = each_made IsNoSubmit (kind_at kind) (segment_at word) _ (λ a b. tt {0})
+later_is keywords.Unmark [] = tt
+later_is keywords.Raise (event ∷ []) = one_made IsNoSubmit (byte_at event) _ (λ a. tt {0})
+later_is keywords.Checkpoint [] = tt
+later_is keywords.Totals [] = tt
+later_is _ words = tt
+
+run_holds : (read : Option RunScript) (words : List (List ℕ)) → ReadBefore IsNoSubmit read → IfOk (run_step read words) (ReadBefore IsNoSubmit)
+run_holds read [] h = tt
+run_holds read (word ∷ words) h = bind_holds (ReadBefore IsNoSubmit) (ok_or (keyword_of word) _) _ (λ keyword. next_holds IsNoSubmit keyword words read (later_is keyword words) h)
+
+-- The memory line of a run script is in range, and its statements submit only transfers whose rules are tested.
+pub run_script_within : (input : List ℕ) → IfOk (run_script_of input) (IsBefore IsNoSubmit)
+run_script_within input = then_holds (ReadBefore IsNoSubmit) (IsBefore IsNoSubmit) (after_lines run_step 0 None (lines input)) _ (lines_hold run_step (ReadBefore IsNoSubmit) run_holds 0 None (lines input) tt) (λ read h. some_holds (IsBefore IsNoSubmit) read _ h)
 
 -- ---- race scripts
 
@@ -149,18 +178,10 @@ later_early _ words early = tt
 
 -- what holds of a race script that was read so far
 abbrev IsRead : RaceRead → Type 0
-IsRead read = IfSome read.before IsBefore × All IsJob read.jobs × (length read.jobs ≤ most_jobs)
-
-abbrev ReadBefore : Option RunScript → Type 0
-ReadBefore read = IfSome read IsBefore
-
-next_early : (keyword : Keyword) (words : List (List ℕ)) (read : Option RunScript) → is_early keyword ≡ true → ReadBefore read → IfOk (next_line read keyword words) ReadBefore
-next_early keyword words None early h = then_holds IsBefore ReadBefore (first_line keyword words) (λ script. Ok (Some script)) (first_holds keyword words) (λ script is. is)
-next_early keyword words (Some script) early h =
-    then_holds IsEarly ReadBefore (later_line keyword words) _ (later_early keyword words early) (λ statement is. (h.0, All-push IsEarly script.statements statement h.1 is))
+IsRead read = IfSome read.before (IsBefore IsEarly) × All IsJob read.jobs × (length read.jobs ≤ most_jobs)
 
 early_holds : (read : RaceRead) (keyword : Keyword) (words : List (List ℕ)) (early : Bool) → is_early keyword ≡ early → IsRead read → IfOk (if early then (next_line read.before keyword words >>= (λ before. let next : RaceRead = record read { before = before } in Ok next)) else Err Command) IsRead
-early_holds read keyword words true early h = then_holds ReadBefore IsRead (next_line read.before keyword words) _ (next_early keyword words read.before early h.0) (λ before is. (is, h.1, h.2))
+early_holds read keyword words true early h = then_holds (ReadBefore IsEarly) IsRead (next_line read.before keyword words) _ (next_holds IsEarly keyword words read.before (later_early keyword words early) h.0) (λ before is. (is, h.1, h.2))
 early_holds read keyword words false early h = tt
 
 is_job : (first last turns : ℕ) → (nat_le first last && nat_le last last_channel) ≡ true → IsJob (record { first = first; last = last; turns = turns })
@@ -189,5 +210,5 @@ race_holds read (word ∷ words) h = bind_holds IsRead (ok_or (race_keyword_of w
 pub race_script_within : (input : List ℕ) → IfOk (race_script_of input) IsRace
 race_script_within input =
     then_holds IsRead IsRace (after_lines race_step 0 nothing_read (lines input)) _ (lines_hold race_step IsRead race_holds 0 nothing_read (lines input) (tt, All-nil IsJob, omega arith)) (λ read h.
-    then_holds IsBefore IsRace (ok_or read.before _) _ (some_holds IsBefore read.before _ h.0) (λ before is.
+    then_holds (IsBefore IsEarly) IsRace (ok_or read.before _) _ (some_holds (IsBefore IsEarly) read.before _ h.0) (λ before is.
     bind_holds IsRace (ok_or read.after _) _ (λ after. record { memory = is.0; early = is.1; jobs = h.1; few = h.2 })))

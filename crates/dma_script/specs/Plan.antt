@@ -2,6 +2,7 @@
 use Rattle.std.specs.Prelude.{ℕ, if◌then◌else◌, List, [], ◌∷◌, Option, Some, None, Result, Ok, Err, codes}
 use Rattle.std.specs.Option.{ok_or}
 use Rattle.std.specs.Str.{bytes_eq}
+use Rattle.dma_mem.specs.declared.segment.Segment.{Segment}
 use Rattle.dma_script.specs.Lines.{◌>>=◌, after_script, first_number}
 use Rattle.dma_script.specs.Arguments.{one, both, three, after_fixed, number_at, byte_at, list_at, to_list_at}
 use Rattle.dma_script.specs.declared.fault.Cause.{Cause}
@@ -22,6 +23,10 @@ events_at (wait ∷ e ∷ signal ∷ f ∷ []) =
     after_fixed (codes "wait") wait
     (both (byte_at e) (after_fixed (codes "signal") signal (byte_at f)) (λ e f. (Some e, Some f)))
 events_at _ = Err causes.Words
+
+-- a transfer without events
+abbrev pub plain : Origin → List Segment → TransferLine
+plain src dst = record { src = src; dst = dst; wait = None; signal = None }
 
 -- a source, and then `to LIST [wait E] [signal E]`
 abbrev pub transfer_at : (List ℕ → Result Origin Cause) → List (List ℕ) → Result TransferLine Cause

@@ -4,6 +4,7 @@ use Rattle.std.specs.Prelude.{ℕ, ◌≤◌, ◌&&◌, Bool, true, false, nat_l
 use Rattle.std.specs.List.{All}
 use Rattle.std.specs.Option.{ok_or, option_map}
 use Rattle.std.specs.Str.{bytes_eq}
+use Rattle.dma_mem.specs.declared.call.Call.TheVariants as calls
 use Rattle.dma_mem.specs.Limits.{last_channel}
 use Rattle.dma_script.specs.Lines.{◌>>=◌, after_script}
 use Rattle.dma_script.specs.Arguments.{number_at}
@@ -145,13 +146,13 @@ IsJob job = (job.first ≤ job.last) × (job.last ≤ last_channel)
 
 -- a statement that is allowed before `go`
 abbrev pub IsEarly : Statement → Type 0
-IsEarly (statements.Write addr bytes) = Unit {0}
-IsEarly (statements.Read segment) = Unit {0}
+IsEarly (statements.Call (calls.Write addr bytes)) = Unit {0}
+IsEarly (statements.Call (calls.Read addr len)) = Unit {0}
+IsEarly (statements.Call (calls.Issue ch)) = Unit {0}
+IsEarly (statements.Call (calls.Terminate ch)) = Unit {0}
+IsEarly (statements.Call (calls.Status ch cookie)) = Unit {0}
+IsEarly (statements.Call (calls.Result ch cookie)) = Unit {0}
 IsEarly (statements.Submit ch transfer) = Unit {0}
-IsEarly (statements.Issue ch) = Unit {0}
-IsEarly (statements.Terminate ch) = Unit {0}
-IsEarly (statements.Status ch cookie) = Unit {0}
-IsEarly (statements.Result ch cookie) = Unit {0}
 IsEarly _ = ⊥
 
 -- What holds of a race script that was read: its memory line is in range, each statement before `go` is allowed there,

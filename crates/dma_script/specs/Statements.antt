@@ -2,15 +2,17 @@
 use Rattle.std.specs.Prelude.{ℕ, ◌≤◌, if◌then◌else◌, List, [], ◌∷◌, ◌++◌, Option, Some, None, Result, Ok, Err, codes}
 use Rattle.std.specs.Option.{ok_or}
 use Rattle.std.specs.Str.{bytes_eq}
+use Rattle.dma_mem.specs.declared.call.Call.TheVariants as calls
 use Rattle.dma_mem.specs.Limits.{largest_size, most_channels}
 use Rattle.dma_mem.specs.declared.marks.MarkKind.{MarkKind}
 use Rattle.dma_mem.specs.declared.marks.MarkKind.TheVariants.{Reading, Writing}
 use Rattle.dma_script.specs.Lines.{◌>>=◌, after_script}
 use Rattle.dma_script.specs.Arguments.{one, both, after_fixed, number_at, within_at, byte_at, segment_at, list_at, to_list_at, bytes_at}
-use Rattle.dma_script.specs.Plan.{transfer_line}
+use Rattle.dma_script.specs.Plan.{plain, transfer_line}
 use Rattle.dma_script.specs.declared.fault.Cause.{Cause}
 use Rattle.dma_script.specs.declared.fault.Cause.TheVariants as causes
 use Rattle.dma_script.specs.declared.fault.Fault.{Fault}
+use Rattle.dma_script.specs.declared.plan.Origin.TheVariants as origins
 use Rattle.dma_script.specs.declared.statements.Keyword.{Keyword}
 use Rattle.dma_script.specs.declared.statements.Keyword.TheVariants as keywords
 use Rattle.dma_script.specs.declared.statements.Statement.{Statement}
@@ -68,30 +70,30 @@ kind_at word = if bytes_eq word (codes "read") then Ok Reading else after_fixed 
 abbrev pub later_line : Keyword → List (List ℕ) → Result Statement Cause
 later_line keywords.Memory words = Err causes.First
 later_line keywords.Write (addr ∷ word ∷ words) =
-    both (number_at addr) (bytes_at (word ∷ words)) (λ addr bytes. statements.Write addr bytes)
-later_line keywords.Read (segment ∷ []) = one (segment_at segment) (λ segment. statements.Read segment)
+    both (number_at addr) (bytes_at (word ∷ words)) (λ addr bytes. statements.Call (calls.Write addr bytes))
+later_line keywords.Read (segment ∷ []) = one (segment_at segment) (λ s. statements.Call (calls.Read s.addr s.len))
 later_line keywords.Copy (src ∷ to ∷ dst ∷ []) =
-    both (list_at src) (to_list_at to dst) (λ src dst. statements.Copy (record { src = src; dst = dst }))
+    both (list_at src) (to_list_at to dst) (λ src dst. statements.Copy (plain (origins.List src) dst))
 later_line keywords.Fill (src ∷ to ∷ dst ∷ []) =
-    both (number_at src) (to_list_at to dst) (λ src dst. statements.Fill src dst)
+    both (number_at src) (to_list_at to dst) (λ src dst. statements.Copy (plain (origins.Place src) dst))
 later_line keywords.Submit (ch ∷ words) =
     both (byte_at ch) (transfer_line words) (λ ch transfer. statements.Submit ch transfer)
-later_line keywords.Issue (ch ∷ []) = one (byte_at ch) (λ ch. statements.Issue ch)
-later_line keywords.Pause (ch ∷ []) = one (byte_at ch) (λ ch. statements.Pause ch)
-later_line keywords.Resume (ch ∷ []) = one (byte_at ch) (λ ch. statements.Resume ch)
-later_line keywords.Terminate (ch ∷ []) = one (byte_at ch) (λ ch. statements.Terminate ch)
+later_line keywords.Issue (ch ∷ []) = one (byte_at ch) (λ ch. statements.Call (calls.Issue ch))
+later_line keywords.Pause (ch ∷ []) = one (byte_at ch) (λ ch. statements.Call (calls.Pause ch))
+later_line keywords.Resume (ch ∷ []) = one (byte_at ch) (λ ch. statements.Call (calls.Resume ch))
+later_line keywords.Terminate (ch ∷ []) = one (byte_at ch) (λ ch. statements.Call (calls.Terminate ch))
 later_line keywords.Step (ch ∷ []) = one (byte_at ch) (λ ch. statements.Step ch 1)
 later_line keywords.Step (ch ∷ n ∷ []) =
     both (byte_at ch) (within_at 1 most_steps causes.Range n) (λ ch n. statements.Step ch n)
 later_line keywords.Status (ch ∷ cookie ∷ []) =
-    both (byte_at ch) (number_at cookie) (λ ch cookie. statements.Status ch cookie)
+    both (byte_at ch) (number_at cookie) (λ ch cookie. statements.Call (calls.Status ch cookie))
 later_line keywords.Result (ch ∷ cookie ∷ []) =
-    both (byte_at ch) (number_at cookie) (λ ch cookie. statements.Result ch cookie)
+    both (byte_at ch) (number_at cookie) (λ ch cookie. statements.Call (calls.Result ch cookie))
 later_line keywords.Mark (kind ∷ segment ∷ []) =
-    both (kind_at kind) (segment_at segment) (λ kind segment. statements.Mark kind segment)
-later_line keywords.Unmark [] = Ok statements.Unmark
-later_line keywords.Raise (event ∷ []) = one (byte_at event) (λ event. statements.Raise event)
-later_line keywords.Checkpoint [] = Ok statements.Checkpoint
+    both (kind_at kind) (segment_at segment) (λ kind segment. statements.Call (calls.Mark kind segment))
+later_line keywords.Unmark [] = Ok (statements.Call calls.Unmark)
+later_line keywords.Raise (event ∷ []) = one (byte_at event) (λ event. statements.Call (calls.Raise event))
+later_line keywords.Checkpoint [] = Ok (statements.Call calls.Checkpoint)
 later_line keywords.Totals [] = Ok statements.Totals
 later_line _ words = Err causes.Words
 

@@ -2,7 +2,7 @@
 ghost use Rattle.std.specs.Prelude.{◌≡◌, IfOk, OnOk};
 ghost use Rattle.dma_script.specs.Lines.{Gives};
 ghost use Rattle.dma_script.specs.Words.{words_of};
-ghost use Rattle.dma_script.specs.Plan.{plan_of, transfer_line};
+ghost use Rattle.dma_script.specs.Plan.{plain, plan_of, transfer_line};
 ghost use Rattle.dma_script.specs.inner.Reading.{source_from, transfer_from};
 
 use crate::arguments::Arguments;
@@ -20,7 +20,7 @@ pub enum Origin {
     Place(u32),
 }
 
-/// The line `LIST to LIST [wait E] [signal E]` or `fill ADDR to LIST [wait E] [signal E]`.
+/// `LIST to LIST [wait E] [signal E]` or `fill ADDR to LIST [wait E] [signal E]`: a transfer whose rules weren't tested.
 #[derive(Debug, Drop)]
 pub struct TransferLine {
     /// Where the bytes come from.
@@ -31,6 +31,20 @@ pub struct TransferLine {
     pub wait: Option<u8>,
     /// The event that the transfer signals last.
     pub signal: Option<u8>,
+}
+
+impl TransferLine {
+    /// Returns a transfer without events.
+    pub(crate) fn plain(src: Origin, dst: Segments) -> TransferLine
+        ensures { result ≡ plain src dst }
+    {
+        TransferLine {
+            src,
+            dst,
+            wait: None,
+            signal: None,
+        }
+    }
 }
 
 /// A plan script, which is one line.

@@ -6,8 +6,8 @@ ghost use Rattle.dma_script.specs.inner.Queued.{IsWhole, RunsFirst, statements_i
 
 use crate::interpreter::Interpreter;
 use crate::statements::Statement;
+use dma_mem::call::Call;
 use dma_mem::lists::Bytes;
-use dma_mem::segment::Segment;
 use std::alloc::{AllocError, Global};
 use std::marker::Model;
 use std::vec::IntoIter;
@@ -17,7 +17,7 @@ use std::vec::IntoIter;
 enum Line {
     /// A `write` line, whose bytes come next in `bytes`.
     Write { addr: u32 },
-    Read(Segment),
+    Read { addr: u32, len: u32 },
     Issue { ch: u8 },
     Pause { ch: u8 },
     Resume { ch: u8 },
@@ -59,14 +59,14 @@ fn short_line(statement: Statement) -> Result<Line, Statement>
     ensures err { IfErr result (λ other. other ≡ statement) }
 {
     match statement {
-        Statement::Read(segment) => Ok(Line::Read(segment)),
-        Statement::Issue { ch } => Ok(Line::Issue { ch }),
-        Statement::Pause { ch } => Ok(Line::Pause { ch }),
-        Statement::Resume { ch } => Ok(Line::Resume { ch }),
-        Statement::Terminate { ch } => Ok(Line::Terminate { ch }),
+        Statement::Call(Call::Read { addr, len }) => Ok(Line::Read { addr, len }),
+        Statement::Call(Call::Issue { ch }) => Ok(Line::Issue { ch }),
+        Statement::Call(Call::Pause { ch }) => Ok(Line::Pause { ch }),
+        Statement::Call(Call::Resume { ch }) => Ok(Line::Resume { ch }),
+        Statement::Call(Call::Terminate { ch }) => Ok(Line::Terminate { ch }),
         Statement::Step { ch, count } => Ok(Line::Step { ch, count }),
-        Statement::Status { ch, cookie } => Ok(Line::Status { ch, cookie }),
-        Statement::Result { ch, cookie } => Ok(Line::Result { ch, cookie }),
+        Statement::Call(Call::Status { ch, cookie }) => Ok(Line::Status { ch, cookie }),
+        Statement::Call(Call::Result { ch, cookie }) => Ok(Line::Result { ch, cookie }),
         other => Err(other),
     }
 }
@@ -83,28 +83,32 @@ impl Statements {
         }
     }
 
-    /// Adds a statement at the end.
+    /// Adds a statement at the end. That of a `write` line takes less memory by `push_write`.
     #[inline(always)]
     pub(crate) fn push(&mut self, statement: Statement) -> Result<(), AllocError>
         ensures { OnOk result (self.new ≡ self.old ++ statement ∷ []) }
     {
         self.lines.reserve(1)?;
         match short_line(statement) {
-            Ok(line) => {
-                self.lines.push_reserved(line);
-                Ok(())
-            }
-            Err(Statement::Write { addr, bytes }) => {
-                self.bytes.push(bytes)?;
-                self.lines.push_reserved(Line::Write { addr });
-                Ok(())
-            }
+            Ok(line) => self.lines.push_reserved(line),
             Err(long) => {
                 self.long.push(long)?;
                 self.lines.push_reserved(Line::Long);
-                Ok(())
             }
         }
+        Ok(())
+    }
+
+    /// Adds a `write` line at the end.
+    #[inline(always)]
+    pub(crate) fn push_write(&mut self, addr: u32, bytes: Bytes) -> Result<(), AllocError>
+        ensures { OnOk result
+            (self.new ≡ self.old ++ Statement.Call (Call.Write addr bytes) ∷ []) }
+    {
+        self.lines.reserve(1)?;
+        self.bytes.push(bytes)?;
+        self.lines.push_reserved(Line::Write { addr });
+        Ok(())
     }
 }
 
@@ -152,22 +156,35 @@ impl Left<'_> {
         self.lines = rest;
         match *line {
             Line::Write { addr } => match self.bytes.next() {
-                Some(bytes) => Some(interpreter.interpret(Statement::Write { addr, bytes }, out)),
+                Some(bytes) => Some(interpreter.interpret(
+                    Statement::Call(Call::Write { addr, bytes }),
+                    out,
+                )),
                 None => unreachable!(),
             },
-            Line::Read(segment) => Some(interpreter.interpret(Statement::Read(segment), out)),
-            Line::Issue { ch } => Some(interpreter.interpret(Statement::Issue { ch }, out)),
-            Line::Pause { ch } => Some(interpreter.interpret(Statement::Pause { ch }, out)),
-            Line::Resume { ch } => Some(interpreter.interpret(Statement::Resume { ch }, out)),
-            Line::Terminate { ch } => Some(interpreter.interpret(Statement::Terminate { ch }, out)),
+            Line::Read { addr, len } => {
+                Some(interpreter.interpret(Statement::Call(Call::Read { addr, len }), out))
+            }
+            Line::Issue { ch } => {
+                Some(interpreter.interpret(Statement::Call(Call::Issue { ch }), out))
+            }
+            Line::Pause { ch } => {
+                Some(interpreter.interpret(Statement::Call(Call::Pause { ch }), out))
+            }
+            Line::Resume { ch } => {
+                Some(interpreter.interpret(Statement::Call(Call::Resume { ch }), out))
+            }
+            Line::Terminate { ch } => {
+                Some(interpreter.interpret(Statement::Call(Call::Terminate { ch }), out))
+            }
             Line::Step { ch, count } => {
                 Some(interpreter.interpret(Statement::Step { ch, count }, out))
             }
             Line::Status { ch, cookie } => {
-                Some(interpreter.interpret(Statement::Status { ch, cookie }, out))
+                Some(interpreter.interpret(Statement::Call(Call::Status { ch, cookie }), out))
             }
             Line::Result { ch, cookie } => {
-                Some(interpreter.interpret(Statement::Result { ch, cookie }, out))
+                Some(interpreter.interpret(Statement::Call(Call::Result { ch, cookie }), out))
             }
             Line::Long => match self.long.next() {
                 Some(long) => Some(interpreter.interpret(long, out)),

@@ -9,12 +9,11 @@ use crate::arguments::Arguments;
 pub use crate::arguments::MAX_STEPS;
 use crate::fault::{Cause, LineError, ScriptError, missing};
 use crate::lines::{Script, read_script};
-use crate::plan::{TransferLine, transfer};
+use crate::plan::{Origin, TransferLine, transfer};
 pub use crate::queue::Statements;
 use crate::words::next_word;
+use dma_mem::call::Call;
 use dma_mem::limits::{MAX_CHANNELS, MAX_SIZE};
-use dma_mem::lists::{Bytes, Segments};
-use dma_mem::marks::MarkKind;
 use dma_mem::segment::Segment;
 use dma_text::bytes::is_text;
 use std::alloc::Global;
@@ -61,51 +60,17 @@ pub enum Keyword {
     Totals,
 }
 
-/// The lists of a copy line.
-#[derive(Debug, Drop)]
-pub struct CopyLine {
-    /// Where the bytes come from.
-    pub src: Segments,
-    /// Where they go.
-    pub dst: Segments,
-}
-
-/// A line of a run script after its first. `ch` is the number of a channel, `cookie` the number that the submit line of
-/// a transfer printed.
+/// A line of a run script after its first. `ch` is the number of a channel.
 #[derive(Debug, Drop)]
 pub enum Statement {
-    /// Writes the bytes, of which there is at least one, from the address on.
-    Write { addr: u32, bytes: Bytes },
-    /// Reads the bytes of a segment.
-    Read(Segment),
-    /// Copies the bytes of one list of segments to another.
-    Copy(CopyLine),
-    /// Copies the byte at the address `src` to every place of a list of segments.
-    Fill { src: u32, dst: Segments },
+    /// Makes one call. No line that is read makes the calls `submit` and `step` so.
+    Call(Call),
     /// Submits a transfer on a channel.
     Submit { ch: u8, transfer: TransferLine },
-    /// Issues what was submitted on a channel.
-    Issue { ch: u8 },
-    /// Pauses a channel.
-    Pause { ch: u8 },
-    /// Resumes a paused channel.
-    Resume { ch: u8 },
-    /// Ends all unfinished transfers of a channel.
-    Terminate { ch: u8 },
+    /// Copies or fills at once.
+    Copy(TransferLine),
     /// Takes 1 to [`MAX_STEPS`] steps of a channel, 1 if the line has no number.
     Step { ch: u8, count: u32 },
-    /// Prints the status of a transfer.
-    Status { ch: u8, cookie: u32 },
-    /// Prints the result of a transfer.
-    Result { ch: u8, cookie: u32 },
-    /// Marks a segment, at which loads or stores fail.
-    Mark { kind: MarkKind, segment: Segment },
-    /// Removes all marks.
-    Unmark,
-    /// Sets the flag of an event.
-    Raise { event: u8 },
-    /// Makes the current state the base of the history.
-    Checkpoint,
     /// Prints the counts of the whole run.
     Totals,
 }
@@ -183,7 +148,7 @@ fn read_write(
 {
     let addr = words.number();
     let bytes = words.bytes(alloc, kept)?;
-    Ok(statements.push(Statement::Write { addr, bytes })?)
+    Ok(statements.push_write(addr, bytes)?)
 }
 
 /// Reads `LIST to LIST` and adds the statement of a `copy` line.
@@ -196,9 +161,9 @@ fn read_copy(
     ensures { Gives (λ _. (statements.new, words.new)) result
         (statement_added Keyword.Copy statements.old words.old) }
 {
-    let src = words.list(alloc)?;
+    let src = Origin::List(words.list(alloc)?);
     let dst = words.to_list(alloc)?;
-    Ok(statements.push(Statement::Copy(CopyLine { src, dst }))?)
+    Ok(statements.push(Statement::Copy(TransferLine::plain(src, dst)))?)
 }
 
 /// Reads `ADDR to LIST` and adds the statement of a `fill` line.
@@ -211,9 +176,9 @@ fn read_fill(
     ensures { Gives (λ _. (statements.new, words.new)) result
         (statement_added Keyword.Fill statements.old words.old) }
 {
-    let src = words.number();
+    let src = Origin::Place(words.number());
     let dst = words.to_list(alloc)?;
-    Ok(statements.push(Statement::Fill { src, dst })?)
+    Ok(statements.push(Statement::Copy(TransferLine::plain(src, dst)))?)
 }
 
 /// Reads a channel and a transfer, and adds the statement of a `submit` line.
@@ -247,35 +212,40 @@ fn read_statement(
     match keyword {
         Keyword::Memory => Err(LineError::Fault(Cause::First)),
         Keyword::Write => read_write(alloc, kept, words, statements),
-        Keyword::Read => Ok(statements.push(Statement::Read(words.segment()))?),
+        Keyword::Read => {
+            let Segment { addr, len } = words.segment();
+            Ok(statements.push(Statement::Call(Call::Read { addr, len }))?)
+        }
         Keyword::Copy => read_copy(alloc, words, statements),
         Keyword::Fill => read_fill(alloc, words, statements),
         Keyword::Submit => read_submit(alloc, words, statements),
-        Keyword::Issue => Ok(statements.push(Statement::Issue { ch: words.byte() })?),
-        Keyword::Pause => Ok(statements.push(Statement::Pause { ch: words.byte() })?),
-        Keyword::Resume => Ok(statements.push(Statement::Resume { ch: words.byte() })?),
-        Keyword::Terminate => Ok(statements.push(Statement::Terminate { ch: words.byte() })?),
+        Keyword::Issue => Ok(statements.push(Statement::Call(Call::Issue { ch: words.byte() }))?),
+        Keyword::Pause => Ok(statements.push(Statement::Call(Call::Pause { ch: words.byte() }))?),
+        Keyword::Resume => Ok(statements.push(Statement::Call(Call::Resume { ch: words.byte() }))?),
+        Keyword::Terminate => Ok(statements.push(Statement::Call(Call::Terminate {
+            ch: words.byte(),
+        }))?),
         Keyword::Step => Ok(statements.push(Statement::Step {
             ch: words.byte(),
             count: words.count(),
         })?),
-        Keyword::Status => Ok(statements.push(Statement::Status {
+        Keyword::Status => Ok(statements.push(Statement::Call(Call::Status {
             ch: words.byte(),
             cookie: words.number(),
-        })?),
-        Keyword::Result => Ok(statements.push(Statement::Result {
+        }))?),
+        Keyword::Result => Ok(statements.push(Statement::Call(Call::Result {
             ch: words.byte(),
             cookie: words.number(),
-        })?),
-        Keyword::Mark => Ok(statements.push(Statement::Mark {
+        }))?),
+        Keyword::Mark => Ok(statements.push(Statement::Call(Call::Mark {
             kind: words.mark_kind(),
             segment: words.segment(),
-        })?),
-        Keyword::Unmark => Ok(statements.push(Statement::Unmark)?),
-        Keyword::Raise => Ok(statements.push(Statement::Raise {
+        }))?),
+        Keyword::Unmark => Ok(statements.push(Statement::Call(Call::Unmark))?),
+        Keyword::Raise => Ok(statements.push(Statement::Call(Call::Raise {
             event: words.byte(),
-        })?),
-        Keyword::Checkpoint => Ok(statements.push(Statement::Checkpoint)?),
+        }))?),
+        Keyword::Checkpoint => Ok(statements.push(Statement::Call(Call::Checkpoint))?),
         Keyword::Totals => Ok(statements.push(Statement::Totals)?),
     }
 }

@@ -8,8 +8,8 @@ use Rattle.std.proofs.lemmas.List.Elements.{All-head, All-tail}
 use Rattle.std.proofs.Math.ListN.{get_or-map}
 use Rattle.logbook.specs.Pages.{Book}
 use Rattle.dma_mem.specs.Places.{Descriptor}
-use Rattle.dma_engine.specs.declared.call.Call.{Call}
-use Rattle.dma_engine.specs.declared.call.Call.TheVariants.{Checkpoint, Step, Submit, Terminate}
+use Rattle.dma_mem.specs.declared.call.Call.{Call}
+use Rattle.dma_mem.specs.declared.call.Call.TheVariants.{Checkpoint, Step, Submit, Terminate}
 use Rattle.dma_engine.specs.declared.call.Reply.{Reply}
 use Rattle.dma_engine.specs.declared.call.Reply.TheVariants.{Cookie, Count, Done, Turned}
 use Rattle.dma_engine.specs.declared.entry.Entry.{Entry}

@@ -7,7 +7,7 @@ use Rattle.dma_engine.specs.Laws.{steps_in, finishes_in}
 use Rattle.dma_engine.specs.Object.{finished_all}
 use Rattle.dma_engine.specs.Ticks.{Board, Tick, ticks_of}
 use Rattle.dma_engine.specs.View.{EngineState, IsSound, View, channels, memory_of, object_of, size}
-use Rattle.dma_engine.specs.declared.call.Call.{Call}
+use Rattle.dma_mem.specs.declared.call.Call.{Call}
 use Rattle.dma_engine.specs.declared.call.Reply.{Reply}
 use Rattle.dma_engine.specs.declared.call.Reply.TheVariants.{Done}
 use Rattle.dma_engine.specs.declared.fault.EngineFault.{EngineFault}

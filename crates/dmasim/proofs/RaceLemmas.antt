@@ -10,8 +10,8 @@ use Rattle.dma_mem.specs.declared.transfer.TransferFault.{TransferFault}
 use Rattle.dma_mem.specs.Places.{Descriptor}
 use Rattle.dma_script.specs.declared.plan.TransferLine.{TransferLine}
 use Rattle.dma_mem.specs.Refusals.{refusal_of}
-use Rattle.dma_engine.specs.declared.call.Call.{Call}
-use Rattle.dma_engine.specs.declared.call.Call.TheVariants as calls
+use Rattle.dma_mem.specs.declared.call.Call.{Call}
+use Rattle.dma_mem.specs.declared.call.Call.TheVariants as calls
 use Rattle.dma_engine.specs.declared.call.Reply.{Reply}
 use Rattle.dma_engine.specs.declared.call.Reply.TheVariants.{Refused, State}
 use Rattle.dma_engine.specs.declared.fault.EngineFault.TheVariants.{NoMemory}
@@ -29,7 +29,7 @@ use Rattle.dma_script.specs.Race.{IsEarly, race_script_of}
 use Rattle.dma_script.specs.declared.fault.Fault.{Fault}
 use Rattle.dma_script.specs.declared.race.RaceScript.{RaceScript}
 use Rattle.dma_script.specs.declared.statements.Statement.{Statement}
-use Rattle.dma_script.specs.declared.statements.Statement.TheVariants.{Copy, Fill, Submit, Step, Status}
+use Rattle.dma_script.specs.declared.statements.Statement.TheVariants as statements
 use Rattle.dma_commands.specs.Printed.{call_line, refused_line, transfer_fault_name}
 use Rattle.dma_commands.specs.Run.{Answered, call_answer, line_answer, lines_answered, one_line, unless_invalid}
 use Rattle.dma_commands.specs.Transfers.{transfer_of}
@@ -67,17 +67,17 @@ module _ {L : Type 0} (bytes many : ℕ) (lends : L → DeskState → DeskState 
       (on_ok_weaker result (λ other. on_desk desk back lent a.sound (is ∙ ap (λ (x : Reply × View). one_line (call_line call x.0) x.1) (sym (served-one desk.engine.view call reply back.engine.view other a.answer)))) served) prints kept
 
   -- A submit line whose transfer breaks a rule.
-  pub unfit_early : {A E : Type 0} (ch : ℕ) (words : TransferLine) (e : TransferFault) (found left : L) (result : Result A E) (old new : List ℕ) → left ≡ found → refusal_of (transfer_of words) ≡ Some e → OnOk result (new ≡ old ++ text_of (refused_line (transfer_fault_name e) ∷ [])) → OnErr result (new ≡ old) → RunsEarly (ActsEarly bytes many lends) found (Submit ch words) left result old new
+  pub unfit_early : {A E : Type 0} (ch : ℕ) (words : TransferLine) (e : TransferFault) (found left : L) (result : Result A E) (old new : List ℕ) → left ≡ found → refusal_of (transfer_of words) ≡ Some e → OnOk result (new ≡ old ++ text_of (refused_line (transfer_fault_name e) ∷ [])) → OnErr result (new ≡ old) → RunsEarly (ActsEarly bytes many lends) found (statements.Submit ch words) left result old new
   unfit_early ch words e found left (Ok a) old new same is prints kept = record { ok = record { line = refused_line (transfer_fault_name e); acted = breaks_a_rule ch words e refl is refl same; text = prints }; err = tt }
   unfit_early ch words e found left (Err x) old new same is prints kept = record { ok = tt; err = kept }
 
   -- A status line.
-  pub status_early : {A E : Type 0} (ch cookie : ℕ) (found left : L) (result : Result A E) (old new : List ℕ) → left ≡ found → OnOk result (PrintsStatus ch cookie old new) → OnErr result (new ≡ old) → RunsEarly (ActsEarly bytes many lends) found (Status ch cookie) left result old new
+  pub status_early : {A E : Type 0} (ch cookie : ℕ) (found left : L) (result : Result A E) (old new : List ℕ) → left ≡ found → OnOk result (PrintsStatus ch cookie old new) → OnErr result (new ≡ old) → RunsEarly (ActsEarly bytes many lends) found (statements.Call (calls.Status ch cookie)) left result old new
   status_early ch cookie found left (Ok a) old new same p kept = record { ok = record { line = p.line; acted = by_reader ch cookie refl p.allowed same; text = p.text }; err = tt }
   status_early ch cookie found left (Err x) old new same p kept = record { ok = tt; err = kept }
 
 -- A submit line whose transfer breaks no rule is answered as its call.
-pub fit_call : (ch : ℕ) (words : TransferLine) (t : Descriptor) (v : View) → t ≡ transfer_of words → refusal_of t ≡ None → line_answer v (Submit ch words) ≡ call_answer v (calls.Submit ch t)
+pub fit_call : (ch : ℕ) (words : TransferLine) (t : Descriptor) (v : View) → t ≡ transfer_of words → refusal_of t ≡ None → line_answer v (statements.Submit ch words) ≡ call_answer v (calls.Submit ch t)
 fit_call ch words t v is fits =
     subst (λ u. unless_invalid (refusal_of u) v (call_answer v (calls.Submit ch u)) ≡ call_answer v (calls.Submit ch t)) is (rw fits refl)
 
@@ -90,7 +90,7 @@ module _ (bytes many : ℕ) (made : new_fault bytes many ≡ None) where
 
   -- a line that some sound view prints
   may_print : (s : Statement) (v : View) (line : List ℕ) → IsSoundOf bytes many v → (line_answer v s).0 ≡ line ∷ [] → EarlyPrints bytes many s line
-  may_print (Status ch cookie) v line sound is =
+  may_print (statements.Call (calls.Status ch cookie)) v line sound is =
       let status = status_in v ch cookie in
       let one : call_line (calls.Status ch cookie) (State status) ∷ [] ≡ line ∷ [] = is in
       inr (status, let l : line ≡ call_line (calls.Status ch cookie) (State status) = cc in l)
@@ -112,14 +112,13 @@ module _ (bytes many : ℕ) (made : new_fault bytes many ≡ None) where
 
   -- Each line that is allowed before `go` may print something.
   early_some : (statement : Statement) → IsEarly statement → (line : List ℕ) × EarlyPrints bytes many statement line
-  early_some (Copy lists) early = absurd early
-  early_some (Fill src dst) early = absurd early
-  early_some (Step ch count) early = absurd early
-  early_some (Submit ch transfer) early =
+  early_some (statements.Copy line) early = absurd early
+  early_some (statements.Step ch count) early = absurd early
+  early_some (statements.Submit ch transfer) early =
       let v = new_view bytes many in
       let one = submit_some (refusal_of (transfer_of transfer)) v (call_answer v (calls.Submit ch (transfer_of transfer))) _ refl in
       (one.0, (v, new_view_is, one.1))
-  early_some (Status ch cookie) early = (codes "status none", inl refl)
+  early_some (statements.Call (calls.Status ch cookie)) early = (codes "status none", inl refl)
   early_some s early = (get_or (line_answer (new_view bytes many) s).0 0 [], (new_view bytes many, new_view_is, refl))
 
   -- ---- the lines before `go`

@@ -1,7 +1,7 @@
 -- What the program may print for a race script (profile). The workers take their turns in any order, so the input
 -- doesn't determine the output. It determines how many lines there are, and what each of them may be.
 use Rattle.std.specs.Prelude.{◌≡◌, ℕ, ◌≤◌, ◌⊎◌, List, [], ◌∷◌, ◌++◌, map, Result, Ok, Err, codes, decimal}
-use Rattle.dma_engine.specs.declared.call.Call.TheVariants as calls
+use Rattle.dma_mem.specs.declared.call.Call.TheVariants as calls
 use Rattle.dma_engine.specs.declared.call.Reply.TheVariants.{State}
 use Rattle.dma_engine.specs.declared.turn.Status.{Status as EngineStatus}
 use Rattle.dma_engine.specs.Object.{finished_all}
@@ -12,7 +12,7 @@ use Rattle.dma_script.specs.Race.{race_script_of}
 use Rattle.dma_script.specs.declared.fault.Fault.{Fault}
 use Rattle.dma_script.specs.declared.race.RaceScript.{RaceScript}
 use Rattle.dma_script.specs.declared.statements.Statement.{Statement}
-use Rattle.dma_script.specs.declared.statements.Statement.TheVariants.{Status}
+use Rattle.dma_script.specs.declared.statements.Statement.TheVariants.{Call}
 use Rattle.dma_commands.specs.Printed.{call_line, refused_line}
 use Rattle.dma_commands.specs.Run.{line_answer, lines_answered}
 use Rattle.dma_work.specs.Desk.{IsSoundOf}
@@ -26,7 +26,7 @@ StatusPrints ch cookie line =
 -- What a line before `go` may print, always one line: what `run` prints for it on an engine with some sound view, of
 -- this size of memory and this number of channels; for a `status` line, see `StatusPrints`.
 abbrev pub EarlyPrints : ℕ → ℕ → Statement → List ℕ → Type 0
-EarlyPrints bytes many (Status ch cookie) line = StatusPrints ch cookie line
+EarlyPrints bytes many (Call (calls.Status ch cookie)) line = StatusPrints ch cookie line
 EarlyPrints bytes many statement line = (v : View) × IsSoundOf bytes many v × ((line_answer v statement).0 ≡ line ∷ [])
 
 -- Each of these lines before `go` may print the corresponding text, and there are as many texts as lines.

@@ -1,45 +1,21 @@
 //! The lines of a script that make one call, and `totals`.
-ghost use Rattle.std.specs.Prelude.{◌≡◌, ◌≢◌, ◌++◌, ◌∷◌, [], OnOk, OnErr, IfOk, IfErr, count_by, is_some};
+ghost use Rattle.std.specs.Prelude.{◌≡◌, ◌++◌, ◌∷◌, [], OnOk, OnErr, IfOk, count_by, is_some};
 ghost use Rattle.std.specs.List.{range_with_len};
 ghost use Rattle.dma_engine.specs.Answer.{CallAnswers, answer};
 ghost use Rattle.dma_engine.specs.View.{channels, running_on};
 ghost use Rattle.dma_script.specs.Command.{text_of};
 ghost use Rattle.dma_commands.specs.inner.RunSteps.{RunsLine, read_at};
-ghost use Rattle.dma_commands.specs.Laws.{call_of};
 ghost use Rattle.dma_commands.specs.Run.{call_answer, line_answer, submit_answer, totals_of};
 
 use crate::printing::Shown;
 use crate::transfers::transfer_of;
 use dma_engine::{Call, Engine, EngineFault, Entry, Reply};
 use dma_mem::lists::Bytes;
-use dma_mem::segment::Segment;
 use dma_script::plan::TransferLine;
 use dma_script::printing::print_line;
 use dma_script::statements::Statement;
 use dma_text::text::{Address, SpacedBytes, print};
 use std::alloc::AllocError;
-
-/// Returns the call of a line that makes exactly one call, or any other line unchanged.
-pub fn call_of(statement: Statement) -> Result<Call, Statement>
-    ensures ok { IfOk result (λ call. call_of statement ≡ call ∷ []) }
-    ensures err { IfErr result (λ line. (line ≡ statement) × (call_of statement ≡ [])) }
-{
-    match statement {
-        Statement::Write { addr, bytes } => Ok(Call::Write { addr, bytes }),
-        Statement::Read(Segment { addr, len }) => Ok(Call::Read { addr, len }),
-        Statement::Issue { ch } => Ok(Call::Issue { ch }),
-        Statement::Pause { ch } => Ok(Call::Pause { ch }),
-        Statement::Resume { ch } => Ok(Call::Resume { ch }),
-        Statement::Terminate { ch } => Ok(Call::Terminate { ch }),
-        Statement::Status { ch, cookie } => Ok(Call::Status { ch, cookie }),
-        Statement::Result { ch, cookie } => Ok(Call::Result { ch, cookie }),
-        Statement::Mark { kind, segment } => Ok(Call::Mark { kind, segment }),
-        Statement::Unmark => Ok(Call::Unmark),
-        Statement::Raise { event } => Ok(Call::Raise { event }),
-        Statement::Checkpoint => Ok(Call::Checkpoint),
-        line => Err(line),
-    }
-}
 
 /// Makes one call and returns its reply. Fails with `AllocError` if the call is out of memory.
 pub(crate) fn reply_to(engine: &mut Engine, call: &Call) -> Result<Reply, AllocError>
@@ -52,21 +28,17 @@ pub(crate) fn reply_to(engine: &mut Engine, call: &Call) -> Result<Reply, AllocE
     }
 }
 
-/// Executes a line that makes one call. Not inlined into `run_statement`, because these lines are rare and the locals
+/// Makes one call and prints its reply. Not inlined into `run_statement`, because these lines are rare and the locals
 /// of all arms of a `match` are cleared whichever arm is taken.
 #[inline(never)]
 pub(crate) fn answer_call(
     engine: &mut Engine,
-    statement: Statement,
+    call: Call,
     out: &mut Vec<u8>,
 ) -> Result<(), AllocError>
-    requires { call_of statement ≢ [] }
-    ensures { RunsLine (line_answer engine.old.view statement) engine.new.view
+    ensures { RunsLine (call_answer engine.old.view call) engine.new.view
         result out.old.items out.new.items }
 {
-    let Ok(call) = call_of(statement) else {
-        unreachable!();
-    };
     let reply = engine.carry_out(&call);
     print_line(out, &Shown((&call, &reply)))
 }
@@ -143,14 +115,13 @@ fn read_at(history: &[Entry], place: usize) -> &[u8]
 #[inline(never)]
 pub(crate) fn answer_read(
     engine: &mut Engine,
-    segment: Segment,
+    addr: u32,
+    len: u32,
     out: &mut Vec<u8>,
 ) -> Result<(), AllocError>
-    ensures { RunsLine
-        (call_answer engine.old.view (Call.Read segment.addr segment.len)) engine.new.view
+    ensures { RunsLine (call_answer engine.old.view (Call.Read addr len)) engine.new.view
         result out.old.items out.new.items }
 {
-    let Segment { addr, len } = segment;
     let place = engine.history().len();
     match engine.read_back(addr, len) {
         Ok(()) => {

@@ -2,7 +2,7 @@
 //! answer is neither Started nor Moved.
 ghost use Rattle.std.specs.Prelude.{◌≡◌, IfOk};
 ghost use Rattle.dma_commands.specs.inner.RunSteps.{RunsLine};
-ghost use Rattle.dma_commands.specs.Run.{CopiesEnd, copy_answer, fill_answer, is_in_use, most_steps, stepped_to_end, transfer_answer};
+ghost use Rattle.dma_commands.specs.Run.{CopiesEnd, copy_answer, is_in_use, most_steps, stepped_to_end, transfer_answer};
 ghost use Rattle.dma_commands.specs.Transfers.{transfer_of};
 
 use crate::printing::Shown;
@@ -10,10 +10,8 @@ use crate::run::calls::reply_to;
 use crate::run::steps::step_reply;
 use crate::transfers::transfer_of;
 use dma_engine::{Call, Engine, Reply};
-use dma_mem::lists::Segments;
 use dma_script::plan::{Origin, TransferLine};
 use dma_script::printing::print_line;
-use dma_script::statements::CopyLine;
 use std::alloc::AllocError;
 
 /// A limit for the steps of a copy or a fill. It is at least the number of steps of any transfer: its start and fewer
@@ -69,44 +67,21 @@ fn answer_transfer(
     }
 }
 
-/// Executes `copy LIST to LIST`.
+/// Executes `copy LIST to LIST` or `fill ADDR to LIST`.
 #[inline(never)]
 pub fn answer_copy(
     engine: &mut Engine,
-    lists: CopyLine,
+    words: TransferLine,
     out: &mut Vec<u8>,
 ) -> Result<(), AllocError>
-    ensures { RunsLine (copy_answer engine.old.view lists.src lists.dst) engine.new.view
+    ensures { RunsLine (copy_answer engine.old.view words) engine.new.view
         result out.old.items out.new.items }
 {
-    let CopyLine { src, dst } = lists;
-    let words = TransferLine {
-        src: Origin::List(src),
-        dst,
-        wait: None,
-        signal: None,
+    let start = match words.src {
+        Origin::List(_) => "copy ",
+        Origin::Place(_) => "fill ",
     };
-    answer_transfer(engine, "copy ", words, out)
-}
-
-/// Executes `fill ADDR to LIST`.
-#[inline(never)]
-pub fn answer_fill(
-    engine: &mut Engine,
-    src: u32,
-    dst: Segments,
-    out: &mut Vec<u8>,
-) -> Result<(), AllocError>
-    ensures { RunsLine (fill_answer engine.old.view src dst) engine.new.view
-        result out.old.items out.new.items }
-{
-    let words = TransferLine {
-        src: Origin::Place(src),
-        dst,
-        wait: None,
-        signal: None,
-    };
-    answer_transfer(engine, "fill ", words, out)
+    answer_transfer(engine, start, words, out)
 }
 
 /// Law: the steps of a copy or a fill end with an answer that is neither Started nor Moved, and not because of the

@@ -3,7 +3,7 @@
 ghost use Rattle.std.specs.Prelude.{◌≡◌, ◌≢◌, ◌≤◌, ◌<◌, ◌+◌, ◌++◌, ◌∷◌, [], List, ℕ, codes, decimal, OnOk, OnErr, IfOk, IfSome, IsNone, IsTrue, Err, is_some, map, replicate, if◌then◌else◌};
 ghost use Rattle.dma_engine.specs.Answer.{answers, reply_of};
 ghost use Rattle.dma_engine.specs.Room.{IsIdle};
-ghost use Rattle.dma_engine.specs.declared.call.Call.TheVariants as calls;
+ghost use Rattle.dma_mem.specs.declared.call.Call.TheVariants as calls;
 ghost use Rattle.dma_script.specs.Command.{text_of};
 ghost use Rattle.dma_commands.specs.Printed.{reply_text};
 ghost use Rattle.dma_engine.specs.Advance.{IsAdvance, steps_before};

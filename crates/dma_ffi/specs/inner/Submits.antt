@@ -2,7 +2,7 @@
 use Rattle.std.specs.Prelude.{◌≡◌, ℕ, ℤ, Result, Ok, Err}
 use Rattle.dma_mem.specs.Places.{Descriptor}
 use Rattle.dma_mem.specs.declared.transfer.TransferFault.{TransferFault}
-use Rattle.dma_engine.specs.declared.call.Call.TheVariants.{Submit}
+use Rattle.dma_mem.specs.declared.call.Call.TheVariants.{Submit}
 use Rattle.dma_engine.specs.declared.call.Reply.{Reply}
 use Rattle.dma_engine.specs.Answer.{CallAnswers}
 use Rattle.dma_engine.specs.View.{View}

@@ -1,6 +1,7 @@
 -- How the statements of a script are kept: the bytes of `write` lines, and the statements that have lists, are in lists
 -- of their own.
 use Rattle.std.specs.Prelude.{◌≡◌, ℕ, List, [], ◌∷◌, OnErr, OnOk, Result}
+use Rattle.dma_mem.specs.declared.call.Call.TheVariants as calls
 use Rattle.dma_script.specs.Interpreted.{PrintsLine}
 use Rattle.dma_script.specs.declared.queue.Line.{Line}
 use Rattle.dma_script.specs.declared.queue.Line.TheVariants as lines
@@ -10,16 +11,16 @@ use Rattle.dma_script.specs.declared.statements.Statement.TheVariants as stateme
 -- the statements of lines
 abbrev pub statements_in : List Line → List (List ℕ) → List Statement → List Statement
 statements_in [] bytes long = []
-statements_in (lines.Write addr ∷ rest) (first ∷ bytes) long = statements.Write addr first ∷ statements_in rest bytes long
+statements_in (lines.Write addr ∷ rest) (first ∷ bytes) long = statements.Call (calls.Write addr first) ∷ statements_in rest bytes long
 statements_in (lines.Write addr ∷ rest) [] long = []
-statements_in (lines.Read segment ∷ rest) bytes long = statements.Read segment ∷ statements_in rest bytes long
-statements_in (lines.Issue ch ∷ rest) bytes long = statements.Issue ch ∷ statements_in rest bytes long
-statements_in (lines.Pause ch ∷ rest) bytes long = statements.Pause ch ∷ statements_in rest bytes long
-statements_in (lines.Resume ch ∷ rest) bytes long = statements.Resume ch ∷ statements_in rest bytes long
-statements_in (lines.Terminate ch ∷ rest) bytes long = statements.Terminate ch ∷ statements_in rest bytes long
+statements_in (lines.Read addr len ∷ rest) bytes long = statements.Call (calls.Read addr len) ∷ statements_in rest bytes long
+statements_in (lines.Issue ch ∷ rest) bytes long = statements.Call (calls.Issue ch) ∷ statements_in rest bytes long
+statements_in (lines.Pause ch ∷ rest) bytes long = statements.Call (calls.Pause ch) ∷ statements_in rest bytes long
+statements_in (lines.Resume ch ∷ rest) bytes long = statements.Call (calls.Resume ch) ∷ statements_in rest bytes long
+statements_in (lines.Terminate ch ∷ rest) bytes long = statements.Call (calls.Terminate ch) ∷ statements_in rest bytes long
 statements_in (lines.Step ch count ∷ rest) bytes long = statements.Step ch count ∷ statements_in rest bytes long
-statements_in (lines.Status ch cookie ∷ rest) bytes long = statements.Status ch cookie ∷ statements_in rest bytes long
-statements_in (lines.Result ch cookie ∷ rest) bytes long = statements.Result ch cookie ∷ statements_in rest bytes long
+statements_in (lines.Status ch cookie ∷ rest) bytes long = statements.Call (calls.Status ch cookie) ∷ statements_in rest bytes long
+statements_in (lines.Result ch cookie ∷ rest) bytes long = statements.Call (calls.Result ch cookie) ∷ statements_in rest bytes long
 statements_in (lines.Long ∷ rest) bytes (first ∷ long) = first ∷ statements_in rest bytes long
 statements_in (lines.Long ∷ rest) bytes [] = []
 

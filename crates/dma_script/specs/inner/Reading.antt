@@ -4,12 +4,14 @@
 use Rattle.std.specs.Prelude.{◌≡◌, ◌<◌, ◌≤◌, slice_index, ℕ, ◌&&◌, ◌||◌, Bool, true, false, not, if◌then◌else◌, List, [], ◌∷◌, ◌++◌, Option, Some, None, Result, Ok, Err, is_some, unwrap_or, codes}
 use Rattle.std.specs.Option.{option_or}
 use Rattle.std.specs.Str.{bytes_eq}
+use Rattle.dma_mem.specs.declared.call.Call.TheVariants as calls
 use Rattle.dma_mem.specs.declared.marks.MarkKind.{MarkKind}
 use Rattle.dma_mem.specs.declared.marks.MarkKind.TheVariants.{Reading, Writing}
 use Rattle.dma_mem.specs.declared.segment.Segment.{Segment}
 use Rattle.dma_script.specs.Words.{is_blank, number_of, segment_of, list_of}
 use Rattle.dma_script.specs.Arguments.{bytes_at, lies_in}
 use Rattle.dma_script.specs.Lines.{◌>>=◌}
+use Rattle.dma_script.specs.Plan.{plain}
 use Rattle.dma_script.specs.Statements.{later_line, most_steps}
 use Rattle.dma_script.specs.Causes.{where_not, number_or_zero, cause_reported}
 use Rattle.dma_script.specs.declared.fault.Cause.{Cause}
@@ -190,24 +192,24 @@ one_from first make line = let a = first line in Ok (make a.0, a.1)
 -- The statement that a keyword and the words after it spell, and the line after them: `First` for the memory line.
 abbrev pub statement_from : Keyword → LineRead → Result (Statement × LineRead) Cause
 statement_from keywords.Memory line = Err causes.First
-statement_from keywords.Write line = both_from number_from bytes_from (λ addr bytes. statements.Write addr bytes) line
-statement_from keywords.Read line = one_from segment_from (λ segment. statements.Read segment) line
+statement_from keywords.Write line = both_from number_from bytes_from (λ addr bytes. statements.Call (calls.Write addr bytes)) line
+statement_from keywords.Read line = one_from segment_from (λ s. statements.Call (calls.Read s.addr s.len)) line
 statement_from keywords.Copy line =
-    both_from list_from to_list_from (λ src dst. statements.Copy (record { src = src; dst = dst })) line
-statement_from keywords.Fill line = both_from number_from to_list_from (λ src dst. statements.Fill src dst) line
+    both_from list_from to_list_from (λ src dst. statements.Copy (plain (origins.List src) dst)) line
+statement_from keywords.Fill line = both_from number_from to_list_from (λ src dst. statements.Copy (plain (origins.Place src) dst)) line
 statement_from keywords.Submit line =
     both_from byte_from transfer_from (λ ch transfer. statements.Submit ch transfer) line
-statement_from keywords.Issue line = one_from byte_from (λ ch. statements.Issue ch) line
-statement_from keywords.Pause line = one_from byte_from (λ ch. statements.Pause ch) line
-statement_from keywords.Resume line = one_from byte_from (λ ch. statements.Resume ch) line
-statement_from keywords.Terminate line = one_from byte_from (λ ch. statements.Terminate ch) line
+statement_from keywords.Issue line = one_from byte_from (λ ch. statements.Call (calls.Issue ch)) line
+statement_from keywords.Pause line = one_from byte_from (λ ch. statements.Call (calls.Pause ch)) line
+statement_from keywords.Resume line = one_from byte_from (λ ch. statements.Call (calls.Resume ch)) line
+statement_from keywords.Terminate line = one_from byte_from (λ ch. statements.Call (calls.Terminate ch)) line
 statement_from keywords.Step line = both_from byte_from count_from (λ ch count. statements.Step ch count) line
-statement_from keywords.Status line = both_from byte_from number_from (λ ch cookie. statements.Status ch cookie) line
-statement_from keywords.Result line = both_from byte_from number_from (λ ch cookie. statements.Result ch cookie) line
-statement_from keywords.Mark line = both_from kind_from segment_from (λ kind segment. statements.Mark kind segment) line
-statement_from keywords.Unmark line = Ok (statements.Unmark, line)
-statement_from keywords.Raise line = one_from byte_from (λ event. statements.Raise event) line
-statement_from keywords.Checkpoint line = Ok (statements.Checkpoint, line)
+statement_from keywords.Status line = both_from byte_from number_from (λ ch cookie. statements.Call (calls.Status ch cookie)) line
+statement_from keywords.Result line = both_from byte_from number_from (λ ch cookie. statements.Call (calls.Result ch cookie)) line
+statement_from keywords.Mark line = both_from kind_from segment_from (λ kind segment. statements.Call (calls.Mark kind segment)) line
+statement_from keywords.Unmark line = Ok (statements.Call calls.Unmark, line)
+statement_from keywords.Raise line = one_from byte_from (λ event. statements.Call (calls.Raise event)) line
+statement_from keywords.Checkpoint line = Ok (statements.Call calls.Checkpoint, line)
 statement_from keywords.Totals line = Ok (statements.Totals, line)
 
 -- statements and one more, and the line after it

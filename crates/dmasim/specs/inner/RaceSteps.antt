@@ -4,14 +4,15 @@ use Rattle.dma_mem.specs.Refusals.{refusal_of}
 use Rattle.dma_mem.specs.declared.transfer.TransferFault.{TransferFault}
 use Rattle.dma_engine.specs.Answer.{CallAnswers}
 use Rattle.dma_engine.specs.View.{View}
-use Rattle.dma_engine.specs.declared.call.Call.{Call}
+use Rattle.dma_mem.specs.declared.call.Call.{Call}
+use Rattle.dma_mem.specs.declared.call.Call.TheVariants as calls
 use Rattle.dma_engine.specs.declared.call.Reply.{Reply}
 use Rattle.dma_work.specs.Desk.{DeskState, IsSoundOf}
 use Rattle.dma_script.specs.Command.{printed_text, text_of}
 use Rattle.dma_script.specs.Interpreted.{PrintsLines, StopsAtALine}
 use Rattle.dma_script.specs.declared.plan.TransferLine.{TransferLine}
 use Rattle.dma_script.specs.declared.statements.Statement.{Statement}
-use Rattle.dma_script.specs.declared.statements.Statement.TheVariants.{Status, Submit}
+use Rattle.dma_script.specs.declared.statements.Statement.TheVariants as statements
 use Rattle.dma_commands.specs.Printed.{refused_line, transfer_fault_name}
 use Rattle.dma_commands.specs.Run.{line_answer}
 use Rattle.dma_commands.specs.Transfers.{transfer_of}
@@ -34,10 +35,10 @@ pub data ActsEarly
   on_desk : (desk back : DeskState) → lends old desk back new → IsSoundOf bytes many desk.engine.view
       → line_answer desk.engine.view statement ≡ (line ∷ [], back.engine.view)
       → ActsEarly bytes many lends old statement line new
-  breaks_a_rule : (ch : ℕ) (words : TransferLine) (fault : TransferFault) → statement ≡ Submit ch words
+  breaks_a_rule : (ch : ℕ) (words : TransferLine) (fault : TransferFault) → statement ≡ statements.Submit ch words
       → refusal_of (transfer_of words) ≡ Some fault → line ≡ refused_line (transfer_fault_name fault) → new ≡ old
       → ActsEarly bytes many lends old statement line new
-  by_reader : (ch cookie : ℕ) → statement ≡ Status ch cookie → StatusPrints ch cookie line → new ≡ old
+  by_reader : (ch cookie : ℕ) → statement ≡ statements.Call (calls.Status ch cookie) → StatusPrints ch cookie line → new ≡ old
       → ActsEarly bytes many lends old statement line new
 
 -- The line of a `status` before `go` is appended.

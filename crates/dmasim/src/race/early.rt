@@ -1,15 +1,13 @@
 //! The lines of a race script before `go`. Each line except `status` is lent the desk once, for its one call, and
 //! prints after giving it back. A `status` line asks the reader, and is lent nothing.
-ghost use Rattle.std.specs.Prelude.{◌≡◌, ◌≢◌, [], OnOk, OnErr};
+ghost use Rattle.std.specs.Prelude.{◌≡◌, OnOk, OnErr};
 ghost use Rattle.std.specs.List.{All};
 ghost use Rattle.dma_engine.specs.Laws.{IsQuiet};
 ghost use Rattle.dma_script.specs.Race.{IsEarly};
-ghost use Rattle.dma_commands.specs.Laws.{call_of};
 ghost use Rattle.dmasim.specs.inner.RaceSteps.{ActsEarly, PrintsStatus, RunsAll, RunsEarly, RunsFirst};
 
 use crate::race::on_desk::{QuietCall, Submission, Termination};
 use dma_commands::printing::Shown;
-use dma_commands::run::calls::call_of;
 use dma_commands::transfers::transfer_of;
 use dma_engine::{Call, EngineFault, Reply};
 use dma_script::interpreter::Interpreter;
@@ -21,21 +19,17 @@ use std::alloc::AllocError;
 use std::marker::PhantomData;
 use std::sync::Wait;
 
-/// Executes a line whose call publishes nothing.
+/// Makes a call that publishes nothing.
 fn answer_quiet<N: DeskName, L: Lender<Desk<N>>, R: Wait>(
     rt: &R,
     lender: &mut L,
-    line: Statement,
+    call: Call,
     out: &mut Vec<u8>,
 ) -> Result<(), AllocError>
-    requires one { call_of line ≢ [] }
-    requires quiet { All IsQuiet (call_of line) }
-    ensures { RunsEarly (ActsEarly N.size N.channels L.lends) lender.old line lender.new result
-        out.old.items out.new.items }
+    requires { IsQuiet call }
+    ensures { RunsEarly (ActsEarly N.size N.channels L.lends) lender.old
+        (Statement.Call call) lender.new result out.old.items out.new.items }
 {
-    let Ok(call) = call_of(line) else {
-        unreachable!();
-    };
     let mut asked = QuietCall {
         call,
         reply: Reply::Done,
@@ -89,7 +83,7 @@ fn answer_terminate<N: DeskName, L: Lender<Desk<N>>, R: Wait>(
 ) -> Result<(), AllocError>
     requires follows { (N.log ≡ reader.old.log) × (N.base ≡ reader.old.base) }
     ensures line { RunsEarly (ActsEarly N.size N.channels L.lends) lender.old
-        (Statement.Terminate ch) lender.new result out.old.items out.new.items }
+        (Statement.Call (Call.Terminate ch)) lender.new result out.old.items out.new.items }
     ensures follows { (N.log ≡ reader.new.log) × (N.base ≡ reader.new.base) }
 {
     let mut asked = Termination::<N> {
@@ -160,15 +154,20 @@ impl<N: DeskName, L: Lender<Desk<N>>, R: Wait> Interpreter for LinesOnDesk<'_, N
                 transfer,
                 out,
             ),
-            Statement::Terminate { ch } => answer_terminate::<N, _, _>(
+            Statement::Call(Call::Terminate { ch }) => answer_terminate::<N, _, _>(
                 self.rt,
                 &mut self.lender,
                 &mut self.reader,
                 ch,
                 out,
             ),
-            Statement::Status { ch, cookie } => answer_status(&mut self.reader, ch, cookie, out),
-            line => answer_quiet::<N, _, _>(self.rt, &mut self.lender, line, out),
+            Statement::Call(Call::Status { ch, cookie }) => {
+                answer_status(&mut self.reader, ch, cookie, out)
+            }
+            Statement::Call(call) => {
+                answer_quiet::<N, _, _>(self.rt, &mut self.lender, call, out)
+            }
+            _ => unreachable!(),
         }
     }
 }

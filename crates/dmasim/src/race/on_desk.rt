@@ -40,7 +40,7 @@ pub struct Submission<N: DeskName> {
 
 impl<N: DeskName> Borrower<Desk<N>> for Submission<N> {
     ghost use Rattle.std.specs.Prelude.{IfSome, IsSome, MatchResult};
-    ghost use Rattle.dma_engine.specs.declared.call.Call.TheVariants.{Submit};
+    ghost use Rattle.dma_mem.specs.declared.call.Call.TheVariants.{Submit};
     ghost use Rattle.dma_engine.specs.declared.call.Reply.TheVariants.{Cookie, Refused};
     ghost use Rattle.dmasim.specs.inner.RaceSteps.{AnswersOn};
 
@@ -73,7 +73,7 @@ pub struct Termination<N: DeskName> {
 
 impl<N: DeskName> Borrower<Desk<N>> for Termination<N> {
     ghost use Rattle.std.specs.Prelude.{MatchResult};
-    ghost use Rattle.dma_engine.specs.declared.call.Call.TheVariants.{Terminate};
+    ghost use Rattle.dma_mem.specs.declared.call.Call.TheVariants.{Terminate};
     ghost use Rattle.dma_engine.specs.declared.call.Reply.TheVariants.{Count, Refused};
     ghost use Rattle.dmasim.specs.inner.RaceSteps.{AnswersOn};
 

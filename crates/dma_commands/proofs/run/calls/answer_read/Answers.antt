@@ -11,11 +11,11 @@ pub returns-in-Ok : goal.returns-in-Ok
 returns-in-Ok c =
     let v = c.args.engine.now.view in
     let w = c.read_back.new.self.view in
-    let addr = c.args.segment.addr in
+    let addr = c.args.addr in
     let out = c.args.out.now.items in
     let print = c.print_line.ensures in
     let bytes : c.read_at.result.now ≡ read_at w.history (length v.history) =
     c.read_at.ensures ∙ ap (λ (h : List Entry). read_at h (length c.history-place.result.now)) c.history.ensures.entries
     ∙ ap (λ (h : List Entry). read_at w.history (length h)) c.history-place.ensures.entries in
-    read_runs v w addr c.args.segment.len _ c.print_line.result out c.print_line.new.out.items c.in-Ok.ensures.answer
+    read_runs v w addr c.args.len _ c.print_line.result out c.print_line.new.out.items c.in-Ok.ensures.answer
     (on_ok_weaker c.print_line.result (λ p. p ∙ ap (λ (b : List ℕ). out ++ text_of ((codes "read 0x" ++ hex_digits addr ++ spaced_bytes b) ∷ [])) bytes) print.ok) print.err

@@ -2,7 +2,7 @@ use Rattle.std.proofs.Common.{◌≡◌, ◌∙◌, ap, sym, subst}
 use Rattle.std.proofs.lemmas.Result.{on_ok_weaker}
 use Rattle.dma_mem.specs.Places.{Descriptor}
 use Rattle.dma_mem.specs.Refusals.{refusal_of}
-use Rattle.dma_engine.specs.declared.call.Call.TheVariants.{Submit}
+use Rattle.dma_mem.specs.declared.call.Call.TheVariants.{Submit}
 use Rattle.dma_engine.specs.declared.call.Reply.TheVariants.{Cookie, Refused}
 use Rattle.dma_commands.specs.inner.RunSteps.{RunsLine}
 use Rattle.dma_commands.specs.Run.{call_answer}

@@ -3,7 +3,7 @@ use Rattle.std.proofs.lemmas.Result.{on_ok_weaker}
 use Rattle.dma_mem.specs.Places.{Descriptor}
 use Rattle.dma_mem.specs.Refusals.{refusal_of}
 use Rattle.dma_engine.specs.Answer.{answer}
-use Rattle.dma_engine.specs.declared.call.Call.TheVariants.{Submit}
+use Rattle.dma_mem.specs.declared.call.Call.TheVariants.{Submit}
 use Rattle.dma_commands.specs.Printed.{refused_line}
 use Rattle.dma_commands.specs.Run.{Answered, copied_after, is_in_use, one_line}
 use Rattle.dma_commands.specs.Transfers.{transfer_of}

@@ -2,7 +2,7 @@ use Rattle.std.proofs.Common.{◌≡◌, ◌≤◌, ◌+◌, ◌-◌, ◌++◌, 
 use Rattle.std.specs.Prelude.{replicate}
 use Rattle.std.proofs.lemmas.List.{append-nil}
 use Rattle.std.proofs.lemmas.Result.{on_ok_weaker}
-use Rattle.dma_engine.specs.declared.call.Call.TheVariants.{Step}
+use Rattle.dma_mem.specs.declared.call.Call.TheVariants.{Step}
 use Rattle.dma_engine.specs.Answer.{answers}
 use Rattle.dma_script.specs.Command.{text_of}
 use Rattle.dma_commands.specs.Printed.{reply_text}

@@ -1,6 +1,6 @@
 use Rattle.std.proofs.Common.{◌≡◌, ◌≤◌, ◌-◌, ◌++◌, List, ℕ, map}
 use Rattle.std.specs.Prelude.{replicate}
-use Rattle.dma_engine.specs.declared.call.Call.TheVariants.{Step}
+use Rattle.dma_mem.specs.declared.call.Call.TheVariants.{Step}
 use Rattle.dma_engine.specs.Answer.{answers}
 use Rattle.dma_script.specs.Command.{text_of}
 use Rattle.dma_commands.specs.Printed.{reply_text}

@@ -1,6 +1,6 @@
 use Rattle.std.proofs.Common.{◌≡◌, ◌+◌, ◌++◌, ◌∙◌, List, ap, inl, inr}
 use Rattle.std.specs.Prelude.{replicate, ◌⊎◌}
-use Rattle.dma_engine.specs.declared.call.Call.TheVariants.{Step}
+use Rattle.dma_mem.specs.declared.call.Call.TheVariants.{Step}
 use Rattle.dma_engine.specs.declared.call.Reply.{Reply}
 use Rattle.dma_engine.specs.declared.call.Reply.TheVariants.{Turned}
 use Rattle.dma_engine.specs.declared.turn.Turn.TheVariants.{Moved}

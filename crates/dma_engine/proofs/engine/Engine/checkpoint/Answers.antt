@@ -3,7 +3,7 @@ use Rattle.std.specs.Vec.{with_items}
 use Rattle.std.proofs.lemmas.List.{with_items_is, length-map}
 use Rattle.std.specs.Prelude.{slice_index_or}
 use Rattle.dma_engine.specs.inner.Holds.{view_of, queue_forgotten}
-use Rattle.dma_engine.specs.declared.call.Call.TheVariants.{Checkpoint}
+use Rattle.dma_mem.specs.declared.call.Call.TheVariants.{Checkpoint}
 use Rattle.dma_engine.specs.declared.call.Reply.TheVariants.{Done}
 use Rattle.dma_engine.specs.declared.fault.EngineFault.TheVariants.{NoMemory}
 use Rattle.dma_engine.specs.declared.queue.Queue.{Queue}

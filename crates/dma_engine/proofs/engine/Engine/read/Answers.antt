@@ -1,6 +1,6 @@
 use Rattle.std.proofs.Common.{◌≡◌, sym, ◌∙◌, ap, subst, take, drop, None, arith}
 use Rattle.dma_engine.specs.declared.entry.Entry.TheVariants.{ReadBack}
-use Rattle.dma_engine.specs.declared.call.Call.TheVariants.{Read}
+use Rattle.dma_mem.specs.declared.call.Call.TheVariants.{Read}
 use Rattle.dma_engine.specs.declared.fault.EngineFault.TheVariants.{NoMemory}
 use Rattle.dma_engine.specs.declared.call.Reply.TheVariants.{Bytes}
 use Rattle.dma_engine.specs.Answer.{read_fault}

@@ -1,6 +1,6 @@
 use Rattle.std.proofs.Common.{◌≡◌, ◌<◌, ◌∙◌, ap, length, subst, sym, arith}
 use Rattle.std.specs.Prelude.{if◌then◌else◌}
-use Rattle.dma_engine.specs.declared.call.Call.TheVariants.{Pause, Resume}
+use Rattle.dma_mem.specs.declared.call.Call.TheVariants.{Pause, Resume}
 use Rattle.dma_engine.specs.declared.call.Reply.TheVariants.{Done}
 use Rattle.dma_engine.specs.Answer.{with_pause}
 use Rattle.dma_engine.specs.inner.Holds.{view_of}

@@ -1,4 +1,4 @@
-use Rattle.dma_engine.specs.declared.call.Call.TheVariants.{Write}
+use Rattle.dma_mem.specs.declared.call.Call.TheVariants.{Write}
 use Rattle.dma_engine.specs.declared.fault.EngineFault.TheVariants.{NoMemory}
 use Rattle.dma_engine.specs.declared.call.Reply.TheVariants.{Done}
 use Rattle.dma_engine.proofs.CallCases.{write-starved, refusal}

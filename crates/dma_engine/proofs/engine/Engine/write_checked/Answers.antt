@@ -1,6 +1,6 @@
 use Rattle.std.proofs.Common.{◌≡◌, sym, ap, subst, length, None}
 use Rattle.dma_engine.specs.declared.entry.Entry.TheVariants.{Wrote}
-use Rattle.dma_engine.specs.declared.call.Call.TheVariants.{Write}
+use Rattle.dma_mem.specs.declared.call.Call.TheVariants.{Write}
 use Rattle.dma_engine.specs.declared.fault.EngineFault.TheVariants.{NoMemory}
 use Rattle.dma_engine.specs.declared.call.Reply.TheVariants.{Done}
 use Rattle.dma_engine.specs.Answer.{write_fault}

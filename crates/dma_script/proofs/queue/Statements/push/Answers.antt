@@ -1,6 +1,6 @@
-use Rattle.std.proofs.Common.{◌∙◌, ◌∷◌, ◌++◌, [], ap, sym}
+use Rattle.std.proofs.Common.{◌∙◌, ◌∷◌, ◌++◌, [], ap}
 use Rattle.dma_script.specs.inner.Queued.{statements_in}
-use Rattle.dma_script.proofs.QueueLemmas.{short_added, short_whole, write_added, write_whole, long_added, long_whole}
+use Rattle.dma_script.proofs.QueueLemmas.{short_added, short_whole, long_added, long_whole}
 use Rattle.dma_script.proofs.queue.Statements.push.Goals as goal
 
 pub invariant_of-self-in-Ok : goal.invariant_of-self-in-Ok
@@ -13,17 +13,6 @@ returns-in-Ok c =
     let s = c.self.inside in
     rw (c.push_reserved.ensures.items, c.reserve.ensures.items) (short_added s.lines.items s.bytes.items s.long.items c.in-Ok.line c.self.invariant
     ∙ ap (λ more. statements_in s.lines.items s.bytes.items s.long.items ++ more) c.in-Ok.ensures.ok ∙ ap (λ before. before ++ c.args.statement ∷ []) c.self.view_is)
-
-pub invariant_of-self-in-Err-Write : goal.invariant_of-self-in-Err-Write
-invariant_of-self-in-Err-Write c =
-    let s = c.self.inside in
-    rw (c.push_reserved-in-Err-Write.ensures.items, c.reserve.ensures.items, c.in_ok-push-in-Err-Write.ensures.items) (write_whole s.lines.items s.bytes.items s.long.items c.in-Err-Write.addr c.in-Err-Write.bytes c.self.invariant)
-
-pub returns-in_ok-push-in-Err-Write : goal.returns-in_ok-push-in-Err-Write
-returns-in_ok-push-in-Err-Write c =
-    let s = c.self.inside in
-    rw (c.push_reserved-in-Err-Write.ensures.items, c.reserve.ensures.items, c.in_ok-push-in-Err-Write.ensures.items) (write_added s.lines.items s.bytes.items s.long.items c.in-Err-Write.addr c.in-Err-Write.bytes c.self.invariant
-    ∙ ap (λ statement. statements_in s.lines.items s.bytes.items s.long.items ++ statement ∷ []) (sym c.in-Err-Write.field-0-is ∙ c.in-Err-Write.ensures.err) ∙ ap (λ before. before ++ c.args.statement ∷ []) c.self.view_is)
 
 pub invariant_of-self-in-Err : goal.invariant_of-self-in-Err
 invariant_of-self-in-Err c =

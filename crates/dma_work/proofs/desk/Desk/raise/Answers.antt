@@ -1,4 +1,4 @@
-use Rattle.dma_engine.specs.declared.call.Call.TheVariants.{Raise}
+use Rattle.dma_mem.specs.declared.call.Call.TheVariants.{Raise}
 use Rattle.dma_work.proofs.Desks.{kept_quiet}
 use Rattle.dma_work.proofs.desk.Desk.raise.Goals as goal
 

@@ -1,4 +1,4 @@
-use Rattle.dma_engine.specs.declared.call.Call.TheVariants.{Read}
+use Rattle.dma_mem.specs.declared.call.Call.TheVariants.{Read}
 use Rattle.dma_work.proofs.Desks.{kept_quiet}
 use Rattle.dma_work.proofs.desk.Desk.read.Goals as goal
 

@@ -1,5 +1,5 @@
 use Rattle.std.proofs.Common.{◌∙◌, ap, arith, refl, sym}
-use Rattle.dma_engine.specs.declared.call.Call.TheVariants.{Submit}
+use Rattle.dma_mem.specs.declared.call.Call.TheVariants.{Submit}
 use Rattle.dma_engine.specs.declared.call.Reply.TheVariants.{Cookie}
 use Rattle.dma_engine.specs.Ticks.{Submitted}
 use Rattle.dma_engine.proofs.CallLists.{answers-extend}

@@ -1,5 +1,5 @@
 use Rattle.std.proofs.Common.{◌≡◌, ◌+◌, ◌∙◌, ap, arith, refl, sym}
-use Rattle.dma_engine.specs.declared.call.Call.TheVariants.{Terminate}
+use Rattle.dma_mem.specs.declared.call.Call.TheVariants.{Terminate}
 use Rattle.dma_engine.specs.declared.call.Reply.TheVariants.{Count}
 use Rattle.dma_engine.specs.Object.{finished_all}
 use Rattle.dma_engine.specs.Ticks.{Finished}

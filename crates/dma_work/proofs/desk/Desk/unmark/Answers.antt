@@ -1,4 +1,4 @@
-use Rattle.dma_engine.specs.declared.call.Call.TheVariants.{Unmark}
+use Rattle.dma_mem.specs.declared.call.Call.TheVariants.{Unmark}
 use Rattle.dma_work.proofs.Desks.{kept_quiet}
 use Rattle.dma_work.proofs.desk.Desk.unmark.Goals as goal
 
