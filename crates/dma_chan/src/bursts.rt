@@ -14,7 +14,7 @@ ghost use Rattle.dma_chan.specs.Exec.{source_of, destination_of, act, buffer_siz
 ghost use Rattle.dma_chan.specs.Ready.{none_missing};
 ghost use Rattle.dma_chan.specs.inner.Acts.{FaultsWith};
 
-use crate::exec::Registers;
+use crate::exec::{Executor, Registers};
 use crate::turn::{ChanTurn, FaultKind};
 use circular_buffer::HeapCircularBuffer;
 use dma_insn::control::BurstEnd;
@@ -198,24 +198,24 @@ fn load_span<M: Ram>(
 // Returns the fault of DMALD. If it is `None`, the buffer has room for the bytes of the burst, and the burst may touch
 // its addresses.
 pub(crate) fn load_fault<M: Ram>(
-    marks: &Marks,
-    registers: &Registers,
-    buffer: &HeapCircularBuffer<u8>,
+    executor: &Executor,
     memory: &M,
+    marks: &Marks,
 ) -> Option<FaultKind>
-    requires capacity { buffer.now.capacity ≡ buffer_size }
-    ensures fault { FaultsWith (with_gaps (M.loan memory.now) marks.now) Ld registers.now
-        buffer.now.items (M.paged memory.now).image result }
+    requires capacity { executor.now.buffer.capacity ≡ buffer_size }
+    ensures fault { FaultsWith (with_gaps (M.loan memory.now) marks.now) Ld executor.now.registers
+        executor.now.buffer.items (M.paged memory.now).image result }
     ensures room { IsNone result
-        → length buffer.now.items + burst_len (source_of registers.now) ≤ buffer_size }
+        → length executor.now.buffer.items + burst_len (source_of executor.now.registers)
+        ≤ buffer_size }
     ensures reaches { IsNone result → IsTrue (reaches MarkKind.Reading
         (with_gaps (M.loan memory.now) marks.now) (length (M.paged memory.now).image)
-        (touched (source_of registers.now))) }
+        (touched (source_of executor.now.registers))) }
     ensures lie { IsNone result → LieIn (M.loan memory.now) (M.paged memory.now)
-        registers.now.sar (span_of (source_of registers.now)) }
+        executor.now.registers.sar (span_of (source_of executor.now.registers)) }
 {
-    let burst = source_burst(registers);
-    if buffer.len() + burst.len() as usize > BUFFER_SIZE {
+    let burst = source_burst(&executor.registers);
+    if executor.buffer.len() + burst.len() as usize > BUFFER_SIZE {
         return Some(FaultKind::MfifoErr);
     }
     if !may_touch(MarkKind::Reading, marks, memory, burst) {
@@ -225,29 +225,28 @@ pub(crate) fn load_fault<M: Ram>(
 }
 
 // Executes DMALD.
-pub(crate) fn load_burst<M: Ram>(
-    marks: &Marks,
-    registers: &mut Registers,
-    buffer: &mut HeapCircularBuffer<u8>,
-    block: &mut [u8],
-    memory: &M,
-) -> ChanTurn
-    requires capacity { buffer.old.capacity ≡ buffer_size }
-    requires block { length block.old ≡ buffer_size }
-    requires pc { registers.old.pc < most_bytes }
+pub(crate) fn load_burst<M: Ram>(executor: &mut Executor, memory: &M, marks: &Marks) -> ChanTurn
+    requires capacity { executor.old.buffer.capacity ≡ buffer_size }
+    requires block { length executor.old.block.items ≡ buffer_size }
+    requires pc { executor.old.registers.pc < most_bytes }
     ensures exact { (flags : List Bool) → act (with_gaps (M.loan memory.now) marks.now) Ld
-        (state registers.old buffer.old.items (M.paged memory.now).image flags)
-        ≡ (result, state registers.new buffer.new.items (M.paged memory.now).image flags) }
-    ensures capacity { buffer.new.capacity ≡ buffer_size }
-    ensures pc { registers.new.pc ≤ registers.old.pc + 1 }
+        (state executor.old.registers executor.old.buffer.items (M.paged memory.now).image flags)
+        ≡ (
+          result,
+          state executor.new.registers executor.new.buffer.items
+              (M.paged memory.now).image flags,
+        ) }
+    ensures capacity { executor.new.buffer.capacity ≡ buffer_size }
+    ensures block { length executor.new.block.items ≡ buffer_size }
+    ensures pc { executor.new.registers.pc ≤ executor.old.registers.pc + 1 }
 {
-    if let Some(kind) = load_fault(marks, registers, buffer, memory) {
+    if let Some(kind) = load_fault(executor, memory, marks) {
         return ChanTurn::Fault(kind);
     }
-    let burst = source_burst(registers);
-    load_span(burst, buffer, block, memory);
-    registers.pc += 1;
-    registers.sar += burst.advance();
+    let burst = source_burst(&executor.registers);
+    load_span(burst, &mut executor.buffer, &mut executor.block, memory);
+    executor.registers.pc += 1;
+    executor.registers.sar += burst.advance();
     ChanTurn::Moved
 }
 
@@ -298,23 +297,22 @@ fn store_span<M: Ram>(burst: Burst, buffer: &mut HeapCircularBuffer<u8>, memory:
 // Returns the fault of DMAST. If it is `None`, the buffer has the bytes of the burst, and the burst may touch its
 // addresses.
 pub(crate) fn store_fault<M: Ram>(
-    marks: &Marks,
-    registers: &Registers,
-    buffer: &HeapCircularBuffer<u8>,
+    executor: &Executor,
     memory: &M,
+    marks: &Marks,
 ) -> Option<FaultKind>
-    ensures fault { FaultsWith (with_gaps (M.loan memory.now) marks.now) St registers.now
-        buffer.now.items (M.paged memory.now).image result }
+    ensures fault { FaultsWith (with_gaps (M.loan memory.now) marks.now) St executor.now.registers
+        executor.now.buffer.items (M.paged memory.now).image result }
     ensures bytes { IsNone result
-        → burst_len (destination_of registers.now) ≤ length buffer.now.items }
+        → burst_len (destination_of executor.now.registers) ≤ length executor.now.buffer.items }
     ensures reaches { IsNone result → IsTrue (reaches MarkKind.Writing
         (with_gaps (M.loan memory.now) marks.now) (length (M.paged memory.now).image)
-        (touched (destination_of registers.now))) }
+        (touched (destination_of executor.now.registers))) }
     ensures lie { IsNone result → LieIn (M.loan memory.now) (M.paged memory.now)
-        registers.now.dar (span_of (destination_of registers.now)) }
+        executor.now.registers.dar (span_of (destination_of executor.now.registers)) }
 {
-    let burst = destination_burst(registers);
-    if buffer.len() < burst.len() as usize {
+    let burst = destination_burst(&executor.registers);
+    if executor.buffer.len() < burst.len() as usize {
         return Some(FaultKind::StDataUnavailable);
     }
     if !may_touch(MarkKind::Writing, marks, memory, burst) {
@@ -325,30 +323,34 @@ pub(crate) fn store_fault<M: Ram>(
 
 // Executes DMAST.
 pub(crate) fn store_burst<M: Ram>(
-    marks: &Marks,
-    registers: &mut Registers,
-    buffer: &mut HeapCircularBuffer<u8>,
+    executor: &mut Executor,
     memory: &mut M,
+    marks: &Marks,
 ) -> ChanTurn
-    requires capacity { buffer.old.capacity ≡ buffer_size }
-    requires pc { registers.old.pc < most_bytes }
+    requires capacity { executor.old.buffer.capacity ≡ buffer_size }
+    requires pc { executor.old.registers.pc < most_bytes }
     requires ready { IsTrue
-        (none_missing (M.paged memory.old) (touched (destination_of registers.old))) }
+        (none_missing (M.paged memory.old) (touched (destination_of executor.old.registers))) }
     ensures exact { (flags : List Bool) → act (with_gaps (M.loan memory.old) marks.now) St
-        (state registers.old buffer.old.items (M.paged memory.old).image flags)
-        ≡ (result, state registers.new buffer.new.items (M.paged memory.new).image flags) }
+        (state executor.old.registers executor.old.buffer.items (M.paged memory.old).image flags)
+        ≡ (
+          result,
+          state executor.new.registers executor.new.buffer.items
+              (M.paged memory.new).image flags,
+        ) }
     ensures pages { (M.paged memory.new).made ≡ (M.paged memory.old).made }
-    ensures capacity { buffer.new.capacity ≡ buffer_size }
-    ensures pc { registers.new.pc ≤ registers.old.pc + 1 }
+    ensures capacity { executor.new.buffer.capacity ≡ buffer_size }
+    ensures block { executor.new.block.items ≡ executor.old.block.items }
+    ensures pc { executor.new.registers.pc ≤ executor.old.registers.pc + 1 }
     ensures loan { M.loan memory.new ≡ M.loan memory.old }
 {
-    if let Some(kind) = store_fault(marks, registers, buffer, memory) {
+    if let Some(kind) = store_fault(executor, memory, marks) {
         return ChanTurn::Fault(kind);
     }
-    let burst = destination_burst(registers);
-    store_span(burst, buffer, memory);
-    registers.pc += 1;
-    registers.dar += burst.advance();
+    let burst = destination_burst(&executor.registers);
+    store_span(burst, &mut executor.buffer, memory);
+    executor.registers.pc += 1;
+    executor.registers.dar += burst.advance();
     ChanTurn::Moved
 }
 

@@ -10,6 +10,7 @@ ghost use Rattle.dma_chan.specs.Ready.{is_ready};
 ghost use Rattle.dma_mem.specs.Lent.{with_gaps};
 
 use crate::bursts::{load_burst, load_fault, store_burst, store_fault};
+use crate::next::Next;
 use crate::turn::{ChanTurn, FaultKind};
 use circular_buffer::HeapCircularBuffer;
 use dma_insn::control::ControlWord;
@@ -183,62 +184,74 @@ fn go_on(registers: &mut Registers) -> ChanTurn
     ChanTurn::Moved
 }
 
-// Executes an instruction whose encoding has `len` bytes.
-pub(crate) fn execute<M: Ram>(
-    insn: Insn,
-    len: u32,
-    registers: &mut Registers,
-    buffer: &mut HeapCircularBuffer<u8>,
-    block: &mut [u8],
-    memory: &mut M,
-    events: &mut Events,
-    marks: &Marks,
-) -> ChanTurn
-    requires len { len ≡ length (spelling insn) }
-    requires pc { registers.old.pc + len ≤ most_bytes }
-    requires capacity { buffer.old.capacity ≡ buffer_size }
-    requires block { length block.old ≡ buffer_size }
-    requires ready { IsTrue (is_ready (Ok insn) registers.old (M.paged memory.old)) }
-    ensures exact { act (with_gaps (M.loan memory.old) marks.now) insn
-        (state registers.old buffer.old.items (M.paged memory.old).image events.old)
-        ≡ (result, state registers.new buffer.new.items (M.paged memory.new).image events.new) }
-    ensures pages { (M.paged memory.new).made ≡ (M.paged memory.old).made }
-    ensures capacity { buffer.new.capacity ≡ buffer_size }
-    ensures pc { registers.new.pc ≤ registers.old.pc + len }
-    ensures loan { M.loan memory.new ≡ M.loan memory.old }
-{
-    match insn {
-        Insn::Mov(reg, value) => set_register(reg, value, len, registers),
-        Insn::Ld => load_burst(marks, registers, buffer, block, memory),
-        Insn::St => store_burst(marks, registers, buffer, memory),
-        Insn::Rmb => go_on(registers),
-        Insn::Wmb => go_on(registers),
-        Insn::Nop => go_on(registers),
-        Insn::Lp { counter, times } => begin_loop(counter, times, registers),
-        Insn::LpEnd { counter, back } => end_loop(counter, back, registers),
-        Insn::Sev(event) => signal(event, registers, events),
-        Insn::Wfe { event, invalid } => wait(event, invalid, registers, events),
-        Insn::End => ChanTurn::Ended,
+// What executes instructions: the registers of a channel, and a buffer that holds bytes between loads and stores.
+#[derive(Drop)]
+pub(crate) struct Executor {
+    pub(crate) registers: Registers,
+    pub(crate) buffer: HeapCircularBuffer<u8>,
+    // A load joins bytes here that memory doesn't have in one piece. The contents have no meaning between loads.
+    pub(crate) block: Vec<u8>,
+}
+
+impl Executor {
+    // Executes the instruction `next`.
+    pub(crate) fn execute<M: Ram>(
+        &mut self,
+        next: Next,
+        memory: &mut M,
+        events: &mut Events,
+        marks: &Marks,
+    ) -> ChanTurn
+        requires capacity { self.old.buffer.capacity ≡ buffer_size }
+        requires block { length self.old.block.items ≡ buffer_size }
+        requires pc { self.old.registers.pc + length (spelling next) ≤ most_bytes }
+        requires ready { IsTrue (is_ready (Ok next) self.old.registers (M.paged memory.old)) }
+        ensures exact { act (with_gaps (M.loan memory.old) marks.now) next
+            (state self.old.registers self.old.buffer.items
+            (M.paged memory.old).image events.old)
+            ≡ (
+              result,
+              state self.new.registers self.new.buffer.items
+                  (M.paged memory.new).image events.new,
+            ) }
+        ensures pages { (M.paged memory.new).made ≡ (M.paged memory.old).made }
+        ensures capacity { self.new.buffer.capacity ≡ buffer_size }
+        ensures block { length self.new.block.items ≡ buffer_size }
+        ensures pc { self.new.registers.pc ≤ self.old.registers.pc + length (spelling next) }
+        ensures loan { M.loan memory.new ≡ M.loan memory.old }
+    {
+        match next.insn() {
+            Insn::Mov(reg, value) => set_register(reg, value, next.len(), &mut self.registers),
+            Insn::Ld => load_burst(self, memory, marks),
+            Insn::St => store_burst(self, memory, marks),
+            Insn::Rmb => go_on(&mut self.registers),
+            Insn::Wmb => go_on(&mut self.registers),
+            Insn::Nop => go_on(&mut self.registers),
+            Insn::Lp { counter, times } => begin_loop(counter, times, &mut self.registers),
+            Insn::LpEnd { counter, back } => end_loop(counter, back, &mut self.registers),
+            Insn::Sev(event) => signal(event, &mut self.registers, events),
+            Insn::Wfe { event, invalid } => wait(event, invalid, &mut self.registers, events),
+            Insn::End => ChanTurn::Ended,
+        }
     }
 }
 
 // Returns the fault that an instruction would return, or `None`. Nothing is executed.
 pub(crate) fn fault_of<M: Ram>(
     insn: Insn,
-    registers: &Registers,
-    buffer: &HeapCircularBuffer<u8>,
+    executor: &Executor,
     memory: &M,
     marks: &Marks,
 ) -> Option<FaultKind>
-    requires capacity { buffer.now.capacity ≡ buffer_size }
-    ensures { FaultsWith (with_gaps (M.loan memory.now) marks.now) insn registers.now
-        buffer.now.items (M.paged memory.now).image result }
+    requires capacity { executor.now.buffer.capacity ≡ buffer_size }
+    ensures { FaultsWith (with_gaps (M.loan memory.now) marks.now) insn executor.now.registers
+        executor.now.buffer.items (M.paged memory.now).image result }
 {
     match insn {
         Insn::Mov(reg, value) => set_fault(reg, value),
-        Insn::Ld => load_fault(marks, registers, buffer, memory),
-        Insn::St => store_fault(marks, registers, buffer, memory),
-        Insn::LpEnd { counter, back } => jump_fault(counter, back, registers),
+        Insn::Ld => load_fault(executor, memory, marks),
+        Insn::St => store_fault(executor, memory, marks),
+        Insn::LpEnd { counter, back } => jump_fault(counter, back, &executor.registers),
         Insn::Rmb => None,
         Insn::Wmb => None,
         Insn::Nop => None,

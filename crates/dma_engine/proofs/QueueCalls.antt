@@ -19,7 +19,7 @@ use Rattle.dma_engine.specs.View.{View, ChannelSchedule, Agrees, runs, running_i
 use Rattle.dma_engine.specs.Turn.{with_entry}
 use Rattle.dma_engine.specs.Answer.{with_pause}
 use Rattle.dma_engine.specs.inner.Ranges.{AreOfRunning}
-use Rattle.dma_engine.specs.inner.Holds.{Holds, IsPrepared, IsQueue, IsRun, Parts, view_of, schedule_of}
+use Rattle.dma_engine.specs.inner.Holds.{Holds, IsPrepared, IsQueue, IsRun, Parts, queue_submitted, view_of, schedule_of}
 use Rattle.dma_engine.proofs.Changes.{ChangesTo, changed, view-changed, holds-changed, runs-here, runs-other, schedule-kept}
 use Rattle.dma_engine.proofs.Histories.{object_after-append, IsLegal-append}
 use Rattle.dma_engine.proofs.Queues.{front_where, holds-at, runs_front, slice_get-push, slice_get-push_last}
@@ -210,7 +210,7 @@ run-front memory m c d same h =
     by m.program (front c) refl h
 
 -- the queue with one more index and one more cookie
-pub queue-submitted : (ch spare : ℕ) (kept : List Descriptor) (history : List Entry) (memory : List ℕ) (q : Queue) (c : ChannelState) (t : Descriptor) (cookie : ℕ) → IsQueue ch kept history memory q c → cookie ≡ used c + 1 → IsQueue ch kept (history ++ Submitted ch t cookie ∷ []) memory (record q { indices = record { items = q.indices.items ++ length history ∷ []; spare = spare }; given = cookie }) (with_transfer c t)
+pub queue-submitted : (ch spare : ℕ) (kept : List Descriptor) (history : List Entry) (memory : List ℕ) (q : Queue) (c : ChannelState) (t : Descriptor) (cookie : ℕ) → IsQueue ch kept history memory q c → cookie ≡ used c + 1 → IsQueue ch kept (history ++ Submitted ch t cookie ∷ []) memory (queue_submitted q spare (length history) cookie) (with_transfer c t)
 queue-submitted ch spare kept history memory q c t cookie h number = record {
   forgotten = h.forgotten;
   given = omega (arith, number, length_push c.submitted t);
@@ -234,14 +234,14 @@ queue-submitted ch spare kept history memory q c t cookie h number = record {
   machine = run-front memory q.channel c (with_transfer c t) (λ u is. front-submitted c u t is) h.machine;
 }
 
-pub holds-submitted : (p : Parts) (ch spare cookie : ℕ) (t : Descriptor) (q : Queue) → Holds p → ch < length p.queues → q ≡ slice_index_or p.queues ch q → Allows (object_of (view_of p)) (Submitted ch t cookie) → Holds (changed p ch (record q { indices = record { items = q.indices.items ++ length p.history ∷ []; spare = spare }; given = cookie }) p.memory p.events (p.history ++ Submitted ch t cookie ∷ []) p.steps)
+pub holds-submitted : (p : Parts) (ch spare cookie : ℕ) (t : Descriptor) (q : Queue) → Holds p → ch < length p.queues → q ≡ slice_index_or p.queues ch q → Allows (object_of (view_of p)) (Submitted ch t cookie) → Holds (changed p ch (queue_submitted q spare (length p.history) cookie) p.memory p.events (p.history ++ Submitted ch t cookie ∷ []) p.steps)
 holds-submitted p ch spare cookie t q h less read allowed =
     let v : View = view_of p in
     let o = object_of v in
     let e = Submitted ch t cookie in
     let c = channel o ch in
     let at = holds-at p h ch q less read in
-    let r = record q { indices = record { items = q.indices.items ++ length p.history ∷ []; spare = spare }; given = cookie } in
+    let r = queue_submitted q spare (length p.history) cookie in
     let history = p.history ++ e ∷ [] in
     let here : channel (after o e) ch ≡ with_transfer c t = get_or-set_same o.channels ch (with_transfer c t) empty_channel at.there in
     holds-changed p ch r p.memory p.events history p.steps (after o e) h less (stays p ch q r p.events history (after o e) h less read (record {

@@ -137,7 +137,7 @@ impl Engine {
         ensures { result ≡ used (channel (object_of self.now.view) ch) }
     {
         match self.queues.get(usize::from(ch)) {
-            Some(queue) => queue.given,
+            Some(queue) => queue.given(),
             None => 0,
         }
     }
@@ -159,7 +159,7 @@ impl Engine {
         ensures base { result ≡ (counts (board_of self.now.view.base) ch).finished }
     {
         match self.queues.get(usize::from(ch)) {
-            Some(queue) => queue.forgotten,
+            Some(queue) => queue.forgotten(),
             None => 0,
         }
     }
@@ -198,7 +198,7 @@ impl Engine {
         ensures { result ≡ (schedule_at self.now.view ch).paused }
     {
         match self.queues.get(usize::from(ch)) {
-            Some(queue) => queue.paused,
+            Some(queue) => queue.is_paused(),
             None => false,
         }
     }
@@ -208,7 +208,7 @@ impl Engine {
         ensures { result ≡ (channel (object_of self.now.view) ch).halted }
     {
         match self.queues.get(usize::from(ch)) {
-            Some(queue) => queue.halted,
+            Some(queue) => queue.is_halted(),
             None => false,
         }
     }
@@ -238,11 +238,11 @@ impl Engine {
         ensures { result ≡ result_of (object_of self.now.view) ch cookie }
     {
         let queue = self.queues.get(usize::from(ch))?;
-        if cookie <= queue.forgotten {
+        if cookie <= queue.forgotten() {
             return None;
         }
-        let index = cookie - queue.forgotten - 1;
-        queue.outcomes.as_slice().get(index as usize).copied()
+        let index = cookie - queue.forgotten() - 1;
+        queue.outcomes().get(index as usize).copied()
     }
 
     /// Returns what runs on a channel: its cookie, and how many of its bytes are stored.
@@ -308,7 +308,7 @@ impl Engine {
     {
         for index in 0..self.queues.len() {
             let queue = &self.queues[index];
-            if let Some(ranges) = &queue.ranges {
+            if let Some(ranges) = queue.ranges() {
                 if access.conflicts_with(ranges) {
                     let cookie = queue.finished() + 1;
                     return Some((index as u8, cookie));

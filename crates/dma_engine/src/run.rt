@@ -30,12 +30,11 @@ pub fn run(alloc: Global, engine: &mut Engine, calls: &[Call]) -> Result<Vec<Rep
     ensures memory { engine.new.memory ≡ memory_of engine.new.view }
     ensures refused { OnErr result (engine.new.view ≡ engine.old.view) }
 {
-    // The contract of `history` says that the view is sound.
-    let _before = engine.history();
+    engine.view_is_sound();
     let mut replies = Vec::with_capacity(alloc, calls.len())?;
     for call in calls {
         replies.push_reserved(engine.carry_out(call));
-        let _after = engine.history();
+        engine.view_is_sound();
     }
     Ok(replies)
 }

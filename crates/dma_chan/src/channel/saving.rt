@@ -47,9 +47,9 @@ impl Channel {
         } else {
             self.program.unload();
         }
-        self.registers = head.registers;
-        self.buffer.clear();
-        self.buffer.fill_from_slice(head.buffer_of(save));
+        self.executor.registers = head.registers;
+        self.executor.buffer.clear();
+        self.executor.buffer.fill_from_slice(head.buffer_of(save));
         self.taken = head.taken;
         self.stored = head.stored;
         Ok(())
@@ -61,12 +61,12 @@ impl Channel {
         ensures buffer { length self.now.buffer ≤ buffer_size }
     {
         Head {
-            registers: self.registers,
+            registers: self.executor.registers,
             taken: self.taken,
             stored: self.stored,
             is_loaded: self.program.is_loaded(),
             cost: self.program.cost(),
-            buffer_len: self.buffer.len() as u16,
+            buffer_len: self.executor.buffer.len() as u16,
             program_len: self.program.bytes().len() as u16,
         }
     }
@@ -77,7 +77,7 @@ impl Channel {
         ensures channel { IsChannelValue self.now }
     {
         let head = self.head();
-        let (front, back) = self.buffer.as_slices();
+        let (front, back) = self.executor.buffer.as_slices();
         let program = self.program.bytes();
         write(&head, front, back, program)
     }

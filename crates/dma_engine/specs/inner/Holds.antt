@@ -61,6 +61,11 @@ new_queue =
       ranges = None;
     }
 
+-- a queue that has given one more cookie, whose transfer the history's entry at this index gives
+abbrev pub queue_submitted : Queue → ℕ → ℕ → ℕ → Queue
+queue_submitted q spare index cookie =
+    record q { given = cookie; indices = record { items = q.indices.items ++ index ∷ []; spare = spare } }
+
 -- a queue whose front starts; the front is this transfer and has these ranges
 abbrev pub queue_started : Queue → Descriptor → Ranges → Queue
 queue_started q t r = record q { channel = loaded (compiled t); ranges = Some r }

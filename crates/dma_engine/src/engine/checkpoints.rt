@@ -13,7 +13,7 @@ use crate::base::{Base, BaseChannel};
 use crate::call::{Call, Reply};
 use crate::engine::Engine;
 use crate::fault::EngineFault;
-use crate::queue::{Queue, transfer_at};
+use crate::queue::Queue;
 use dma_mem::transfer::Transfer;
 use std::alloc::{AllocError, Global};
 
@@ -76,7 +76,12 @@ impl Engine {
     {
         let queue = &self.queues[index];
         let unfinished = self.unfinished_copies(index)?;
-        Ok(BaseChannel::of(queue.finished(), queue.issued, queue.halted, unfinished))
+        Ok(BaseChannel::of(
+            queue.finished(),
+            queue.issued(),
+            queue.is_halted(),
+            unfinished,
+        ))
     }
 
     // Returns copies of the unfinished transfers of a channel, in the order of their cookies.
@@ -86,9 +91,9 @@ impl Engine {
             IfOk result (λ list. list.items ≡ drop (length c.outcomes) c.submitted) }
     {
         let queue = &self.queues[index];
-        let first = queue.outcomes.len();
+        let first = queue.outcomes().len();
         let mut list = Vec::new(self.alloc);
-        for n in first..(queue.given - queue.forgotten) as usize {
+        for n in first..(queue.given() - queue.forgotten()) as usize {
             list.push(self.transfer(index, n).try_copy()?)?;
         }
         Ok(list)
@@ -103,7 +108,7 @@ impl Engine {
     {
         let kept = self.base.kept(index);
         let queue = &self.queues[index];
-        let Some(transfer) = transfer_at(kept, &self.history, &queue.indices, n) else {
+        let Some(transfer) = queue.transfer(kept, &self.history, n) else {
             unreachable!();
         };
         transfer

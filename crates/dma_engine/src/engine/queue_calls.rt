@@ -27,7 +27,7 @@ impl Engine {
         if !transfer.lies_below(self.size) {
             return Err(EngineFault::OutOfMemoryRange);
         }
-        let given = self.queues[index].given;
+        let given = self.queues[index].given();
         if given >= LAST_COOKIE {
             return Err(EngineFault::CookiesSpent);
         }
@@ -69,11 +69,9 @@ impl Engine {
         };
         let index = self.history.len();
         let queue = &mut self.queues[usize::from(ch)];
-        let Ok(()) = queue.indices.make_room(1) else {
+        let Ok(()) = queue.submit(index, cookie) else {
             return Err(SubmitFault::no_memory(transfer));
         };
-        queue.indices.add(index);
-        queue.given = cookie;
         self.history.push_reserved(Entry::Submitted {
             ch,
             transfer,
@@ -112,10 +110,7 @@ impl Engine {
         self.history.reserve(1)?;
         self.history.push_reserved(Entry::Issued { ch });
         let queue = &mut self.queues[index];
-        let before = queue.issued;
-        let after = queue.given;
-        queue.issued = after;
-        Ok(after - before)
+        Ok(queue.issue())
     }
 
     /// Pauses a channel, so that its steps execute nothing. A paused channel stays paused. It adds no entry and
@@ -150,7 +145,7 @@ impl Engine {
     {
         let index = self.index_of(ch)?;
         let queue = &mut self.queues[index];
-        queue.paused = paused;
+        queue.set_paused(paused);
         Ok(())
     }
 

@@ -7,13 +7,13 @@ use Rattle.dma_chan.proofs.channel.Channel.saved_bytes.Goals as goal
 
 pub write-requires-clause-buffer : goal.write-requires-clause-buffer
 write-requires-clause-buffer c =
-    let buffer : c.self.inside.buffer.items ≡ c.args.self.now.buffer = ap (λ (x : ChannelValue). x.buffer) c.self.view_is in
+    let buffer : c.self.inside.executor.buffer.items ≡ c.args.self.now.buffer = ap (λ (x : ChannelValue). x.buffer) c.self.view_is in
     omega (arith, c.head-head.ensures.buffer, length-append c.as_slices.result.0.now c.as_slices.result.1.now, ap length c.as_slices.ensures, ap length buffer)
 
 pub returns-clause-bytes : goal.returns-clause-bytes
 unfolding saved
 returns-clause-bytes c =
-    let buffer : c.self.inside.buffer.items ≡ c.args.self.now.buffer = ap (λ (x : ChannelValue). x.buffer) c.self.view_is in
+    let buffer : c.self.inside.executor.buffer.items ≡ c.args.self.now.buffer = ap (λ (x : ChannelValue). x.buffer) c.self.view_is in
     let program : c.bytes-program.result.now ≡ code_of c.args.self.now = c.bytes-program.ensures.value ∙ ap code_of c.self.view_is in
     rw (c.write.ensures.bytes, c.head-head.ensures.head, c.as_slices.ensures, program, buffer) refl
 

@@ -30,7 +30,7 @@ returns-then-given-ge-LAST_COOKIE-clause-checked c =
     let at = holds-at p c.self.invariant i c.index.result.now less c.index.ensures in
     let q = c.index.result.now in
     let given : q.given ≡ used (channel (object_of v) i) = at.tied.given ∙ ap (λ (w : View). used (channel (object_of w) i)) is in
-    rw (← c.in_ok-index.ensures.there.0) (check-spent v i _ c.args.transfer.now there below (omega (arith, given, c.if-given-ge-LAST_COOKIE.true)))
+    rw (← c.in_ok-index.ensures.there.0) (check-spent v i _ c.args.transfer.now there below (omega (arith, given, c.given-given.ensures, c.if-given-ge-LAST_COOKIE.true)))
 
 pub returns-clause-checked : goal.returns-clause-checked
 returns-clause-checked c =
@@ -44,4 +44,4 @@ returns-clause-checked c =
     let at = holds-at p c.self.invariant i c.index.result.now less c.index.ensures in
     let q = c.index.result.now in
     let given : q.given ≡ used (channel (object_of v) i) = at.tied.given ∙ ap (λ (w : View). used (channel (object_of w) i)) is in
-    rw (given, ← c.in_ok-index.ensures.there.0) (check-fine v i _ c.args.transfer.now there below (omega (arith, given, c.if-given-ge-LAST_COOKIE.false)))
+    rw (c.given-given.ensures, given, ← c.in_ok-index.ensures.there.0) (check-fine v i _ c.args.transfer.now there below (omega (arith, given, c.given-given.ensures, c.if-given-ge-LAST_COOKIE.false)))

@@ -26,4 +26,4 @@ returns-clause-due c =
     let r = running p c.self.invariant c.args.ch q less read (sym c.if-not-is_loaded.ensures) in
     let next : member r.transfer q.channel.taken ≡ c.in-Ok.next = ahead-member p c.self.invariant c.args.ch q r c.in-Ok.next c.next.result c.next.ensures c.in-Ok.is in
     let few : p.steps < last_step = omega (arith, c.if-self-ge18446744073709551615.false) in
-    rw (← c.self.view_is) (make-due p c.self.invariant c.args.ch q (IsNext c.in-Ok.next) less read c.if-queue-2.false few r next)
+    rw (← c.self.view_is) (make-due p c.self.invariant c.args.ch q (IsNext c.in-Ok.next) less read (sym c.if-is_paused.ensures) few r next)

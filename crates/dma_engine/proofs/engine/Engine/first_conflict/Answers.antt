@@ -46,8 +46,8 @@ returns-then-conflicts_with c =
     let done : c.finished-cookie.result ≡ finished (channel (object_of (view_of p)) i) = omega (arith, c.finished-cookie.ensures, at.tied.forgotten, ap length at.tied.outcomes) in
     let number : c.finished-cookie.result + 1 ≡ finished (channel (object_of v) i) + 1 = ap (λ n. n + 1) (done ∙ ap (λ (s : EngineState). finished (channel (object_of s.view) i)) c.self.view_is) in
     let kept = subst (λ (s : EngineState). AreOfRunning q.ranges (runs (object_of s.view) s.view.schedule i)) c.self.view_is at.ranges in
-    let there = subst (λ (o : Option Ranges). AreOfRunning o (runs (object_of v) v.schedule i)) c.in-Some.is kept in
-    search (rules, way-here (conflicts c.args.access.now) (object_of v) v.schedule i (c.finished-cookie.result + 1) c.in-Some.ranges less c.loop-index.invariant there number c.if-conflicts_with.ensures)
+    let there = subst (λ (o : Option Ranges). AreOfRunning o (runs (object_of v) v.schedule i)) (sym c.in-Some.ensures) kept in
+    search (rules, way-here (conflicts c.args.access.now) (object_of v) v.schedule i (c.finished-cookie.result + 1) c.in-Some.ranges.now less c.loop-index.invariant there number c.if-conflicts_with.ensures)
 
 pub loop-index-preserved : goal.loop-index-preserved
 loop-index-preserved c =
@@ -61,9 +61,9 @@ loop-index-preserved c =
     let at = holds-at p c.self.invariant i q inside c.index-queue.ensures in
     let kept = subst (λ (s : EngineState). AreOfRunning q.ranges (runs (object_of s.view) s.view.schedule i)) c.self.view_is at.ranges in
     find-none_more (λ r. test r.transfer) (object_of v) v.schedule i c.loop-index.invariant
-    (elim c.match-queue.branch [
-      | in-Some+else-conflicts_with w ↦ passed-over test x w.in-Some.ranges (subst (λ (o : Option Ranges). AreOfRunning o x) w.in-Some.is kept) w.if-conflicts_with.ensures
-      | in_default w ↦ nothing-there test x (subst (λ (o : Option Ranges). AreOfRunning o x) w.in_default.is kept)
+    (elim c.match-ranges.branch [
+      | in-Some+else-conflicts_with w ↦ passed-over test x w.in-Some.ranges.now (subst (λ (o : Option Ranges). AreOfRunning o x) (sym w.in-Some.ensures) kept) w.if-conflicts_with.ensures
+      | in_default w ↦ nothing-there test x (subst (λ (o : Option Ranges). AreOfRunning o x) (sym w.in_default.ensures) kept)
     ])
 
 pub returns : goal.returns

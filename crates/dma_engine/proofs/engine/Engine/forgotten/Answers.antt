@@ -20,7 +20,7 @@ returns-in-Some-clause-base c =
     let less : i < length queues = ltb-true i (length queues) (sym found.0) in
     let at = holds-at p c.self.invariant i c.in-Some.queue.now less found.1 in
     let none : length (channel p.base i).outcomes ≡ 0 = ap length (c.self.invariant.sound.opens.each i).outcomes in
-    let same : c.in-Some.queue.now.forgotten ≡ finished (channel p.base i) = omega (arith, at.tied.forgotten, forgotten-stays p.base p.history i, none) in
+    let same : c.forgotten.result ≡ finished (channel p.base i) = omega (arith, c.forgotten.ensures, at.tied.forgotten, forgotten-stays p.base p.history i, none) in
     same ∙ sym (ap (λ (x : Counts). x.finished) (counts-at p.base i))
     ∙ ap (λ n. (counts (board_of p.base) n).finished) c.from.ensures
     ∙ ap (λ (s : EngineState). (counts (board_of s.view.base) c.args.ch).finished) c.self.view_is

@@ -11,8 +11,8 @@ use Rattle.dma_engine.proofs.Queues.{many-queues, holds-at, queue-there}
 use Rattle.dma_engine.proofs.QueueCalls.{holds-issued, view-entered}
 use Rattle.dma_engine.proofs.engine.Engine.issue.Goals as goal
 
-pub overflow_sub-result : goal.overflow_sub-result
-overflow_sub-result c =
+pub issue-requires : goal.issue-requires
+issue-requires c =
     let p = parts_of c.self.inside in
     let q = c.index_mut-queue.result.now in
     let less : c.in_ok-index.index < length p.queues = queue-there p c.args.self.now.view c.args.ch c.in_ok-index.index c.self.invariant (ap (λ (s : EngineState). s.view) c.self.view_is) c.in_ok-index.ensures.there in
@@ -24,7 +24,7 @@ pub invariant_of-self-2 : goal.invariant_of-self-2
 invariant_of-self-2 c =
     let p = parts_of c.self.inside in
     let less : c.in_ok-index.index < length p.queues = queue-there p c.args.self.now.view c.args.ch c.in_ok-index.index c.self.invariant (ap (λ (s : EngineState). s.view) c.self.view_is) c.in_ok-index.ensures.there in
-    rw (c.push_reserved.ensures.items, c.reserve.ensures.items, ← c.in_ok-index.ensures.there.0)
+    rw (c.issue.ensures.issued, c.push_reserved.ensures.items, c.reserve.ensures.items, ← c.in_ok-index.ensures.there.0)
     (holds-issued p c.in_ok-index.index c.index_mut-queue.result.now c.index_mut-queue.result.now.given c.self.invariant less c.index_mut-queue.ensures.value refl)
 
 pub returns-clause-answer : goal.returns-clause-answer
@@ -38,5 +38,5 @@ returns-clause-answer c =
     let at = holds-at p c.self.invariant i q less c.index_mut-queue.ensures.value in
     let counted : q.given - q.issued ≡ used (channel (object_of (view_of p)) i) - (channel (object_of (view_of p)) i).issued = omega (arith, at.tied.issued, at.tied.given) in
     let view = view-entered p i q (record q { issued = q.given }) p.memory p.events (Issued i) less c.index_mut-queue.ensures.value refl ∙ ap (λ (w : View). with_entry w (Issued i)) is in
-    rw (c.push_reserved.ensures.items, c.reserve.ensures.items, ← c.in_ok-index.ensures.there.0)
-    (issue-done c.args.self.now.view _ i _ there (counted ∙ ap (λ (w : View). used (channel (object_of w) i) - (channel (object_of w) i).issued) is) view)
+    rw (c.issue.ensures.issued, c.push_reserved.ensures.items, c.reserve.ensures.items, ← c.in_ok-index.ensures.there.0)
+    (issue-done c.args.self.now.view _ i _ there (c.issue.ensures.count ∙ counted ∙ ap (λ (w : View). used (channel (object_of w) i) - (channel (object_of w) i).issued) is) view)

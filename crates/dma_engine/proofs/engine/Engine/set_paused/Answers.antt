@@ -23,7 +23,7 @@ pub invariant_of-self : goal.invariant_of-self
 invariant_of-self c =
     let p = parts_of c.self.inside in
     let less : c.in_ok-index.index < length p.queues = queue-there p c.args.self.now.view c.args.ch c.in_ok-index.index c.self.invariant (ap (λ (s : EngineState). s.view) c.self.view_is) c.in_ok-index.ensures.there in
-    holds-paused p c.in_ok-index.index c.index_mut-queue.result.now c.args.paused c.self.invariant less c.index_mut-queue.ensures.value
+    rw c.set_paused.ensures (holds-paused p c.in_ok-index.index c.index_mut-queue.result.now c.args.paused c.self.invariant less c.index_mut-queue.ensures.value)
 
 pub returns-clause-answer : goal.returns-clause-answer
 returns-clause-answer c =
@@ -32,7 +32,7 @@ returns-clause-answer c =
     let less : c.in_ok-index.index < length p.queues = queue-there p c.args.self.now.view c.args.ch c.in_ok-index.index c.self.invariant (ap (λ (s : EngineState). s.view) c.self.view_is) c.in_ok-index.ensures.there in
     let many = many-queues p c.self.invariant ∙ ap channels is in
     let view = view-paused p c.in_ok-index.index c.index_mut-queue.result.now c.args.paused c.self.invariant less c.index_mut-queue.ensures.value ∙ ap (λ (w : View). with_pause w c.in_ok-index.index c.args.paused) is in
-    rw (← c.in_ok-index.ensures.there.0) (paused-done c.args.self.now.view _ c.in_ok-index.index c.args.paused (omega (arith, many, less)) view)
+    rw (c.set_paused.ensures, ← c.in_ok-index.ensures.there.0) (paused-done c.args.self.now.view _ c.in_ok-index.index c.args.paused (omega (arith, many, less)) view)
 
 pub returns-clause-kept : goal.returns-clause-kept
 returns-clause-kept c =
@@ -44,4 +44,4 @@ returns-clause-kept c =
     let object = ap object_of (view-paused p i q c.args.paused c.self.invariant less c.index_mut-queue.ensures.value) in
     let r = record q { paused = c.args.paused } in
     let queues = queues-grow p.queues i q r less c.index_mut-queue.ensures.value (omega arith) (omega arith) in
-    λ ch h. room-grows before _ object (omega arith) queues ch (subst (λ (s : EngineState). HasRoom s ch) (sym c.self.view_is) h)
+    rw c.set_paused.ensures (λ ch h. room-grows before _ object (omega arith) queues ch (subst (λ (s : EngineState). HasRoom s ch) (sym c.self.view_is) h))

@@ -2,7 +2,7 @@ use Rattle.std.proofs.Common.{◌≡◌, ◌+◌, ◌<◌, ◌∙◌, ◌++◌, 
 use Rattle.dma_mem.specs.Places.{lies_below}
 use Rattle.dma_engine.specs.declared.entry.Entry.TheVariants.{Submitted}
 use Rattle.dma_engine.specs.Answer.{submit_fault}
-use Rattle.dma_engine.specs.inner.Holds.{view_of}
+use Rattle.dma_engine.specs.inner.Holds.{queue_submitted, view_of}
 use Rattle.dma_engine.specs.inner.Inside.{parts_of}
 use Rattle.dma_engine.specs.Object.{Allows, channel, used}
 use Rattle.dma_engine.specs.Turn.{with_entry}
@@ -29,10 +29,9 @@ invariant_of-self-2 c =
     let below : lies_below t (size (view_of p)) ≡ true = ap (λ (w : View). lies_below t (size w)) is ∙ free.1 in
     let allowed = submitted-allowed p i q.given t q c.self.invariant less c.index_mut-queue.ensures.value refl (omega (arith, many, free.2)) c.requires.rules below in
     let cookie : q.given + 1 ≡ c.args.cookie = omega (arith, many, number) in
-    let holds = holds-submitted p i c.add.new.self.spare c.args.cookie t q c.self.invariant less c.index_mut-queue.ensures.value (subst (λ (n : ℕ). Allows (object_of (view_of p)) (Submitted i t n)) cookie allowed) in
+    let holds = holds-submitted p i c.submit.new.self.indices.spare c.args.cookie t q c.self.invariant less c.index_mut-queue.ensures.value (subst (λ (n : ℕ). Allows (object_of (view_of p)) (Submitted i t n)) cookie allowed) in
     let index : c.len-index.result ≡ length p.history = omega (arith, c.len-index.ensures, c.reserve.new.self.ok.0, ap length c.reserve.ensures.items) in
-    let added : c.add.new.self ≡ record { items = q.indices.items ++ c.len-index.result ∷ []; spare = c.add.new.self.spare } = ap (λ (l : List ℕ). record { items = l; spare = c.add.new.self.spare }) (c.add.ensures.items ∙ ap (λ (l : List ℕ). l ++ c.len-index.result ∷ []) c.make_room.ensures.items) in
-    rw (c.push_reserved.ensures.items, added, index, c.reserve.ensures.items, ← c.from.ensures) holds
+    rw (c.push_reserved.ensures.items, c.in-Ok-submit.ensures.submitted, index, c.reserve.ensures.items, ← c.from.ensures) holds
 
 pub returns-clause-answer : goal.returns-clause-answer
 returns-clause-answer c =
@@ -47,6 +46,6 @@ returns-clause-answer c =
     let free = submit-open v c.args.ch t none in
     let less : i < length p.queues = omega (arith, many-queues p c.self.invariant, ap channels is, free.0, c.from.ensures) in
     let entry = Submitted c.args.ch t c.args.cookie in
-    let view = view-entered p i q (record q { indices = c.add.new.self; given = c.args.cookie }) p.memory p.events entry less c.index_mut-queue.ensures.value refl ∙ ap (λ (w : View). with_entry w entry) is in
-    rw (c.push_reserved.ensures.items, c.reserve.ensures.items)
+    let view = view-entered p i q (queue_submitted q c.submit.new.self.indices.spare c.len-index.result c.args.cookie) p.memory p.events entry less c.index_mut-queue.ensures.value refl ∙ ap (λ (w : View). with_entry w entry) is in
+    rw (c.push_reserved.ensures.items, c.in-Ok-submit.ensures.submitted, c.reserve.ensures.items)
     (submit-done v _ c.args.ch c.args.cookie t none number view)

@@ -16,8 +16,8 @@ kept-kept-requires c =
     let less : c.args.index < length p.queues = omega (arith, there, many-queues p c.self.invariant) in
     omega (arith, less, many-queues p c.self.invariant, many-channels p.base p.history)
 
-pub transfer_at-requires : goal.transfer_at-requires
-transfer_at-requires c =
+pub transfer-requires : goal.transfer-requires
+transfer-requires c =
     let p = parts_of c.self.inside in
     let i = c.args.index in
     let there = rw (← c.self.view_is) at c.requires.there in

@@ -12,7 +12,7 @@ pub loop-n-preserved : goal.loop-n-preserved
 loop-n-preserved c =
     let p = parts_of c.self.inside in
     let n = c.loop-n.n in
-    let first = c.len-first.result in
+    let first = length c.outcomes-first.result.now in
     let ts = (channel (object_of (view_of p)) c.args.index).submitted in
     let asked = rw (← c.self.view_is) at c.requires in
     let less : c.args.index < length p.queues = omega (arith, asked, many-queues p c.self.invariant) in
