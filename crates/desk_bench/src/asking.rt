@@ -5,6 +5,7 @@ ghost use Rattle.dma_work.specs.Desk.{Names};
 use crate::copies::{Copies, load, loaded};
 use crate::plan::{Meanwhile, Measured, Times, since};
 use crate::stepping::{settled, step_often};
+use dma_engine::Call;
 use dma_work::{DeskName, Job, NoGate, Parts, Shared, StatusReader, Tally, work};
 use std::alloc::Global;
 use std::rt::Clock;
@@ -86,7 +87,7 @@ fn submit_some<N: DeskName, R: Wait>(
         }
     }
     let mut desk = shared.desk().lock(rt);
-    let _ = desk.issue(0);
+    let _ = desk.carry_out(&Call::Issue { ch: 0 });
     MutexGuard::unlock(desk);
 }
 

@@ -57,7 +57,7 @@ pub fn time_engine<R: Clock + CpuClock>(
     Some(Measured {
         answers: 0,
         steps: engine.steps(),
-        finished: engine.finished_all(),
+        finished: u64::from(engine.finished(0)),
         times,
     })
 }

@@ -1,10 +1,11 @@
 -- The state of a channel after a submit and a terminate on it, and the counts that the ticks of a history sum up to.
-use Rattle.std.proofs.Common.{◌≡◌, ℕ, ◌+◌, ◌<◌, ◌≤◌, List, [], ◌∷◌, length, drop, Bool, true, false, refl, ap, sym, ◌∙◌, arith, inl, inr}
+use Rattle.std.proofs.Common.{◌≡◌, ℕ, ◌+◌, ◌<◌, ◌≤◌, ◌^◌, List, [], ◌∷◌, length, drop, Bool, true, false, refl, ap, sym, ◌∙◌, arith, inl, inr}
 use Rattle.std.specs.List.{All}
 use Rattle.std.specs.Prelude.{nat_le, Option, Some, None}
 use Rattle.std.proofs.lemmas.Bool.{cases_lt, leb-false}
 use Rattle.std.proofs.lemmas.List.{length-map, length_push, get_or-set_same, get_or_past, length-append, length-drop}
-use Rattle.std.proofs.lemmas.List.Elements.{All-cons, All-nil}
+use Rattle.std.proofs.lemmas.List.Elements.{All-cons, All-from_get_or, All-nil}
+use Rattle.std.proofs.lemmas.List.Sums.{sum_by-le}
 use Rattle.std.proofs.Math.ListN.{get_or-map}
 use Rattle.dma_mem.specs.Places.{Descriptor}
 use Rattle.dma_mem.specs.declared.call.Call.TheVariants.{Submit, Terminate}
@@ -19,12 +20,12 @@ use Rattle.dma_engine.specs.declared.outcome.TransResult.TheVariants.{NoError, R
 use Rattle.dma_engine.specs.Answer.{CallAnswers, answer, unless, cause, channel_fault, done_on, submit_fault, terminated}
 use Rattle.dma_engine.specs.History.{IsLegal}
 use Rattle.dma_engine.specs.Laws.{SubmitsAdd, TerminatesAdd, BoardsCount, StatusByTicks, BaseCountsBounded, TicksAtMostEntries, TicksNameChannels}
-use Rattle.dma_engine.specs.Object.{Allows, FrontIs, Object, after, channel, empty_channel, used, finished, unfinished, aborted, with_transfer, with_all_aborted}
+use Rattle.dma_engine.specs.Object.{Allows, ChannelState, FrontIs, Object, after, channel, empty_channel, last_cookie, used, finished, finished_all, unfinished, aborted, with_transfer, with_all_aborted}
 use Rattle.dma_engine.specs.Ticks.{Counts, Finished, Submitted, counts_of, tick_channel, ticks_of}
 use Rattle.dma_engine.specs.Turn.{with_entry}
-use Rattle.dma_engine.specs.View.{View, object_of, channels}
+use Rattle.dma_engine.specs.View.{IsSound, View, object_of, channels}
 use Rattle.dma_engine.proofs.CallCases.{submit-open}
-use Rattle.dma_engine.proofs.Boards.{AreCounted, board-is, counted-base, status-by-board}
+use Rattle.dma_engine.proofs.Boards.{AreCounted, board-is, counted-base, counted-object, status-by-board}
 use Rattle.dma_engine.proofs.AnswerCounts.{object-one, submitted, closed}
 use Rattle.dma_engine.proofs.Endings.{length-aborted}
 use Rattle.dma_engine.proofs.Sizes.{made, many-after as channels-after, many-channels as channels-object}
@@ -125,6 +126,15 @@ base_counts_bounded v h =
           let c = counted ch in
           (omega (arith, ap (λ (x : Counts). x.used) at, c.give), omega (arith, ap (λ (x : Counts). x.finished) at, c.finish, c.give))),
     )
+
+-- how many cookies are finished, on all channels together
+pub finished_bounded : (v : View) → IsSound v → finished_all (object_of v) < 2 ^ 64
+finished_bounded v h =
+    let o = object_of v in
+    let counted : AreCounted o = counted-object v.base v.history (counted-base v.base h.opens) h.legal in
+    let P : ChannelState → Type 0 = λ c. finished c ≤ last_cookie in
+    let each : All P o.channels = All-from_get_or P o.channels empty_channel (λ i less. omega (arith, (counted i).finish, (counted i).give)) in
+    omega (arith, sum_by-le finished last_cookie o.channels each, (base_counts_bounded v h).0, (base_counts_bounded v h).1)
 
 -- a channel with a front exists
 front-there : (o : Object) (ch : ℕ) (P : Descriptor → Type 0) → FrontIs (channel o ch) P → ch < length o.channels

@@ -1,6 +1,6 @@
 //! The engine: the type, what it keeps, and its readings. Its calls and steps are in the files of `engine/`.
 
-ghost use Rattle.std.specs.Prelude.{◌≡◌, ◌<◌, ◌≤◌, IfOk, IfErr, OnOk, None, unwrap_or, replicate};
+ghost use Rattle.std.specs.Prelude.{◌≡◌, ◌<◌, ◌≤◌, ◌^◌, IfOk, IfErr, OnOk, None, unwrap_or, replicate};
 ghost use Rattle.std.specs.Option.{option_map};
 ghost use Rattle.dma_engine.specs.Object.{channel, used, finished, finished_all, unfinished};
 ghost use Rattle.dma_engine.specs.Ticks.{board_of, counts};
@@ -132,6 +132,20 @@ impl Engine {
         self.history.as_slice()
     }
 
+    /// Does nothing. Its contract gives the proof of a caller what holds of every engine: the history is legal from the
+    /// base, the memory is its image with the bytes that running transfers have stored so far, and the counts of steps
+    /// and of finished cookies are below 2^64.
+    #[inline(always)]
+    pub fn facts(&self)
+        ensures sound { IsSound self.now.view }
+        ensures memory { self.now.memory ≡ memory_of self.now.view }
+        ensures steps { self.now.view.steps < 2 ^ 64 }
+        ensures finished { finished_all (object_of self.now.view) < 2 ^ 64 }
+    {
+        // gives the proof the range of the number
+        let _steps = self.steps;
+    }
+
     /// Returns how many cookies a channel has given, or 0 if there is no such channel.
     pub fn used(&self, ch: u8) -> u32
         ensures { result ≡ used (channel (object_of self.now.view) ch) }
@@ -180,17 +194,6 @@ impl Engine {
             Some(queue) => queue.unfinished() as u32,
             None => 0,
         }
-    }
-
-    /// Returns how many cookies are finished on all channels together.
-    pub fn finished_all(&self) -> u64
-        ensures { result ≡ finished_all (object_of self.now.view) }
-    {
-        let mut all = 0;
-        for index in 0..self.queues.len() {
-            all += u64::from(self.queues[index].finished());
-        }
-        all
     }
 
     /// Returns whether a channel is paused, or false if there is no such channel.

@@ -42,7 +42,6 @@ pub fn report_the_same(this: &Engine, that: &Engine) -> bool {
     }
     this.history().len() == that.history().len()
         && this.steps() == that.steps()
-        && this.finished_all() == that.finished_all()
         && report_the_same_of_all(this, that)
 }
 

@@ -1,9 +1,10 @@
 //! Engines with copies on them, and scenes, which make calls on a desk over an engine.
 
 ghost use Rattle.std.specs.Prelude.{◌≡◌, IfOk};
+ghost use Rattle.dma_engine.specs.Laws.{IsQuiet};
 ghost use Rattle.dma_work.specs.Desk.{Names};
 
-use dma_engine::{Engine, EngineFault, Status, Turn};
+use dma_engine::{Call, Engine, EngineFault, Reply, Status, Turn};
 use dma_mem::segment::Segment;
 use dma_mem::transfer::Transfer;
 use dma_work::{
@@ -174,6 +175,16 @@ pub fn seen(reader: &mut StatusReader) -> [Option<Status>; 3]
     ]
 }
 
+/// Makes a call that publishes nothing. Returns its reply, or the fault if it is refused.
+pub fn carried_out<N: DeskName>(desk: &mut Desk<N>, call: Call) -> Result<Reply, EngineFault>
+    requires { IsQuiet call }
+{
+    match desk.carry_out(&call) {
+        Reply::Refused(fault) => Err(fault),
+        reply => Ok(reply),
+    }
+}
+
 /// Submits a copy to channel 0 and issues it. It is a function of its own so that the invariant of a transfer doesn't
 /// lengthen the proofs about readers.
 pub fn submitted<N: DeskName, R: Wait>(
@@ -185,7 +196,7 @@ pub fn submitted<N: DeskName, R: Wait>(
     let Ok(receipt) = desk.submit(rt, 0, copy(alloc, len, 0x2000, None, None)?) else {
         return Err(Fail::from("submit was refused"));
     };
-    desk.issue(0)?;
+    carried_out(desk, Call::Issue { ch: 0 })?;
     Ok(receipt)
 }
 

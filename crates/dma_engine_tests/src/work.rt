@@ -4,10 +4,10 @@ ghost use Rattle.std.specs.Prelude.{◌≡◌};
 ghost use Rattle.dma_work.specs.Desk.{Names};
 
 use crate::scenes::{
-    COMPLETE, IN_PROGRESS, Scene, UNKNOWN, copy, issued, play, seen, settled, step_often, stepped,
-    submitted, with_a_reader, without_room,
+    COMPLETE, IN_PROGRESS, Scene, UNKNOWN, carried_out, copy, issued, play, seen, settled,
+    step_often, stepped, submitted, with_a_reader, without_room,
 };
-use dma_engine::{Engine, Outcome, Status, TransResult, Turn};
+use dma_engine::{Call, Engine, Outcome, Status, TransResult, Turn};
 use dma_work::{Desk, DeskName, Job, NoGate, Parts, Shared, StatusReader, Tally, Totals, work};
 use std::alloc::Global;
 use std::marker::Brand;
@@ -142,12 +142,12 @@ fn afternoon<N: DeskName, R: Wait + Abort>(
     let second = copy(alloc, 4, 0x2000, None, None)?;
     assert!(rt; desk.check_submit(0, &second) == Ok(2));
     reader.learn(submitted(rt, alloc, desk, 4)?.ticket);
-    desk.pause(0)?;
+    carried_out(desk, Call::Pause { ch: 0 })?;
     assert!(rt; stepped(rt, desk)? == Turn::Paused);
-    desk.resume(0)?;
+    carried_out(desk, Call::Resume { ch: 0 })?;
     assert!(rt; stepped(rt, desk)? == Turn::Started(2));
-    assert!(rt; desk.status(0, 2) == Status::InProgress);
-    assert!(rt; desk.result(0, 1) == Some(copied));
+    assert!(rt; desk.engine().status(0, 2) == Status::InProgress);
+    assert!(rt; desk.engine().result(0, 1) == Some(copied));
     let closed = desk.terminate(rt, 0)?;
     assert!(rt; (closed.ch, closed.count, closed.through) == (0, 1, 2));
     reader.learn(closed.ticket);

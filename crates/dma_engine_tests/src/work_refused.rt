@@ -3,10 +3,11 @@
 
 use crate::races::{BOTH_COPIED, raced};
 use crate::scenes::{
-    COMPLETE, IN_PROGRESS, Scene, UNKNOWN, copy, issued, play, second_issued, seen, step_often,
-    with_a_reader, without_room,
+    COMPLETE, IN_PROGRESS, Scene, UNKNOWN, carried_out, copy, issued, play, second_issued, seen,
+    step_often, with_a_reader, without_room,
 };
-use dma_engine::{Engine, EngineFault, MarkKind, Outcome, Running, Status};
+use dma_engine::{Call, Engine, EngineFault, MarkKind, Outcome, Running, Status};
+use dma_mem::lists::Bytes;
 use dma_mem::segment::Segment;
 use dma_mem::transfer::Transfer;
 use dma_work::{Desk, DeskName, Job, NoGate, StatusReader, Totals};
@@ -58,7 +59,7 @@ fn facts_of<N: DeskName>(desk: &Desk<N>, reader: &mut StatusReader) -> Facts {
     let entries = engine.history().len();
     (
         (entries, [steps, finished, terminated], seen(reader)),
-        [engine.steps(), engine.finished_all()],
+        [engine.steps(), u64::from(engine.finished(0))],
         engine.running(0),
         [engine.result(0, 1), engine.result(0, 2)],
     )
@@ -97,14 +98,19 @@ fn refusal<N: DeskName, R: Wait + Abort>(
     desk: &mut Desk<N>,
     asked: Asked,
 ) -> Result<Option<EngineFault>, Fail> {
+    let (kind, segment) = (MarkKind::Writing, LAST);
     Ok(match asked {
-        Asked::Write => desk.write(0x1004, &[7]).err(),
-        Asked::Read => desk.read(0x1000, 4).err(),
+        Asked::Write => {
+            let bytes = Bytes::from_slice(alloc, &[7])?;
+            let addr = 0x1004;
+            carried_out(desk, Call::Write { addr, bytes }).err()
+        }
+        Asked::Read => carried_out(desk, Call::Read { addr: 0x1000, len: 4 }).err(),
         Asked::Submit => submit_refusal(rt, desk, copy(alloc, 4, 0x3000, Some(3), Some(7))?),
-        Asked::Issue => desk.issue(0).err(),
-        Asked::Mark => desk.mark(MarkKind::Writing, LAST).err(),
-        Asked::Unmark => desk.unmark().err(),
-        Asked::Raise => desk.raise(31).err(),
+        Asked::Issue => carried_out(desk, Call::Issue { ch: 0 }).err(),
+        Asked::Mark => carried_out(desk, Call::Mark { kind, segment }).err(),
+        Asked::Unmark => carried_out(desk, Call::Unmark).err(),
+        Asked::Raise => carried_out(desk, Call::Raise { event: 31 }).err(),
         Asked::Checkpoint => desk.checkpoint().err(),
         Asked::Terminate => desk.terminate(rt, 0).err(),
         Asked::Step => step_refusal(rt, desk),

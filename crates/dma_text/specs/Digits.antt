@@ -1,12 +1,12 @@
--- Numbers as text.
+-- Bytes and numbers in hexadecimal digits, which are 0 to 9 and A to F.
 use Rattle.std.specs.Prelude.{ℕ, ◌/◌, ◌%◌, true, List, [], ◌∷◌, map, flat_map}
 use Rattle.std.specs.Fmt.{digit_glyph}
 
--- the two hexadecimal digits of a byte, 0 to 9 and A to F
+-- a byte in two digits
 abbrev pub hex_pair : ℕ → List ℕ
 hex_pair b = digit_glyph true (b / 16) ∷ digit_glyph true (b % 16) ∷ []
 
--- the eight hexadecimal digits of a number below 2 ^ 32, 0 to 9 and A to F
+-- a number below 2 ^ 32 in eight digits
 abbrev pub hex_digits : ℕ → List ℕ
 hex_digits v =
     map (λ weight. digit_glyph true (v / weight % 16))

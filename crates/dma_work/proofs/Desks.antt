@@ -128,7 +128,7 @@ ended v w ch t over h =
 -- one more tick was made ready, and the engine has added it
 pub acted_next : (p r : PublisherState) (v m w : View) (l : List BoardState) (t u : Tick) → m ≡ v → ticks_of w.history ≡ ticks_of m.history ++ u ∷ [] → t ≡ u → r ≡ record p { pending = l } → p.before ++ ticks_of v.history ≡ p.shown.ticks → HasActed r w t
 acted_next p r v m w l t u same more is ready shown =
-    rw (ready, is, more, same) (sym (append_assoc p.before (ticks_of v.history) (u ∷ [])) ∙ ap (λ x. x ++ u ∷ []) shown)
+    rw (ready, is, more, same) ((ticks_of v.history, shown), sym (append_assoc p.before (ticks_of v.history) (u ∷ [])) ∙ ap (λ x. x ++ u ∷ []) shown)
 
 -- no tick more is published
 pub no_more : (p : PublisherState) → p ≡ record p { shown = board_and p.shown [] }

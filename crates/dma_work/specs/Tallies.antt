@@ -1,25 +1,28 @@
 -- The tallies of jobs.
 use Rattle.std.specs.Prelude.{◌≡◌, ℕ, ◌<◌, length, slice_index_or, List}
-use Rattle.dma_work.specs.declared.worker.Job.{Job}
-use Rattle.dma_work.specs.Desk.{DeskState, TakesAStep, TallyCounts, WorkerState, new_tally}
+use Rattle.dma_work.specs.declared.job.Job.{Job}
+use Rattle.dma_work.specs.Desk.{DeskState, TakesAStep, TallyCounts, new_tally}
 use Rattle.dma_work.specs.Rotation.{StepsInTurn, rotation}
 
--- a lender that may lend any desk, and get any desk back
+-- A new worker with this number took the turns of a job at a lender, one after another, and did nothing else. Its tally
+-- and the lender afterwards are `tally` and `left`. In a turn the worker passes the gate, as `passes` says of the worker
+-- and the turn's number, and steps the desk that it is lent.
+pub record TookTurnsAt
+    {L : Type 0} (bytes many : ℕ) (passes : ℕ → ℕ → Type 0) (lends : L → DeskState → DeskState → L → Type 0)
+    (worker : ℕ) (job : Job) (lender left : L) (tally : TallyCounts)
+    : Type 0 where
+  pub number : tally.worker ≡ worker
+  pub count : tally.turns ≡ job.turns
+  pub steps : StepsInTurn (TakesAStep bytes many passes lends) (rotation job.first job.last job.turns)
+      (record { lender = lender; tally = new_tally worker }) (record { lender = left; tally = tally })
+
+-- a lender that may lend any desk in any turn, as far as is known
 abbrev pub any_desk : Unit {0} → DeskState → DeskState → Unit {0} → Type 0
 any_desk before lent back after = Unit {0}
 
--- a worker with this tally and such a lender
-abbrev pub with_tally : TallyCounts → WorkerState (Unit {0})
-with_tally tally = record { lender = tt; tally = tally }
-
--- A new worker with this number took the turns of a job, one after another, and then has this tally. `passes` has a
--- worker and the number of a turn before which the worker passed the gate.
-pub record TookTurns
-    (bytes many : ℕ) (passes : ℕ → ℕ → Type 0) (worker : ℕ) (job : Job) (tally : TallyCounts) : Type 0 where
-  pub number : tally.worker ≡ worker
-  pub count : tally.turns ≡ job.turns
-  pub steps : StepsInTurn (TakesAStep bytes many passes any_desk) (rotation job.first job.last job.turns)
-      (with_tally (new_tally worker)) (with_tally tally)
+-- The same at a lender of which nothing is known.
+abbrev pub TookTurns : ℕ → ℕ → (ℕ → ℕ → Type 0) → ℕ → Job → TallyCounts → Type 0
+TookTurns bytes many passes worker job tally = TookTurnsAt bytes many passes any_desk worker job tt tt tally
 
 -- Tally i is that of a new worker i that took the turns of job i.
 abbrev pub AreTallies : ℕ → ℕ → (ℕ → ℕ → Type 0) → List TallyCounts → List Job → Type 0

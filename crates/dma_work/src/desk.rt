@@ -7,7 +7,7 @@ ghost use Rattle.dma_engine.specs.Laws.{IsQuiet};
 ghost use Rattle.dma_engine.specs.Object.{channel, finished_all, used};
 ghost use Rattle.dma_engine.specs.Room.{HasNoSpare};
 ghost use Rattle.dma_engine.specs.View.{memory_of, object_of};
-ghost use Rattle.dma_work.specs.Desk.{Answers, Differ, AnswersDone, IsSettled, IsSoundOf, Names, SameBook, counted, new_tally, no_totals, published, stepped_book};
+ghost use Rattle.dma_work.specs.Desk.{Differ, IsSettled, IsSoundOf, Names, SameBook, counted, new_tally, no_totals, published, stepped_book};
 ghost use Rattle.dma_work.specs.Known.{knows};
 ghost use Rattle.dma_work.specs.Laws.{AreCounts};
 ghost use Rattle.dma_work.specs.Ticks.{base_of, board_from};
@@ -16,9 +16,7 @@ use crate::log::{Change, Tick};
 use crate::publisher::{Parts, Publisher};
 use crate::reader::{Closed, Receipt, StatusReader, Ticket};
 use crate::worker::{Tally, Totals};
-use dma_engine::{Call, Engine, EngineFault, MarkKind, Outcome, Reply, Status, SubmitFault, Turn};
-use dma_mem::lists::Bytes;
-use dma_mem::segment::Segment;
+use dma_engine::{Call, Engine, EngineFault, Reply, SubmitFault, Turn};
 use dma_mem::transfer::Transfer;
 use std::marker::{Brand, Model, PhantomData};
 use std::sync::Wait;
@@ -110,8 +108,7 @@ impl<N: DeskName> Desk<N> {
         ensures sound { IsSoundOf N.size N.channels self.now.engine.view }
         ensures memory { self.now.engine.memory ≡ memory_of self.now.engine.view }
     {
-        // gives the proof access to the engine's invariant
-        let _history = self.engine.history();
+        self.engine.facts();
         &self.engine
     }
 
@@ -130,8 +127,8 @@ impl<N: DeskName> Desk<N> {
         Tally::new(worker)
     }
 
-    /// Returns one more reader, which has seen what is published, or `None` if no place is free. `Parts::new` makes as
-    /// many places as readers, at least one, and a dropped reader frees its place.
+    /// Returns one more reader, which has seen what is published, or `None` if no place is free. There are as many
+    /// places as [`Parts::new`] made readers, or one if it made none. A reader that is dropped frees its place.
     pub fn reader(&mut self) -> Option<StatusReader>
         ensures seen { IfSome result (λ r. r ≡ knows N.base N.log (published self.old)) }
         ensures same { self.new ≡ self.old }
@@ -149,21 +146,6 @@ impl<N: DeskName> Desk<N> {
         self.engine.carry_out(call)
     }
 
-    /// Writes memory like [`Engine::write`].
-    pub fn write(&mut self, addr: u32, bytes: &[u8]) -> Result<(), EngineFault>
-        ensures { AnswersDone self.old (Call.Write addr bytes.now) result self.new }
-    {
-        self.engine.write(addr, bytes)
-    }
-
-    /// Reads memory like [`Engine::read`].
-    pub fn read(&mut self, addr: u32, len: u32) -> Result<Bytes, EngineFault>
-        ensures { Answers self.old (Call.Read addr len)
-            (reply_of (λ bytes. Reply.Bytes bytes) result) self.new }
-    {
-        self.engine.read(addr, len)
-    }
-
     /// Checks a submit like [`Engine::check_submit`].
     pub fn check_submit(&mut self, ch: u8, transfer: &Transfer) -> Result<u32, EngineFault>
         ensures answer { result ≡ checked (submit_fault self.old.engine.view ch transfer.now)
@@ -172,65 +154,6 @@ impl<N: DeskName> Desk<N> {
         ensures same { self.new ≡ self.old }
     {
         self.engine.check_submit(ch, transfer)
-    }
-
-    /// Issues the cookies of a channel like [`Engine::issue`].
-    pub fn issue(&mut self, ch: u8) -> Result<u32, EngineFault>
-        ensures { Answers self.old (Call.Issue ch)
-            (reply_of (λ count. Reply.Count count) result) self.new }
-    {
-        self.engine.issue(ch)
-    }
-
-    /// Pauses a channel like [`Engine::pause`].
-    pub fn pause(&mut self, ch: u8) -> Result<(), EngineFault>
-        ensures { AnswersDone self.old (Call.Pause ch) result self.new }
-    {
-        self.engine.pause(ch)
-    }
-
-    /// Resumes a channel like [`Engine::resume`].
-    pub fn resume(&mut self, ch: u8) -> Result<(), EngineFault>
-        ensures { AnswersDone self.old (Call.Resume ch) result self.new }
-    {
-        self.engine.resume(ch)
-    }
-
-    /// Returns the status of a cookie like [`Engine::status`].
-    pub fn status(&mut self, ch: u8, cookie: u32) -> Status
-        ensures answer { Answers self.old (Call.Status ch cookie) (Reply.State result) self.new }
-        ensures same { self.new ≡ self.old }
-    {
-        self.engine.status(ch, cookie)
-    }
-
-    /// Returns the outcome of a cookie like [`Engine::result`].
-    pub fn result(&mut self, ch: u8, cookie: u32) -> Option<Outcome>
-        ensures answer { Answers self.old (Call.Result ch cookie) (Reply.Result result) self.new }
-        ensures same { self.new ≡ self.old }
-    {
-        self.engine.result(ch, cookie)
-    }
-
-    /// Marks a range like [`Engine::mark`].
-    pub fn mark(&mut self, kind: MarkKind, segment: Segment) -> Result<(), EngineFault>
-        ensures { AnswersDone self.old (Call.Mark kind segment) result self.new }
-    {
-        self.engine.mark(kind, segment)
-    }
-
-    /// Removes all marks like [`Engine::unmark`].
-    pub fn unmark(&mut self) -> Result<(), EngineFault>
-        ensures { AnswersDone self.old Call.Unmark result self.new }
-    {
-        self.engine.unmark()
-    }
-
-    /// Sets the flag of an event like [`Engine::raise`].
-    pub fn raise(&mut self, event: u8) -> Result<(), EngineFault>
-        ensures { AnswersDone self.old (Call.Raise event) result self.new }
-    {
-        self.engine.raise(event)
     }
 
     /// Drops the history like [`Engine::checkpoint`]. It publishes nothing, and doesn't change the book or what readers
@@ -244,15 +167,14 @@ impl<N: DeskName> Desk<N> {
         ensures room { IfOk result (λ _. HasNoSpare self.new.engine) }
         ensures same { OnErr result (self.new ≡ self.old) }
     {
-        // gives the proof access to the engine's invariant
-        let _history = self.engine.history();
+        self.engine.facts();
         self.engine.checkpoint()?;
         self.publisher.begin_again();
         Ok(())
     }
 
     /// Takes a step like [`Engine::step`], and counts it in the book and in the tally: a step for `Moved`, a step and a
-    /// finish for `Finished`. The tally also counts a turn for each call; it has fewer than 2^64 - 1 turns before.
+    /// finish for `Finished`. Each call adds a turn to the tally, which has fewer than 2^64 - 1 turns.
     ///
     /// Only a step that finishes a cookie publishes. A refused step changes nothing but the tally's number of turns.
     pub fn step<R: Wait>(
@@ -271,9 +193,8 @@ impl<N: DeskName> Desk<N> {
             Some(answer) => answer,
             None => self.publisher.step(rt, &mut self.engine, ch),
         };
-        // bound the book for the proof
-        let _steps = self.engine.steps();
-        let _finished = self.engine.finished_all();
+        // bounds the book
+        self.engine.facts();
         self.book.count(&answer);
         tally.count(&answer);
         answer
@@ -307,8 +228,7 @@ impl<N: DeskName> Desk<N> {
         let Ok(cookie) = self.engine.submit(ch, transfer) else {
             unreachable!();
         };
-        // gives the proof access to the engine's invariant
-        let _history = self.engine.history();
+        self.engine.facts();
         let ticket = Ticket::new(self.publisher.publish(rt, tick, &self.engine));
         Ok(Receipt { ch, cookie, ticket })
     }
@@ -337,9 +257,8 @@ impl<N: DeskName> Desk<N> {
         let Ok(count) = self.engine.terminate(ch) else {
             unreachable!();
         };
-        // give the proof access to the engine's invariant, and bound the book
-        let _history = self.engine.history();
-        let _finished = self.engine.finished_all();
+        // bounds the book
+        self.engine.facts();
         self.book.terminated += u64::from(count);
         let last = Ticket::new(self.publisher.publish(rt, tick, &self.engine));
         let through = self.engine.used(ch);
@@ -368,8 +287,7 @@ impl<N: DeskName> Desk<N> {
             of: _,
         } = self;
         publisher.end(rt);
-        // gives the proof access to the engine's invariant
-        let _history = engine.history();
+        engine.facts();
         (engine, book)
     }
 

@@ -6,7 +6,7 @@
 //!
 //! Proved: a method of the desk returns the engine's own answer, and publishes the tick of a finish, a submit or a
 //! terminate after it (`Desk`); a worker passes its gate for each turn, steps the channels of its job in rotation, one
-//! for each turn, and does nothing else ([`take_turns`] of a [`Worker`]); the tallies and the book count each step once,
+//! for each turn, and does nothing else ([`work_at`]); the tallies and the book count each step once,
 //! and a desk is settled if their sums agree (`Desk::settle`); a status is that of a published list that begins with
 //! all that the reader has seen and learnt (`StatusReader::status`, `laws::statuses_stay_true`).
 //!
@@ -17,6 +17,7 @@
 
 mod board;
 mod desk;
+mod job;
 pub mod laws;
 mod log;
 mod publisher;
@@ -25,9 +26,10 @@ mod shared;
 mod worker;
 
 pub use desk::{Desk, DeskName};
+pub use job::Job;
 pub use publisher::{MAX_READERS, Parts, ShareFault, ShareFaultKind};
 pub use reader::{Closed, Receipt, StatusReader, Ticket};
 pub use shared::{Shared, run_workers, work};
 pub use worker::{
-    Borrower, Gate, Job, Lender, Locked, NoGate, Stepper, Tally, Totals, Worker, take_turns,
+    Borrower, Gate, Lender, Locked, NoGate, Stepper, Tally, Totals, take_turns, work_at,
 };

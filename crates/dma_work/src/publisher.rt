@@ -10,7 +10,7 @@ ghost use Rattle.dma_engine.specs.Turn.{ends, turn};
 ghost use Rattle.dma_work.specs.Known.{Known, knows};
 ghost use Rattle.dma_work.specs.Laws.{AreCounts};
 ghost use Rattle.dma_work.specs.inner.Published.{HasActed, IsLaterBoard, IsOfHistory, board_and, board_with, newest, snapshot_of};
-ghost use Rattle.dma_work.specs.Ticks.{base_of, board_from};
+ghost use Rattle.dma_work.specs.Ticks.{StartsWith, base_of, board_from};
 
 use crate::board::{Board, BoardWriter, Counts, Published};
 use crate::log::{Change, Snapshot, Tick, TickLog};
@@ -67,6 +67,7 @@ impl Model for Publisher {
 fn shown<R: Wait>(rt: &R, writer: BoardWriter, before: &Snapshot, _engine: &Engine) -> BoardWriter
     requires later { IsLaterBoard writer.desk.shown.value
         (newest writer.desk.shown.value (drop writer.behind writer.log.items)) }
+    requires begins { StartsWith writer.desk.shown.value.ticks before.now.ticks }
     requires acted { IsOfHistory before.now.ticks _engine.now.view
         (newest writer.desk.shown.value (drop writer.behind writer.log.items)) }
     ensures shown { result.desk.shown.value

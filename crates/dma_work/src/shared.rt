@@ -6,8 +6,9 @@ ghost use Rattle.dma_work.specs.Tallies.{AreTallies, TookTurns};
 ghost use Rattle.dma_work.specs.inner.Begun.{IsBegun, IsOf};
 
 use crate::desk::{Desk, DeskName};
+use crate::job::Job;
 use crate::publisher::Parts;
-use crate::worker::{Gate, Job, Locked, Tally, Worker, take_turns};
+use crate::worker::{Gate, Locked, Tally, work_at};
 use core::mem::replace;
 use dma_engine::NoMemory;
 use std::alloc::Global;
@@ -50,9 +51,8 @@ impl<N: DeskName> Shared<N> {
     }
 }
 
-/// Takes the turns of a job as a new worker with this number, and returns its tally. In its turn `n`, from 1 on, the
-/// worker passes the gate without the lock, then takes the lock and steps one channel: the job's channels in rotation,
-/// from the first one on (profile).
+/// Takes the turns of a job like [`work_at`], and returns the tally. The worker passes the gate without the lock, and
+/// holds the lock for each step.
 pub fn work<N: DeskName, R: Wait, G: Gate>(
     rt: &R,
     shared: &Shared<N>,
@@ -62,9 +62,7 @@ pub fn work<N: DeskName, R: Wait, G: Gate>(
 ) -> Tally<N>
     ensures { TookTurns N.size N.channels G.passes worker job result }
 {
-    let mut worker = Worker::<N, _>::new(shared.lent(), worker);
-    take_turns(rt, &mut worker, job, gate);
-    worker.into_tally()
+    work_at(rt, shared.lent(), worker, job, gate).1
 }
 
 // What the thread of a job guarantees of the tally that it returns: a new worker with this number took the job's turns.

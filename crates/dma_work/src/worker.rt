@@ -1,14 +1,14 @@
 //! Workers: the tallies of their steps, the turns of their jobs, and the worker that borrows a desk for each step.
 
-ghost use Rattle.std.specs.Prelude.{◌≡◌, ◌+◌, ◌<◌, ◌≤◌, ◌^◌, ◌↔◌, IfSome, IsSome, IsTrue, false};
+ghost use Rattle.std.specs.Prelude.{◌≡◌, ◌+◌, ◌<◌, ◌^◌, IsTrue, false};
 ghost use Rattle.dma_engine.specs.Laws.{finishes_in, steps_in};
-ghost use Rattle.dma_mem.specs.Limits.{last_channel};
 ghost use Rattle.dma_work.specs.Desk.{AddUp, Differ, counted, new_tally, stepped_book};
 ghost use Rattle.dma_work.specs.Rotation.{StepsInTurn, rotation};
+ghost use Rattle.dma_work.specs.Tallies.{TookTurnsAt};
 
 use crate::desk::{Desk, DeskName};
+use crate::job::Job;
 use dma_engine::{EngineFault, Turn};
-use dma_mem::limits::LAST_CHANNEL;
 use std::marker::{Model, PhantomData};
 use std::sync::{Mutex, MutexGuard, Wait};
 
@@ -135,37 +135,8 @@ impl Totals {
     }
 }
 
-/// The channels that a worker steps in rotation, and its number of turns.
-#[derive(Clone, Copy, Debug)]
-pub struct Job {
-    /// The first channel.
-    pub first: u8,
-    /// The last channel, at most [`LAST_CHANNEL`].
-    pub last: u8,
-    /// The number of turns.
-    pub turns: u64,
-    ghost in_order: { first ≤ last },
-    ghost in_range: { last ≤ last_channel },
-}
-
-impl Job {
-    /// Returns a job for the channels from `first` to `last`, or `None` unless `first` is at most `last` and `last` at
-    /// most [`LAST_CHANNEL`].
-    pub fn new(first: u8, last: u8, turns: u64) -> Option<Job>
-        ensures there { IsSome result ↔ ((first ≤ last) × (last ≤ last_channel)) }
-        ensures some { IfSome result
-            (λ j. (j.first ≡ first) × (j.last ≡ last) × (j.turns ≡ turns)) }
-    {
-        if first <= last && last <= LAST_CHANNEL {
-            Some(Job { first, last, turns })
-        } else {
-            None
-        }
-    }
-}
-
-/// A gate that a worker passes before each of its turns, without the lock. It may wait. Contracts see that a worker has
-/// passed it before its turn with this number: `passes worker n`.
+/// A gate, which a worker passes before each of its turns, without the lock. It may wait. Contracts see that a worker
+/// has passed it before its turn `n` as `passes worker n`.
 pub trait Gate: Sync {
     ghost use Rattle.std.specs.Prelude.{ℕ};
 
@@ -298,10 +269,9 @@ impl<N: DeskName> Borrower<Desk<N>> for StepAt<N> {
     }
 }
 
-/// Steps a desk that is lent to it for each turn, and keeps the tally of these steps. A refused step changes nothing
-/// but the tally's number of turns.
-#[derive(Drop)]
-pub struct Worker<N: DeskName, L> {
+// Steps a desk that is lent to it for each turn, and keeps the tally of these steps. A refused step changes nothing but
+// the tally's number of turns.
+struct Worker<N: DeskName, L> {
     lender: L,
     step: StepAt<N>,
 }
@@ -315,8 +285,8 @@ impl<N: DeskName, L> Model for Worker<N, L> {
 }
 
 impl<N: DeskName, L: Lender<Desk<N>>> Worker<N, L> {
-    /// Returns a worker that has taken no turn.
-    pub fn new(lender: L, worker: u32) -> Worker<N, L>
+    // Returns a worker that has taken no turn.
+    fn new(lender: L, worker: u32) -> Worker<N, L>
         ensures lender { result.lender ≡ lender }
         ensures tally { result.tally ≡ new_tally worker }
     {
@@ -327,13 +297,12 @@ impl<N: DeskName, L: Lender<Desk<N>>> Worker<N, L> {
         }
     }
 
-    /// Ends the worker, and returns its tally.
-    pub fn into_tally(self) -> Tally<N>
-    where
-        L: Drop,
-        ensures { result ≡ self.tally }
+    // Ends the worker, and returns its lender and its tally.
+    fn into_parts(self) -> (L, Tally<N>)
+        ensures { (result.0 ≡ self.lender) × (result.1 ≡ self.tally) }
     {
-        self.step.tally
+        let Worker { lender, step } = self;
+        (lender, step.tally)
     }
 }
 
@@ -359,4 +328,21 @@ impl<N: DeskName, L: Lender<Desk<N>>, G: Gate> Stepper<G> for Worker<N, L> {
         self.step.ch = ch;
         self.lender.lend(rt, &mut self.step);
     }
+}
+
+/// Takes the turns of a job as a new worker with this number, and returns the lender and the worker's tally. In its turn
+/// `n`, from 1 on, the worker passes the gate, and is then lent the desk for one step of one channel: the job's channels
+/// in rotation, from the first one on (profile). It does nothing else.
+pub fn work_at<N: DeskName, R: Wait, L: Lender<Desk<N>>, G: Gate>(
+    rt: &R,
+    lender: L,
+    worker: u32,
+    job: Job,
+    gate: &G,
+) -> (L, Tally<N>)
+    ensures { TookTurnsAt N.size N.channels G.passes L.lends worker job lender result.0 result.1 }
+{
+    let mut worker = Worker::new(lender, worker);
+    take_turns(rt, &mut worker, job, gate);
+    worker.into_parts()
 }

@@ -2,7 +2,7 @@
 use Rattle.std.specs.Prelude.{◌≡◌, ℕ}
 use Rattle.dma_work.specs.declared.shared.Begun.{Begun}
 use Rattle.dma_work.specs.declared.shared.Begun.TheVariants.{InThread, Here}
-use Rattle.dma_work.specs.declared.worker.Job.{Job}
+use Rattle.dma_work.specs.declared.job.Job.{Job}
 use Rattle.dma_work.specs.Tallies.{TookTurns}
 
 -- A job of this worker is in a thread or done.

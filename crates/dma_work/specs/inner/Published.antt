@@ -79,10 +79,11 @@ pub record PublisherState : Type 0 where
 abbrev pub IsOfHistory : List Tick → EngineView → BoardState → Type 0
 IsOfHistory before v b = b.ticks ≡ before ++ ticks_of v.history
 
--- The engine has acted: the published ticks, followed by this one, are those before its history and those of its
--- history.
+-- The engine has acted: the published ticks begin with those before its history, and followed by this one they are those
+-- and the ticks of its history.
 abbrev pub HasActed : PublisherState → EngineView → Tick → Type 0
-HasActed p v t = p.before ++ ticks_of v.history ≡ p.shown.ticks ++ t ∷ []
+HasActed p v t =
+    StartsWith p.shown.ticks p.before × (p.before ++ ticks_of v.history ≡ p.shown.ticks ++ t ∷ [])
 
 -- ---- the rule of what is published: it only grows, and begins with all that anyone has seen
 

@@ -5,9 +5,9 @@ use Rattle.dma_work.specs.inner.DeskKept.{IsKept}
 use Rattle.dma_work.proofs.Desks.{kept_on, kept_step}
 use Rattle.dma_work.proofs.desk.Desk.step.Given.{Over}
 use Rattle.dma_work.proofs.desk.Desk.step.Goals as goal
-use Rattle.dma_work.proofs.desk.Desk.step.Goals.{After-finished_all-finished, in-Some, in-None}
+use Rattle.dma_work.proofs.desk.Desk.step.Goals.{After-facts, in-Some, in-None}
 
-kept : (g : Over) (c : After-finished_all-finished g) → IsKept g.N.DeskName.steps g.N.DeskName.finished g.N.DeskName.size g.N.DeskName.channels g.N.DeskName.base g.N.DeskName.log c.match-step_unless_ending.self-inside.engine c.match-step_unless_ending.self-inside.publisher (stepped_book c.match-step_unless_ending.self-inside.book c.match-step_unless_ending.answer)
+kept : (g : Over) (c : After-facts g) → IsKept g.N.DeskName.steps g.N.DeskName.finished g.N.DeskName.size g.N.DeskName.channels g.N.DeskName.base g.N.DeskName.log c.match-step_unless_ending.self-inside.engine c.match-step_unless_ending.self-inside.publisher (stepped_book c.match-step_unless_ending.self-inside.book c.match-step_unless_ending.answer)
 kept g c =
     let old = c.self.inside.engine in
     let on = c.step_unless_ending.new.self in
@@ -23,7 +23,7 @@ kept g c =
     ]
 
 pub count-requires-clause-finished : goal.count-requires-clause-finished
-count-requires-clause-finished g c = omega (arith, (kept g c.before.before).done, c.finished_all-finished.ensures, c.finished_all-finished.type_inv)
+count-requires-clause-finished g c = omega (arith, (kept g c.before.before).done, c.facts.ensures.finished)
 
 pub invariant_of-self : goal.invariant_of-self
 invariant_of-self g c = rw c.count.ensures (kept g c.before.before.before.before.before.before)

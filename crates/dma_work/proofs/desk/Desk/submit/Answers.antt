@@ -30,7 +30,7 @@ kept g c =
 pub invariant_of-result : goal.invariant_of-result
 invariant_of-result g c =
     record {
-      used = given_in _ _ _ _ _ _ c.submit.new.self c.publish.new.self _ c.make_room.new.self.view c.args.ch c.in-Ok.cookie c.args.transfer c.new-ticket.result c.in-Ok.ensures.answer c.history-history.ensures.sound (kept g c) (c.new-ticket.ensures ∙ ap (λ (x : SnapshotState). x.ticks) c.publish.ensures.snapshot);
+      used = given_in _ _ _ _ _ _ c.submit.new.self c.publish.new.self _ c.make_room.new.self.view c.args.ch c.in-Ok.cookie c.args.transfer c.new-ticket.result c.in-Ok.ensures.answer c.facts.ensures.sound (kept g c) (c.new-ticket.ensures ∙ ap (λ (x : SnapshotState). x.ticks) c.publish.ensures.snapshot);
     }
 
 pub invariant_of-self-2 : goal.invariant_of-self-2

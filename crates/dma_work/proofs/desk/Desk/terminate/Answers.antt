@@ -18,7 +18,7 @@ overflow_add-self g c =
     let m = c.make_room.new.self.view in
     let w = c.terminate.new.self.view in
     let s = terminates_add m w c.args.ch c.in-Ok.count c.in-Ok.ensures.answer in
-    omega (arith, c.self.invariant.done, s.0.finished, c.from.ensures, ap (λ (u : View). finished_all (object_of u)) c.make_room.ensures.view, c.finished_all-finished.ensures, c.finished_all-finished.type_inv)
+    omega (arith, c.self.invariant.done, s.0.finished, c.from.ensures, ap (λ (u : View). finished_all (object_of u)) c.make_room.ensures.view, c.facts.ensures.finished)
 
 pub publish-requires-clause-acted : goal.publish-requires-clause-acted
 publish-requires-clause-acted g c =
@@ -45,7 +45,7 @@ kept g c =
 pub invariant_of-result : goal.invariant_of-result
 invariant_of-result g c =
     record {
-      finished = finished_in _ _ _ _ _ _ c.terminate.new.self c.publish.new.self _ c.make_room.new.self.view c.args.ch c.in-Ok.count c.used-through.result c.new-last.result c.in-Ok.ensures.answer c.history-history.ensures.sound (kept g c) (c.new-last.ensures ∙ ap (λ (x : SnapshotState). x.ticks) c.publish.ensures.snapshot) c.used-through.ensures;
+      finished = finished_in _ _ _ _ _ _ c.terminate.new.self c.publish.new.self _ c.make_room.new.self.view c.args.ch c.in-Ok.count c.used-through.result c.new-last.result c.in-Ok.ensures.answer c.facts.ensures.sound (kept g c) (c.new-last.ensures ∙ ap (λ (x : SnapshotState). x.ticks) c.publish.ensures.snapshot) c.used-through.ensures;
     }
 
 pub invariant_of-self-2 : goal.invariant_of-self-2

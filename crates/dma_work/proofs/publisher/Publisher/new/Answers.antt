@@ -1,4 +1,4 @@
-use Rattle.std.proofs.Common.{◌≡◌, [], ◌∷◌, ◌++◌, append-nil, drop, ap, sym, ◌∙◌, subst}
+use Rattle.std.proofs.Common.{◌≡◌, [], ◌∷◌, ◌++◌, append-nil, drop, refl, ap, sym, ◌∙◌, subst}
 use Rattle.dma_engine.specs.Ticks.{ticks_of}
 use Rattle.dma_work.specs.inner.Published.{BoardState, IsLaterBoard, IsOfHistory, SnapshotState, newest}
 use Rattle.dma_work.proofs.PublishedRule.{later_self}
@@ -13,6 +13,11 @@ shown-writer-requires-clause-later g c =
     let one : drop w.behind w.log.items ≡ first ∷ [] =
     c.in-Ok-append.ensures.pending ∙ ap (λ l. l ++ c.copy-same.result ∷ []) c.in-Ok.ensures.1 ∙ ap (λ (x : BoardState). x ∷ []) c.copy-same.ensures in
     subst (λ l. IsLaterBoard p (newest p l)) (sym one) (subst (IsLaterBoard p) shown (later_self p))
+
+pub shown-writer-requires-clause-begins : goal.shown-writer-requires-clause-begins
+shown-writer-requires-clause-begins g c =
+    let none : c.snapshot-before.result.ticks ≡ [] = ap (λ (s : SnapshotState). s.ticks) c.snapshot-before.ensures ∙ c.new-log.ensures in
+    rw none (c.append.new.self.desk.shown.value.ticks, refl)
 
 pub shown-writer-requires-clause-acted : goal.shown-writer-requires-clause-acted
 shown-writer-requires-clause-acted g c =

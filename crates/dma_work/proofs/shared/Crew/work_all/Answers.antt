@@ -1,7 +1,7 @@
 use Rattle.std.proofs.Common.{◌≡◌, ◌≢◌, ◌<◌, ℕ, length, arith, sym, subst}
 use Rattle.std.specs.Prelude.{slice_index_or}
 use Rattle.std.proofs.lemmas.List.{get_or-set_other}
-use Rattle.dma_work.specs.declared.worker.Job.{Job}
+use Rattle.dma_work.specs.declared.job.Job.{Job}
 use Rattle.dma_work.specs.declared.shared.Begun.{Begun}
 use Rattle.dma_work.specs.inner.Begun.{IsOf}
 use Rattle.dma_work.specs.Desk.{TallyCounts}

@@ -1,6 +1,6 @@
 use Rattle.std.proofs.Common.{◌≡◌, ◌<◌, ◌≤◌, ℕ, length}
 use Rattle.std.specs.Prelude.{slice_index_or, vec_len, vec_capacity}
-use Rattle.dma_work.specs.declared.worker.Job.{Job}
+use Rattle.dma_work.specs.declared.job.Job.{Job}
 use Rattle.dma_work.specs.declared.shared.Begun.{Begun}
 use Rattle.dma_work.specs.inner.Begun.{IsBegun, IsOf}
 use Rattle.dma_work.specs.Desk.{TallyCounts}

@@ -1,0 +1,10 @@
+use Rattle.std.proofs.Common.{◌<◌, ◌^◌, subst}
+use Rattle.dma_engine.specs.inner.Inside.{parts_of}
+use Rattle.dma_engine.specs.Object.{finished_all}
+use Rattle.dma_engine.specs.View.{EngineState, object_of}
+use Rattle.dma_engine.proofs.CookieCounts.{finished_bounded}
+use Rattle.dma_engine.proofs.engine.Engine.facts.Goals as goal
+
+pub returns-clause-finished : goal.returns-clause-finished
+returns-clause-finished c =
+    subst (λ (s : EngineState). finished_all (object_of s.view) < 2 ^ 64) c.self.view_is (finished_bounded _ c.self.invariant.sound)

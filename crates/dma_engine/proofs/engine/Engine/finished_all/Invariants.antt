@@ -1,9 +1,0 @@
-use Rattle.std.proofs.Common.{◌≡◌, ◌≤◌, ◌*◌, take}
-use Rattle.std.specs.List.{sum_by}
-use Rattle.dma_engine.specs.Object.{finished}
-use Rattle.dma_engine.specs.View.{object_of}
-use Rattle.dma_engine.proofs.engine.Engine.finished_all.Given as goal
-
-abbrev pub invariant-loop-index : goal.invariant-loop-index
-invariant-loop-index l =
-    (l.all ≡ sum_by finished (take l.index (object_of l.self.view).channels)) × (l.all ≤ l.index * 2147483647)
