@@ -12,6 +12,6 @@ hex_digits v =
     map (λ weight. digit_glyph true (v / weight % 16))
     (0x10000000 ∷ 0x1000000 ∷ 0x100000 ∷ 0x10000 ∷ 0x1000 ∷ 0x100 ∷ 0x10 ∷ 0x1 ∷ [])
 
--- bytes in hexadecimal digits, with a space before each
+-- bytes, each in two digits after a space
 abbrev pub spaced_bytes : List ℕ → List ℕ
 spaced_bytes bytes = flat_map (λ b. 32 ∷ hex_pair b) bytes
