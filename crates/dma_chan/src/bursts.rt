@@ -229,13 +229,10 @@ pub(crate) fn load_burst<M: Ram>(executor: &mut Executor, memory: &M, marks: &Ma
     requires capacity { executor.old.buffer.capacity ≡ buffer_size }
     requires block { length executor.old.block.items ≡ buffer_size }
     requires pc { executor.old.registers.pc < most_bytes }
-    ensures exact { (flags : List Bool) → act (with_gaps (M.loan memory.now) marks.now) Ld
-        (state executor.old.registers executor.old.buffer.items (M.paged memory.now).image flags)
-        ≡ (
-          result,
-          state executor.new.registers executor.new.buffer.items
-              (M.paged memory.now).image flags,
-        ) }
+    ensures exact { (flags : List Bool) → let image = (M.paged memory.now).image in
+        act (with_gaps (M.loan memory.now) marks.now) Ld
+        (state executor.old.registers executor.old.buffer.items image flags)
+        ≡ (result, state executor.new.registers executor.new.buffer.items image flags) }
     ensures capacity { executor.new.buffer.capacity ≡ buffer_size }
     ensures block { length executor.new.block.items ≡ buffer_size }
     ensures pc { executor.new.registers.pc ≤ executor.old.registers.pc + 1 }
@@ -331,13 +328,11 @@ pub(crate) fn store_burst<M: Ram>(
     requires pc { executor.old.registers.pc < most_bytes }
     requires ready { IsTrue
         (none_missing (M.paged memory.old) (touched (destination_of executor.old.registers))) }
-    ensures exact { (flags : List Bool) → act (with_gaps (M.loan memory.old) marks.now) St
-        (state executor.old.registers executor.old.buffer.items (M.paged memory.old).image flags)
-        ≡ (
-          result,
-          state executor.new.registers executor.new.buffer.items
-              (M.paged memory.new).image flags,
-        ) }
+    ensures exact { (flags : List Bool) → let before = (M.paged memory.old).image in
+        let after = (M.paged memory.new).image in
+        act (with_gaps (M.loan memory.old) marks.now) St
+        (state executor.old.registers executor.old.buffer.items before flags)
+        ≡ (result, state executor.new.registers executor.new.buffer.items after flags) }
     ensures pages { (M.paged memory.new).made ≡ (M.paged memory.old).made }
     ensures capacity { executor.new.buffer.capacity ≡ buffer_size }
     ensures block { executor.new.block.items ≡ executor.old.block.items }

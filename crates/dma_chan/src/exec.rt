@@ -206,14 +206,11 @@ impl Executor {
         requires block { length self.old.block.items ≡ buffer_size }
         requires pc { self.old.registers.pc + length (spelling next) ≤ most_bytes }
         requires ready { IsTrue (is_ready (Ok next) self.old.registers (M.paged memory.old)) }
-        ensures exact { act (with_gaps (M.loan memory.old) marks.now) next
-            (state self.old.registers self.old.buffer.items
-            (M.paged memory.old).image events.old)
-            ≡ (
-              result,
-              state self.new.registers self.new.buffer.items
-                  (M.paged memory.new).image events.new,
-            ) }
+        ensures exact { let before = (M.paged memory.old).image in
+            let after = (M.paged memory.new).image in
+            act (with_gaps (M.loan memory.old) marks.now) next
+            (state self.old.registers self.old.buffer.items before events.old)
+            ≡ (result, state self.new.registers self.new.buffer.items after events.new) }
         ensures pages { (M.paged memory.new).made ≡ (M.paged memory.old).made }
         ensures capacity { self.new.buffer.capacity ≡ buffer_size }
         ensures block { length self.new.block.items ≡ buffer_size }
