@@ -1,5 +1,6 @@
 -- What the lines of a script print, and the view after them.
-use Rattle.std.proofs.Common.{◌≡◌, ◌≢◌, ℕ, ◌<◌, ◌+◌, true, false, if◌then◌else◌, codes, List, [], ◌∷◌, ◌++◌, length, Option, Some, None, refl, ap, sym, subst, ◌∙◌, take, drop, suc, arith}
+use Rattle.std.proofs.Common.{◌≡◌, ◌≢◌, ℕ, ◌<◌, ◌+◌, true, false, if◌then◌else◌, codes, List, [], ◌∷◌, ◌++◌, length, Option, Some, None, refl, ap, sym, subst, ◌∙◌, take, drop, suc, arith, append_assoc}
+use Rattle.std.proofs.Math.Seq.{take-append-add}
 use Rattle.std.proofs.lemmas.List.{append-nil, length-append}
 use Rattle.std.proofs.lemmas.List.Recursion.{is_count_by}
 use Rattle.std.proofs.lemmas.Result.{on_err_weaker, on_ok_weaker}
@@ -27,6 +28,7 @@ use Rattle.dma_text.specs.Digits.{hex_digits, spaced_bytes}
 use Rattle.dma_commands.specs.Printed.{call_line, fault_text, transfer_fault_name, refused_line}
 use Rattle.dma_commands.specs.Run.{Answered, call_answer, copied, copied_after, is_in_use, line_answer, lines_answered, most_steps, stepped_to_end, last_answer_line, one_line, unless_invalid}
 use Rattle.dma_commands.specs.inner.RunSteps.{RunsLine, read_at, read_in}
+use Rattle.dma_script.proofs.InterpretedLemmas.{printed_text-append}
 use Rattle.dma_commands.proofs.Served.{refused-served, served-one}
 
 -- ---- a line that was printed
@@ -160,10 +162,21 @@ pub answers_none : {E : Type 0} (printed : Printed) (result : Result ℕ E) (old
 answers_none printed result old new err some same =
     answers_some printed result old new err (record { count = 0; some_left = some; whole = same ∙ sym (append-nil old) })
 
+-- an answer after other groups
+pub answers_after : {E : Type 0} (front groups : List (List (List ℕ))) (status : ℕ) (result : Result ℕ E) (old mid new : List ℕ) → mid ≡ old ++ printed_text front → Answers (record { groups = groups; status = status }) result mid new → Answers (record { groups = front ++ groups; status = status }) result old new
+answers_after front groups status result old mid new before a =
+    let text : (more : List (List (List ℕ))) → mid ++ printed_text more ≡ old ++ printed_text (front ++ more) = λ more.
+    ap (λ o. o ++ printed_text more) before ∙ append_assoc old (printed_text front) (printed_text more) ∙ ap (λ t. old ++ t) (sym (printed_text-append front more)) in
+    record {
+      text = on_ok_weaker result (λ whole. whole ∙ text groups) a.text;
+      status = a.status;
+      refused = on_err_weaker result (λ first. record {
+        count = length front + first.count;
+        some_left = omega (arith, length-append front groups, first.some_left);
+        whole = first.whole ∙ text (take first.count groups) ∙ ap (λ g. old ++ printed_text g) (sym (take-append-add front groups first.count));
+      }) a.refused;
+    }
+
 -- what the memory line prints comes before what the others print
 pub answers_memory : {E : Type 0} (groups : List (List (List ℕ))) (status : ℕ) (result : Result ℕ E) (old new : List ℕ) → Answers (record { groups = groups; status = status }) result old new → Answers (record { groups = [] ∷ groups; status = status }) result old new
-answers_memory groups status result old new a = record {
-  text = a.text;
-  status = a.status;
-  refused = on_err_weaker result (λ first. record { count = suc first.count; some_left = omega (arith, first.some_left); whole = first.whole }) a.refused;
-}
+answers_memory groups status result old new a = answers_after ([] ∷ []) groups status result old old new (sym (append-nil old)) a

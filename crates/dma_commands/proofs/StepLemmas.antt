@@ -1,6 +1,6 @@
 -- Runs of equal answers, and the lines of the runs before the last.
 use Rattle.std.proofs.Common.{◌≡◌, ◌≢◌, ℕ, ◌+◌, ◌<◌, List, [], ◌∷◌, ◌++◌, map, Bool, true, false, refl, ap, sym, subst, ◌∙◌, zero, suc, add-one, append_assoc, arith, codes, lit<}
-use Rattle.std.specs.Prelude.{Err, Ok, OnErr, OnOk, Result, decimal, replicate}
+use Rattle.std.specs.Prelude.{Result, decimal, replicate}
 use Rattle.std.specs.Str.{bytes_eq}
 use Rattle.std.proofs.Math.Nat.{zero-lt-suc}
 use Rattle.std.proofs.lemmas.Fmt.{decimal_digit}
@@ -20,7 +20,7 @@ use Rattle.dma_engine.specs.View.{View}
 use Rattle.dma_engine.specs.Answer.{CallAnswers, StepAnswers, answer, answers, reply_of}
 use Rattle.dma_commands.specs.Printed.{reply_text, turn_text}
 use Rattle.dma_commands.specs.inner.Counting.{text_with, transfer_text}
-use Rattle.dma_commands.specs.inner.RunSteps.{AnswersLine, RunsLine}
+use Rattle.dma_commands.specs.inner.RunSteps.{AnswersLine}
 use Rattle.dma_commands.specs.Run.{joined, runs_of, step_answer, step_line, step_lines}
 use Rattle.dma_commands.proofs.Served.{answers-append, served-one}
 
@@ -198,16 +198,3 @@ transfer_parts ch started moved finished =
     printed-rows (decimal ch) (decimal started) (decimal moved) (decimal finished)
     ∙ ap (λ (l : List ℕ). rows-of l (codes "1")) (sym (decimal_digit 0 (lit< tt)))
     ∙ ap (λ (l : List ℕ). rows-of (decimal 0) l) (sym (decimal_digit 1 (lit< tt)))
-
-moved_parts : (ch : ℕ) → codes "step " ++ decimal ch ++ (codes " moved x1" ++ 10 ∷ []) ≡ text_of (step_line ch (codes "moved", 1) ∷ [])
-moved_parts ch =
-    append_assoc (codes "step ") (decimal ch) (codes " moved x1" ++ 10 ∷ [])
-    ∙ sym (row (decimal ch) (codes "moved") (codes "1") [])
-    ∙ ap (λ (l : List ℕ). text_of ((codes "step " ++ decimal ch ++ codes " " ++ codes "moved" ++ codes " x" ++ l) ∷ [])) (sym (decimal_digit 1 (lit< tt)))
-
--- A step that moved, and its line.
-pub moved_runs : {A E : Type 0} (v w : View) (ch : ℕ) (turned : Turn) (result : Result A E) (out out' : List ℕ) → StepAnswers v ch (Ok turned) w → turned ≡ Moved → OnOk result (out' ≡ out ++ (codes "step " ++ decimal ch ++ (codes " moved x1" ++ 10 ∷ []))) → OnErr result (out' ≡ out) → RunsLine (step_answer v ch 1) w result out out'
-moved_runs v w ch turned (Ok a) out out' answers is prints kept =
-    let moved : StepAnswers v ch (Ok Moved) w = subst (λ (t : Turn). StepAnswers v ch (Ok t) w) is answers in
-    record { ok = step_prints v w ch (Ok Moved) (Turned Moved) out out' moved (refl, λ e. cc) (prints ∙ ap (λ l. out ++ l) (moved_parts ch)); err = tt }
-moved_runs v w ch turned (Err e) out out' answers is prints kept = record { ok = tt; err = kept }

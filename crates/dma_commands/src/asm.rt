@@ -27,12 +27,12 @@ fn cause_name(cause: Cause) -> &'static str
 struct Asm;
 
 impl Command for Asm {
-    ghost use Rattle.std.specs.Prelude.{◌<◌, length, Ok, Err};
+    ghost use Rattle.std.specs.Prelude.{◌≡◌, ◌<◌, length, Ok, Err, refl};
     ghost use Rattle.std.proofs.Math.Nat.{zero-lt-suc};
     ghost use Rattle.dma_insn.specs.LineReading.{assembled};
     ghost use Rattle.dma_commands.specs.Assembled.{asm_printed, asm_printed_of};
 
-    ghost printed = { asm_printed };
+    ghost may_print = { λ input p. p ≡ asm_printed input };
 
     // Not inlined, so that the code of no other command changes how fast its loops are.
     #[inline(never)]
@@ -48,10 +48,11 @@ impl Command for Asm {
         }
     }
 
-    ghost some_group = { λ input. elim (assembled input) as (λ read. 0 < length (asm_printed_of read).groups) [
-      | Ok program ↦ zero-lt-suc _
-      | Err fault ↦ zero-lt-suc _
-    ] };
+    ghost some_print = { λ input. (asm_printed input, refl,
+      elim (assembled input) as (λ read. 0 < length (asm_printed_of read).groups) [
+        | Ok program ↦ zero-lt-suc _
+        | Err fault ↦ zero-lt-suc _
+      ]) };
 }
 
 /// Law: what `asm` prints follows from the relations between texts and programs alone.

@@ -52,12 +52,12 @@ fn print_text(alloc: Global, out: &mut Vec<u8>, bytes: &[u8]) -> Result<u8, Allo
 struct Dis;
 
 impl Command for Dis {
-    ghost use Rattle.std.specs.Prelude.{◌<◌, length, Ok, Err};
+    ghost use Rattle.std.specs.Prelude.{◌≡◌, ◌<◌, length, Ok, Err, refl};
     ghost use Rattle.std.proofs.Math.Nat.{zero-lt-suc};
     ghost use Rattle.dma_script.specs.Pairs.{pairs_of};
     ghost use Rattle.dma_commands.specs.Disassembled.{dis_printed, dis_printed_of, lines_from, lines_printed};
 
-    ghost printed = { dis_printed };
+    ghost may_print = { λ input p. p ≡ dis_printed input };
 
     // Not inlined, so that the code of no other command changes how fast its loops are.
     #[inline(never)]
@@ -68,13 +68,14 @@ impl Command for Dis {
         }
     }
 
-    ghost some_group = { λ input. elim (pairs_of input) as (λ read. 0 < length (dis_printed_of read).groups) [
-      | Ok bytes ↦ elim (lines_from 0 0 bytes) as (λ read. 0 < length (lines_printed read).groups) [
-        | Ok lines ↦ zero-lt-suc _
+    ghost some_print = { λ input. (dis_printed input, refl,
+      elim (pairs_of input) as (λ read. 0 < length (dis_printed_of read).groups) [
+        | Ok bytes ↦ elim (lines_from 0 0 bytes) as (λ read. 0 < length (lines_printed read).groups) [
+          | Ok lines ↦ zero-lt-suc _
+          | Err fault ↦ zero-lt-suc _
+        ]
         | Err fault ↦ zero-lt-suc _
-      ]
-      | Err fault ↦ zero-lt-suc _
-    ] };
+      ]) };
 }
 
 /// Law: what `dis` prints for pairs of digits follows from the relations between bytes and texts alone.

@@ -58,14 +58,14 @@ fn print_transfer(alloc: Global, out: &mut Vec<u8>, line: PlanLine) -> Result<u8
 struct Plan;
 
 impl Command for Plan {
-    ghost use Rattle.std.specs.Prelude.{◌<◌, length, Some, None, Ok, Err};
+    ghost use Rattle.std.specs.Prelude.{◌≡◌, ◌<◌, length, Some, None, Ok, Err, refl};
     ghost use Rattle.std.proofs.Math.Nat.{zero-lt-suc};
     ghost use Rattle.dma_mem.specs.Refusals.{refusal_of};
     ghost use Rattle.dma_script.specs.Plan.{plan_of};
     ghost use Rattle.dma_commands.specs.Planned.{plan_printed, plan_printed_of, transfer_printed};
     ghost use Rattle.dma_commands.specs.Transfers.{transfer_of};
 
-    ghost printed = { plan_printed };
+    ghost may_print = { λ input p. p ≡ plan_printed input };
 
     fn answer(&self, alloc: Global, input: &[u8], out: &mut Vec<u8>) -> Result<u8, AllocError> {
         match read_plan(alloc, input) {
@@ -74,13 +74,14 @@ impl Command for Plan {
         }
     }
 
-    ghost some_group = { λ input. elim (plan_of input) as (λ read. 0 < length (plan_printed_of read).groups) [
-      | Ok line ↦ elim (refusal_of (transfer_of line.transfer)) as (λ unfit. 0 < length (transfer_printed line unfit).groups) [
-        | None ↦ zero-lt-suc _
-        | Some fault ↦ zero-lt-suc _
-      ]
-      | Err fault ↦ zero-lt-suc _
-    ] };
+    ghost some_print = { λ input. (plan_printed input, refl,
+      elim (plan_of input) as (λ read. 0 < length (plan_printed_of read).groups) [
+        | Ok line ↦ elim (refusal_of (transfer_of line.transfer)) as (λ unfit. 0 < length (transfer_printed line unfit).groups) [
+          | None ↦ zero-lt-suc _
+          | Some fault ↦ zero-lt-suc _
+        ]
+        | Err fault ↦ zero-lt-suc _
+      ]) };
 }
 
 /// Reads the line of a transfer, writes its program or the line of the first fault and nothing else, and returns the

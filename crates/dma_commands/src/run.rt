@@ -92,11 +92,11 @@ struct Run;
 
 impl Command for Run {
     ghost use Rattle.dma_script.specs.Statements.{run_script_of};
-    ghost use Rattle.std.specs.Prelude.{◌<◌, length, Ok, Err};
+    ghost use Rattle.std.specs.Prelude.{◌≡◌, ◌<◌, length, Ok, Err, refl};
     ghost use Rattle.std.proofs.Math.Nat.{zero-lt-suc};
     ghost use Rattle.dma_commands.specs.Run.{printed, printed_of};
 
-    ghost printed = { printed };
+    ghost may_print = { λ input p. p ≡ printed input };
 
     // Not inlined, so that the code of no other command changes how fast its loops are.
     #[inline(never)]
@@ -114,10 +114,11 @@ impl Command for Run {
         }
     }
 
-    ghost some_group = { λ input. elim (run_script_of input) as (λ read. 0 < length (printed_of read).groups) [
-      | Ok script ↦ zero-lt-suc _
-      | Err fault ↦ zero-lt-suc _
-    ] };
+    ghost some_print = { λ input. (printed input, refl,
+      elim (run_script_of input) as (λ read. 0 < length (printed_of read).groups) [
+        | Ok script ↦ zero-lt-suc _
+        | Err fault ↦ zero-lt-suc _
+      ]) };
 }
 
 /// Reads a script, executes it, writes what it prints and nothing else, and returns the exit status: 0 on success, 1

@@ -3,13 +3,11 @@
 ghost use Rattle.std.specs.Prelude.{◌∷◌, []};
 
 use crate::fakes::{FakeReader, FakeWriter};
-use dma_script::command::{Command, OpenCommand, SUCCESS, serve, serve_open};
+use dma_script::command::{Command, SUCCESS, serve};
 use dma_script::printing::print_line;
 use std::alloc::{AllocError, Global};
 use std::process::Abort;
-use std::sync::Wait;
 use std::test::Fail;
-use std::thread::Threads;
 
 /// Prints its input as one line, and then runs out of memory if `is_refused` is set.
 #[derive(Drop)]
@@ -18,10 +16,10 @@ struct Echo {
 }
 
 impl Command for Echo {
-    ghost use Rattle.std.specs.Prelude.{[], ◌∷◌};
+    ghost use Rattle.std.specs.Prelude.{[], ◌∷◌, ◌≡◌, refl};
     ghost use Rattle.std.proofs.Common.{lit<};
 
-    ghost printed = { λ input. record { groups = (input ∷ []) ∷ [] ∷ []; status = 0 } };
+    ghost may_print = { λ input p. p ≡ record { groups = (input ∷ []) ∷ [] ∷ []; status = 0 } };
 
     fn answer(&self, _alloc: Global, input: &[u8], out: &mut Vec<u8>) -> Result<u8, AllocError> {
         print_line(out, &input)?;
@@ -31,40 +29,13 @@ impl Command for Echo {
         Ok(SUCCESS)
     }
 
-    ghost some_group = { λ input. lit< tt };
-}
-
-impl OpenCommand for Echo {
-    ghost use Rattle.std.specs.Prelude.{[], ◌∷◌, ◌≡◌, refl};
-    ghost use Rattle.std.proofs.Common.{lit<};
-
-    ghost may_print = { λ input p. p ≡ record { groups = (input ∷ []) ∷ [] ∷ []; status = 0 } };
-
-    fn answer<H: Threads + Wait + Sync>(
-        &self,
-        _rt: &H,
-        _alloc: Global,
-        input: &[u8],
-        out: &mut Vec<u8>,
-    ) -> Result<u8, AllocError> {
-        print_line(out, &input)?;
-        if self.is_refused {
-            return Err(AllocError);
-        }
-        Ok(SUCCESS)
-    }
-
-    ghost some_print = { λ input. record {
-      printed = record { groups = (input ∷ []) ∷ [] ∷ []; status = 0 };
-      allowed = refl;
-      first = record { count = 0; some_left = lit< tt; whole = refl };
-    } };
+    ghost some_print = { λ input.
+        (record { groups = (input ∷ []) ∷ [] ∷ []; status = 0 }, refl, lit< tt) };
 }
 
 /// A call of the command, and the behavior of its streams.
 #[derive(Clone, Copy)]
 struct Call {
-    is_open: bool,
     is_refused: bool,
     /// The maximum number of bytes per read.
     most_read: usize,
@@ -79,7 +50,7 @@ struct Call {
 }
 
 /// Checks that the call ends with this status and text, after this many reads and writes.
-fn assert_ends<H: Abort + Threads + Wait + Sync>(
+fn assert_ends<H: Abort>(
     rt: &H,
     alloc: Global,
     input: &[u8],
@@ -105,11 +76,7 @@ fn assert_ends<H: Abort + Threads + Wait + Sync>(
     let echo = Echo {
         is_refused: call.is_refused,
     };
-    let ended = if call.is_open {
-        serve_open(rt, &echo, alloc, &mut reader, &mut writer)
-    } else {
-        serve(&echo, alloc, &mut reader, &mut writer)
-    };
+    let ended = serve(&echo, alloc, &mut reader, &mut writer);
     assert_eq!(rt; ended, status);
     assert_eq!(rt; writer.bytes.as_slice(), text);
     assert_eq!(rt; (reader.calls, writer.calls), (reads, writes));
@@ -117,7 +84,7 @@ fn assert_ends<H: Abort + Threads + Wait + Sync>(
 
 /// Checks that the call ends with this status and text after this many reads. If a write fails or accepts no byte,
 /// each write in turn, the call ends with status 1 and the text before that write, and makes no further write.
-fn assert_each_write_fails<H: Abort + Threads + Wait + Sync>(
+fn assert_each_write_fails<H: Abort>(
     rt: &H,
     alloc: Global,
     input: &[u8],
@@ -146,7 +113,7 @@ fn assert_each_write_fails<H: Abort + Threads + Wait + Sync>(
 
 /// Checks a command that reads three bytes and then the end. Each of its reads fails in turn, and each write of what
 /// it then prints.
-fn assert_each_read_fails<H: Abort + Threads + Wait + Sync>(rt: &H, alloc: Global, call: Call) {
+fn assert_each_read_fails<H: Abort>(rt: &H, alloc: Global, call: Call) {
     let status = if call.is_refused { 3 } else { 0 };
     let reads = if call.most_read == 1 { 4 } else { 2 };
     assert_each_write_fails(rt, alloc, b"abc", call, (status, b"abc\n", reads));
@@ -159,7 +126,6 @@ fn assert_each_read_fails<H: Abort + Threads + Wait + Sync>(rt: &H, alloc: Globa
 
 /// A call whose streams transfer everything at once and never fail.
 const PLAIN: Call = Call {
-    is_open: false,
     is_refused: false,
     most_read: 65_536,
     read_fails: 0,
@@ -170,18 +136,15 @@ const PLAIN: Call = Call {
 
 #[test]
 fn each_read_and_each_write_fails(rt: HostRuntime) {
-    for is_open in [false, true] {
-        for is_refused in [false, true] {
-            for (most_read, most_written) in [(8192, 8192), (8192, 1), (1, 8192), (1, 1)] {
-                let call = Call {
-                    is_open,
-                    is_refused,
-                    most_read,
-                    most_written,
-                    ..PLAIN
-                };
-                assert_each_read_fails(&rt, rt.alloc(), call);
-            }
+    for is_refused in [false, true] {
+        for (most_read, most_written) in [(8192, 8192), (8192, 1), (1, 8192), (1, 1)] {
+            let call = Call {
+                is_refused,
+                most_read,
+                most_written,
+                ..PLAIN
+            };
+            assert_each_read_fails(&rt, rt.alloc(), call);
         }
     }
 }
@@ -190,9 +153,6 @@ fn each_read_and_each_write_fails(rt: HostRuntime) {
 fn an_input_that_is_too_long(rt: HostRuntime) -> Result<(), Fail> {
     let input = vec![in rt.alloc(); b'#'; 4_194_305]?;
     let end = (1, b"line 0: InputTooLong\n".as_slice(), 65);
-    for is_open in [false, true] {
-        let call = Call { is_open, ..PLAIN };
-        assert_each_write_fails(&rt, rt.alloc(), &input, call, end);
-    }
+    assert_each_write_fails(&rt, rt.alloc(), &input, PLAIN, end);
     Ok(())
 }

@@ -1,99 +1,40 @@
 -- How a call ends, and what may then be printed.
-use Rattle.std.proofs.Common.{◌≡◌, ℕ, ◌<◌, ◌≤◌, inl, inr, List, ◌++◌, ◌∷◌, [], length, take, nat_lt, true, false, refl, ap, subst, sym, ◌∙◌, codes, Option, Some, None, IfSome, lit<}
-use Rattle.std.proofs.lemmas.Bool.{le-ltb, lt-ltb, cases_lt}
+use Rattle.std.proofs.Common.{◌≡◌, ℕ, ◌<◌, ◌≤◌, inl, inr, List, ◌++◌, [], length, take, refl, ap, subst, sym, ◌∙◌, codes, Option, Some, None, IfSome, lit<, Result, Ok, Err}
+use Rattle.std.specs.Result.{result_unwrap_or}
+use Rattle.std.proofs.lemmas.Bool.{cases_lt}
 use Rattle.std.specs.Io.KnownBytes.{Appends}
 use Rattle.std.proofs.KnownBytes.{Appends-nil}
-use Rattle.dma_script.specs.Command.{Printed, Ends, EndsUnread, Failures, Unfailed, Wrote, reader_failed, too_long, no_memory, complete, out_of_memory, input_fault, output_fault, AppendsGroups, MayAppend, MayEnd, may_print_within, printed_within, printed_text, refusal, text_of, longest_input}
-
--- An input that is not too long has what the command prints for it.
-printed_within_short : (printed : List ℕ → Printed) (input : List ℕ) → length input ≤ longest_input → printed_within printed input ≡ printed input
-printed_within_short printed input short =
-    let inside : nat_lt longest_input (length input) ≡ false = le-ltb _ _ short in
-    rw inside refl
-
--- Another prints its one line.
-printed_within_long : (printed : List ℕ → Printed) (input : List ℕ) → longest_input < length input → printed_within printed input ≡ refusal (codes "line 0: InputTooLong")
-printed_within_long printed input long =
-    let above : nat_lt longest_input (length input) ≡ true = lt-ltb _ _ long in
-    rw above refl
-
--- ---- where the output is a function of the input
-
--- If one output may be printed for each input, it is the one for an input of any length.
-settled_within : (printed : List ℕ → Printed) (input : List ℕ) (p : Printed) → may_print_within (λ input p. p ≡ printed input) input p → p ≡ printed_within printed input
-settled_within printed input p (inl long) = long.1 ∙ sym (printed_within_long printed input long.0)
-settled_within printed input p (inr short) = short.1 ∙ sym (printed_within_short printed input short.0)
-
--- the one text that may be printed for an input
-abbrev pub only : (List ℕ → Printed) → List ℕ → Printed → Type 0
-only printed input p = p ≡ printed input
-
-pub only_some : (printed : List ℕ → Printed) → ((input : List ℕ) → 0 < length (printed input).groups) → (input : List ℕ) → MayAppend (only printed input) [] []
-only_some printed some input = record { printed = printed input; allowed = refl; first = record { count = 0; some_left = some input; whole = refl } }
-
-pub only_first : (printed : List ℕ → Printed) (input old new : List ℕ) → AppendsGroups (printed input).groups old new → MayAppend (only printed input) old new
-only_first printed input old new first = record { printed = printed input; allowed = refl; first = first }
-
--- A call that prints what may be printed prints the one text that may.
-pub ends_settled : (known : Option (List ℕ)) (reader writer : Failures) (printed : List ℕ → Printed) (old new : Option (List ℕ)) (status : ℕ) → IfSome known (λ input. MayEnd reader writer (may_print_within (λ input p. p ≡ printed input) input) old new status) → IfSome known (λ input. Ends reader writer (printed_within printed input) old new status)
-ends_settled None reader writer printed old new status ends = tt
-ends_settled (Some input) reader writer printed old new status ends =
-    subst (λ p. Ends reader writer p old new status) (settled_within printed input ends.printed ends.allowed) ends.ends
-
--- ---- the ends of a call
+use Rattle.dma_script.specs.Command.{Printed, Ends, EndsUnread, Failures, Unfailed, Wrote, reader_failed, too_long, no_memory, complete, out_of_memory, input_fault, output_fault, MayAnswer, may_print_within, printed_text, refusal, longest_input}
 
 -- Something may be printed for an input of any length.
-within_some : (may : List ℕ → Printed → Type 0) → ((input : List ℕ) → MayAppend (may input) [] []) → (input : List ℕ) → MayAppend (may_print_within may input) [] []
+within_some : (may : List ℕ → Printed → Type 0) → ((input : List ℕ) → (printed : Printed) × may input printed × (0 < length printed.groups)) → (input : List ℕ) → (printed : Printed) × may_print_within may input printed × (0 < length printed.groups)
 within_some may some input = elim (cases_lt longest_input (length input)) [
-  | inl long ↦ record { printed = refusal (codes "line 0: InputTooLong"); allowed = inl (long, refl); first = record { count = 0; some_left = lit< tt; whole = refl } }
-  | inr short ↦ let one = some input in record { printed = one.printed; allowed = inr (short, one.allowed); first = one.first }
+  | inl long ↦ (refusal (codes "line 0: InputTooLong"), inl (long, refl), lit< tt)
+  | inr short ↦ let one = some input in (one.0, inr (short, one.1), one.2)
 ]
 
--- The reader failed.
-pub failed_input : (known : Option (List ℕ)) (reader writer : Failures) (may : List ℕ → Printed → Type 0) (old new : Option (List ℕ)) (result : ℕ) → ((input : List ℕ) → MayAppend (may input) [] []) → reader.after → Wrote writer old new (text_of (codes "input failed" ∷ [])) 1 result → IfSome known (λ input. MayEnd reader writer (may_print_within may input) old new result)
-failed_input None reader writer may old new result some failed wrote = tt
-failed_input (Some input) reader writer may old new result some failed (inl wrote) =
-    let one = within_some may some input in
-    record { printed = one.printed; allowed = one.allowed; ends = input_fault failed wrote.2 wrote.1 wrote.0 }
-failed_input (Some input) reader writer may old new result some failed (inr unwritten) =
-    let one = within_some may some input in
-    record { printed = one.printed; allowed = one.allowed; ends = output_fault unwritten.1 unwritten.0 }
-
--- The input is too long.
-pub long_input : (known : Option (List ℕ)) (reader writer : Failures) (may : List ℕ → Printed → Type 0) (old new : Option (List ℕ)) (result : ℕ) → IfSome known (λ input. longest_input < length input) → Unfailed reader → Wrote writer old new (text_of (codes "line 0: InputTooLong" ∷ [])) 1 result → IfSome known (λ input. MayEnd reader writer (may_print_within may input) old new result)
-long_input None reader writer may old new result long kept wrote = tt
-long_input (Some input) reader writer may old new result long kept (inl wrote) =
-    record { printed = refusal (codes "line 0: InputTooLong"); allowed = inl (long, refl); ends = complete kept wrote.2 wrote.1 wrote.0 }
-long_input (Some input) reader writer may old new result long kept (inr unwritten) =
-    record { printed = refusal (codes "line 0: InputTooLong"); allowed = inl (long, refl); ends = output_fault unwritten.1 unwritten.0 }
-
--- Out of memory before the input was read.
-pub refused_at_once : (known : Option (List ℕ)) (reader writer : Failures) (may : List ℕ → Printed → Type 0) (old : Option (List ℕ)) → ((input : List ℕ) → MayAppend (may input) [] []) → Unfailed reader → Unfailed writer → IfSome known (λ input. MayEnd reader writer (may_print_within may input) old old 3)
-refused_at_once None reader writer may old some kept_reader kept_writer = tt
-refused_at_once (Some input) reader writer may old some kept_reader kept_writer =
-    let one = within_some may some input in
-    record {
-      printed = one.printed;
-      allowed = one.allowed;
-      ends = out_of_memory kept_reader kept_writer one.first.count one.first.some_left (subst (Appends old old) one.first.whole (Appends-nil old)) refl;
-    }
-
 -- A call that has no input to run.
-pub unread : (known : Option (List ℕ)) (reader writer : Failures) (may : List ℕ → Printed → Type 0) (old new : Option (List ℕ)) (status : ℕ) → ((input : List ℕ) → MayAppend (may input) [] []) → EndsUnread known reader writer old new status → IfSome known (λ input. MayEnd reader writer (may_print_within may input) old new status)
-unread known reader writer may old new status some (reader_failed after wrote) = failed_input known reader writer may old new status some after wrote
-unread known reader writer may old new status some (too_long long kept wrote) = long_input known reader writer may old new status long kept wrote
-unread known reader writer may old new status some (no_memory kept_reader kept_writer same three) =
-    subst (λ n. IfSome known (λ input. MayEnd reader writer (may_print_within may input) old n status)) (sym same)
-    (subst (λ n. IfSome known (λ input. MayEnd reader writer (may_print_within may input) old old n)) (sym three) (refused_at_once known reader writer may old some kept_reader kept_writer))
+pub unread : (known : Option (List ℕ)) (reader writer : Failures) (may : List ℕ → Printed → Type 0) (old new : Option (List ℕ)) (status : ℕ) → ((input : List ℕ) → (printed : Printed) × may input printed × (0 < length printed.groups)) → EndsUnread known reader writer old new status → IfSome known (λ input. Ends reader writer (may_print_within may input) old new status)
+unread None reader writer may old new status some ends = tt
+unread (Some input) reader writer may old new status some (reader_failed after (inl wrote)) = input_fault after wrote.2 wrote.1 wrote.0
+unread (Some input) reader writer may old new status some (reader_failed after (inr failed)) = output_fault failed.1 failed.0
+unread (Some input) reader writer may old new status some (too_long long kept (inl wrote)) =
+    complete kept wrote.2 (refusal (codes "line 0: InputTooLong")) (inl (long, refl)) wrote.1 wrote.0
+unread (Some input) reader writer may old new status some (too_long long kept (inr failed)) = output_fault failed.1 failed.0
+unread (Some input) reader writer may old new status some (no_memory kept_reader kept_writer same three) =
+    let one = within_some may some input in
+    out_of_memory kept_reader kept_writer one.0 one.1 0 one.2 (subst (λ n. Appends old n []) (sym same) (Appends-nil old)) three
 
--- Out of memory after the first groups were built.
-pub refused_after : (known : Option (List ℕ)) (reader writer : Failures) (may : List ℕ → Printed → Type 0) (old new : Option (List ℕ)) (input before built sent : List ℕ) (result : ℕ) → IfSome known (λ all. input ≡ all) → length input ≤ longest_input → before ≡ [] → MayAppend (may input) before built → sent ≡ built → Unfailed reader → Wrote writer old new sent 3 result → IfSome known (λ all. MayEnd reader writer (may_print_within may all) old new result)
-refused_after None reader writer may old new input before built sent result e short none built_is same kept wrote = tt
-refused_after (Some all) reader writer may old new input before built sent result e short none built_is same kept wrote =
-    let allowed : may_print_within may all built_is.printed = inr (subst (λ i. length i ≤ longest_input) e short, subst (λ i. may i built_is.printed) e built_is.allowed) in
-    let groups = built_is.first in
-    let text = same ∙ groups.whole ∙ ap (λ front. front ++ printed_text (take groups.count built_is.printed.groups)) none in
-    elim wrote [
-      | inl done ↦ record { printed = built_is.printed; allowed = allowed; ends = out_of_memory kept done.2 groups.count groups.some_left (subst (Appends old new) text done.1) done.0 }
-      | inr unwritten ↦ record { printed = built_is.printed; allowed = allowed; ends = output_fault unwritten.1 unwritten.0 }
-    ]
+-- A call whose answer was built and sent.
+pub answered : {E : Type 0} (known : Option (List ℕ)) (reader writer : Failures) (may : List ℕ → Printed → Type 0) (old new : Option (List ℕ)) (input before built sent : List ℕ) (answer : Result ℕ E) (status result : ℕ) → IfSome known (λ all. input ≡ all) → length input ≤ longest_input → before ≡ [] → MayAnswer (may input) answer before built → status ≡ result_unwrap_or answer 3 → sent ≡ built → Unfailed reader → Wrote writer old new sent status result → IfSome known (λ all. Ends reader writer (may_print_within may all) old new result)
+answered None reader writer may old new input before built sent answer status result e short none a exit same kept wrote = tt
+answered (Some all) reader writer may old new input before built sent answer status result e short none a exit same kept (inr failed) = output_fault failed.1 failed.0
+answered (Some all) reader writer may old new input before built sent (Ok s) status result e short none a exit same kept (inl wrote) =
+    let within : may_print_within may all a.printed = subst (λ i. may_print_within may i a.printed) e (inr (short, a.allowed)) in
+    let text = same ∙ a.answers.text ∙ ap (λ front. front ++ printed_text a.printed.groups) none in
+    complete kept wrote.2 a.printed within (subst (Appends old new) text wrote.1) (wrote.0 ∙ exit ∙ a.answers.status)
+answered (Some all) reader writer may old new input before built sent (Err x) status result e short none a exit same kept (inl wrote) =
+    let within : may_print_within may all a.printed = subst (λ i. may_print_within may i a.printed) e (inr (short, a.allowed)) in
+    let first = a.answers.refused in
+    let text = same ∙ first.whole ∙ ap (λ front. front ++ printed_text (take first.count a.printed.groups)) none in
+    out_of_memory kept wrote.2 a.printed within first.count first.some_left (subst (Appends old new) text wrote.1) (wrote.0 ∙ exit)

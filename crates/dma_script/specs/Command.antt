@@ -1,5 +1,5 @@
 -- What a command prints for an input, and how a call of it may end.
-use Rattle.std.specs.Prelude.{◌≡◌, ◌<◌, ◌≤◌, ◌⊎◌, ℕ, List, [], ◌∷◌, ◌++◌, flat_map, take, length, codes, nat_lt, if◌then◌else◌, Option, IfSome, IfOk, OnErr, OnOk, Result}
+use Rattle.std.specs.Prelude.{◌≡◌, ◌<◌, ◌≤◌, ◌⊎◌, ℕ, List, [], ◌∷◌, ◌++◌, flat_map, take, length, codes, Option, IfSome, IfOk, OnErr, OnOk, Result}
 use Rattle.std.specs.Io.KnownBytes.{Appends}
 
 -- What a command prints: for each input line the lines that it prints, without their line feeds, and the exit status. A
@@ -24,11 +24,16 @@ longest_input = 4194304
 abbrev pub refusal : List ℕ → Printed
 refusal line = record { groups = (line ∷ []) ∷ []; status = 1 }
 
--- What is printed for an input of any length, given what is printed for one that is not too long (profile). For an
--- input that is too long it is the line `line 0: InputTooLong`, with status 1.
-abbrev pub printed_within : (List ℕ → Printed) → List ℕ → Printed
-printed_within printed input =
-    if nat_lt longest_input (length input) then refusal (codes "line 0: InputTooLong") else printed input
+-- What may be printed for an input of any length, given what may be printed for one that is not too long (profile). For
+-- an input that is too long it is the line `line 0: InputTooLong`, with status 1.
+abbrev pub may_print_within : (List ℕ → Printed → Type 0) → List ℕ → Printed → Type 0
+may_print_within may input printed =
+    ((longest_input < length input) × (printed ≡ refusal (codes "line 0: InputTooLong")))
+    ⊎ ((length input ≤ longest_input) × may input printed)
+
+-- The same for a command that prints one text for an input.
+abbrev pub printed_within : (List ℕ → Printed) → List ℕ → Printed → Type 0
+printed_within printed = may_print_within (λ input p. p ≡ printed input)
 
 -- The new bytes are the old ones and then the text of the first groups, with at least one group missing.
 pub record AppendsGroups (groups : List (List (List ℕ))) (old new : List ℕ) : Type 0 where
@@ -42,6 +47,12 @@ pub record Answers {E : Type 0} (printed : Printed) (result : Result ℕ E) (old
   pub text : OnOk result (new ≡ old ++ printed_text printed.groups)
   pub status : IfOk result (λ status. status ≡ printed.status)
   pub refused : OnErr result (AppendsGroups printed.groups old new)
+
+-- A command answers so for a text that may be printed.
+pub record MayAnswer {E : Type 0} (may : Printed → Type 0) (result : Result ℕ E) (old new : List ℕ) : Type 0 where
+  pub printed : Printed
+  pub allowed : may printed
+  pub answers : Answers printed result old new
 
 -- The failures of a stream: whether a call of it had failed before, and whether one has failed by now.
 pub record Failures : Type 1 where
@@ -57,18 +68,21 @@ abbrev pub Unfailed : Failures → Type 0
 Unfailed stream = stream.after → stream.before
 
 -- How a call of a command ends (profile). `old` and `new` are the bytes that the writer held before and holds now, if
--- they are known. `complete`: the whole output was printed, with its status. `out_of_memory`: exactly the first groups
--- were printed, with at least one group missing, and the status is 3. `input_fault`: a read has failed, the line
--- `input failed` was printed, and the status is 1. `output_fault`: a write has failed, and the status is 1. In the
--- first two no call of a stream failed, and in the third no call of the writer: a failure is never retried and hidden.
-pub data Ends (reader writer : Failures) (printed : Printed) (old new : Option (List ℕ)) (status : ℕ) : Type 0 where
-  complete : Unfailed reader → Unfailed writer → Appends old new (printed_text printed.groups) → status ≡ printed.status
-      → Ends reader writer printed old new status
-  out_of_memory : Unfailed reader → Unfailed writer → (count : ℕ) → count < length printed.groups
-      → Appends old new (printed_text (take count printed.groups)) → status ≡ 3 → Ends reader writer printed old new status
+-- they are known. `complete`: the whole of a text that may be printed was printed, with its status. `out_of_memory`:
+-- exactly the first groups of such a text were printed, with at least one group missing, and the status is 3.
+-- `input_fault`: a read has failed, the line `input failed` was printed, and the status is 1. `output_fault`: a write has
+-- failed, and the status is 1. In the first two no call of a stream failed, and in the third no call of the writer: a
+-- failure is never retried and hidden.
+pub data Ends (reader writer : Failures) (may : Printed → Type 0) (old new : Option (List ℕ)) (status : ℕ) : Type 0 where
+  complete : Unfailed reader → Unfailed writer → (printed : Printed) → may printed
+      → Appends old new (printed_text printed.groups) → status ≡ printed.status
+      → Ends reader writer may old new status
+  out_of_memory : Unfailed reader → Unfailed writer → (printed : Printed) → may printed
+      → (count : ℕ) → count < length printed.groups → Appends old new (printed_text (take count printed.groups))
+      → status ≡ 3 → Ends reader writer may old new status
   input_fault : reader.after → Unfailed writer → Appends old new (text_of (codes "input failed" ∷ [])) → status ≡ 1
-      → Ends reader writer printed old new status
-  output_fault : writer.after → status ≡ 1 → Ends reader writer printed old new status
+      → Ends reader writer may old new status
+  output_fault : writer.after → status ≡ 1 → Ends reader writer may old new status
 
 -- The text was written, no write failed, and the exit status is `status`; or a write has failed, and it is 1.
 abbrev pub Wrote : Failures → Option (List ℕ) → Option (List ℕ) → List ℕ → ℕ → ℕ → Type 0
@@ -87,30 +101,3 @@ pub data EndsUnread
       → Wrote writer old new (text_of (codes "line 0: InputTooLong" ∷ [])) 1 status
       → EndsUnread input reader writer old new status
   no_memory : Unfailed reader → Unfailed writer → new ≡ old → status ≡ 3 → EndsUnread input reader writer old new status
-
--- ---- where the output is not a function of the input
-
--- What may be printed for an input of any length, given what may be printed for one that is not too long (profile).
-abbrev pub may_print_within : (List ℕ → Printed → Type 0) → List ℕ → Printed → Type 0
-may_print_within may input printed =
-    ((longest_input < length input) × (printed ≡ refusal (codes "line 0: InputTooLong")))
-    ⊎ ((length input ≤ longest_input) × may input printed)
-
--- The whole text of an output that may be printed was appended, and the status is that of this output.
-pub record MayComplete (may : Printed → Type 0) (status : ℕ) (old new : List ℕ) : Type 0 where
-  pub printed : Printed
-  pub allowed : may printed
-  pub ends : status ≡ printed.status
-  pub whole : new ≡ old ++ printed_text printed.groups
-
--- The text of the first groups of an output that may be printed was appended, with at least one group missing.
-pub record MayAppend (may : Printed → Type 0) (old new : List ℕ) : Type 0 where
-  pub printed : Printed
-  pub allowed : may printed
-  pub first : AppendsGroups printed.groups old new
-
--- The call ends as `Ends` says for an output that may be printed.
-pub record MayEnd (reader writer : Failures) (may : Printed → Type 0) (old new : Option (List ℕ)) (status : ℕ) : Type 0 where
-  pub printed : Printed
-  pub allowed : may printed
-  pub ends : Ends reader writer printed old new status

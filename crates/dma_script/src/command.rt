@@ -1,15 +1,12 @@
-//! Commands: what one prints for an input, and how it runs on a reader and a writer.
-ghost use Rattle.std.specs.Prelude.{◌≡◌, ◌+◌, ◌≤◌, ◌<◌, [], List, ℕ, IfErr, IfOk, OnErr, OnOk, IfSome, length, vec_len};
-ghost use Rattle.std.specs.Thread.{IsSync};
-ghost use Rattle.dma_script.specs.Command.{Answers, Ends, EndsUnread, MayAppend, MayComplete, MayEnd, Printed, Wrote, failures, longest_input, may_print_within, printed_within, refusal};
+//! Commands: what one may print for an input, and how it runs on a reader and a writer.
+ghost use Rattle.std.specs.Prelude.{◌≡◌, ◌+◌, ◌≤◌, ◌<◌, List, ℕ, IfErr, IfOk, OnErr, OnOk, IfSome, length, vec_len};
+ghost use Rattle.dma_script.specs.Command.{Answers, Ends, EndsUnread, MayAnswer, Printed, Wrote, failures, longest_input, may_print_within, refusal};
 
 use crate::input::{InputError, LONGEST_INPUT, Source, read_input};
 use crate::output::{Sink, write_output};
 use crate::printing::print_line;
 use dma_text::text::Text;
 use std::alloc::{AllocError, Global};
-use std::sync::Wait;
-use std::thread::Threads;
 
 /// The exit status of a call that succeeded.
 pub const SUCCESS: u8 = 0;
@@ -20,18 +17,26 @@ pub const FAULT: u8 = 1;
 /// The exit status of a call that is out of memory.
 pub const OUT_OF_MEMORY: u8 = 3;
 
-/// A command whose output is a function of its input, if that is not too long.
+/// A command. It may print one text for an input, or, if it starts threads, which take their turns in any order, one of
+/// several.
 pub trait Command {
-    ghost printed: { List ℕ → Printed };
+    // What may be printed for an input that is not too long.
+    ghost may_print: { List ℕ → Printed → Type 0 };
 
-    /// Appends the printed text and returns the exit status. If it is out of memory, appends exactly the text of the
-    /// first groups, with at least one group missing.
+    // When it can answer.
+    ghost is_ready: { Self → Type 0 } = { λ _. Unit {0} };
+
+    /// Appends a text that may be printed and returns its exit status. If it is out of memory, appends exactly the text
+    /// of the first groups of such a text, with at least one group missing.
     fn answer(&self, alloc: Global, input: &[u8], out: &mut Vec<u8>) -> Result<u8, AllocError>
-        requires { length input.now ≤ longest_input }
-        ensures { Answers (printed input.now) result out.old.items out.new.items };
+        requires ready { is_ready self.now }
+        requires short { length input.now ≤ longest_input }
+        ensures { MayAnswer (may_print input.now) result out.old.items out.new.items };
 
-    // There is at least one group, maybe an empty one, so that one can be missing if the command is out of memory.
-    ghost some_group: { (input : List ℕ) → 0 < length (printed input).groups };
+    // For each input a text may be printed that has at least one group, maybe an empty one, so that one can be missing
+    // if the command is out of memory.
+    ghost some_print: { (input : List ℕ)
+        → (printed : Printed) × may_print input printed × (0 < length printed.groups) };
 }
 
 /// Appends the line of a fault and returns the exit status `FAULT`. Appends nothing if the fault can't be printed or
@@ -89,57 +94,8 @@ pub fn serve<C: Command, R: Source, W: Sink>(
     reader: &mut R,
     writer: &mut W,
 ) -> u8
+    requires { C.is_ready command.now }
     ensures ends { IfSome (R.remaining reader.old) (λ input. Ends
-        (failures R.has_failed reader.old reader.new) (failures W.has_failed writer.old writer.new)
-        (printed_within C.printed input) (W.contents writer.old) (W.contents writer.new) result) }
-    ensures reads { R.reads reader.new ≤ R.reads reader.old + (longest_input + 1) }
-{
-    let input = match input_of(alloc, reader, writer) {
-        Ok(input) => input,
-        Err(status) => return status,
-    };
-    let mut out = Vec::new(alloc);
-    match command.answer(alloc, &input, &mut out) {
-        Ok(status) => finish(writer, &out, status),
-        Err(_) => finish(writer, &out, OUT_OF_MEMORY),
-    }
-}
-
-/// A command whose text is not a function of its input: it starts threads, which take their turns in any order.
-pub trait OpenCommand {
-    // What it may print for an input that is not too long.
-    ghost may_print: { List ℕ → Printed → Type 0 };
-
-    /// Appends a text that may be printed and returns its exit status. If it is out of memory, appends exactly the text
-    /// of the first groups of such a text, with at least one group missing.
-    fn answer<H: Threads + Wait + Sync>(
-        &self,
-        rt: &H,
-        alloc: Global,
-        input: &[u8],
-        out: &mut Vec<u8>,
-    ) -> Result<u8, AllocError>
-        requires short { length input.now ≤ longest_input }
-        requires shared { IsSync H.row }
-        ensures complete { IfOk result
-            (λ status. MayComplete (may_print input.now) status out.old.items out.new.items) }
-        ensures refused { OnErr result
-            (MayAppend (may_print input.now) out.old.items out.new.items) };
-
-    // For each input a text may be printed that has at least one group, maybe an empty one, so that one can be missing
-    // if the command is out of memory.
-    ghost some_print: { (input : List ℕ) → MayAppend (may_print input) [] [] };
-}
-
-/// Runs a command whose text is not a function of its input, as [`serve`] runs one whose text is.
-pub fn serve_open<H: Threads + Wait + Sync, C: OpenCommand, R: Source, W: Sink>(
-    rt: &H,
-    command: &C,
-    alloc: Global,
-    reader: &mut R,
-    writer: &mut W,
-) -> u8
-    ensures ends { IfSome (R.remaining reader.old) (λ input. MayEnd
         (failures R.has_failed reader.old reader.new) (failures W.has_failed writer.old writer.new)
         (may_print_within C.may_print input) (W.contents writer.old) (W.contents writer.new) result) }
     ensures reads { R.reads reader.new ≤ R.reads reader.old + (longest_input + 1) }
@@ -149,8 +105,6 @@ pub fn serve_open<H: Threads + Wait + Sync, C: OpenCommand, R: Source, W: Sink>(
         Err(status) => return status,
     };
     let mut out = Vec::new(alloc);
-    match command.answer(rt, alloc, &input, &mut out) {
-        Ok(status) => finish(writer, &out, status),
-        Err(AllocError) => finish(writer, &out, OUT_OF_MEMORY),
-    }
+    let answered = command.answer(alloc, &input, &mut out);
+    finish(writer, &out, answered.unwrap_or(OUT_OF_MEMORY))
 }

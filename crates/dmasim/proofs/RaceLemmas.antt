@@ -1,11 +1,11 @@
 -- What the lines of a race script may print.
-use Rattle.std.proofs.Common.{◌≡◌, ◌≢◌, ℕ, ◌+◌, List, [], ◌∷◌, ◌++◌, length, take, drop, get_or, codes, inr, suc, Option, Some, None, Result, Ok, Err, lit<, inl, refl, ap, sym, subst, ◌∙◌, arith, append_assoc}
+use Rattle.std.proofs.Common.{◌≡◌, ◌≢◌, ℕ, ◌<◌, ◌+◌, List, [], ◌∷◌, ◌++◌, length, take, drop, get_or, codes, map, inr, suc, Option, Some, None, Result, Ok, Err, lit<, inl, refl, ap, sym, subst, ◌∙◌, arith, append_assoc}
 use Rattle.std.specs.List.{All}
-use Rattle.std.proofs.Math.Seq.{drop-append_seam, take-append_seam, take-append-add}
+use Rattle.std.proofs.Math.Seq.{drop-append_seam, take-append_seam}
 use Rattle.std.proofs.lemmas.List.{append-nil, length-append, length-map, take-append-le, take_all, take-map}
 use Rattle.std.proofs.lemmas.List.Elements.{All-drop, All-head, All-tail}
-use Rattle.std.proofs.lemmas.Result.{on_err_weaker, on_ok_weaker}
-use Rattle.std.specs.Prelude.{IfOk, MatchOption, OnErr, OnOk}
+use Rattle.std.proofs.lemmas.Result.{on_ok_weaker}
+use Rattle.std.specs.Prelude.{IsErr, MatchOption, OnErr, OnOk}
 use Rattle.dma_mem.specs.declared.transfer.TransferFault.{TransferFault}
 use Rattle.dma_mem.specs.Places.{Descriptor}
 use Rattle.dma_script.specs.declared.plan.TransferLine.{TransferLine}
@@ -19,25 +19,28 @@ use Rattle.dma_engine.specs.Answer.{status_in}
 use Rattle.dma_engine.specs.View.{View, channels, new_fault, new_view, size}
 use Rattle.dma_engine.proofs.Sizes.{opening-many, opening-size}
 use Rattle.dma_engine.proofs.StaysSound.{new_views_are_sound}
-use Rattle.dma_work.specs.Desk.{DeskState, IsSoundOf}
-use Rattle.dma_script.specs.Command.{Answers, AppendsGroups, MayAppend, MayComplete, Printed, printed_text, refusal, text_of}
+use Rattle.dma_work.specs.Desk.{DeskState, IsSoundOf, TallyCounts}
+use Rattle.dma_work.specs.declared.worker.Job.{Job}
+use Rattle.dma_script.specs.Command.{Answers, MayAnswer, Printed, printed_text, refusal, text_of}
 use Rattle.dma_script.specs.Lines.{Gives}
 use Rattle.dma_script.specs.Printing.{error_line, fault_line}
 use Rattle.dma_script.specs.declared.fault.ReadError.{ReadError}
 use Rattle.dma_script.specs.declared.fault.ReadError.TheVariants as script_errors
 use Rattle.dma_script.specs.Race.{IsEarly, race_script_of}
 use Rattle.dma_script.specs.declared.fault.Fault.{Fault}
+use Rattle.dma_script.specs.declared.race.JobLine.{JobLine}
 use Rattle.dma_script.specs.declared.race.RaceScript.{RaceScript}
 use Rattle.dma_script.specs.declared.statements.Statement.{Statement}
 use Rattle.dma_script.specs.declared.statements.Statement.TheVariants as statements
 use Rattle.dma_commands.specs.Printed.{call_line, refused_line, transfer_fault_name}
 use Rattle.dma_commands.specs.Run.{Answered, call_answer, line_answer, lines_answered, one_line, unless_invalid}
 use Rattle.dma_commands.specs.Transfers.{transfer_of}
-use Rattle.dmasim.specs.Race.{EachPrints, EarlyPrints, RacePrints, alone, go_line, race_may_print, race_prints_of, missing_tally, no_reader, raced_refused, raced_whole, whole}
+use Rattle.dmasim.specs.Race.{AreJobs, EachPrints, EarlyPrints, RacePrints, Took, alone, go_line, race_may_print, race_prints_of, missing_tally, no_reader, raced_refused, raced_whole, whole}
 use Rattle.dmasim.specs.inner.RaceSteps.{ActsEarly, AnswersOn, PrintsAll, PrintsEarly, PrintsFirst, PrintsGo, PrintsMissing, PrintsRefusal, PrintsStatus, PrintsTotals, RunsAll, RunsEarly, RunsFirst, alone_acts, breaks_a_rule, by_reader, on_desk}
 use Rattle.dma_script.specs.Interpreted.{ActsInTurn, PrintsLine, PrintsLines, StopsAtALine}
-use Rattle.dma_script.proofs.InterpretedLemmas.{printed_text-append, text_after}
+use Rattle.dma_script.proofs.InterpretedLemmas.{text_after}
 use Rattle.dma_commands.proofs.PlanLemmas.{nothing}
+use Rattle.dma_commands.proofs.RunLemmas.{answers_after, answers_none, answers_some}
 use Rattle.dma_commands.proofs.Served.{served-one}
 
 -- ---- the sizes of a new engine
@@ -219,124 +222,88 @@ module _ (bytes many : ℕ) where
 
   -- ---- `go`
 
-  pub go_after : (statements : List Statement) (v : View) (old mid new : List ℕ) → PrintsAll bytes many statements old mid → PrintsTotals bytes many v mid new → PrintsGo bytes many statements v old new
-  go_after statements v old mid new all totals = record {
+  pub go_after : (statements : List Statement) (jobs : List Job) (tallies : List TallyCounts) (v : View) (old mid new : List ℕ) → Took bytes many jobs tallies → PrintsAll bytes many statements old mid → PrintsTotals bytes many tallies v mid new → PrintsGo bytes many statements jobs v old new
+  go_after statements jobs tallies v old mid new took all totals = record {
     early = all.early;
     each = all.each;
-    steps = totals.steps;
-    finished = totals.finished;
+    tallies = tallies;
+    took = took;
     reaches = totals.reaches;
-    text = text_after old mid new (alone all.early) (go_line totals.steps totals.finished ∷ []) all.text totals.text;
+    text = text_after old mid new (alone all.early) (go_line tallies ∷ []) all.text totals.text;
   }
 
   -- `go` was settled, or a tally is missing.
-  pub go_or_missing : {X : Type 0} (seen : X → View) (statements : List Statement) (old mid new : List ℕ) → PrintsAll bytes many statements old mid → (left : Option X) → MatchOption left (PrintsRefusal (codes "MissingTally") mid new) (λ x. PrintsTotals bytes many (seen x) mid new) → MatchOption left (PrintsMissing bytes many statements old new) (λ x. PrintsGo bytes many statements (seen x) old new)
-  go_or_missing seen statements old mid new all None missing = record { before = mid; all = all; text = missing }
-  go_or_missing seen statements old mid new all (Some x) totals = go_after statements (seen x) old mid new all totals
+  pub go_or_missing : {X : Type 0} (seen : X → View) (statements : List Statement) (jobs : List Job) (tallies : List TallyCounts) (old mid new : List ℕ) → Took bytes many jobs tallies → PrintsAll bytes many statements old mid → (left : Option X) → MatchOption left (PrintsRefusal (codes "MissingTally") mid new) (λ x. PrintsTotals bytes many tallies (seen x) mid new) → MatchOption left (PrintsMissing bytes many statements old new) (λ x. PrintsGo bytes many statements jobs (seen x) old new)
+  go_or_missing seen statements jobs tallies old mid new took all None missing = record { before = mid; all = all; text = missing }
+  go_or_missing seen statements jobs tallies old mid new took all (Some x) totals = go_after statements jobs tallies (seen x) old mid new took all totals
 
 -- ---- whole scripts
 
+-- There are as many jobs as lines.
+pub jobs_count : (lines : List JobLine) (jobs : List Job) → AreJobs lines jobs → length jobs ≡ length lines
+jobs_count lines jobs are =
+    let of_job : Job → ℕ × ℕ × ℕ = λ job. (job.first, job.last, job.turns) in
+    let of_line : JobLine → ℕ × ℕ × ℕ = λ line. (line.first, line.last, line.turns) in
+    sym (length-map jobs of_job) ∙ ap length are ∙ length-map lines of_line
+
 -- Something may be printed for each input.
-pub race_some : (input old : List ℕ) → MayAppend (race_may_print input) old old
-race_some input old = elim (race_script_of input) as (λ read. MayAppend (race_prints_of read) old old) [
-  | Ok script ↦ record { printed = raced_refused [] (codes "NoReader"); allowed = no_reader refl; first = record { count = 0; some_left = lit< tt; whole = sym (append-nil old) } }
-  | Err fault ↦ record { printed = refusal (fault_line fault); allowed = refl; first = record { count = 0; some_left = lit< tt; whole = sym (append-nil old) } }
+pub race_some : (input : List ℕ) → (printed : Printed) × race_may_print input printed × (0 < length printed.groups)
+race_some input = elim (race_script_of input) as (λ read. (printed : Printed) × race_prints_of read printed × (0 < length printed.groups)) [
+  | Ok script ↦ (raced_refused [] (codes "NoReader"), no_reader refl, lit< tt)
+  | Err fault ↦ (refusal (fault_line fault), refl, lit< tt)
 ]
 
--- What may be printed for a script that is read is what may be for its input.
-pub complete_read : (input : List ℕ) (read : Result RaceScript Fault) (old new : List ℕ) → race_script_of input ≡ read → (status : ℕ) → MayComplete (race_prints_of read) status old new → MayComplete (race_may_print input) status old new
-complete_read input read old new is status complete = subst (λ r. MayComplete (race_prints_of r) status old new) (sym is) complete
-
-pub append_read : (input : List ℕ) (read : Result RaceScript Fault) (old new : List ℕ) → race_script_of input ≡ read → MayAppend (race_prints_of read) old new → MayAppend (race_may_print input) old new
-append_read input read old new is some = subst (λ r. MayAppend (race_prints_of r) old new) (sym is) some
-
--- An answer that may be printed.
-pub may_complete : {E : Type 0} (may : Printed → Type 0) (printed : Printed) (result : Result ℕ E) (old new : List ℕ) → may printed → Answers printed result old new → IfOk result (λ status. MayComplete may status old new)
-may_complete may printed (Ok status) old new allowed a = record { printed = printed; allowed = allowed; ends = a.status; whole = a.text }
-may_complete may printed (Err e) old new allowed a = tt
-
-pub may_append : {E : Type 0} (may : Printed → Type 0) (printed : Printed) (result : Result ℕ E) (old new : List ℕ) → may printed → Answers printed result old new → OnErr result (MayAppend may old new)
-may_append may printed result old new allowed a = on_err_weaker result (λ first. record { printed = printed; allowed = allowed; first = first }) a.refused
-
 -- A script that was not read.
-pub race_refused : {E : Type 0} (input : List ℕ) (error : ReadError Fault) (result : Result ℕ E) (old new : List ℕ) → Gives (λ (script : RaceScript). script) (Err error) (race_script_of input) → Answers (refusal (error_line error)) result old new → OnOk result (error ≢ script_errors.NoMemory) → IfOk result (λ status. MayComplete (race_may_print input) status old new) × OnErr result (MayAppend (race_may_print input) old new)
+pub race_refused : {E : Type 0} (input : List ℕ) (error : ReadError Fault) (result : Result ℕ E) (old new : List ℕ) → Gives (λ (script : RaceScript). script) (Err error) (race_script_of input) → Answers (refusal (error_line error)) result old new → OnOk result (error ≢ script_errors.NoMemory) → MayAnswer (race_may_print input) result old new
 race_refused input (script_errors.Fault fault) result old new is answers printed =
-    let allowed : race_may_print input (refusal (fault_line fault)) = rw is refl in
-    (may_complete (race_may_print input) _ result old new allowed answers, may_append (race_may_print input) _ result old new allowed answers)
+    record { printed = refusal (fault_line fault); allowed = rw is refl; answers = answers }
 race_refused input script_errors.NoMemory (Ok status) old new is answers printed = absurd (printed refl)
 race_refused input script_errors.NoMemory (Err e) old new is answers printed =
-    (tt, subst (MayAppend (race_may_print input) old) (sym (nothing _ old new answers.refused)) (race_some input old))
+    let one = race_some input in
+    record { printed = one.0; allowed = one.1; answers = answers_none one.0 (Err e) old new refl one.2 (nothing _ old new answers.refused) }
 
--- Out of memory before anything was printed.
-pub none_append : (script : RaceScript) (old : List ℕ) → MayAppend (RacePrints script) old old
-none_append script old = record { printed = raced_refused [] (codes "NoReader"); allowed = no_reader refl; first = record { count = 0; some_left = lit< tt; whole = sym (append-nil old) } }
+module _ {E : Type 0} (script : RaceScript) (result : Result ℕ E) (old new : List ℕ) where
+  -- Out of memory before anything was printed.
+  pub none_answer : IsErr result → new ≡ old → MayAnswer (RacePrints script) result old new
+  none_answer err same = record {
+    printed = raced_refused [] (codes "NoReader");
+    allowed = no_reader refl;
+    answers = answers_none (raced_refused [] (codes "NoReader")) result old new err (lit< tt) same;
+  }
+
+  -- Out of memory before the line of `go` was printed.
+  pub first_answer : IsErr result → PrintsFirst script.before.size script.before.channels script.before.statements old new → MayAnswer (RacePrints script) result old new
+  first_answer err first =
+      let last = (refused_line (codes "MissingTally") ∷ []) ∷ [] in
+      let many : length (alone first.early) ≡ length first.early = length-map first.early (λ line. line ∷ []) in
+      let front : take first.count (alone first.early ++ last) ≡ alone (take first.count first.early) =
+      take-append-le first.count (alone first.early) last (omega (arith, many, first.within)) ∙ take-map (λ line. line ∷ []) first.count first.early in
+      let printed = raced_refused first.early (codes "MissingTally") in
+      record {
+        printed = printed;
+        allowed = missing_tally first.early first.each refl;
+        answers = answers_some printed result old new err (record {
+          count = suc first.count;
+          some_left = omega (arith, many, first.within, length-append (alone first.early) last);
+          whole = first.text ∙ ap (λ g. old ++ printed_text g) (sym front);
+        });
+      }
+
+  -- The lines after `go` were executed, or one was out of memory.
+  pub whole_answer : (jobs : List Job) (v : View) (mid : List ℕ) → AreJobs script.jobs jobs → PrintsGo script.before.size script.before.channels script.before.statements jobs v old mid → Answers (record { groups = lines_answered v script.after; status = 0 }) result mid new → MayAnswer (RacePrints script) result old new
+  whole_answer jobs v mid are go a =
+      let front = alone go.early ++ (go_line go.tallies ∷ []) ∷ [] in
+      let after = lines_answered v script.after in
+      record {
+        printed = raced_whole go.early go.tallies v script.after;
+        allowed = whole go.early go.each jobs are go.tallies go.took v go.reaches refl;
+        answers = subst (λ g. Answers (record { groups = [] ∷ g; status = 0 }) result old new) (append_assoc (alone go.early) ((go_line go.tallies ∷ []) ∷ []) after) (answers_after ([] ∷ front) after 0 result old mid new go.text a);
+      }
 
 -- A script of which a tally is missing.
-pub missing_complete : (script : RaceScript) (old new : List ℕ) → PrintsMissing script.before.size script.before.channels script.before.statements old new → MayComplete (RacePrints script) 1 old new
-missing_complete script old new missing = record {
+pub missing_answer : {E : Type 0} (script : RaceScript) (old new : List ℕ) → PrintsMissing script.before.size script.before.channels script.before.statements old new → MayAnswer {E = E} (RacePrints script) (Ok 1) old new
+missing_answer script old new missing = record {
   printed = raced_refused missing.all.early (codes "MissingTally");
   allowed = missing_tally missing.all.early missing.all.each refl;
-  ends = refl;
-  whole = text_after old missing.before new (alone missing.all.early) (refused_line (codes "MissingTally") ∷ []) missing.all.text missing.text;
+  answers = record { text = text_after old missing.before new (alone missing.all.early) (refused_line (codes "MissingTally") ∷ []) missing.all.text missing.text; status = refl; refused = tt };
 }
-
--- Out of memory before the line of `go` was printed.
-pub first_append : (script : RaceScript) (old new : List ℕ) → PrintsFirst script.before.size script.before.channels script.before.statements old new → MayAppend (RacePrints script) old new
-first_append script old new first =
-    let last = (refused_line (codes "MissingTally") ∷ []) ∷ [] in
-    let many : length (alone first.early) ≡ length first.early = length-map first.early (λ line. line ∷ []) in
-    let front : take first.count (alone first.early ++ last) ≡ alone (take first.count first.early) =
-    take-append-le first.count (alone first.early) last (omega (arith, many, first.within)) ∙ take-map (λ line. line ∷ []) first.count first.early in
-    record {
-      printed = raced_refused first.early (codes "MissingTally");
-      allowed = missing_tally first.early first.each refl;
-      first = record {
-        count = suc first.count;
-        some_left = omega (arith, many, first.within, length-append (alone first.early) last);
-        whole = first.text ∙ ap (λ g. old ++ printed_text g) (sym front);
-      };
-    }
-
--- what `go` and the lines before it print, and then the lines after it
-go_then : (early : List (List ℕ)) (line : List ℕ) (after : List (List (List ℕ))) → (alone early ++ (line ∷ []) ∷ []) ++ after ≡ alone early ++ (line ∷ []) ∷ after
-go_then early line after = append_assoc (alone early) ((line ∷ []) ∷ []) after
-
--- All lines were executed.
-whole_complete : (script : RaceScript) (v : View) (old mid new : List ℕ) → PrintsGo script.before.size script.before.channels script.before.statements v old mid → new ≡ mid ++ printed_text (lines_answered v script.after) → MayComplete (RacePrints script) 0 old new
-whole_complete script v old mid new go printed =
-    let front = alone go.early ++ (go_line go.steps go.finished ∷ []) ∷ [] in
-    let after = lines_answered v script.after in
-    record {
-      printed = raced_whole go.early go.steps go.finished v script.after;
-      allowed = whole go.early go.each go.steps go.finished v go.reaches refl;
-      ends = refl;
-      whole =
-          printed ∙ ap (λ o. o ++ printed_text after) go.text ∙ append_assoc old (printed_text front) (printed_text after)
-          ∙ ap (λ t. old ++ t) (sym (printed_text-append front after)) ∙ ap (λ g. old ++ printed_text g) (go_then go.early (go_line go.steps go.finished) after);
-    }
-
--- All lines after `go` were executed, or one was out of memory.
-pub whole_answer : {E : Type 0} (script : RaceScript) (v : View) (old mid new : List ℕ) (result : Result ℕ E) → PrintsGo script.before.size script.before.channels script.before.statements v old mid → Answers (record { groups = lines_answered v script.after; status = 0 }) result mid new → IfOk result (λ status. MayComplete (RacePrints script) status old new)
-whole_answer script v old mid new (Ok status) go a = subst (λ n. MayComplete (RacePrints script) n old new) (sym a.status) (whole_complete script v old mid new go a.text)
-whole_answer script v old mid new (Err e) go a = tt
-
--- Out of memory after `go`.
-pub whole_append : (script : RaceScript) (v : View) (old mid new : List ℕ) → PrintsGo script.before.size script.before.channels script.before.statements v old mid → AppendsGroups (lines_answered v script.after) mid new → MayAppend (RacePrints script) old new
-whole_append script v old mid new go some =
-    let front = alone go.early ++ (go_line go.steps go.finished ∷ []) ∷ [] in
-    let after = lines_answered v script.after in
-    let same = go_then go.early (go_line go.steps go.finished) after in
-    let first : take (length front + some.count) (alone go.early ++ (go_line go.steps go.finished ∷ []) ∷ after) ≡ front ++ take some.count after =
-    ap (take (length front + some.count)) (sym same) ∙ take-append-add front after some.count in
-    let many : length (alone go.early ++ (go_line go.steps go.finished ∷ []) ∷ after) ≡ length front + length after = ap length (sym same) ∙ length-append front after in
-    record {
-      printed = raced_whole go.early go.steps go.finished v script.after;
-      allowed = whole go.early go.each go.steps go.finished v go.reaches refl;
-      first = record {
-        count = suc (length front + some.count);
-        some_left = omega (arith, many, some.some_left);
-        whole =
-            some.whole ∙ ap (λ o. o ++ printed_text (take some.count after)) go.text ∙ append_assoc old (printed_text front) (printed_text (take some.count after))
-            ∙ ap (λ t. old ++ t) (sym (printed_text-append front (take some.count after))) ∙ ap (λ g. old ++ printed_text g) (sym first);
-      };
-    }

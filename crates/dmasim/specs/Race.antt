@@ -1,6 +1,6 @@
 -- What the program may print for a race script (profile). The workers take their turns in any order, so the input
 -- doesn't determine the output. It determines how many lines there are, and what each of them may be.
-use Rattle.std.specs.Prelude.{◌≡◌, ℕ, ◌≤◌, ◌⊎◌, List, [], ◌∷◌, ◌++◌, map, Result, Ok, Err, codes, decimal}
+use Rattle.std.specs.Prelude.{◌≡◌, ℕ, ◌≤◌, ◌⊎◌, List, [], ◌∷◌, ◌++◌, length, map, Result, Ok, Err, codes, decimal}
 use Rattle.dma_mem.specs.declared.call.Call.TheVariants as calls
 use Rattle.dma_engine.specs.declared.call.Reply.TheVariants.{State}
 use Rattle.dma_engine.specs.declared.turn.Status.{Status as EngineStatus}
@@ -10,12 +10,15 @@ use Rattle.dma_script.specs.Command.{Printed, refusal}
 use Rattle.dma_script.specs.Printing.{fault_line}
 use Rattle.dma_script.specs.Race.{race_script_of}
 use Rattle.dma_script.specs.declared.fault.Fault.{Fault}
+use Rattle.dma_script.specs.declared.race.JobLine.{JobLine}
 use Rattle.dma_script.specs.declared.race.RaceScript.{RaceScript}
 use Rattle.dma_script.specs.declared.statements.Statement.{Statement}
 use Rattle.dma_script.specs.declared.statements.Statement.TheVariants.{Call}
 use Rattle.dma_commands.specs.Printed.{call_line, refused_line}
 use Rattle.dma_commands.specs.Run.{line_answer, lines_answered}
-use Rattle.dma_work.specs.Desk.{IsSoundOf}
+use Rattle.dma_work.specs.Desk.{IsSoundOf, TallyCounts, finishes_of, steps_of}
+use Rattle.dma_work.specs.Tallies.{AreTallies}
+use Rattle.dma_work.specs.declared.job.Job.{Job}
 
 -- The line of a `status` before `go`. The reader answers without the lock, so the line is `status none`, or the line
 -- of any status.
@@ -40,35 +43,49 @@ EachPrints bytes many _ _ = ⊥
 abbrev pub alone : List (List ℕ) → List (List (List ℕ))
 alone lines = map (λ line. line ∷ []) lines
 
--- `go steps N finished N`
-abbrev pub go_line : ℕ → ℕ → List ℕ
-go_line steps finished = codes "go steps " ++ decimal steps ++ codes " finished " ++ decimal finished
+-- The jobs of job lines: one for each line, with its channels and turns.
+abbrev pub AreJobs : List JobLine → List Job → Type 0
+AreJobs lines jobs =
+    map {B = ℕ × ℕ × ℕ} (λ (job : Job). (job.first, job.last, job.turns)) jobs
+    ≡ map (λ (line : JobLine). (line.first, line.last, line.turns)) lines
 
--- The view after the workers: it is sound, of this size and this number of channels, its step count is the printed
--- number of steps, and at least the printed number of cookies are finished (those that were terminated before `go` are
--- finished too).
-pub record Reaches (bytes many steps finished : ℕ) (v : View) : Type 0 where
+-- There is a tally for each job, and tally k is that of a worker that took the turns of job k.
+abbrev pub Took : ℕ → ℕ → List Job → List TallyCounts → Type 0
+Took bytes many jobs tallies =
+    (length tallies ≡ length jobs) × AreTallies bytes many (λ worker n. Unit {0}) tallies jobs
+
+-- `go steps N finished N`, the sums of the tallies
+abbrev pub go_line : List TallyCounts → List ℕ
+go_line tallies =
+    codes "go steps " ++ decimal (steps_of tallies) ++ codes " finished " ++ decimal (finishes_of tallies)
+
+-- The view after workers with these tallies: it is sound, of this size and this number of channels, its step count is
+-- the tallies' number of steps, and at least their number of cookies are finished (those that were terminated before
+-- `go` are finished too).
+pub record Reaches (bytes many : ℕ) (tallies : List TallyCounts) (v : View) : Type 0 where
   pub sound : IsSoundOf bytes many v
-  pub stepped : v.steps ≡ steps
-  pub ended : finished ≤ finished_all (object_of v)
+  pub stepped : v.steps ≡ steps_of tallies
+  pub ended : finishes_of tallies ≤ finished_all (object_of v)
 
 -- what a script prints that runs to its end, with status 0
-abbrev pub raced_whole : List (List ℕ) → ℕ → ℕ → View → List Statement → Printed
-raced_whole early steps finished v after =
-    record { groups = [] ∷ alone early ++ (go_line steps finished ∷ []) ∷ lines_answered v after; status = 0 }
+abbrev pub raced_whole : List (List ℕ) → List TallyCounts → View → List Statement → Printed
+raced_whole early tallies v after =
+    record { groups = [] ∷ alone early ++ (go_line tallies ∷ []) ∷ lines_answered v after; status = 0 }
 
 -- what a script prints that ends with a refusal, at its `go` or before its first line, with status 1
 abbrev pub raced_refused : List (List ℕ) → List ℕ → Printed
 raced_refused early name = record { groups = [] ∷ alone early ++ (refused_line name ∷ []) ∷ []; status = 1 }
 
 -- What may be printed for a race script. Its memory line prints nothing, each line before `go` prints its line, `go`
--- prints its totals, and the lines after it print what `run` prints for them on the view after the workers. Or the
--- desk has no place for the reader of statuses, or a tally is missing (no script is known for which either happens).
+-- prints the totals of workers that took the turns of the job lines, and the lines after it print what `run` prints for
+-- them on the view after the workers. Or the desk has no place for the reader of statuses, or a tally is missing (no script is known for which either happens).
 pub data RacePrints (script : RaceScript) (p : Printed) : Type 0 where
   whole : (early : List (List ℕ))
       → EachPrints script.before.size script.before.channels script.before.statements early
-      → (steps finished : ℕ) (v : View) → Reaches script.before.size script.before.channels steps finished v
-      → p ≡ raced_whole early steps finished v script.after → RacePrints script p
+      → (jobs : List Job) → AreJobs script.jobs jobs
+      → (tallies : List TallyCounts) → Took script.before.size script.before.channels jobs tallies
+      → (v : View) → Reaches script.before.size script.before.channels tallies v
+      → p ≡ raced_whole early tallies v script.after → RacePrints script p
   no_reader : p ≡ raced_refused [] (codes "NoReader") → RacePrints script p
   missing_tally : (early : List (List ℕ))
       → EachPrints script.before.size script.before.channels script.before.statements early

@@ -1,7 +1,7 @@
 //! Selects a command by its word and runs it over a reader and a writer.
 ghost use Rattle.std.specs.Prelude.{◌≡◌, ◌≤◌, ◌+◌, None, IfSome};
-ghost use Rattle.dma_script.specs.Command.{failures, longest_input};
-ghost use Rattle.dmasim.specs.CommandLine.{SubcommandEnds, WordEnds, subcommand_of};
+ghost use Rattle.dma_script.specs.Command.{Ends, failures, longest_input};
+ghost use Rattle.dmasim.specs.CommandLine.{WordEnds, subcommand_may_print, subcommand_of};
 
 use crate::race::race_script;
 use dma_commands::asm::asm_main;
@@ -55,8 +55,9 @@ fn serve_subcommand<R: Threads + Wait + Sync, I: Source, W: Sink>(
     reader: &mut I,
     writer: &mut W,
 ) -> u8
-    ensures ends { IfSome (I.remaining reader.old) (λ input. SubcommandEnds subcommand input
+    ensures ends { IfSome (I.remaining reader.old) (λ input. Ends
         (failures I.has_failed reader.old reader.new) (failures W.has_failed writer.old writer.new)
+        (subcommand_may_print subcommand input)
         (W.contents writer.old) (W.contents writer.new) result) }
     ensures reads { I.reads reader.new ≤ I.reads reader.old + (longest_input + 1) }
 {

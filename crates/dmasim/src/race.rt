@@ -1,14 +1,14 @@
 //! The command `race`: executes the lines before `go` through a desk, then steps the desk's channels with all jobs at
 //! once, and executes the lines after `go` on the resulting engine.
-ghost use Rattle.std.specs.Prelude.{◌≡◌, ◌≤◌, ◌<◌, ◌+◌, ◌^◌, ◌++◌, ◌∷◌, [], None, OnOk, OnErr, IfOk, IfSome, MatchOption, codes, length, vec_len};
+ghost use Rattle.std.specs.Prelude.{◌≡◌, ◌≤◌, ◌<◌, ◌+◌, ◌^◌, ◌++◌, ◌∷◌, [], None, OnOk, OnErr, IfOk, IfSome, MatchOption, codes, length};
 ghost use Rattle.std.specs.List.{All};
 ghost use Rattle.dma_engine.specs.View.{new_fault, new_view};
-ghost use Rattle.dma_script.specs.Command.{MayAppend, MayComplete, MayEnd, failures, longest_input, may_print_within, text_of};
+ghost use Rattle.dma_script.specs.Command.{Ends, MayAnswer, failures, longest_input, may_print_within};
 ghost use Rattle.dma_script.specs.Race.{IsEarly, IsJob, IsRace};
 ghost use Rattle.dma_script.specs.Statements.{IsWithin};
 ghost use Rattle.dma_work.specs.Desk.{Names};
 ghost use Rattle.dmasim.specs.inner.RaceSteps.{PrintsAll, PrintsFirst, PrintsGo, PrintsMissing, PrintsRefusal, PrintsTotals};
-ghost use Rattle.dmasim.specs.Race.{RacePrints, go_line, race_may_print};
+ghost use Rattle.dmasim.specs.Race.{AreJobs, RacePrints, Took, race_may_print};
 
 mod early;
 mod on_desk;
@@ -16,7 +16,7 @@ mod on_desk;
 use crate::race::early::run_early_statements;
 use dma_commands::run::run_statements;
 use dma_engine::{Engine, NewFault, NoMemory};
-use dma_script::command::{FAULT, OpenCommand, refuse, serve_open};
+use dma_script::command::{Command, FAULT, refuse, serve};
 use dma_script::input::Source;
 use dma_script::output::Sink;
 use dma_script::printing::print_line;
@@ -33,7 +33,7 @@ use std::thread::Threads;
 /// Returns the jobs of the job lines. Fails if memory runs out.
 fn jobs_of(alloc: Global, lines: &[JobLine]) -> Result<Vec<Job>, AllocError>
     requires { All IsJob lines.now }
-    ensures { IfOk result (λ jobs. vec_len jobs ≡ length lines.now) }
+    ensures { IfOk result (λ jobs. AreJobs lines.now jobs.items) }
 {
     let mut jobs = Vec::with_capacity(alloc, MAX_JOBS)?;
     for line in lines {
@@ -74,6 +74,7 @@ fn until_go<N: DeskName + Send + Sync, R: Threads + Wait + Sync>(
     requires early { All IsEarly lines }
     requires few { length jobs.now < 2 ^ 32 }
     ensures ok { OnOk result (PrintsAll N.size N.channels lines out.old.items out.new.items) }
+    ensures took { IfOk result (λ tallies. Took N.size N.channels jobs.now tallies.items) }
     ensures err { OnErr result (PrintsFirst N.size N.channels lines out.old.items out.new.items) }
 {
     run_early_statements::<N, _, _>(rt, shared.lent(), reader, lines, out)?;
@@ -94,7 +95,8 @@ fn settled<N: DeskName, R: Wait>(
     requires { N.steps ≡ 0 }
     ensures ok { IfOk result (λ left. MatchOption left
         (PrintsRefusal (codes "MissingTally") out.old.items out.new.items)
-        (λ engine. PrintsTotals N.size N.channels engine.view out.old.items out.new.items)) }
+        (λ engine. PrintsTotals N.size N.channels tallies.items engine.view
+        out.old.items out.new.items)) }
     ensures err { OnErr result (out.new.items ≡ out.old.items) }
 {
     match desk.settle(rt, tallies.as_slice()) {
@@ -157,7 +159,8 @@ fn raced<N: DeskName + Send + Sync, R: Threads + Wait + Sync>(
     requires few { length jobs.now < 2 ^ 32 }
     ensures ok { IfOk result (λ left. MatchOption left
         (PrintsMissing N.size N.channels lines out.old.items out.new.items)
-        (λ engine. PrintsGo N.size N.channels lines engine.view out.old.items out.new.items)) }
+        (λ engine. PrintsGo N.size N.channels lines jobs.now engine.view
+        out.old.items out.new.items)) }
     ensures err { OnErr result (PrintsFirst N.size N.channels lines out.old.items out.new.items) }
 {
     let shared = Shared::<N>::new(parts);
@@ -178,9 +181,7 @@ fn run_race<R: Threads + Wait + Sync>(
     out: &mut Vec<u8>,
 ) -> Result<u8, AllocError>
     requires { IsRace script }
-    ensures complete { IfOk result
-        (λ status. MayComplete (RacePrints script) status out.old.items out.new.items) }
-    ensures refused { OnErr result (MayAppend (RacePrints script) out.old.items out.new.items) }
+    ensures { MayAnswer (RacePrints script) result out.old.items out.new.items }
 {
     let engine = engine_of(alloc, &script)?;
     let jobs = jobs_of(alloc, script.jobs.as_slice())?;
@@ -195,46 +196,37 @@ fn run_race<R: Threads + Wait + Sync>(
     }
 }
 
-/// The command `race`.
+/// The command `race`, with the handle for its threads.
 #[derive(Drop)]
-struct Race;
+struct Race<'a, R: Threads + Wait + Sync> {
+    rt: &'a R,
+}
 
-impl OpenCommand for Race {
-    ghost use Rattle.std.specs.Prelude.{[], Ok, Err, codes, refl};
+impl<R: Threads + Wait + Sync> Command for Race<'_, R> {
+    ghost use Rattle.std.specs.Prelude.{◌<◌, [], Ok, Err, codes, length, refl};
+    ghost use Rattle.std.specs.Thread.{IsSync};
     ghost use Rattle.std.proofs.Math.Nat.{zero-lt-suc};
-    ghost use Rattle.dma_script.specs.Command.{refusal};
+    ghost use Rattle.dma_script.specs.Command.{Printed, refusal};
     ghost use Rattle.dma_script.specs.Printing.{fault_line};
     ghost use Rattle.dma_script.specs.Race.{race_script_of};
     ghost use Rattle.dmasim.specs.Race.{no_reader, race_may_print, race_prints_of, raced_refused};
 
     ghost may_print = { race_may_print };
 
-    fn answer<H: Threads + Wait + Sync>(
-        &self,
-        rt: &H,
-        alloc: Global,
-        input: &[u8],
-        out: &mut Vec<u8>,
-    ) -> Result<u8, AllocError> {
+    ghost is_ready = { λ race. IsSync R.row };
+
+    fn answer(&self, alloc: Global, input: &[u8], out: &mut Vec<u8>) -> Result<u8, AllocError> {
         match read_race_script(alloc, input) {
-            Ok(script) => run_race(rt, alloc, script, out),
+            Ok(script) => run_race(self.rt, alloc, script, out),
             Err(error) => refuse(out, &error),
         }
     }
 
     ghost some_print = { λ input.
-        elim (race_script_of input) as (λ read. MayAppend (race_prints_of read) [] []) [
-          | Ok script ↦ record {
-            printed = raced_refused [] (codes "NoReader");
-            allowed = no_reader refl;
-            first = record { count = 0; some_left = zero-lt-suc _; whole = refl };
-          }
-          | Err fault ↦ record {
-            printed = refusal (fault_line fault);
-            allowed = refl;
-            first = record { count = 0; some_left = zero-lt-suc _; whole = refl };
-          }
-        ] };
+      elim (race_script_of input) as (λ read. (printed : Printed) × race_prints_of read printed × (0 < length printed.groups)) [
+        | Ok script ↦ (raced_refused [] (codes "NoReader"), no_reader refl, zero-lt-suc _)
+        | Err fault ↦ (refusal (fault_line fault), refl, zero-lt-suc _)
+      ] };
 }
 
 /// Reads a race script, executes it, writes what it prints and nothing else, and returns the exit status: 0 on
@@ -246,10 +238,10 @@ pub fn race_script<R: Threads + Wait + Sync, I: Source, W: Sink>(
     reader: &mut I,
     writer: &mut W,
 ) -> u8
-    ensures ends { IfSome (I.remaining reader.old) (λ input. MayEnd
+    ensures ends { IfSome (I.remaining reader.old) (λ input. Ends
         (failures I.has_failed reader.old reader.new) (failures W.has_failed writer.old writer.new)
         (may_print_within race_may_print input) (W.contents writer.old) (W.contents writer.new) result) }
     ensures reads { I.reads reader.new ≤ I.reads reader.old + (longest_input + 1) }
 {
-    serve_open(rt, &Race, alloc, reader, writer)
+    serve(&Race { rt }, alloc, reader, writer)
 }

@@ -183,15 +183,15 @@ fn print_step(
 /// Appends the line of one step that moved. Most channels have one digit.
 fn print_moved(ch: u8, out: &mut Vec<u8>) -> Result<(), AllocError>
     ensures ok { OnOk result
-        (out.new.items ≡ out.old.items ++ (codes "step " ++ decimal ch ++ (codes " moved x1" ++ 10 ∷ []))) }
+        (out.new.items ≡ out.old.items ++ text_of (step_line ch (codes "moved", 1) ∷ [])) }
     ensures err { OnErr result (out.new.items ≡ out.old.items) }
 {
-    if ch < 10 {
-        let mut line = *b"step 0 moved x1\n";
-        line[5] += ch;
-        return out.extend_from_slice(&line);
+    if ch >= 10 {
+        return print_step(ch, Ok(Turn::Moved), out);
     }
-    print(out, &("step ", ch, " moved x1\n"))
+    let mut line = *b"step 0 moved x1\n";
+    line[5] += ch;
+    out.extend_from_slice(&line)
 }
 
 /// Executes a `step` line of one step. The line is appended directly to the output.

@@ -7,7 +7,8 @@ use Rattle.dma_engine.specs.View.{View}
 use Rattle.dma_mem.specs.declared.call.Call.{Call}
 use Rattle.dma_mem.specs.declared.call.Call.TheVariants as calls
 use Rattle.dma_engine.specs.declared.call.Reply.{Reply}
-use Rattle.dma_work.specs.Desk.{DeskState, IsSoundOf}
+use Rattle.dma_work.specs.Desk.{DeskState, IsSoundOf, TallyCounts}
+use Rattle.dma_work.specs.declared.worker.Job.{Job}
 use Rattle.dma_script.specs.Command.{printed_text, text_of}
 use Rattle.dma_script.specs.Interpreted.{PrintsLines, StopsAtALine}
 use Rattle.dma_script.specs.declared.plan.TransferLine.{TransferLine}
@@ -16,7 +17,7 @@ use Rattle.dma_script.specs.declared.statements.Statement.TheVariants as stateme
 use Rattle.dma_commands.specs.Printed.{refused_line, transfer_fault_name}
 use Rattle.dma_commands.specs.Run.{line_answer}
 use Rattle.dma_commands.specs.Transfers.{transfer_of}
-use Rattle.dmasim.specs.Race.{EachPrints, Reaches, StatusPrints, alone, go_line}
+use Rattle.dmasim.specs.Race.{EachPrints, Reaches, StatusPrints, Took, alone, go_line}
 
 -- ---- lines at a lender of desks
 
@@ -108,21 +109,20 @@ pub record PrintsAll (bytes many : ℕ) (statements : List Statement) (old new :
   pub text : new ≡ old ++ printed_text (alone early)
 
 -- The totals of `go` are appended, for an engine with the view `v`.
-pub record PrintsTotals (bytes many : ℕ) (v : View) (old new : List ℕ) : Type 0 where
-  pub steps : ℕ
-  pub finished : ℕ
-  pub reaches : Reaches bytes many steps finished v
-  pub text : new ≡ old ++ text_of (go_line steps finished ∷ [])
+pub record PrintsTotals (bytes many : ℕ) (tallies : List TallyCounts) (v : View) (old new : List ℕ) : Type 0 where
+  pub reaches : Reaches bytes many tallies v
+  pub text : new ≡ old ++ text_of (go_line tallies ∷ [])
 
--- All lines before `go` have appended lines that they may print, and then `go` its totals, for an engine with the view
--- `v`.
-pub record PrintsGo (bytes many : ℕ) (statements : List Statement) (v : View) (old new : List ℕ) : Type 0 where
+-- All lines before `go` have appended lines that they may print, and then `go` the totals of these jobs, for an engine
+-- with the view `v`.
+pub record PrintsGo
+    (bytes many : ℕ) (statements : List Statement) (jobs : List Job) (v : View) (old new : List ℕ) : Type 0 where
   pub early : List (List ℕ)
   pub each : EachPrints bytes many statements early
-  pub steps : ℕ
-  pub finished : ℕ
-  pub reaches : Reaches bytes many steps finished v
-  pub text : new ≡ old ++ printed_text (alone early ++ (go_line steps finished ∷ []) ∷ [])
+  pub tallies : List TallyCounts
+  pub took : Took bytes many jobs tallies
+  pub reaches : Reaches bytes many tallies v
+  pub text : new ≡ old ++ printed_text (alone early ++ (go_line tallies ∷ []) ∷ [])
 
 -- The line of a refusal is appended.
 abbrev pub PrintsRefusal : List ℕ → List ℕ → List ℕ → Type 0

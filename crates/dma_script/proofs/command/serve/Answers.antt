@@ -1,20 +1,15 @@
 use Rattle.std.proofs.Common.{rules, subst}
 use Rattle.dma_script.specs.Command.{Wrote, failures}
-use Rattle.dma_script.proofs.EndLemmas.{ends_settled, only, only_first, only_some, refused_after, unread}
+use Rattle.dma_script.proofs.EndLemmas.{answered, unread}
 use Rattle.dma_script.proofs.command.serve.Goals as goal
 
 pub returns-in-Err-clause-ends : goal.returns-in-Err-clause-ends
 returns-in-Err-clause-ends g c =
-    let known = g.R.Read.remaining c.args.reader.now in
-    let printed = g.C.Command.printed in
-    ends_settled known _ _ printed _ _ c.in-Err.status (unread known _ _ (only printed) _ _ c.in-Err.status (only_some printed g.met.C.Command.some_group) c.in-Err.ensures.unread)
+    unread (g.R.Read.remaining c.args.reader.now) _ _ g.C.Command.may_print _ _ c.in-Err.status g.met.C.Command.some_print c.in-Err.ensures.unread
 
 pub returns-clause-ends : goal.returns-clause-ends
 returns-clause-ends g c =
-    let known = g.R.Read.remaining c.args.reader.now in
-    let printed = g.C.Command.printed in
     let wrote = subst
-    (λ w. Wrote (failures g.W.Sink.has_failed w c.finish-in-Err-answer.new.writer) (g.W.Write.contents w) (g.W.Write.contents c.finish-in-Err-answer.new.writer) c.deref-in-Err-answer.result.now 3 c.finish-in-Err-answer.result)
-    c.in-Ok.ensures.unwritten c.finish-in-Err-answer.ensures in
-    ends_settled known _ _ printed _ _ c.finish-in-Err-answer.result
-    (refused_after known _ _ (only printed) _ _ c.deref.result.now _ _ _ _ (rw c.deref.ensures.value c.in-Ok.ensures.input) (search rules) c.new-out.ensures.items (only_first printed c.deref.result.now _ _ c.in-Err-answer.ensures.refused) c.deref-in-Err-answer.ensures.value c.in-Ok.ensures.unfailed wrote)
+    (λ w. Wrote (failures g.W.Sink.has_failed w c.finish.new.writer) (g.W.Write.contents w) (g.W.Write.contents c.finish.new.writer) c.deref-2.result.now c.unwrap_or.result c.finish.result)
+    c.in-Ok.ensures.unwritten c.finish.ensures in
+    answered (g.R.Read.remaining c.args.reader.now) _ _ g.C.Command.may_print _ _ c.deref.result.now _ _ _ _ _ _ (rw c.deref.ensures.value c.in-Ok.ensures.input) (search rules) c.new-out.ensures.items c.answer-answered.ensures c.unwrap_or.ensures c.deref-2.ensures.value c.in-Ok.ensures.unfailed wrote

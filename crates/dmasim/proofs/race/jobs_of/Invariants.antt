@@ -1,6 +1,7 @@
--- A job for each line so far.
-use Rattle.std.proofs.Common.{◌≡◌, vec_len}
+-- The jobs of the lines so far.
+use Rattle.std.proofs.Common.{take}
+use Rattle.dmasim.specs.Race.{AreJobs}
 use Rattle.dmasim.proofs.race.jobs_of.Given as goal
 
 abbrev pub invariant-loop-line : goal.invariant-loop-line
-invariant-loop-line l = vec_len l.jobs ≡ l.line-index
+invariant-loop-line l = AreJobs (take l.line-index l.lines) l.jobs.items

@@ -6,7 +6,7 @@ use Rattle.dmasim.proofs.race.raced.Goals as goal
 
 pub returns-in-Ok-clause-ok : goal.returns-in-Ok-clause-ok
 returns-in-Ok-clause-ok g c =
-    IfOk-weaker c.settled.result _ _ (go_or_missing _ _ (λ engine. engine.view) c.args.lines c.args.out.now.items c.until_go.new.out.items c.settled.new.out.items c.in-Ok.ensures.ok) c.settled.ensures.ok
+    IfOk-weaker c.settled.result _ _ (go_or_missing _ _ (λ engine. engine.view) c.args.lines _ _ c.args.out.now.items c.until_go.new.out.items c.settled.new.out.items c.in-Ok.ensures.took c.in-Ok.ensures.ok) c.settled.ensures.ok
 
 pub returns-in-Ok-clause-err : goal.returns-in-Ok-clause-err
 returns-in-Ok-clause-err g c =

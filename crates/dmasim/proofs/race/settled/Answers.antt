@@ -1,16 +1,19 @@
-use Rattle.std.proofs.Common.{◌≡◌, ◌≤◌, arith}
+use Rattle.std.proofs.Common.{◌≡◌, ◌≤◌, ◌++◌, ◌∷◌, [], List, ℕ, ap, codes, decimal, sym, ◌∙◌, arith}
 use Rattle.dma_engine.specs.Object.{finished_all}
 use Rattle.dma_engine.specs.View.{object_of}
+use Rattle.dma_script.specs.Command.{text_of}
+use Rattle.dma_work.specs.Desk.{finishes_of, steps_of}
 use Rattle.dmasim.proofs.race.settled.Goals as goal
 
 pub returns-in-Ok-clause-ok : goal.returns-in-Ok-clause-ok
 returns-in-Ok-clause-ok g c =
+    let settled = rw c.as_slice.ensures.value at c.in-Ok.ensures.settled in
     let v = c.in-Ok.engine.view in
-    let stepped : v.steps ≡ c.in-Ok.totals.steps = omega (arith, c.in-Ok.ensures.settled.counted, c.requires) in
-    let ended : c.in-Ok.totals.finished ≤ finished_all (object_of v) = omega (arith, c.in-Ok.ensures.settled.done) in
+    let tallies = c.args.tallies.items in
+    let stepped : v.steps ≡ steps_of tallies = omega (arith, settled.counted, settled.adds.0, c.requires) in
+    let ended : finishes_of tallies ≤ finished_all (object_of v) = omega (arith, settled.done, settled.adds.1) in
+    let line : ℕ → ℕ → List ℕ = λ steps finished. c.args.out.now.items ++ text_of ((codes "go steps " ++ decimal steps ++ codes " finished " ++ decimal finished) ∷ []) in
     record {
-      steps = c.in-Ok.totals.steps;
-      finished = c.in-Ok.totals.finished;
-      reaches = record { sound = c.in-Ok.ensures.settled.sound; stepped = stepped; ended = ended };
-      text = c.in_ok-print_line-in-Ok.ensures.ok;
+      reaches = record { sound = settled.sound; stepped = stepped; ended = ended };
+      text = c.in_ok-print_line-in-Ok.ensures.ok ∙ ap (λ n. line n c.in-Ok.totals.finished) (sym settled.adds.0) ∙ ap (line (steps_of tallies)) (sym settled.adds.1);
     }

@@ -1,7 +1,7 @@
-use Rattle.std.proofs.Common.{[], ◌∷◌, subst}
+use Rattle.std.proofs.Common.{[], ◌∷◌, refl, subst}
 use Rattle.dma_engine.specs.View.{View}
 use Rattle.dma_script.specs.Command.{Answers}
-use Rattle.dma_commands.specs.Run.{lines_answered}
+use Rattle.dma_commands.specs.Run.{lines_answered, printed}
 use Rattle.dma_commands.proofs.RunLemmas.{answers_memory}
 use Rattle.dma_commands.proofs.run.RunCommand.answer.Goals as goal
 
@@ -11,6 +11,10 @@ returns-in-Ok-new c =
     let old = c.args.out.now.items in
     let new = c.run_statements.new.out.items in
     let result = c.run_statements.result in
-    rw c.in-Ok.ensures.script
-    (subst (λ (v : View). Answers (record { groups = [] ∷ lines_answered v script.statements; status = 0 }) result old new) c.in-Ok-new.ensures.ok
-    (answers_memory _ 0 result old new c.run_statements.ensures))
+    record {
+      printed = printed c.args.input.now;
+      allowed = refl;
+      answers = rw c.in-Ok.ensures.script
+      (subst (λ (v : View). Answers (record { groups = [] ∷ lines_answered v script.statements; status = 0 }) result old new) c.in-Ok-new.ensures.ok
+      (answers_memory _ 0 result old new c.run_statements.ensures));
+    }
