@@ -20,7 +20,7 @@ use Rattle.dma_engine.specs.View.{View, channels, new_fault, new_view, size}
 use Rattle.dma_engine.proofs.Sizes.{opening-many, opening-size}
 use Rattle.dma_engine.proofs.StaysSound.{new_views_are_sound}
 use Rattle.dma_work.specs.Desk.{DeskState, IsSoundOf, TallyCounts}
-use Rattle.dma_work.specs.declared.worker.Job.{Job}
+use Rattle.dma_work.specs.declared.job.Job.{Job}
 use Rattle.dma_script.specs.Command.{Answers, MayAnswer, Printed, printed_text, refusal, text_of}
 use Rattle.dma_script.specs.Lines.{Gives}
 use Rattle.dma_script.specs.Printing.{error_line, fault_line}

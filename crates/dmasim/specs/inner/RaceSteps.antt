@@ -8,7 +8,7 @@ use Rattle.dma_mem.specs.declared.call.Call.{Call}
 use Rattle.dma_mem.specs.declared.call.Call.TheVariants as calls
 use Rattle.dma_engine.specs.declared.call.Reply.{Reply}
 use Rattle.dma_work.specs.Desk.{DeskState, IsSoundOf, TallyCounts}
-use Rattle.dma_work.specs.declared.worker.Job.{Job}
+use Rattle.dma_work.specs.declared.job.Job.{Job}
 use Rattle.dma_script.specs.Command.{printed_text, text_of}
 use Rattle.dma_script.specs.Interpreted.{PrintsLines, StopsAtALine}
 use Rattle.dma_script.specs.declared.plan.TransferLine.{TransferLine}
