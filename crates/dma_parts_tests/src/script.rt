@@ -22,11 +22,13 @@ impl Interpreter for Counts {
 
     fn interpret(&mut self, line: Statement, _out: &mut Vec<u8>) -> Result<(), AllocError> {
         let (sources, destinations) = match line {
-            Statement::Copy(TransferLine {
-                src: Origin::List(src),
-                dst,
-                ..
-            }) => (src.len(), dst.len()),
+            Statement::Copy(
+                TransferLine {
+                    src: Origin::List(src),
+                    dst,
+                    ..
+                },
+            ) => (src.len(), dst.len()),
             _other => (0, 0),
         };
         if (sources, destinations) == (1, 1) {
