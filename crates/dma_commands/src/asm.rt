@@ -48,11 +48,14 @@ impl Command for Asm {
         }
     }
 
-    ghost some_print = { λ input. (asm_printed input, refl,
+    ghost some_print = { λ input. (
+      asm_printed input,
+      refl,
       elim (assembled input) as (λ read. 0 < length (asm_printed_of read).groups) [
         | Ok program ↦ zero-lt-suc _
         | Err fault ↦ zero-lt-suc _
-      ]) };
+      ],
+    ) };
 }
 
 /// Law: what `asm` prints follows from the relations between texts and programs alone.

@@ -68,14 +68,17 @@ impl Command for Dis {
         }
     }
 
-    ghost some_print = { λ input. (dis_printed input, refl,
+    ghost some_print = { λ input. (
+      dis_printed input,
+      refl,
       elim (pairs_of input) as (λ read. 0 < length (dis_printed_of read).groups) [
         | Ok bytes ↦ elim (lines_from 0 0 bytes) as (λ read. 0 < length (lines_printed read).groups) [
           | Ok lines ↦ zero-lt-suc _
           | Err fault ↦ zero-lt-suc _
         ]
         | Err fault ↦ zero-lt-suc _
-      ]) };
+      ],
+    ) };
 }
 
 /// Law: what `dis` prints for pairs of digits follows from the relations between bytes and texts alone.

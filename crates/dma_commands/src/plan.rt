@@ -74,14 +74,17 @@ impl Command for Plan {
         }
     }
 
-    ghost some_print = { λ input. (plan_printed input, refl,
+    ghost some_print = { λ input. (
+      plan_printed input,
+      refl,
       elim (plan_of input) as (λ read. 0 < length (plan_printed_of read).groups) [
         | Ok line ↦ elim (refusal_of (transfer_of line.transfer)) as (λ unfit. 0 < length (transfer_printed line unfit).groups) [
           | None ↦ zero-lt-suc _
           | Some fault ↦ zero-lt-suc _
         ]
         | Err fault ↦ zero-lt-suc _
-      ]) };
+      ],
+    ) };
 }
 
 /// Reads the line of a transfer, writes its program or the line of the first fault and nothing else, and returns the

@@ -114,11 +114,14 @@ impl Command for Run {
         }
     }
 
-    ghost some_print = { λ input. (printed input, refl,
+    ghost some_print = { λ input. (
+      printed input,
+      refl,
       elim (run_script_of input) as (λ read. 0 < length (printed_of read).groups) [
         | Ok script ↦ zero-lt-suc _
         | Err fault ↦ zero-lt-suc _
-      ]) };
+      ],
+    ) };
 }
 
 /// Reads a script, executes it, writes what it prints and nothing else, and returns the exit status: 0 on success, 1

@@ -1,8 +1,8 @@
 -- What the lines of a race script may print.
-use Rattle.std.proofs.Common.{◌≡◌, ◌≢◌, ℕ, ◌<◌, ◌+◌, List, [], ◌∷◌, ◌++◌, length, take, drop, get_or, codes, map, inr, suc, Option, Some, None, Result, Ok, Err, lit<, inl, refl, ap, sym, subst, ◌∙◌, arith, append_assoc}
+use Rattle.std.proofs.Common.{◌≡◌, ◌≢◌, ℕ, ◌<◌, List, [], ◌∷◌, ◌++◌, length, take, drop, get_or, codes, inr, suc, Option, Some, None, Result, Ok, Err, lit<, inl, refl, ap, sym, subst, ◌∙◌, arith, append_assoc}
 use Rattle.std.specs.List.{All}
 use Rattle.std.proofs.Math.Seq.{drop-append_seam, take-append_seam}
-use Rattle.std.proofs.lemmas.List.{append-nil, length-append, length-map, take-append-le, take_all, take-map}
+use Rattle.std.proofs.lemmas.List.{length-append, length-map, take-append-le, take_all, take-map}
 use Rattle.std.proofs.lemmas.List.Elements.{All-drop, All-head, All-tail}
 use Rattle.std.proofs.lemmas.Result.{on_ok_weaker}
 use Rattle.std.specs.Prelude.{IsErr, MatchOption, OnErr, OnOk}

@@ -223,10 +223,10 @@ impl<R: Threads + Wait + Sync> Command for Race<'_, R> {
     }
 
     ghost some_print = { λ input.
-      elim (race_script_of input) as (λ read. (printed : Printed) × race_prints_of read printed × (0 < length printed.groups)) [
-        | Ok script ↦ (raced_refused [] (codes "NoReader"), no_reader refl, zero-lt-suc _)
-        | Err fault ↦ (refusal (fault_line fault), refl, zero-lt-suc _)
-      ] };
+        elim (race_script_of input) as (λ read. (printed : Printed) × race_prints_of read printed × (0 < length printed.groups)) [
+          | Ok script ↦ (raced_refused [] (codes "NoReader"), no_reader refl, zero-lt-suc _)
+          | Err fault ↦ (refusal (fault_line fault), refl, zero-lt-suc _)
+        ] };
 }
 
 /// Reads a race script, executes it, writes what it prints and nothing else, and returns the exit status: 0 on

@@ -15,6 +15,6 @@ returns-in-Ok-new c =
       printed = printed c.args.input.now;
       allowed = refl;
       answers = rw c.in-Ok.ensures.script
-      (subst (λ (v : View). Answers (record { groups = [] ∷ lines_answered v script.statements; status = 0 }) result old new) c.in-Ok-new.ensures.ok
-      (answers_memory _ 0 result old new c.run_statements.ensures));
+          (subst (λ (v : View). Answers (record { groups = [] ∷ lines_answered v script.statements; status = 0 }) result old new) c.in-Ok-new.ensures.ok
+          (answers_memory _ 0 result old new c.run_statements.ensures));
     }
