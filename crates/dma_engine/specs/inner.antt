@@ -1,6 +1,6 @@
 -- How the engine stores its state and how its parts work. Only its own proofs need this. No public clause of a call, a
 -- step or a law uses it.
-pub mod Lists
+pub mod SpareList
 pub mod Stored
 pub mod Ranges
 pub mod Accesses

@@ -22,10 +22,10 @@ pub mod engine;
 pub mod entry;
 pub mod fault;
 pub mod laws;
-mod lists;
 pub mod outcome;
 mod queue;
 pub mod run;
+mod spare_vec;
 pub mod turn;
 
 pub use call::{Call, Reply};

@@ -30,11 +30,11 @@ pub fn run(alloc: Global, engine: &mut Engine, calls: &[Call]) -> Result<Vec<Rep
     ensures memory { engine.new.memory ≡ memory_of engine.new.view }
     ensures refused { OnErr result (engine.new.view ≡ engine.old.view) }
 {
-    engine.view_is_sound();
+    engine.facts();
     let mut replies = Vec::with_capacity(alloc, calls.len())?;
     for call in calls {
         replies.push_reserved(engine.carry_out(call));
-        engine.view_is_sound();
+        engine.facts();
     }
     Ok(replies)
 }

@@ -7,8 +7,8 @@ ghost use Rattle.dma_engine.specs.Object.{aborted, no_transfer};
 ghost use Rattle.dma_engine.specs.inner.Found.{transfer_at, transfers_in};
 
 use crate::entry::Entry;
-use crate::lists::SpareVec;
 use crate::outcome::{Outcome, TransResult};
+use crate::spare_vec::SpareVec;
 use dma_mem::transfer::Transfer;
 
 // Returns the transfer of a cookie, counted from 0 after the forgotten ones. Those of the base come first, then those

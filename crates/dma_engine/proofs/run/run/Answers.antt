@@ -15,9 +15,9 @@ loop-call-preserved c =
     let next : take (i + 1) calls ≡ take i calls ++ call ∷ [] = take_more calls i call (omega (arith, c.loop-call-test.true)) ∙ ap (λ x. take i calls ++ x ∷ []) (sym c.call-item.is) in
     rw (next, c.push_reserved.ensures.items) (record {
       answers = AreAnswers-push c.args.engine.now.view c.loop-call.engine.view c.carry_out.new.self.view (take i calls) c.loop-call.replies.items call c.carry_out.result inv.answers c.carry_out.ensures;
-      views = sound-push c.args.engine.now.view c.loop-call.engine.view c.carry_out.new.self.view (take i calls) c.loop-call.replies.items call c.carry_out.result inv.views c.carry_out.ensures c.view_is_sound-in-loop-call.ensures.sound;
-      sound = c.view_is_sound-in-loop-call.ensures.sound;
-      memory = c.view_is_sound-in-loop-call.ensures.memory;
+      views = sound-push c.args.engine.now.view c.loop-call.engine.view c.carry_out.new.self.view (take i calls) c.loop-call.replies.items call c.carry_out.result inv.views c.carry_out.ensures c.facts-in-loop-call.ensures.sound;
+      sound = c.facts-in-loop-call.ensures.sound;
+      memory = c.facts-in-loop-call.ensures.memory;
       len = omega (arith, c.push_reserved.ensures.len, inv.len);
       room = omega (arith, c.push_reserved.ensures.capacity, inv.room);
     })

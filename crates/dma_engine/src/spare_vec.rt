@@ -13,7 +13,7 @@ pub struct SpareVec<T> {
 
 impl<T> Model for SpareVec<T> {
     ghost use Rattle.std.specs.Prelude.{◌-◌, vec_capacity, vec_len};
-    ghost use Rattle.dma_engine.specs.inner.Lists.{SpareList};
+    ghost use Rattle.dma_engine.specs.inner.SpareList.{SpareList};
 
     ghost Value = { SpareList T };
 
