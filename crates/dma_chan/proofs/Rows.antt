@@ -4,7 +4,7 @@ use Rattle.std.proofs.Common.{◌≡◌, ℕ, ◌+◌, ◌*◌, ◌^◌, ◌≤�
 use Rattle.dma_mem.specs.Places.{Descriptor, filling, size_of}
 use Rattle.dma_mem.specs.Rules.{IsTransfer}
 use Rattle.dma_mem.proofs.TransferRules.{size_of-some}
-use Rattle.dma_insn.specs.AssemblyText.{most_bytes}
+use Rattle.dma_insn.specs.AssemblyText.{most_program_bytes}
 use Rattle.dma_insn.specs.declared.assembler.TheConstants.{MAX_PROGRAM_BYTES}
 use Rattle.dma_chan.specs.declared.bursts.TheConstants.{BUFFER_SIZE}
 use Rattle.dma_chan.specs.Bursts.{burst_at}
@@ -15,7 +15,7 @@ use Rattle.dma_chan.specs.Traffic.{read_len, write_len}
 
 -- ---- the code's constants
 
-most_program_bytes : MAX_PROGRAM_BYTES ≡ most_bytes
+most_program_bytes : MAX_PROGRAM_BYTES ≡ most_program_bytes
 most_program_bytes = refl
 
 -- 58 bytes for each of at most 127 pieces, and 5 for the wait, the signal and the end

@@ -1,6 +1,6 @@
 -- Why a program that is run alone isn't run to its end: it is too long, or an allocation fails.
 use Rattle.std.specs.Prelude.{◌≡◌, ℕ, ◌<◌, ◌≤◌, false, List, length}
-use Rattle.dma_insn.specs.AssemblyText.{most_bytes}
+use Rattle.dma_insn.specs.AssemblyText.{most_program_bytes}
 use Rattle.dma_mem.specs.Marking.{MarkList}
 use Rattle.dma_mem.specs.Pages.{Paged}
 use Rattle.dma_chan.specs.declared.run.RunFault.{RunFault}
@@ -21,7 +21,7 @@ pub record NeedsPage (marks : MarkList) (program : List ℕ) (s : State) (limit 
 -- allocation failed before any instruction was executed; then nothing has changed, including the pages. Or a page that
 -- the store after `turns` instructions writes could not be allocated.
 abbrev pub RunFails : MarkList → List ℕ → Paged → ℕ → RunFault → Paged → Type 0
-RunFails marks program old limit ProgramTooLong new = (most_bytes < length program) × (new ≡ old)
+RunFails marks program old limit ProgramTooLong new = (most_program_bytes < length program) × (new ≡ old)
 RunFails marks program old limit (PageRefused turns) new =
-    (length program ≤ most_bytes) × NeedsPage marks program (opening old.image) limit turns new
-RunFails marks program old limit NoMemory new = (length program ≤ most_bytes) × (new ≡ old)
+    (length program ≤ most_program_bytes) × NeedsPage marks program (opening old.image) limit turns new
+RunFails marks program old limit NoMemory new = (length program ≤ most_program_bytes) × (new ≡ old)

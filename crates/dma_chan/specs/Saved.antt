@@ -1,6 +1,6 @@
 -- The bytes of a saved channel. Numbers of several bytes are little-endian.
 use Rattle.std.specs.Prelude.{◌≡◌, ℕ, ◌+◌, ◌*◌, ◌%◌, ◌^◌, ◌<◌, ◌≤◌, IsTrue, is_some, unwrap_or, List, [], ◌∷◌, ◌++◌, length, slice_index, Option, IfSome}
-use Rattle.dma_insn.specs.AssemblyText.{most_bytes}
+use Rattle.dma_insn.specs.AssemblyText.{most_program_bytes}
 use Rattle.std.specs.Int.{w16, w32, w64, to_le_bytes}
 use Rattle.dma_insn.specs.ControlWord.{flag, is_control}
 use Rattle.dma_chan.specs.declared.exec.Registers.{Registers}
@@ -27,7 +27,7 @@ pub record HasRegisterRanges (r : Registers) : Type 0 where
 -- A program has at most 8,192 bytes, each of them a byte value. The offset of the next instruction is in it or at its
 -- end, and its cost fits 32 bits.
 pub record IsLoadedAt (pc : ℕ) (p : ProgramValue) : Type 0 where
-  pub limit : length p.bytes ≤ most_bytes
+  pub limit : length p.bytes ≤ most_program_bytes
   pub bytes : AreBytes p.bytes
   pub offset : pc ≤ length p.bytes
   pub cost : IfSome p.cost (λ n. n < 2 ^ 32)

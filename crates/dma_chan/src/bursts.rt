@@ -4,7 +4,7 @@ ghost use Rattle.std.specs.Prelude.{◌≡◌, ◌+◌, ◌*◌, ◌≤◌, ◌<
 ghost use Rattle.std.specs.List.{flat_map};
 ghost use Rattle.circular_buffer.specs.Buffer.{buffer as ring};
 ghost use Rattle.dma_insn.specs.declared.insn.Insn.TheVariants.{Ld, St};
-ghost use Rattle.dma_insn.specs.AssemblyText.{most_bytes};
+ghost use Rattle.dma_insn.specs.AssemblyText.{most_program_bytes};
 ghost use Rattle.dma_insn.specs.ControlWord.{beat_bytes};
 ghost use Rattle.dma_mem.specs.Image.{put};
 ghost use Rattle.dma_mem.specs.Lent.{Avoids, with_gaps};
@@ -228,7 +228,7 @@ pub(crate) fn load_fault<M: Ram>(
 pub(crate) fn load_burst<M: Ram>(executor: &mut Executor, memory: &M, marks: &Marks) -> ChanTurn
     requires capacity { executor.old.buffer.capacity ≡ buffer_size }
     requires block { length executor.old.block.items ≡ buffer_size }
-    requires pc { executor.old.registers.pc < most_bytes }
+    requires pc { executor.old.registers.pc < most_program_bytes }
     ensures exact { (flags : List Bool) → let image = (M.paged memory.now).image in
         act (with_gaps (M.loan memory.now) marks.now) Ld
         (state executor.old.registers executor.old.buffer.items image flags)
@@ -325,7 +325,7 @@ pub(crate) fn store_burst<M: Ram>(
     marks: &Marks,
 ) -> ChanTurn
     requires capacity { executor.old.buffer.capacity ≡ buffer_size }
-    requires pc { executor.old.registers.pc < most_bytes }
+    requires pc { executor.old.registers.pc < most_program_bytes }
     requires ready { IsTrue
         (none_missing (M.paged memory.old) (touched (destination_of executor.old.registers))) }
     ensures exact { (flags : List Bool) → let before = (M.paged memory.old).image in

@@ -1,7 +1,7 @@
 //! The registers of a channel, and the execution of one instruction.
 
 ghost use Rattle.std.specs.Prelude.{◌≡◌, ◌+◌, ◌-◌, ◌≤◌, ◌<◌, IsTrue, IsNone, length, Ok};
-ghost use Rattle.dma_insn.specs.AssemblyText.{most_bytes};
+ghost use Rattle.dma_insn.specs.AssemblyText.{most_program_bytes};
 ghost use Rattle.dma_insn.specs.Spelling.{spelling};
 ghost use Rattle.dma_insn.specs.declared.insn.Insn.TheVariants.{Mov, Lp, LpEnd, Sev, Wfe};
 ghost use Rattle.dma_chan.specs.Exec.{buffer_size, counter_of, act, state};
@@ -68,7 +68,7 @@ fn set_fault(reg: Reg, value: u32) -> Option<FaultKind>
 // Executes DMAMOV, whose encoding has `len` bytes.
 fn set_register(reg: Reg, value: u32, len: u32, registers: &mut Registers) -> ChanTurn
     requires len { len ≡ length (spelling (Mov reg value)) }
-    requires pc { registers.old.pc + len ≤ most_bytes }
+    requires pc { registers.old.pc + len ≤ most_program_bytes }
     ensures exact { SetsRegisters (Mov reg value) registers.old result registers.new }
     ensures pc { registers.new.pc ≤ registers.old.pc + len }
 {
@@ -88,7 +88,7 @@ fn set_register(reg: Reg, value: u32, len: u32, registers: &mut Registers) -> Ch
 
 // Executes DMALP.
 fn begin_loop(counter: Counter, times: Times, registers: &mut Registers) -> ChanTurn
-    requires pc { registers.old.pc + 2 ≤ most_bytes }
+    requires pc { registers.old.pc + 2 ≤ most_program_bytes }
     ensures exact { SetsRegisters (Lp counter times) registers.old result registers.new }
     ensures pc { registers.new.pc ≤ registers.old.pc + 2 }
 {
@@ -127,7 +127,7 @@ fn jump_fault(counter: Counter, back: u8, registers: &Registers) -> Option<Fault
 // Executes DMALPEND.
 #[tactic(auto, using(crate::proofs::LoopEnds::looped_again))]
 fn end_loop(counter: Counter, back: u8, registers: &mut Registers) -> ChanTurn
-    requires pc { registers.old.pc + 2 ≤ most_bytes }
+    requires pc { registers.old.pc + 2 ≤ most_program_bytes }
     ensures exact { SetsRegisters (LpEnd counter back) registers.old result registers.new }
     ensures pc { registers.new.pc ≤ registers.old.pc + 2 }
 {
@@ -149,7 +149,7 @@ fn end_loop(counter: Counter, back: u8, registers: &mut Registers) -> ChanTurn
 
 // Executes DMASEV.
 fn signal(event: Event, registers: &mut Registers, events: &mut Events) -> ChanTurn
-    requires pc { registers.old.pc + 2 ≤ most_bytes }
+    requires pc { registers.old.pc + 2 ≤ most_program_bytes }
     ensures exact { SetsFlags (Sev event) registers.old events.old result registers.new events.new }
     ensures pc { registers.new.pc ≤ registers.old.pc + 2 }
 {
@@ -160,7 +160,7 @@ fn signal(event: Event, registers: &mut Registers, events: &mut Events) -> ChanT
 
 // Executes DMAWFE.
 fn wait(event: Event, invalid: bool, registers: &mut Registers, events: &mut Events) -> ChanTurn
-    requires pc { registers.old.pc + 2 ≤ most_bytes }
+    requires pc { registers.old.pc + 2 ≤ most_program_bytes }
     ensures exact { SetsFlags (Wfe event invalid) registers.old events.old result
         registers.new events.new }
     ensures pc { registers.new.pc ≤ registers.old.pc + 2 }
@@ -176,7 +176,7 @@ fn wait(event: Event, invalid: bool, registers: &mut Registers, events: &mut Eve
 
 // Executes an instruction whose only effect is to advance `pc`.
 fn go_on(registers: &mut Registers) -> ChanTurn
-    requires { registers.old.pc + 1 ≤ most_bytes }
+    requires { registers.old.pc + 1 ≤ most_program_bytes }
     ensures turn { result ≡ ChanTurn.Moved }
     ensures registers { registers.new ≡ record (registers.old) { pc = registers.old.pc + 1 } }
 {
@@ -204,7 +204,7 @@ impl Executor {
     ) -> ChanTurn
         requires capacity { self.old.buffer.capacity ≡ buffer_size }
         requires block { length self.old.block.items ≡ buffer_size }
-        requires pc { self.old.registers.pc + length (spelling next) ≤ most_bytes }
+        requires pc { self.old.registers.pc + length (spelling next) ≤ most_program_bytes }
         requires ready { IsTrue (is_ready (Ok next) self.old.registers (M.paged memory.old)) }
         ensures exact { let before = (M.paged memory.old).image in
             let after = (M.paged memory.new).image in

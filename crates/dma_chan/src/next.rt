@@ -1,7 +1,7 @@
 //! The instruction at an offset of a program.
 
 ghost use Rattle.std.specs.Prelude.{◌≡◌, ◌≤◌, length};
-ghost use Rattle.dma_insn.specs.AssemblyText.{most_bytes};
+ghost use Rattle.dma_insn.specs.AssemblyText.{most_program_bytes};
 ghost use Rattle.dma_insn.specs.Spelling.{spelling};
 ghost use Rattle.dma_chan.specs.Next.{fetch_fault, next_of};
 
@@ -50,7 +50,7 @@ impl Next {
     #[inline(always)]
     pub(crate) fn at(program: &[u8], pc: u32) -> Result<Next, FaultKind>
         requires offset { pc ≤ length program.now }
-        requires limit { length program.now ≤ most_bytes }
+        requires limit { length program.now ≤ most_program_bytes }
         ensures { result ≡ next_of program.now pc }
     {
         match decode(&program[pc as usize..]) {

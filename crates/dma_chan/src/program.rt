@@ -1,7 +1,7 @@
 //! Programs.
 
 ghost use Rattle.std.specs.Prelude.{◌≡◌, ◌≤◌, ◌<◌, length, None, IfOk, IfErr, OnOk};
-ghost use Rattle.dma_insn.specs.AssemblyText.{most_bytes};
+ghost use Rattle.dma_insn.specs.AssemblyText.{most_program_bytes};
 ghost use Rattle.dma_chan.specs.Programs.{program_fault};
 
 pub use dma_insn::assembler::MAX_PROGRAM_BYTES;
@@ -27,14 +27,14 @@ pub struct Program {
 
 impl Model for Program {
     ghost use Rattle.std.specs.Prelude.{◌≤◌, length};
-    ghost use Rattle.dma_insn.specs.AssemblyText.{most_bytes};
+    ghost use Rattle.dma_insn.specs.AssemblyText.{most_program_bytes};
     ghost use Rattle.dma_chan.specs.Programs.{ProgramValue};
 
     ghost Value = { ProgramValue };
 
     ghost view = { λ p. record { bytes = p.bytes.items; cost = p.cost } };
 
-    ghost invariant = { λ p. length p.bytes.items ≤ most_bytes };
+    ghost invariant = { λ p. length p.bytes.items ≤ most_program_bytes };
 }
 
 impl Program {
@@ -44,7 +44,7 @@ impl Program {
     pub fn from_bytes(alloc: Global, bytes: &[u8]) -> Result<Program, ProgramFault>
         ensures ok { IfOk result
             (λ program. program ≡ record { bytes = bytes.now; cost = None }) }
-        ensures fits { OnOk result (length bytes.now ≤ most_bytes) }
+        ensures fits { OnOk result (length bytes.now ≤ most_program_bytes) }
         ensures err { IfErr result (λ fault. fault ≡ program_fault bytes.now) }
     {
         if bytes.len() > MAX_PROGRAM_BYTES {
@@ -56,7 +56,7 @@ impl Program {
 
     // Returns the program of these bytes, with this cost.
     pub(crate) fn of_vec(bytes: Vec<u8>, cost: Option<u32>) -> Program
-        requires { length bytes.items ≤ most_bytes }
+        requires { length bytes.items ≤ most_program_bytes }
         ensures { result ≡ record { bytes = bytes.items; cost = cost } }
     {
         Program { bytes, cost }
@@ -65,7 +65,7 @@ impl Program {
     /// Returns the bytes of the program.
     pub fn bytes(&self) -> &[u8]
         ensures value { result.now ≡ self.now.bytes }
-        ensures limit { length result.now ≤ most_bytes }
+        ensures limit { length result.now ≤ most_program_bytes }
     {
         self.bytes.as_slice()
     }

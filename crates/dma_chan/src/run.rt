@@ -1,7 +1,7 @@
 //! Runs a program alone.
 
 ghost use Rattle.std.specs.Prelude.{◌≡◌, ◌≤◌, length, nat_lt, if◌then◌else◌, IfOk, IfErr, OnOk};
-ghost use Rattle.dma_insn.specs.AssemblyText.{most_bytes};
+ghost use Rattle.dma_insn.specs.AssemblyText.{most_program_bytes};
 ghost use Rattle.dma_chan.specs.Run.{RunsOver, gap_marks};
 ghost use Rattle.dma_chan.specs.Fails.{RunFails};
 ghost use Rattle.dma_chan.specs.RunPages.{KeepsPages, MakesForStores};
@@ -46,8 +46,8 @@ pub enum RunFault {
 // Returns the program of these bytes.
 fn program_of(alloc: Global, bytes: &[u8]) -> Result<Program, RunFault>
     ensures ok { IfOk result (λ program. program.bytes ≡ bytes.now) }
-    ensures fits { OnOk result (length bytes.now ≤ most_bytes) }
-    ensures err { IfErr result (λ fault. fault ≡ (if nat_lt most_bytes (length bytes.now)
+    ensures fits { OnOk result (length bytes.now ≤ most_program_bytes) }
+    ensures err { IfErr result (λ fault. fault ≡ (if nat_lt most_program_bytes (length bytes.now)
         then RunFault.ProgramTooLong else RunFault.NoMemory)) }
 {
     match Program::from_bytes(alloc, bytes) {
@@ -65,7 +65,7 @@ fn run_on<M: Ram>(
     memory: &mut M,
     limit: u32,
 ) -> Result<RunEnd, RunFault>
-    requires { length program.bytes ≤ most_bytes }
+    requires { length program.bytes ≤ most_program_bytes }
     ensures ok { IfOk result (λ how. RunsOver (gap_marks (M.loan memory.old)) program.bytes
         (M.paged memory.old).image limit how (M.paged memory.new).image) }
     ensures err { IfErr result (λ fault. RunFails (gap_marks (M.loan memory.old)) program.bytes
@@ -116,7 +116,7 @@ pub fn run_program<M: Ram>(
 ) -> Result<RunEnd, RunFault>
     ensures ok { IfOk result (λ how. RunsOver (gap_marks (M.loan memory.old)) bytes.now
         (M.paged memory.old).image limit how (M.paged memory.new).image) }
-    ensures fits { OnOk result (length bytes.now ≤ most_bytes) }
+    ensures fits { OnOk result (length bytes.now ≤ most_program_bytes) }
     ensures err { IfErr result (λ fault. RunFails (gap_marks (M.loan memory.old)) bytes.now
         (M.paged memory.old) limit fault (M.paged memory.new)) }
     ensures pages { KeepsPages (M.paged memory.old) (M.paged memory.new) }

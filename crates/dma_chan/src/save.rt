@@ -5,7 +5,7 @@
 
 ghost use Rattle.std.specs.Prelude.{◌≡◌, ◌+◌, ◌^◌, ◌<◌, ◌≤◌, ◌++◌, length, IfSome};
 ghost use Rattle.arrayvec.specs.ArrayVec.{array_vec_len};
-ghost use Rattle.dma_insn.specs.AssemblyText.{most_bytes};
+ghost use Rattle.dma_insn.specs.AssemblyText.{most_program_bytes};
 ghost use Rattle.dma_insn.specs.ControlWord.{flag};
 ghost use Rattle.dma_chan.specs.Exec.{buffer_size};
 ghost use Rattle.dma_chan.specs.Saved.{AreBytes, checksum, cost_bytes, sealed, head_bytes, most_saved, register_bytes, HasRegisterRanges};
@@ -110,7 +110,7 @@ fn write_head(head: &Head) -> SaveBytes
 // Returns the save of these parts. The buffer's bytes are in two slices.
 pub(crate) fn write(head: &Head, front: &[u8], back: &[u8], program: &[u8]) -> SaveBytes
     requires buffer { length front.now + length back.now ≤ buffer_size }
-    requires program { length program.now ≤ most_bytes }
+    requires program { length program.now ≤ most_program_bytes }
     ensures bytes { result.items
         ≡ sealed (head_bytes head.now ++ (front.now ++ back.now) ++ program.now) }
     ensures ranges { HasHeadRanges head.now }

@@ -27,7 +27,7 @@ use Rattle.dma_engine.specs.Turn.{Stepped, front_turn, first_conflicting, insn_t
 use Rattle.dma_engine.specs.Answer.{answer, cause, reply_of, unless}
 use Rattle.dma_engine.proofs.Boards.{with_channel-at}
 use Rattle.dma_engine.proofs.Histories.{object_after-append}
-use Rattle.dma_commands.specs.Run.{most_steps, CopiesEnd, goes_on, is_in_use, stepped_to_end}
+use Rattle.dma_commands.specs.Run.{most_copy_steps, CopiesEnd, goes_on, is_in_use, stepped_to_end}
 
 -- ---- a view in which channel 0 runs a transfer
 
@@ -269,7 +269,7 @@ issue-after v some =
     ap (λ b. (unless (cause b NoChannel None) v (Count (used c - c.issued), with_entry v (Issued 0))).1) (lt-leb (channels v) 0 some)
 
 -- The bound is wide enough. Nothing above names it, so that no number of its size is unfolded.
-within : (t : Descriptor) → IsTransfer t → cost t ≤ most_steps
+within : (t : Descriptor) → IsTransfer t → cost t ≤ most_copy_steps
 within t rules = omega (arith, cost_is t rules)
 
 -- what was submitted and issued ends
@@ -292,5 +292,5 @@ copies_end v t cookie w sound rules free submit =
     let took = accepted (nat_le (channels v) 0) (not (lies_below t (size v))) (nat_le last_cookie (used c)) v (with_submitted v t) w (used c + 1) cookie submit in
     let some : 0 < channels v = leb-false (channels v) 0 took.0 in
     let there : 0 < length v.schedule = omega (arith, some, sound.fits.many) in
-    let ends = issued-ends most_steps v t rules there some (free-none v free) (within t rules) in
-    subst (λ u. Ends most_steps (answer u (calls.Issue 0)).1) took.1 ends
+    let ends = issued-ends most_copy_steps v t rules there some (free-none v free) (within t rules) in
+    subst (λ u. Ends most_copy_steps (answer u (calls.Issue 0)).1) took.1 ends

@@ -11,7 +11,7 @@ use Rattle.dma_script.specs.Printing.{error_line}
 use Rattle.dma_script.specs.declared.fault.Fault.{Fault as ScriptFault}
 use Rattle.dma_script.specs.declared.fault.ReadError.{ReadError}
 use Rattle.dma_script.specs.declared.fault.ReadError.TheVariants.{Fault, NoMemory}
-use Rattle.dma_script.specs.declared.plan.PlanLine.{PlanLine}
+use Rattle.dma_script.specs.declared.transfer_line.PlanLine.{PlanLine}
 use Rattle.dma_commands.specs.Planned.{transfer_printed, plan_printed, plan_printed_of}
 use Rattle.dma_commands.specs.Transfers.{transfer_of}
 

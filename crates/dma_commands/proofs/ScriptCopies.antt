@@ -23,7 +23,7 @@ use Rattle.dma_engine.proofs.JoinedCalls.{answers_are_answers, answers_unless_no
 use Rattle.dma_script.specs.declared.statements.Statement.{Statement}
 use Rattle.dma_script.specs.declared.statements.Statement.TheVariants as statements
 use Rattle.dma_script.proofs.Within.{IsNoSubmit}
-use Rattle.dma_commands.specs.Run.{CopiesEnd, goes_on, is_in_use, most_steps, stepped_to_end}
+use Rattle.dma_commands.specs.Run.{CopiesEnd, goes_on, is_in_use, most_copy_steps, stepped_to_end}
 use Rattle.dma_commands.specs.Transfers.{transfer_of}
 use Rattle.dma_commands.specs.Laws.{AreWhole, CopiesAreWhole, IsWhole, IsWholeCopy, StepsEnd, calls_after, calls_in, calls_of, if_valid, opening_of, script_calls, steps_taken, transfer_calls, view_after}
 use Rattle.dma_commands.proofs.ScriptCalls.{first-replies, later-replies, one-more}
@@ -60,7 +60,7 @@ submitted-whole ends v t None sound rules free is =
     let cookie = used (channel (object_of v) 0) + 1 in
     let w = with_entry v (Submitted 0 t cookie) in
     let took : answer v (calls.Submit 0 t) ≡ (Cookie cookie, w) = ap (λ (f : Option EngineFault). unless f v (Cookie cookie, w)) is in
-    steps-end most_steps (answer w (calls.Issue 0)).1 (ends v t cookie w sound rules free took)
+    steps-end most_copy_steps (answer w (calls.Issue 0)).1 (ends v t cookie w sound rules free took)
 
 used-or-not : (v : View) (cs : List Call) (b : Bool) → is_in_use v ≡ b → (is_in_use v ≡ false → IsWholeCopy (answers v cs).0) → IsWholeCopy (answers v (if b then [] else cs)).0
 used-or-not v cs true is whole = tt

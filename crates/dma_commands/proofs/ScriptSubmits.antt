@@ -14,13 +14,13 @@ use Rattle.dma_mem.specs.declared.call.Call.TheVariants as calls
 use Rattle.dma_engine.specs.View.{View}
 use Rattle.dma_engine.specs.Answer.{answer}
 use Rattle.dma_engine.specs.Laws.{IsCall}
-use Rattle.dma_script.specs.declared.plan.Origin.{Origin}
-use Rattle.dma_script.specs.declared.plan.Origin.TheVariants as origins
-use Rattle.dma_script.specs.declared.plan.TransferLine.{TransferLine}
+use Rattle.dma_script.specs.declared.transfer_line.Origin.{Origin}
+use Rattle.dma_script.specs.declared.transfer_line.Origin.TheVariants as origins
+use Rattle.dma_script.specs.declared.transfer_line.TransferLine.{TransferLine}
 use Rattle.dma_script.specs.declared.statements.Statement.{Statement}
 use Rattle.dma_script.specs.declared.statements.Statement.TheVariants as statements
 use Rattle.dma_script.proofs.Within.{IsNoSubmit}
-use Rattle.dma_commands.specs.Run.{is_in_use, is_refused, most_steps}
+use Rattle.dma_commands.specs.Run.{is_in_use, is_refused, most_copy_steps}
 use Rattle.dma_commands.specs.Transfers.{transfer_from, transfer_of}
 use Rattle.dma_commands.specs.Laws.{calls_after, calls_in, calls_of, issue_and_step_calls, if_valid, steps_taken, transfer_calls, view_after}
 
@@ -70,8 +70,8 @@ through-made v t rules =
     either (is_in_use v) [] (calls.Submit 0 t ∷ calls_after s) none-made
     (one-before (calls.Submit 0 t) (calls_after s) rules
     (either (is_refused s.0) [] (issue_and_step_calls s.1) none-made
-    (one-before (calls.Issue 0) (replicate (steps_taken most_steps w) (calls.Step 0)) tt
-    (equal-calls (steps_taken most_steps w) (calls.Step 0) tt))))
+    (one-before (calls.Issue 0) (replicate (steps_taken most_copy_steps w) (calls.Step 0)) tt
+    (equal-calls (steps_taken most_copy_steps w) (calls.Step 0) tt))))
 
 -- the call of a line that is read
 plain-made : (call : Call) → IsNoSubmit (statements.Call call) → IsCall call

@@ -1,7 +1,7 @@
 -- What `dmasim asm` prints for an input.
 use Rattle.std.specs.Prelude.{◌≡◌, ◌≢◌, ◌⊎◌, ℕ, ◌++◌, ◌∷◌, [], List, Result, Ok, Err, codes, decimal}
-use Rattle.dma_insn.specs.declared.assembler.Cause.{Cause}
-use Rattle.dma_insn.specs.declared.assembler.Cause.TheVariants.{Mnemonic, Operand, Range}
+use Rattle.dma_insn.specs.declared.assembler.AsmCause.{AsmCause}
+use Rattle.dma_insn.specs.declared.assembler.AsmCause.TheVariants.{Mnemonic, Operand, Range}
 use Rattle.dma_insn.specs.declared.assembler.AsmFault.{AsmFault}
 use Rattle.dma_insn.specs.declared.assembler.AsmFault.TheVariants.{Line, ProgramTooLong, NoMemory}
 use Rattle.dma_insn.specs.AssemblyText.{Assembles, IsFirstFault}
@@ -10,7 +10,7 @@ use Rattle.dma_script.specs.Command.{Printed, refusal}
 use Rattle.dma_script.specs.Printing.{program_lines}
 
 -- the name of a cause
-abbrev pub cause_name : Cause → List ℕ
+abbrev pub cause_name : AsmCause → List ℕ
 cause_name Mnemonic = codes "mnemonic"
 cause_name Operand = codes "operand"
 cause_name Range = codes "range"

@@ -18,7 +18,7 @@ use Rattle.dma_script.specs.declared.statements.RunScript.{RunScript}
 use Rattle.dma_script.specs.declared.statements.Statement.{Statement}
 use Rattle.dma_script.specs.declared.statements.Statement.TheVariants as statements
 use Rattle.dma_commands.specs.Printed.{call_line, refused_line, reply_text, transfer_fault_name}
-use Rattle.dma_commands.specs.Run.{goes_on, is_in_use, is_refused, line_answer, most_steps, printed, start_of, step_lines, last_answer_line, totals_of}
+use Rattle.dma_commands.specs.Run.{goes_on, is_in_use, is_refused, line_answer, most_copy_steps, printed, start_of, step_lines, last_answer_line, totals_of}
 use Rattle.dma_commands.specs.Transfers.{transfer_of}
 
 -- ---- the calls of a line
@@ -38,7 +38,7 @@ steps_taken (suc n) v =
 
 -- The calls that issue channel 0 and then step it.
 abbrev pub issue_and_step_calls : View → List Call
-issue_and_step_calls v = calls.Issue 0 ∷ replicate (steps_taken most_steps (answer v (calls.Issue 0)).1) (calls.Step 0)
+issue_and_step_calls v = calls.Issue 0 ∷ replicate (steps_taken most_copy_steps (answer v (calls.Issue 0)).1) (calls.Step 0)
 
 -- The calls of a copy or a fill after its submit: none if the submit is refused, else the issue and the steps.
 abbrev pub calls_after : Reply × View → List Call

@@ -8,7 +8,7 @@ use Rattle.dma_script.specs.Command.{Printed, refusal}
 use Rattle.dma_script.specs.Printing.{program_lines, fault_line}
 use Rattle.dma_script.specs.Plan.{plan_of}
 use Rattle.dma_script.specs.declared.fault.Fault.{Fault}
-use Rattle.dma_script.specs.declared.plan.PlanLine.{PlanLine}
+use Rattle.dma_script.specs.declared.transfer_line.PlanLine.{PlanLine}
 use Rattle.dma_commands.specs.Printed.{transfer_fault_name}
 use Rattle.dma_commands.specs.Transfers.{transfer_of}
 

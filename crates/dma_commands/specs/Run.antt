@@ -17,9 +17,9 @@ use Rattle.dma_script.specs.Command.{Printed, refusal}
 use Rattle.dma_script.specs.Statements.{run_script_of}
 use Rattle.dma_script.specs.Printing.{fault_line}
 use Rattle.dma_script.specs.declared.fault.Fault.{Fault}
-use Rattle.dma_script.specs.declared.plan.Origin.{Origin}
-use Rattle.dma_script.specs.declared.plan.Origin.TheVariants as origins
-use Rattle.dma_script.specs.declared.plan.TransferLine.{TransferLine}
+use Rattle.dma_script.specs.declared.transfer_line.Origin.{Origin}
+use Rattle.dma_script.specs.declared.transfer_line.Origin.TheVariants as origins
+use Rattle.dma_script.specs.declared.transfer_line.TransferLine.{TransferLine}
 use Rattle.dma_script.specs.declared.statements.RunScript.{RunScript}
 use Rattle.dma_script.specs.declared.statements.Statement.{Statement}
 use Rattle.dma_script.specs.declared.statements.Statement.TheVariants as statements
@@ -101,13 +101,13 @@ abbrev pub last_answer_line : List ℕ → Reply → List ℕ
 last_answer_line start reply = start ++ reply_text reply
 
 -- the limit for `stepped_to_end` in a copy or a fill; it cuts none of them off (`CopiesEnd`)
-abbrev pub most_steps : ℕ
-most_steps = 524288
+abbrev pub most_copy_steps : ℕ
+most_copy_steps = 524288
 
 -- Issues channel 0, steps it with `stepped_to_end`, and prints the last answer.
 abbrev pub issued_and_stepped : List ℕ → View → Answered
 issued_and_stepped start v =
-    let last = stepped_to_end most_steps (answer v (calls.Issue 0)).1 in one_line (last_answer_line start last.0) last.1
+    let last = stepped_to_end most_copy_steps (answer v (calls.Issue 0)).1 in one_line (last_answer_line start last.0) last.1
 
 -- whether a reply is a refusal
 abbrev pub is_refused : Reply → Bool
@@ -139,13 +139,13 @@ abbrev pub copy_answer : View → TransferLine → Answered
 copy_answer v line = transfer_answer v (start_of line.src) (transfer_of line)
 
 -- If channel 0 of a sound view isn't in use, and a transfer that meets its rules is submitted to it with success and
--- issued, then the last answer of `stepped_to_end most_steps` is neither Started nor Moved. So `most_steps` cuts off
+-- issued, then the last answer of `stepped_to_end most_copy_steps` is neither Started nor Moved. So `most_copy_steps` cuts off
 -- no copy or fill.
 abbrev pub CopiesEnd : Type 0
 CopiesEnd =
     (v : View) (t : Descriptor) (cookie : ℕ) (w : View) → IsSound v → IsTransfer t → is_in_use v ≡ false →
     answer v (calls.Submit 0 t) ≡ (Cookie cookie, w) →
-    goes_on (stepped_to_end most_steps (answer w (calls.Issue 0)).1).0 ≡ false
+    goes_on (stepped_to_end most_copy_steps (answer w (calls.Issue 0)).1).0 ≡ false
 
 -- ---- whole scripts
 

@@ -2,9 +2,9 @@
 use Rattle.std.specs.Prelude.{ℕ, false, List, Option}
 use Rattle.dma_mem.specs.declared.segment.Segment.{Segment}
 use Rattle.dma_mem.specs.Places.{Descriptor, filling}
-use Rattle.dma_script.specs.declared.plan.Origin.{Origin}
-use Rattle.dma_script.specs.declared.plan.Origin.TheVariants as origins
-use Rattle.dma_script.specs.declared.plan.TransferLine.{TransferLine}
+use Rattle.dma_script.specs.declared.transfer_line.Origin.{Origin}
+use Rattle.dma_script.specs.declared.transfer_line.Origin.TheVariants as origins
+use Rattle.dma_script.specs.declared.transfer_line.TransferLine.{TransferLine}
 
 -- a copy from a list of segments, or a fill with the byte at one address
 abbrev pub transfer_from : Origin → List Segment → Option ℕ → Option ℕ → Descriptor

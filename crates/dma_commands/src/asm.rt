@@ -3,7 +3,7 @@ ghost use Rattle.std.specs.Prelude.{◌≡◌, ◌≤◌, ◌+◌, IfSome};
 ghost use Rattle.dma_script.specs.Command.{Ends, failures, longest_input, printed_within};
 ghost use Rattle.dma_commands.specs.Assembled.{AsmPrints, asm_printed, cause_name};
 
-use dma_insn::assembler::{AsmFault, Cause, assemble};
+use dma_insn::assembler::{AsmCause, AsmFault, assemble};
 use dma_script::command::{Command, SUCCESS, refuse, serve};
 use dma_script::input::Source;
 use dma_script::output::Sink;
@@ -12,13 +12,13 @@ use dma_text::text::print;
 use std::alloc::{AllocError, Global};
 
 /// Returns the name of a cause.
-fn cause_name(cause: Cause) -> &'static str
+fn cause_name(cause: AsmCause) -> &'static str
     ensures { result.now ≡ cause_name cause }
 {
     match cause {
-        Cause::Mnemonic => "mnemonic",
-        Cause::Operand => "operand",
-        Cause::Range => "range",
+        AsmCause::Mnemonic => "mnemonic",
+        AsmCause::Operand => "operand",
+        AsmCause::Range => "range",
     }
 }
 

@@ -12,8 +12,8 @@ use dma_chan::program::Program;
 use dma_script::command::{Command, SUCCESS, refuse, serve};
 use dma_script::input::Source;
 use dma_script::output::Sink;
-use dma_script::plan::{PlanLine, read_plan};
 use dma_script::printing::ProgramLines;
+use dma_script::transfer_line::{PlanLine, read_plan};
 use dma_text::text::{Text, print};
 use std::alloc::{AllocError, Global};
 

@@ -4,7 +4,7 @@ ghost use Rattle.dma_mem.specs.Refusals.{refusal_of};
 ghost use Rattle.dma_commands.specs.Transfers.{transfer_of};
 
 use dma_mem::transfer::{Transfer, TransferFault};
-use dma_script::plan::{Origin, TransferLine};
+use dma_script::transfer_line::{Origin, TransferLine};
 
 /// Returns the transfer of a line, and moves the line's lists into it. Fails with the first rule that the transfer
 /// breaks.

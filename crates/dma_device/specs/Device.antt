@@ -3,7 +3,7 @@ use Rattle.std.specs.Prelude.{ℕ, ◌+◌, ◌-◌, ◌*◌, ◌/◌, ◌%◌, 
 use Rattle.std.specs.Int.{w32, bit_at, bit_not}
 use Rattle.std.specs.List.{list_any}
 use Rattle.dma_mem.specs.Regions.{Piece, run_from}
-use Rattle.dma_insn.specs.AssemblyText.{most_bytes}
+use Rattle.dma_insn.specs.AssemblyText.{most_program_bytes}
 use Rattle.dma_insn.specs.ControlWord.{field, flag}
 use Rattle.dma_chan.specs.declared.exec.Registers.{Registers}
 use Rattle.dma_device.specs.Config.{bus_code, revision_code}
@@ -174,7 +174,7 @@ signalled n d =
 -- the program that begins at an address: the bytes of RAM from there up to the first address that isn't in RAM, at most
 -- 8,192
 abbrev pub program_at : List Piece → ℕ → List ℕ
-program_at ram addr = take most_bytes (run_from ram addr)
+program_at ram addr = take most_program_bytes (run_from ram addr)
 
 -- A thread that the manager starts by DMAGO. Nothing happens to one that isn't stopped.
 abbrev pub gone : List Piece → Bool → ℕ → Thread → DeviceValue → DeviceValue

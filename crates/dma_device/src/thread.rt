@@ -1,7 +1,7 @@
 //! The threads of a device: the manager and the channels.
 
 ghost use Rattle.std.specs.Prelude.{◌≡◌, ◌↔◌, ◌≤◌, ◌<◌, ◌^◌, length, IsSome, IsTrue, Some, IfOk};
-ghost use Rattle.dma_insn.specs.AssemblyText.{most_bytes};
+ghost use Rattle.dma_insn.specs.AssemblyText.{most_program_bytes};
 ghost use Rattle.dma_chan.specs.Channel.{ahead_of};
 ghost use Rattle.dma_device.specs.Device.{csr};
 ghost use Rattle.dma_device.specs.declared.thread.Status.{Status};
@@ -226,7 +226,7 @@ impl Thread {
 
     /// Starts the thread with these bytes as its program, which begins at address `base`.
     pub fn start(&mut self, nonsecure: bool, base: u32, program: &[u8])
-        requires { length program.now ≤ most_bytes }
+        requires { length program.now ≤ most_program_bytes }
         ensures { self.new ≡ started nonsecure base program.now }
     {
         self.channel.load_bytes(program);

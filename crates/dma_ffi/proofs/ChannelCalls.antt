@@ -4,7 +4,7 @@ use Rattle.std.specs.Prelude.{nat_le, IsSome, unwrap_or}
 use Rattle.std.specs.List.{list_any}
 use Rattle.std.proofs.lemmas.Bool.{and_parts, le-ltb}
 use Rattle.std.proofs.lemmas.List.{append-nil}
-use Rattle.dma_insn.specs.AssemblyText.{most_bytes}
+use Rattle.dma_insn.specs.AssemblyText.{most_program_bytes}
 use Rattle.dma_mem.specs.Places.{Descriptor, copying, filling, lies_below}
 use Rattle.dma_mem.specs.Refusals.{refusal_of, refusal_of_fill}
 use Rattle.dma_mem.specs.Regions.{has, in_order, pieces_of, run_from}
@@ -62,9 +62,9 @@ fill_made src dst wait signal small h =
     let fits = le-ltb 4294967296 (src + 1) (omega arith) in
     rw (fits, or_false) h
 
-was_read : (t : Descriptor) (regions : List Region) (addr : ℕ) (rest : List ℕ) (c d : ChannelValue) → take most_bytes (run_from (pieces_of regions) addr) ≡ (compiled t).bytes ++ rest → LoadsFrom regions addr c ok_code d → IsLoadedWith t d
+was_read : (t : Descriptor) (regions : List Region) (addr : ℕ) (rest : List ℕ) (c d : ChannelValue) → take most_program_bytes (run_from (pieces_of regions) addr) ≡ (compiled t).bytes ++ rest → LoadsFrom regions addr c ok_code d → IsLoadedWith t d
 was_read t regions addr rest c d e (inl bad) = absurd (let f = bad.0 in cc)
-was_read t regions addr rest c d e (inr ok) = (record { bytes = take most_bytes (run_from (pieces_of regions) addr); cost = None }, (rest, e), ok.2)
+was_read t regions addr rest c d e (inr ok) = (record { bytes = take most_program_bytes (run_from (pieces_of regions) addr); cost = None }, (rest, e), ok.2)
 
 pub loads_a_transfer : LoadsATransfer
 loads_a_transfer = record {

@@ -25,7 +25,7 @@ use Rattle.dma_engine.specs.Room.{HasNoSpare}
 use Rattle.dma_ffi.specs.declared.reports.DmaOutcome.{DmaOutcome}
 use Rattle.dma_ffi.specs.declared.reports.DmaConflict.{DmaConflict}
 use Rattle.dma_ffi.specs.declared.reports.DmaReport.{DmaReport}
-use Rattle.dma_ffi.specs.declared.steps.Taken.{Taken}
+use Rattle.dma_ffi.specs.declared.steps.StepsTaken.{StepsTaken}
 use Rattle.dma_ffi.specs.Codes.{answer_code, bad_kind, fault_code, found_code, mark_kind, no_result, not_running, reply_code, status_code, value_or}
 use Rattle.dma_ffi.specs.Reports.{conflict_of, outcome_of, report_of}
 use Rattle.dma_ffi.specs.Requests.{Answer, Answers, AnswersMark, AnswersSteps, AnswersSubmit, IsWritten, EffectOf, Request, Returns, Value, Written, a_conflict, a_number, a_report, a_run, an_outcome, ask_call, ask_copy, ask_fill, ask_mark, ask_steps, ask_value, bytes_or_conflict, closed, code_of, conflict_in, known, no_kind, nothing, number_in, numbered, outcome_in, replied, run_in, runs, stepped, steps_answer, the_run, unfit}
@@ -126,7 +126,7 @@ returns_no_kind None number range named there is = absurd (true≢false (sym the
 
 -- ---- steps
 
-pub returns_steps : {old : Option EngineState} {code : ℤ} {after : DmaReport} (e e' : EngineState) (before : DmaReport) (ch most : ℕ) (r : Result Taken EngineFault) (m : Result DmaReport EngineFault) → Some e ≡ old → AnswersSteps e.view ch most (steps_answer r) e'.view → m ≡ result_map_both (λ (t : Taken). report_of t.count t.last) (λ (fault : EngineFault). fault) r → code ≡ answer_code m → after ≡ value_or m before → Returns old (ask_steps ch most) code (a_report before after) (Some e')
+pub returns_steps : {old : Option EngineState} {code : ℤ} {after : DmaReport} (e e' : EngineState) (before : DmaReport) (ch most : ℕ) (r : Result StepsTaken EngineFault) (m : Result DmaReport EngineFault) → Some e ≡ old → AnswersSteps e.view ch most (steps_answer r) e'.view → m ≡ result_map_both (λ (t : StepsTaken). report_of t.count t.last) (λ (fault : EngineFault). fault) r → code ≡ answer_code m → after ≡ value_or m before → Returns old (ask_steps ch most) code (a_report before after) (Some e')
 returns_steps {after = after} e e' before ch most (Ok t) m was answers map is written =
     returns (ask_steps ch most) (a_report before after) (stepped t.count t.last) e e' was answers (is ∙ ap answer_code map) (written ∙ ap (λ (x : Result DmaReport EngineFault). value_or x before) map) tt
 returns_steps {after = after} e e' before ch most (Err fault) m was answers map is written =

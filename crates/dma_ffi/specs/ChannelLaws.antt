@@ -8,7 +8,7 @@ use Rattle.dma_mem.specs.Regions.{has, image_of, pieces_of, run_from}
 use Rattle.dma_mem.specs.Rules.{IsTransfer}
 use Rattle.dma_mem.specs.declared.regions.Region.{Region}
 use Rattle.dma_mem.specs.declared.segment.Segment.{Segment}
-use Rattle.dma_insn.specs.AssemblyText.{most_bytes}
+use Rattle.dma_insn.specs.AssemblyText.{most_program_bytes}
 use Rattle.dma_chan.specs.Changes.{Call, DoesCall, HasFirst, bytes_in}
 use Rattle.dma_chan.specs.Channel.{ChannelValue, unloaded}
 use Rattle.dma_chan.specs.Compiled.{compiled}
@@ -35,7 +35,7 @@ pub record LoadsATransfer : Type 0 where
   pub fill : (src : ℕ) (dst : List Segment) (wait signal : Option ℕ) (c d : ChannelValue) → src < end_of_addresses →
       LoadsFill src dst wait signal c ok_code d → HasProgram (filling src dst wait signal) d
   pub from : (t : Descriptor) (regions : List Region) (addr : ℕ) (rest : List ℕ) (c d : ChannelValue) → IsTransfer t →
-      take most_bytes (run_from (pieces_of regions) addr) ≡ (compiled t).bytes ++ rest →
+      take most_program_bytes (run_from (pieces_of regions) addr) ≡ (compiled t).bytes ++ rest →
       LoadsFrom regions addr c ok_code d → HasProgram t d
 
 -- ---- steps

@@ -10,7 +10,7 @@ use Rattle.dma_mem.specs.declared.regions.Region.{Region}
 use Rattle.dma_mem.specs.declared.segment.Segment.{Segment}
 use Rattle.dma_mem.specs.declared.transfer.TransferFault.{TransferFault}
 use Rattle.dma_mem.specs.declared.transfer.TransferFault.TheVariants as transfers
-use Rattle.dma_insn.specs.AssemblyText.{most_bytes}
+use Rattle.dma_insn.specs.AssemblyText.{most_program_bytes}
 use Rattle.dma_chan.specs.Channel.{ChannelValue, unloaded, loaded}
 use Rattle.dma_chan.specs.Compiled.{compiled}
 use Rattle.dma_chan.specs.LentRegions.{segment_of, with_gaps_of}
@@ -20,7 +20,7 @@ use Rattle.dma_chan.specs.Written.{KeepsOutside}
 use Rattle.dma_chan.specs.declared.turn.ChanTurn.{ChanTurn}
 use Rattle.dma_chan.specs.declared.turn.ChanTurn.TheVariants.{Moved, Waiting, Ended, Fault}
 use Rattle.dma_chan.specs.declared.lent.Taken.{Taken}
-use Rattle.dma_ffi.specs.declared.channels.ChannelRegisters.{ChannelRegisters}
+use Rattle.dma_ffi.specs.declared.channel_calls.ChannelRegisters.{ChannelRegisters}
 use Rattle.dma_ffi.specs.declared.channel_steps.ChannelReport.{ChannelReport}
 use Rattle.dma_ffi.specs.declared.marked_channel.MarkedChannel.{MarkedChannel}
 use Rattle.dma_ffi.specs.Calls.{OnOpen}
@@ -68,8 +68,8 @@ LoadsFill src dst wait signal = LoadsTransfer (refusal_of_fill src dst wait sign
 -- bytes, and then nothing changes.
 abbrev pub LoadsBytes : List ℕ → ChannelValue → ℤ → ChannelValue → Type 0
 LoadsBytes bytes c code d =
-    ((code ≡ ok_code) × (length bytes ≤ most_bytes) × (d ≡ loaded (record { bytes = bytes; cost = None })))
-    ⊎ ((code ≡ program_too_long) × (most_bytes < length bytes) × (d ≡ c))
+    ((code ≡ ok_code) × (length bytes ≤ most_program_bytes) × (d ≡ loaded (record { bytes = bytes; cost = None })))
+    ⊎ ((code ≡ program_too_long) × (most_program_bytes < length bytes) × (d ≡ c))
 
 -- the channel without its program; its marks, registers and counts are unchanged
 abbrev pub stopped : MarkedChannel → MarkedChannel
@@ -141,7 +141,7 @@ abbrev pub LoadsFrom : List Region → ℕ → ChannelValue → ℤ → ChannelV
 LoadsFrom regions addr c code d =
     ((code ≡ bad_regions) × (are_usable regions ≡ false) × (d ≡ c))
     ⊎ ((code ≡ ok_code) × (are_usable regions ≡ true)
-    × (d ≡ loaded (record { bytes = take most_bytes (run_from (pieces_of regions) addr); cost = None })))
+    × (d ≡ loaded (record { bytes = take most_program_bytes (run_from (pieces_of regions) addr); cost = None })))
 
 -- ---- steps
 

@@ -4,8 +4,8 @@ use Rattle.dma_mem.specs.declared.marks.MarkKind.{MarkKind}
 use Rattle.dma_mem.specs.declared.marks.MarkKind.TheVariants.{Reading, Writing}
 use Rattle.dma_mem.specs.declared.transfer.TransferFault.{TransferFault}
 use Rattle.dma_mem.specs.declared.transfer.TransferFault.TheVariants as transfers
-use Rattle.dma_insn.specs.declared.assembler.Cause.{Cause}
-use Rattle.dma_insn.specs.declared.assembler.Cause.TheVariants.{Mnemonic, Operand, Range}
+use Rattle.dma_insn.specs.declared.assembler.AsmCause.{AsmCause}
+use Rattle.dma_insn.specs.declared.assembler.AsmCause.TheVariants.{Mnemonic, Operand, Range}
 use Rattle.dma_insn.specs.declared.codec.DecodeFault.{DecodeFault}
 use Rattle.dma_insn.specs.declared.codec.DecodeFault.TheVariants.{Cut, Unknown as UnknownByte, BadField}
 use Rattle.dma_chan.specs.declared.program.ProgramFault.{ProgramFault}
@@ -141,7 +141,7 @@ program_code programs.ProgramTooLong = program_too_long
 program_code programs.NoMemory = no_memory
 
 -- the code of the reason that a line isn't an instruction
-abbrev pub cause_code : Cause → ℤ
+abbrev pub cause_code : AsmCause → ℤ
 cause_code Mnemonic = minus 50
 cause_code Operand = minus 51
 cause_code Range = minus 52

@@ -18,7 +18,7 @@ use Rattle.dma_device.specs.declared.device.turns.Turn.{Turn}
 use Rattle.dma_device.specs.declared.save.RestoreFault.{RestoreFault}
 use Rattle.dma_device.specs.declared.save.RestoreFault.TheVariants.{BadSave, OtherDevice}
 use Rattle.dma_ffi.specs.declared.device_config.DeviceConfig.{DeviceConfig}
-use Rattle.dma_ffi.specs.declared.devices.DeviceTurn.{DeviceTurn}
+use Rattle.dma_ffi.specs.declared.device_calls.DeviceTurn.{DeviceTurn}
 use Rattle.dma_ffi.specs.Calls.{OnOpen, WritesValue}
 use Rattle.dma_ffi.specs.Channels.{are_usable}
 use Rattle.dma_ffi.specs.Codes.{already_open, bad_config, bad_regions, bad_save, no_memory, not_open, ok_code, other_device}

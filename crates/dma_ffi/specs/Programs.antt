@@ -2,10 +2,10 @@
 -- bytes.
 use Rattle.std.specs.Prelude.{◌≡◌, ℕ, ◌<◌, ◌≤◌, ◌⊎◌, Bool, true, false, if◌then◌else◌, nat_le, ℤ, List, [], ◌∷◌, ◌++◌, length, drop, codes}
 use Rattle.dma_mem.specs.Image.{is_size}
-use Rattle.dma_insn.specs.AssemblyText.{Assembles, IsFirstFault, most_bytes}
+use Rattle.dma_insn.specs.AssemblyText.{Assembles, IsFirstFault, most_program_bytes}
 use Rattle.dma_insn.specs.Disassembly.{Disassembles, IsDisFault}
 use Rattle.dma_insn.specs.declared.assembler.AsmFault.TheVariants as texts
-use Rattle.dma_insn.specs.declared.assembler.Cause.{Cause}
+use Rattle.dma_insn.specs.declared.assembler.AsmCause.{AsmCause}
 use Rattle.dma_insn.specs.declared.codec.DecodeFault.{DecodeFault}
 use Rattle.dma_insn.specs.declared.disassembler.DisFault.TheVariants as programs
 use Rattle.dma_chan.specs.declared.run.RunEnd.{RunEnd}
@@ -52,7 +52,7 @@ abbrev pub AssemblesText : List ℕ → ℤ → List ℕ → List ℕ → ℕ �
 AssemblesText text code buffer out len written before place =
     ((program : List ℕ) × Assembles text program × Writes program code buffer out len written × (place ≡ before))
     ⊎ ((out ≡ buffer) × (written ≡ len)
-    × (((cause : Cause) × IsFirstFault text (texts.Line place cause) × (code ≡ cause_code cause))
+    × (((cause : AsmCause) × IsFirstFault text (texts.Line place cause) × (code ≡ cause_code cause))
     ⊎ ((IsFirstFault text (texts.ProgramTooLong place) × (code ≡ program_too_long))
     ⊎ (IsFirstFault text texts.NoMemory × (code ≡ no_memory) × (place ≡ before)))))
 
@@ -74,7 +74,7 @@ abbrev pub RunsProgram : List ℕ → ℕ → ℤ → List ℕ → List ℕ → 
 RunsProgram program limit code image left before ended =
     ((code ≡ size_out_of_range) × (is_size (length image) ≡ false) × (left ≡ image) × (ended ≡ before))
     ⊎ ((is_size (length image) ≡ true)
-    × (((code ≡ ok_code) × (length program ≤ most_bytes)
+    × (((code ≡ ok_code) × (length program ≤ most_program_bytes)
     × ((how : RunEnd) × RunsAlone program image limit how left × (ended ≡ end_of how)))
-    ⊎ (((code ≡ program_too_long) × (most_bytes < length program) × (left ≡ image) × (ended ≡ before))
-    ⊎ ((code ≡ no_memory) × (length program ≤ most_bytes) × (left ≡ image) × (ended ≡ before)))))
+    ⊎ (((code ≡ program_too_long) × (most_program_bytes < length program) × (left ≡ image) × (ended ≡ before))
+    ⊎ ((code ≡ no_memory) × (length program ≤ most_program_bytes) × (left ≡ image) × (ended ≡ before)))))

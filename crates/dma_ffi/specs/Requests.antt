@@ -20,7 +20,7 @@ use Rattle.dma_engine.specs.History.{kept_bytes}
 use Rattle.dma_engine.specs.View.{View, EngineState, object_of, running, running_on, new_fault, new_view}
 use Rattle.dma_engine.specs.Answer.{CallAnswers, StepAnswers}
 use Rattle.dma_engine.specs.Room.{HasNoSpare}
-use Rattle.dma_ffi.specs.declared.steps.Taken.{Taken}
+use Rattle.dma_ffi.specs.declared.steps.StepsTaken.{StepsTaken}
 use Rattle.dma_ffi.specs.declared.reports.DmaConflict.{DmaConflict}
 use Rattle.dma_ffi.specs.declared.reports.DmaOutcome.{DmaOutcome}
 use Rattle.dma_ffi.specs.declared.reports.DmaReport.{DmaReport}
@@ -156,7 +156,7 @@ Answers v (ask_steps ch most) answer w = AnswersSteps v ch most answer w
 Answers v (ask_value value) answer w = (answer ≡ known (value v)) × (w ≡ v)
 
 -- the answer to steps: those that were taken, or the refusal of the first
-abbrev pub steps_answer : Result Taken EngineFault → Answer
+abbrev pub steps_answer : Result StepsTaken EngineFault → Answer
 steps_answer (Ok taken) = stepped taken.count taken.last
 steps_answer (Err fault) = replied (Refused fault)
 

@@ -7,7 +7,7 @@ use dma_chan::program::ProgramFault;
 use dma_chan::turn::FaultKind;
 use dma_device::config;
 use dma_engine::{EngineFault, MarkKind, NewFault, Status, TransResult};
-use dma_insn::assembler::Cause;
+use dma_insn::assembler::AsmCause;
 use dma_insn::codec::DecodeFault;
 use dma_mem::transfer::TransferFault;
 
@@ -155,13 +155,13 @@ pub fn code_of_program(fault: ProgramFault) -> i32
 }
 
 /// Returns the code of the reason that a line of assembly text isn't an instruction.
-pub fn code_of_cause(cause: Cause) -> i32
+pub fn code_of_cause(cause: AsmCause) -> i32
     ensures { result ≡ cause_code cause }
 {
     match cause {
-        Cause::Mnemonic => BAD_MNEMONIC,
-        Cause::Operand => BAD_OPERAND,
-        Cause::Range => NUMBER_OUT_OF_RANGE,
+        AsmCause::Mnemonic => BAD_MNEMONIC,
+        AsmCause::Operand => BAD_OPERAND,
+        AsmCause::Range => NUMBER_OUT_OF_RANGE,
     }
 }
 

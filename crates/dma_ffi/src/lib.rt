@@ -15,13 +15,13 @@
 //! signal handler or from the child of a fork of a process with threads. Not proved: that a close frees everything.
 #![tactic(auto)]
 
+pub mod channel_calls;
 pub mod channel_steps;
-pub mod channels;
 mod codes;
 mod controller;
-pub mod controllers;
+pub mod controller_calls;
+pub mod device_calls;
 mod device_config;
-pub mod devices;
 mod heap_pointer;
 mod kept;
 mod kept_channel;

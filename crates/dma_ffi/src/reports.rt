@@ -5,7 +5,7 @@ ghost use Rattle.dma_ffi.specs.Codes.{answer_code};
 ghost use Rattle.dma_ffi.specs.Reports.{conflict_of, did, end_of, ended, outcome_of, report_of};
 
 use crate::codes::{done, number_of_kind, number_of_result};
-use crate::steps::Taken;
+use crate::steps::StepsTaken;
 use dma_chan::run::RunEnd;
 use dma_engine::{EngineFault, Outcome, Turn};
 
@@ -134,7 +134,7 @@ fn did(taken: u32, turn: u32) -> DmaReport
 }
 
 /// Returns the report of steps.
-pub fn report_of(steps: Taken) -> DmaReport
+pub fn report_of(steps: StepsTaken) -> DmaReport
     ensures { result ≡ report_of steps.count steps.last }
 {
     let taken = steps.count;

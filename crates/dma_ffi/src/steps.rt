@@ -8,7 +8,7 @@ use dma_engine::{Engine, EngineFault, Turn};
 
 /// The steps that were taken.
 #[derive(Clone, Copy, Debug, PartialEq, Eq)]
-pub struct Taken {
+pub struct StepsTaken {
     /// Their number.
     pub count: u32,
     /// What the last one did, if any.
@@ -31,19 +31,19 @@ fn turn_before(started: Option<u32>, moved: u32) -> Option<Turn>
 ///
 /// Fails with the refusal of the first step. A refusal of a later step isn't reported: it changed nothing, so the call
 /// returns the steps before it, and the next call takes the refused step again.
-pub fn take_steps(engine: &mut Engine, ch: u8, most: u32) -> Result<Taken, EngineFault>
+pub fn take_steps(engine: &mut Engine, ch: u8, most: u32) -> Result<StepsTaken, EngineFault>
     ensures { AnswersSteps engine.old.view ch most (steps_answer result) engine.new.view }
 {
     let steps = engine.advance(ch, most);
     let count = steps.steps_before();
     let last = turn_before(steps.started, steps.moved);
     match steps.last {
-        None => Ok(Taken { count, last }),
-        Some(Ok(turn)) => Ok(Taken {
+        None => Ok(StepsTaken { count, last }),
+        Some(Ok(turn)) => Ok(StepsTaken {
             count: count + 1,
             last: Some(turn),
         }),
         Some(Err(fault)) if count == 0 => Err(fault),
-        Some(Err(_)) => Ok(Taken { count, last }),
+        Some(Err(_)) => Ok(StepsTaken { count, last }),
     }
 }

@@ -10,8 +10,8 @@ use Rattle.dma_insn.specs.declared.insn.Reg.TheVariants.{Sar, Ccr, Dar}
 use Rattle.dma_insn.specs.declared.insn.Counter.{Counter}
 use Rattle.dma_insn.specs.declared.insn.Insn.{Insn}
 use Rattle.dma_insn.specs.declared.insn.Insn.TheVariants.{Ld, St, Rmb, Wmb, Nop, End, Lp, LpEnd, Sev, Wfe}
-use Rattle.dma_insn.specs.declared.assembler.Cause.{Cause}
-use Rattle.dma_insn.specs.declared.assembler.Cause.TheVariants.{Mnemonic, Operand, Range}
+use Rattle.dma_insn.specs.declared.assembler.AsmCause.{AsmCause}
+use Rattle.dma_insn.specs.declared.assembler.AsmCause.TheVariants.{Mnemonic, Operand, Range}
 use Rattle.dma_insn.specs.AssemblyText.{Statement, dmaend, dmald, dmast, dmarmb, dmawmb, dmanop, dmalp, dmalpend, dmasev, dmawfe, dmamov, IsDecimal, IsWritten, insn_of, counter_of, register_word, value_word, names, first_of}
 use Rattle.std.specs.List.{list_any}
 use Rattle.dma_insn.specs.LineReading.{◌>>=◌, capped, number_of, value_of, register_of, counter_at, times_at, back_at, event_at, loop_line, loop_end_line, signal_line, wait_line, set_line, bare_line, line_in}
@@ -109,7 +109,7 @@ line_in_written words (dmawfe e true) h = ap line_in h.words_are ∙ wait_invali
 line_in_written words (dmamov r v) h = ap line_in h.words_are ∙ set_read r v h.in_range
 
 -- What the result of reading a line's words says about them.
-abbrev pub IsReported : List (List ℕ) → Result Insn Cause → Type 0
+abbrev pub IsReported : List (List ℕ) → Result Insn AsmCause → Type 0
 IsReported words (Ok i) = (s : Statement) × IsWritten words s × (insn_of s ≡ Some i)
 IsReported words (Err Mnemonic) = list_any (λ name. bytes_eq (first_of words) name) names ≡ false
 IsReported words (Err Operand) = list_any (λ name. bytes_eq (first_of words) name) names ≡ true
@@ -120,7 +120,7 @@ reported_insn words s None e h = (s, h, e)
 reported_insn words s (Some i) e h = (s, h, e)
 
 -- words that are read as a statement's
-reported_written : (words : List (List ℕ)) (s : Statement) (r : Result Insn Cause) → IsWritten words s → r ≡ ok_or (insn_of s) Range → IsReported words r
+reported_written : (words : List (List ℕ)) (s : Statement) (r : Result Insn AsmCause) → IsWritten words s → r ≡ ok_or (insn_of s) Range → IsReported words r
 reported_written words s r h e = subst (IsReported words) (sym e) (reported_insn words s (insn_of s) refl h)
 
 bare_reported : (name : List ℕ) (i : Insn) (words : List (List ℕ)) → list_any (λ x. bytes_eq name x) names ≡ true → IsReported (name ∷ []) (Ok i) → IsReported (name ∷ words) (bare_line i words)
@@ -220,7 +220,7 @@ set_reported (a ∷ b ∷ []) = set_reported_by a b (register_of a) (value_of b)
 set_reported (a ∷ b ∷ c ∷ rest) = refl
 
 -- one test of the chain of names
-name_step : (word : List ℕ) (words : List (List ℕ)) (name : List ℕ) (here rest : Result Insn Cause) (b : Bool) → bytes_eq word name ≡ b
+name_step : (word : List ℕ) (words : List (List ℕ)) (name : List ℕ) (here rest : Result Insn AsmCause) (b : Bool) → bytes_eq word name ≡ b
     → IsReported (name ∷ words) here → (b ≡ false → IsReported (word ∷ words) rest) → IsReported (word ∷ words) (cond b here rest)
 name_step word words name here rest true e h more =
     subst (λ (w : List ℕ). IsReported (w ∷ words) here) (sym (same_text word name (sym e))) h

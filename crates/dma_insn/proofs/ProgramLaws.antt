@@ -7,18 +7,18 @@ use Rattle.std.specs.Str.{bytes_eq}
 use Rattle.std.proofs.lemmas.Bool.{leb-true, leb-false, le-leb, lt-leb, false≢true}
 use Rattle.dma_insn.specs.Spelling.{spelling}
 use Rattle.dma_insn.specs.declared.insn.Insn.{Insn}
-use Rattle.dma_insn.specs.declared.assembler.Cause.{Cause}
-use Rattle.dma_insn.specs.declared.assembler.Cause.TheVariants.{Mnemonic, Operand, Range}
+use Rattle.dma_insn.specs.declared.assembler.AsmCause.{AsmCause}
+use Rattle.dma_insn.specs.declared.assembler.AsmCause.TheVariants.{Mnemonic, Operand, Range}
 use Rattle.dma_insn.specs.declared.assembler.AsmFault.{AsmFault}
 use Rattle.dma_insn.specs.declared.assembler.AsmFault.TheVariants.{Line, ProgramTooLong, NoMemory}
-use Rattle.dma_insn.specs.AssemblyText.{text_lines, words_of, is_skipped, Statement, dmaend, dmald, dmast, dmarmb, dmawmb, dmanop, dmalp, dmalpend, dmasev, dmawfe, dmamov, IsWritten, insn_of, names, first_of, Writes, IsCause, HasCause, WritesFirst, WriteAll, joined, most_bytes, Assembles, IsLineAt, IsFirstFault}
+use Rattle.dma_insn.specs.AssemblyText.{text_lines, words_of, is_skipped, Statement, dmaend, dmald, dmast, dmarmb, dmawmb, dmanop, dmalp, dmalpend, dmasev, dmawfe, dmamov, IsWritten, insn_of, names, first_of, Writes, IsCause, HasCause, WritesFirst, WriteAll, joined, most_program_bytes, Assembles, IsLineAt, IsFirstFault}
 use Rattle.dma_insn.specs.LineReading.{◌>>=◌, at_line, with_insn, line_in, after_line, after_lines, assembled, ReadingReports, ResultIsOrNoMemory}
 use Rattle.dma_insn.proofs.LineLaws.{IsReported, line_in_reported, line_in_written}
 
-insn_err : (i : Insn) (cause : Cause) (r : Result Insn Cause) → r ≡ Ok i → r ≡ Err cause → ⊥
+insn_err : (i : Insn) (cause : AsmCause) (r : Result Insn AsmCause) → r ≡ Ok i → r ≡ Err cause → ⊥
 insn_err i cause r p q = cc
 
-range_operand : (r : Result Insn Cause) → r ≡ Err Range → r ≡ Err Operand → ⊥
+range_operand : (r : Result Insn AsmCause) → r ≡ Err Range → r ≡ Err Operand → ⊥
 range_operand r p q = cc
 
 not_operand : (o : Option Insn) → ok_or o Range ≡ Err Operand → ⊥
@@ -26,12 +26,12 @@ not_operand None e = range_operand (Err Range) refl e
 not_operand (Some i) e = insn_err i Operand (Ok i) refl e
 
 -- What the result of reading a line's words says about the line.
-cause_reported : (line : List ℕ) (cause : Cause) → line_in (words_of line) ≡ Err cause → IsReported (words_of line) (Err cause) → IsCause line cause
+cause_reported : (line : List ℕ) (cause : AsmCause) → line_in (words_of line) ≡ Err cause → IsReported (words_of line) (Err cause) → IsCause line cause
 cause_reported line Mnemonic e reported = reported
 cause_reported line Operand e reported = (reported, λ s written. not_operand (insn_of s) (sym (line_in_written (words_of line) s written) ∙ e))
 cause_reported line Range e reported = reported
 
-cause_of : (line : List ℕ) (cause : Cause) → line_in (words_of line) ≡ Err cause → IsCause line cause
+cause_of : (line : List ℕ) (cause : AsmCause) → line_in (words_of line) ≡ Err cause → IsCause line cause
 cause_of line cause e = cause_reported line cause e (subst (IsReported (words_of line)) e (line_in_reported (words_of line)))
 
 written_by : (line : List ℕ) (i : Insn) → is_skipped line ≡ false → line_in (words_of line) ≡ Ok i → Writes line i
@@ -49,15 +49,15 @@ pub record Place (n : ℕ) (program : List ℕ) (lines : List (List ℕ)) (line 
   pub lines_are : lines ≡ before ++ line ∷ after
   pub number : m ≡ n + (length before + 1)
   pub writes : WriteAll before insns
-  pub fits : length (program ++ joined insns) ≤ most_bytes
+  pub fits : length (program ++ joined insns) ≤ most_program_bytes
 
 pub record Whole (program : List ℕ) (lines : List (List ℕ)) (bytes : List ℕ) : Type 0 where
   pub insns : List Insn
   pub writes : WriteAll lines insns
   pub bytes_are : bytes ≡ program ++ joined insns
-  pub fits : length bytes ≤ most_bytes
+  pub fits : length bytes ≤ most_program_bytes
 
-pub record Fails (n : ℕ) (program : List ℕ) (lines : List (List ℕ)) (m : ℕ) (cause : Cause) : Type 0 where
+pub record Fails (n : ℕ) (program : List ℕ) (lines : List (List ℕ)) (m : ℕ) (cause : AsmCause) : Type 0 where
   pub line : List ℕ
   pub insns : List Insn
   pub place : Place n program lines line m insns
@@ -69,7 +69,7 @@ pub record Passes (n : ℕ) (program : List ℕ) (lines : List (List ℕ)) (m : 
   pub insn : Insn
   pub place : Place n program lines line m insns
   pub writes : Writes line insn
-  pub long : most_bytes < length (program ++ joined insns) + length (spelling insn)
+  pub long : most_program_bytes < length (program ++ joined insns) + length (spelling insn)
 
 abbrev pub FaultOf : ℕ → List ℕ → List (List ℕ) → AsmFault → Type 0
 FaultOf n program lines (Line m cause) = Fails n program lines m cause
@@ -104,10 +104,10 @@ place_more n m program line at lines i insns w p = record {
   lines_are = ap (λ (l : List (List ℕ)). line ∷ l) p.lines_are;
   number = let number = p.number in omega arith;
   writes = write_more line p.before i insns w p.writes;
-  fits = subst (λ (l : List ℕ). length l ≤ most_bytes) (append_assoc program (spelling i) (joined insns)) p.fits;
+  fits = subst (λ (l : List ℕ). length l ≤ most_program_bytes) (append_assoc program (spelling i) (joined insns)) p.fits;
 }
 
-place_here : (n : ℕ) (program line : List ℕ) (lines : List (List ℕ)) → length program ≤ most_bytes → Place n program (line ∷ lines) line (n + 1) []
+place_here : (n : ℕ) (program line : List ℕ) (lines : List (List ℕ)) → length program ≤ most_program_bytes → Place n program (line ∷ lines) line (n + 1) []
 place_here n program line lines small = record {
   before = [];
   after = lines;
@@ -138,13 +138,13 @@ outcome_more n program line lines i (Err (ProgramTooLong m)) w h =
       insn = h.insn;
       place = place_more n m program line h.line lines i h.insns w h.place;
       writes = h.writes;
-      long = subst (λ (l : List ℕ). most_bytes < length l + length (spelling h.insn)) (append_assoc program (spelling i) (joined h.insns)) h.long;
+      long = subst (λ (l : List ℕ). most_program_bytes < length l + length (spelling h.insn)) (append_assoc program (spelling i) (joined h.insns)) h.long;
     }
 outcome_more n program line lines i (Err NoMemory) w h = h
 
 -- a line that is not skipped, by what its words are read as, and whether there is room
-outcome_room : (n : ℕ) (program line : List ℕ) (lines : List (List ℕ)) (i : Insn) (b : Bool) → leb (length program + length (spelling i)) 8192 ≡ b → length program ≤ most_bytes → Writes line i
-    → ((next : List ℕ) → length next ≤ most_bytes → Outcome (n + 1) next lines (after_lines (n + 1) next lines))
+outcome_room : (n : ℕ) (program line : List ℕ) (lines : List (List ℕ)) (i : Insn) (b : Bool) → leb (length program + length (spelling i)) 8192 ≡ b → length program ≤ most_program_bytes → Writes line i
+    → ((next : List ℕ) → length next ≤ most_program_bytes → Outcome (n + 1) next lines (after_lines (n + 1) next lines))
     → Outcome n program (line ∷ lines) (cond b (Ok (program ++ spelling i)) (Err (ProgramTooLong (n + 1))) >>= λ next. after_lines (n + 1) next lines)
 outcome_room n program line lines i true e small w more =
     let room : length program + length (spelling i) ≤ 8192 = leb-true _ 8192 e in
@@ -155,21 +155,21 @@ outcome_room n program line lines i false e small w more =
     let same = length-append program [] in
     record { line = line; insns = []; insn = i; place = place_here n program line lines small; writes = w; long = omega arith }
 
-outcome_line : (n : ℕ) (program line : List ℕ) (lines : List (List ℕ)) (r : Result Insn Cause) → line_in (words_of line) ≡ r → length program ≤ most_bytes → is_skipped line ≡ false
-    → ((next : List ℕ) → length next ≤ most_bytes → Outcome (n + 1) next lines (after_lines (n + 1) next lines))
+outcome_line : (n : ℕ) (program line : List ℕ) (lines : List (List ℕ)) (r : Result Insn AsmCause) → line_in (words_of line) ≡ r → length program ≤ most_program_bytes → is_skipped line ≡ false
+    → ((next : List ℕ) → length next ≤ most_program_bytes → Outcome (n + 1) next lines (after_lines (n + 1) next lines))
     → Outcome n program (line ∷ lines) ((at_line (n + 1) r >>= with_insn (n + 1) program) >>= λ next. after_lines (n + 1) next lines)
 outcome_line n program line lines (Err cause) e small taken more =
     record { line = line; insns = []; place = place_here n program line lines small; cause_is = record { taken = taken; cause_is = cause_of line cause e } }
 outcome_line n program line lines (Ok i) e small taken more =
     outcome_room n program line lines i (leb (length program + length (spelling i)) 8192) refl small (written_by line i taken e) more
 
-outcome_by : (n : ℕ) (program line : List ℕ) (lines : List (List ℕ)) (b : Bool) → is_skipped line ≡ b → length program ≤ most_bytes
-    → ((next : List ℕ) → length next ≤ most_bytes → Outcome (n + 1) next lines (after_lines (n + 1) next lines))
+outcome_by : (n : ℕ) (program line : List ℕ) (lines : List (List ℕ)) (b : Bool) → is_skipped line ≡ b → length program ≤ most_program_bytes
+    → ((next : List ℕ) → length next ≤ most_program_bytes → Outcome (n + 1) next lines (after_lines (n + 1) next lines))
     → Outcome n program (line ∷ lines) (cond b (Ok program) (at_line (n + 1) (line_in (words_of line)) >>= with_insn (n + 1) program) >>= λ next. after_lines (n + 1) next lines)
 outcome_by n program line lines true e small more = outcome_skipped n program line lines _ e (more program small)
 outcome_by n program line lines false e small more = outcome_line n program line lines (line_in (words_of line)) refl small e more
 
-outcome : (lines : List (List ℕ)) (n : ℕ) (program : List ℕ) → length program ≤ most_bytes → Outcome n program lines (after_lines n program lines)
+outcome : (lines : List (List ℕ)) (n : ℕ) (program : List ℕ) → length program ≤ most_program_bytes → Outcome n program lines (after_lines n program lines)
 unfolding after_line
 outcome [] n program small =
     let same = length-append program [] in
@@ -186,7 +186,7 @@ read_skipped : (n : ℕ) (program line : List ℕ) → is_skipped line ≡ true 
 unfolding after_line
 read_skipped n program line e = rw e refl
 
-read_fault : (n : ℕ) (program line : List ℕ) (cause : Cause) → is_skipped line ≡ false → line_in (words_of line) ≡ Err cause → after_line n program line ≡ Err (Line n cause)
+read_fault : (n : ℕ) (program line : List ℕ) (cause : AsmCause) → is_skipped line ≡ false → line_in (words_of line) ≡ Err cause → after_line n program line ≡ Err (Line n cause)
 unfolding after_line
 read_fault n program line cause taken e = rw (taken, e) refl
 
@@ -197,8 +197,8 @@ read_long n program line i taken e long = rw (taken, e, lt-leb _ 8192 long) refl
 -- the same, in front of further lines
 again_by : (b : Bool) (line : List ℕ) (lines after : List (List ℕ)) (n : ℕ) (program : List ℕ) (is : List Insn) → is_skipped line ≡ b
     → MatchBool b (WriteAll lines is) (WritesFirst line is (λ rest. WriteAll lines rest))
-    → ((next : List ℕ) (js : List Insn) → WriteAll lines js → length (next ++ joined js) ≤ most_bytes → after_lines (n + 1) next (lines ++ after) ≡ after_lines (n + 1 + length lines) (next ++ joined js) after)
-    → length (program ++ joined is) ≤ most_bytes → after_lines n program (line ∷ (lines ++ after)) ≡ after_lines (n + 1 + length lines) (program ++ joined is) after
+    → ((next : List ℕ) (js : List Insn) → WriteAll lines js → length (next ++ joined js) ≤ most_program_bytes → after_lines (n + 1) next (lines ++ after) ≡ after_lines (n + 1 + length lines) (next ++ joined js) after)
+    → length (program ++ joined is) ≤ most_program_bytes → after_lines n program (line ∷ (lines ++ after)) ≡ after_lines (n + 1 + length lines) (program ++ joined is) after
 again_by true line lines after n program is e h more room = rw (read_skipped (n + 1) program line e) (more program is h room)
 again_by false line lines after n program is e h more room =
     let all : program ++ joined is ≡ (program ++ spelling h.first) ++ joined h.rest = ap (λ (js : List Insn). program ++ joined js) h.are ∙ sym (append_assoc program (spelling h.first) (joined h.rest)) in
@@ -208,7 +208,7 @@ again_by false line lines after n program is e h more room =
     rw (read_room (n + 1) program line h.first e (writes_read line h.first h.writes) (omega arith))
     (more (program ++ spelling h.first) h.rest h.more (omega arith) ∙ ap (λ (p : List ℕ). after_lines (n + 1 + length lines) p after) (sym all))
 
-again_before : (lines after : List (List ℕ)) (n : ℕ) (program : List ℕ) (is : List Insn) → WriteAll lines is → length (program ++ joined is) ≤ most_bytes
+again_before : (lines after : List (List ℕ)) (n : ℕ) (program : List ℕ) (is : List Insn) → WriteAll lines is → length (program ++ joined is) ≤ most_program_bytes
     → after_lines n program (lines ++ after) ≡ after_lines (n + length lines) (program ++ joined is) after
 again_before [] after n program is h room =
     let e : n ≡ n + 0 = omega arith in
@@ -218,7 +218,7 @@ again_before (line ∷ lines) after n program is h room =
     again_by (is_skipped line) line lines after n program is refl h (λ next js written fits. again_before lines after (n + 1) next js written fits) room
     ∙ ap (λ (m : ℕ). after_lines m (program ++ joined is) after) e
 
-again : (lines : List (List ℕ)) (n : ℕ) (program : List ℕ) (is : List Insn) → WriteAll lines is → length (program ++ joined is) ≤ most_bytes → after_lines n program lines ≡ Ok (program ++ joined is)
+again : (lines : List (List ℕ)) (n : ℕ) (program : List ℕ) (is : List Insn) → WriteAll lines is → length (program ++ joined is) ≤ most_program_bytes → after_lines n program lines ≡ Ok (program ++ joined is)
 again lines n program is h room = ap (after_lines n program) (sym (append-nil lines)) ∙ again_before lines [] n program is h room
 
 -- A text that assembles is read as its bytes.
@@ -307,7 +307,7 @@ written_name words (dmawfe e true) h = rw h.words_are refl
 written_name words (dmamov r v) h = rw h.words_are refl
 
 -- What a line with a cause is read as.
-cause_by : (line : List ℕ) (cause : Cause) (r : Result Insn Cause) → line_in (words_of line) ≡ r → IsReported (words_of line) r → IsCause line cause → r ≡ Err cause
+cause_by : (line : List ℕ) (cause : AsmCause) (r : Result Insn AsmCause) → line_in (words_of line) ≡ r → IsReported (words_of line) r → IsCause line cause → r ≡ Err cause
 cause_by line Mnemonic (Ok i) e reported h = absurd (false≢true (sym h ∙ written_name (words_of line) reported.0 reported.1))
 cause_by line Mnemonic (Err Mnemonic) e reported h = refl
 cause_by line Mnemonic (Err Operand) e reported h = absurd (false≢true (sym h ∙ reported))
@@ -318,7 +318,7 @@ cause_by line Operand (Err Operand) e reported h = refl
 cause_by line Operand (Err Range) e reported h = absurd (h.1 reported.0 reported.1)
 cause_by line Range r e reported h = sym e ∙ line_in_written (words_of line) h.0 h.1 ∙ ap (λ (o : Option Insn). ok_or o Range) h.2
 
-cause_read : (line : List ℕ) (cause : Cause) → IsCause line cause → line_in (words_of line) ≡ Err cause
+cause_read : (line : List ℕ) (cause : AsmCause) → IsCause line cause → line_in (words_of line) ≡ Err cause
 cause_read line cause h = cause_by line cause (line_in (words_of line)) refl (line_in_reported (words_of line)) h
 
 -- The lines before a place are read as what they write.

@@ -15,7 +15,7 @@ use Rattle.dma_insn.specs.declared.insn.Insn.{Insn}
 use Rattle.dma_insn.specs.declared.insn.Insn.TheVariants.{Mov, Ld, St, Rmb, Wmb, Nop, End, Lp, LpEnd, Sev, Wfe}
 use Rattle.dma_insn.specs.Spelling.{HasRanges}
 use Rattle.dma_text.specs.Digits.{hex_digits}
-use Rattle.dma_insn.specs.AssemblyText.{onto_first, text_lines, words_of, is_skipped, IsDecimal, value_word, Statement, dmaend, dmald, dmast, dmarmb, dmawmb, dmanop, dmalp, dmalpend, dmasev, dmawfe, dmamov, IsWritten, insn_of, Writes, WriteAll, ProgramText, joined, most_bytes, Assembles}
+use Rattle.dma_insn.specs.AssemblyText.{onto_first, text_lines, words_of, is_skipped, IsDecimal, value_word, Statement, dmaend, dmald, dmast, dmarmb, dmawmb, dmanop, dmalp, dmalpend, dmasev, dmawfe, dmamov, IsWritten, insn_of, Writes, WriteAll, ProgramText, joined, most_program_bytes, Assembles}
 use Rattle.dma_insn.specs.Disassembly.{AllInRange, insn_text, text_of, Disassembles, DisassemblyAssembles}
 use Rattle.dma_insn.proofs.ProgramLaws.{write_more, assembles_once}
 
@@ -239,7 +239,7 @@ disassembled bytes is h e = record {
 pub disassembles : (bytes text : List ℕ) (is : List Insn) → AllInRange is → bytes ≡ joined is → text ≡ text_of is → Disassembles bytes text
 disassembles bytes text is h e t = subst (Disassembles bytes) (sym t) (disassembled bytes is h e)
 
-pub text_assembles : (bytes text : List ℕ) → length bytes ≤ most_bytes → Disassembles bytes text → Assembles text bytes
+pub text_assembles : (bytes text : List ℕ) → length bytes ≤ most_program_bytes → Disassembles bytes text → Assembles text bytes
 text_assembles bytes text small d = record {
   insns = d.insns;
   text_is = d.program;

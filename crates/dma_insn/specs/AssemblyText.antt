@@ -13,8 +13,8 @@ use Rattle.dma_insn.specs.declared.insn.Counter.{Counter}
 use Rattle.dma_insn.specs.declared.insn.Counter.TheVariants.{Lc0, Lc1}
 use Rattle.dma_insn.specs.declared.insn.Insn.{Insn}
 use Rattle.dma_insn.specs.declared.insn.Insn.TheVariants.{Mov, Ld, St, Rmb, Wmb, Nop, End, Lp, LpEnd, Sev, Wfe}
-use Rattle.dma_insn.specs.declared.assembler.Cause.{Cause}
-use Rattle.dma_insn.specs.declared.assembler.Cause.TheVariants.{Mnemonic, Operand, Range}
+use Rattle.dma_insn.specs.declared.assembler.AsmCause.{AsmCause}
+use Rattle.dma_insn.specs.declared.assembler.AsmCause.TheVariants.{Mnemonic, Operand, Range}
 use Rattle.dma_insn.specs.declared.assembler.AsmFault.{AsmFault}
 use Rattle.dma_insn.specs.declared.assembler.AsmFault.TheVariants as faults
 
@@ -147,13 +147,13 @@ begins_with_name line = list_any (λ name. bytes_eq (first_of (words_of line)) n
 -- Why the words of a line write no instruction. `Mnemonic`: the first word is not a name. `Operand`: the first word is
 -- a name, and the words are not those of a statement. `Range`: the words are those of a statement, and a number of it
 -- is out of range.
-abbrev pub IsCause : List ℕ → Cause → Type 0
+abbrev pub IsCause : List ℕ → AsmCause → Type 0
 IsCause line Mnemonic = begins_with_name line ≡ false
 IsCause line Operand = (begins_with_name line ≡ true) × ((s : Statement) → IsWritten (words_of line) s → ⊥)
 IsCause line Range = (s : Statement) × IsWritten (words_of line) s × (insn_of s ≡ None)
 
 -- The line is not skipped, and the cause applies to it.
-pub record HasCause (line : List ℕ) (cause : Cause) : Type 0 where
+pub record HasCause (line : List ℕ) (cause : AsmCause) : Type 0 where
   pub taken : is_skipped line ≡ false
   pub cause_is : IsCause line cause
 
@@ -180,15 +180,15 @@ abbrev pub joined : List Insn → List ℕ
 joined is = flat_map spelling is
 
 -- the most bytes that a program has
-abbrev pub most_bytes : ℕ
-most_bytes = 8192
+abbrev pub most_program_bytes : ℕ
+most_program_bytes = 8192
 
 -- The text assembles to the bytes: its lines write instructions with these bytes, of which there are at most 8,192.
 pub record Assembles (text bytes : List ℕ) : Type 0 where
   pub insns : List Insn
   pub text_is : ProgramText text insns
   pub bytes_are : bytes ≡ joined insns
-  pub fits : length bytes ≤ most_bytes
+  pub fits : length bytes ≤ most_program_bytes
 
 -- The line is line n of the text, and the lines before it write the instructions, which have at most 8,192 bytes.
 pub record IsLineAt (text line : List ℕ) (n : ℕ) (insns : List Insn) : Type 0 where
@@ -197,7 +197,7 @@ pub record IsLineAt (text line : List ℕ) (n : ℕ) (insns : List Insn) : Type 
   pub lines_are : text_lines text ≡ before ++ line ∷ after
   pub number : n ≡ length before + 1
   pub writes : WriteAll before insns
-  pub fits : length (joined insns) ≤ most_bytes
+  pub fits : length (joined insns) ≤ most_program_bytes
 
 -- The first fault of a text. `Line`: line n has the cause, and the lines before it have no fault. `ProgramTooLong`:
 -- line n writes an instruction with which the program has more than 8,192 bytes, and the lines before it have no fault.
@@ -207,5 +207,5 @@ IsFirstFault text (faults.Line n cause) =
     (line : List ℕ) × (insns : List Insn) × IsLineAt text line n insns × HasCause line cause
 IsFirstFault text (faults.ProgramTooLong n) =
     (line : List ℕ) × (insns : List Insn) × (i : Insn) × IsLineAt text line n insns × Writes line i
-    × (most_bytes < length (joined insns) + length (spelling i))
+    × (most_program_bytes < length (joined insns) + length (spelling i))
 IsFirstFault text faults.NoMemory = (bytes : List ℕ) × Assembles text bytes

@@ -3,7 +3,7 @@ use Rattle.std.specs.Prelude.{◌≡◌, ℕ, ◌<◌, ◌≤◌, true, false, �
 use Rattle.std.specs.List.{concat, list_any}
 use Rattle.dma_insn.specs.Spelling.{HasRanges, IsSpelledAt, IsRefusedFor}
 use Rattle.dma_insn.specs.Decoding.{decoded}
-use Rattle.dma_insn.specs.AssemblyText.{register_word, value_word, text_lines, is_skipped, ProgramText, joined, most_bytes, Assembles}
+use Rattle.dma_insn.specs.AssemblyText.{register_word, value_word, text_lines, is_skipped, ProgramText, joined, most_program_bytes, Assembles}
 use Rattle.dma_insn.specs.declared.insn.Counter.{Counter}
 use Rattle.dma_insn.specs.declared.insn.Counter.TheVariants.{Lc0, Lc1}
 use Rattle.dma_insn.specs.declared.insn.Insn.{Insn}
@@ -86,7 +86,7 @@ IsDisFault bytes NoMemory = (text : List ℕ) × Disassembles bytes text
 -- The disassembly of a program of at most 8,192 bytes assembles to the same bytes, and to no others.
 abbrev pub DisassemblyAssembles : Type 0
 DisassemblyAssembles =
-    (bytes text : List ℕ) → length bytes ≤ most_bytes → Disassembles bytes text
+    (bytes text : List ℕ) → length bytes ≤ most_program_bytes → Disassembles bytes text
     → Assembles text bytes × ((others : List ℕ) → Assembles text others → others ≡ bytes)
 
 -- Each list of bytes has a text, or an offset at which no instruction begins, right after the longest front of encoded

@@ -4,14 +4,14 @@ use Rattle.std.specs.Prelude.{◌≡◌, ◌≢◌, ◌↔◌, ℕ, ◌+◌, ◌
 use Rattle.std.specs.Option.{option_and_then, ok_or}
 use Rattle.std.specs.Str.{bytes_eq}
 use Rattle.dma_insn.specs.Spelling.{spelling}
-use Rattle.dma_insn.specs.AssemblyText.{words_of, text_lines, is_skipped, counter_of, most_bytes, Assembles, IsFirstFault}
+use Rattle.dma_insn.specs.AssemblyText.{words_of, text_lines, is_skipped, counter_of, most_program_bytes, Assembles, IsFirstFault}
 use Rattle.dma_insn.specs.declared.insn.Reg.{Reg}
 use Rattle.dma_insn.specs.declared.insn.Reg.TheVariants.{Sar, Ccr, Dar}
 use Rattle.dma_insn.specs.declared.insn.Counter.{Counter}
 use Rattle.dma_insn.specs.declared.insn.Insn.{Insn}
 use Rattle.dma_insn.specs.declared.insn.Insn.TheVariants.{Mov, Ld, St, Rmb, Wmb, Nop, End, Lp, LpEnd, Sev, Wfe}
-use Rattle.dma_insn.specs.declared.assembler.Cause.{Cause}
-use Rattle.dma_insn.specs.declared.assembler.Cause.TheVariants.{Mnemonic, Operand, Range}
+use Rattle.dma_insn.specs.declared.assembler.AsmCause.{AsmCause}
+use Rattle.dma_insn.specs.declared.assembler.AsmCause.TheVariants.{Mnemonic, Operand, Range}
 use Rattle.dma_insn.specs.declared.assembler.AsmFault.{AsmFault}
 use Rattle.dma_insn.specs.declared.assembler.AsmFault.TheVariants.{Line, ProgramTooLong, NoMemory}
 
@@ -32,18 +32,18 @@ words_after [] = []
 words_after (space ∷ bytes) = words_of bytes
 
 -- succeeds without words, else fails with `Operand`
-abbrev pub no_word : List (List ℕ) → Result (Unit {0}) Cause
+abbrev pub no_word : List (List ℕ) → Result (Unit {0}) AsmCause
 no_word [] = Ok tt
 no_word (a ∷ rest) = Err Operand
 
 -- the only word; `Operand` if there is not exactly one
-abbrev pub one_word : List (List ℕ) → Result (List ℕ) Cause
+abbrev pub one_word : List (List ℕ) → Result (List ℕ) AsmCause
 one_word [] = Err Operand
 one_word (a ∷ []) = Ok a
 one_word (a ∷ b ∷ rest) = Err Operand
 
 -- the only two words; `Operand` if there are not exactly two
-abbrev pub two_words : List (List ℕ) → Result (List ℕ × List ℕ) Cause
+abbrev pub two_words : List (List ℕ) → Result (List ℕ × List ℕ) AsmCause
 two_words [] = Err Operand
 two_words (a ∷ []) = Err Operand
 two_words (a ∷ b ∷ []) = Ok (a, b)
@@ -69,7 +69,7 @@ number_of (c ∷ []) = digits_from 0 (c ∷ [])
 number_of (c ∷ d ∷ rest) = if c == 48 then None else digits_from 0 (c ∷ d ∷ rest)
 
 -- the same, with `Operand` in place of `None`
-abbrev pub number_at : List ℕ → Result ℕ Cause
+abbrev pub number_at : List ℕ → Result ℕ AsmCause
 number_at word = ok_or (number_of word) Operand
 
 -- the value of a hexadecimal digit in capitals
@@ -89,7 +89,7 @@ value_of (a ∷ []) = None
 value_of [] = None
 
 -- the same, with `Operand` in place of `None`
-abbrev pub value_at : List ℕ → Result ℕ Cause
+abbrev pub value_at : List ℕ → Result ℕ AsmCause
 value_at word = ok_or (value_of word) Operand
 
 -- the register of a name
@@ -100,28 +100,28 @@ register_of word =
     if bytes_eq word (codes "DAR") then Some Dar else None))
 
 -- the same, with `Operand` in place of `None`
-abbrev pub register_at : List ℕ → Result Reg Cause
+abbrev pub register_at : List ℕ → Result Reg AsmCause
 register_at word = ok_or (register_of word) Operand
 
 -- the loop counter of a number; `Range` above 1
-abbrev pub counter_at : ℕ → Result Counter Cause
+abbrev pub counter_at : ℕ → Result Counter AsmCause
 counter_at c = ok_or (counter_of c) Range
 
 -- the number of times that a loop runs; `Range` if it is not 1 to 256
-abbrev pub times_at : ℕ → Result ℕ Cause
+abbrev pub times_at : ℕ → Result ℕ AsmCause
 times_at n = if nat_le 1 n && nat_le n 256 then Ok n else Err Range
 
 -- the number of bytes of a jump back; `Range` above 255
-abbrev pub back_at : ℕ → Result ℕ Cause
+abbrev pub back_at : ℕ → Result ℕ AsmCause
 back_at b = if nat_le b 255 then Ok b else Err Range
 
 -- the number of an event; `Range` above 31
-abbrev pub event_at : ℕ → Result ℕ Cause
+abbrev pub event_at : ℕ → Result ℕ AsmCause
 event_at e = if nat_le e 31 then Ok e else Err Range
 
 -- the two numbers of exactly two words, capped at 65,535 and not yet tested against their ranges; `Operand` for any
 -- other words
-abbrev pub two_numbers : List (List ℕ) → Result (ℕ × ℕ) Cause
+abbrev pub two_numbers : List (List ℕ) → Result (ℕ × ℕ) AsmCause
 two_numbers words = do
   w ← two_words words
   a ← number_at w.0
@@ -129,7 +129,7 @@ two_numbers words = do
   Ok (a, b)
 
 -- the instruction of the words after DMALP
-abbrev pub loop_line : List (List ℕ) → Result Insn Cause
+abbrev pub loop_line : List (List ℕ) → Result Insn AsmCause
 loop_line words = do
   n ← two_numbers words
   counter ← counter_at n.0
@@ -137,7 +137,7 @@ loop_line words = do
   Ok (Lp counter times)
 
 -- the instruction of the words after DMALPEND
-abbrev pub loop_end_line : List (List ℕ) → Result Insn Cause
+abbrev pub loop_end_line : List (List ℕ) → Result Insn AsmCause
 loop_end_line words = do
   n ← two_numbers words
   counter ← counter_at n.0
@@ -145,7 +145,7 @@ loop_end_line words = do
   Ok (LpEnd counter back)
 
 -- the instruction of the word after DMASEV
-abbrev pub signal_line : List (List ℕ) → Result Insn Cause
+abbrev pub signal_line : List (List ℕ) → Result Insn AsmCause
 signal_line words = do
   word ← one_word words
   number ← number_at word
@@ -153,14 +153,14 @@ signal_line words = do
   Ok (Sev event)
 
 -- the word of an event, and whether the word `invalid` follows it; `Operand` for any other words
-abbrev pub wait_words : List (List ℕ) → Result (List ℕ × Bool) Cause
+abbrev pub wait_words : List (List ℕ) → Result (List ℕ × Bool) AsmCause
 wait_words [] = Err Operand
 wait_words (a ∷ []) = Ok (a, false)
 wait_words (a ∷ b ∷ []) = if bytes_eq b (codes "invalid") then Ok (a, true) else Err Operand
 wait_words (a ∷ b ∷ c ∷ rest) = Err Operand
 
 -- the instruction of the words after DMAWFE
-abbrev pub wait_line : List (List ℕ) → Result Insn Cause
+abbrev pub wait_line : List (List ℕ) → Result Insn AsmCause
 wait_line words = do
   w ← wait_words words
   number ← number_at w.0
@@ -168,7 +168,7 @@ wait_line words = do
   Ok (Wfe event w.1)
 
 -- the instruction of the words after DMAMOV
-abbrev pub set_line : List (List ℕ) → Result Insn Cause
+abbrev pub set_line : List (List ℕ) → Result Insn AsmCause
 set_line words = do
   w ← two_words words
   register ← register_at w.0
@@ -176,13 +176,13 @@ set_line words = do
   Ok (Mov register value)
 
 -- an instruction that takes no words; `Operand` if there is a word
-abbrev pub bare_line : Insn → List (List ℕ) → Result Insn Cause
+abbrev pub bare_line : Insn → List (List ℕ) → Result Insn AsmCause
 bare_line i words = do
   done ← no_word words
   Ok i
 
 -- the instruction of a name and the words after it, or the first cause that applies
-abbrev pub line_by : List ℕ → List (List ℕ) → Result Insn Cause
+abbrev pub line_by : List ℕ → List (List ℕ) → Result Insn AsmCause
 line_by name words =
     if bytes_eq name (codes "DMAEND") then bare_line End words else (
     if bytes_eq name (codes "DMALD") then bare_line Ld words else (
@@ -197,19 +197,19 @@ line_by name words =
     if bytes_eq name (codes "DMAMOV") then set_line words else Err Mnemonic))))))))))
 
 -- the instruction of a line, by its words, or the first cause that applies
-unfoldable pub line_in : List (List ℕ) → Result Insn Cause
+unfoldable pub line_in : List (List ℕ) → Result Insn AsmCause
 line_in [] = Err Mnemonic
 line_in (name ∷ words) = line_by name words
 
 -- the result of line n, with the line's number added to a cause
-abbrev pub at_line : {A : Type 0} → ℕ → Result A Cause → Result A AsmFault
+abbrev pub at_line : {A : Type 0} → ℕ → Result A AsmCause → Result A AsmFault
 at_line n (Ok x) = Ok x
 at_line n (Err cause) = Err (Line n cause)
 
 -- the bytes of a program with one more instruction, of line n; `ProgramTooLong` if they are more than 8,192
 abbrev pub with_insn : ℕ → List ℕ → Insn → Result (List ℕ) AsmFault
 with_insn n program i =
-    if nat_le (length program + length (spelling i)) most_bytes then Ok (program ++ spelling i) else Err (ProgramTooLong n)
+    if nat_le (length program + length (spelling i)) most_program_bytes then Ok (program ++ spelling i) else Err (ProgramTooLong n)
 
 -- the bytes of a program after line n, or the fault of the line; a skipped line adds nothing
 unfoldable pub after_line : ℕ → List ℕ → List ℕ → Result (List ℕ) AsmFault

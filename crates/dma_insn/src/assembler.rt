@@ -16,7 +16,7 @@ pub const MAX_PROGRAM_BYTES: usize = 8192;
 
 /// Why a line of assembly text is not an instruction, in the order in which the causes are tested.
 #[derive(Clone, Copy, PartialEq, Eq, Debug, Error)]
-pub enum Cause {
+pub enum AsmCause {
     /// The first word is not the name of an instruction. It is empty if the line begins with a space.
     #[error("no instruction has this name")]
     Mnemonic,
@@ -33,7 +33,7 @@ pub enum Cause {
 #[derive(Clone, Copy, PartialEq, Eq, Debug, Error)]
 pub enum AsmFault {
     #[error("line {n}: {cause}")]
-    Line { n: usize, cause: Cause },
+    Line { n: usize, cause: AsmCause },
     /// With this line the program would be longer than 8,192 bytes.
     #[error("line {0}: the program is longer than {max} bytes", max = MAX_PROGRAM_BYTES)]
     ProgramTooLong(usize),

@@ -5,7 +5,7 @@ ghost use Rattle.std.specs.List.{list_all};
 ghost use Rattle.dma_insn.specs.AssemblyText.{text_lines, words_of, is_skipped};
 ghost use Rattle.dma_insn.specs.LineReading.{ResultIs, words_after, no_word, one_word, two_words, wait_words, digit_of, digits_from, number_at, hex_digit_of, hex_from, value_at, register_at, counter_at, times_at, back_at, event_at, two_numbers, loop_line, loop_end_line, signal_line, wait_line, set_line, bare_line, line_by, line_in};
 
-use crate::assembler::Cause;
+use crate::assembler::AsmCause;
 use crate::insn::{Counter, Event, Insn, Reg, Times};
 use dma_text::bytes::{is_text, position_of};
 
@@ -57,45 +57,45 @@ fn is_blank(line: &[u8]) -> bool
 }
 
 // Succeeds if no word is left. Fails with `Operand` otherwise.
-fn no_more(rest: &[u8]) -> Result<(), Cause>
+fn no_more(rest: &[u8]) -> Result<(), AsmCause>
     ensures { result ≡ no_word (words_after rest.now) }
 {
     if next_word(rest).is_some() {
-        return Err(Cause::Operand);
+        return Err(AsmCause::Operand);
     }
     Ok(())
 }
 
 // Returns the one word that is left. Fails with `Operand` for none, or more than one.
-fn one(rest: &[u8]) -> Result<&[u8], Cause>
+fn one(rest: &[u8]) -> Result<&[u8], AsmCause>
     ensures { ResultIs (λ a. a.now) result (one_word (words_after rest.now)) }
 {
-    let (a, rest) = next_word(rest).ok_or(Cause::Operand)?;
+    let (a, rest) = next_word(rest).ok_or(AsmCause::Operand)?;
     no_more(rest)?;
     Ok(a)
 }
 
 // Returns the two words that are left. Fails with `Operand` for fewer or more.
-fn two(rest: &[u8]) -> Result<(&[u8], &[u8]), Cause>
+fn two(rest: &[u8]) -> Result<(&[u8], &[u8]), AsmCause>
     ensures { ResultIs (λ w. (w.0.now, w.1.now)) result (two_words (words_after rest.now)) }
 {
-    let (a, rest) = next_word(rest).ok_or(Cause::Operand)?;
-    let (b, rest) = next_word(rest).ok_or(Cause::Operand)?;
+    let (a, rest) = next_word(rest).ok_or(AsmCause::Operand)?;
+    let (b, rest) = next_word(rest).ok_or(AsmCause::Operand)?;
     no_more(rest)?;
     Ok((a, b))
 }
 
 // Returns the next word, and whether the word `invalid` follows it. Fails with `Operand` for no word, another second
 // word, or a third.
-fn one_or_invalid(rest: &[u8]) -> Result<(&[u8], bool), Cause>
+fn one_or_invalid(rest: &[u8]) -> Result<(&[u8], bool), AsmCause>
     ensures { ResultIs (λ w. (w.0.now, w.1)) result (wait_words (words_after rest.now)) }
 {
-    let (a, rest) = next_word(rest).ok_or(Cause::Operand)?;
+    let (a, rest) = next_word(rest).ok_or(AsmCause::Operand)?;
     let Some((b, rest)) = next_word(rest) else {
         return Ok((a, false));
     };
     if next_word(rest).is_some() || !is_text(b, b"invalid") {
-        return Err(Cause::Operand);
+        return Err(AsmCause::Operand);
     }
     Ok((a, true))
 }
@@ -125,17 +125,17 @@ fn digits(word: &[u8]) -> Option<u16>
 
 // Returns the decimal number that a word spells, capped at 65,535. Fails with `Operand` for leading zeros or any other
 // word.
-fn number(word: &[u8]) -> Result<u16, Cause>
+fn number(word: &[u8]) -> Result<u16, AsmCause>
     ensures { result ≡ number_at word.now }
 {
     match word {
-        [] => Err(Cause::Operand),
-        [_] => digits(word).ok_or(Cause::Operand),
+        [] => Err(AsmCause::Operand),
+        [_] => digits(word).ok_or(AsmCause::Operand),
         [first, ..] => {
             if *first == b'0' {
-                return Err(Cause::Operand);
+                return Err(AsmCause::Operand);
             }
-            digits(word).ok_or(Cause::Operand)
+            digits(word).ok_or(AsmCause::Operand)
         }
     }
 }
@@ -165,17 +165,19 @@ fn hex_value(digits: &[u8]) -> Option<u32>
 }
 
 // Returns the value of a word of `0x` and eight hexadecimal digits. Fails with `Operand` for any other word.
-fn value(word: &[u8]) -> Result<u32, Cause>
+fn value(word: &[u8]) -> Result<u32, AsmCause>
     ensures { result ≡ value_at word.now }
 {
     match word {
-        [b'0', b'x', digits @ ..] if digits.len() == 8 => hex_value(digits).ok_or(Cause::Operand),
-        _ => Err(Cause::Operand),
+        [b'0', b'x', digits @ ..] if digits.len() == 8 => hex_value(digits).ok_or(
+            AsmCause::Operand,
+        ),
+        _ => Err(AsmCause::Operand),
     }
 }
 
 // Returns the register of a name. Fails with `Operand` for any other word.
-fn register(word: &[u8]) -> Result<Reg, Cause>
+fn register(word: &[u8]) -> Result<Reg, AsmCause>
     ensures { result ≡ register_at word.now }
 {
     if is_text(word, b"SAR") {
@@ -185,48 +187,48 @@ fn register(word: &[u8]) -> Result<Reg, Cause>
     } else if is_text(word, b"DAR") {
         Ok(Reg::Dar)
     } else {
-        Err(Cause::Operand)
+        Err(AsmCause::Operand)
     }
 }
 
 // Returns the loop counter of a number. Fails with `Range` above 1.
-fn counter(number: u16) -> Result<Counter, Cause>
+fn counter(number: u16) -> Result<Counter, AsmCause>
     ensures { result ≡ counter_at number }
 {
     match number {
         0 => Ok(Counter::Lc0),
         1 => Ok(Counter::Lc1),
-        _ => Err(Cause::Range),
+        _ => Err(AsmCause::Range),
     }
 }
 
 // Returns the number of times that a loop runs. Fails with `Range` if it is not 1 to 256.
-fn times(number: u16) -> Result<Times, Cause>
+fn times(number: u16) -> Result<Times, AsmCause>
     ensures { result ≡ times_at number }
 {
-    Times::new(number).ok_or(Cause::Range)
+    Times::new(number).ok_or(AsmCause::Range)
 }
 
 // Returns the length of a jump back, in bytes. Fails with `Range` above 255.
-fn back(number: u16) -> Result<u8, Cause>
+fn back(number: u16) -> Result<u8, AsmCause>
     ensures { result ≡ back_at number }
 {
-    u8::try_from(number).map_err(|_| Cause::Range)
+    u8::try_from(number).map_err(|_| AsmCause::Range)
 }
 
 // Returns the event of a number. Fails with `Range` above 31.
-fn event(number: u16) -> Result<Event, Cause>
+fn event(number: u16) -> Result<Event, AsmCause>
     ensures { result ≡ event_at number }
 {
     if number <= 31 {
         Ok(Event::of_number(number as u8))
     } else {
-        Err(Cause::Range)
+        Err(AsmCause::Range)
     }
 }
 
 // Returns the two decimal numbers that are left. Fails with `Operand` for any other words.
-fn numbers(rest: &[u8]) -> Result<(u16, u16), Cause>
+fn numbers(rest: &[u8]) -> Result<(u16, u16), AsmCause>
     ensures { result ≡ two_numbers (words_after rest.now) }
 {
     let (a, b) = two(rest)?;
@@ -236,7 +238,7 @@ fn numbers(rest: &[u8]) -> Result<(u16, u16), Cause>
 }
 
 // Parses the words after DMALP: a counter, and the number of times that the loop runs.
-fn loop_start(rest: &[u8]) -> Result<Insn, Cause>
+fn loop_start(rest: &[u8]) -> Result<Insn, AsmCause>
     ensures { result ≡ loop_line (words_after rest.now) }
 {
     let (a, b) = numbers(rest)?;
@@ -246,7 +248,7 @@ fn loop_start(rest: &[u8]) -> Result<Insn, Cause>
 }
 
 // Parses the words after DMALPEND: a counter and a jump.
-fn loop_end(rest: &[u8]) -> Result<Insn, Cause>
+fn loop_end(rest: &[u8]) -> Result<Insn, AsmCause>
     ensures { result ≡ loop_end_line (words_after rest.now) }
 {
     let (a, b) = numbers(rest)?;
@@ -256,7 +258,7 @@ fn loop_end(rest: &[u8]) -> Result<Insn, Cause>
 }
 
 // Parses the word after DMASEV: an event.
-fn signal(rest: &[u8]) -> Result<Insn, Cause>
+fn signal(rest: &[u8]) -> Result<Insn, AsmCause>
     ensures { result ≡ signal_line (words_after rest.now) }
 {
     let word = one(rest)?;
@@ -265,7 +267,7 @@ fn signal(rest: &[u8]) -> Result<Insn, Cause>
 }
 
 // Parses the words after DMAWFE: an event, and optionally `invalid`.
-fn wait(rest: &[u8]) -> Result<Insn, Cause>
+fn wait(rest: &[u8]) -> Result<Insn, AsmCause>
     ensures { result ≡ wait_line (words_after rest.now) }
 {
     let (word, invalid) = one_or_invalid(rest)?;
@@ -275,7 +277,7 @@ fn wait(rest: &[u8]) -> Result<Insn, Cause>
 }
 
 // Parses the words after DMAMOV: a register and its value.
-fn set_register(rest: &[u8]) -> Result<Insn, Cause>
+fn set_register(rest: &[u8]) -> Result<Insn, AsmCause>
     ensures { result ≡ set_line (words_after rest.now) }
 {
     let (a, b) = two(rest)?;
@@ -285,7 +287,7 @@ fn set_register(rest: &[u8]) -> Result<Insn, Cause>
 }
 
 // Returns an instruction that takes no words. Fails with `Operand` if a word is left.
-fn bare(insn: Insn, rest: &[u8]) -> Result<Insn, Cause>
+fn bare(insn: Insn, rest: &[u8]) -> Result<Insn, AsmCause>
     ensures { result ≡ bare_line insn (words_after rest.now) }
 {
     no_more(rest)?;
@@ -293,7 +295,7 @@ fn bare(insn: Insn, rest: &[u8]) -> Result<Insn, Cause>
 }
 
 // Returns the instruction of a name and the words after it, or the first cause that applies.
-fn by_name(name: &[u8], rest: &[u8]) -> Result<Insn, Cause>
+fn by_name(name: &[u8], rest: &[u8]) -> Result<Insn, AsmCause>
     ensures { result ≡ line_by name.now (words_after rest.now) }
 {
     if is_text(name, b"DMAEND") {
@@ -319,13 +321,13 @@ fn by_name(name: &[u8], rest: &[u8]) -> Result<Insn, Cause>
     } else if is_text(name, b"DMAMOV") {
         set_register(rest)
     } else {
-        Err(Cause::Mnemonic)
+        Err(AsmCause::Mnemonic)
     }
 }
 
 /// Returns the instruction of a line, or the first cause that applies.
 #[tactic(auto, unfolding(crate::specs::LineReading::line_in))]
-pub fn read_line(line: &[u8]) -> Result<Insn, Cause>
+pub fn read_line(line: &[u8]) -> Result<Insn, AsmCause>
     ensures { result ≡ line_in (words_of line.now) }
 {
     let (name, rest) = split_word(line);

@@ -5,7 +5,7 @@ pub mod Blocks
 pub mod RangesInOrder
 pub mod MarkRanges
 pub mod KeptRanges
-pub mod Origins
+pub mod SourceSegments
 pub mod Checking
 pub mod Stored
 pub mod Rewritten

@@ -6,7 +6,7 @@ ghost use Rattle.dma_mem.specs.Places.{Descriptor, copying, filling, end_of_addr
 ghost use Rattle.dma_mem.specs.Meeting.{meets, IsFree};
 ghost use Rattle.dma_mem.specs.declared.segment.Segment.{Segment};
 ghost use Rattle.dma_mem.specs.Rules.{IsTransfer};
-ghost use Rattle.dma_mem.specs.inner.Origins.{segments_of, is_place};
+ghost use Rattle.dma_mem.specs.inner.SourceSegments.{segments_of, is_place};
 ghost use Rattle.dma_mem.specs.Refusals.{refusal_of, refusal_of_fill};
 
 pub(crate) mod rules;
@@ -47,19 +47,19 @@ pub enum TransferFault {
 // Where a transfer reads: the places of a list, or the one place of a fill. The one-byte segment of a fill is kept in
 // the variant, so that a fill allocates nothing for it.
 #[derive(Debug, Drop)]
-enum Origin {
+enum SourceSegments {
     List(Segments),
     Place(Segment),
 }
 
-impl Origin {
+impl SourceSegments {
     // Returns the segments, in order.
     fn as_slice(&self) -> &[Segment]
         ensures { result.now ≡ segments_of self.now }
     {
         match self {
-            Origin::List(segments) => segments.as_slice(),
-            Origin::Place(segment) => std::slice::from_ref(segment),
+            SourceSegments::List(segments) => segments.as_slice(),
+            SourceSegments::Place(segment) => std::slice::from_ref(segment),
         }
     }
 
@@ -67,16 +67,16 @@ impl Origin {
     fn is_place(&self) -> bool
         ensures { result ≡ is_place self.now }
     {
-        matches!(self, Origin::Place(_))
+        matches!(self, SourceSegments::Place(_))
     }
 
     // Returns a copy.
-    fn try_copy(&self) -> Result<Origin, AllocError>
+    fn try_copy(&self) -> Result<SourceSegments, AllocError>
         ensures { IfOk result (λ copy. copy ≡ self.now) }
     {
         Ok(match self {
-            Origin::List(segments) => Origin::List(segments.try_copy()?),
-            Origin::Place(segment) => Origin::Place(*segment),
+            SourceSegments::List(segments) => SourceSegments::List(segments.try_copy()?),
+            SourceSegments::Place(segment) => SourceSegments::Place(*segment),
         })
     }
 }
@@ -88,7 +88,7 @@ impl Origin {
 /// destination.
 #[derive(Debug, Drop)]
 pub struct Transfer {
-    src: Origin,
+    src: SourceSegments,
     dst: Segments,
     wait: Option<u8>,
     signal: Option<u8>,
@@ -102,7 +102,7 @@ impl Model for Transfer {
     ghost Value = { Descriptor };
 
     ghost use Rattle.dma_mem.specs.Rules.{IsTransfer};
-    ghost use Rattle.dma_mem.specs.inner.Origins.{descriptor_of};
+    ghost use Rattle.dma_mem.specs.inner.SourceSegments.{descriptor_of};
 
     ghost view = { λ t. descriptor_of t.src t.dst t.wait t.signal };
 
@@ -166,7 +166,7 @@ impl Transfer {
         let src = copied(alloc, src)?;
         let dst = copied(alloc, dst)?;
         Ok(Transfer {
-            src: Origin::List(src),
+            src: SourceSegments::List(src),
             dst,
             wait,
             signal,
@@ -190,7 +190,7 @@ impl Transfer {
     {
         let len = checked_len(Totals::Same, src.as_slice(), dst.as_slice(), wait, signal)?;
         Ok(Transfer {
-            src: Origin::List(src),
+            src: SourceSegments::List(src),
             dst,
             wait,
             signal,
@@ -219,7 +219,7 @@ impl Transfer {
         let len = checked_fill(src, dst, wait, signal)?;
         let list = copied(alloc, dst)?;
         Ok(Transfer {
-            src: Origin::Place(Segment { addr: src, len: 1 }),
+            src: SourceSegments::Place(Segment { addr: src, len: 1 }),
             dst: list,
             wait,
             signal,
@@ -242,7 +242,7 @@ impl Transfer {
     {
         let len = checked_fill(src, dst.as_slice(), wait, signal)?;
         Ok(Transfer {
-            src: Origin::Place(Segment { addr: src, len: 1 }),
+            src: SourceSegments::Place(Segment { addr: src, len: 1 }),
             dst,
             wait,
             signal,
@@ -306,8 +306,8 @@ impl Transfer {
     {
         let Transfer { src, len, .. } = self;
         match src {
-            Origin::List(list) => place_at(list.as_slice(), position),
-            Origin::Place(byte) => (position < *len).then_some(byte.addr),
+            SourceSegments::List(list) => place_at(list.as_slice(), position),
+            SourceSegments::Place(byte) => (position < *len).then_some(byte.addr),
         }
     }
 

@@ -1,7 +1,7 @@
 //! Texts and bytes whose reading runs out of memory, and which are then read once more. `tests/refuse_calls` refuses
 //! each allocation of these tests in turn, and requires that each row meets a refusal; with ample memory none does.
 
-use dma_insn::assembler::{AsmFault, Cause, assemble};
+use dma_insn::assembler::{AsmCause, AsmFault, assemble};
 use dma_insn::codec::DecodeFault;
 use dma_insn::disassembler::{DisFault, disassemble};
 use std::test::Fail;
@@ -48,7 +48,7 @@ fn bytes_are_disassembled_when_asked_again(rt: HostRuntime) -> Result<(), Fail> 
 fn faults_are_reported_before_refused_memory(rt: HostRuntime) {
     let no_name = AsmFault::Line {
         n: 3,
-        cause: Cause::Mnemonic,
+        cause: AsmCause::Mnemonic,
     };
     let program = assemble(rt.alloc(), b"DMANOP\nDMAEND\nDMASTZ\n");
     assert_eq!(rt; program.err(), Some(no_name));

@@ -3,8 +3,8 @@ ghost use Rattle.std.specs.Prelude.{◌≡◌, []};
 
 use dma_script::interpreter::Interpreter;
 use dma_script::laws::{first_causes_are_reported, first_faults_are_reported};
-use dma_script::plan::{Origin, TransferLine};
 use dma_script::statements::{Statement, read_run_script};
+use dma_script::transfer_line::{Origin, TransferLine};
 use std::alloc::AllocError;
 use std::test::Fail;
 

@@ -11,15 +11,15 @@ use Rattle.dma_script.specs.Lines.{◌>>=◌}
 use Rattle.dma_script.specs.Arguments.{both, one as one_made, byte_at, bytes_at, list_at, number_at, segment_at}
 use Rattle.dma_script.specs.Plan.{events_at, plain, transfer_at, transfer_line}
 use Rattle.dma_mem.specs.Limits.{largest_size, last_channel, most_channels}
-use Rattle.dma_script.specs.Statements.{most_steps, memory_line, later_line}
+use Rattle.dma_script.specs.Statements.{most_line_steps, memory_line, later_line}
 use Rattle.dma_script.specs.Race.{job_line, no_words, where_holds}
 use Rattle.dma_script.specs.inner.Reading.{LineRead, begins, both_from, byte_from, ended, event_from, list_from, number_from, skipped, statement_from, to_list_from, transfer_from, unless, unread, within_from}
 use Rattle.dma_script.specs.Causes.{where_not, cause_reported, is_memory, first_reported, number, byte, steps, size, channels, segment, list, hex, Form, Operand, form_cause, range_cause, size_cause, channels_cause, first_over, one, two, events, one_to_list_and_events, transfer, operands_of}
 use Rattle.dma_script.specs.declared.fault.Cause.{Cause}
 use Rattle.dma_script.specs.declared.fault.Cause.TheVariants as causes
-use Rattle.dma_script.specs.declared.plan.Origin.{Origin}
-use Rattle.dma_script.specs.declared.plan.Origin.TheVariants as origins
-use Rattle.dma_script.specs.declared.plan.TransferLine.{TransferLine}
+use Rattle.dma_script.specs.declared.transfer_line.Origin.{Origin}
+use Rattle.dma_script.specs.declared.transfer_line.Origin.TheVariants as origins
+use Rattle.dma_script.specs.declared.transfer_line.TransferLine.{TransferLine}
 use Rattle.dma_script.specs.declared.statements.Keyword.{Keyword}
 use Rattle.dma_script.specs.declared.statements.Keyword.TheVariants as keywords
 use Rattle.dma_script.specs.declared.statements.RunScript.{RunScript}
@@ -316,7 +316,7 @@ statement_agrees keywords.Resume (a ∷ []) = byte_agrees a (λ ch. statements.C
 statement_agrees keywords.Terminate (a ∷ []) = byte_agrees a (λ ch. statements.Call (calls.Terminate ch))
 statement_agrees keywords.Step (a ∷ []) = byte_agrees a (λ ch. statements.Step ch 1)
 statement_agrees keywords.Step (a ∷ b ∷ []) =
-    part_agrees (both_is (byte_is a) (within_is 1 most_steps causes.Range b refl) (λ ch count. statements.Step ch count))
+    part_agrees (both_is (byte_is a) (within_is 1 most_line_steps causes.Range b refl) (λ ch count. statements.Step ch count))
     (in_order None None (form_cause byte a ∷ form_cause steps b ∷ []) (range_cause byte a ∷ range_cause steps b ∷ []))
 statement_agrees keywords.Status (a ∷ b ∷ []) = pair_agrees a b (λ ch cookie. statements.Call (calls.Status ch cookie))
 statement_agrees keywords.Result (a ∷ b ∷ []) = pair_agrees a b (λ ch cookie. statements.Call (calls.Result ch cookie))

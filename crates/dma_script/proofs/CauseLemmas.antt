@@ -11,7 +11,7 @@ use Rattle.dma_script.specs.inner.Reading.{unless}
 use Rattle.dma_script.specs.Causes.{number_or_zero, where_not, cause_reported, is_memory, first_reported, number, form_cause, Asked, line_reported, bare, three_numbers, operands_of, no_command, run_asked, run_asks, plan_asks, job_in_range, race_asked, race_asks, side_of, FirstCausesAreReported}
 use Rattle.dma_script.specs.declared.fault.Cause.{Cause}
 use Rattle.dma_script.specs.declared.fault.Cause.TheVariants as causes
-use Rattle.dma_script.specs.declared.plan.TransferLine.{TransferLine}
+use Rattle.dma_script.specs.declared.transfer_line.TransferLine.{TransferLine}
 use Rattle.dma_script.specs.declared.statements.Keyword.{Keyword}
 use Rattle.dma_script.specs.declared.statements.Keyword.TheVariants as keywords
 use Rattle.dma_script.specs.declared.statements.RunScript.{RunScript}

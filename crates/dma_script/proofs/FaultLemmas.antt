@@ -12,8 +12,8 @@ use Rattle.dma_script.specs.Causes.{cause_reported, line_reported, run_asks, pla
 use Rattle.dma_script.specs.declared.fault.Cause.{Cause}
 use Rattle.dma_script.specs.declared.fault.Cause.TheVariants as causes
 use Rattle.dma_script.specs.declared.fault.Fault.{Fault}
-use Rattle.dma_script.specs.declared.plan.PlanLine.{PlanLine}
-use Rattle.dma_script.specs.declared.plan.TransferLine.{TransferLine}
+use Rattle.dma_script.specs.declared.transfer_line.PlanLine.{PlanLine}
+use Rattle.dma_script.specs.declared.transfer_line.TransferLine.{TransferLine}
 use Rattle.dma_script.specs.declared.statements.Keyword.{Keyword}
 use Rattle.dma_script.specs.declared.statements.RunScript.{RunScript}
 use Rattle.dma_script.specs.declared.statements.Statement.{Statement}

@@ -10,8 +10,8 @@ use Rattle.dma_script.specs.Causes.{where_not, number_or_zero, cause_reported}
 use Rattle.dma_script.specs.inner.Reading.{or_empty, unless}
 use Rattle.dma_script.specs.declared.fault.Cause.{Cause}
 use Rattle.dma_script.specs.declared.fault.Cause.TheVariants as causes
-use Rattle.dma_script.specs.declared.plan.Origin.{Origin}
-use Rattle.dma_script.specs.declared.plan.TransferLine.{TransferLine}
+use Rattle.dma_script.specs.declared.transfer_line.Origin.{Origin}
+use Rattle.dma_script.specs.declared.transfer_line.TransferLine.{TransferLine}
 
 -- ---- parts of a line
 

@@ -12,7 +12,7 @@ use Rattle.dma_script.specs.Plan.{plain, plan_of}
 use Rattle.dma_script.specs.declared.fault.Cause.TheVariants.{Byte, Command, First, Words, Number, Hex, Range, SizeOutOfRange, BadChannels, Go}
 use Rattle.dma_mem.specs.declared.call.Call.TheVariants as calls
 use Rattle.dma_mem.specs.declared.marks.MarkKind.TheVariants.{Reading, Writing}
-use Rattle.dma_script.specs.declared.plan.Origin.TheVariants as origins
+use Rattle.dma_script.specs.declared.transfer_line.Origin.TheVariants as origins
 use Rattle.dma_script.specs.declared.statements.Statement.TheVariants as statements
 
 -- a script of a memory line and one more

@@ -11,7 +11,7 @@ use Rattle.dma_script.specs.Lines.{◌>>=◌, Gives, after_line, after_lines, at
 use Rattle.dma_script.specs.Arguments.{both, byte_at, bytes_at, list_at, number_at, one, segment_at, to_list_at, within_at}
 use Rattle.dma_script.specs.Plan.{transfer_line}
 use Rattle.dma_mem.specs.Limits.{largest_size, last_channel, most_channels}
-use Rattle.dma_script.specs.Statements.{IsWithin, most_steps, keyword_of, kind_at, memory_line, first_line, later_line, next_line, run_step, run_script_of}
+use Rattle.dma_script.specs.Statements.{IsWithin, most_line_steps, keyword_of, kind_at, memory_line, first_line, later_line, next_line, run_step, run_script_of}
 use Rattle.dma_script.specs.Race.{IsEarly, IsJob, IsRace, RaceRead, behind_memory, is_early, job_line, line_after_go, line_beside_go, most_jobs, no_words, nothing_read, race_keyword_of, race_step, race_script_of, where_holds}
 use Rattle.dma_script.specs.declared.fault.Cause.{Cause}
 use Rattle.dma_script.specs.declared.fault.Cause.TheVariants.{Command, Range}
@@ -135,7 +135,7 @@ later_is keywords.Pause (ch ∷ []) = one_made IsNoSubmit (byte_at ch) _ (λ a. 
 later_is keywords.Resume (ch ∷ []) = one_made IsNoSubmit (byte_at ch) _ (λ a. tt {0})
 later_is keywords.Terminate (ch ∷ []) = one_made IsNoSubmit (byte_at ch) _ (λ a. tt {0})
 later_is keywords.Step (ch ∷ []) = one_made IsNoSubmit (byte_at ch) _ (λ a. tt {0})
-later_is keywords.Step (ch ∷ n ∷ []) = each_made IsNoSubmit (byte_at ch) (within_at 1 most_steps Range n) _ (λ a b. tt {0})
+later_is keywords.Step (ch ∷ n ∷ []) = each_made IsNoSubmit (byte_at ch) (within_at 1 most_line_steps Range n) _ (λ a b. tt {0})
 later_is keywords.Status (ch ∷ cookie ∷ []) = each_made IsNoSubmit (byte_at ch) (number_at cookie) _ (λ a b. tt {0})
 later_is keywords.Result (ch ∷ cookie ∷ []) = each_made IsNoSubmit (byte_at ch) (number_at cookie) _ (λ a b. tt {0})
 later_is keywords.Mark (kind ∷ word ∷ []) = each_made IsNoSubmit (kind_at kind) (segment_at word) _ (λ a b. tt {0})

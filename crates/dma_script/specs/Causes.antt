@@ -13,13 +13,13 @@ use Rattle.std.specs.Str.Lines.{lines}
 use Rattle.dma_mem.specs.Limits.{largest_size, last_channel, most_channels}
 use Rattle.dma_script.specs.Words.{words_of, is_plain, number_of, segment_of, list_of, bytes_in}
 use Rattle.dma_script.specs.Lines.{is_skipped, after_line}
-use Rattle.dma_script.specs.Statements.{keyword_of, most_steps, run_step, run_script_of}
+use Rattle.dma_script.specs.Statements.{keyword_of, most_line_steps, run_step, run_script_of}
 use Rattle.dma_script.specs.Plan.{plan_step, plan_of}
 use Rattle.dma_script.specs.Race.{RaceRead, most_jobs, race_keyword_of, is_early, race_step, race_script_of}
 use Rattle.dma_script.specs.declared.fault.Cause.{Cause}
 use Rattle.dma_script.specs.declared.fault.Cause.TheVariants as causes
 use Rattle.dma_script.specs.declared.fault.Fault.{Fault}
-use Rattle.dma_script.specs.declared.plan.TransferLine.{TransferLine}
+use Rattle.dma_script.specs.declared.transfer_line.TransferLine.{TransferLine}
 use Rattle.dma_script.specs.declared.statements.Keyword.{Keyword}
 use Rattle.dma_script.specs.declared.statements.Keyword.TheVariants as keywords
 use Rattle.dma_script.specs.declared.statements.RunScript.{RunScript}
@@ -72,7 +72,7 @@ form_cause _ word = where_not (is_some (number_of word)) causes.Number
 -- `Range` for a channel or an event above 255, or a number of steps that is 0 or above 1,000,000
 abbrev pub range_cause : Form → List ℕ → Option Cause
 range_cause byte word = where_not (is_between 0 255 (number_or_zero word)) causes.Range
-range_cause steps word = where_not (is_between 1 most_steps (number_or_zero word)) causes.Range
+range_cause steps word = where_not (is_between 1 most_line_steps (number_or_zero word)) causes.Range
 range_cause _ word = None
 
 -- `SizeOutOfRange` for a size of 0 or above 4,294,963,200

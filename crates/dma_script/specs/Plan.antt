@@ -8,10 +8,10 @@ use Rattle.dma_script.specs.Arguments.{one, both, three, after_fixed, number_at,
 use Rattle.dma_script.specs.declared.fault.Cause.{Cause}
 use Rattle.dma_script.specs.declared.fault.Cause.TheVariants as causes
 use Rattle.dma_script.specs.declared.fault.Fault.{Fault}
-use Rattle.dma_script.specs.declared.plan.Origin.{Origin}
-use Rattle.dma_script.specs.declared.plan.Origin.TheVariants as origins
-use Rattle.dma_script.specs.declared.plan.TransferLine.{TransferLine}
-use Rattle.dma_script.specs.declared.plan.PlanLine.{PlanLine}
+use Rattle.dma_script.specs.declared.transfer_line.Origin.{Origin}
+use Rattle.dma_script.specs.declared.transfer_line.Origin.TheVariants as origins
+use Rattle.dma_script.specs.declared.transfer_line.TransferLine.{TransferLine}
+use Rattle.dma_script.specs.declared.transfer_line.PlanLine.{PlanLine}
 
 -- `[wait E] [signal E]`: the event of each name, or `None` without that name
 abbrev pub events_at : List (List ℕ) → Result (Option ℕ × Option ℕ) Cause

@@ -12,7 +12,7 @@ use Rattle.dma_script.specs.Plan.{plain, transfer_line}
 use Rattle.dma_script.specs.declared.fault.Cause.{Cause}
 use Rattle.dma_script.specs.declared.fault.Cause.TheVariants as causes
 use Rattle.dma_script.specs.declared.fault.Fault.{Fault}
-use Rattle.dma_script.specs.declared.plan.Origin.TheVariants as origins
+use Rattle.dma_script.specs.declared.transfer_line.Origin.TheVariants as origins
 use Rattle.dma_script.specs.declared.statements.Keyword.{Keyword}
 use Rattle.dma_script.specs.declared.statements.Keyword.TheVariants as keywords
 use Rattle.dma_script.specs.declared.statements.Statement.{Statement}
@@ -42,8 +42,8 @@ keyword_of word =
     if bytes_eq word (codes "totals") then Some keywords.Totals else None)))))))))))))))))
 
 -- the most steps of a step line (profile)
-abbrev pub most_steps : ℕ
-most_steps = 1000000
+abbrev pub most_line_steps : ℕ
+most_line_steps = 1000000
 
 -- `memory SIZE CHANNELS`: a script with no line after it yet
 abbrev pub memory_line : List (List ℕ) → Result RunScript Cause
@@ -84,7 +84,7 @@ later_line keywords.Resume (ch ∷ []) = one (byte_at ch) (λ ch. statements.Cal
 later_line keywords.Terminate (ch ∷ []) = one (byte_at ch) (λ ch. statements.Call (calls.Terminate ch))
 later_line keywords.Step (ch ∷ []) = one (byte_at ch) (λ ch. statements.Step ch 1)
 later_line keywords.Step (ch ∷ n ∷ []) =
-    both (byte_at ch) (within_at 1 most_steps causes.Range n) (λ ch n. statements.Step ch n)
+    both (byte_at ch) (within_at 1 most_line_steps causes.Range n) (λ ch n. statements.Step ch n)
 later_line keywords.Status (ch ∷ cookie ∷ []) =
     both (byte_at ch) (number_at cookie) (λ ch cookie. statements.Call (calls.Status ch cookie))
 later_line keywords.Result (ch ∷ cookie ∷ []) =

@@ -18,7 +18,7 @@ use std::marker::Model;
 use std::mem;
 
 /// The most steps of a line (profile).
-pub const MAX_STEPS: u32 = 1_000_000;
+pub const MAX_LINE_STEPS: u32 = 1_000_000;
 
 /// The words of a line that were not read yet, and the faults of those that were. A read of a faulty word returns a
 /// value too. [`Arguments::end`] then returns the first cause, as each is tested over all words before the next one.
@@ -166,7 +166,7 @@ impl<'a> Arguments<'a> {
         if next_word(self.rest).is_none() {
             return 1;
         }
-        self.within(1, MAX_STEPS, Cause::Range)
+        self.within(1, MAX_LINE_STEPS, Cause::Range)
     }
 
     /// Reads `NAME E` if the next word is the name, and returns the event E.

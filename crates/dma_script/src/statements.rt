@@ -6,11 +6,11 @@ ghost use Rattle.dma_script.specs.Statements.{IsWithin, first_line, keyword_of, 
 ghost use Rattle.dma_script.specs.inner.Reading.{line_added, statement_added};
 
 use crate::arguments::Arguments;
-pub use crate::arguments::MAX_STEPS;
+pub use crate::arguments::MAX_LINE_STEPS;
 use crate::fault::{Cause, LineError, ScriptError, missing};
 use crate::lines::{Script, read_script};
-use crate::plan::{Origin, TransferLine, transfer};
 pub use crate::queue::Statements;
+use crate::transfer_line::{Origin, TransferLine, transfer};
 use crate::words::next_word;
 use dma_mem::call::Call;
 use dma_mem::limits::{MAX_CHANNELS, MAX_SIZE};
@@ -69,7 +69,7 @@ pub enum Statement {
     Submit { ch: u8, transfer: TransferLine },
     /// Copies or fills at once.
     Copy(TransferLine),
-    /// Takes 1 to [`MAX_STEPS`] steps of a channel, 1 if the line has no number.
+    /// Takes 1 to [`MAX_LINE_STEPS`] steps of a channel, 1 if the line has no number.
     Step { ch: u8, count: u32 },
     /// Prints the counts of the whole run.
     Totals,

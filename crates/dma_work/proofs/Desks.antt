@@ -29,7 +29,7 @@ use Rattle.dma_engine.proofs.CookieCounts.{boards_count, base_counts_bounded, su
 use Rattle.dma_work.specs.declared.worker.Totals.{Totals}
 use Rattle.dma_work.specs.Desk.{stepped_book}
 use Rattle.dma_work.specs.inner.DeskKept.{IsKept}
-use Rattle.dma_work.specs.inner.Published.{BoardState, HasActed, PublisherState, board_and, board_with}
+use Rattle.dma_work.specs.inner.Published.{EditionState, HasActed, PublisherState, edition_and, edition_with}
 use Rattle.dma_work.specs.Ticks.{AreFinished, IsGiven, base_of, board_from, eight}
 use Rattle.dma_work.proofs.Boards.{board-append}
 
@@ -126,12 +126,12 @@ ended v w ch t over h =
 -- ---- what is published after a call
 
 -- one more tick was made ready, and the engine has added it
-pub acted_next : (p r : PublisherState) (v m w : View) (l : List BoardState) (t u : Tick) → m ≡ v → ticks_of w.history ≡ ticks_of m.history ++ u ∷ [] → t ≡ u → r ≡ record p { pending = l } → p.before ++ ticks_of v.history ≡ p.shown.ticks → HasActed r w t
+pub acted_next : (p r : PublisherState) (v m w : View) (l : List EditionState) (t u : Tick) → m ≡ v → ticks_of w.history ≡ ticks_of m.history ++ u ∷ [] → t ≡ u → r ≡ record p { pending = l } → p.before ++ ticks_of v.history ≡ p.shown.ticks → HasActed r w t
 acted_next p r v m w l t u same more is ready shown =
     rw (ready, is, more, same) ((ticks_of v.history, shown), sym (append_assoc p.before (ticks_of v.history) (u ∷ [])) ∙ ap (λ x. x ++ u ∷ []) shown)
 
 -- no tick more is published
-pub no_more : (p : PublisherState) → p ≡ record p { shown = board_and p.shown [] }
+pub no_more : (p : PublisherState) → p ≡ record p { shown = edition_and p.shown [] }
 no_more p = ap (λ l. record p { shown = record (p.shown) { ticks = l } }) (sym (append-nil p.shown.ticks))
 
 -- the sizes of views with one base
@@ -144,14 +144,14 @@ same_many v w same =
     many-channels w.base w.history ∙ ap (λ (o : Object). length o.channels) same ∙ sym (many-channels v.base v.history)
 
 module _ (s f bytes many : ℕ) (base : Board) (log : Book) where
-  board : List Tick → BoardState
+  board : List Tick → EditionState
   board ticks = record { base = base; ticks = ticks; log = log }
 
   -- a call that adds ticks, which are published, and counts in the book as it does in the engine
-  kept_by : (old new : EngineState) (p q : PublisherState) (b e : Totals) (more : List Tick) (moves finishes : ℕ) → Adds old.view new.view more moves finishes → new.view.base ≡ old.view.base → q ≡ record p { shown = board_and p.shown more } → e.steps ≡ b.steps + moves → e.finished + e.terminated ≡ b.finished + b.terminated + finishes → IsKept s f bytes many base log old p b → IsKept s f bytes many base log new q e
+  kept_by : (old new : EngineState) (p q : PublisherState) (b e : Totals) (more : List Tick) (moves finishes : ℕ) → Adds old.view new.view more moves finishes → new.view.base ≡ old.view.base → q ≡ record p { shown = edition_and p.shown more } → e.steps ≡ b.steps + moves → e.finished + e.terminated ≡ b.finished + b.terminated + finishes → IsKept s f bytes many base log old p b → IsKept s f bytes many base log new q e
   unfolding board
   kept_by old new p q b e more moves finishes a same is steps done k = rw is (record {
-    shown = ap (λ (x : BoardState). board_and x more) k.shown
+    shown = ap (λ (x : EditionState). edition_and x more) k.shown
         ∙ ap board (append_assoc p.before (ticks_of old.view.history) more ∙ ap (λ l. p.before ++ l) (sym a.ticks));
     pending = k.pending;
     opens = k.opens ∙ ap (λ o. eight (board_of o)) (sym same);
@@ -174,20 +174,20 @@ module _ (s f bytes many : ℕ) (base : Board) (log : Book) where
       kept_by old new p p b b [] 0 0 a (answers-extend old.view new.view call reply (quiet-extends call reply q) h).0 (no_more p) (omega arith) (omega arith) k
 
   -- a step
-  pub kept_step : (old new : EngineState) (p q : PublisherState) (b : Totals) (ch : ℕ) (r : Result Turn EngineFault) → StepAnswers old.view ch r new.view → q ≡ record p { shown = board_and p.shown (ticks_in ch r) } → IsKept s f bytes many base log old p b → IsKept s f bytes many base log new q (stepped_book b r)
+  pub kept_step : (old new : EngineState) (p q : PublisherState) (b : Totals) (ch : ℕ) (r : Result Turn EngineFault) → StepAnswers old.view ch r new.view → q ≡ record p { shown = edition_and p.shown (ticks_in ch r) } → IsKept s f bytes many base log old p b → IsKept s f bytes many base log new q (stepped_book b r)
   kept_step old new p q b ch r h is k =
       kept_by old new p q b (stepped_book b r) (ticks_in ch r) (steps_in r) (finishes_in r) (steps_add old.view new.view ch r h) (answers-extend old.view new.view (Step ch) (reply_of Turned r) refl h).0 is refl (omega arith) k
 
   -- a step that finishes no cookie, which publishes nothing
   pub kept_on : (old new : EngineState) (p : PublisherState) (b : Totals) (ch : ℕ) (r : Result Turn EngineFault) → ends (turn old.view ch).0 ≡ false → StepAnswers old.view ch r new.view → IsKept s f bytes many base log old p b → IsKept s f bytes many base log new p (stepped_book b r)
   kept_on old new p b ch r on h k =
-      kept_step old new p p b ch r h (no_more p ∙ ap (λ l. record p { shown = board_and p.shown l }) (sym (goes_on old.view new.view ch r on h))) k
+      kept_step old new p p b ch r h (no_more p ∙ ap (λ l. record p { shown = edition_and p.shown l }) (sym (goes_on old.view new.view ch r on h))) k
 
   -- one more tick was made ready, the engine added it, and it was published
-  pub kept_next : (old m new : EngineState) (p r q : PublisherState) (b e : Totals) (l : List BoardState) (t u : Tick) (moves finishes : ℕ) → m.view ≡ old.view → Adds m.view new.view (u ∷ []) moves finishes → new.view.base ≡ m.view.base → t ≡ u → r ≡ record p { pending = l } → q ≡ record r { shown = board_with r.shown t; pending = [] } → e.steps ≡ b.steps + moves → e.finished + e.terminated ≡ b.finished + b.terminated + finishes → IsKept s f bytes many base log old p b → IsKept s f bytes many base log new q e
+  pub kept_next : (old m new : EngineState) (p r q : PublisherState) (b e : Totals) (l : List EditionState) (t u : Tick) (moves finishes : ℕ) → m.view ≡ old.view → Adds m.view new.view (u ∷ []) moves finishes → new.view.base ≡ m.view.base → t ≡ u → r ≡ record p { pending = l } → q ≡ record r { shown = edition_with r.shown t; pending = [] } → e.steps ≡ b.steps + moves → e.finished + e.terminated ≡ b.finished + b.terminated + finishes → IsKept s f bytes many base log old p b → IsKept s f bytes many base log new q e
   kept_next old m new p r q b e l t u moves finishes same a from is ready published steps done k =
-      let all : q ≡ record p { shown = board_and p.shown (u ∷ []) } =
-      published ∙ rw (ready, is) (ap (λ (x : List BoardState). record p { shown = board_with p.shown u; pending = x }) (sym k.pending)) in
+      let all : q ≡ record p { shown = edition_and p.shown (u ∷ []) } =
+      published ∙ rw (ready, is) (ap (λ (x : List EditionState). record p { shown = edition_with p.shown u; pending = x }) (sym k.pending)) in
       kept_by old new p q b e (u ∷ []) moves finishes (subst (λ v. Adds v new.view (u ∷ []) moves finishes) same a) (from ∙ ap (λ (v : View). v.base) same) all steps done k
 
   -- a checkpoint: what was published comes before the new history
@@ -200,7 +200,7 @@ module _ (s f bytes many : ℕ) (base : Board) (log : Book) where
       let few : length (board_of old.view.base) ≤ 8 = omega (arith, o.0, o.1) in
       let there = subst (λ n. All (λ t. tick_channel t < n) ticks) (sym o.0) (ticks_name_channels old.view sound) in
       let next : new.view ≡ checkpointed old.view = accepted (checkpoint_fault old.view) old.view new.view (checkpointed old.view) h in
-      let before : p.shown.ticks ≡ p.before ++ ticks = ap (λ (x : BoardState). x.ticks) k.shown in
+      let before : p.shown.ticks ≡ p.before ++ ticks = ap (λ (x : EditionState). x.ticks) k.shown in
       rw is (record {
         shown = k.shown ∙ ap board (sym before ∙ sym (ap (λ (es : List Entry). p.shown.ticks ++ ticks_of es) c.0 ∙ append-nil p.shown.ticks));
         pending = k.pending;
@@ -231,7 +231,7 @@ module _ (s f bytes many : ℕ) (base : Board) (log : Book) where
   pub given_in : (new : EngineState) (q : PublisherState) (b : Totals) (v : View) (ch cookie : ℕ) (t : Descriptor) (list : List Tick) → CallAnswers v (Submit ch t) (Cookie cookie) new.view → IsSound new.view → IsKept s f bytes many base log new q b → list ≡ q.shown.ticks → IsGiven base list ch cookie
   given_in new q b v ch cookie t list h sound k is =
       let s = submits_add v new.view ch cookie t h in
-      let all = is ∙ ap (λ (x : BoardState). x.ticks) k.shown in
+      let all = is ∙ ap (λ (x : EditionState). x.ticks) k.shown in
       let at : (counts (board_from base list) ch).used ≡ used (channel (object_of new.view) ch) =
       ap (λ l. (counts (board_from base l) ch).used) all ∙ ap (λ (x : Counts). x.used) (board_counts base q.before new.view k.opens sound ch s.1) in
       (s.2, omega (arith, at, s.3))
@@ -240,7 +240,7 @@ module _ (s f bytes many : ℕ) (base : Board) (log : Book) where
   pub finished_in : (new : EngineState) (q : PublisherState) (b : Totals) (v : View) (ch count through : ℕ) (list : List Tick) → CallAnswers v (Terminate ch) (Count count) new.view → IsSound new.view → IsKept s f bytes many base log new q b → list ≡ q.shown.ticks → through ≡ used (channel (object_of new.view) ch) → AreFinished base list ch through
   finished_in new q b v ch count through list h sound k is through_is =
       let s = terminates_add v new.view ch count h in
-      let all = is ∙ ap (λ (x : BoardState). x.ticks) k.shown in
+      let all = is ∙ ap (λ (x : EditionState). x.ticks) k.shown in
       let at : counts (board_from base list) ch ≡ counts_of (channel (object_of new.view) ch) =
       ap (λ l. counts (board_from base l) ch) all ∙ board_counts base q.before new.view k.opens sound ch s.1 in
       (omega (arith, through_is, ap (λ (x : Counts). x.used) at), omega (arith, through_is, ap (λ (x : Counts). x.finished) at, s.3))

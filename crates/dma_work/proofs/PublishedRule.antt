@@ -4,21 +4,21 @@ use mathlib.Core.Option.{some, some-ne-none}
 use lib.ListN.{get_elem?}
 use Rattle.crossbeam_utils.specs.Register.{Admits, TurnsAt, Forks, Merges}
 use Rattle.atomic_table.proofs.Lists.{at_set, at_snoc}
-use Rattle.dma_work.specs.inner.Published.{BoardState, IsSeen, Keeps, IsLaterBoard, Sees}
+use Rattle.dma_work.specs.inner.Published.{EditionState, IsSeen, Keeps, IsLaterEdition, Sees}
 use Rattle.dma_work.proofs.Beginnings.{prefix_self, prefix_trans}
 
-pub later_self : (p : BoardState) → IsLaterBoard p p
+pub later_self : (p : EditionState) → IsLaterEdition p p
 later_self p = record { base = refl; log = refl; ticks = prefix_self p.ticks }
 
-pub later_trans : (p q r : BoardState) → IsLaterBoard p q → IsLaterBoard q r → IsLaterBoard p r
+pub later_trans : (p q r : EditionState) → IsLaterEdition p q → IsLaterEdition q r → IsLaterEdition p r
 later_trans p q r a b = record { base = b.base ∙ a.base; log = b.log ∙ a.log; ticks = prefix_trans p.ticks q.ticks r.ticks a.ticks b.ticks }
 
-seen_later : (x y : BoardState) (view : Option BoardState) → IsSeen x view → IsLaterBoard x y → IsSeen y view
+seen_later : (x y : EditionState) (view : Option EditionState) → IsSeen x view → IsLaterEdition x y → IsSeen y view
 seen_later x y None h l = tt
 seen_later x y (Some p) h l = later_trans p x y h l
 
 -- one view is replaced
-set_keeps : (x : BoardState) (views : List (Option BoardState)) (seat : ℕ) (view : Option BoardState) → Keeps x views → IsSeen x view → Keeps x (set views seat view)
+set_keeps : (x : EditionState) (views : List (Option EditionState)) (seat : ℕ) (view : Option EditionState) → Keeps x views → IsSeen x view → Keeps x (set views seat view)
 set_keeps x views seat view h ok j u e =
     ⊎_elim (λ (t : (j ≡ seat) × (view ≡ u)). subst (IsSeen x) t.1 ok) (λ (t : (j ≢ seat) × (get_elem? views j ≡ some u)). h j u t.1) (at_set views seat j view u e)
 
@@ -27,7 +27,7 @@ pub admits : Admits Keeps None
 admits x views h seat view at = ⊎_elim (h seat view) (λ (e : None ≡ view). subst (IsSeen x) e tt) (at_snoc views None view seat at)
 
 -- a later list is published, or a list is looked at
-pub grows : (seat : ℕ) (view : Option BoardState) (x y : BoardState) → IsLaterBoard x y → TurnsAt Keeps seat view x y Sees
+pub grows : (seat : ℕ) (view : Option EditionState) (x y : EditionState) → IsLaterEdition x y → TurnsAt Keeps seat view x y Sees
 grows seat view x y l views h at = (
   Some y,
   set_keeps y views seat (Some y) (λ j u e. seen_later x y u (h j u e) l) (later_self y),
@@ -35,16 +35,16 @@ grows seat view x y l views h at = (
 )
 
 -- the first list, which the writer has not seen
-pub begins : (p : BoardState) → Keeps p (None ∷ [])
+pub begins : (p : EditionState) → Keeps p (None ∷ [])
 begins p = admits p [] (λ j u e. absurd (some-ne-none u (sym e)))
 
 -- the writer shares what it has seen
-pub forks : (seat : ℕ) (view : Option BoardState) → Forks Keeps seat view view view
+pub forks : (seat : ℕ) (view : Option EditionState) → Forks Keeps seat view view view
 forks seat view x views h at j u e =
     ⊎_elim (set_keeps x views seat view h (h seat view at) j u) (λ (same : view ≡ u). subst (IsSeen x) same (h seat view at)) (at_snoc (set views seat view) view u j e)
 
 -- and a reader takes it over
-pub merges : (seat : ℕ) (view : Option BoardState) (other : ℕ) (seen : Option BoardState) → Merges Keeps seat view other seen seen None
+pub merges : (seat : ℕ) (view : Option EditionState) (other : ℕ) (seen : Option EditionState) → Merges Keeps seat view other seen seen None
 merges seat view other seen x views h at apart there =
     let ok : IsSeen x seen = ⊎_elim (λ (t : (other ≡ seat) × (seen ≡ seen)). absurd (apart t.0)) (λ (t : (other ≢ seat) × (get_elem? views other ≡ some seen)). h other seen t.1) (at_set views seat other seen seen there) in
     set_keeps x (set views seat seen) other None (set_keeps x views seat seen h ok) tt

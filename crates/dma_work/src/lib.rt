@@ -15,8 +15,8 @@
 //! settled desk is right, since two wrong ones may have the right sum.
 #![tactic(auto)]
 
-mod board;
 mod desk;
+mod edition;
 mod job;
 pub mod laws;
 mod log;

@@ -9,10 +9,10 @@ ghost use Rattle.dma_engine.specs.Ticks.{ticks_of};
 ghost use Rattle.dma_engine.specs.Turn.{ends, turn};
 ghost use Rattle.dma_work.specs.Known.{Known, knows};
 ghost use Rattle.dma_work.specs.Laws.{AreCounts};
-ghost use Rattle.dma_work.specs.inner.Published.{HasActed, IsLaterBoard, IsOfHistory, board_and, board_with, newest, snapshot_of};
+ghost use Rattle.dma_work.specs.inner.Published.{HasActed, IsLaterEdition, IsOfHistory, edition_and, edition_with, newest, snapshot_of};
 ghost use Rattle.dma_work.specs.Ticks.{StartsWith, base_of, board_from};
 
-use crate::board::{Board, BoardWriter, Counts, Published};
+use crate::edition::{Counts, Edition, EditionWriter, Published};
 use crate::log::{Change, Snapshot, Tick, TickLog};
 use crate::reader::StatusReader;
 use atomic_table::{Join, Split};
@@ -23,13 +23,13 @@ use std::marker::Model;
 use std::sync::Wait;
 
 // A new reader has seen what the writer has seen.
-impl Split<Option<Board>> for Published {
+impl Split<Option<Edition>> for Published {
     ghost left = { λ v. v };
 
     ghost right = { λ v. v };
 }
 
-impl Join<Option<Board>> for Published {
+impl Join<Option<Edition>> for Published {
     ghost use Rattle.std.specs.Prelude.{None};
 
     ghost both = { λ v seen. seen };
@@ -39,7 +39,7 @@ impl Join<Option<Board>> for Published {
 
 /// Publishes a growing list of ticks.
 pub(crate) struct Publisher {
-    writer: BoardWriter,
+    writer: EditionWriter,
     log: TickLog,
     // the ticks that were published before those of the engine's history
     before: Snapshot,
@@ -64,8 +64,13 @@ impl Model for Publisher {
 
 // Publishes what is pending, which the engine has already added to its history. `before` has the ticks that were
 // published before those of the history.
-fn shown<R: Wait>(rt: &R, writer: BoardWriter, before: &Snapshot, _engine: &Engine) -> BoardWriter
-    requires later { IsLaterBoard writer.desk.shown.value
+fn shown<R: Wait>(
+    rt: &R,
+    writer: EditionWriter,
+    before: &Snapshot,
+    _engine: &Engine,
+) -> EditionWriter
+    requires later { IsLaterEdition writer.desk.shown.value
         (newest writer.desk.shown.value (drop writer.behind writer.log.items)) }
     requires begins { StartsWith writer.desk.shown.value.ticks before.now.ticks }
     requires acted { IsOfHistory before.now.ticks _engine.now.view
@@ -122,12 +127,12 @@ impl Publisher {
         let before = log.snapshot();
         let base = Counts::at_base(engine);
         let counts = record_all(rt, &mut log, base, engine);
-        let first = Board::new(base, counts, log.snapshot(), None);
+        let first = Edition::new(base, counts, log.snapshot(), None);
         let (second, same) = (first.copy(), first.copy());
-        let Ok(mut writer) = BoardWriter::new(alloc, first, second, places) else {
+        let Ok(mut writer) = EditionWriter::new(alloc, first, second, places) else {
             return None;
         };
-        // After the same board is published, the writer has seen it, and so has each new reader.
+        // After the same edition is published, the writer has seen it, and so has each new reader.
         let Ok(()) = writer.append(same) else {
             writer.take(rt);
             return None;
@@ -158,7 +163,7 @@ impl Publisher {
         requires { self.old.pending ≡ [] }
         ensures few { IsTrue result → length self.new.shown.ticks < u64.MAX }
         ensures ready { IsTrue result
-            → self.new ≡ record (self.old) { pending = board_with self.old.shown tick ∷ [] } }
+            → self.new ≡ record (self.old) { pending = edition_with self.old.shown tick ∷ [] } }
         ensures same { result ≡ false → self.new ≡ self.old }
     {
         let before = self.log.snapshot();
@@ -170,13 +175,13 @@ impl Publisher {
     }
 
     /// Publishes the tick that was made ready, then records it in the log, and returns a snapshot. The engine has
-    /// already added the tick to its history. It waits for readers that still use the board from before the last one.
+    /// already added the tick to its history. It waits for readers that still use the edition from before the last one.
     pub fn publish<R: Wait>(&mut self, rt: &R, tick: Tick, engine: &Engine) -> Snapshot
-        requires pending { self.old.pending ≡ board_with self.old.shown tick ∷ [] }
+        requires pending { self.old.pending ≡ edition_with self.old.shown tick ∷ [] }
         requires few { length self.old.shown.ticks < u64.MAX }
         requires acted { HasActed self.old engine.now.view tick }
         ensures published { self.new
-            ≡ record (self.old) { shown = board_with self.old.shown tick; pending = [] } }
+            ≡ record (self.old) { shown = edition_with self.old.shown tick; pending = [] } }
         ensures snapshot { result ≡ snapshot_of self.new.shown }
     {
         replace_with(
@@ -197,7 +202,7 @@ impl Publisher {
             ≡ self.old.shown.ticks }
         ensures answer { StepAnswers engine.old.view ch result engine.new.view }
         ensures published { self.new
-            ≡ record (self.old) { shown = board_and self.old.shown (ticks_in ch result) } }
+            ≡ record (self.old) { shown = edition_and self.old.shown (ticks_in ch result) } }
     {
         let tick = Tick::new(ch, Change::Finished(1));
         if engine.make_room(ch).is_err() || !self.ready(tick) {

@@ -2,11 +2,11 @@
 
 ghost use Rattle.std.specs.Prelude.{◌≡◌, ◌⊎◌, Some, IfSome};
 ghost use Rattle.left_right.specs.Sides.{view};
-ghost use Rattle.dma_work.specs.inner.Published.{IsLaterBoard, known_by, seen_board};
+ghost use Rattle.dma_work.specs.inner.Published.{IsLaterEdition, known_by, seen_edition};
 ghost use Rattle.dma_work.specs.Ticks.{AreFinished, IsGiven, StartsWith, status_after};
 
-use crate::board::{BoardReader, Published};
 use crate::desk::DeskName;
+use crate::edition::{EditionReader, Published};
 use crate::log::Snapshot;
 use core::mem::replace_with;
 use dma_engine::Status;
@@ -73,7 +73,7 @@ pub struct Closed<N: DeskName> {
 /// those that it has learnt.
 #[derive(Drop)]
 pub struct StatusReader {
-    reader: BoardReader,
+    reader: EditionReader,
     learnt: Snapshot,
 }
 
@@ -81,27 +81,32 @@ impl Model for StatusReader {
     ghost use Rattle.std.specs.Prelude.{◌≡◌, Some};
     ghost use Rattle.left_right.specs.Sides.{view as seen_by};
     ghost use Rattle.dma_work.specs.Known.{Known};
-    ghost use Rattle.dma_work.specs.inner.Published.{known_by, seen_board};
+    ghost use Rattle.dma_work.specs.inner.Published.{known_by, seen_edition};
 
     ghost Value = { Known };
 
-    ghost view = { λ r. known_by (seen_board (seen_by r.reader.place)) r.learnt };
+    ghost view = { λ r. known_by (seen_edition (seen_by r.reader.place)) r.learnt };
 
     ghost invariant = { λ r.
-        (seen_by r.reader.place ≡ Some (seen_board (seen_by r.reader.place)))
-        × ((seen_board (seen_by r.reader.place)).log ≡ r.learnt.log) };
+        (seen_by r.reader.place ≡ Some (seen_edition (seen_by r.reader.place)))
+        × ((seen_edition (seen_by r.reader.place)).log ≡ r.learnt.log) };
 }
 
-// Returns the status of a cookie on the published board, or `None` unless the board's list begins with `list`.
-fn look(reader: BoardReader, list: &Snapshot, ch: u8, cookie: u32) -> (BoardReader, Option<Status>)
-    requires there { view reader.place ≡ Some (seen_board (view reader.place)) }
-    requires log { (seen_board (view reader.place)).log ≡ list.now.log }
-    ensures there { view result.0.place ≡ Some (seen_board (view result.0.place)) }
-    ensures later { IsLaterBoard (seen_board (view reader.place)) (seen_board (view result.0.place)) }
+// Returns the status of a cookie on the published edition, or `None` unless the edition's list begins with `list`.
+fn look(
+    reader: EditionReader,
+    list: &Snapshot,
+    ch: u8,
+    cookie: u32,
+) -> (EditionReader, Option<Status>)
+    requires there { view reader.place ≡ Some (seen_edition (view reader.place)) }
+    requires log { (seen_edition (view reader.place)).log ≡ list.now.log }
+    ensures there { view result.0.place ≡ Some (seen_edition (view result.0.place)) }
+    ensures later { IsLaterEdition (seen_edition (view reader.place)) (seen_edition (view result.0.place)) }
     ensures covers { IfSome result.1 (λ s.
-        StartsWith (seen_board (view result.0.place)).ticks list.now.ticks) }
-    ensures some { IfSome result.1 (λ s. s ≡ status_after (seen_board (view result.0.place)).base
-        (seen_board (view result.0.place)).ticks ch cookie) }
+        StartsWith (seen_edition (view result.0.place)).ticks list.now.ticks) }
+    ensures some { IfSome result.1 (λ s. s ≡ status_after (seen_edition (view result.0.place)).base
+        (seen_edition (view result.0.place)).ticks ch cookie) }
 {
     match reader.enter_as::<Published>() {
         Ok(reading) => {
@@ -113,11 +118,11 @@ fn look(reader: BoardReader, list: &Snapshot, ch: u8, cookie: u32) -> (BoardRead
 }
 
 impl StatusReader {
-    /// Returns a reader that has learnt a snapshot. The snapshot is of the log of the board that the reader has seen.
-    pub(crate) fn new(reader: BoardReader, learnt: Snapshot) -> StatusReader
-        requires there { view reader.place ≡ Some (seen_board (view reader.place)) }
-        requires log { (seen_board (view reader.place)).log ≡ learnt.log }
-        ensures { result ≡ known_by (seen_board (view reader.place)) learnt }
+    /// Returns a reader that has learnt a snapshot. The snapshot is of the log of the edition that the reader has seen.
+    pub(crate) fn new(reader: EditionReader, learnt: Snapshot) -> StatusReader
+        requires there { view reader.place ≡ Some (seen_edition (view reader.place)) }
+        requires log { (seen_edition (view reader.place)).log ≡ learnt.log }
+        ensures { result ≡ known_by (seen_edition (view reader.place)) learnt }
     {
         StatusReader { reader, learnt }
     }

@@ -1,6 +1,6 @@
 -- The parts of a save, whose lengths are in its head.
 use Rattle.std.specs.Prelude.{◌≡◌, ℕ, ◌+◌, ◌*◌, ◌^◌, ◌<◌, ◌≤◌, Bool, true, false, if◌then◌else◌, List, take, drop, Some, None, IfSome}
-use Rattle.dma_insn.specs.AssemblyText.{most_bytes}
+use Rattle.dma_insn.specs.AssemblyText.{most_program_bytes}
 use Rattle.dma_chan.specs.declared.save.head.Head.{Head}
 use Rattle.dma_chan.specs.Channel.{ChannelValue}
 use Rattle.dma_chan.specs.Saved.{HasRegisterRanges}
@@ -43,7 +43,7 @@ LoadsWhole false h = (h.cost ≡ None) × (h.program_len ≡ 0)
 -- n bytes.
 pub record FitsIn (n : ℕ) (h : Head) : Type 0 where
   pub buffer : h.buffer_len ≤ 256
-  pub program : h.program_len ≤ most_bytes
+  pub program : h.program_len ≤ most_program_bytes
   pub total : n ≡ 48 + h.buffer_len + h.program_len + 4
   pub loads : LoadsWhole h.is_loaded h
   pub few : h.stored ≤ 256 * h.taken

@@ -1,7 +1,7 @@
 //! The program of a channel, in memory that the channel keeps.
 
 ghost use Rattle.std.specs.Prelude.{◌≡◌, ◌≤◌, length, is_some, None, Some, IfOk};
-ghost use Rattle.dma_insn.specs.AssemblyText.{most_bytes};
+ghost use Rattle.dma_insn.specs.AssemblyText.{most_program_bytes};
 ghost use Rattle.dma_chan.specs.Channel.{bytes_of_program, cost_of_program};
 
 use crate::program::MAX_PROGRAM_BYTES;
@@ -42,7 +42,7 @@ impl Code {
 
     // Loads the program of these bytes, with this cost, in place of the one before.
     pub(super) fn load(&mut self, bytes: &[u8], cost: Option<u32>)
-        requires { length bytes.now ≤ most_bytes }
+        requires { length bytes.now ≤ most_program_bytes }
         ensures { self.new ≡ Some (record { bytes = bytes.now; cost = cost }) }
     {
         self.bytes.clear();
@@ -72,7 +72,7 @@ impl Code {
     #[inline(always)]
     pub(super) fn bytes(&self) -> &[u8]
         ensures value { result.now ≡ bytes_of_program self.now }
-        ensures limit { length result.now ≤ most_bytes }
+        ensures limit { length result.now ≤ most_program_bytes }
     {
         if self.is_loaded { &self.bytes } else { &[] }
     }

@@ -11,9 +11,9 @@ use crate::printing::Shown;
 use crate::transfers::transfer_of;
 use dma_engine::{Call, Engine, EngineFault, Entry, Reply};
 use dma_mem::lists::Bytes;
-use dma_script::plan::TransferLine;
 use dma_script::printing::print_line;
 use dma_script::statements::Statement;
+use dma_script::transfer_line::TransferLine;
 use dma_text::text::{Address, SpacedBytes, print};
 use std::alloc::AllocError;
 

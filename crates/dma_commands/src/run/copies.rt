@@ -2,7 +2,7 @@
 //! answer is neither Started nor Moved.
 ghost use Rattle.std.specs.Prelude.{◌≡◌, IfOk};
 ghost use Rattle.dma_commands.specs.inner.RunSteps.{RunsLine};
-ghost use Rattle.dma_commands.specs.Run.{CopiesEnd, copy_answer, is_in_use, most_steps, stepped_to_end, transfer_answer};
+ghost use Rattle.dma_commands.specs.Run.{CopiesEnd, copy_answer, is_in_use, most_copy_steps, stepped_to_end, transfer_answer};
 ghost use Rattle.dma_commands.specs.Transfers.{transfer_of};
 
 use crate::printing::Shown;
@@ -10,14 +10,14 @@ use crate::run::calls::reply_to;
 use crate::run::steps::step_reply;
 use crate::transfers::transfer_of;
 use dma_engine::{Call, Engine, Reply};
-use dma_script::plan::{Origin, TransferLine};
 use dma_script::printing::print_line;
+use dma_script::transfer_line::{Origin, TransferLine};
 use std::alloc::AllocError;
 
 /// A limit for the steps of a copy or a fill. It is at least the number of steps of any transfer: its start and fewer
 /// than 2^19 instructions (`dma_chan::laws::costs_little`). So it cuts off no copy or fill, which is the law
 /// `copies_end`.
-pub const MOST_STEPS: u32 = 524_288;
+pub const MAX_COPY_STEPS: u32 = 524_288;
 
 /// Returns whether channel 0 has an unfinished cookie, or is paused or halted.
 fn is_in_use(engine: &Engine) -> bool
@@ -26,13 +26,13 @@ fn is_in_use(engine: &Engine) -> bool
     engine.unfinished(0) > 0 || engine.paused(0) || engine.halted(0)
 }
 
-/// Steps channel 0 until an answer is neither Started nor Moved, and at most `MOST_STEPS` + 1 times. Returns the last
+/// Steps channel 0 until an answer is neither Started nor Moved, and at most `MAX_COPY_STEPS` + 1 times. Returns the last
 /// answer. Fails if memory runs out.
 fn step_to_end(engine: &mut Engine) -> Result<Reply, AllocError>
     ensures { IfOk result
-        (λ reply. (reply, engine.new.view) ≡ stepped_to_end most_steps engine.old.view) }
+        (λ reply. (reply, engine.new.view) ≡ stepped_to_end most_copy_steps engine.old.view) }
 {
-    match engine.advance(0, MOST_STEPS).last {
+    match engine.advance(0, MAX_COPY_STEPS).last {
         Some(last) => step_reply(last),
         None => reply_to(engine, &Call::Step { ch: 0 }),
     }

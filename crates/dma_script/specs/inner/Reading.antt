@@ -12,13 +12,13 @@ use Rattle.dma_script.specs.Words.{is_blank, number_of, segment_of, list_of}
 use Rattle.dma_script.specs.Arguments.{bytes_at, lies_in}
 use Rattle.dma_script.specs.Lines.{◌>>=◌}
 use Rattle.dma_script.specs.Plan.{plain}
-use Rattle.dma_script.specs.Statements.{later_line, most_steps}
+use Rattle.dma_script.specs.Statements.{later_line, most_line_steps}
 use Rattle.dma_script.specs.Causes.{where_not, number_or_zero, cause_reported}
 use Rattle.dma_script.specs.declared.fault.Cause.{Cause}
 use Rattle.dma_script.specs.declared.fault.Cause.TheVariants as causes
-use Rattle.dma_script.specs.declared.plan.Origin.{Origin}
-use Rattle.dma_script.specs.declared.plan.Origin.TheVariants as origins
-use Rattle.dma_script.specs.declared.plan.TransferLine.{TransferLine}
+use Rattle.dma_script.specs.declared.transfer_line.Origin.{Origin}
+use Rattle.dma_script.specs.declared.transfer_line.Origin.TheVariants as origins
+use Rattle.dma_script.specs.declared.transfer_line.TransferLine.{TransferLine}
 use Rattle.dma_script.specs.declared.statements.Keyword.{Keyword}
 use Rattle.dma_script.specs.declared.statements.Keyword.TheVariants as keywords
 use Rattle.dma_script.specs.declared.statements.Statement.{Statement}
@@ -118,7 +118,7 @@ byte_from line = within_from 0 255 causes.Range line
 
 -- a number of steps, which is 1 if no word is left
 abbrev pub count_from : LineRead → ℕ × LineRead
-count_from line = if no_words line.left then (1, line) else within_from 1 most_steps causes.Range line
+count_from line = if no_words line.left then (1, line) else within_from 1 most_line_steps causes.Range line
 
 -- the event after its name, or `None` if the name is not the next word
 abbrev pub event_from : List ℕ → LineRead → Option ℕ × LineRead

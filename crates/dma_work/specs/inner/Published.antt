@@ -38,45 +38,45 @@ head_of b = record { tracked = true; key = 0; book = b }
 abbrev pub Adds : Step Tick → View Tick ℕ → ℕ → View Tick ℕ → Type 0
 Adds s v found w = MatchBool (found == s.old) (w.0 ≡ v.0 ++ s.ask ∷ []) (length w.0 ≡ found)
 
--- ---- boards
+-- ---- editions
 
--- A published board: the counts that it begins with, its ticks, and the log that records them.
-pub record BoardState : Type 0 where
+-- A published edition: the counts that it begins with, its ticks, and the log that records them.
+pub record EditionState : Type 0 where
   pub base : Board
   pub ticks : List Tick
   pub log : Book
 
--- the board with more ticks
-abbrev pub board_and : BoardState → List Tick → BoardState
-board_and b more = record b { ticks = b.ticks ++ more }
+-- the edition with more ticks
+abbrev pub edition_and : EditionState → List Tick → EditionState
+edition_and b more = record b { ticks = b.ticks ++ more }
 
--- the board with one more tick
-abbrev pub board_with : BoardState → Tick → BoardState
-board_with b t = board_and b (t ∷ [])
+-- the edition with one more tick
+abbrev pub edition_with : EditionState → Tick → EditionState
+edition_with b t = edition_and b (t ∷ [])
 
--- A later board begins with the earlier one.
-pub record IsLaterBoard (old new : BoardState) : Type 0 where
+-- A later edition begins with the earlier one.
+pub record IsLaterEdition (old new : EditionState) : Type 0 where
   pub base : new.base ≡ old.base
   pub log : new.log ≡ old.log
   pub ticks : StartsWith new.ticks old.ticks
 
--- the last of the boards that are to be published next, or the one that is published
-abbrev pub newest : BoardState → List BoardState → BoardState
-newest b next = fold (λ (x : BoardState) (y : BoardState). y) b next
+-- the last of the editions that are to be published next, or the one that is published
+abbrev pub newest : EditionState → List EditionState → EditionState
+newest b next = fold (λ (x : EditionState) (y : EditionState). y) b next
 
--- a snapshot of a board's log that has the board's ticks
-abbrev pub snapshot_of : BoardState → SnapshotState
+-- a snapshot of an edition's log that has the edition's ticks
+abbrev pub snapshot_of : EditionState → SnapshotState
 snapshot_of b = record { log = b.log; ticks = b.ticks }
 
--- A publisher: the board that is published, those to be published next, and the ticks that were published before those
+-- A publisher: the edition that is published, those to be published next, and the ticks that were published before those
 -- of the engine's history.
 pub record PublisherState : Type 0 where
-  pub shown : BoardState
-  pub pending : List BoardState
+  pub shown : EditionState
+  pub pending : List EditionState
   pub before : List Tick
 
--- The board has the ticks before the engine's history, and those of the history.
-abbrev pub IsOfHistory : List Tick → EngineView → BoardState → Type 0
+-- The edition has the ticks before the engine's history, and those of the history.
+abbrev pub IsOfHistory : List Tick → EngineView → EditionState → Type 0
 IsOfHistory before v b = b.ticks ≡ before ++ ticks_of v.history
 
 -- The engine has acted: the published ticks begin with those before its history, and followed by this one they are those
@@ -87,25 +87,25 @@ HasActed p v t =
 
 -- ---- the rule of what is published: it only grows, and begins with all that anyone has seen
 
--- The board that the writer or a reader has seen, if any, is an earlier state of this board.
-abbrev pub IsSeen : BoardState → Option BoardState → Type 0
-IsSeen b view = IfSome view (λ seen. IsLaterBoard seen b)
+-- The edition that the writer or a reader has seen, if any, is an earlier state of this edition.
+abbrev pub IsSeen : EditionState → Option EditionState → Type 0
+IsSeen b view = IfSome view (λ seen. IsLaterEdition seen b)
 
--- Each board that was seen is an earlier state of this board.
-abbrev pub Keeps : BoardState → List (Option BoardState) → Type 0
-Keeps b views = (seat : ℕ) (view : Option BoardState) → get_elem? views seat ≡ some view → IsSeen b view
+-- Each edition that was seen is an earlier state of this edition.
+abbrev pub Keeps : EditionState → List (Option EditionState) → Type 0
+Keeps b views = (seat : ℕ) (view : Option EditionState) → get_elem? views seat ≡ some view → IsSeen b view
 
--- After reading or publishing a board, one has seen it, and what one has seen before is an earlier state of it.
-abbrev pub Sees : Option BoardState → BoardState → BoardState → Option BoardState → Type 0
+-- After reading or publishing an edition, one has seen it, and what one has seen before is an earlier state of it.
+abbrev pub Sees : Option EditionState → EditionState → EditionState → Option EditionState → Type 0
 Sees before old new after = IsSeen new before × (after ≡ Some new)
 
 -- ---- readers
 
--- the board that was seen, or an empty one
-abbrev pub seen_board : Option BoardState → BoardState
-seen_board (Some b) = b
-seen_board None = record { base = []; ticks = []; log = record { number = 0; log_name = 0; cells_name = 0 } }
+-- the edition that was seen, or an empty one
+abbrev pub seen_edition : Option EditionState → EditionState
+seen_edition (Some b) = b
+seen_edition None = record { base = []; ticks = []; log = record { number = 0; log_name = 0; cells_name = 0 } }
 
--- what a reader knows that has seen this board and learnt this snapshot
-abbrev pub known_by : BoardState → SnapshotState → Known
+-- what a reader knows that has seen this edition and learnt this snapshot
+abbrev pub known_by : EditionState → SnapshotState → Known
 known_by b learnt = record { base = b.base; log = b.log; seen = b.ticks; learnt = learnt.ticks }

@@ -11,7 +11,7 @@ use Rattle.dma_work.specs.Desk.{DeskState, IsSoundOf, TallyCounts}
 use Rattle.dma_work.specs.declared.job.Job.{Job}
 use Rattle.dma_script.specs.Command.{printed_text, text_of}
 use Rattle.dma_script.specs.Interpreted.{PrintsLines, StopsAtALine}
-use Rattle.dma_script.specs.declared.plan.TransferLine.{TransferLine}
+use Rattle.dma_script.specs.declared.transfer_line.TransferLine.{TransferLine}
 use Rattle.dma_script.specs.declared.statements.Statement.{Statement}
 use Rattle.dma_script.specs.declared.statements.Statement.TheVariants as statements
 use Rattle.dma_commands.specs.Printed.{refused_line, transfer_fault_name}

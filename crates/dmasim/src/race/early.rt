@@ -11,7 +11,7 @@ use dma_commands::printing::Shown;
 use dma_commands::transfers::transfer_of;
 use dma_engine::{Call, EngineFault, Reply};
 use dma_script::interpreter::Interpreter;
-use dma_script::plan::TransferLine;
+use dma_script::transfer_line::TransferLine;
 use dma_script::printing::print_line;
 use dma_script::statements::{Statement, Statements};
 use dma_work::{Desk, DeskName, Lender, StatusReader};

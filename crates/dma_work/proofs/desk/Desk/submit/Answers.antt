@@ -5,7 +5,7 @@ use Rattle.dma_engine.specs.Ticks.{Submitted}
 use Rattle.dma_engine.proofs.CallLists.{answers-extend}
 use Rattle.dma_engine.proofs.CookieCounts.{submits_add}
 use Rattle.dma_work.specs.inner.DeskKept.{IsKept}
-use Rattle.dma_work.specs.inner.Published.{BoardState, SnapshotState}
+use Rattle.dma_work.specs.inner.Published.{EditionState, SnapshotState}
 use Rattle.dma_work.proofs.Desks.{acted_next, given_in, kept_next}
 use Rattle.dma_work.proofs.desk.Desk.submit.Given.{Over}
 use Rattle.dma_work.proofs.desk.Desk.submit.Goals as goal
@@ -15,7 +15,7 @@ publish-requires-clause-acted g c =
     let m = c.make_room.new.self in
     let w = c.submit.new.self in
     let s = submits_add m.view w.view c.args.ch c.in-Ok.cookie c.args.transfer c.in-Ok.ensures.answer in
-    acted_next c.self.inside.publisher c.ready.new.self c.self.inside.engine.view m.view w.view _ c.new-tick.result (Submitted c.args.ch) c.make_room.ensures.view s.0.ticks c.new-tick.ensures (c.ready.ensures.ready c.if-not-ready.false) (ap (λ (x : BoardState). x.ticks) (sym c.self.invariant.shown))
+    acted_next c.self.inside.publisher c.ready.new.self c.self.inside.engine.view m.view w.view _ c.new-tick.result (Submitted c.args.ch) c.make_room.ensures.view s.0.ticks c.new-tick.ensures (c.ready.ensures.ready c.if-not-ready.false) (ap (λ (x : EditionState). x.ticks) (sym c.self.invariant.shown))
 
 kept : (g : Over) (c : goal.After-new-ticket g) → IsKept g.N.DeskName.steps g.N.DeskName.finished g.N.DeskName.size g.N.DeskName.channels g.N.DeskName.base g.N.DeskName.log c.submit.new.self c.publish.new.self c.self.inside.book
 kept g c =
@@ -38,4 +38,4 @@ invariant_of-self-2 g c = kept g c.before
 
 pub returns-clause-ticket : goal.returns-clause-ticket
 returns-clause-ticket g c =
-    c.new-ticket.ensures ∙ ap (λ (x : SnapshotState). x.ticks) c.publish.ensures.snapshot ∙ ap (λ (x : BoardState). x.ticks) (kept g c.before).shown
+    c.new-ticket.ensures ∙ ap (λ (x : SnapshotState). x.ticks) c.publish.ensures.snapshot ∙ ap (λ (x : EditionState). x.ticks) (kept g c.before).shown

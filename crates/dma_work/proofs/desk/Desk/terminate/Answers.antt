@@ -8,7 +8,7 @@ use Rattle.dma_engine.proofs.CallLists.{answers-extend}
 use Rattle.dma_engine.proofs.CookieCounts.{terminates_add}
 use Rattle.dma_work.specs.declared.worker.Totals.{Totals}
 use Rattle.dma_work.specs.inner.DeskKept.{IsKept}
-use Rattle.dma_work.specs.inner.Published.{BoardState, SnapshotState}
+use Rattle.dma_work.specs.inner.Published.{EditionState, SnapshotState}
 use Rattle.dma_work.proofs.Desks.{acted_next, finished_in, kept_next}
 use Rattle.dma_work.proofs.desk.Desk.terminate.Given.{Over}
 use Rattle.dma_work.proofs.desk.Desk.terminate.Goals as goal
@@ -27,7 +27,7 @@ publish-requires-clause-acted g c =
     let ch = c.args.ch in
     let s = terminates_add m.view w.view ch c.in-Ok.count c.in-Ok.ensures.answer in
     let tick : c.new-tick.result ≡ Finished ch c.in-Ok.count = c.new-tick.ensures ∙ ap (λ n. Finished ch n) (c.unfinished.ensures ∙ sym s.2) in
-    acted_next c.self.inside.publisher c.ready.new.self c.self.inside.engine.view m.view w.view _ c.new-tick.result (Finished ch c.in-Ok.count) c.make_room.ensures.view s.0.ticks tick (c.ready.ensures.ready c.if-not-ready.false) (ap (λ (x : BoardState). x.ticks) (sym c.self.invariant.shown))
+    acted_next c.self.inside.publisher c.ready.new.self c.self.inside.engine.view m.view w.view _ c.new-tick.result (Finished ch c.in-Ok.count) c.make_room.ensures.view s.0.ticks tick (c.ready.ensures.ready c.if-not-ready.false) (ap (λ (x : EditionState). x.ticks) (sym c.self.invariant.shown))
 
 kept : (g : Over) (c : goal.After-used-through g) → IsKept g.N.DeskName.steps g.N.DeskName.finished g.N.DeskName.size g.N.DeskName.channels g.N.DeskName.base g.N.DeskName.log c.terminate.new.self c.publish.new.self (record (c.self.inside.book) { terminated = c.self.inside.book.terminated + c.from.result })
 kept g c =
@@ -53,4 +53,4 @@ invariant_of-self-2 g c = kept g c.before
 
 pub returns-clause-ticket : goal.returns-clause-ticket
 returns-clause-ticket g c =
-    c.new-last.ensures ∙ ap (λ (x : SnapshotState). x.ticks) c.publish.ensures.snapshot ∙ ap (λ (x : BoardState). x.ticks) (kept g c.before).shown
+    c.new-last.ensures ∙ ap (λ (x : SnapshotState). x.ticks) c.publish.ensures.snapshot ∙ ap (λ (x : EditionState). x.ticks) (kept g c.before).shown

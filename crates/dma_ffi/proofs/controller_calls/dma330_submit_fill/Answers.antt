@@ -3,7 +3,7 @@ use Rattle.std.proofs.lemmas.Int.{to_z-of_z}
 use Rattle.dma_ffi.specs.Codes.{event_of}
 use Rattle.dma_ffi.specs.inner.Submits.{Submits}
 use Rattle.dma_ffi.proofs.Returns.{returns_fill}
-use Rattle.dma_ffi.proofs.controllers.dma330_submit_fill.Goals as goal
+use Rattle.dma_ffi.proofs.controller_calls.dma330_submit_fill.Goals as goal
 
 pub returns : goal.returns
 returns c =

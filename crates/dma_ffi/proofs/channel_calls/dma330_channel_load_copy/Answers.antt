@@ -4,7 +4,7 @@ use Rattle.dma_ffi.specs.Codes.{event_of}
 use Rattle.dma_mem.specs.Places.{copying}
 use Rattle.dma_ffi.specs.inner.Loads.{LoadsMade}
 use Rattle.dma_ffi.proofs.OnChannels.{loads_copy}
-use Rattle.dma_ffi.proofs.channels.dma330_channel_load_copy.Goals as goal
+use Rattle.dma_ffi.proofs.channel_calls.dma330_channel_load_copy.Goals as goal
 
 pub returns : goal.returns
 returns c =

@@ -3,7 +3,7 @@ use Rattle.std.proofs.lemmas.Int.{to_z-of_z}
 use Rattle.dma_ffi.specs.Codes.{event_of}
 use Rattle.dma_ffi.specs.inner.Loads.{LoadsMade}
 use Rattle.dma_ffi.proofs.OnChannels.{loads_fill}
-use Rattle.dma_ffi.proofs.channels.dma330_channel_load_fill.Goals as goal
+use Rattle.dma_ffi.proofs.channel_calls.dma330_channel_load_fill.Goals as goal
 
 pub returns : goal.returns
 returns c =

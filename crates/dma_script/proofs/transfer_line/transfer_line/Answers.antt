@@ -3,7 +3,7 @@ use Rattle.std.proofs.lemmas.Result.{err_from_is_err_and}
 use Rattle.dma_script.specs.Words.{words_of}
 use Rattle.dma_script.specs.inner.Reading.{transfer_from}
 use Rattle.dma_script.proofs.Reading.{transfer_read}
-use Rattle.dma_script.proofs.plan.transfer_line.Goals as goal
+use Rattle.dma_script.proofs.transfer_line.transfer_line.Goals as goal
 
 pub returns-in_err-end : goal.returns-in_err-end
 returns-in_err-end c =

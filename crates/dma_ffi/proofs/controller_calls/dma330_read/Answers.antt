@@ -1,7 +1,7 @@
 use Rattle.std.proofs.Common.{◌∙◌, length, w32}
 use Rattle.std.proofs.lemmas.Int.{to_z-of_z}
 use Rattle.dma_ffi.proofs.Returns.{returns_read}
-use Rattle.dma_ffi.proofs.controllers.dma330_read.Goals as goal
+use Rattle.dma_ffi.proofs.controller_calls.dma330_read.Goals as goal
 
 pub returns : goal.returns
 returns c =

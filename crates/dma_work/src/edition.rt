@@ -1,8 +1,8 @@
-//! Boards, which are published to readers, and the rule that a published board only grows.
+//! Editions, which are published to readers, and the rule that a published edition only grows.
 
 ghost use Rattle.std.specs.Prelude.{◌≡◌, ◌++◌, IfSome};
 ghost use Rattle.dma_engine.specs.Ticks.{board_of, counts, status_of, ticked};
-ghost use Rattle.dma_work.specs.inner.Published.{board_with, snapshot_of, ticks_of_option};
+ghost use Rattle.dma_work.specs.inner.Published.{edition_with, snapshot_of, ticks_of_option};
 ghost use Rattle.dma_work.specs.Ticks.{StartsWith, base_of, board_from, status_after};
 
 use crate::log::{Change, Snapshot, Tick};
@@ -110,20 +110,20 @@ impl Counts {
 
 /// The counts that a list of ticks adds up to. Contracts see the list.
 #[derive(Drop)]
-pub(crate) struct Board {
+pub(crate) struct Edition {
     base: Counts,
     counts: Counts,
     before: Snapshot,
-    // the last tick of the list, if the log records it only after the board is published
+    // the last tick of the list, if the log records it only after the edition is published
     next: Option<Tick>,
 }
 
-impl Model for Board {
+impl Model for Edition {
     ghost use Rattle.std.specs.Prelude.{◌≡◌, ◌++◌};
-    ghost use Rattle.dma_work.specs.inner.Published.{BoardState, ticks_of_option};
+    ghost use Rattle.dma_work.specs.inner.Published.{EditionState, ticks_of_option};
     ghost use Rattle.dma_work.specs.Ticks.{board_from};
 
-    ghost Value = { BoardState };
+    ghost Value = { EditionState };
 
     ghost view = { λ b. record {
       base = b.base;
@@ -134,9 +134,9 @@ impl Model for Board {
     ghost invariant = { λ b. b.counts ≡ board_from b.base (b.before.ticks ++ ticks_of_option b.next) };
 }
 
-impl Board {
-    /// Returns the board of a snapshot and the next tick, if any.
-    pub fn new(base: Counts, counts: Counts, before: Snapshot, next: Option<Tick>) -> Board
+impl Edition {
+    /// Returns the edition of a snapshot and the next tick, if any.
+    pub fn new(base: Counts, counts: Counts, before: Snapshot, next: Option<Tick>) -> Edition
         requires { counts ≡ board_from base (before.ticks ++ ticks_of_option next) }
         ensures { result ≡ record {
           base = base;
@@ -144,7 +144,7 @@ impl Board {
           log = before.log;
         } }
     {
-        Board {
+        Edition {
             base,
             counts,
             before,
@@ -153,24 +153,24 @@ impl Board {
     }
 
     /// Returns a copy.
-    pub fn copy(&self) -> Board
+    pub fn copy(&self) -> Edition
         ensures { result ≡ self.now }
     {
-        Board::new(self.base, self.counts, self.before.copy(), self.next)
+        Edition::new(self.base, self.counts, self.before.copy(), self.next)
     }
 
-    /// Returns the board with one more tick. `before` is a snapshot that has all ticks of this board.
+    /// Returns the edition with one more tick. `before` is a snapshot that has all ticks of this edition.
     #[tactic(auto, using(crate::proofs::Boards::board_push))]
-    pub fn next(&self, before: Snapshot, tick: Tick) -> Board
+    pub fn next(&self, before: Snapshot, tick: Tick) -> Edition
         requires { before ≡ snapshot_of self.now }
-        ensures { result ≡ board_with self.now tick }
+        ensures { result ≡ edition_with self.now tick }
     {
         let mut counts = self.counts;
         counts.add(tick);
-        Board::new(self.base, counts, before, Some(tick))
+        Edition::new(self.base, counts, before, Some(tick))
     }
 
-    /// Returns the status of a cookie if the board's list is known to begin with a snapshot of its log, else `None`.
+    /// Returns the status of a cookie if the edition's list is known to begin with a snapshot of its log, else `None`.
     pub fn status(&self, snapshot: &Snapshot, ch: u8, cookie: u32) -> Option<Status>
         requires { snapshot.now.log ≡ self.now.log }
         ensures covers { IfSome result (λ s. StartsWith self.now.ticks snapshot.now.ticks) }
@@ -185,9 +185,9 @@ impl Board {
     }
 }
 
-/// An operation is the next board, which replaces the published one.
-impl Absorb<Board> for Board {
-    type State = Board;
+/// An operation is the next edition, which replaces the published one.
+impl Absorb<Edition> for Edition {
+    type State = Edition;
 
     ghost state = { λ b. b };
 
@@ -195,18 +195,18 @@ impl Absorb<Board> for Board {
 
     ghost never_fails = { Unit {0} };
 
-    /// Replaces the board by the next one.
-    fn absorb_first(&mut self, operation: &Board, _other: &Board) -> Result<(), AllocError> {
+    /// Replaces the edition by the next one.
+    fn absorb_first(&mut self, operation: &Edition, _other: &Edition) -> Result<(), AllocError> {
         *self = operation.copy();
         Ok(())
     }
 }
 
-/// The rule of what is published, and what reading or publishing a board shows. It records, for the writer and each
-/// reader, the last board that it has seen, if any.
+/// The rule of what is published, and what reading or publishing an edition shows. It records, for the writer and each
+/// reader, the last edition that it has seen, if any.
 pub(crate) struct Published;
 
-impl Protocol<Board, Option<Board>> for Published {
+impl Protocol<Edition, Option<Edition>> for Published {
     ghost use Rattle.std.specs.Prelude.{None};
     ghost use Rattle.dma_work.specs.inner.Published.{Keeps};
 
@@ -215,12 +215,12 @@ impl Protocol<Board, Option<Board>> for Published {
     ghost first = { None };
 }
 
-impl Outcome<Board, Option<Board>> for Published {
+impl Outcome<Edition, Option<Edition>> for Published {
     ghost use Rattle.dma_work.specs.inner.Published.{Sees};
 
     ghost then = { Sees };
 }
 
-pub(crate) type BoardReader = Reader<Board, Option<Board>, Published>;
+pub(crate) type EditionReader = Reader<Edition, Option<Edition>, Published>;
 
-pub(crate) type BoardWriter = Writer<Board, Board, Option<Board>, Published>;
+pub(crate) type EditionWriter = Writer<Edition, Edition, Option<Edition>, Published>;

@@ -91,7 +91,7 @@ fn transfer_line(alloc: Global, words: &[u8]) -> Result<TransferLine, LineError>
 // A plan script has one line.
 impl Script for Option<TransferLine> {
     ghost use Rattle.std.specs.Prelude.{Option};
-    ghost use Rattle.dma_script.specs.declared.plan.TransferLine.{TransferLine};
+    ghost use Rattle.dma_script.specs.declared.transfer_line.TransferLine.{TransferLine};
     ghost use Rattle.dma_script.specs.Plan.{plan_step};
 
     ghost View = { Option TransferLine };

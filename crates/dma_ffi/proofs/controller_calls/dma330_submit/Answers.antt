@@ -4,7 +4,7 @@ use Rattle.dma_ffi.specs.Codes.{event_of}
 use Rattle.dma_mem.specs.Places.{copying}
 use Rattle.dma_ffi.specs.inner.Submits.{Submits}
 use Rattle.dma_ffi.proofs.Returns.{returns_copy}
-use Rattle.dma_ffi.proofs.controllers.dma330_submit.Goals as goal
+use Rattle.dma_ffi.proofs.controller_calls.dma330_submit.Goals as goal
 
 pub returns : goal.returns
 returns c =

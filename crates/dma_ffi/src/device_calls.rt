@@ -7,7 +7,7 @@ ghost use Rattle.dma_device.specs.Snapshot.{saved_device};
 ghost use Rattle.dma_ffi.specs.Calls.{Becomes, OnOpen, WritesSave, WritesValue};
 ghost use Rattle.dma_ffi.specs.Devices.{FitsSave, Opens, ReportsTurn, Restores, WritesRegister, abort_line, any_can_step, report_of, restore_code};
 
-use crate::channels::are_usable;
+use crate::channel_calls::are_usable;
 use crate::codes::{
     ALREADY_OPEN, BAD_CONFIG, BAD_REGIONS, BAD_SAVE, BUFFER_TOO_SMALL, NO_MEMORY, NOT_OPEN, OK,
     OTHER_DEVICE, code_of_device, found,

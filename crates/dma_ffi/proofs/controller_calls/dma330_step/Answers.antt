@@ -1,7 +1,7 @@
 use Rattle.std.proofs.Common.{◌∙◌, w32, rules}
 use Rattle.std.proofs.lemmas.Int.{to_z-of_z}
 use Rattle.dma_ffi.proofs.Returns.{returns_steps}
-use Rattle.dma_ffi.proofs.controllers.dma330_step.Goals as goal
+use Rattle.dma_ffi.proofs.controller_calls.dma330_step.Goals as goal
 
 pub returns : goal.returns
 returns c =
