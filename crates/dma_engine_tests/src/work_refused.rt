@@ -105,7 +105,14 @@ fn refusal<N: DeskName, R: Wait + Abort>(
             let addr = 0x1004;
             carried_out(desk, Call::Write { addr, bytes }).err()
         }
-        Asked::Read => carried_out(desk, Call::Read { addr: 0x1000, len: 4 }).err(),
+        Asked::Read => carried_out(
+            desk,
+            Call::Read {
+                addr: 0x1000,
+                len: 4,
+            },
+        )
+        .err(),
         Asked::Submit => submit_refusal(rt, desk, copy(alloc, 4, 0x3000, Some(3), Some(7))?),
         Asked::Issue => carried_out(desk, Call::Issue { ch: 0 }).err(),
         Asked::Mark => carried_out(desk, Call::Mark { kind, segment }).err(),
