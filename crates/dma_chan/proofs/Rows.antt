@@ -15,8 +15,8 @@ use Rattle.dma_chan.specs.Traffic.{read_len, write_len}
 
 -- ---- the code's constants
 
-most_program_bytes : MAX_PROGRAM_BYTES ≡ most_program_bytes
-most_program_bytes = refl
+program_bytes : MAX_PROGRAM_BYTES ≡ most_program_bytes
+program_bytes = refl
 
 -- 58 bytes for each of at most 127 pieces, and 5 for the wait, the signal and the end
 compiled_bytes_add_up : 58 * 127 + 5 ≡ most_compiled
