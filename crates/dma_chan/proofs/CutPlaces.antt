@@ -1,5 +1,5 @@
--- Two lists of segments, cut into pieces. The pieces have the places of both lists, in order, and there are fewer pieces
--- than segments.
+-- Two lists of segments, cut into pieces. The pieces have the places of both lists, in order, and there are fewer
+-- pieces than segments.
 use Rattle.std.proofs.Common.{◌≡◌, ℕ, zero, suc, ◌+◌, ◌-◌, ◌^◌, ◌≤◌, ◌<◌, Bool, true, false, cond, ltb, List, [], ◌∷◌, ◌++◌, length, refl, sym, ap, ◌∙◌, arith, append_assoc, append-nil, length-append}
 use Rattle.std.specs.List.{AllByRecursion, range_with_len}
 use Rattle.std.proofs.lemmas.Bool.{ltb-true, ltb-false}
@@ -19,8 +19,8 @@ range-add a (suc m) n =
     let f : a + 1 + m ≡ a + suc m = omega arith in
     ap (range_with_len a) e ∙ ap (λ (xs : List ℕ). a ∷ xs) (range-add (a + 1) m n ∙ ap (λ (k : ℕ). range_with_len (a + 1) m ++ range_with_len k n) f)
 
--- how far a source address moves over n bytes, and the addresses that n bytes are read from: consecutive addresses, or in
--- a fill the first address n times
+-- how far a source address moves over n bytes, and the addresses that n bytes are read from: consecutive addresses, or
+-- in a fill the first address n times
 abbrev pub way : Bool → ℕ → ℕ
 way false n = n
 way true n = 0

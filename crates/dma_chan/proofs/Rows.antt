@@ -1,5 +1,5 @@
--- The limits, as numbers, and a program worked out: rows computed from the definitions, and the code's own constants. And
--- what a law refuses.
+-- The limits, as numbers, and a program worked out: rows computed from the definitions, and the code's own constants.
+-- And what a law refuses.
 use Rattle.std.proofs.Common.{◌≡◌, ℕ, ◌+◌, ◌*◌, ◌^◌, ◌≤◌, [], ◌∷◌, Some, None, false, refl, sym, ◌∙◌, arith}
 use Rattle.dma_mem.specs.Places.{Descriptor, filling, size_of}
 use Rattle.dma_mem.specs.Rules.{IsTransfer}

@@ -54,8 +54,8 @@ pub record DoesCall (call : Call) : Type 0 where
   pub written : call.written ≡ written_after call.marks call.found call.taken
 
 -- Before a call, `found` has the system's channel, and the memory's byte at each address that the call is lent. After
--- it, the system has the channel and these bytes of `left`. Nothing else changes. Each call may be lent other addresses,
--- in an image of another size.
+-- it, the system has the channel and these bytes of `left`. Nothing else changes. Each call may be lent other
+-- addresses, in an image of another size.
 pub record TakesCall (call : Call) (before after : System) : Type 0 where
   pub does : DoesCall call
   pub finds_channel : call.found.channel ≡ before.channels call.channel
@@ -100,8 +100,8 @@ abbrev pub KeepsTouched : Descriptor → System → System → Type 0
 KeepsTouched t before after = (a : ℕ) → Touches t a → after.memory a ≡ before.memory a
 
 -- A change leaves the transfer of a channel alone: it gives the channel no other value, so a restore of the value that
--- the channel has is allowed; a call on the channel is lent what the transfer touches; and anything else changes no byte
--- there.
+-- the channel has is allowed; a call on the channel is lent what the transfer touches; and anything else changes no
+-- byte there.
 abbrev pub LeavesAlone : Descriptor → ℕ → Change → System → System → Type 0
 LeavesAlone t ch (Sets other c) before after = other ≡ ch → c ≡ before.channels ch
 LeavesAlone t ch (Calls call) before after =

@@ -79,8 +79,8 @@ pub record CalledAmongOthers (t : Descriptor) (marks : ℕ → MarkList) (calls 
       slice_index (before (k + 1)).image a ≡ slice_index (after k).image a
 
 -- The result of these calls. After a call that ends, each address that the transfer touches has the same byte as after
--- one simultaneous copy of all the transfer's bytes in the memory before the first call. And a call doesn't fail if none
--- of its marks lies at an address that the transfer touches.
+-- one simultaneous copy of all the transfer's bytes in the memory before the first call. And a call doesn't fail if
+-- none of its marks lies at an address that the transfer touches.
 pub record CallsCopy (t : Descriptor) (marks : ℕ → MarkList) (calls : ℕ) (before after : ℕ → Machine)
     (last : ℕ → Option ChanTurn) : Type 0 where
   pub copies : (k a : ℕ) → k < calls → last k ≡ Some Ended → Touches t a →

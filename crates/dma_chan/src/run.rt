@@ -105,9 +105,9 @@ fn run_on<M: Ram>(
 /// clear, for at most `limit` instructions. The pages that a store writes are made just before it is executed, and no
 /// others. They stay made.
 ///
-/// The error is `ProgramTooLong` above [`MAX_PROGRAM_BYTES`](crate::program::MAX_PROGRAM_BYTES), or `NoMemory`; then nothing has run.
-/// Or it is `PageRefused`; then memory contains the stores of all instructions before the one whose page could not
-/// be allocated.
+/// The error is `ProgramTooLong` above [`MAX_PROGRAM_BYTES`](crate::program::MAX_PROGRAM_BYTES), or `NoMemory`; then
+/// nothing has run. Or it is `PageRefused`; then memory contains the stores of all instructions before the one whose
+/// page could not be allocated.
 pub fn run_program<M: Ram>(
     alloc: Global,
     bytes: &[u8],

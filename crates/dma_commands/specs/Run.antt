@@ -139,8 +139,8 @@ abbrev pub copy_answer : View → TransferLine → Answered
 copy_answer v line = transfer_answer v (start_of line.src) (transfer_of line)
 
 -- If channel 0 of a sound view isn't in use, and a transfer that meets its rules is submitted to it with success and
--- issued, then the last answer of `stepped_to_end most_copy_steps` is neither Started nor Moved. So `most_copy_steps` cuts off
--- no copy or fill.
+-- issued, then the last answer of `stepped_to_end most_copy_steps` is neither Started nor Moved. So `most_copy_steps`
+-- cuts off no copy or fill.
 abbrev pub CopiesEnd : Type 0
 CopiesEnd =
     (v : View) (t : Descriptor) (cookie : ℕ) (w : View) → IsSound v → IsTransfer t → is_in_use v ≡ false →

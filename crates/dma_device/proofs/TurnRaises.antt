@@ -150,7 +150,8 @@ line_after flags k d event =
     )
     )
 
--- after a call that set the flag of `signal`, if any, line k is high exactly if it was high before or the call raised it
+-- after a call that set the flag of `signal`, if any, line k is high exactly if it was high before or the call raised
+-- it
 abbrev CallRaises : DeviceValue → DeviceValue → Option ℕ → ℕ → Type 0
 CallRaises d e signal k = IsHigh (irqs e) k ↔ (IsHigh (irqs d) k ⊎ (IsHigh d.inten k × (signal ≡ Some k)))
 

@@ -230,8 +230,8 @@ by_either : (b : Bool) (d threads manager : DeviceValue) (opcode byte k : ℕ) (
 by_either true d threads manager opcode byte k one other x y = x
 by_either false d threads manager opcode byte k one other x y = y
 
--- after a write to DBGCMD line k is high exactly if it was high before, or the write executed a DMASEV of it while INTEN
--- made it an interrupt
+-- after a write to DBGCMD line k is high exactly if it was high before, or the write executed a DMASEV of it while
+-- INTEN made it an interrupt
 pub dbgcmd_raises : (d : DeviceValue) (ram : List Piece) (value k : ℕ) → Rises d (written ram 0xD04 value d) k (IsHigh d.inten k × DebugSignals d value k)
 dbgcmd_raises d ram value k =
     let w = d.dbginst0 in

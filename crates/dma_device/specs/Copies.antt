@@ -47,8 +47,8 @@ image_in regions = image_of (pieces_of regions)
 
 -- Turns of channel n, which a DMAGO has started. Turn number k goes from `before k` and the regions `lent k` to
 -- `after k` and `left k`. Between two turns the guest and other channels may do anything to the device except to thread
--- n, and may write any byte that the transfer neither reads nor writes. In each turn the transfer's ranges lie below the
--- end of the regions.
+-- n, and may write any byte that the transfer neither reads nor writes. In each turn the transfer's ranges lie below
+-- the end of the regions.
 pub record TurnsAmongOthers (t : Descriptor) (ram : List Piece) (nonsecure : Bool) (n addr : ℕ) (d : DeviceValue)
     (turns : ℕ) (before after : ℕ → DeviceValue) (lent left : ℕ → List Region) : Type 0 where
   pub begins : slice_get (before 0).threads n ≡ slice_get (go_written ram nonsecure n addr d).threads n
@@ -94,8 +94,8 @@ pub record HasEvents (d : DeviceValue) (t : Descriptor) : Type 0 where
   pub wait : IfSome t.wait (λ e. e < d.config.events)
   pub signal : IfSome t.signal (λ e. e < d.config.events)
 
--- Each beat of a transfer's program fits the bus: none of its instructions is a DMAMOV CCR whose beats are too wide. On a
--- bus of 128 bits each does.
+-- Each beat of a transfer's program fits the bus: none of its instructions is a DMAMOV CCR whose beats are too wide. On
+-- a bus of 128 bits each does.
 abbrev pub FitsBus : BusWidth → Descriptor → Type 0
 FitsBus bus t = (n : ℕ) → is_too_wide bus (Ok (member t n)) ≡ false
 

@@ -108,8 +108,8 @@ abbrev pub has_too_wide : BusWidth → List ℕ → Bool
 has_too_wide bus [] = false
 has_too_wide bus (b ∷ bs) = has_too_wide bus bs || is_too_wide bus (next_of (b ∷ bs) 0)
 
--- How many of `most` steps a call of a channel with this program takes at most: one if the program has a DMAMOV CCR whose
--- beats are too wide, so that each instruction is tested before it is executed.
+-- How many of `most` steps a call of a channel with this program takes at most: one if the program has a DMAMOV CCR
+-- whose beats are too wide, so that each instruction is tested before it is executed.
 abbrev pub most_on : BusWidth → List ℕ → ℕ → ℕ
 most_on bus program most = if has_too_wide bus program then min most 1 else most
 

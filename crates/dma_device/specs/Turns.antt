@@ -48,8 +48,8 @@ abbrev pub runs_at : DeviceValue → ℕ → Bool
 runs_at d n = runs_if (slice_get d.threads n)
 
 -- A call of channel `n`, which is thread `t`, over these regions. It executes at most `most` steps of the thread's
--- program (`TakesSteps`). A burst fails at the gaps between the regions, a store also in a read-only region, and nowhere
--- else.
+-- program (`TakesSteps`). A burst fails at the gaps between the regions, a store also in a read-only region, and
+-- nowhere else.
 pub record CallsThread (d : DeviceValue) (t : Thread) (regions : List Region) (n most : ℕ)
     (e : DeviceValue) (left : List Region) (called : Called) : Type 0 where
   -- the number of steps, the answer of the last one, and the channel and the flags after it

@@ -165,8 +165,8 @@ impl Device {
         self.manager.is_faulting || any_faulting(&self.threads)
     }
 
-    /// Returns whether any channel runs and, by its status, doesn't wait for an event whose flag is clear. If not, nothing
-    /// happens until the guest's next write, a reset or a restore.
+    /// Returns whether any channel runs and, by its status, doesn't wait for an event whose flag is clear. If not,
+    /// nothing happens until the guest's next write, a reset or a restore.
     pub fn can_step(&self) -> bool
         ensures { result ≡ list_any (can_step (visible_events self.now)) self.now.threads }
     {

@@ -18,10 +18,10 @@ pub fn a_dmago_never_fails()
 {}
 
 /// An interrupt is neither lost nor invented. For every list of accesses after a reset, line n, and with it bit n of
-/// INTMIS, is high exactly if a channel's turn or the debug registers executed a DMASEV n while bit n of INTEN was 1, and
-/// no write to INTCLR has cleared it since. (After a restore, also if it was high in the save and no write to INTCLR has
-/// cleared it.) A write to INTCLR clears it if bit n of the value and of INTEN are 1. So no write to INTEN makes an
-/// interrupt of an event, or an event of an interrupt.
+/// INTMIS, is high exactly if a channel's turn or the debug registers executed a DMASEV n while bit n of INTEN was 1,
+/// and no write to INTCLR has cleared it since. (After a restore, also if it was high in the save and no write to
+/// INTCLR has cleared it.) A write to INTCLR clears it if bit n of the value and of INTEN are 1. So no write to INTEN
+/// makes an interrupt of an event, or an event of an interrupt.
 pub fn interrupts_are_exact()
     ensures { InterruptsAreExact }
 {}

@@ -191,8 +191,8 @@ impl Thread {
         self.runs() && self.status.is_signalled(events)
     }
 
-    /// Returns whether the next instruction is a DMAMOV CCR whose beats are wider than a bus of less than 128 bits. (The
-    /// channel itself refuses beats of more than 128 bits.)
+    /// Returns whether the next instruction is a DMAMOV CCR whose beats are wider than a bus of less than 128 bits.
+    /// (The channel itself refuses beats of more than 128 bits.)
     pub fn is_too_wide(&self, bus: BusWidth) -> bool
         requires { IsSome self.now.channel.program }
         ensures { result ≡ is_too_wide bus (ahead_of self.now.channel) }

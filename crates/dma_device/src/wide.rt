@@ -56,8 +56,8 @@ fn u16_at(bytes: &[u8], at: usize) -> u16
 }
 
 impl Thread {
-    // Returns whether the thread's program, if it has one, has a DMAMOV CCR whose beats are wider than the bus. It reads
-    // the program from a save of the channel. Not inlined, so that a restore needs less than 32 KiB of stack.
+    // Returns whether the thread's program, if it has one, has a DMAMOV CCR whose beats are wider than the bus. It
+    // reads the program from a save of the channel. Not inlined, so that a restore needs less than 32 KiB of stack.
     #[inline(never)]
     #[tactic(auto, using(crate::proofs::WidePrograms::never_wide))]
     fn has_too_wide(&self, bus: BusWidth) -> bool

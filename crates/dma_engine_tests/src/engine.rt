@@ -173,7 +173,7 @@ fn a_failing_burst_is_known_as_an_end(rt: HostRuntime) -> Result<(), Fail> {
     Ok(())
 }
 
-// `go_through` compares the returned transfer with the submitted one.
+// `submits` of `engine_lines.rt` compares the returned transfer with the submitted one.
 #[test]
 fn a_refused_submit_returns_the_transfer(rt: HostRuntime) -> Result<(), Fail> {
     let above = copy(0, 13);

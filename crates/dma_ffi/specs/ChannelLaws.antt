@@ -126,8 +126,8 @@ pub record StepsSinceLoad (t : Descriptor) (count : ℕ) (calls : ℕ → StepCa
 
 -- The result of such a call, if `first` is the memory that the first call was lent. As many bytes are copied as the
 -- channel counts in `stored`, which its registers show. The range that the call reports as written has only
--- destinations. All bytes are copied when the report's turn is a signal, which is the transfer's, or the end. If the turn
--- is a wait, the channel waits for the transfer's event. The turn is no fault if no mark of the channel lies at an
+-- destinations. All bytes are copied when the report's turn is a signal, which is the transfer's, or the end. If the
+-- turn is a wait, the channel waits for the transfer's event. The turn is no fault if no mark of the channel lies at an
 -- address that the transfer touches.
 pub record HasCopied (t : Descriptor) (first : List ℕ) (call : StepCall) : Type 0 where
   pub bytes : HasFirst t (channel_of call.left).stored (bytes_in first) (bytes_in (memory_of call.left))

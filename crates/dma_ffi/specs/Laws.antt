@@ -64,8 +64,8 @@ pub record Exchange : Type 0 where
   pub code : ℤ
   pub written : Written
 
--- A request that C can make: an engine call that can be made (`IsCall`), the submit of a transfer that isn't a fill, the
--- submit of a fill whose byte has a 32-bit address, or any other request.
+-- A request that C can make: an engine call that can be made (`IsCall`), the submit of a transfer that isn't a fill,
+-- the submit of a fill whose byte has a 32-bit address, or any other request.
 abbrev pub CanBeRequested : Request → Type 0
 CanBeRequested (ask_call call) = IsCall call
 CanBeRequested (ask_copy ch t) = t.fill ≡ false

@@ -1,5 +1,5 @@
--- What calls from C return and write: on controllers, channels and devices, for programs and texts, and by which numbers
--- and structs.
+-- What calls from C return and write: on controllers, channels and devices, for programs and texts, and by which
+-- numbers and structs.
 pub mod Codes
 pub mod Reports
 pub mod Requests

@@ -20,8 +20,8 @@ pub fn exchanges_are_the_engines()
 
 /// Calls from C that load a transfer into a channel and step it copy the transfer's bytes, if nobody else writes what
 /// the transfer reads or writes between these calls, and no other call changes the channel's program. A call that steps
-/// a channel, whatever its program is, changes no byte outside the range that it reports, and one of its steps wrote each
-/// address in this range. For calls on several channels, each is a call of
+/// a channel, whatever its program is, changes no byte outside the range that it reports, and one of its steps wrote
+/// each address in this range. For calls on several channels, each is a call of
 /// [`channels_copy`](dma_chan::laws::channels_copy).
 pub fn channel_calls_copy()
     ensures loads { LoadsATransfer }
@@ -30,8 +30,8 @@ pub fn channel_calls_copy()
     ensures calls { StepsAreCalls }
 {}
 
-/// Calls from C on an open device are accesses of the laws of `dma_device`. So what these say of lists of accesses holds
-/// of C's reads, writes and turns over the same regions, between which no call resets or restores the device.
+/// Calls from C on an open device are accesses of the laws of `dma_device`. So what these say of lists of accesses
+/// holds of C's reads, writes and turns over the same regions, between which no call resets or restores the device.
 pub fn device_calls_are_accesses()
     ensures { CallsAreAccesses }
 {}

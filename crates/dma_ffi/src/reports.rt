@@ -63,8 +63,8 @@ pub struct DmaConflict {
 pub struct DmaReport {
     /// The number of steps that were taken, including the last one.
     pub taken: u32,
-    /// The number of what the last one did, `NO_STEP` if none was taken. Each field below is 0 except for the turns that
-    /// it names.
+    /// The number of what the last one did, `NO_STEP` if none was taken. Each field below is 0 except for the turns
+    /// that it names.
     pub turn: u32,
     /// The channel of the conflicting transfer, for `HELD`.
     pub channel: u32,

@@ -32,8 +32,8 @@ pub trait Ram {
     fn made(&self, segment: Segment) -> bool
         ensures { result ≡ list_all (is_made (paged self.now)) (range_of segment) };
 
-    /// Returns how many addresses of a segment come before the first at which a burst of this kind fails, or the segment's
-    /// length if it fails at none. Bursts fail in gaps, and stores also in read-only segments.
+    /// Returns how many addresses of a segment come before the first at which a burst of this kind fails, or the
+    /// segment's length if it fails at none. Bursts fail in gaps, and stores also in read-only segments.
     fn clear(&self, kind: MarkKind, segment: Segment) -> u32
         ensures few { result ≤ segment.len }
         ensures none { Avoids (barred_of kind (loan self.now)) segment.addr result }

@@ -146,9 +146,9 @@ impl Transfer {
     ///
     /// The error is the first that applies; each is tested over the sources and then the destinations before the next:
     /// `EmptyList`; `TooManySegments` for more than [`MAX_SEGMENTS`]; `EmptySegment`; `SegmentWraps` if a segment ends
-    /// above 2^32; `TotalsDiffer` if the lists have different numbers of bytes; `TooLong` for more than [`MAX_TRANSFER_BYTES`];
-    /// `DestinationsMeet`; `SourceMeetsDestination`; `BadEvent` for an event above [`LAST_EVENT`]; and last `NoMemory`.
-    /// Source segments may meet each other.
+    /// above 2^32; `TotalsDiffer` if the lists have different numbers of bytes; `TooLong` for more than
+    /// [`MAX_TRANSFER_BYTES`]; `DestinationsMeet`; `SourceMeetsDestination`; `BadEvent` for an event above
+    /// [`LAST_EVENT`]; and last `NoMemory`. Source segments may meet each other.
     pub fn new(
         alloc: Global,
         src: &[Segment],

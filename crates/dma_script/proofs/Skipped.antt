@@ -1,4 +1,4 @@
--- Whether a line is skipped: its first byte that is not a blank tells.
+-- Whether a line is skipped: it is if its first byte that is not a blank is #.
 use Rattle.std.proofs.Common.{◌≡◌, ℕ, ◌<◌, ◌==◌, not, false, List, [], ◌∷◌, length, filter, get_or, refl, arith}
 use Rattle.std.specs.List.{onto_first, slice_split}
 use Rattle.dma_script.specs.Words.{words_of, is_blank}

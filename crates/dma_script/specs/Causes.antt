@@ -1,10 +1,10 @@
 -- The cause that is reported for a faulty line (profile): the first that applies, where each cause is tested over all
 -- words of the line, from the left, before the next one. The table doesn't depend on the order in which a line is read.
 -- It shares with the readers the limits, and what a line, a keyword and a single word are: `lines`, `is_skipped`,
--- `is_plain`, `words_of`; `keyword_of`, `race_keyword_of`, `is_early`; `number_of`, `segment_of`, `list_of`, `bytes_in`.
--- All other tests are its own.
--- That the readers of run, race and plan scripts report the same is the law `FirstCausesAreReported` for every line, and
--- `FirstFaultsAreReported` for every script.
+-- `is_plain`, `words_of`; `keyword_of`, `race_keyword_of`, `is_early`; `number_of`, `segment_of`, `list_of`,
+-- `bytes_in`. All other tests are its own.
+-- That the readers of run, race and plan scripts report the same is the law `FirstCausesAreReported` for every line,
+-- and `FirstFaultsAreReported` for every script.
 use Rattle.std.specs.Prelude.{◌≡◌, ℕ, ◌+◌, Bool, true, false, not, ◌&&◌, ◌||◌, nat_le, nat_lt, if◌then◌else◌, List, [], ◌∷◌, length, map, Option, Some, None, Result, Ok, Err, is_some, unwrap_or, codes}
 use Rattle.std.specs.List.{list_all, list_any}
 use Rattle.std.specs.Option.{option_map, option_or}

@@ -41,8 +41,8 @@ pub record AppendsGroups (groups : List (List (List ℕ))) (old new : List ℕ) 
   pub some_left : count < length groups
   pub whole : new ≡ old ++ printed_text (take count groups)
 
--- How a command answers (profile): the whole text is appended, and the result is its status; or it is out of memory, and
--- the text of the first groups is appended, with at least one group missing.
+-- How a command answers (profile): the whole text is appended, and the result is its status; or it is out of memory,
+-- and the text of the first groups is appended, with at least one group missing.
 pub record Answers {E : Type 0} (printed : Printed) (result : Result ℕ E) (old new : List ℕ) : Type 0 where
   pub text : OnOk result (new ≡ old ++ printed_text printed.groups)
   pub status : IfOk result (λ status. status ≡ printed.status)
@@ -70,9 +70,9 @@ Unfailed stream = stream.after → stream.before
 -- How a call of a command ends (profile). `old` and `new` are the bytes that the writer held before and holds now, if
 -- they are known. `complete`: the whole of a text that may be printed was printed, with its status. `out_of_memory`:
 -- exactly the first groups of such a text were printed, with at least one group missing, and the status is 3.
--- `input_fault`: a read has failed, the line `input failed` was printed, and the status is 1. `output_fault`: a write has
--- failed, and the status is 1. In the first two no call of a stream failed, and in the third no call of the writer: a
--- failure is never retried and hidden.
+-- `input_fault`: a read has failed, the line `input failed` was printed, and the status is 1. `output_fault`: a write
+-- has failed, and the status is 1. In the first two no call of a stream failed, and in the third no call of the writer:
+-- a failure is never retried and hidden.
 pub data Ends (reader writer : Failures) (may : Printed → Type 0) (old new : Option (List ℕ)) (status : ℕ) : Type 0 where
   complete : Unfailed reader → Unfailed writer → (printed : Printed) → may printed
       → Appends old new (printed_text printed.groups) → status ≡ printed.status

@@ -17,7 +17,7 @@ pub const FAULT: u8 = 1;
 /// The exit status of a call that is out of memory.
 pub const OUT_OF_MEMORY: u8 = 3;
 
-/// A command. It may print one text for an input, or, if it starts threads, which take their turns in any order, one of
+/// A command. For an input it may print exactly one text or, if it starts threads, whose order isn't determined, one of
 /// several.
 pub trait Command {
     // What may be printed for an input that is not too long.
@@ -33,8 +33,8 @@ pub trait Command {
         requires short { length input.now ≤ longest_input }
         ensures { MayAnswer (may_print input.now) result out.old.items out.new.items };
 
-    // For each input a text may be printed that has at least one group, maybe an empty one, so that one can be missing
-    // if the command is out of memory.
+    // Among the texts that may be printed for an input, one has at least one group, maybe an empty one. So a group can
+    // be missing if the command is out of memory.
     ghost some_print: { (input : List ℕ)
         → (printed : Printed) × may_print input printed × (0 < length printed.groups) };
 }

@@ -4,8 +4,8 @@
 //! they give and take, and whether a call of them has failed.
 //!
 //! Proved: what `read_run_script`, `read_race_script`, `read_plan` and `read_pairs` return is a function of the input;
-//! the reported fault is the first of a table of causes (`laws::first_faults_are_reported`); `serve` writes all of the
-//! output with its status, or whole lines of it and status 3 where it is out of memory, or a stream failed;
+//! the reported fault is the first of a table of causes (`laws::first_faults_are_reported`); unless a stream
+//! fails, `serve` writes all of the output with its status, or, if out of memory, whole lines of it with status 3;
 //! `Statements::run` runs all lines, or those before the one that is out of memory.
 //!
 //! Not proved: that standard input and output make one call of the system for each call. These streams can't say in a

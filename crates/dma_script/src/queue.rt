@@ -83,7 +83,7 @@ impl Statements {
         }
     }
 
-    /// Adds a statement at the end. That of a `write` line takes less memory by `push_write`.
+    /// Adds a statement at the end. A `write` line takes less memory if `push_write` adds it.
     #[inline(always)]
     pub(crate) fn push(&mut self, statement: Statement) -> Result<(), AllocError>
         ensures { OnOk result (self.new ≡ self.old ++ statement ∷ []) }

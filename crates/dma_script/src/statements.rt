@@ -63,7 +63,7 @@ pub enum Keyword {
 /// A line of a run script after its first. `ch` is the number of a channel.
 #[derive(Debug, Drop)]
 pub enum Statement {
-    /// Makes one call. No line that is read makes the calls `submit` and `step` so.
+    /// Makes one call: for a line that was read, any but `submit` and `step`, which have variants of their own.
     Call(Call),
     /// Submits a transfer on a channel.
     Submit { ch: u8, transfer: TransferLine },

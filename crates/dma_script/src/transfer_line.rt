@@ -20,7 +20,8 @@ pub enum Origin {
     Place(u32),
 }
 
-/// `LIST to LIST [wait E] [signal E]` or `fill ADDR to LIST [wait E] [signal E]`: a transfer whose rules weren't tested.
+/// `LIST to LIST [wait E] [signal E]` or `fill ADDR to LIST [wait E] [signal E]`: a transfer whose rules weren't
+/// tested.
 #[derive(Debug, Drop)]
 pub struct TransferLine {
     /// Where the bytes come from.

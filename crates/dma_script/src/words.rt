@@ -216,8 +216,8 @@ pub fn number(word: &[u8]) -> Option<u32>
     }
 }
 
-/// Returns the segment before the first comma, which is an address, a plus and a length, and what follows the comma, if
-/// there is one. Returns `None` if there is no segment.
+/// Returns the segment (an address, a plus and a length) before the first comma, and what follows the comma, if there
+/// is one. Returns `None` if there is no segment.
 #[tactic(auto, using(crate::proofs::SegmentLemmas::segment_parts))]
 pub(crate) fn segment_before(list: &[u8]) -> Option<(Segment, Option<&[u8]>)>
     ensures { option_map (λ r. (r.0, option_map (λ rest. rest.now) r.1)) result

@@ -21,7 +21,7 @@ use dma_mem::transfer::Transfer;
 use std::marker::{Brand, Model, PhantomData};
 use std::sync::Wait;
 
-/// Names a desk by the log of its published list, the counts with which its board begins, and the engine's step count,
+/// Names a desk by the log of its published list, the counts with which this list begins, and the engine's step count,
 /// number of finished cookies, memory size and number of channels when the desk was made.
 pub trait DeskName {
     ghost use Rattle.std.specs.Prelude.{ℕ};

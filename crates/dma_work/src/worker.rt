@@ -330,9 +330,9 @@ impl<N: DeskName, L: Lender<Desk<N>>, G: Gate> Stepper<G> for Worker<N, L> {
     }
 }
 
-/// Takes the turns of a job as a new worker with this number, and returns the lender and the worker's tally. In its turn
-/// `n`, from 1 on, the worker passes the gate, and is then lent the desk for one step of one channel: the job's channels
-/// in rotation, from the first one on (profile). It does nothing else.
+/// Takes the turns of a job as a new worker with this number, and returns the lender and the worker's tally. In its
+/// turn `n`, from 1 on, the worker passes the gate, and is then lent the desk for one step of one channel: the job's
+/// channels in rotation, from the first one on (profile). It does nothing else.
 pub fn work_at<N: DeskName, R: Wait, L: Lender<Desk<N>>, G: Gate>(
     rt: &R,
     lender: L,

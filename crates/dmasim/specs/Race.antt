@@ -59,9 +59,9 @@ abbrev pub go_line : List TallyCounts → List ℕ
 go_line tallies =
     codes "go steps " ++ decimal (steps_of tallies) ++ codes " finished " ++ decimal (finishes_of tallies)
 
--- The view after workers with these tallies: it is sound, of this size and this number of channels, its step count is
--- the tallies' number of steps, and at least their number of cookies are finished (those that were terminated before
--- `go` are finished too).
+-- The view after workers with these tallies. It is sound, of this size and this number of channels, its step count is
+-- the sum of the tallies' steps, and its number of finished cookies is at least the sum of their finishes (it includes
+-- the cookies that were terminated before `go`).
 pub record Reaches (bytes many : ℕ) (tallies : List TallyCounts) (v : View) : Type 0 where
   pub sound : IsSoundOf bytes many v
   pub stepped : v.steps ≡ steps_of tallies
@@ -78,7 +78,8 @@ raced_refused early name = record { groups = [] ∷ alone early ++ (refused_line
 
 -- What may be printed for a race script. Its memory line prints nothing, each line before `go` prints its line, `go`
 -- prints the totals of workers that took the turns of the job lines, and the lines after it print what `run` prints for
--- them on the view after the workers. Or the desk has no place for the reader of statuses, or a tally is missing (no script is known for which either happens).
+-- them on the view after the workers. Or the desk has no place for the reader of statuses, or a tally is missing (no
+-- script is known for which either happens).
 pub data RacePrints (script : RaceScript) (p : Printed) : Type 0 where
   whole : (early : List (List ℕ))
       → EachPrints script.before.size script.before.channels script.before.statements early

@@ -1,5 +1,6 @@
-//! An emulator lends its guest's RAM to a DMA channel: the guest's driver puts a program into RAM, the channel runs it from there
-//! a few steps at a time, and the guest's CPU goes on in the same RAM between the steps. DMASEV raises an interrupt line.
+//! An emulator lends its guest's RAM to a DMA channel: the guest's driver puts a program into RAM, the channel runs it
+//! from there a few steps at a time, and the guest's CPU goes on in the same RAM between the steps. DMASEV raises an
+//! interrupt line.
 
 use dma330::{assemble, Channel, ChannelTurn, Error, Region};
 

@@ -1,4 +1,5 @@
-//! A controller with a thread of its own, to which I/O threads send their copies; each waits until its copy is complete.
+//! A controller with a thread of its own, to which I/O threads send their copies; each waits until its copy is
+//! complete.
 
 use dma330::{Controller, Error, Events, Outcome, Segment, TransferResult, Turn};
 use std::collections::HashMap;

@@ -3,8 +3,8 @@
 use std::error;
 use std::fmt;
 
-/// Why a call was refused: of the causes that the call's documentation lists, the first that applies. A refused call changes
-/// nothing, except for [`Device::restore`](crate::Device::restore) with `BadSave`.
+/// Why a call was refused: of the causes that the call's documentation lists, the first that applies. A refused call
+/// changes nothing, except for [`Device::restore`](crate::Device::restore) with `BadSave`.
 ///
 /// ```
 /// let busy = dma330::Error::Busy { channel: 1, cookie: 3 };

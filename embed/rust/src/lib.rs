@@ -1,4 +1,5 @@
-//! A verified software DMA controller (ARM DMA-330, memory to memory), for board emulators and for tests of DMA drivers.
+//! A verified software DMA controller (ARM DMA-330, memory to memory), for board emulators and for tests of DMA
+//! drivers.
 //!
 //! A client gives scatter-gather copies and fills to channels by the calls of Linux's dmaengine (submit, issue, status,
 //! pause, resume, terminate), and the channels run real PL330 programs, a step at a time and in any interleaving.

@@ -110,7 +110,8 @@ pub struct RawDeviceTurn {
     pub can_step: u32,
 }
 
-/// A part of the caller's memory, which a channel reads and writes while it is stepped: bytes, and the address of the first.
+/// A part of the caller's memory, which a channel reads and writes while it is stepped: bytes, and the address of the
+/// first.
 ///
 /// ```
 /// use dma330::Region;

@@ -62,7 +62,8 @@ impl Runner {
         Ok(hex(&out))
     }
 
-    // Takes `count` steps, each with a call of its own, and returns their answers: equal ones in a row once, with a count.
+    // Takes `count` steps, each with a call of its own, and returns their answers: equal ones in a row once, with a
+    // count.
     fn single(&mut self, channel: u8, count: u32) -> String {
         let mut runs: Vec<(String, u32)> = Vec::new();
         for _ in 0..count {

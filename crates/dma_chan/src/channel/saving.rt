@@ -29,8 +29,8 @@ impl Channel {
         Some(len)
     }
 
-    /// Replaces the channel with the saved one. The error is `BadSave` if the bytes aren't the save of any channel. Then
-    /// nothing changes.
+    /// Replaces the channel with the saved one. The error is `BadSave` if the bytes aren't the save of any channel.
+    /// Then nothing changes.
     pub fn restore(&mut self, save: &[u8]) -> Result<(), RestoreFault>
         // The bytes are the save of the restored channel.
         ensures ok { OnOk result (save.now ≡ saved self.new) }

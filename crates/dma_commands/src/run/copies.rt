@@ -26,8 +26,8 @@ fn is_in_use(engine: &Engine) -> bool
     engine.unfinished(0) > 0 || engine.paused(0) || engine.halted(0)
 }
 
-/// Steps channel 0 until an answer is neither Started nor Moved, and at most `MAX_COPY_STEPS` + 1 times. Returns the last
-/// answer. Fails if memory runs out.
+/// Steps channel 0 until an answer is neither Started nor Moved, and at most `MAX_COPY_STEPS` + 1 times. Returns the
+/// last answer. Fails if memory runs out.
 fn step_to_end(engine: &mut Engine) -> Result<Reply, AllocError>
     ensures { IfOk result
         (λ reply. (reply, engine.new.view) ≡ stepped_to_end most_copy_steps engine.old.view) }

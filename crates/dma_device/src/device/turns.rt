@@ -46,10 +46,10 @@ impl Called {
 
 impl Device {
     /// Takes a turn of channel `n` over these regions: at most `most` steps, until one ends, waits, fails or sets a
-    /// flag, or before one that writes apart from the range written so far. It is one step if the channel's program has,
-    /// at any offset, a DMAMOV CCR with beats wider than the bus. If the last step raised an interrupt, it takes one more.
-    /// A channel that is stopped or faulting does nothing. A burst that touches an address outside all regions fails, and
-    /// so does a store that touches a read-only region.
+    /// flag, or before one that writes apart from the range written so far. It is one step if the channel's program
+    /// has, at any offset, a DMAMOV CCR with beats wider than the bus. If the last step raised an interrupt, it takes
+    /// one more. A channel that is stopped or faulting does nothing. A burst that touches an address outside all
+    /// regions fails, and so does a store that touches a read-only region.
     pub fn step(&mut self, n: u8, most: u32, regions: &mut [Region<'_>]) -> Turn
         requires { IsTrue (in_order (pieces_of regions.old)) }
         ensures { TakesTurn self.old regions.old n most self.new regions.new result }

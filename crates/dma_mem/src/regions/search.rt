@@ -42,8 +42,8 @@ fn place_by_search(regions: &[Region<'_>], addr: u32) -> usize
     }
 }
 
-/// Returns the index of the region that has an address, or the number of regions if none has it. The common case, one of
-/// the first two regions, is decided inline; every other case by binary search.
+/// Returns the index of the region that has an address, or the number of regions if none has it. The common case, one
+/// of the first two regions, is decided inline; every other case by binary search.
 #[inline(always)]
 pub(crate) fn place(regions: &[Region<'_>], addr: u32) -> usize
     requires { IsTrue (in_order (pieces_of regions.now)) }

@@ -1,5 +1,5 @@
-//! Reads and writes a table by address, chunk after chunk of 16,384 bytes. The loops over chunks aren't inlined: a burst
-//! mostly lies in one chunk, and the instruction loop of a channel stays small without them.
+//! Reads and writes a table by address, chunk after chunk of 16,384 bytes. The loops over chunks aren't inlined: a
+//! burst mostly lies in one chunk, and the instruction loop of a channel stays small without them.
 
 ghost use Rattle.std.specs.Prelude.{◌≡◌, ℕ, ◌+◌, ◌*◌, ◌%◌, ◌<◌, ◌≤◌, ◌++◌, ◌^◌, length, true, false, IfOk, IfSome, IsSome, OnOk, OnErr};
 ghost use Rattle.dma_mem.specs.inner.ChunkTable.{chunk_size, chunk_at, AreBytesFrom, PutsBytes, RangeMade, RangeMissing, SameBytes, SameLengths};

@@ -91,10 +91,11 @@ impl Group {
 }
 
 impl Table {
-    // Copies `len` bytes that lie in one chunk to addresses that lie in one chunk, which is already made. The two ranges
-    // share no address.
+    // Copies `len` bytes that lie in one chunk to addresses that lie in one chunk, which is already made. The two
+    // ranges share no address.
     //
-    // The destination's chunk is taken out of the table during the copy, so that the source's chunk can be read in place.
+    // The destination's chunk is taken out of the table during the copy, so that the source's chunk can be read in
+    // place.
     fn copy_in_chunks(&mut self, from: usize, to: usize, len: usize)
         requires source { from % chunk_size + len ≤ chunk_size }
         requires within { to % chunk_size + len ≤ chunk_size }

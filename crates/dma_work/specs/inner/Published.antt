@@ -68,8 +68,8 @@ newest b next = fold (λ (x : EditionState) (y : EditionState). y) b next
 abbrev pub snapshot_of : EditionState → SnapshotState
 snapshot_of b = record { log = b.log; ticks = b.ticks }
 
--- A publisher: the edition that is published, those to be published next, and the ticks that were published before those
--- of the engine's history.
+-- A publisher: the edition that is published, those to be published next, and the ticks that were published before
+-- those of the engine's history.
 pub record PublisherState : Type 0 where
   pub shown : EditionState
   pub pending : List EditionState
@@ -79,8 +79,8 @@ pub record PublisherState : Type 0 where
 abbrev pub IsOfHistory : List Tick → EngineView → EditionState → Type 0
 IsOfHistory before v b = b.ticks ≡ before ++ ticks_of v.history
 
--- The engine has acted: the published ticks begin with those before its history, and followed by this one they are those
--- and the ticks of its history.
+-- The engine has acted: the published ticks begin with `before`, and the published ticks followed by this one are
+-- `before` followed by the ticks of the engine's history.
 abbrev pub HasActed : PublisherState → EngineView → Tick → Type 0
 HasActed p v t =
     StartsWith p.shown.ticks p.before × (p.before ++ ticks_of v.history ≡ p.shown.ticks ++ t ∷ [])
@@ -95,7 +95,7 @@ IsSeen b view = IfSome view (λ seen. IsLaterEdition seen b)
 abbrev pub Keeps : EditionState → List (Option EditionState) → Type 0
 Keeps b views = (seat : ℕ) (view : Option EditionState) → get_elem? views seat ≡ some view → IsSeen b view
 
--- After reading or publishing an edition, one has seen it, and what one has seen before is an earlier state of it.
+-- Whoever reads or publishes an edition has then seen it, and the edition seen before is an earlier state of it.
 abbrev pub Sees : Option EditionState → EditionState → EditionState → Option EditionState → Type 0
 Sees before old new after = IsSeen new before × (after ≡ Some new)
 
