@@ -4,9 +4,9 @@ use Rattle.dma_work.specs.declared.job.Job.{Job}
 use Rattle.dma_work.specs.Desk.{DeskState, TakesAStep, TallyCounts, new_tally}
 use Rattle.dma_work.specs.Rotation.{StepsInTurn, rotation}
 
--- A new worker with this number took the turns of a job at a lender, one after another, and did nothing else. Its tally
--- and the lender afterwards are `tally` and `left`. In a turn the worker passes the gate, as `passes` says of the
--- worker and the turn's number, and steps the desk that it is lent.
+-- A new worker with this number took the turns of a job at a lender, one after another. Its tally and the lender
+-- afterwards are `tally` and `left`. In a turn the worker passes the gate, as `passes` says of the worker and the turn's
+-- number, and steps the desk that it is lent.
 pub record TookTurnsAt
     {L : Type 0} (bytes many : ℕ) (passes : ℕ → ℕ → Type 0) (lends : L → DeskState → DeskState → L → Type 0)
     (worker : ℕ) (job : Job) (lender left : L) (tally : TallyCounts)

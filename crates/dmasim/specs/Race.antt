@@ -77,8 +77,8 @@ abbrev pub raced_refused : List (List ℕ) → List ℕ → Printed
 raced_refused early name = record { groups = [] ∷ alone early ++ (refused_line name ∷ []) ∷ []; status = 1 }
 
 -- What may be printed for a race script. Its memory line prints nothing, each line before `go` prints its line, `go`
--- prints the totals of workers that took the turns of the job lines, and the lines after it print what `run` prints for
--- them on the view after the workers. Or the desk has no place for the reader of statuses, or a tally is missing (no
+-- prints totals that workers may have after the turns of the job lines, and the lines after it print what `run` prints
+-- for them on a view with these totals. Or the desk has no place for the reader of statuses, or a tally is missing (no
 -- script is known for which either happens).
 pub data RacePrints (script : RaceScript) (p : Printed) : Type 0 where
   whole : (early : List (List ℕ))
