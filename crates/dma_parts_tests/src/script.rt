@@ -15,6 +15,14 @@ struct Counts {
     others: usize,
 }
 
+// Returns how many segments the list of sources has, or 0 for a fill.
+fn sources_of(transfer: &TransferLine) -> usize {
+    match &transfer.src {
+        Origin::List(src) => src.len(),
+        Origin::Place(_) => 0,
+    }
+}
+
 impl Interpreter for Counts {
     type Line = Statement;
 
@@ -22,13 +30,7 @@ impl Interpreter for Counts {
 
     fn interpret(&mut self, line: Statement, _out: &mut Vec<u8>) -> Result<(), AllocError> {
         let (sources, destinations) = match line {
-            Statement::Copy(
-                TransferLine {
-                    src: Origin::List(src),
-                    dst,
-                    ..
-                },
-            ) => (src.len(), dst.len()),
+            Statement::Copy(transfer) => (sources_of(&transfer), transfer.dst.len()),
             _other => (0, 0),
         };
         if (sources, destinations) == (1, 1) {

@@ -1,5 +1,5 @@
 -- Numbers before a separator, and the segments of a list.
-use Rattle.std.proofs.Common.{◌≡◌, ◌∙◌, ℕ, zero, suc, ◌<◌, ◌≤◌, ◌+◌, ◌^◌, ◌&&◌, not, nat_lt, eqb, Bool, true, false, List, [], ◌∷◌, ◌++◌, length, map, take, drop, get_or, refl, sym, ap, subst, arith, Option, Some, None, position, cond, add-one, nat_eq, eq-eqb, unwrap_or, Bor}
+use Rattle.std.proofs.Common.{◌≡◌, ◌∙◌, ℕ, zero, suc, ◌<◌, ◌≤◌, ◌+◌, ◌^◌, ◌&&◌, not, nat_lt, eqb, true, false, List, [], ◌∷◌, ◌++◌, length, map, take, drop, get_or, refl, sym, ap, subst, arith, Option, Some, None, position, cond, add-one, nat_eq, eq-eqb, unwrap_or, Bor}
 use Rattle.std.specs.List.{list_all, starts_with, slice_split, onto_first}
 use Rattle.std.specs.Char.{digit_value}
 use Rattle.std.specs.Str.Parse.{digits_value}

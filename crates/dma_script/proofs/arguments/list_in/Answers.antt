@@ -1,4 +1,4 @@
-use Rattle.std.proofs.Common.{rules, arith, ◌≡◌, ◌∙◌, sym, ap, Some, None, Bor, List, ℕ, Option, subst, ◌<◌, length, ◌+◌}
+use Rattle.std.proofs.Common.{◌≡◌, ◌∙◌, sym, ap, Some, None, Bor, List, ℕ, subst, ◌<◌}
 use Rattle.std.specs.Option.{option_map}
 use Rattle.dma_script.specs.Words.{list_of}
 use Rattle.dma_script.specs.inner.Digits.{segment_before}

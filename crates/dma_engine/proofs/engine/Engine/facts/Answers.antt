@@ -1,5 +1,4 @@
 use Rattle.std.proofs.Common.{◌<◌, ◌^◌, subst}
-use Rattle.dma_engine.specs.inner.Inside.{parts_of}
 use Rattle.dma_engine.specs.Object.{finished_all}
 use Rattle.dma_engine.specs.View.{EngineState, object_of}
 use Rattle.dma_engine.proofs.CookieCounts.{finished_bounded}

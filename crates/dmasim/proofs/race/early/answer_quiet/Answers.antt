@@ -1,7 +1,5 @@
-use Rattle.std.proofs.Common.{refl, subst, sym}
-use Rattle.dma_mem.specs.declared.call.Call.{Call}
+use Rattle.std.proofs.Common.{refl}
 use Rattle.dma_script.specs.declared.statements.Statement.TheVariants as statements
-use Rattle.dmasim.specs.inner.RaceSteps.{AnswersOn}
 use Rattle.dmasim.proofs.RaceLemmas.{call_early}
 use Rattle.dmasim.proofs.race.early.answer_quiet.Goals as goal
 
