@@ -86,6 +86,22 @@ pub fn run_statements(
     Ok(SUCCESS)
 }
 
+/// The bytes of a script for each of its entries: a line of `issue 0`, `step 0 9` and half of a `submit`.
+const TEXT_OF_ENTRY: usize = 14;
+
+/// The printed bytes for each byte of a script, at most in usual ones.
+const PRINTED: usize = 4;
+
+/// Makes room for the entries and the output of a script of this many bytes. Lists that grow from a few items are
+/// copied again and again. If memory runs out, less room or none is made.
+fn make_room(engine: &mut Engine, text_len: usize, out: &mut Vec<u8>)
+    ensures view { engine.new.view ≡ engine.old.view }
+    ensures printed { out.new.items ≡ out.old.items }
+{
+    let _ = engine.reserve_entries(text_len / TEXT_OF_ENTRY);
+    let _ = out.reserve(text_len.saturating_mul(PRINTED));
+}
+
 /// The command `run`.
 #[derive(Drop)]
 struct Run;
@@ -108,6 +124,7 @@ impl Command for Run {
                     Err(NewFault::NoMemory) => return Err(AllocError),
                     Err(NewFault::BadChannels | NewFault::SizeOutOfRange) => unreachable!(),
                 };
+                make_room(&mut engine, input.len(), out);
                 run_statements(alloc, &mut engine, script.statements, out)
             }
             Err(error) => refuse(out, &error),

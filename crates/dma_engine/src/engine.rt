@@ -4,6 +4,7 @@ ghost use Rattle.std.specs.Prelude.{◌≡◌, ◌<◌, ◌≤◌, ◌^◌, IfOk
 ghost use Rattle.std.specs.Option.{option_map};
 ghost use Rattle.dma_engine.specs.Object.{channel, used, finished, finished_all, unfinished};
 ghost use Rattle.dma_engine.specs.Ticks.{board_of, counts};
+ghost use Rattle.dma_engine.specs.Room.{KeepsRoom};
 ghost use Rattle.dma_engine.specs.View.{size, channels, object_of, schedule_at, running_on, new_fault, new_view, memory_of, IsSound};
 ghost use Rattle.dma_engine.specs.Answer.{status_in, result_of, first_running, done_on};
 ghost use Rattle.dma_engine.specs.inner.Accesses.{named, conflicts};
@@ -144,6 +145,17 @@ impl Engine {
     {
         // gives the proof the range of the number
         let _steps = self.steps;
+    }
+
+    /// Makes room in the history for this many more entries, so that adding them doesn't copy it while it grows. Nothing
+    /// else changes. Fails with `AllocError` if memory runs out.
+    pub fn reserve_entries(&mut self, entries: usize) -> Result<(), AllocError>
+        ensures view { self.new.view ≡ self.old.view }
+        ensures memory { self.new.memory ≡ self.old.memory }
+        ensures made { OnOk result (entries ≤ self.new.room.entries) }
+        ensures kept { KeepsRoom self.old self.new }
+    {
+        self.history.reserve(entries)
     }
 
     /// Returns how many cookies a channel has given, or 0 if there is no such channel.

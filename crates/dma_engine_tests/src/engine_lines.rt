@@ -68,7 +68,6 @@ pub enum Ask {
     Mark(MarkKind, Segment),
     Unmark,
     Raise(u8),
-    CheckSubmit(u8, CopyOfFour),
     Submit(u8, CopyOfFour),
     /// A copy of four bytes from 0x100 on, whose destinations lie in the first three chunks of memory.
     SubmitOverPages(u8),
@@ -136,7 +135,6 @@ pub fn answer_to(alloc: Global, engine: &mut Engine, ask: Ask) -> Result<Answer,
         Ask::Mark(kind, segment) => done(engine.mark(kind, segment)),
         Ask::Unmark => done(engine.unmark()),
         Ask::Raise(event) => done(engine.raise(event)),
-        Ask::CheckSubmit(ch, copy) => counted(engine.check_submit(ch, &copy.transfer(alloc)?)),
         Ask::Submit(ch, copy) => submits(engine, ch, copy, copy.transfer(alloc)?),
         Ask::SubmitOverPages(ch) => match engine.submit(ch, over_pages(alloc)?) {
             Ok(cookie) => Answer::Count(cookie),

@@ -159,6 +159,19 @@ impl Segments {
         }
     }
 
+    /// Returns an empty list with room for this many segments. It allocates nothing for at most one. Fails with
+    /// `AllocError` if memory runs out.
+    pub fn with_capacity(alloc: Global, capacity: usize) -> Result<Segments, AllocError>
+        ensures { IfOk result (λ list. list ≡ []) }
+    {
+        if capacity <= 1 {
+            return Ok(Segments::new(alloc));
+        }
+        let list = Vec::with_capacity(alloc, capacity)?;
+        let stored = StoredSegments::Many(Box::new(alloc, list)?);
+        Ok(Segments { alloc, stored })
+    }
+
     /// Returns a copy of these segments. Fails with `AllocError` if memory runs out.
     pub fn from_slice(alloc: Global, segments: &[Segment]) -> Result<Segments, AllocError>
         ensures { IfOk result (λ list. list ≡ segments.now) }

@@ -1,15 +1,13 @@
-//! A channel with hand-written programs, over memory in which some pages aren't allocated.
+//! Blocks of loop bodies: no contract says how many instructions a block executes. What the other tests of channels
+//! share is here too.
 
 use dma_chan::channel::Channel;
-use dma_chan::compile::compile;
 use dma_chan::program::Program;
-use dma_chan::turn::{ChanTurn, FaultKind};
-use dma_insn::insn::Insn;
+use dma_chan::turn::ChanTurn;
 use dma_mem::events::Events;
 use dma_mem::marks::{MarkKind, Marks};
 use dma_mem::memory::{MemFault, Memory};
 use dma_mem::segment::Segment;
-use dma_mem::transfer::Transfer;
 use std::alloc::Global;
 use std::process::Abort;
 use std::test::Fail;
@@ -36,18 +34,11 @@ struct Machine {
     marks: Marks,
 }
 
-// How often an instruction is decoded, to query its fault and to execute it.
-#[derive(Clone, Copy, PartialEq)]
-enum Reads {
-    Once,
-    Twice,
-}
-
 impl Machine {
-    // Returns a channel with this program, over this memory.
-    fn new(alloc: Global, program: Program, memory: Memory) -> Result<Machine, Fail> {
+    // Returns a channel with a program of these bytes, over this memory.
+    fn new(alloc: Global, bytes: &[u8], memory: Memory) -> Result<Machine, Fail> {
         let mut channel = Channel::new(alloc)?;
-        channel.load(program);
+        channel.load(Program::from_bytes(alloc, bytes)?);
         Ok(Machine {
             channel,
             memory,
@@ -56,29 +47,19 @@ impl Machine {
         })
     }
 
-    // Returns the fault that the next instruction would report, and the answer of the step. Returns `None` without a
-    // program, or if a page is missing.
-    fn step(&mut self, reads: Reads) -> Option<(Option<FaultKind>, ChanTurn)> {
+    // Executes an instruction. Returns `None` without a program, or if a page is missing.
+    fn step(&mut self) -> Option<ChanTurn> {
         let (channel, memory) = (&mut self.channel, &mut self.memory);
         if !channel.is_loaded() || channel.taken() == u32::MAX || !channel.ready(memory) {
             return None;
         }
-        if reads == Reads::Twice {
-            let fault = channel.failing(memory, &self.marks);
-            return Some((fault, channel.step(memory, &mut self.events, &self.marks)));
-        }
-        let next = channel.next().ok()?;
-        let fault = channel.failing_at(next, memory, &self.marks);
-        Some((
-            fault,
-            channel.execute(next, memory, &mut self.events, &self.marks),
-        ))
+        Some(channel.step(memory, &mut self.events, &self.marks))
     }
 
     // Returns whether this many instructions are executed.
-    fn moves(&mut self, count: u32, reads: Reads) -> bool {
+    fn moves(&mut self, count: u32) -> bool {
         for _ in 0..count {
-            if self.step(reads) != Some((None, ChanTurn::Moved)) {
+            if self.step() != Some(ChanTurn::Moved) {
                 return false;
             }
         }
@@ -88,21 +69,6 @@ impl Machine {
     // Executes loop bodies as one block of at most `most` instructions, and returns how many it executed.
     fn bodies(&mut self, most: u32) -> u32 {
         self.channel.run_bodies(most, &mut self.memory, &self.marks)
-    }
-
-    // Returns whether the next instruction fails with this fault.
-    fn fails(&mut self, kind: FaultKind) -> bool {
-        let failed = Some((Some(kind), ChanTurn::Fault(kind)));
-        self.step(Reads::Once) == failed && self.step(Reads::Twice) == failed
-    }
-
-    // Returns whether this is the next instruction, at this offset, with these counts of executed instructions and
-    // stored bytes.
-    fn is_at(&self, next: Insn, pc: u32, taken: u32, stored: u64) -> bool {
-        let channel = &self.channel;
-        channel.is_loaded()
-            && channel.ahead() == Ok(next)
-            && (channel.pc(), channel.taken(), channel.stored()) == (pc, taken, stored)
     }
 
     // Returns whether the bytes at `to` up to `to + last` are those of `counted` from `from` on.
@@ -115,61 +81,6 @@ impl Machine {
         }
         true
     }
-}
-
-// Returns a channel with a program of these bytes, over this memory.
-fn machine_of(alloc: Global, bytes: &[u8], memory: Memory) -> Result<Machine, Fail> {
-    Machine::new(alloc, Program::from_bytes(alloc, bytes)?, memory)
-}
-
-// Loads 32 bytes from 0x40 and 32 from 0x10, and stores them from 0x80 on.
-static TWO_LOADS: &[u8] =
-    b"\xbc\0\x40\0\0\0\xbc\x02\x80\0\0\0\xbc\x01\x19\x40\x06\0\x04\xbc\0\x10\0\0\0\x04\x08\x08\0";
-
-#[test]
-fn a_marked_load_changes_nothing(rt: HostRuntime) -> Result<(), Fail> {
-    let mut machine = machine_of(rt.alloc(), TWO_LOADS, counted(rt.alloc())?)?;
-    assert!(rt; machine.moves(5, Reads::Twice));
-    machine.marks.add(MarkKind::Reading, segment(0x20, 1))?;
-    assert!(rt; machine.fails(FaultKind::DataReadErr));
-    assert!(rt; machine.is_at(Insn::Ld, 25, 5, 0) && machine.has(0, 0, 255));
-    machine.marks.clear();
-    assert!(rt; machine.moves(1, Reads::Twice) && machine.moves(1, Reads::Once));
-    assert!(rt; machine.is_at(Insn::St, 27, 7, 32));
-    assert!(rt; machine.has(0x40, 0x80, 0x1f) && machine.has(0xa0, 0xa0, 0x1f));
-    assert!(rt; machine.moves(1, Reads::Twice) && machine.is_at(Insn::End, 28, 8, 64));
-    assert!(rt; machine.has(0x40, 0x80, 0x1f) && machine.has(0x10, 0xa0, 0x1f));
-    assert!(rt; machine.step(Reads::Once) == Some((None, ChanTurn::Ended)));
-    assert!(rt; machine.step(Reads::Once).is_none() && machine.step(Reads::Twice).is_none());
-    assert!(rt; (machine.channel.pc(), machine.channel.taken()) == (28, 9));
-    Ok(())
-}
-
-#[test]
-fn a_marked_store_changes_nothing(rt: HostRuntime) -> Result<(), Fail> {
-    let mut machine = machine_of(rt.alloc(), TWO_LOADS, counted(rt.alloc())?)?;
-    machine.marks.add(MarkKind::Writing, segment(0x9f, 1))?;
-    assert!(rt; machine.moves(6, Reads::Once));
-    assert!(rt; machine.fails(FaultKind::DataWriteErr));
-    assert!(rt; machine.is_at(Insn::St, 26, 6, 0) && machine.has(0, 0, 255));
-    machine.channel.unload();
-    assert!(rt; !machine.channel.is_loaded() && machine.channel.taken() == 6);
-    Ok(())
-}
-
-#[test]
-fn what_is_left_falls_by_one_each_step(rt: HostRuntime) -> Result<(), Fail> {
-    let (src, dst) = ([segment(0x11, 40)], [segment(0x82, 40)]);
-    let transfer = Transfer::new(rt.alloc(), &src, &dst, None, None)?;
-    let program = compile(rt.alloc(), &transfer)?;
-    let mut machine = Machine::new(rt.alloc(), program, counted(rt.alloc())?)?;
-    for taken in 0..20u32 {
-        assert!(rt; machine.channel.left() == Some(20 - taken), "after {taken}");
-        assert!(rt; machine.step(Reads::Twice).is_some());
-    }
-    assert!(rt; machine.channel.left().is_none() && !machine.channel.is_loaded());
-    assert!(rt; machine.has(0x11, 0x82, 39) && machine.channel.stored() == 40);
-    Ok(())
 }
 
 // ---- blocks of loop bodies
@@ -197,9 +108,9 @@ fn a_block_has_as_many_bodies_as_it_may(rt: HostRuntime) -> Result<(), Fail> {
         (9, 100, 15, 16),
         (19, 100, 5, 16),
     ] {
-        let mut machine = machine_of(rt.alloc(), LOOP, counted(rt.alloc())?)?;
+        let mut machine = Machine::new(rt.alloc(), LOOP, counted(rt.alloc())?)?;
         assert!(rt;
-            machine.moves(*steps, Reads::Once) && machine.bodies(*most) == *ran,
+            machine.moves(*steps) && machine.bodies(*most) == *ran,
             "{steps}"
         );
         assert!(rt; machine.channel.taken() == steps.wrapping_add(*ran));
@@ -219,12 +130,9 @@ fn a_block_ends_before_a_mark(rt: HostRuntime) -> Result<(), Fail> {
         (0x8f, 15),
         (0x91, 20),
     ] {
-        let mut machine = machine_of(rt.alloc(), LOOP, counted(rt.alloc())?)?;
+        let mut machine = Machine::new(rt.alloc(), LOOP, counted(rt.alloc())?)?;
         machine.marks.add(MarkKind::Writing, segment(*place, 1))?;
-        assert!(rt;
-            machine.moves(4, Reads::Once) && machine.bodies(100) == *ran,
-            "{place}"
-        );
+        assert!(rt; machine.moves(4) && machine.bodies(100) == *ran, "{place}");
     }
     Ok(())
 }
@@ -233,11 +141,11 @@ fn a_block_ends_before_a_mark(rt: HostRuntime) -> Result<(), Fail> {
 fn a_loop_of_loops_is_one_block(rt: HostRuntime) -> Result<(), Fail> {
     let mut memory = Memory::new(rt.alloc(), 0x1000)?;
     memory.prepare(segment(0, 0x1000))?;
-    let mut machine = machine_of(rt.alloc(), NEST, memory)?;
-    assert!(rt; machine.moves(5, Reads::Once) && machine.bodies(100_000) == 2562);
+    let mut machine = Machine::new(rt.alloc(), NEST, memory)?;
+    assert!(rt; machine.moves(5) && machine.bodies(100_000) == 2562);
     assert!(rt; (machine.channel.pc(), machine.channel.taken()) == (28, 2567));
-    assert!(rt; machine.channel.stored() == 512 && machine.moves(1, Reads::Once));
-    assert!(rt; machine.is_at(Insn::End, 30, 2568, 512));
+    assert!(rt; machine.channel.stored() == 512 && machine.moves(1));
+    assert!(rt; machine.step() == Some(ChanTurn::Ended));
     Ok(())
 }
 
@@ -262,30 +170,5 @@ pub fn assert_stored(rt: &impl Abort, memory: &Memory) -> Result<(), Fail> {
     assert!(rt; bytes == [0, 1, 2, 3, 4, 5, 6, 7, 8, 0, 0, 0, 0, 0, 0, 0, 0, 0]);
     assert!(rt; memory.made(segment(0x3ffc, 16)));
     assert!(rt; !memory.made(segment(0x2000, 1)));
-    Ok(())
-}
-
-#[test]
-fn a_store_across_two_pages_needs_both(rt: HostRuntime) -> Result<(), Fail> {
-    let mut machine = machine_of(rt.alloc(), ACROSS, eight_bytes(rt.alloc(), 0x5000)?)?;
-    assert!(rt; machine.moves(4, Reads::Twice) && machine.step(Reads::Twice).is_none());
-    machine.memory.prepare(segment(0x3ffc, 4))?;
-    assert!(rt; machine.step(Reads::Twice).is_none());
-    machine.memory.prepare(segment(0x4000, 1))?;
-    assert!(rt; machine.moves(1, Reads::Twice));
-    assert!(rt; machine.step(Reads::Twice) == Some((None, ChanTurn::Ended)));
-    assert!(rt; machine.channel.ready(&machine.memory));
-    assert_stored(&rt, &machine.memory)
-}
-
-// A store across the end of the memory needs the pages below the end; a store above the end needs none.
-#[test]
-fn a_store_that_overhangs_needs_what_lies_below(rt: HostRuntime) -> Result<(), Fail> {
-    let mut machine = machine_of(rt.alloc(), ACROSS, eight_bytes(rt.alloc(), 0x3ffe)?)?;
-    assert!(rt; machine.moves(4, Reads::Once) && machine.step(Reads::Once).is_none());
-    machine.memory.prepare(segment(0x3ffc, 2))?;
-    assert!(rt; machine.fails(FaultKind::DataWriteErr));
-    let mut above = machine_of(rt.alloc(), ACROSS, eight_bytes(rt.alloc(), 0x2010)?)?;
-    assert!(rt; above.moves(4, Reads::Once) && above.fails(FaultKind::DataWriteErr));
     Ok(())
 }

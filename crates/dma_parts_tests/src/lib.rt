@@ -22,8 +22,6 @@ mod insn_refused;
 #[cfg(test)]
 mod lent;
 #[cfg(test)]
-mod mem;
-#[cfg(test)]
 mod mem_refused;
 #[cfg(test)]
 mod script;

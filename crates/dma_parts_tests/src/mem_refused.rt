@@ -1,14 +1,46 @@
 //! Calls that run out of memory, and are then made once more. `tests/refuse_calls` refuses each allocation of these
 //! tests in turn, and requires that each row meets a refusal; with ample memory none does.
 
-use crate::mem::{DESTINATIONS, SOURCES, assert_has_all, copy, fill, segment};
 use dma_mem::marks::{MarkKind, Marks};
 use dma_mem::memory::{MemFault, Memory};
 use dma_mem::range_set::RangeSet;
+use dma_mem::segment::Segment;
 use dma_mem::transfer::{Transfer, TransferFault};
 use std::alloc::Global;
 use std::process::Abort;
 use std::test::Fail;
+
+fn segment(addr: u32, len: u32) -> Segment {
+    Segment { addr, len }
+}
+
+const SOURCES: [Segment; 2] = [
+    Segment { addr: 0x10, len: 3 },
+    Segment { addr: 0x21, len: 5 },
+];
+
+const DESTINATIONS: [Segment; 2] = [
+    Segment { addr: 0x40, len: 6 },
+    Segment { addr: 0x50, len: 2 },
+];
+
+// Returns a copy of eight bytes, which waits for event 3 and signals event 5.
+fn copy(alloc: Global) -> Result<Transfer, TransferFault> {
+    Transfer::new(alloc, &SOURCES, &DESTINATIONS, Some(3), Some(5))
+}
+
+// Returns a fill of the same destinations with the byte at 0x10.
+fn fill(alloc: Global) -> Result<Transfer, TransferFault> {
+    Transfer::fill(alloc, 0x10, &DESTINATIONS, Some(3), Some(5))
+}
+
+// Checks that a transfer has these sources, and the destinations and the events of the copy and the fill above.
+fn assert_has_all(rt: &impl Abort, transfer: &Transfer, sources: &[Segment]) {
+    assert!(rt; transfer.is_fill() == (sources.len() == 1));
+    assert!(rt; transfer.src() == sources);
+    assert!(rt; transfer.dst() == DESTINATIONS.as_slice());
+    assert!(rt; (transfer.len(), transfer.wait(), transfer.signal()) == (8, Some(3), Some(5)));
+}
 
 // Returns a memory with a 7 below its middle and zeros elsewhere. The size is a parameter, so that no proof computes
 // with that many bytes.

@@ -1,5 +1,5 @@
 //! Reads the words after the first of a line, one after another.
-ghost use Rattle.std.specs.Prelude.{◌≡◌, ◌==◌, ◌≤◌, if◌then◌else◌, Err, IfOk, Ok, OnOk, is_some, unwrap_or};
+ghost use Rattle.std.specs.Prelude.{◌≡◌, ◌==◌, ◌≤◌, [], if◌then◌else◌, Err, IfOk, Ok, OnOk, is_some, unwrap_or};
 ghost use Rattle.dma_script.specs.Words.{hex_pair_of, list_of, words_of};
 ghost use Rattle.dma_script.specs.Arguments.{bytes_at};
 ghost use Rattle.dma_script.specs.inner.Reading.{LineRead, after_word, begins, bytes_from, byte_from, count_from, ended, event_from, fixed_from, kind_from, list_from, next_of, noted, number_from, segment_from, skip_from, to_list_from, unread, within_from};
@@ -8,10 +8,11 @@ ghost use Rattle.dma_script.specs.Causes.{where_not};
 use crate::fault::Cause;
 use crate::pairs::spaced_pairs;
 use crate::words::{is_blank, next_word, number, segment_before, segment_in, without_blanks};
+use dma_mem::limits::MAX_SEGMENTS;
 use dma_mem::lists::{Bytes, Segments};
 use dma_mem::marks::MarkKind;
 use dma_mem::segment::Segment;
-use dma_text::bytes::is_text;
+use dma_text::bytes::{is_text, position_of};
 use dma_text::digits::digit_value;
 use std::alloc::{AllocError, Global};
 use std::marker::Model;
@@ -244,11 +245,22 @@ impl<'a> Arguments<'a> {
     }
 }
 
+/// Returns an empty list with room for about as many segments as a word spells, if all are as long as the first. It
+/// allocates nothing for a single segment.
+fn room_for(alloc: Global, word: &[u8]) -> Result<Segments, AllocError>
+    ensures { IfOk result (λ list. list ≡ []) }
+{
+    match position_of(b',', word) {
+        Some(first) => Segments::with_capacity(alloc, MAX_SEGMENTS.min(word.len() / (first + 1) + 1)),
+        None => Ok(Segments::new(alloc)),
+    }
+}
+
 /// Returns the segments that a word spells, or `None` for any other word.
 fn list_in(alloc: Global, word: &[u8]) -> Result<Option<Segments>, AllocError>
     ensures { IfOk result (λ list. list ≡ list_of word.now) }
 {
-    let mut list = Segments::new(alloc);
+    let mut list = room_for(alloc, word)?;
     let mut left = Some(word);
     while let Some(rest) = left {
         let Some((segment, after)) = segment_before(rest) else {

@@ -12,6 +12,12 @@ use std::alloc::{AllocError, Global};
 use std::marker::Model;
 use std::vec::IntoIter;
 
+/// The bytes of a short line: `step 0 9` and its line feed.
+const SHORT_LINE: usize = 9;
+
+/// The bytes of a script for each of its lines with a list: `submit`, `issue` and `step` lines of one transfer.
+const LONG_LINE: usize = 40;
+
 /// A statement as it is kept, or where it is kept.
 #[derive(Clone, Copy, Debug, PartialEq, Eq, Drop)]
 enum Line {
@@ -81,6 +87,15 @@ impl Statements {
             bytes: Vec::new(alloc),
             long: Vec::new(alloc),
         }
+    }
+
+    /// Makes room for the statements of a text of this many bytes, if its lines are of usual length. Lists that grow
+    /// from a few items are copied again and again. If memory runs out, less room or none is made.
+    pub(crate) fn make_room(&mut self, text_len: usize)
+        ensures { self.new ≡ self.old }
+    {
+        let _ = self.lines.reserve(text_len / SHORT_LINE);
+        let _ = self.long.reserve(text_len / LONG_LINE);
     }
 
     /// Adds a statement at the end. A `write` line takes less memory if `push_write` adds it.

@@ -183,7 +183,7 @@ pub fn read_race_script(alloc: Global, input: &[u8]) -> Result<RaceScript, Scrip
     ensures within { IfOk result IsRace }
 {
     let mut read = RaceSoFar {
-        before: ReadSoFar::new(alloc),
+        before: ReadSoFar::new(alloc, input.len()),
         jobs: List::new(alloc),
         after: None,
     };

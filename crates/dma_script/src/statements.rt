@@ -275,6 +275,8 @@ pub(crate) struct ReadSoFar {
     pub(crate) script: Option<RunScript>,
     // The list into which the bytes of a `write` line are read. The next line reuses its memory.
     pub(crate) bytes: Vec<u8>,
+    // The number of bytes of the whole text, by which room for its statements is made.
+    text_len: usize,
 }
 
 impl Model for ReadSoFar {
@@ -290,13 +292,14 @@ impl ReadSoFar {
     ghost use Rattle.std.specs.Prelude.{None};
     ghost use Rattle.dma_script.specs.Statements.{next_line};
 
-    /// Returns the state before any line is read.
-    pub(crate) fn new(alloc: Global) -> ReadSoFar
+    /// Returns the state before any line of a text of this many bytes is read.
+    pub(crate) fn new(alloc: Global, text_len: usize) -> ReadSoFar
         ensures { result ≡ None }
     {
         ReadSoFar {
             script: None,
             bytes: Vec::new(alloc),
+            text_len,
         }
     }
 
@@ -306,7 +309,9 @@ impl ReadSoFar {
         requires { self.old ≡ None }
         ensures { Gives (λ _. self.new) result (next_line None keyword (words_of words.now)) }
     {
-        self.script = Some(first_line(alloc, keyword, words)?);
+        let mut script = first_line(alloc, keyword, words)?;
+        script.statements.make_room(self.text_len);
+        self.script = Some(script);
         Ok(())
     }
 
@@ -354,7 +359,7 @@ pub fn read_run_script(alloc: Global, input: &[u8]) -> Result<RunScript, ScriptE
     ensures script { Gives (λ script. script) result (run_script_of input.now) }
     ensures within { IfOk result IsWithin }
 {
-    let mut read = ReadSoFar::new(alloc);
+    let mut read = ReadSoFar::new(alloc, input.len());
     read_script(&mut read, alloc, input)?;
     read.script.ok_or(missing(Cause::First))
 }

@@ -6,7 +6,7 @@ use Rattle.dma_script.proofs.SegmentLemmas.{left_less, left_of, segment_more, se
 use Rattle.dma_script.proofs.arguments.list_in.Goals as goal
 
 pub loop-left-init : goal.loop-left-init
-loop-left-init c = rw c.new-list.ensures (with_all c.args.word.now)
+loop-left-init c = rw c.in_ok-list.ensures (with_all c.args.word.now)
 
 pub returns-in_default-segment_before : goal.returns-in_default-segment_before
 returns-in_default-segment_before c =

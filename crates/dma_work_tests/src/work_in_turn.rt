@@ -2,11 +2,11 @@
 
 ghost use Rattle.dma_work.specs.Desk.{Names};
 
-use crate::engine_lines::Answer::{Advanced, Count, Done, Turned};
-use crate::engine_lines::Ask::{Advance, Issue, Mark, Raise, Step, Submit, Write};
-use crate::engine_lines::{CopyOfFour, READ_FAILED, copy, execute_lines, segment};
-use crate::engine_refused::{Pair, have_same_bytes, report_the_same};
 use dma_engine::{Engine, Turn};
+use dma_engine_tests::engine_lines::Answer::{Advanced, Count, Done, Turned};
+use dma_engine_tests::engine_lines::Ask::{Advance, Issue, Mark, Raise, Step, Submit, Write};
+use dma_engine_tests::engine_lines::{CopyOfFour, READ_FAILED, copy, execute_lines, segment};
+use dma_engine_tests::pairs::{Pair, have_same_bytes, report_the_same};
 use dma_mem::marks::MarkKind::Reading;
 use dma_work::{Desk, DeskName, Job, NoGate, Parts, Shared, Tally, run_workers};
 use std::alloc::Global;

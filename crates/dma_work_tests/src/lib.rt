@@ -1,0 +1,18 @@
+//! Tests of the running controller through its public items. They cover what no clause states and no row of the
+//! top-level `tests/` shows.
+#![tactic(auto)]
+
+#[cfg(test)]
+mod races;
+#[cfg(test)]
+mod scenes;
+#[cfg(test)]
+mod turns;
+#[cfg(test)]
+mod work;
+#[cfg(test)]
+mod work_in_turn;
+#[cfg(test)]
+mod work_refused;
+#[cfg(test)]
+mod work_stops;
