@@ -3,6 +3,7 @@ pub mod ImageOver
 pub mod SharedPlaces
 pub mod OverTransfers
 pub mod BytesPut
+pub mod BlankChunks
 pub mod BlockCopies
 pub mod TransferRules
 pub mod PlaceAt

@@ -1,8 +1,8 @@
 //! A table of chunks, by number. A chunk is four pages in one piece, and is made when one of them is first made.
 
-ghost use Rattle.std.specs.Prelude.{◌≡◌, ◌≢◌, ℕ, ◌+◌, ◌*◌, ◌/◌, ◌%◌, ◌<◌, ◌≤◌, ◌++◌, [], length, take, slice_index, slice_index_or, IfOk, OnOk, OnErr};
+ghost use Rattle.std.specs.Prelude.{◌≡◌, ◌≢◌, ℕ, ◌+◌, ◌*◌, ◌/◌, ◌%◌, ◌<◌, ◌≤◌, ◌++◌, [], length, take, slice_index, slice_index_or, vec_capacity, IfOk, OnOk, OnErr};
 ghost use Rattle.dma_mem.specs.Image.{put, bytes_at};
-ghost use Rattle.dma_mem.specs.inner.ChunkTable.{chunk_size, group_size, chunk_at, PutsInChunk, OthersStay, SameBytes};
+ghost use Rattle.dma_mem.specs.inner.ChunkTable.{bytes_shown, chunk_size, group_size, chunk_at, is_blank, PutsInChunk, OthersStay, SameBytes};
 
 mod addresses;
 pub(crate) mod blocks;
@@ -16,16 +16,8 @@ const CHUNK_SIZE: usize = 16_384;
 // How many chunks are in one group of the table.
 const GROUP_SIZE: usize = 256;
 
-// The bytes that a chunk shows that isn't made.
+// The bytes that a chunk shows that isn't made, or to which only zeros were written.
 static BLANK_CHUNK: [u8; CHUNK_SIZE] = [0; CHUNK_SIZE];
-
-// Returns a list of `len` zeros.
-fn zeros(alloc: Global, len: usize) -> Result<Vec<u8>, AllocError>
-    ensures len { IfOk result (λ v. length v.items ≡ len) }
-    ensures zero { IfOk result (λ v. (k : ℕ) → slice_index v.items k ≡ 0) }
-{
-    vec![in alloc; 0u8; len]
-}
 
 // Writes the bytes from index `start` on.
 pub(crate) fn put_bytes(all: &mut [u8], start: usize, bytes: &[u8])
@@ -48,23 +40,45 @@ pub(crate) fn put_parts(all: &mut [u8], start: usize, front: &[u8], back: &[u8])
     }
 }
 
-// A chunk: 16,384 bytes if it is made, otherwise none.
+// Returns whether the list of a chunk has memory but no bytes, because only zeros were written to the chunk.
+fn is_blank(bytes: &Vec<u8>) -> bool
+    ensures { result ≡ is_blank (vec_capacity bytes.now) bytes.now.items }
+{
+    bytes.is_empty() && bytes.capacity() > 0
+}
+
+// Puts the bytes that a chunk shows into its list, before something else than zeros is written.
+fn unblank(bytes: &mut Vec<u8>)
+    requires { 0 < vec_capacity bytes.old → chunk_size ≤ vec_capacity bytes.old }
+    ensures bytes { bytes.new.items ≡ bytes_shown (vec_capacity bytes.old) bytes.old.items }
+    ensures capacity { vec_capacity bytes.old ≤ vec_capacity bytes.new }
+{
+    if is_blank(bytes) {
+        let Ok(()) = bytes.resize(CHUNK_SIZE, 0) else {
+            unreachable!();
+        };
+    }
+}
+
+// A chunk: 16,384 bytes if it is made, otherwise none. As long as only zeros were written, its list has memory for them
+// but no bytes, so the system doesn't touch that memory.
 #[derive(Debug, Drop)]
 struct Chunk {
     bytes: Vec<u8>,
 }
 
 impl Model for Chunk {
-    ghost use Rattle.std.specs.Prelude.{List, ℕ, ◌≤◌, ◌<◌, length};
+    ghost use Rattle.std.specs.Prelude.{List, ℕ, ◌≤◌, ◌<◌, length, vec_capacity};
 
     ghost Value = { List ℕ };
 
-    ghost view = { λ p. p.bytes.items };
+    ghost use Rattle.dma_mem.specs.inner.ChunkTable.{bytes_shown, chunk_size};
 
-    ghost use Rattle.dma_mem.specs.inner.ChunkTable.{chunk_size};
+    ghost view = { λ p. bytes_shown (vec_capacity p.bytes) p.bytes.items };
 
     ghost invariant = { λ p. (0 < length p.bytes.items → chunk_size ≤ length p.bytes.items)
-        × (length p.bytes.items ≤ chunk_size) };
+        × (length p.bytes.items ≤ chunk_size)
+        × (0 < vec_capacity p.bytes → chunk_size ≤ vec_capacity p.bytes) };
 }
 
 impl Chunk {
@@ -82,6 +96,9 @@ impl Chunk {
         ensures bytes { result.now ≡ self.now }
         ensures whole { 0 < length self.now → length self.now ≡ chunk_size }
     {
+        if is_blank(&self.bytes) {
+            return &BLANK_CHUNK;
+        }
         self.bytes.as_slice()
     }
 
@@ -93,8 +110,8 @@ impl Chunk {
         ensures short { OnErr result (length self.old ≡ 0) }
         ensures err { OnErr result (self.new ≡ self.old) }
     {
-        if self.bytes.is_empty() {
-            self.bytes = zeros(*self.bytes.allocator(), CHUNK_SIZE)?;
+        if self.bytes.capacity() == 0 {
+            self.bytes = Vec::with_capacity(*self.bytes.allocator(), CHUNK_SIZE)?;
         }
         Ok(())
     }
@@ -107,6 +124,7 @@ impl Chunk {
         ensures len { length self.new ≡ length self.old }
         ensures bytes { self.new ≡ put self.old (bytes_at offset (front.now ++ back.now)) }
     {
+        unblank(&mut self.bytes);
         put_parts(&mut self.bytes, offset, front, back);
     }
 
@@ -114,7 +132,15 @@ impl Chunk {
     fn try_copy(&self) -> Result<Chunk, AllocError>
         ensures { IfOk result (λ copy. copy ≡ self.now) }
     {
-        let bytes = Vec::from_slice(*self.bytes.allocator(), self.bytes.as_slice())?;
+        let alloc = *self.bytes.allocator();
+        if self.bytes.capacity() == 0 {
+            return Ok(Chunk::new(alloc));
+        }
+        let bytes = if is_blank(&self.bytes) {
+            Vec::with_capacity(alloc, CHUNK_SIZE)?
+        } else {
+            Vec::from_slice(alloc, self.bytes.as_slice())?
+        };
         Ok(Chunk { bytes })
     }
 }

@@ -1,5 +1,5 @@
 -- The chunks behind an image: groups of 256 chunks of 16,384 bytes, which is four pages each.
-use Rattle.std.specs.Prelude.{◌≡◌, ◌≢◌, ℕ, ◌*◌, ◌/◌, ◌%◌, ◌+◌, ◌<◌, ◌≤◌, Bool, true, false, nat_eq, List, [], length, map, slice_index, slice_index_or, unwrap_or}
+use Rattle.std.specs.Prelude.{◌≡◌, ◌≢◌, ℕ, ◌*◌, ◌/◌, ◌%◌, ◌+◌, ◌<◌, ◌≤◌, Bool, true, false, nat_eq, nat_lt, ◌&&◌, if◌then◌else◌, List, [], length, map, replicate, slice_index, slice_index_or, unwrap_or}
 use Rattle.std.specs.List.{range_with_len}
 use Rattle.std.specs.Map.{lookup}
 use Rattle.dma_mem.specs.Image.{put, bytes_at}
@@ -8,6 +8,18 @@ use Rattle.dma_mem.specs.Pages.{Paged, page_size}
 -- how many bytes a chunk has
 abbrev pub chunk_size : ℕ
 chunk_size = 16384
+
+-- A list has memory but no items.
+abbrev pub is_blank : ℕ → List ℕ → Bool
+is_blank capacity items = nat_eq (length items) 0 && nat_lt 0 capacity
+
+-- the zeros of a chunk to which nothing else was written
+unfoldable pub blank : List ℕ
+blank = replicate chunk_size 0
+
+-- the bytes that a chunk shows, by the capacity and the items of its list
+abbrev pub bytes_shown : ℕ → List ℕ → List ℕ
+bytes_shown capacity items = if is_blank capacity items then blank else items
 
 -- the bytes of a chunk: 16,384 if it is made, otherwise none
 abbrev pub chunk_at : List (List ℕ) → ℕ → List ℕ

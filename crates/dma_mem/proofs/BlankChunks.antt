@@ -1,0 +1,112 @@
+-- Chunks to which only zeros were written.
+use Rattle.std.proofs.Common.{◌≡◌, ℕ, ◌+◌, ◌-◌, ◌<◌, ◌≤◌, List, [], ◌∷◌, ◌++◌, length, get_or, replicate, drop, take, Bool, true, false, Option, Some, None, refl, ap, sym, ◌∙◌, arith, inl, inr}
+use Rattle.std.specs.Prelude.{unwrap_or, nat_eq}
+use Rattle.std.specs.Map.{lookup}
+use Rattle.std.proofs.Math.Seq.{take-length}
+use Rattle.std.proofs.lemmas.Bool.{cases_lt, cases_eq, eq-eqb, ne_eqb, lt-ltb}
+use Rattle.std.proofs.lemmas.List.{ext_get_or, length-replicate, append-nil, length-drop, length-take, nil_from_length}
+use Rattle.dma_mem.specs.Image.{put, bytes_at}
+use Rattle.dma_mem.specs.inner.Blocks.{filled}
+use Rattle.dma_mem.specs.inner.ChunkTable.{blank, bytes_shown, is_blank}
+use Rattle.dma_mem.proofs.BytesPut.{lookup-bytes_before, lookup-bytes_at, lookup-bytes_past}
+use Rattle.dma_mem.proofs.ChunkTables.{zero_at}
+use Rattle.dma_mem.proofs.ImagePut.{length-put, get_or-put}
+
+-- ---- the zeros that a blank chunk shows
+
+pub blank-is : blank ≡ replicate 16384 0
+unfolding blank
+blank-is = refl
+
+pub length-blank : length blank ≡ 16384
+length-blank = ap length blank-is ∙ length-replicate {A = ℕ} 16384 0
+
+pub blank_at : (k : ℕ) → get_or blank k 0 ≡ 0
+blank_at k = ap (λ xs. get_or xs k 0) blank-is ∙ zero_at 16384 k
+
+-- zeros that are written to it change nothing
+pub filled-blank : (start len : ℕ) → filled blank start len 0 ≡ blank
+filled-blank start len =
+    let zeros : List ℕ = replicate len 0 in
+    ext_get_or 0 _ _ (length-put blank (bytes_at start zeros)) (λ k l.
+    let m : k < length blank = omega (arith, length-put blank (bytes_at start zeros)) in
+    let shows : (o : Option ℕ) → lookup (nat_eq k) (bytes_at start zeros) ≡ o → unwrap_or o (get_or blank k 0) ≡ 0 → get_or (put blank (bytes_at start zeros)) k 0 ≡ get_or blank k 0 = λ o e z. get_or-put blank (bytes_at start zeros) k m ∙ ap (λ o. unwrap_or o (get_or blank k 0)) e ∙ z ∙ sym (blank_at k) in
+    elim (cases_lt k start) [
+      | inl before ↦ shows None (lookup-bytes_before start zeros k before) (blank_at k)
+      | inr after ↦ elim (cases_lt k (start + length zeros)) [
+        | inl within ↦ shows (Some (get_or zeros (k - start) 0)) (lookup-bytes_at start zeros (k - start) k (omega arith) (omega arith)) (zero_at len (k - start))
+        | inr past ↦ shows None (lookup-bytes_past start zeros k past) (blank_at k)
+      ]
+    ])
+
+-- ---- what a chunk shows, by its list
+
+pub shown-blank : (capacity : ℕ) (items : List ℕ) → is_blank capacity items ≡ true → bytes_shown capacity items ≡ blank
+shown-blank capacity items e = rw e refl
+
+pub shown-as_is : (capacity : ℕ) (items : List ℕ) → is_blank capacity items ≡ false → bytes_shown capacity items ≡ items
+shown-as_is capacity items e = rw e refl
+
+pub shown-items : (capacity : ℕ) (items : List ℕ) → 0 < length items → bytes_shown capacity items ≡ items
+shown-items capacity items some = rw (ne_eqb (length items) 0 (λ e. omega arith)) refl
+
+length-shown_by : (b : Bool) (capacity : ℕ) (items : List ℕ) → is_blank capacity items ≡ b → (0 < length items → 16384 ≤ length items) → length items ≤ 16384 → 0 < length (bytes_shown capacity items) → length (bytes_shown capacity items) ≡ 16384
+length-shown_by true capacity items e whole most some = ap length (shown-blank capacity items e) ∙ length-blank
+length-shown_by false capacity items e whole most some =
+    let same : length (bytes_shown capacity items) ≡ length items = ap length (shown-as_is capacity items e) in
+    let here : 0 < length items = omega (arith, some, same) in
+    omega (arith, whole here, same)
+
+-- A chunk that shows a byte shows 16,384.
+pub length-shown : (capacity : ℕ) (items : List ℕ) → (0 < length items → 16384 ≤ length items) → length items ≤ 16384 → 0 < length (bytes_shown capacity items) → length (bytes_shown capacity items) ≡ 16384
+length-shown capacity items = length-shown_by (is_blank capacity items) capacity items refl
+
+-- A chunk with memory shows 16,384 bytes.
+pub length-with_memory : (capacity : ℕ) (items : List ℕ) → (0 < length items → 16384 ≤ length items) → length items ≤ 16384 → 0 < capacity → length (bytes_shown capacity items) ≡ 16384
+length-with_memory capacity items whole most some = elim (cases_eq (length items) 0) [
+  | inl none ↦ ap length (shown-blank capacity items (rw (eq-eqb (length items) 0 none, lt-ltb 0 capacity some) refl)) ∙ length-blank
+  | inr more ↦
+      let here : 0 < length items = omega arith in
+      ap length (shown-items capacity items here) ∙ omega (arith, whole here)
+]
+
+-- A blank list has no items.
+pub blank-none : (capacity : ℕ) (items : List ℕ) → is_blank capacity items ≡ true → length items ≡ 0
+blank-none capacity items e = elim (cases_eq (length items) 0) [
+  | inl none ↦ none
+  | inr more ↦
+      let not : is_blank capacity items ≡ false = rw (ne_eqb (length items) 0 more) refl in
+      cc
+]
+
+-- memory for the bytes of a chunk, and no items
+pub shown-new : (capacity : ℕ) (items : List ℕ) → items ≡ [] → 0 < capacity → bytes_shown capacity items ≡ blank
+shown-new capacity items none some =
+    shown-blank capacity items (rw (none, lt-ltb 0 capacity some) refl)
+
+-- the zeros that fill an empty list
+pub zeros-fill : (n used : ℕ) (items : List ℕ) → length items ≡ 0 → used ≡ length items → take n items ++ replicate (n - used) 0 ≡ replicate n 0
+zeros-fill n used [] none e =
+    let all : n - used ≡ n = omega (arith, e) in
+    let empty : take {A = ℕ} n [] ≡ [] = nil_from_length (take {A = ℕ} n []) (omega (arith, length-take {A = ℕ} n [])) in
+    rw (empty, all) refl
+zeros-fill n used (b ∷ bs) none e = absurd (omega arith)
+
+-- ---- what is written through the list
+
+-- all bytes of a list, replaced by as many others
+pub replaced-all : (len : ℕ) (all items : List ℕ) → len ≡ length items → length all ≡ length items → take len (all ++ drop (length all) items) ≡ all
+replaced-all len all items e f =
+    let rest : drop (length all) items ≡ [] = nil_from_length (drop (length all) items) (omega (arith, length-drop {A = ℕ} (length all) items)) in
+    let long : len ≡ length all = omega (arith, e, f) in
+    rw (rest, append-nil, long) (take-length all)
+
+pub shown-replaced : (capacity len : ℕ) (all items : List ℕ) → len ≡ length items → length all ≡ length items → 0 < length items → bytes_shown capacity (take len (all ++ drop (length all) items)) ≡ all
+shown-replaced capacity len all items e f some =
+    let same : take len (all ++ drop (length all) items) ≡ all = replaced-all len all items e f in
+    shown-items capacity (take len (all ++ drop (length all) items)) (omega (arith, ap length same, f)) ∙ same
+
+-- a chunk's list before something is written through it
+pub length-unblanked : (capacity : ℕ) (items new shown : List ℕ) → new ≡ bytes_shown capacity items → bytes_shown capacity items ≡ shown → (0 < length items → 16384 ≤ length items) → length items ≤ 16384 → 0 < length shown → length new ≡ 16384
+length-unblanked capacity items new shown e view whole most some =
+    ap length e ∙ length-shown capacity items whole most (omega (arith, ap length view))
