@@ -16,7 +16,7 @@ const CHUNK_SIZE: usize = 16_384;
 // How many chunks are in one group of the table.
 const GROUP_SIZE: usize = 256;
 
-// The bytes that a chunk shows that isn't made, or to which only zeros were written.
+// The bytes that a chunk shows that isn't made, or to which nothing was written.
 static BLANK_CHUNK: [u8; CHUNK_SIZE] = [0; CHUNK_SIZE];
 
 // Writes the bytes from index `start` on.
@@ -40,14 +40,14 @@ pub(crate) fn put_parts(all: &mut [u8], start: usize, front: &[u8], back: &[u8])
     }
 }
 
-// Returns whether the list of a chunk has memory but no bytes, because only zeros were written to the chunk.
+// Returns whether the list of a chunk has memory but no bytes.
 fn is_blank(bytes: &Vec<u8>) -> bool
     ensures { result ≡ is_blank (vec_capacity bytes.now) bytes.now.items }
 {
     bytes.is_empty() && bytes.capacity() > 0
 }
 
-// Puts the bytes that a chunk shows into its list, before something else than zeros is written.
+// Puts the zeros that a chunk shows into its list, if it has no bytes.
 fn unblank(bytes: &mut Vec<u8>)
     requires { 0 < vec_capacity bytes.old → chunk_size ≤ vec_capacity bytes.old }
     ensures bytes { bytes.new.items ≡ bytes_shown (vec_capacity bytes.old) bytes.old.items }
@@ -60,8 +60,8 @@ fn unblank(bytes: &mut Vec<u8>)
     }
 }
 
-// A chunk: 16,384 bytes if it is made, otherwise none. As long as only zeros were written, its list has memory for them
-// but no bytes, so the system doesn't touch that memory.
+// A chunk: 16,384 bytes if it is made, otherwise none. Until something is written to it, its list has memory for them
+// but no bytes, so that the system doesn't touch that memory. Setting bytes to 0 writes nothing then.
 #[derive(Debug, Drop)]
 struct Chunk {
     bytes: Vec<u8>,

@@ -13,7 +13,7 @@ chunk_size = 16384
 abbrev pub is_blank : ℕ → List ℕ → Bool
 is_blank capacity items = nat_eq (length items) 0 && nat_lt 0 capacity
 
--- the zeros of a chunk to which nothing else was written
+-- the zeros of a chunk that is made, but to which nothing was written
 unfoldable pub blank : List ℕ
 blank = replicate chunk_size 0
 
