@@ -16,6 +16,12 @@ def copies(count, offset):
     return script(4 * MIB, 1, ["copy %d+%d to %d+%d" % (offset, MIB, 2 * MIB + offset, MIB)] * count)
 
 
+def copies_of_written(count):
+    # a write to each chunk of the source, which the other copies read as zeros
+    lines = ["write %d 5A" % (16384 * i) for i in range(64)]
+    return script(4 * MIB, 1, lines + ["copy 0+%d to %d+%d" % (MIB, 2 * MIB, MIB)] * count)
+
+
 def fills(count):
     return script(4 * MIB, 1, ["fill 1 to %d+%d" % (2 * MIB + 1, MIB)] * count)
 
@@ -117,6 +123,7 @@ MOVED = b" NoError residue 0"
 CASES = {
     "start": ("run", script(4 * MIB, 1, []), None, None),
     "copies": ("run", copies(100, 0), (MOVED, 100), memmove(100, 0)),
+    "written": ("run", copies_of_written(100), (MOVED, 100), memmove(100, 0)),
     "odd": ("run", copies(20, 1), (MOVED, 20), memmove(20, 1)),
     "fills": ("run", fills(100), (MOVED, 100), memset(100)),
     "step_lines": ("run", step_lines(20), (MOVED, 20), memmove(20, 0)),

@@ -16,7 +16,7 @@ use crate::run::copies::answer_copy;
 use crate::run::steps::{StepLines, answer_step, answer_steps};
 use dma_engine::{Call, Engine, NewFault};
 use dma_script::command::{Command, SUCCESS, refuse, serve};
-use dma_script::input::Source;
+use dma_script::input::{MOST_RESERVED, Source};
 use dma_script::interpreter::Interpreter;
 use dma_script::output::Sink;
 use dma_script::statements::{Statement, Statements, read_run_script};
@@ -86,20 +86,21 @@ pub fn run_statements(
     Ok(SUCCESS)
 }
 
-/// The bytes of a script for each of its entries: a line of `issue 0`, `step 0 9` and half of a `submit`.
-const TEXT_OF_ENTRY: usize = 14;
+/// How many bytes of a script are taken to add one entry to the history.
+const BYTES_PER_ENTRY: usize = 14;
 
-/// The printed bytes for each byte of a script, at most in usual ones.
-const PRINTED: usize = 4;
+/// How many bytes a script is taken to print for each of its own bytes.
+const PRINTED_PER_BYTE: usize = 4;
 
-/// Makes room for the entries and the output of a script of this many bytes. Lists that grow from a few items are
-/// copied again and again. If memory runs out, less room or none is made.
-fn make_room(engine: &mut Engine, text_len: usize, out: &mut Vec<u8>)
+/// Reserves memory for the entries and the output of a script of this many bytes, so that they are copied less often
+/// while they grow. Reserves nothing for a list for which memory runs out.
+fn reserve_for(engine: &mut Engine, text_len: usize, out: &mut Vec<u8>)
     ensures view { engine.new.view ≡ engine.old.view }
     ensures printed { out.new.items ≡ out.old.items }
 {
-    let _ = engine.reserve_entries(text_len / TEXT_OF_ENTRY);
-    let _ = out.reserve(text_len.saturating_mul(PRINTED));
+    let len = text_len.min(MOST_RESERVED);
+    let _ = engine.reserve_entries(len / BYTES_PER_ENTRY);
+    let _ = out.reserve(len * PRINTED_PER_BYTE);
 }
 
 /// The command `run`.
@@ -124,7 +125,7 @@ impl Command for Run {
                     Err(NewFault::NoMemory) => return Err(AllocError),
                     Err(NewFault::BadChannels | NewFault::SizeOutOfRange) => unreachable!(),
                 };
-                make_room(&mut engine, input.len(), out);
+                reserve_for(&mut engine, input.len(), out);
                 run_statements(alloc, &mut engine, script.statements, out)
             }
             Err(error) => refuse(out, &error),

@@ -1,10 +1,9 @@
 //! The engine: the type, what it keeps, and its readings. Its calls and steps are in the files of `engine/`.
 
-ghost use Rattle.std.specs.Prelude.{◌≡◌, ◌<◌, ◌≤◌, ◌^◌, IfOk, IfErr, OnOk, None, unwrap_or, replicate};
+ghost use Rattle.std.specs.Prelude.{◌≡◌, ◌<◌, ◌≤◌, ◌^◌, IfOk, IfErr, OnErr, OnOk, None, unwrap_or, replicate};
 ghost use Rattle.std.specs.Option.{option_map};
 ghost use Rattle.dma_engine.specs.Object.{channel, used, finished, finished_all, unfinished};
 ghost use Rattle.dma_engine.specs.Ticks.{board_of, counts};
-ghost use Rattle.dma_engine.specs.Room.{KeepsRoom};
 ghost use Rattle.dma_engine.specs.View.{size, channels, object_of, schedule_at, running_on, new_fault, new_view, memory_of, IsSound};
 ghost use Rattle.dma_engine.specs.Answer.{status_in, result_of, first_running, done_on};
 ghost use Rattle.dma_engine.specs.inner.Accesses.{named, conflicts};
@@ -147,13 +146,15 @@ impl Engine {
         let _steps = self.steps;
     }
 
-    /// Makes room in the history for this many more entries, so that adding them doesn't copy it while it grows. Nothing
-    /// else changes. Fails with `AllocError` if memory runs out.
+    /// Makes room in the history for this many more entries, so that it isn't copied when they are added. Fails with
+    /// `AllocError` if memory runs out, and then changes nothing.
     pub fn reserve_entries(&mut self, entries: usize) -> Result<(), AllocError>
-        ensures view { self.new.view ≡ self.old.view }
-        ensures memory { self.new.memory ≡ self.old.memory }
+        ensures same { self.new ≡ record (self.old) {
+          room = record (self.old.room) { entries = self.new.room.entries };
+        } }
         ensures made { OnOk result (entries ≤ self.new.room.entries) }
-        ensures kept { KeepsRoom self.old self.new }
+        ensures kept { self.old.room.entries ≤ self.new.room.entries }
+        ensures err { OnErr result (self.new ≡ self.old) }
     {
         self.history.reserve(entries)
     }

@@ -1,4 +1,4 @@
-//! A list of calls with ample memory.
+//! Lists of calls for which there is enough memory.
 
 use crate::engine_lines::Answer::{Count, Done, Four, Refused, State, Turned};
 use crate::engine_lines::{Answer, answer_of, copy, segment};

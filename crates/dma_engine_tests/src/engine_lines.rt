@@ -74,6 +74,8 @@ pub enum Ask {
     Issue(u8),
     Terminate(u8),
     MakeRoom(u8),
+    /// Room for this many more entries.
+    Reserve(usize),
     Step(u8),
     /// Consecutive steps of a channel, at most this many.
     Advance(u8, u32),
@@ -143,6 +145,10 @@ pub fn answer_to(alloc: Global, engine: &mut Engine, ask: Ask) -> Result<Answer,
         Ask::Issue(ch) => counted(engine.issue(ch)),
         Ask::Terminate(ch) => counted(engine.terminate(ch)),
         Ask::MakeRoom(ch) => done(engine.make_room(ch)),
+        Ask::Reserve(entries) => match engine.reserve_entries(entries) {
+            Ok(()) => Answer::Done,
+            Err(_) => Answer::Refused(EngineFault::NoMemory),
+        },
         Ask::Step(ch) => match engine.step(ch) {
             Ok(turn) => Answer::Turned(turn),
             Err(fault) => Answer::Refused(fault),

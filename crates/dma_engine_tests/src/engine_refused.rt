@@ -6,7 +6,7 @@
 
 use crate::engine_lines::Answer::{Advanced, Count, Done, Four, Turned};
 use crate::engine_lines::Ask::{
-    Advance, Checkpoint, Issue, MakeRoom, Mark, Raise, Read, ReadBack, Step, Submit,
+    Advance, Checkpoint, Issue, MakeRoom, Mark, Raise, Read, ReadBack, Reserve, Step, Submit,
     SubmitOverPages, Terminate, Unmark, Write, WriteOwned,
 };
 use crate::engine_lines::{
@@ -114,6 +114,7 @@ fn calls_without_room(rt: HostRuntime) -> Result<(), Fail> {
         ("issue", Issue(0), Count(1)),
         ("terminate", Terminate(0), Count(2)),
         ("make_room", MakeRoom(0), Done),
+        ("reserve_entries", Reserve(3), Done),
         ("step that starts", Step(0), Turned(Turn::Started(2))),
     ];
     for row in rows {

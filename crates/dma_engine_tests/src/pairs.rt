@@ -4,7 +4,7 @@ use crate::engine_lines::{fields_of, observed};
 use dma_engine::engine::Engine;
 use std::test::Fail;
 
-// Returns whether two engines report the same about a channel.
+// Returns whether two engines report the same about a channel and its first four cookies.
 fn report_the_same_of(this: &Engine, that: &Engine, ch: u8) -> bool {
     for cookie in 1..5 {
         if this.status(ch, cookie) != that.status(ch, cookie)
@@ -28,6 +28,7 @@ pub fn report_the_same(this: &Engine, that: &Engine) -> bool {
         && report_the_same_of_all(this, that)
 }
 
+// Returns whether two engines report the same about all eight channels.
 fn report_the_same_of_all(this: &Engine, that: &Engine) -> bool {
     for ch in 0..8 {
         if !report_the_same_of(this, that, ch) {
@@ -44,7 +45,7 @@ pub struct Pair {
     pub other: Engine,
 }
 
-/// Returns whether both memories have the same bytes. It reads both, which adds an entry to both histories.
+/// Returns whether both memories have the same bytes. It reads both, and each history gets an entry.
 pub fn have_same_bytes(pair: &mut Pair) -> Result<bool, Fail> {
     let size = pair.asked.size();
     let these = pair.asked.read(0, size)?;

@@ -1,4 +1,4 @@
--- Chunks that are made, but to which nothing was written.
+-- Chunks that are made and whose lists have no bytes yet.
 use Rattle.std.proofs.Common.{◌≡◌, ℕ, ◌+◌, ◌-◌, ◌<◌, ◌≤◌, List, [], ◌∷◌, ◌++◌, length, get_or, replicate, drop, take, Bool, true, false, Option, Some, None, refl, ap, sym, ◌∙◌, arith, inl, inr}
 use Rattle.std.specs.Prelude.{unwrap_or, nat_eq}
 use Rattle.std.specs.Map.{lookup}
@@ -24,7 +24,7 @@ length-blank = ap length blank-is ∙ length-replicate {A = ℕ} 16384 0
 pub blank_at : (k : ℕ) → get_or blank k 0 ≡ 0
 blank_at k = ap (λ xs. get_or xs k 0) blank-is ∙ zero_at 16384 k
 
--- zeros that are written to it change nothing
+-- A fill of a blank chunk with 0 changes nothing.
 pub filled-blank : (start len : ℕ) → filled blank start len 0 ≡ blank
 filled-blank start len =
     let zeros : List ℕ = replicate len 0 in
@@ -41,12 +41,15 @@ filled-blank start len =
 
 -- ---- what a chunk shows, by its list
 
+-- A blank list shows zeros.
 pub shown-blank : (capacity : ℕ) (items : List ℕ) → is_blank capacity items ≡ true → bytes_shown capacity items ≡ blank
 shown-blank capacity items e = rw e refl
 
+-- Any other list shows its items.
 pub shown-as_is : (capacity : ℕ) (items : List ℕ) → is_blank capacity items ≡ false → bytes_shown capacity items ≡ items
 shown-as_is capacity items e = rw e refl
 
+-- A list with items shows them.
 pub shown-items : (capacity : ℕ) (items : List ℕ) → 0 < length items → bytes_shown capacity items ≡ items
 shown-items capacity items some = rw (ne_eqb (length items) 0 (λ e. omega arith)) refl
 
@@ -79,12 +82,12 @@ blank-none capacity items e = elim (cases_eq (length items) 0) [
       cc
 ]
 
--- memory for the bytes of a chunk, and no items
+-- An empty list with memory shows zeros.
 pub shown-new : (capacity : ℕ) (items : List ℕ) → items ≡ [] → 0 < capacity → bytes_shown capacity items ≡ blank
 shown-new capacity items none some =
     shown-blank capacity items (rw (none, lt-ltb 0 capacity some) refl)
 
--- the zeros that fill an empty list
+-- An empty list that is resized to n items, all 0, is n zeros.
 pub zeros-fill : (n used : ℕ) (items : List ℕ) → length items ≡ 0 → used ≡ length items → take n items ++ replicate (n - used) 0 ≡ replicate n 0
 zeros-fill n used [] none e =
     let all : n - used ≡ n = omega (arith, e) in
@@ -101,12 +104,13 @@ replaced-all len all items e f =
     let long : len ≡ length all = omega (arith, e, f) in
     rw (rest, append-nil, long) (take-length all)
 
+-- After all bytes of a list are replaced, it shows the new ones.
 pub shown-replaced : (capacity len : ℕ) (all items : List ℕ) → len ≡ length items → length all ≡ length items → 0 < length items → bytes_shown capacity (take len (all ++ drop (length all) items)) ≡ all
 shown-replaced capacity len all items e f some =
     let same : take len (all ++ drop (length all) items) ≡ all = replaced-all len all items e f in
     shown-items capacity (take len (all ++ drop (length all) items)) (omega (arith, ap length same, f)) ∙ same
 
--- a chunk's list before something is written through it
-pub length-unblanked : (capacity : ℕ) (items new shown : List ℕ) → new ≡ bytes_shown capacity items → bytes_shown capacity items ≡ shown → (0 < length items → 16384 ≤ length items) → length items ≤ 16384 → 0 < length shown → length new ≡ 16384
-length-unblanked capacity items new shown e view whole most some =
+-- Once the list of a made chunk has its zeros, it has 16,384 items.
+pub length-with_zeros : (capacity : ℕ) (items new shown : List ℕ) → new ≡ bytes_shown capacity items → bytes_shown capacity items ≡ shown → (0 < length items → 16384 ≤ length items) → length items ≤ 16384 → 0 < length shown → length new ≡ 16384
+length-with_zeros capacity items new shown e view whole most some =
     ap length e ∙ length-shown capacity items whole most (omega (arith, ap length view))

@@ -2,7 +2,7 @@
 //! allocates nothing. A longer one is behind a pointer, so that the value stays small: histories and scripts have many
 //! lists.
 
-ghost use Rattle.std.specs.Prelude.{◌≡◌, ◌∷◌, ◌++◌, ◌==◌, ◌≤◌, [], length, IfOk, OnOk, OnErr};
+ghost use Rattle.std.specs.Prelude.{◌≡◌, ◌∷◌, ◌++◌, ◌==◌, ◌≤◌, [], length, IfOk, IsOk, OnOk, OnErr};
 ghost use Rattle.dma_mem.specs.inner.Stored.{FitsInline, bytes_in, segments_in};
 
 use crate::segment::Segment;
@@ -159,10 +159,11 @@ impl Segments {
         }
     }
 
-    /// Returns an empty list with room for this many segments. It allocates nothing for at most one. Fails with
+    /// Returns an empty list with room for this many segments. It allocates nothing if that is 0 or 1. Fails with
     /// `AllocError` if memory runs out.
     pub fn with_capacity(alloc: Global, capacity: usize) -> Result<Segments, AllocError>
-        ensures { IfOk result (λ list. list ≡ []) }
+        ensures empty { IfOk result (λ list. list ≡ []) }
+        ensures few { capacity ≤ 1 → IsOk result }
     {
         if capacity <= 1 {
             return Ok(Segments::new(alloc));

@@ -33,10 +33,10 @@ pub enum MemFault {
 /// write and kept. Contracts see its image, and which of its pages are made.
 ///
 /// A new memory takes 24 bytes for each 4 MiB of its size. Its bytes are in chunks of four pages. The first page of a
-/// chunk that is made takes 16,384 bytes and what the allocator adds; the other three take nothing. The system doesn't
-/// touch these bytes before the first write to them, and setting them to 0 is none. The first page of each 4 MiB also
-/// takes 6 KiB, for the list of their 256 chunks. Flags take a byte or two for each page up to the last one that is
-/// made.
+/// chunk that is made takes 16,384 bytes and what the allocator adds; the other three take nothing. These bytes aren't
+/// touched until something is written to the chunk; a fill with 0 and a copy from a chunk that isn't made leave them
+/// untouched. The first page of each 4 MiB also takes 6 KiB, for the list of their 256 chunks. Flags take a byte or two
+/// for each page up to the last one that is made.
 #[derive(Debug, Drop)]
 pub struct Memory {
     size: u32,

@@ -16,7 +16,7 @@ const CHUNK_SIZE: usize = 16_384;
 // How many chunks are in one group of the table.
 const GROUP_SIZE: usize = 256;
 
-// The bytes that a chunk shows that isn't made, or to which nothing was written.
+// The bytes of a chunk that isn't made or is blank.
 static BLANK_CHUNK: [u8; CHUNK_SIZE] = [0; CHUNK_SIZE];
 
 // Writes the bytes from index `start` on.
@@ -47,8 +47,8 @@ fn is_blank(bytes: &Vec<u8>) -> bool
     bytes.is_empty() && bytes.capacity() > 0
 }
 
-// Puts the zeros that a chunk shows into its list, if it has no bytes.
-fn unblank(bytes: &mut Vec<u8>)
+// Adds the zeros of a chunk to its list, if the list has memory but no bytes.
+fn add_zeros(bytes: &mut Vec<u8>)
     requires { 0 < vec_capacity bytes.old → chunk_size ≤ vec_capacity bytes.old }
     ensures bytes { bytes.new.items ≡ bytes_shown (vec_capacity bytes.old) bytes.old.items }
     ensures capacity { vec_capacity bytes.old ≤ vec_capacity bytes.new }
@@ -60,8 +60,8 @@ fn unblank(bytes: &mut Vec<u8>)
     }
 }
 
-// A chunk: 16,384 bytes if it is made, otherwise none. Until something is written to it, its list has memory for them
-// but no bytes, so that the system doesn't touch that memory. Setting bytes to 0 writes nothing then.
+// A chunk: 16,384 bytes if it is made, otherwise none. The list of a new chunk has memory for the bytes but is empty,
+// so that this memory isn't touched. The first `put` or `copy_apart`, or `fill` with another byte than 0, adds them.
 #[derive(Debug, Drop)]
 struct Chunk {
     bytes: Vec<u8>,
@@ -124,7 +124,7 @@ impl Chunk {
         ensures len { length self.new ≡ length self.old }
         ensures bytes { self.new ≡ put self.old (bytes_at offset (front.now ++ back.now)) }
     {
-        unblank(&mut self.bytes);
+        add_zeros(&mut self.bytes);
         put_parts(&mut self.bytes, offset, front, back);
     }
 

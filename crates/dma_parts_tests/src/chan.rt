@@ -1,5 +1,5 @@
-//! Blocks of loop bodies: no contract says how many instructions a block executes. What the other tests of channels
-//! share is here too.
+//! Tests of how many instructions a block of loop bodies executes, which no contract says, and helpers for other tests
+//! of channels.
 
 use dma_chan::channel::Channel;
 use dma_chan::program::Program;
@@ -9,7 +9,6 @@ use dma_mem::marks::{MarkKind, Marks};
 use dma_mem::memory::{MemFault, Memory};
 use dma_mem::segment::Segment;
 use std::alloc::Global;
-use std::process::Abort;
 use std::test::Fail;
 
 pub fn segment(addr: u32, len: u32) -> Segment {
@@ -47,7 +46,7 @@ impl Machine {
         })
     }
 
-    // Executes an instruction. Returns `None` without a program, or if a page is missing.
+    // Executes an instruction. Returns `None` without a program, at the last count of steps, or if a page is missing.
     fn step(&mut self) -> Option<ChanTurn> {
         let (channel, memory) = (&mut self.channel, &mut self.memory);
         if !channel.is_loaded() || channel.taken() == u32::MAX || !channel.ready(memory) {
@@ -56,7 +55,7 @@ impl Machine {
         Some(channel.step(memory, &mut self.events, &self.marks))
     }
 
-    // Returns whether this many instructions are executed.
+    // Executes this many instructions. Returns whether each of them only moves on.
     fn moves(&mut self, count: u32) -> bool {
         for _ in 0..count {
             if self.step() != Some(ChanTurn::Moved) {
@@ -82,8 +81,6 @@ impl Machine {
         true
     }
 }
-
-// ---- blocks of loop bodies
 
 // Copies 16 bytes from 0x11 to 0x81 by four bursts of 4. The loop's body is at offset 20 and has five instructions.
 static LOOP: &[u8] =
@@ -146,29 +143,5 @@ fn a_loop_of_loops_is_one_block(rt: HostRuntime) -> Result<(), Fail> {
     assert!(rt; (machine.channel.pc(), machine.channel.taken()) == (28, 2567));
     assert!(rt; machine.channel.stored() == 512 && machine.moves(1));
     assert!(rt; machine.step() == Some(ChanTurn::Ended));
-    Ok(())
-}
-
-// ---- pages
-
-// Loads 16 bytes from 0x1FF8 and stores them to 0x3FFC: both ranges lie on two pages. Its store is the fifth
-// instruction.
-pub static ACROSS: &[u8] =
-    b"\xbc\0\xf8\x1f\0\0\xbc\x02\xfc\x3f\0\0\xbc\x01\xf1\x40\x3c\0\x04\x08\0";
-
-// Returns a memory of this size with eight bytes before 0x2000, and no page but theirs.
-pub fn eight_bytes(alloc: Global, size: u32) -> Result<Memory, MemFault> {
-    let mut memory = Memory::new(alloc, size)?;
-    memory.write(0x1ff8, &[1, 2, 3, 4, 5, 6, 7, 8])?;
-    Ok(memory)
-}
-
-// Checks that a memory has those bytes from 0x3FFC on, and the pages of 16 bytes there.
-pub fn assert_stored(rt: &impl Abort, memory: &Memory) -> Result<(), Fail> {
-    let mut bytes = [9; 18];
-    memory.read_into(0x3ffb, &mut bytes)?;
-    assert!(rt; bytes == [0, 1, 2, 3, 4, 5, 6, 7, 8, 0, 0, 0, 0, 0, 0, 0, 0, 0]);
-    assert!(rt; memory.made(segment(0x3ffc, 16)));
-    assert!(rt; !memory.made(segment(0x2000, 1)));
     Ok(())
 }

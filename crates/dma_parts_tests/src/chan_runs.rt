@@ -1,6 +1,6 @@
 //! Hand-written programs, run alone.
 
-use crate::chan::{ACROSS, assert_stored, counted, eight_bytes};
+use crate::chan::{counted, segment};
 use dma_chan::program::Program;
 use dma_chan::run::{RunEnd, RunFault, run_program};
 use dma_chan::turn::FaultKind::{
@@ -10,6 +10,7 @@ use dma_chan::turn::FaultKind::{
 use dma_insn::insn::Event;
 use dma_mem::memory::{MemFault, Memory};
 use std::alloc::Global;
+use std::process::Abort;
 use std::test::Fail;
 
 pub fn ended(turns: u32) -> RunEnd {
@@ -87,6 +88,27 @@ fn bursts_without_increment_stay_at_their_address(rt: HostRuntime) -> Result<(),
     assert!(rt; seen == wanted);
     let last = (memory.byte(0xc0), memory.byte(0xc1), memory.byte(0xc2));
     assert!(rt; last == (Some(0x2e), Some(0x2f), Some(0xc2)));
+    Ok(())
+}
+
+// Loads 16 bytes from 0x1FF8 and stores them to 0x3FFC: both ranges lie on two pages. Its store is the fifth
+// instruction.
+static ACROSS: &[u8] = b"\xbc\0\xf8\x1f\0\0\xbc\x02\xfc\x3f\0\0\xbc\x01\xf1\x40\x3c\0\x04\x08\0";
+
+// Returns a memory of this size with eight bytes before 0x2000, and no page but theirs.
+fn eight_bytes(alloc: Global, size: u32) -> Result<Memory, MemFault> {
+    let mut memory = Memory::new(alloc, size)?;
+    memory.write(0x1ff8, &[1, 2, 3, 4, 5, 6, 7, 8])?;
+    Ok(memory)
+}
+
+// Checks that a memory has those bytes from 0x3FFC on, and the pages of 16 bytes there.
+fn assert_stored(rt: &impl Abort, memory: &Memory) -> Result<(), Fail> {
+    let mut bytes = [9; 18];
+    memory.read_into(0x3ffb, &mut bytes)?;
+    assert!(rt; bytes == [0, 1, 2, 3, 4, 5, 6, 7, 8, 0, 0, 0, 0, 0, 0, 0, 0, 0]);
+    assert!(rt; memory.made(segment(0x3ffc, 16)));
+    assert!(rt; !memory.made(segment(0x2000, 1)));
     Ok(())
 }
 

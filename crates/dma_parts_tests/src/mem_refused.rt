@@ -108,6 +108,15 @@ fn memories_are_asked_again(rt: HostRuntime) -> Result<(), Fail> {
     prepare_again(&rt, &mut prepared)
 }
 
+// No contract says which fault comes if a segment ends above the size and another's pages can't be made.
+#[test]
+fn a_list_above_the_size_is_out_of_range(rt: HostRuntime) -> Result<(), Fail> {
+    let mut memory = Memory::new(rt.alloc(), 0x4000)?;
+    let above = Err(MemFault::OutOfMemoryRange);
+    assert!(rt; memory.prepare_all(&[segment(0, 0), segment(0x4001, 0)]) == above);
+    Ok(())
+}
+
 // Returns the transfer, or `None` if it is out of memory.
 fn made(
     rt: &(impl Abort + Print),

@@ -245,13 +245,16 @@ impl<'a> Arguments<'a> {
     }
 }
 
-/// Returns an empty list with room for about as many segments as a word spells, if all are as long as the first. It
-/// allocates nothing for a single segment.
-fn room_for(alloc: Global, word: &[u8]) -> Result<Segments, AllocError>
+/// Returns an empty list with room for the segments of a word, whose number it estimates from the length of the first.
+/// It allocates nothing for a single segment. Fails if memory runs out.
+fn empty_list_for(alloc: Global, word: &[u8]) -> Result<Segments, AllocError>
     ensures { IfOk result (λ list. list ≡ []) }
 {
     match position_of(b',', word) {
-        Some(first) => Segments::with_capacity(alloc, MAX_SEGMENTS.min(word.len() / (first + 1) + 1)),
+        Some(first) => Segments::with_capacity(
+            alloc,
+            MAX_SEGMENTS.min(word.len() / (first + 1) + 1),
+        ),
         None => Ok(Segments::new(alloc)),
     }
 }
@@ -260,7 +263,7 @@ fn room_for(alloc: Global, word: &[u8]) -> Result<Segments, AllocError>
 fn list_in(alloc: Global, word: &[u8]) -> Result<Option<Segments>, AllocError>
     ensures { IfOk result (λ list. list ≡ list_of word.now) }
 {
-    let mut list = room_for(alloc, word)?;
+    let mut list = empty_list_for(alloc, word)?;
     let mut left = Some(word);
     while let Some(rest) = left {
         let Some((segment, after)) = segment_before(rest) else {

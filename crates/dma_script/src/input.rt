@@ -11,6 +11,10 @@ use std::io::{Read, Stdin};
 /// The length of the longest input that is accepted, in bytes (profile).
 pub const LONGEST_INPUT: usize = 4_194_304;
 
+/// For how many bytes of an input at most lists are reserved before they grow. Longer lists than these grow without
+/// being copied, since the system moves their pages.
+pub const MOST_RESERVED: usize = 131_072;
+
 /// The most bytes of one read.
 const READ_SIZE: usize = 65_536;
 

@@ -12,11 +12,11 @@ use std::alloc::{AllocError, Global};
 use std::marker::Model;
 use std::vec::IntoIter;
 
-/// The bytes of a short line: `step 0 9` and its line feed.
-const SHORT_LINE: usize = 9;
+/// How many bytes a line is taken to have, with its line feed: those of `step 0 9`.
+const BYTES_PER_LINE: usize = 9;
 
-/// The bytes of a script for each of its lines with a list: `submit`, `issue` and `step` lines of one transfer.
-const LONG_LINE: usize = 40;
+/// How many bytes of a script are taken to hold one line that is kept in `long`: a `submit` with its `issue` and `step`.
+const BYTES_PER_LONG_LINE: usize = 40;
 
 /// A statement as it is kept, or where it is kept.
 #[derive(Clone, Copy, Debug, PartialEq, Eq, Drop)]
@@ -89,13 +89,13 @@ impl Statements {
         }
     }
 
-    /// Makes room for the statements of a text of this many bytes, if its lines are of usual length. Lists that grow
-    /// from a few items are copied again and again. If memory runs out, less room or none is made.
-    pub(crate) fn make_room(&mut self, text_len: usize)
+    /// Reserves memory for the statements of a text of this many bytes, so that they are copied less often while they
+    /// grow. Reserves nothing for a list for which memory runs out.
+    pub(crate) fn reserve_for(&mut self, text_len: usize)
         ensures { self.new ≡ self.old }
     {
-        let _ = self.lines.reserve(text_len / SHORT_LINE);
-        let _ = self.long.reserve(text_len / LONG_LINE);
+        let _ = self.lines.reserve(text_len / BYTES_PER_LINE);
+        let _ = self.long.reserve(text_len / BYTES_PER_LONG_LINE);
     }
 
     /// Adds a statement at the end. A `write` line takes less memory if `push_write` adds it.

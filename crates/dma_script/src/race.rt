@@ -183,7 +183,8 @@ pub fn read_race_script(alloc: Global, input: &[u8]) -> Result<RaceScript, Scrip
     ensures within { IfOk result IsRace }
 {
     let mut read = RaceSoFar {
-        before: ReadSoFar::new(alloc, input.len()),
+        // few lines come before `go`
+        before: ReadSoFar::new(alloc, 0),
         jobs: List::new(alloc),
         after: None,
     };

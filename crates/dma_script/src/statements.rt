@@ -8,6 +8,7 @@ ghost use Rattle.dma_script.specs.inner.Reading.{line_added, statement_added};
 use crate::arguments::Arguments;
 pub use crate::arguments::MAX_LINE_STEPS;
 use crate::fault::{Cause, LineError, ScriptError, missing};
+use crate::input::MOST_RESERVED;
 use crate::lines::{Script, read_script};
 pub use crate::queue::Statements;
 use crate::transfer_line::{Origin, TransferLine, transfer};
@@ -275,8 +276,8 @@ pub(crate) struct ReadSoFar {
     pub(crate) script: Option<RunScript>,
     // The list into which the bytes of a `write` line are read. The next line reuses its memory.
     pub(crate) bytes: Vec<u8>,
-    // The number of bytes of the whole text, by which room for its statements is made.
-    text_len: usize,
+    // For how many bytes of text statements are reserved.
+    reserved_len: usize,
 }
 
 impl Model for ReadSoFar {
@@ -292,14 +293,14 @@ impl ReadSoFar {
     ghost use Rattle.std.specs.Prelude.{None};
     ghost use Rattle.dma_script.specs.Statements.{next_line};
 
-    /// Returns the state before any line of a text of this many bytes is read.
-    pub(crate) fn new(alloc: Global, text_len: usize) -> ReadSoFar
+    /// Returns the state before the first line is read. Then statements are reserved for `reserved_len` bytes of text.
+    pub(crate) fn new(alloc: Global, reserved_len: usize) -> ReadSoFar
         ensures { result ≡ None }
     {
         ReadSoFar {
             script: None,
             bytes: Vec::new(alloc),
-            text_len,
+            reserved_len,
         }
     }
 
@@ -310,7 +311,7 @@ impl ReadSoFar {
         ensures { Gives (λ _. self.new) result (next_line None keyword (words_of words.now)) }
     {
         let mut script = first_line(alloc, keyword, words)?;
-        script.statements.make_room(self.text_len);
+        script.statements.reserve_for(self.reserved_len);
         self.script = Some(script);
         Ok(())
     }
@@ -359,7 +360,7 @@ pub fn read_run_script(alloc: Global, input: &[u8]) -> Result<RunScript, ScriptE
     ensures script { Gives (λ script. script) result (run_script_of input.now) }
     ensures within { IfOk result IsWithin }
 {
-    let mut read = ReadSoFar::new(alloc, input.len());
+    let mut read = ReadSoFar::new(alloc, input.len().min(MOST_RESERVED));
     read_script(&mut read, alloc, input)?;
     read.script.ok_or(missing(Cause::First))
 }

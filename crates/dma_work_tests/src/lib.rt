@@ -1,5 +1,5 @@
-//! Tests of the running controller through its public items. They cover what no clause states and no row of the
-//! top-level `tests/` shows.
+//! Tests of the desk, its workers and its readers through their public items. They cover what no clause states and no
+//! row of the top-level `tests/` shows.
 #![tactic(auto)]
 
 #[cfg(test)]

@@ -9,11 +9,11 @@ use Rattle.dma_mem.specs.Pages.{Paged, page_size}
 abbrev pub chunk_size : ℕ
 chunk_size = 16384
 
--- A list has memory but no items.
+-- whether the list of a chunk has memory but no items
 abbrev pub is_blank : ℕ → List ℕ → Bool
 is_blank capacity items = nat_eq (length items) 0 && nat_lt 0 capacity
 
--- the zeros of a chunk that is made, but to which nothing was written
+-- the bytes of a blank chunk, all 0
 unfoldable pub blank : List ℕ
 blank = replicate chunk_size 0
 

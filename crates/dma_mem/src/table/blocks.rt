@@ -4,7 +4,7 @@ ghost use Rattle.std.specs.Prelude.{◌≡◌, ◌+◌, ◌%◌, ◌<◌, ◌≤
 ghost use Rattle.dma_mem.specs.inner.Blocks.{copied, filled, CopiesBlock, FillsBlock};
 ghost use Rattle.dma_mem.specs.inner.ChunkTable.{chunk_size, chunk_at, chunk_of, RangeMade, SameLengths};
 
-use crate::table::{CHUNK_SIZE, Chunk, GROUP_SIZE, Group, Table, is_blank, put_bytes, unblank};
+use crate::table::{CHUNK_SIZE, Chunk, GROUP_SIZE, Group, Table, add_zeros, is_blank, put_bytes};
 use std::mem;
 
 // Returns how many of the `len` bytes from `start` on lie in the same chunk as the first.
@@ -52,7 +52,7 @@ impl Chunk {
         ensures len { length self.new ≡ length self.old }
         ensures bytes { self.new ≡ copied self.old from to len }
     {
-        unblank(&mut self.bytes);
+        add_zeros(&mut self.bytes);
         copy_bytes_apart(&mut self.bytes, from, to, len);
     }
 
@@ -67,7 +67,7 @@ impl Chunk {
         if byte == 0 && is_blank(&self.bytes) {
             return;
         }
-        unblank(&mut self.bytes);
+        add_zeros(&mut self.bytes);
         fill_bytes(&mut self.bytes, offset, len, byte);
     }
 }

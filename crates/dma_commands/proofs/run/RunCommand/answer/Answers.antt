@@ -9,14 +9,14 @@ pub returns-in-Ok-new : goal.returns-in-Ok-new
 returns-in-Ok-new c =
     let script = c.in-Ok.script in
     let old = c.args.out.now.items in
-    let room = c.make_room.new.out.items in
+    let room = c.reserve_for.new.out.items in
     let new = c.run_statements.new.out.items in
     let result = c.run_statements.result in
     record {
       printed = printed c.args.input.now;
       allowed = refl;
       answers = rw c.in-Ok.ensures.script
-          (subst (λ (v : View). Answers (record { groups = [] ∷ lines_answered v script.statements; status = 0 }) result old new) (c.make_room.ensures.view ∙ c.in-Ok-new.ensures.ok)
-          (subst (λ (o : List ℕ). Answers (record { groups = [] ∷ lines_answered c.make_room.new.engine.view script.statements; status = 0 }) result o new) c.make_room.ensures.printed
+          (subst (λ (v : View). Answers (record { groups = [] ∷ lines_answered v script.statements; status = 0 }) result old new) (c.reserve_for.ensures.view ∙ c.in-Ok-new.ensures.ok)
+          (subst (λ (o : List ℕ). Answers (record { groups = [] ∷ lines_answered c.reserve_for.new.engine.view script.statements; status = 0 }) result o new) c.reserve_for.ensures.printed
           (answers_memory _ 0 result room new c.run_statements.ensures)));
     }

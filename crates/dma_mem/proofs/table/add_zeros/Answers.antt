@@ -3,7 +3,7 @@ use Rattle.std.specs.Prelude.{vec_capacity, vec_len}
 use Rattle.dma_mem.specs.inner.ChunkTable.{is_blank}
 use Rattle.std.proofs.Common.{true}
 use Rattle.dma_mem.proofs.BlankChunks.{blank-is, blank-none, shown-blank, zeros-fill}
-use Rattle.dma_mem.proofs.table.unblank.Goals as goal
+use Rattle.dma_mem.proofs.table.add_zeros.Goals as goal
 
 pub returns-in-Ok-clause-bytes : goal.returns-in-Ok-clause-bytes
 returns-in-Ok-clause-bytes c =
