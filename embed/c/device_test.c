@@ -68,6 +68,34 @@ static void takes_its_steps(void)
     }
 }
 
+/* After the DMASEV of an interrupt comes a DMAST. It belongs to the same turn if it writes beside what the turn wrote,
+ * else to the next turn, so that a report's range has no byte that wasn't written. */
+static void reports_what_it_wrote(bool is_apart)
+{
+    dma330_device_turn t;
+    uint32_t at;
+
+    set_up(&m, plain(1, 4, false));
+    at = put_move(&m, LOW, TO_SAR, LOW + 0x800);
+    at = put_move(&m, at, TO_DAR, LOW + 0x1000);
+    at = put_move(&m, at, TO_CCR, BURSTS_OF(2));
+    at = put(&m, put(&m, at, DMALD), DMAST);
+    if (is_apart)
+        at = put_move(&m, at, TO_DAR, FAR + 0x100);
+    at = put_two(&m, put(&m, at, DMALD), DMASEV, 2 << 3);
+    put(&m, put(&m, at, DMAST), DMAEND);
+    set(&m, INTEN, 1 << 2);
+    start(&m, 0, LOW);
+    check(dma330_device_step(&m.device, 0, 1000, m.regions, REGIONS, &t) == DMA330_OK, "a turn", is_apart);
+    check(t.written.addr == LOW + 0x1000 && t.written.len == (is_apart ? 64 : 128), "its range", t.written.len);
+    check(irqs(&m) == 1 << 2 && get(&m, CSR) == 1, "its interrupt", is_apart);
+    check(dma330_device_step(&m.device, 0, 1000, m.regions, REGIONS, &t) == DMA330_OK, "the next", is_apart);
+    check(t.written.len == (is_apart ? 64 : 0), "its range", t.written.len);
+    check(!is_apart || t.written.addr == FAR + 0x100, "its place", t.written.addr);
+    check(get(&m, CSR) == 0, "it has ended", is_apart);
+    tear_down(&m);
+}
+
 static void is_killed_and_reset(void)
 {
     set_up(&m, plain(3, 4, false));
@@ -338,6 +366,8 @@ int main(void)
         for (uint32_t bus = 32; bus <= 128; bus *= 2)
             copies_on_two_channels(bus, mosts[n]);
     takes_its_steps();
+    reports_what_it_wrote(false);
+    reports_what_it_wrote(true);
     is_killed_and_reset();
     waits_for_another_channel();
     waits_for_the_guest();

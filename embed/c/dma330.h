@@ -56,7 +56,7 @@ extern "C" {
 #define DMA330_MAX_CHANNELS 8
 #define DMA330_MAX_REGIONS 64
 #define DMA330_MAX_SAVE 8500
-#define DMA330_MAX_DEVICE_SAVE 68200
+#define DMA330_MAX_DEVICE_SAVE 68204
 
 /* Room for the text of a program of this many bytes, whatever its instructions are. */
 #define DMA330_MAX_TEXT(bytes) (9 * (bytes))
@@ -169,7 +169,7 @@ typedef struct dma330_device_config {
 
 /* What dma330_device_step did. */
 typedef struct dma330_device_turn {
-    dma330_segment written; /* the smallest range with all addresses that it wrote; its len is 0 if it wrote nothing */
+    dma330_segment written; /* the range that it wrote, each byte of it; its len is 0 if it wrote nothing */
     uint32_t lines_changed; /* 1 if a line of irq[31:0], or irq_abort, has changed, else 0 */
     uint32_t can_step;      /* what dma330_device_can_step writes now */
 } dma330_device_turn;
@@ -275,7 +275,8 @@ enum dma330_code {
     DMA330_NUMBER_OUT_OF_RANGE = -52, /* assembly: a number is outside its range */
     DMA330_CUT_INSTRUCTION = -60,     /* disassembly: the bytes end within an instruction */
     DMA330_UNKNOWN_INSTRUCTION = -61, /* disassembly: no instruction begins with this byte */
-    DMA330_BAD_FIELD = -62            /* disassembly: a field is outside its range */
+    DMA330_BAD_FIELD = -62,           /* disassembly: a field is outside its range */
+    DMA330_UNEXPLAINED = -70          /* no copy explains the program */
 };
 
 /* ---- names of numbers, for messages ---- */
@@ -306,6 +307,7 @@ DMA330_INLINE const char *dma330_code_name(int32_t code)
         DMA330_NAMED(BAD_SAVE) DMA330_NAMED(OTHER_DEVICE) DMA330_NAMED(BAD_MNEMONIC) DMA330_NAMED(BAD_OPERAND)
         DMA330_NAMED(NUMBER_OUT_OF_RANGE) DMA330_NAMED(CUT_INSTRUCTION) DMA330_NAMED(UNKNOWN_INSTRUCTION)
         DMA330_NAMED(BAD_FIELD)
+        DMA330_NAMED(UNEXPLAINED)
     default: return "?";
     }
 }
@@ -585,6 +587,27 @@ int32_t dma330_version(char *out, size_t room, size_t *len) DMA330_NO_NULLS;
  * NO_MEMORY. */
 int32_t dma330_run_program(const uint8_t *program, size_t len, uint8_t *memory, size_t size, uint32_t limit,
                            dma330_run_end *end) DMA330_NO_NULLS;
+
+/* What a program copies, or why and where no copy explains it. */
+typedef struct dma330_explanation {
+    size_t src_len;          /* the number of source segments */
+    size_t dst_len;          /* the number of destination segments */
+    uint32_t steps;          /* the number of executed instructions, DMAEND included; or before the one at `pc` */
+    uint32_t pc;             /* the offset of the instruction at which no copy is possible */
+    uint32_t cause;          /* 0, or why: 1 program too long; 2 undefined instruction, 3 operand, 4 fetch or jump; 5 buffer
+                              * overrun, 6 underrun; 8 load or 9 store ends above 2^32 - 1; 10 store at a fixed address; 11
+                              * wait after a load, 12 for a second event; 13 signal of a second event; 14 store after a
+                              * signal; 15 bytes left at DMAEND; 16 byte stored twice, 17 stored where one is loaded; 18 no
+                              * DMAEND among the first `most`; 19 out of memory */
+    int32_t wait;            /* the event that it waits for, or -1 */
+    int32_t signal;          /* the event that it signals, or -1 */
+} dma330_explanation;
+
+/* Explains a program by one run without memory, for at most `most` instructions: writes the segments that it reads and
+ * writes, in order, and their numbers. Wherever it then runs alone or among others that write elsewhere, it makes this
+ * copy. Codes: UNEXPLAINED, PROGRAM_TOO_LONG, NO_MEMORY; BUFFER_TOO_SMALL for too few segments, whose numbers are written. */
+int32_t dma330_explain(const uint8_t *program, size_t len, uint32_t most, dma330_segment *src, size_t src_room,
+                       dma330_segment *dst, size_t dst_room, dma330_explanation *explanation) DMA330_NO_NULLS;
 
 /* Assembles a text, and writes the program's bytes and their number. Codes for a faulty line, whose number from 1 is then in
  * `*place`: BAD_MNEMONIC, BAD_OPERAND, NUMBER_OUT_OF_RANGE, and PROGRAM_TOO_LONG if the line goes past 8192 bytes. Other

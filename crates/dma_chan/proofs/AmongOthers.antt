@@ -1,75 +1,27 @@
--- A transfer's program over a memory that others write between its steps.
-use Rattle.std.proofs.Common.{◌≡◌, ◌≢◌, ℕ, zero, suc, ◌+◌, ◌-◌, ◌<◌, Bool, true, false, List, [], ◌∷◌, length, get_or, drop, refl, sym, ap, ◌∙◌, subst, arith, inl, inr}
-use Rattle.std.specs.Prelude.{slice_index_or, unwrap_or, nat_eq}
-use Rattle.std.specs.List.{zip, AllByRecursion, Contains}
-use Rattle.std.specs.Map.{lookup}
+-- A program that copies, over a memory that others write between its steps.
+use Rattle.std.proofs.Common.{◌≡◌, ℕ, zero, suc, ◌+◌, ◌≤◌, ◌<◌, true, List, [], ◌∷◌, length, get_or, refl, sym, ap, ◌∙◌, subst, arith, length-append, inl, inr, Option, Some, None, Result, Ok}
+use Rattle.std.specs.Prelude.{IsSomeAnd, slice_index_or}
+use Rattle.std.specs.List.{AllByRecursion}
 use Rattle.std.proofs.lemmas.Bool.{and_parts}
-use Rattle.std.proofs.lemmas.List.Elements.{Contains-append_right}
 use Rattle.dma_insn.specs.declared.insn.Insn.{Insn}
 use Rattle.dma_insn.specs.declared.insn.Insn.TheVariants.{Mov, Ld, St, Rmb, Wmb, Nop, End, Lp, LpEnd, Sev, Wfe}
 use Rattle.dma_mem.specs.Places.{Descriptor, all_below, sources, destinations, size_of, lies_below}
-use Rattle.dma_mem.specs.Image.{put, moves_of}
-use Rattle.dma_mem.specs.Marking.{MarkList, meets_mark}
-use Rattle.dma_mem.specs.Rules.{IsTransfer}
-use Rattle.dma_mem.specs.declared.marks.MarkKind.TheVariants.{Reading, Writing}
-use Rattle.dma_mem.proofs.ImageOver.{length-after_moves}
-use Rattle.dma_mem.proofs.ImagePut.{get_or-put}
-use Rattle.dma_mem.proofs.OverTransfers.{Contains-take, Contains-drop}
-use Rattle.dma_chan.specs.declared.turn.ChanTurn.TheVariants.{Moved, Fault}
-use Rattle.dma_chan.specs.declared.turn.FaultKind.TheVariants.{DataWriteErr}
-use Rattle.dma_chan.specs.Exec.{read_at}
-use Rattle.dma_chan.specs.Channel.{ChannelValue, step_of, stepped}
-use Rattle.dma_chan.specs.Compiled.{cost}
-use Rattle.dma_chan.specs.Traffic.{member, stored_after, burst, read_places, written_places}
-use Rattle.dma_chan.specs.Layer.{Shared, effect_of, step_at}
-use Rattle.dma_chan.specs.Others.{IsLoadedWith, Touches, CopiesAmongOthers}
-use Rattle.dma_chan.specs.inner.At.{IsAt}
-use Rattle.dma_chan.proofs.ShapeLaws.{shape_is, stored_is, is_store}
-use Rattle.dma_chan.proofs.LayerLaws.{below_places, below_sources, starts_at, survives}
-use Rattle.dma_chan.proofs.GoesOn.{Begins, agrees_at, alone}
-use Rattle.dma_chan.proofs.CopyAlone.{laid_over, laid_over_none, laid_over_all, laid_over_more}
-
--- ---- a step that moves, by its effect
-
-stores_where_moved : (reads writes : List ℕ) (marks : MarkList) (m : Shared) → (effect_of St reads writes marks m).0 ≡ Moved → (effect_of St reads writes marks m).1.image ≡ put m.image (zip writes (read_at m.image reads))
-stores_where_moved reads writes marks m moved = by (meets_mark Writing marks writes) refl
-  where
-    by : (b : Bool) → meets_mark Writing marks writes ≡ b → (effect_of St reads writes marks m).1.image ≡ put m.image (zip writes (read_at m.image reads))
-    by true e = absurd (let f : Fault DataWriteErr ≡ Moved = rw e at moved in cc)
-    by false e = rw e refl
-
-pub keeps_image : (i : Insn) (reads writes : List ℕ) (marks : MarkList) (m : Shared) → i ≢ St → (effect_of i reads writes marks m).1.image ≡ m.image
-keeps_image St reads writes marks m f = absurd (f refl)
-keeps_image Ld reads writes marks m f = by (meets_mark Reading marks reads) refl
-  where
-    by : (b : Bool) → meets_mark Reading marks reads ≡ b → (effect_of Ld reads writes marks m).1.image ≡ m.image
-    by true e = rw e refl
-    by false e = rw e refl
-keeps_image (Wfe e v) reads writes marks m f = grind arith
-keeps_image End reads writes marks m f = refl
-keeps_image (Sev e) reads writes marks m f = refl
-keeps_image (Mov r v) reads writes marks m f = refl
-keeps_image Rmb reads writes marks m f = refl
-keeps_image Wmb reads writes marks m f = refl
-keeps_image Nop reads writes marks m f = refl
-keeps_image (Lp c n) reads writes marks m f = refl
-keeps_image (LpEnd c b) reads writes marks m f = refl
-
--- ---- images that have the same bytes at some places
-
--- if two images have the same byte at an address, they still do after the same bytes are put into both
-put-agrees : (x y : List ℕ) (es : List (ℕ × ℕ)) (a : ℕ) → a < length x → a < length y → get_or x a 0 ≡ get_or y a 0 → get_or (put x es) a 0 ≡ get_or (put y es) a 0
-put-agrees x y es a in_x in_y same = get_or-put x es a in_x ∙ ap (unwrap_or (lookup (nat_eq a) es)) same ∙ sym (get_or-put y es a in_y)
-
-read_at-agrees : (x y places : List ℕ) → ((a : ℕ) → Contains places a → get_or x a 0 ≡ get_or y a 0) → read_at x places ≡ read_at y places
-read_at-agrees x y [] h = refl
-read_at-agrees x y (p ∷ rest) h =
-    let here : get_or x p 0 ≡ get_or y p 0 = h p (0, omega arith, refl) in
-    let there : read_at x rest ≡ read_at y rest = read_at-agrees x y rest (λ a i. h a (Contains-append_right (p ∷ []) rest a i)) in
-    cc
-
-length-laid_over : (image : List ℕ) (t : Descriptor) (k : ℕ) → length (laid_over image t k) ≡ length image
-length-laid_over image t k = length-after_moves image (moves_of ((t, k) ∷ []))
+use Rattle.dma_mem.specs.Image.{laid}
+use Rattle.dma_mem.specs.Marking.{MarkList}
+use Rattle.dma_chan.specs.declared.exec.Registers.{Registers}
+use Rattle.dma_chan.specs.declared.turn.ChanTurn.{ChanTurn}
+use Rattle.dma_chan.specs.declared.turn.ChanTurn.TheVariants.{Moved, Waiting, Ended, Fault}
+use Rattle.dma_chan.specs.declared.turn.FaultKind.{FaultKind}
+use Rattle.dma_chan.specs.Bursts.{touched}
+use Rattle.dma_chan.specs.Exec.{State, destination_of, state, act}
+use Rattle.dma_chan.specs.Channel.{ChannelValue, ahead_of, step_of, stepped, stored_by}
+use Rattle.dma_chan.specs.Explains.{Explains, GoesOn, IsIn, IsLoadedWith, StartsWith, Trace, after_insn, next_in, traced}
+use Rattle.dma_chan.specs.Others.{Misses, Touches, CopiesAmongOthers}
+use Rattle.dma_chan.specs.Stepping.{Machine, answer_at, after_step}
+use Rattle.dma_chan.proofs.CallWrites.{Nexts, Goes, Ends, ahead_at, does_next, ends_then, inside, nexts, traced_next, turned}
+use Rattle.dma_chan.proofs.LayerLaws.{below_places, below_sources}
+use Rattle.dma_chan.proofs.CopyAlone.{laid_none}
+use Rattle.dma_chan.proofs.Traced.{Answers, Inside, Mirrors, answers, length_up}
 
 -- ---- what a transfer touches, in a memory that has its ranges
 
@@ -86,80 +38,166 @@ touched_below t size a below touches =
       | inr i ↦ below_at size (destinations t) i.0 a (below_places size t.dst parts.1) i.1 i.2
     ]
 
+-- all addresses that a transfer touches lie below the memory's size
+abbrev pub Fits : Descriptor → ℕ → Type 0
+Fits t size = (a : ℕ) → Touches t a → a < size
+
 -- ---- instruction by instruction
 
--- a channel into which the program was just loaded
-pub begins_loaded : (t : Descriptor) (c : ChannelValue) → IsLoadedWith t c → Begins t c
-begins_loaded t c l = subst (Begins t) (sym l.2) l.1
+-- Before instruction number k of the n before DMAEND: how far the channel is in the program, and at every address that
+-- the transfer touches the memory is the first one with the bytes stored so far laid over it.
+pub record Among (program : List ℕ) (t : Descriptor) (n : ℕ) (first : List ℕ) (k : ℕ) (image : List ℕ) (c : ChannelValue) : Type 0 where
+  pub begins : IsSomeAnd c.program (λ p. StartsWith p program)
+  pub within : k ≤ n
+  pub taken : c.taken ≡ k
+  pub stored : c.stored ≡ length (traced program k).stores
+  pub mirrors : Mirrors t first (traced program k) c.registers c.buffer image
 
-pub at_start : (t : Descriptor) (image : List ℕ) (c : ChannelValue) → IsTransfer t → IsLoadedWith t c → IsAt t 0 image (alone t c)
-at_start t image c h l = subst (λ (d : ChannelValue). IsAt t 0 image (alone t d)) (sym l.2) (starts_at t image h)
+pub is_in : (program : List ℕ) (t : Descriptor) (n : ℕ) (first : List ℕ) (k : ℕ) (image : List ℕ) (c : ChannelValue) → Among program t n first k image c → IsIn program n k c
+is_in program t n first k image c w = record { begins = w.begins; within = w.within; registers = w.mirrors.registers_are }
 
--- Before instruction number n: how far the channel is in the program, and at every address that the transfer touches
--- the memory is the first one with the bytes stored so far laid over it. It contains the transfer's ranges.
-pub record Among (t : Descriptor) (first : List ℕ) (n : ℕ) (image : List ℕ) (c : ChannelValue) : Type 0 where
-  pub begins : Begins t c
-  pub at : IsAt t n image (alone t c)
-  pub same : (a : ℕ) → Touches t a → get_or image a 0 ≡ get_or (laid_over first t (stored_after t n)) a 0
-  pub fits : lies_below t (length image) ≡ true
+-- a channel into which the program was just loaded, over the first memory
+pub at_start : (program : List ℕ) (t : Descriptor) (n : ℕ) (first : List ℕ) (c : ChannelValue) → Fits t (length first) → IsLoadedWith program c → Among program t n first 0 first c
+at_start program t n first c low l =
+    subst (Among program t n first 0 first) (sym l.2) (record {
+      begins = l.1;
+      within = omega arith;
+      taken = refl;
+      stored = refl;
+      mirrors = record { registers_are = refl; buffer_is = refl; few = omega arith; same = λ a i. ap (λ (x : List ℕ). get_or x a 0) (sym (laid_none first t)); fits = low };
+    })
 
-module _ (t : Descriptor) (marks : MarkList) (first : List ℕ) (h : IsTransfer t) (below : lies_below t (length first) ≡ true) where
-  -- the memory after step number n at what the transfer touches, if the step moves
-  left_same : (n : ℕ) (m : Shared) (c : ChannelValue) → Among t first n m.image c → (step_at t n marks m).0 ≡ Moved → (a : ℕ) → Touches t a → get_or (step_at t n marks m).1.image a 0 ≡ get_or (laid_over first t (stored_after t (n + 1))) a 0
-  left_same n m c w moved a touches =
-      let reads = read_places t n in
-      let writes = written_places t n in
-      let base = laid_over first t (stored_after t n) in
-      elim (is_store (member t n)) [
-        | inl e ↦
-            let goes : (effect_of St reads writes marks m).0 ≡ Moved = ap (λ (i : Insn). (effect_of i reads writes marks m).0) (sym e) ∙ moved in
-            let in_sources : (b : ℕ) → Contains reads b → Touches t b = λ b i. inl (Contains-drop (stored_after t n) (sources t) b (Contains-take (burst t n) (drop (stored_after t n) (sources t)) b i)) in
-            let bytes : read_at m.image reads ≡ read_at base reads = read_at-agrees m.image base reads (λ b i. w.same b (in_sources b i)) in
-            let in_image : a < length m.image = touched_below t (length m.image) a w.fits touches in
-            let in_base : a < length base = omega (arith, touched_below t (length first) a below touches, length-laid_over first t (stored_after t n)) in
-            ap (λ (i : Insn). get_or (effect_of i reads writes marks m).1.image a 0) e
-            ∙ ap (λ (i : List ℕ). get_or i a 0) (stores_where_moved reads writes marks m goes)
-            ∙ ap (λ (bs : List ℕ). get_or (put m.image (zip writes bs)) a 0) bytes
-            ∙ put-agrees m.image base (zip writes (read_at base reads)) a in_image in_base (w.same a touches)
-            ∙ ap (λ (i : List ℕ). get_or i a 0) (laid_over_more first t (stored_after t n) (burst t n) h)
-            ∙ ap (λ (k : ℕ). get_or (laid_over first t k) a 0) (sym ((stored_is t h).by_store n e))
-        | inr ne ↦
-            ap (λ (i : List ℕ). get_or i a 0) (keeps_image (member t n) reads writes marks m ne)
-            ∙ w.same a touches
-            ∙ ap (λ (k : ℕ). get_or (laid_over first t k) a 0) (sym ((stored_is t h).by_other n ne))
-      ]
+-- what others do
+pub kept : (program : List ℕ) (t : Descriptor) (n : ℕ) (first : List ℕ) (k : ℕ) (image other : List ℕ) (c d : ChannelValue) → Among program t n first k image c → d ≡ c → ((a : ℕ) → Touches t a → get_or other a 0 ≡ get_or image a 0) → Fits t (length other) → Among program t n first k other d
+kept program t n first k image other c d w same unchanged fits =
+    subst (Among program t n first k other) (sym same) (record {
+      begins = w.begins;
+      within = w.within;
+      taken = w.taken;
+      stored = w.stored;
+      mirrors = record { registers_are = w.mirrors.registers_are; buffer_is = w.mirrors.buffer_is; few = w.mirrors.few; same = λ a i. unchanged a i ∙ w.mirrors.same a i; fits = fits };
+    })
 
-  -- one instruction, and what others do after it
-  pub next : (n : ℕ) (m : Shared) (c d : ChannelValue) (other : List ℕ) → Among t first n m.image c → (step_of marks c m.image m.flags).0 ≡ Moved → d ≡ stepped marks c m.image m.flags → ((a : ℕ) → Touches t a → get_or other a 0 ≡ get_or (step_of marks c m.image m.flags).1.image a 0) → lies_below t (length other) ≡ true → Among t first (n + 1) other d
-  next n m c d other w moved goes unchanged fits =
-      let st = agrees_at t n marks m c h w.fits w.begins w.at in
-      let moves : (step_at t n marks m).0 ≡ Moved = sym st.turn ∙ moved in
-      let kept : (a : ℕ) → Touches t a → get_or other a 0 ≡ get_or (step_at t n marks m).1.image a 0 = λ a touches. unchanged a touches ∙ ap (λ (i : List ℕ). get_or i a 0) st.image in
-      record {
-        begins = subst (Begins t) (sym goes) (st.begins moves);
-        at = subst (λ (e : ChannelValue). IsAt t (n + 1) other (alone t e)) (sym goes) (survives t (n + 1) (step_at t n marks m).1.image other (alone t (stepped marks c m.image m.flags)) (st.goes_on moves) (λ a i. kept a (inl i)));
-        same = λ a touches. kept a touches ∙ left_same n m c w moves a touches;
-        fits = fits;
-      }
+-- how many bytes an instruction stores
+stored_insn : (wait signal : Option ℕ) (size : ℕ) (i : Insn) (x : Trace) → GoesOn wait signal size i x → length (after_insn i x).stores ≡ length x.stores + stored_by (Ok i) x.registers
+stored_insn wait signal size St x c = let b = destination_of x.registers in omega (arith, length-append x.stores (touched b), length_up b c.1)
+stored_insn wait signal size Ld x c = omega arith
+stored_insn wait signal size (Mov r v) x c = omega arith
+stored_insn wait signal size Rmb x c = omega arith
+stored_insn wait signal size Wmb x c = omega arith
+stored_insn wait signal size Nop x c = omega arith
+stored_insn wait signal size End x c = omega arith
+stored_insn wait signal size (Lp k n) x c = omega arith
+stored_insn wait signal size (LpEnd k b) x c = omega arith
+stored_insn wait signal size (Sev e) x c = omega arith
+stored_insn wait signal size (Wfe e v) x c = omega arith
+
+module _ (program : List ℕ) (t : Descriptor) (n : ℕ) (marks : MarkList) (first : List ℕ) (h : Explains program t n) (low : Fits t (length first)) where
+  -- the program has ended, and all bytes are copied
+  pub record Over (u : Machine) : Type 0 where
+    pub dropped : u.channel.program ≡ None
+    pub stored : u.channel.stored ≡ size_of t
+    pub all : (a : ℕ) → Touches t a → get_or u.image a 0 ≡ get_or (laid first t (size_of t)) a 0
+
+  -- what the answer of a step says
+  abbrev pub After : ℕ → Machine → ChanTurn → Type 0
+  After k u Moved = Among program t n first (suc k) (after_step marks u).image (after_step marks u).channel
+  After k u (Waiting e) = t.wait ≡ Some e
+  After k u Ended = Over (after_step marks u)
+  After k u (Fault kind) = ¬ Misses marks t
+
+  -- all is stored at DMAEND
+  pub stored_all : length (traced program n).stores ≡ size_of t
+  stored_all = ap length h.stores
+
+  to : (k : ℕ) (u : Machine) (i : Insn) (turn : ChanTurn) → answer_at marks u ≡ turn → Among program t n first k u.image u.channel → k < n → next_in program (traced program k) ≡ Ok i → GoesOn t.wait t.signal (size_of t) i (traced program k) → Answers t first marks (traced program (suc k)) (turn, (step_of marks u.channel u.image u.flags).1) → After k u turn
+  to k u i Moved e w less next go a =
+      let c = u.channel in
+      let ahead = ahead_at program k i c w.begins w.mirrors.registers_are next in
+      let count : stored_by (ahead_of c) c.registers ≡ stored_by (Ok i) (traced program k).registers =
+      ap (λ (r : Result Insn FaultKind). stored_by r c.registers) ahead ∙ ap (stored_by (Ok i)) w.mirrors.registers_are in
+      let more : length (traced program (suc k)).stores ≡ length (traced program k).stores + stored_by (Ok i) (traced program k).registers =
+      ap (λ (y : Trace). length y.stores) (traced_next program t n h k i next) ∙ stored_insn t.wait t.signal (size_of t) i (traced program k) go in
+      subst (Among program t n first (suc k) (after_step marks u).image) (sym (turned marks u Moved e)) (record {
+        begins = w.begins;
+        within = omega (arith, less);
+        taken = omega (arith, w.taken);
+        stored = omega (arith, w.stored, count, more);
+        mirrors = a;
+      })
+  to k u i (Waiting x) e w less next go a = a
+  to k u i Ended e w less next go a = absurd a
+  to k u i (Fault kind) e w less next go a = a
+
+  answers_at : (k : ℕ) (u : Machine) (i : Insn) → Among program t n first k u.image u.channel → k < n → next_in program (traced program k) ≡ Ok i → GoesOn t.wait t.signal (size_of t) i (traced program k) → Answers t first marks (traced program (suc k)) (step_of marks u.channel u.image u.flags)
+  answers_at k u i w less next go =
+      let c = u.channel in
+      let x = traced program k in
+      let does : step_of marks c u.image u.flags ≡ act marks i (state x.registers c.buffer u.image u.flags) =
+      does_next marks i u (ahead_at program k i c w.begins w.mirrors.registers_are next) ∙ ap (λ (r : Registers). act marks i (state r c.buffer u.image u.flags)) w.mirrors.registers_are in
+      let m : Mirrors t first x x.registers c.buffer u.image = record { registers_are = refl; buffer_is = w.mirrors.buffer_is; few = w.mirrors.few; same = w.mirrors.same; fits = w.mirrors.fits } in
+      let same = traced_next program t n h k i next in
+      let all = answers t first marks h.copy low x c.buffer u.image u.flags m i (subst (Inside t) same (inside program t n h (suc k) (omega (arith, less)))) (inside program t n h k w.within) go in
+      subst (λ (y : Trace). Answers t first marks y (step_of marks c u.image u.flags)) (sym same) (subst (Answers t first marks (after_insn i x)) (sym does) all)
+
+  -- what the answer of a step before DMAEND says
+  abbrev pub Before : ChanTurn → Type 0
+  Before Moved = Unit {0}
+  Before (Waiting e) = t.wait ≡ Some e
+  Before Ended = ⊥
+  Before (Fault kind) = ¬ Misses marks t
+
+  went : (x : Trace) (turn : ChanTurn) (s : State) → Answers t first marks x (turn, s) → Before turn
+  went x Moved s a = tt
+  went x (Waiting e) s a = a
+  went x Ended s a = a
+  went x (Fault kind) s a = a
+
+  before_by : (k : ℕ) (u : Machine) (turn : ChanTurn) → answer_at marks u ≡ turn → Among program t n first k u.image u.channel → k < n → Nexts program t n k → Before turn
+  before_by k u turn e w l (Ends last next) = absurd (omega (arith, l, last))
+  before_by k u turn e w l (Goes i less next go) =
+      let s = (step_of marks u.channel u.image u.flags).1 in
+      went (traced program (suc k)) turn s (subst (λ (v : ChanTurn). Answers t first marks (traced program (suc k)) (v, s)) e (answers_at k u i w less next go))
+
+  pub goes_on_at : (k : ℕ) (u : Machine) (turn : ChanTurn) → answer_at marks u ≡ turn → Among program t n first k u.image u.channel → k < n → Before turn
+  goes_on_at k u turn e w l = before_by k u turn e w l (nexts program t n h k w.within)
+
+  by_next : (k : ℕ) (u : Machine) (turn : ChanTurn) → answer_at marks u ≡ turn → Among program t n first k u.image u.channel → Nexts program t n k → After k u turn
+  by_next k u turn e w (Goes i less next go) =
+      let s = (step_of marks u.channel u.image u.flags).1 in
+      to k u i turn e w less next go (subst (λ (v : ChanTurn). Answers t first marks (traced program (suc k)) (v, s)) e (answers_at k u i w less next go))
+  by_next k u turn e w (Ends last next) =
+      let c = u.channel in
+      let ahead = ahead_at program k End c w.begins w.mirrors.registers_are next in
+      let does = does_next marks End u ahead in
+      let over : turn ≡ Ended = sym e ∙ ends_then marks u ahead in
+      let is_after = turned marks u Ended (ends_then marks u ahead) in
+      let count : length (traced program k).stores ≡ size_of t = ap (λ (j : ℕ). length (traced program j).stores) last ∙ stored_all in
+      subst (After k u) (sym over) (record {
+        dropped = ap (λ (d : ChannelValue). d.program) is_after;
+        stored = ap (λ (d : ChannelValue). d.stored) is_after ∙ w.stored ∙ count;
+        all = λ a touches.
+            ap (λ (y : ChanTurn × State). get_or y.1.image a 0) does ∙ w.mirrors.same a touches
+            ∙ ap (λ (j : ℕ). get_or (laid first t j) a 0) count;
+      })
+
+  pub after_next : (k : ℕ) (u : Machine) (turn : ChanTurn) → answer_at marks u ≡ turn → Among program t n first k u.image u.channel → After k u turn
+  after_next k u turn e w = by_next k u turn e w (nexts program t n h k w.within)
 
 pub copies_among_others : CopiesAmongOthers
-copies_among_others t marks channel image flags h run a touches =
-    let first = image 0 in
-    let some = (shape_is t h).some in
-    let last : cost t - 1 + 1 ≡ cost t = omega arith in
-    let w = along (cost t - 1) (omega arith) in
-    w.same a touches ∙ ap (λ (k : ℕ). get_or (laid_over first t k) a 0) ((stored_is t h).all) ∙ ap (λ (i : List ℕ). get_or i a 0) (laid_over_all first t (size_of t))
+copies_among_others program t n marks channel image flags h run a touches =
+    let w = along n (omega arith) in
+    w.mirrors.same a touches ∙ ap (λ (k : ℕ). get_or (laid (image 0) t k) a 0) (ap length h.stores)
   where
-    along : (n : ℕ) → n < cost t → Among t (image 0) n (image n) (channel n)
-    along zero l = record {
-      begins = begins_loaded t (channel 0) run.begins;
-      at = at_start t (image 0) (channel 0) h run.begins;
-      same = λ b i. sym (ap (λ (k : ℕ). get_or (laid_over (image 0) t k) b 0) ((stored_is t h).none) ∙ ap (λ (x : List ℕ). get_or x b 0) (laid_over_none (image 0) t));
-      fits = run.below 0 l;
-    }
-    along (suc n) l =
-        let m : Shared = record { image = image n; flags = flags n } in
-        let less : n + 1 < cost t = omega arith in
-        let e : n + 1 ≡ suc n = omega arith in
-        subst (λ (k : ℕ). Among t (image 0) k (image k) (channel k)) e
-        (next t (marks n) (image 0) h (run.below 0 (omega arith)) n m (channel n) (channel (n + 1)) (image (n + 1)) (along n (omega arith)) (run.moves n less) (run.goes_on n less) (λ b i. run.unchanged n b less i) (run.below (n + 1) less))
+    along : (k : ℕ) → k ≤ n → Among program t n (image 0) k (image k) (channel k)
+    along zero l = at_start program t n (image 0) (channel 0) (λ b i. touched_below t (length (image 0)) b (run.below 0 l) i) run.begins
+    along (suc k) l =
+        let u : Machine = record { channel = channel k; image = image k; flags = flags k } in
+        let less : k < n = omega arith in
+        let e : k + 1 ≡ suc k = omega arith in
+        let w = along k (omega arith) in
+        let next = after_next program t n (marks k) (image 0) h (λ b i. touched_below t (length (image 0)) b (run.below 0 (omega arith)) i) k u Moved (run.moves k less) w in
+        kept program t n (image 0) (suc k) (after_step (marks k) u).image (image (suc k)) (after_step (marks k) u).channel (channel (suc k)) next
+        (subst (λ (j : ℕ). channel j ≡ stepped (marks k) (channel k) (image k) (flags k)) e (run.goes_on k less))
+        (λ b i. subst (λ (j : ℕ). get_or (image j) b 0 ≡ get_or (step_of (marks k) (channel k) (image k) (flags k)).1.image b 0) e (run.unchanged k b less i))
+        (λ b i. touched_below t (length (image (suc k))) b (run.below (suc k) l) i)

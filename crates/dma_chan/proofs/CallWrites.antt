@@ -1,39 +1,34 @@
--- A call writes only what its steps write, and one of a transfer's program only the transfer's destinations.
-use Rattle.std.proofs.Common.{◌≡◌, ◌≢◌, ℕ, zero, suc, ◌+◌, ◌-◌, ◌<◌, ◌⊎◌, Bool, true, false, ◌&&◌, cond, List, length, take, drop, None, Result, Ok, refl, sym, ap, ◌∙◌, subst, arith, inl, inr}
-use Rattle.std.specs.Prelude.{nat_lt, slice_index_or}
+-- A call writes only what its steps write, and one of a program that copies only its destinations.
+use Rattle.std.proofs.Common.{◌≡◌, ◌≢◌, ℕ, zero, suc, ◌+◌, ◌≤◌, ◌<◌, ◌⊎◌, Bool, true, false, ◌&&◌, cond, List, ◌++◌, length, Option, Some, None, Result, Ok, Err, refl, sym, ap, ◌∙◌, subst, arith, inl, inr}
+use Rattle.std.specs.Prelude.{IsSomeAnd, nat_lt, slice_index_or}
 use Rattle.std.specs.List.{Contains}
 use Rattle.std.proofs.lemmas.Bool.{cases_lt}
+use Rattle.std.proofs.lemmas.List.Elements.{Contains-append_left, Contains-append_right}
 use Rattle.dma_insn.specs.ControlWord.{is_control}
 use Rattle.dma_insn.specs.declared.insn.Insn.{Insn}
 use Rattle.dma_insn.specs.declared.insn.Insn.TheVariants.{Mov, Ld, St, Rmb, Wmb, Nop, End, Lp, LpEnd, Sev, Wfe}
 use Rattle.dma_insn.specs.declared.insn.Reg.TheVariants.{Sar, Ccr, Dar}
-use Rattle.dma_mem.specs.Places.{Descriptor, sources, destinations}
+use Rattle.dma_mem.specs.Places.{Descriptor, destinations, size_of}
 use Rattle.dma_mem.specs.Marking.{MarkList}
-use Rattle.dma_mem.specs.Rules.{IsTransfer}
 use Rattle.dma_mem.specs.declared.marks.MarkKind.TheVariants.{Reading, Writing}
-use Rattle.dma_mem.proofs.OverTransfers.{Contains-take, Contains-drop}
 use Rattle.dma_chan.specs.declared.exec.Registers.{Registers}
 use Rattle.dma_chan.specs.declared.turn.ChanTurn.{ChanTurn}
 use Rattle.dma_chan.specs.declared.turn.ChanTurn.TheVariants.{Moved, Waiting, Ended, Fault}
 use Rattle.dma_chan.specs.declared.turn.FaultKind.{FaultKind}
 use Rattle.dma_chan.specs.Bursts.{burst_len, touched, reaches}
 use Rattle.dma_chan.specs.Exec.{State, source_of, destination_of, counter_of, act, exec_fetched, buffer_size}
-use Rattle.dma_chan.specs.Channel.{ChannelValue, ahead_of, state_of, step_of, after_turn, stored_by}
-use Rattle.dma_chan.specs.Compiled.{cost, tree_of}
+use Rattle.dma_chan.specs.Channel.{ChannelValue, ahead_of, bytes_of_program, state_of, step_of, after_turn, stored_by}
+use Rattle.dma_chan.specs.Explains.{Executes, Explains, GoesOn, IsIn, Proceeds, StartsWith, Trace, after_fetch, after_insn, next_in, traced}
 use Rattle.dma_chan.specs.Next.{next_of}
 use Rattle.dma_chan.specs.NextWrites.{written_by, written_next}
+use Rattle.dma_chan.specs.Programs.{ProgramValue}
 use Rattle.dma_chan.specs.Stepping.{Machine, answer_at, after_step, after_steps, goes_on_after, written_after}
-use Rattle.dma_chan.specs.Traffic.{member, write_len}
-use Rattle.dma_chan.specs.Tree.{bytes_of}
-use Rattle.dma_chan.specs.inner.At.{moved, IsIn}
-use Rattle.dma_chan.specs.CallWrites.{CallWritesNoOther, Executes, LoadExecutes, CallStaysIn}
-use Rattle.dma_chan.proofs.BurstsInTurn.{Progress, CarriesOne, len_anywhere}
-use Rattle.dma_chan.proofs.ControlWords.{touched_from}
-use Rattle.dma_chan.proofs.GoesOn.{Begins, begins_ahead}
-use Rattle.dma_chan.proofs.LayerLaws.{bytes_compiled, registers_advanced}
-use Rattle.dma_chan.proofs.MembersByNumber.{at, at_registers, at_next, next_at, carries_next}
-use Rattle.dma_chan.proofs.ShapeLaws.{shape_is, is_store}
+use Rattle.dma_chan.specs.inner.At.{moved}
+use Rattle.dma_chan.specs.CallWrites.{CallWritesNoOther, LoadExecutes, CallStaysIn}
+use Rattle.dma_chan.proofs.Longer.{next-longer}
+use Rattle.dma_chan.proofs.ShapeLaws.{is_store}
 use Rattle.dma_chan.proofs.SteppedOver.{kept_outside, was_moved, went_before, writes_each}
+use Rattle.dma_chan.proofs.Traced.{Inside, grows_to}
 
 -- ---- any program
 
@@ -49,7 +44,7 @@ either : (b : Bool) (r : Registers) (x y : ChanTurn × State) → Leads r x → 
 either true r x y f g = f
 either false r x y f g = g
 
-act_leads : (marks : MarkList) (i : Insn) (s : State) → Leads (moved i s.registers) (act marks i s)
+pub act_leads : (marks : MarkList) (i : Insn) (s : State) → Leads (moved i s.registers) (act marks i s)
 act_leads marks (Mov Sar v) s = λ e. refl
 act_leads marks (Mov Dar v) s = λ e. refl
 act_leads marks (Mov Ccr v) s = either (is_control v) _ _ _ (λ e. refl) (λ e. absurd (cc))
@@ -66,96 +61,127 @@ act_leads marks Wmb s = λ e. refl
 act_leads marks Nop s = λ e. refl
 act_leads marks End s = λ e. absurd (cc)
 
--- ---- a channel that executes a transfer's program
+-- ---- a channel that executes a program that copies
 
-module _ (t : Descriptor) (h : IsTransfer t) where
-  ahead_in : (n : ℕ) (c : ChannelValue) → IsIn t n c → ahead_of c ≡ Ok (member t n)
-  ahead_in n c a =
-      begins_ahead t c (member t n) a.program (
-      ap (λ (xs : List ℕ). next_of xs c.registers.pc) (bytes_compiled t)
-      ∙ ap (λ (r : Registers). next_of (bytes_of (tree_of t)) r.pc) a.registers
-      ∙ (next_at t n h a.within).next)
+-- the instruction after k others: it goes on, or it is DMAEND after all n
+pub data Nexts (program : List ℕ) (t : Descriptor) (n k : ℕ) : Type 0 where
+  Goes : (i : Insn) → k < n → next_in program (traced program k) ≡ Ok i → GoesOn t.wait t.signal (size_of t) i (traced program k) → Nexts program t n k
+  Ends : k ≡ n → next_in program (traced program k) ≡ Ok End → Nexts program t n k
 
-  registers_in : (n : ℕ) (c : ChannelValue) → IsIn t n c → c.registers ≡ (at t n).registers
-  registers_in n c a = a.registers ∙ sym (at_registers t n)
+next_alike : (program : List ℕ) (o : Option ProgramValue) (pc : ℕ) (i : Insn) → IsSomeAnd o (λ p. StartsWith p program) → next_of program pc ≡ Ok i → next_of (bytes_of_program o) pc ≡ Ok i
+next_alike program None pc i b h = absurd b
+next_alike program (Some p) pc i b h = ap (λ (xs : List ℕ). next_of xs pc) b.1 ∙ next-longer program b.0 pc i h
 
-  store_touches : (n : ℕ) (a : ℕ) → n < cost t → member t n ≡ St → Contains (touched (destination_of (at t n).registers)) a → Contains (destinations t) a
-  store_touches n a l e i =
-      let p = at t n in
-      let c = subst (λ (j : Insn). CarriesOne (sources t) (destinations t) j p) e (carries_next t n h l) in
-      let k = write_len p.registers.ccr in
-      let len : burst_len (destination_of p.registers) ≡ k = len_anywhere 14 p.registers.dar p.registers.ccr in
-      let there : touched (destination_of p.registers) ≡ take k (drop p.stored (destinations t)) = touched_from 14 p.registers.dar p.registers.ccr k c.rises len ∙ c.touches in
-      Contains-drop p.stored (destinations t) a (Contains-take k (drop p.stored (destinations t)) a (subst (λ (xs : List ℕ). Contains xs a) there i))
+-- the next instruction of a channel whose program begins with these bytes
+pub ahead_at : (program : List ℕ) (k : ℕ) (i : Insn) (c : ChannelValue) → IsSomeAnd c.program (λ p. StartsWith p program) → c.registers ≡ (traced program k).registers → next_in program (traced program k) ≡ Ok i → ahead_of c ≡ Ok i
+ahead_at program k i c begins at next = next_alike program c.program c.registers.pc i begins (ap (λ (r : Registers). next_of program r.pc) at ∙ next)
 
-  none_written : (i : Insn) (r : Registers) (a : ℕ) → i ≢ St → ¬ Contains (written_by (Ok i) r) a
-  none_written St r a ne w = ne refl
-  none_written Ld r a ne w = omega (arith, w.1)
-  none_written (Mov x v) r a ne w = omega (arith, w.1)
-  none_written Rmb r a ne w = omega (arith, w.1)
-  none_written Wmb r a ne w = omega (arith, w.1)
-  none_written Nop r a ne w = omega (arith, w.1)
-  none_written End r a ne w = omega (arith, w.1)
-  none_written (Lp c n) r a ne w = omega (arith, w.1)
-  none_written (LpEnd c b) r a ne w = omega (arith, w.1)
-  none_written (Sev e) r a ne w = omega (arith, w.1)
-  none_written (Wfe e v) r a ne w = omega (arith, w.1)
+-- the channel after a step, by its answer
+pub turned : (marks : MarkList) (u : Machine) (turn : ChanTurn) → answer_at marks u ≡ turn → (after_step marks u).channel ≡ after_turn turn (step_of marks u.channel u.image u.flags).1 (stored_by (ahead_of u.channel) u.channel.registers) u.channel
+turned marks u turn e = ap (λ (v : ChanTurn). after_turn v (step_of marks u.channel u.image u.flags).1 (stored_by (ahead_of u.channel) u.channel.registers) u.channel) e
+
+-- one step
+pub does_next : (marks : MarkList) (i : Insn) (u : Machine) → ahead_of u.channel ≡ Ok i → step_of marks u.channel u.image u.flags ≡ act marks i (state_of u.channel u.image u.flags)
+does_next marks i u ahead = ap (λ r. exec_fetched marks r (state_of u.channel u.image u.flags)) ahead
+
+-- DMAEND doesn't move
+pub ends_then : (marks : MarkList) (u : Machine) → ahead_of u.channel ≡ Ok End → answer_at marks u ≡ Ended
+ends_then marks u ahead = ap (λ (x : ChanTurn × State). x.0) (does_next marks End u ahead)
+
+registers_after : (i : Insn) (x : Trace) → (after_insn i x).registers ≡ moved i x.registers
+registers_after Ld x = refl
+registers_after St x = refl
+registers_after i x = refl
+
+none_written : (i : Insn) (r : Registers) (a : ℕ) → i ≢ St → ¬ Contains (written_by (Ok i) r) a
+none_written St r a ne w = ne refl
+none_written Ld r a ne w = omega (arith, w.1)
+none_written (Mov x v) r a ne w = omega (arith, w.1)
+none_written Rmb r a ne w = omega (arith, w.1)
+none_written Wmb r a ne w = omega (arith, w.1)
+none_written Nop r a ne w = omega (arith, w.1)
+none_written End r a ne w = omega (arith, w.1)
+none_written (Lp c n) r a ne w = omega (arith, w.1)
+none_written (LpEnd c b) r a ne w = omega (arith, w.1)
+none_written (Sev e) r a ne w = omega (arith, w.1)
+none_written (Wfe e v) r a ne w = omega (arith, w.1)
+
+module _ (program : List ℕ) (t : Descriptor) (n : ℕ) (h : Explains program t n) where
+  fetched : (k : ℕ) → k < n → (r : Result Insn FaultKind) → next_in program (traced program k) ≡ r → Proceeds t.wait t.signal (size_of t) r (traced program k) → Nexts program t n k
+  fetched k l (Ok i) e go = Goes i l e go
+  fetched k l (Err kind) e go = absurd go
+
+  pub nexts : (k : ℕ) → k ≤ n → Nexts program t n k
+  nexts k l =
+      elim (cases_lt k n) [
+        | inl less ↦ fetched k less (next_in program (traced program k)) refl (h.goes k less)
+        | inr ge ↦ let e : k ≡ n = omega arith in Ends e (ap (λ (j : ℕ). next_in program (traced program j)) e ∙ h.ends)
+      ]
+
+  -- what is read and written so far is a part of the copy
+  pub inside : (k : ℕ) → k ≤ n → Inside t (traced program k)
+  inside k l =
+      let g = grows_to program k n l in
+      record { loads_rest = g.more_loads; stores_rest = g.more_stores; loads = sym h.loads ∙ g.loads; stores = sym h.stores ∙ g.stores }
+
+  pub traced_next : (k : ℕ) (i : Insn) → next_in program (traced program k) ≡ Ok i → traced program (suc k) ≡ after_insn i (traced program k)
+  traced_next k i e = ap (λ (r : Result Insn FaultKind). after_fetch r (traced program k)) e
 
   -- its next instruction writes only destinations
-  next_in : (n : ℕ) (c : ChannelValue) (a : ℕ) → IsIn t n c → Contains (written_next c) a → Contains (destinations t) a
-  next_in n c a w i =
-      let here : written_next c ≡ written_by (Ok (member t n)) (at t n).registers =
-      ap (λ (x : Result Insn FaultKind). written_by x c.registers) (ahead_in n c w) ∙ ap (written_by (Ok (member t n))) (registers_in n c w) in
-      let j : Contains (written_by (Ok (member t n)) (at t n).registers) a = subst (λ (xs : List ℕ). Contains xs a) here i in
-      elim (is_store (member t n)) [
-        | inl e ↦ store_touches n a w.within e (subst (λ (k : Insn). Contains (written_by (Ok k) (at t n).registers) a) e j)
-        | inr ne ↦ absurd (none_written (member t n) (at t n).registers a ne j)
+  next_writes : (k : ℕ) (c : ChannelValue) (a : ℕ) (i : Insn) → c.registers ≡ (traced program k).registers → ahead_of c ≡ Ok i → i ≡ End ⊎ ((k < n) × (next_in program (traced program k) ≡ Ok i)) → Contains (written_next c) a → Contains (destinations t) a
+  next_writes k c a i at ahead how w =
+      let x = traced program k in
+      let here : written_next c ≡ written_by (Ok i) x.registers = ap (λ (r : Result Insn FaultKind). written_by r c.registers) ahead ∙ ap (written_by (Ok i)) at in
+      let j : Contains (written_by (Ok i) x.registers) a = subst (λ (xs : List ℕ). Contains xs a) here w in
+      elim (is_store i) [
+        | inr ne ↦ absurd (none_written i x.registers a ne j)
+        | inl e ↦ elim how [
+          | inl over ↦ absurd (let bad : End ≡ St = sym over ∙ e in cc)
+          | inr less ↦
+              let part = inside (suc k) (omega (arith, less.0)) in
+              let is_next : (traced program (suc k)).stores ≡ x.stores ++ touched (destination_of x.registers) = ap (λ (y : Trace). y.stores) (traced_next k i less.1 ∙ ap (λ (q : Insn). after_insn q x) e) in
+              let mine : Contains (touched (destination_of x.registers)) a = subst (λ (q : Insn). Contains (written_by (Ok q) x.registers) a) e j in
+              subst (λ (xs : List ℕ). Contains xs a) (sym part.stores)
+              (Contains-append_left (traced program (suc k)).stores part.stores_rest a
+              (subst (λ (xs : List ℕ). Contains xs a) (sym is_next) (Contains-append_right x.stores (touched (destination_of x.registers)) a mine)))
+        ]
       ]
 
-  -- one step
-  does_in : (marks : MarkList) (n : ℕ) (u : Machine) → IsIn t n u.channel → step_of marks u.channel u.image u.flags ≡ act marks (member t n) (state_of u.channel u.image u.flags)
-  does_in marks n u w = ap (λ r. exec_fetched marks r (state_of u.channel u.image u.flags)) (ahead_in n u.channel w)
+  pub next_inside : (k : ℕ) (c : ChannelValue) (a : ℕ) → IsIn program n k c → Nexts program t n k → Contains (written_next c) a → Contains (destinations t) a
+  next_inside k c a w (Goes i less next go) j = next_writes k c a i w.registers (ahead_at program k i c w.begins w.registers next) (inr (less, next)) j
+  next_inside k c a w (Ends e next) j = next_writes k c a End w.registers (ahead_at program k End c w.begins w.registers next) (inl refl) j
 
-  not_last : (marks : MarkList) (n : ℕ) (u : Machine) → IsIn t n u.channel → answer_at marks u ≡ Moved → n + 1 < cost t
-  not_last marks n u w e =
-      elim (cases_lt (n + 1) (cost t)) [
-        | inl l ↦ l
-        | inr l ↦
-            let last : cost t - 1 ≡ n = omega (arith, w.within) in
-            let is_end : member t n ≡ End = ap (member t) (sym last) ∙ (shape_is t h).end_last in
-            let over : Ended ≡ Moved = ap (λ (i : Insn). (act marks i (state_of u.channel u.image u.flags)).0) (sym is_end) ∙ sym (ap (λ (x : ChanTurn × State). x.0) (does_in marks n u w)) ∙ e in
-            absurd (cc)
-      ]
-
-  -- the channel after a step, by its answer
-  turned : (marks : MarkList) (u : Machine) (turn : ChanTurn) → answer_at marks u ≡ turn → (after_step marks u).channel ≡ after_turn turn (step_of marks u.channel u.image u.flags).1 (stored_by (ahead_of u.channel) u.channel.registers) u.channel
-  turned marks u turn e = ap (λ (v : ChanTurn). after_turn v (step_of marks u.channel u.image u.flags).1 (stored_by (ahead_of u.channel) u.channel.registers) u.channel) e
-
-  moved_in : (marks : MarkList) (n : ℕ) (u : Machine) → IsIn t n u.channel → answer_at marks u ≡ Moved → IsIn t (n + 1) (after_step marks u).channel
-  moved_in marks n u w e =
+  moved_by_next : (marks : MarkList) (k : ℕ) (u : Machine) → IsIn program n k u.channel → Nexts program t n k → answer_at marks u ≡ Moved → IsIn program n (suc k) (after_step marks u).channel
+  moved_by_next marks k u w (Ends e next) moves =
+      let over = ends_then marks u (ahead_at program k End u.channel w.begins w.registers next) in
+      let bad : Ended ≡ Moved = sym over ∙ moves in absurd (cc)
+  moved_by_next marks k u w (Goes i less next go) moves =
       let c = u.channel in
       let x = step_of marks c u.image u.flags in
-      let does = does_in marks n u w in
-      let new : x.1.registers ≡ moved (member t n) c.registers = ap (λ (y : ChanTurn × State). y.1.registers) does ∙ act_leads marks (member t n) (state_of c u.image u.flags) (sym (ap (λ (y : ChanTurn × State). y.0) does) ∙ e) in
-      let next : moved (member t n) c.registers ≡ (at t (n + 1)).registers =
-      ap (moved (member t n)) (registers_in n c w) ∙ sym (registers_advanced (member t n) (at t n)) ∙ sym (ap (λ (q : Progress). q.registers) (at_next t n w.within)) in
-      subst (IsIn t (n + 1)) (sym (turned marks u Moved e)) (record { program = w.program; within = not_last marks n u w e; registers = new ∙ next ∙ at_registers t (n + 1) })
+      let does = does_next marks i u (ahead_at program k i c w.begins w.registers next) in
+      let new : x.1.registers ≡ moved i c.registers = ap (λ (y : ChanTurn × State). y.1.registers) does ∙ act_leads marks i (state_of c u.image u.flags) (sym (ap (λ (y : ChanTurn × State). y.0) does) ∙ moves) in
+      let there : moved i c.registers ≡ (traced program (suc k)).registers =
+      ap (moved i) w.registers ∙ sym (registers_after i (traced program k)) ∙ sym (ap (λ (y : Trace). y.registers) (traced_next k i next)) in
+      subst (IsIn program n (suc k)) (sym (turned marks u Moved moves)) (record { begins = w.begins; within = omega (arith, less); registers = new ∙ there })
 
-  after_one : (marks : MarkList) (n : ℕ) (u : Machine) (turn : ChanTurn) → IsIn t n u.channel → answer_at marks u ≡ turn → Executes t (after_step marks u).channel ⊎ ((after_step marks u).channel.program ≡ None)
-  after_one marks n u Moved w e = inl (n + 1, moved_in marks n u w e)
-  after_one marks n u (Waiting x) w e = inl (n, subst (IsIn t n) (sym (turned marks u (Waiting x) e)) w)
-  after_one marks n u (Fault x) w e = inl (n, subst (IsIn t n) (sym (turned marks u (Fault x) e)) w)
-  after_one marks n u Ended w e = inr (ap (λ (c : ChannelValue). c.program) (turned marks u Ended e))
+  moved_in : (marks : MarkList) (k : ℕ) (u : Machine) → IsIn program n k u.channel → answer_at marks u ≡ Moved → IsIn program n (suc k) (after_step marks u).channel
+  moved_in marks k u w moves = moved_by_next marks k u w (nexts k w.within) moves
+
+  after_one : (marks : MarkList) (k : ℕ) (u : Machine) (turn : ChanTurn) → IsIn program n k u.channel → answer_at marks u ≡ turn → Executes program n (after_step marks u).channel ⊎ ((after_step marks u).channel.program ≡ None)
+  after_one marks k u Moved w e = inl (suc k, moved_in marks k u w e)
+  after_one marks k u (Waiting x) w e = inl (k, subst (IsIn program n k) (sym (turned marks u (Waiting x) e)) w)
+  after_one marks k u (Fault x) w e = inl (k, subst (IsIn program n k) (sym (turned marks u (Fault x) e)) w)
+  after_one marks k u Ended w e = inr (ap (λ (c : ChannelValue). c.program) (turned marks u Ended e))
 
   -- steps that all moved
-  many_in : (marks : MarkList) (s : Machine) (j : ℕ) → Executes t s.channel → ((k : ℕ) → k < suc j → goes_on_after marks s k ≡ true) → Executes t (after_steps marks s j).channel
+  many_in : (marks : MarkList) (s : Machine) (j : ℕ) → Executes program n s.channel → ((k : ℕ) → k < suc j → goes_on_after marks s k ≡ true) → Executes program n (after_steps marks s j).channel
   many_in marks s zero w moves = w
   many_in marks s (suc j) w moves =
       let u = after_steps marks s j in
       let v = many_in marks s j w (λ k l. moves k (omega arith)) in
-      (v.0 + 1, moved_in marks v.0 u v.1 (was_moved (ahead_of u.channel) (answer_at marks u) (went_before marks s (suc j) (moves (suc j) (omega arith)))))
+      (suc v.0, moved_in marks v.0 u v.1 (was_moved (ahead_of u.channel) (answer_at marks u) (went_before marks s (suc j) (moves (suc j) (omega arith)))))
 
-  last_in : (marks : MarkList) (s : Machine) (taken : ℕ) → Executes t s.channel → ((k : ℕ) → k < taken → goes_on_after marks s k ≡ true) → Executes t (after_steps marks s taken).channel ⊎ ((after_steps marks s taken).channel.program ≡ None)
+  last_in : (marks : MarkList) (s : Machine) (taken : ℕ) → Executes program n s.channel → ((k : ℕ) → k < taken → goes_on_after marks s k ≡ true) → Executes program n (after_steps marks s taken).channel ⊎ ((after_steps marks s taken).channel.program ≡ None)
   last_in marks s zero w moves = inl w
   last_in marks s (suc j) w moves =
       let u = after_steps marks s j in
@@ -163,20 +189,20 @@ module _ (t : Descriptor) (h : IsTransfer t) where
       after_one marks v.0 u (answer_at marks u) v.1 refl
 
 pub load_executes : LoadExecutes
-load_executes t c h l = (
+load_executes program n c l = (
   0,
   record {
-    program = subst (Begins t) (sym l.2) l.1;
-    within = omega (arith, (shape_is t h).some);
+    begins = subst (λ (d : ChannelValue). IsSomeAnd d.program (λ p. StartsWith p program)) (sym l.2) l.1;
+    within = omega arith;
     registers = ap (λ (d : ChannelValue). d.registers) l.2;
   },
 )
 
 pub call_stays_in : CallStaysIn
-call_stays_in t marks s most taken last after h w steps = record {
+call_stays_in program t n marks s most taken last after h w steps = record {
   writes = λ a i.
       let by = writes_each marks s taken a steps.moves i in
-      let v = many_in t h marks s by.0 w (λ k l. steps.moves k (omega (arith, by.1))) in
-      next_in t h v.0 (after_steps marks s by.0).channel a v.1 by.3;
-  channel = subst (λ (u : Machine). Executes t u.channel ⊎ (u.channel.program ≡ None)) (sym steps.ends_at) (last_in t h marks s taken w steps.moves);
+      let v = many_in program t n h marks s by.0 w (λ k l. steps.moves k (omega (arith, by.1))) in
+      next_inside program t n h v.0 (after_steps marks s by.0).channel a v.1 (nexts program t n h v.0 v.1.within) by.3;
+  channel = subst (λ (u : Machine). Executes program n u.channel ⊎ (u.channel.program ≡ None)) (sym steps.ends_at) (last_in program t n h marks s taken w steps.moves);
 }

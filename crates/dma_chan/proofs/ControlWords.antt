@@ -18,14 +18,14 @@ pub addr_there : (k a w : ℕ) → (burst_at k a w).addr ≡ a
 unfolding burst_at
 addr_there k a w = refl
 
-touched_up : (b : Burst) → b.increments ≡ true → touched b ≡ range_with_len b.addr (burst_len b)
+pub touched_up : (b : Burst) → b.increments ≡ true → touched b ≡ range_with_len b.addr (burst_len b)
 touched_up b e = rw e refl
 
 -- the addresses of a rising burst from an address under a word
 pub touched_from : (k a w n : ℕ) → (burst_at k a w).increments ≡ true → burst_len (burst_at k a w) ≡ n → touched (burst_at k a w) ≡ range_with_len a n
 touched_from k a w n up len = touched_up (burst_at k a w) up ∙ ap (λ (x : ℕ). range_with_len x (burst_len (burst_at k a w))) (addr_there k a w) ∙ ap (range_with_len a) len
 
-advance_up : (b : Burst) (n : ℕ) → b.increments ≡ true → burst_len b ≡ n → advance b ≡ n
+pub advance_up : (b : Burst) (n : ℕ) → b.increments ≡ true → burst_len b ≡ n → advance b ≡ n
 advance_up b n e len = rw e len
 
 advance_fixed : (b : Burst) → b.increments ≡ false → advance b ≡ 0

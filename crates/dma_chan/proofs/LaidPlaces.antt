@@ -5,13 +5,14 @@ use Rattle.std.specs.List.{AllPairs, zip}
 use Rattle.std.specs.Map.{lookup}
 use Rattle.std.proofs.lemmas.Bool.{eqb-true, false_from_ne_true}
 use Rattle.std.proofs.lemmas.List.Elements.{Contains-get_or}
-use Rattle.dma_mem.specs.Image.{after_moves, carried}
-use Rattle.dma_mem.specs.Places.{sources, destinations, moves}
+use Rattle.dma_mem.specs.Image.{after_moves, carried, laid}
+use Rattle.dma_mem.specs.Places.{Descriptor, sources, destinations, moves}
 use Rattle.dma_mem.proofs.ImageOver.{get_or-after_moves_other}
 use Rattle.dma_mem.proofs.ImagePut.{get_or-put}
 use Rattle.dma_mem.proofs.OverTransfers.{keys_in}
-use Rattle.dma_chan.specs.Changes.{LaidByPlace}
-use Rattle.dma_chan.proofs.AmongOthers.{touched_below}
+use Rattle.dma_chan.specs.Changes.{HasFirst, LaidByPlace, bytes_in}
+use Rattle.dma_chan.specs.Explains.{IsCopy}
+use Rattle.dma_chan.proofs.AmongOthers.{Fits, touched_below}
 
 -- the move with this number is found by its destination
 found : (image ds ss : List ℕ) (k p : ℕ) → AllPairs (λ a b. a ≢ b) ds → length ss ≡ length ds → p < k → p < length ds → lookup (nat_eq (get_or ds p 0)) (carried image (take k (zip ds ss))) ≡ Some (get_or image (get_or ss p 0) 0)
@@ -24,12 +25,15 @@ found image (d ∷ ds) (s ∷ ss) (suc k) (suc p) once long low within =
     let later = found image ds ss k p (λ i j x l m. once (suc i) (suc j) x (omega arith) (omega arith)) (omega arith) (omega arith) (omega arith) in
     rw other later
 
-pub laid_by_place : LaidByPlace
+pub laid_by_fits : (t : Descriptor) (first : List ℕ) (k : ℕ) → IsCopy t → Fits t (length first) → HasFirst t k (bytes_in first) (bytes_in (laid first t k))
 unfolding after_moves
-laid_by_place t first k h below = record {
-  copied = λ p low within.
+laid_by_fits t first k h low = record {
+  copied = λ p below within.
       let a = get_or (destinations t) p 0 in
-      let there : a < length first = touched_below t (length first) a below (inr (Contains-get_or (destinations t) p 0 within)) in
-      get_or-put first (carried first (moves t k)) a there ∙ ap (λ (o : Option ℕ). unwrap_or o (get_or first a 0)) (found first (destinations t) (sources t) k p h.once h.same_length low within);
+      let there : a < length first = low a (inr (Contains-get_or (destinations t) p 0 within)) in
+      get_or-put first (carried first (moves t k)) a there ∙ ap (λ (o : Option ℕ). unwrap_or o (get_or first a 0)) (found first (destinations t) (sources t) k p h.once h.same_length below within);
   kept = λ a touches outside. get_or-after_moves_other first (moves t k) a (λ i. outside (keys_in k (destinations t) (sources t) a i));
 }
+
+pub laid_by_place : LaidByPlace
+laid_by_place t first k h below = laid_by_fits t first k h (λ a i. touched_below t (length first) a below i)

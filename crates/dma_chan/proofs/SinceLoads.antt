@@ -1,56 +1,30 @@
 -- Transfers' programs that channels execute over one memory, each counted from its own load.
-use Rattle.std.proofs.Common.{◌≡◌, ℕ, zero, suc, ◌+◌, ◌-◌, ◌≤◌, ◌⊎◌, true, List, [], length, map, get_or, Option, Some, None, Result, Ok, Err, refl, sym, ap, ◌∙◌, subst, arith, inl, inr}
+use Rattle.std.proofs.Common.{◌≡◌, ℕ, zero, suc, ◌+◌, ◌-◌, ◌≤◌, ◌⊎◌, List, [], length, map, get_or, Option, Some, None, refl, sym, ap, ◌∙◌, subst, arith, inl, inr}
 use Rattle.std.specs.Prelude.{IsSome}
 use Rattle.std.specs.List.{range_with_len}
 use Rattle.std.proofs.lemmas.Bool.{cases_Bool, cases_eq}
 use Rattle.std.proofs.lemmas.List.Elements.{Contains-get_or}
 use Rattle.std.proofs.lemmas.List.FromFn.{get_or-map-range_with_len, length-map-range_with_len}
-use Rattle.dma_insn.specs.declared.insn.Insn.{Insn}
-use Rattle.dma_insn.specs.declared.insn.Insn.TheVariants.{Mov, Ld, St, Rmb, Wmb, Nop, End, Lp, LpEnd, Sev, Wfe}
 use Rattle.dma_mem.specs.declared.segment.Segment.{Segment}
-use Rattle.dma_mem.specs.Places.{Descriptor, destinations, sources, size_of, lies_below}
+use Rattle.dma_mem.specs.Places.{Descriptor, destinations, sources}
 use Rattle.dma_mem.specs.Image.{laid}
-use Rattle.dma_mem.specs.Marking.{MarkList}
-use Rattle.dma_mem.specs.Rules.{IsTransfer}
 use Rattle.dma_chan.specs.declared.turn.ChanTurn.{ChanTurn}
 use Rattle.dma_chan.specs.declared.turn.ChanTurn.TheVariants.{Moved, Waiting, Ended, Fault}
-use Rattle.dma_chan.specs.declared.turn.FaultKind.{FaultKind}
-use Rattle.dma_chan.specs.Channel.{ChannelValue, ahead_of}
-use Rattle.dma_chan.specs.Compiled.{cost}
-use Rattle.dma_chan.specs.Traffic.{member, stored_after, read_places, written_places}
-use Rattle.dma_chan.specs.Layer.{Shared, effect_of}
-use Rattle.dma_chan.specs.Stepping.{Machine, answer_at, after_steps, signal_of, signal_after, TakesSteps}
+use Rattle.dma_chan.specs.Channel.{ChannelValue}
+use Rattle.dma_chan.specs.Stepping.{Machine}
 use Rattle.dma_chan.specs.Written.{LiesIn}
-use Rattle.dma_chan.specs.Others.{IsLoadedWith, Touches}
-use Rattle.dma_chan.specs.CallWrites.{Executes}
+use Rattle.dma_chan.specs.Others.{Touches}
+use Rattle.dma_chan.specs.Explains.{Executes, Explains, IsCopy, IsLoadedWith}
 use Rattle.dma_chan.specs.Changes.{System, Call, Change, Sets, Calls, Guest, DoesCall, TakesCall, Does, DoesAll, LendsAll, SinceLoad, KeepsTouched, LeavesAlone, HasFirst, HasCopied, CopiesSinceLoad, bytes_in, Holds, Gives, HaveTransfers, WritesElsewhere, IsApart, ChannelsCopy}
-use Rattle.dma_chan.proofs.AmongOthers.{touched_below}
-use Rattle.dma_chan.proofs.CallsAmongOthers.{Leads, Runs, agrees, at_first, call, call_fails, call_waits, either_way, many, moved_on, next_member, not_none, survived}
+use Rattle.dma_chan.proofs.AmongOthers.{Fits, is_in}
+use Rattle.dma_chan.proofs.CallsAmongOthers.{Leads, Runs, at_first, call, call_fails, call_waits, either_way, not_none, signalled, survived}
 use Rattle.dma_chan.proofs.CallWrites.{call_stays_in, call_writes_no_other}
-use Rattle.dma_chan.proofs.CopyAlone.{laid_over_all}
-use Rattle.dma_chan.proofs.LaidPlaces.{laid_by_place}
-use Rattle.dma_chan.proofs.RegionsHave.{touches_below}
-use Rattle.dma_chan.proofs.ShapeLaws.{shape_is, stored_is}
+use Rattle.dma_chan.proofs.LaidPlaces.{laid_by_fits}
 
 -- ---- one call
 
--- only a DMASEV signals
-is_signal : (next : Result Insn FaultKind) (e : ℕ) → signal_of next ≡ Some e → next ≡ Ok (Sev e)
-is_signal (Err kind) e h = absurd (cc)
-is_signal (Ok (Sev d)) e h = let same : d ≡ e = cc in ap (λ (k : ℕ). Ok (Sev k)) same
-is_signal (Ok (Wfe d v)) e h = absurd (cc)
-is_signal (Ok (Mov r v)) e h = absurd (cc)
-is_signal (Ok (Lp c n)) e h = absurd (cc)
-is_signal (Ok (LpEnd c b)) e h = absurd (cc)
-is_signal (Ok Ld) e h = absurd (cc)
-is_signal (Ok St) e h = absurd (cc)
-is_signal (Ok Rmb) e h = absurd (cc)
-is_signal (Ok Wmb) e h = absurd (cc)
-is_signal (Ok Nop) e h = absurd (cc)
-is_signal (Ok End) e h = absurd (cc)
-
 -- the same of memories that agree at what the transfer touches
-pub first_agrees : (t : Descriptor) (k : ℕ) (f g first memory : ℕ → ℕ) → IsTransfer t → ((a : ℕ) → Touches t a → first a ≡ f a) → ((a : ℕ) → Touches t a → memory a ≡ g a) → HasFirst t k f g → HasFirst t k first memory
+pub first_agrees : (t : Descriptor) (k : ℕ) (f g first memory : ℕ → ℕ) → IsCopy t → ((a : ℕ) → Touches t a → first a ≡ f a) → ((a : ℕ) → Touches t a → memory a ≡ g a) → HasFirst t k f g → HasFirst t k first memory
 first_agrees t k f g first memory h same left w = record {
   copied = λ p low within.
       left (get_or (destinations t) p 0) (inr (Contains-get_or (destinations t) p 0 within))
@@ -59,61 +33,42 @@ first_agrees t k f g first memory h same left w = record {
   kept = λ a touches off. left a touches ∙ w.kept a touches off ∙ sym (same a touches);
 }
 
-module _ (t : Descriptor) (first : List ℕ) (h : IsTransfer t) (below : lies_below t (length first) ≡ true) where
+module _ (program : List ℕ) (t : Descriptor) (n : ℕ) (first : List ℕ) (h : Explains program t n) (low : Fits t (length first)) where
   abbrev IsLaid : Machine → Type 0
   IsLaid v = (a : ℕ) → Touches t a → get_or v.image a 0 ≡ get_or (laid first t v.channel.stored) a 0
 
-  runs_laid : (v : Machine) → Runs t first v → IsLaid v
-  runs_laid v r a touches =
-      r.1.same a touches
-      ∙ ap (λ (i : List ℕ). get_or i a 0) (laid_over_all first t (stored_after t r.0))
-      ∙ ap (λ (k : ℕ). get_or (laid first t k) a 0) (sym r.1.at.stored)
+  runs_laid : (v : Machine) → Runs program t n first v → IsLaid v
+  runs_laid v r a touches = r.1.mirrors.same a touches ∙ ap (λ (k : ℕ). get_or (laid first t k) a 0) (sym r.1.stored)
 
-  leads_laid : (o : Option ChanTurn) (v : Machine) → Leads t first o v → IsLaid v
+  leads_laid : (o : Option ChanTurn) (v : Machine) → Leads program t n first o v → IsLaid v
   leads_laid None v r = runs_laid v r
   leads_laid (Some Moved) v r = runs_laid v r
   leads_laid (Some (Waiting x)) v r = runs_laid v r
   leads_laid (Some (Fault kind)) v r = runs_laid v r
   leads_laid (Some Ended) v d = λ a touches. d.all a touches ∙ ap (λ (k : ℕ). get_or (laid first t k) a 0) (sym d.stored)
 
-  has_first : (o : Option ChanTurn) (v : Machine) → Leads t first o v → HasFirst t v.channel.stored (bytes_in first) (bytes_in v.image)
+  has_first : (o : Option ChanTurn) (v : Machine) → Leads program t n first o v → HasFirst t v.channel.stored (bytes_in first) (bytes_in v.image)
   has_first o v r =
       let k = v.channel.stored in
-      first_agrees t k (bytes_in first) (bytes_in (laid first t k)) (bytes_in first) (bytes_in v.image) h (λ a touches. refl) (leads_laid o v r) (laid_by_place t first k h below)
+      first_agrees t k (bytes_in first) (bytes_in (laid first t k)) (bytes_in first) (bytes_in v.image) h.copy (λ a touches. refl) (leads_laid o v r) (laid_by_fits t first k h.copy low)
 
-  -- at the signal all bytes are stored
-  pub signalled : (marks : MarkList) (s v : Machine) (most taken : ℕ) (last : Option ChanTurn) (e : ℕ) → Runs t first s → TakesSteps marks s most taken last v → signal_after marks s taken ≡ Some e → (t.signal ≡ Some e) × (v.channel.stored ≡ size_of t)
-  signalled marks s v most zero last e r steps signal = absurd (cc)
-  signalled marks s v most (suc p) last e r steps signal =
-      let u = after_steps marks s p in
-      let w = many t marks first h below p s r steps.moves in
-      let n = w.0 in
-      let m : Shared = record { image = u.image; flags = u.flags } in
-      let sev : ahead_of u.channel ≡ Ok (Sev e) = is_signal (ahead_of u.channel) e signal in
-      let here : member t n ≡ Sev e = let same = sym (next_member t marks first h below n u w.1) ∙ sev in cc in
-      let place = (shape_is t h).signal_only n e here in
-      let goes : answer_at marks u ≡ Moved = (agrees t marks first h below n u w.1).turn ∙ ap (λ (i : Insn). (effect_of i (read_places t n) (written_places t n) marks m).0) here in
-      let next = moved_on t marks first h below n u w.1 goes in
-      let number : n + 1 ≡ cost t - 1 = omega (arith, place.0) in
-      (place.1, ap (λ (x : Machine). x.channel.stored) steps.ends_at ∙ next.at.stored ∙ ap (stored_after t) number ∙ (stored_is t h).all)
+  pub leads : (c : Call) → Runs program t n first c.found → DoesCall c → Leads program t n first c.last c.left
+  leads c r does = call program t n c.marks first h low c.found c.left c.most c.taken c.last r does.steps
 
-  pub leads : (c : Call) → Runs t first c.found → DoesCall c → Leads t first c.last c.left
-  leads c r does = call t c.marks first h below c.found c.left c.most c.taken c.last r does.steps
+  -- a channel that runs the program executes it
+  runs_in : (s : Machine) → Runs program t n first s → Executes program n s.channel
+  runs_in s r = (r.0, is_in program t n first r.0 s.image s.channel r.1)
 
-  -- a channel that runs the transfer's program executes it
-  runs_in : (s : Machine) → Runs t first s → Executes t s.channel
-  runs_in s r = (r.0, record { program = r.1.begins; within = r.1.at.within; registers = r.1.at.registers })
-
-  pub has_copied : (c : Call) → Runs t first c.found → DoesCall c → HasCopied t (bytes_in first) (bytes_in c.left.image) c
+  pub has_copied : (c : Call) → Runs program t n first c.found → DoesCall c → HasCopied t (bytes_in first) (bytes_in c.left.image) c
   has_copied c r does = record {
     bytes = has_first c.last c.left (leads c r does);
     writes = λ a i.
-        let stays = call_stays_in t c.marks c.found c.most c.taken c.last c.left h (runs_in c.found r) does.steps in
+        let stays = call_stays_in program t n c.marks c.found c.most c.taken c.last c.left h (runs_in c.found r) does.steps in
         stays.writes a (subst (λ (w : Segment). LiesIn w a) does.written i);
-    signals = λ e reported. signalled c.marks c.found c.left c.most c.taken c.last e r does.steps (sym does.signal ∙ reported);
-    ends = λ over. (subst (λ (o : Option ChanTurn). Leads t first o c.left) over (leads c r does)).stored;
-    waits = λ e is. call_waits t c.marks first h below c.found c.left c.most c.taken e c.last r does.steps is;
-    never_fails = λ kind none. call_fails t c.marks first h below c.found c.left c.most c.taken c.last kind none r does.steps;
+    signals = λ e reported. signalled program t n c.marks first h low c.found c.left c.most c.taken c.last e r does.steps (sym does.signal ∙ reported);
+    ends = λ over. (subst (λ (o : Option ChanTurn). Leads program t n first o c.left) over (leads c r does)).stored;
+    waits = λ e is. call_waits program t n c.marks first h low c.found c.left c.most c.taken e c.last r does.steps is;
+    never_fails = λ kind none. call_fails program t n c.marks first h low c.found c.left c.most c.taken c.last kind none r does.steps;
   }
 
 -- ---- since the load
@@ -122,15 +77,15 @@ module _ (t : Descriptor) (first : List ℕ) (h : IsTransfer t) (below : lies_be
 abbrev imaged : ℕ → (ℕ → ℕ) → List ℕ
 imaged size memory = map memory (range_with_len 0 size)
 
-module _ (t : Descriptor) (size : ℕ) (memory : ℕ → ℕ) (h : IsTransfer t) (below : lies_below t size ≡ true) where
+module _ (program : List ℕ) (t : Descriptor) (n : ℕ) (size : ℕ) (memory : ℕ → ℕ) (h : Explains program t n) (low : Fits t size) where
   abbrev first : List ℕ
   first = imaged size memory
 
-  within : (other : ℕ → ℕ) → lies_below t (length (imaged size other)) ≡ true
-  within other = subst (λ (k : ℕ). lies_below t k ≡ true) (sym (length-map-range_with_len other 0 size)) below
+  within : (other : ℕ → ℕ) → Fits t (length (imaged size other))
+  within other = subst (Fits t) (sym (length-map-range_with_len other 0 size)) low
 
   shows : (other : ℕ → ℕ) (a : ℕ) → Touches t a → get_or (imaged size other) a 0 ≡ other a
-  shows other a touches = get_or-map-range_with_len other 0 size a a 0 (touched_below t size a below touches) (omega arith)
+  shows other a touches = get_or-map-range_with_len other 0 size a a 0 (low a touches) (omega arith)
 
   -- a channel of the system with its memory
   abbrev at_channel : System → ℕ → Machine
@@ -138,29 +93,29 @@ module _ (t : Descriptor) (size : ℕ) (memory : ℕ → ℕ) (h : IsTransfer t)
 
   -- the channel is not finished, or it has ended
   abbrev Is : ℕ → System → Type 0
-  Is ch s = Runs t first (at_channel s ch) ⊎ ((s.channels ch).program ≡ None)
+  Is ch s = Runs program t n first (at_channel s ch) ⊎ ((s.channels ch).program ≡ None)
 
   -- a change that does not touch the channel
   kept : (ch : ℕ) (s v : System) → v.channels ch ≡ s.channels ch → KeepsTouched t s v → Is ch s → Is ch v
   kept ch s v same keeps (inl r) =
-      inl (survived t first (at_channel s ch) (at_channel v ch) r same (λ a touches. shows v.memory a touches ∙ keeps a touches ∙ sym (shows s.memory a touches)) (within v.memory))
+      inl (survived program t n first (at_channel s ch) (at_channel v ch) r same (λ a touches. shows v.memory a touches ∙ keeps a touches ∙ sym (shows s.memory a touches)) (within v.memory))
   kept ch s v same keeps (inr none) = inr (ap (λ (c : ChannelValue). c.program) same ∙ none)
 
   -- before a call on the channel
-  found : (c : Call) (s v : System) → TakesCall c s v → LendsAll t c → Is c.channel s → Runs t first c.found
+  found : (c : Call) (s v : System) → TakesCall c s v → LendsAll t c → Is c.channel s → Runs program t n first c.found
   found c s v takes lent (inl r) =
-      survived t first (at_channel s c.channel) c.found r takes.finds_channel (λ a touches. takes.finds a (lent a touches) ∙ sym (shows s.memory a touches)) (touches_below t (length c.found.image) h (λ a touches. takes.within a (lent a touches)))
+      survived program t n first (at_channel s c.channel) c.found r takes.finds_channel (λ a touches. takes.finds a (lent a touches) ∙ sym (shows s.memory a touches)) (λ a touches. takes.within a (lent a touches))
   found c s v takes lent (inr none) = absurd (not_none c.found.channel.program takes.does.is_loaded (ap (λ (d : ChannelValue). d.program) takes.finds_channel ∙ none))
 
   -- after the call
-  left : (c : Call) (s v : System) → TakesCall c s v → LendsAll t c → Runs t first c.left ⊎ (c.left.channel.program ≡ None) → Is c.channel v
+  left : (c : Call) (s v : System) → TakesCall c s v → LendsAll t c → Runs program t n first c.left ⊎ (c.left.channel.program ≡ None) → Is c.channel v
   left c s v takes lent (inl r) =
-      inl (survived t first c.left (at_channel v c.channel) r takes.leaves_channel (λ a touches. shows v.memory a touches ∙ takes.leaves a (lent a touches)) (within v.memory))
+      inl (survived program t n first c.left (at_channel v c.channel) r takes.leaves_channel (λ a touches. shows v.memory a touches ∙ takes.leaves a (lent a touches)) (within v.memory))
   left c s v takes lent (inr none) = inr (ap (λ (d : ChannelValue). d.program) takes.leaves_channel ∙ none)
 
   called : (c : Call) (s v : System) → TakesCall c s v → LendsAll t c → Is c.channel s → Is c.channel v
   called c s v takes lent i =
-      left c s v takes lent (either_way t first c.last c.left (leads t first h (within memory) c (found c s v takes lent i) takes.does))
+      left c s v takes lent (either_way program t n first c.last c.left (leads program t n first h (within memory) c (found c s v takes lent i) takes.does))
 
   changed : (ch : ℕ) (change : Change) (s v : System) → Does change s v → LeavesAlone t ch change s v → Is ch s → Is ch v
   changed ch (Sets other c) s v does alone i = elim (cases_eq other ch) [
@@ -175,9 +130,9 @@ module _ (t : Descriptor) (size : ℕ) (memory : ℕ → ℕ) (h : IsTransfer t)
 
   copied : (c : Call) (s v : System) → TakesCall c s v → LendsAll t c → Is c.channel s → HasCopied t memory v.memory c
   copied c s v takes lent i =
-      let all = has_copied t first h (within memory) c (found c s v takes lent i) takes.does in
+      let all = has_copied program t n first h (within memory) c (found c s v takes lent i) takes.does in
       record {
-        bytes = first_agrees t c.left.channel.stored (bytes_in first) (bytes_in c.left.image) memory v.memory h
+        bytes = first_agrees t c.left.channel.stored (bytes_in first) (bytes_in c.left.image) memory v.memory h.copy
             (λ a touches. sym (shows memory a touches)) (λ a touches. takes.leaves a (lent a touches)) all.bytes;
         writes = all.writes;
         signals = all.signals;
@@ -186,7 +141,7 @@ module _ (t : Descriptor) (size : ℕ) (memory : ℕ → ℕ) (h : IsTransfer t)
         never_fails = all.never_fails;
       }
 
-module _ (t : Descriptor) (changes : ℕ → Change) (states : ℕ → System) (load now : ℕ) (c : Call) (h : IsTransfer t) (does : DoesAll changes states load (now + 1)) (since : SinceLoad t changes states load now c (λ k. LeavesAlone t c.channel)) where
+module _ (program : List ℕ) (t : Descriptor) (n : ℕ) (changes : ℕ → Change) (states : ℕ → System) (load now : ℕ) (c : Call) (h : Explains program t n) (does : DoesAll changes states load (now + 1)) (since : SinceLoad program t changes states load now c (λ k. LeavesAlone t c.channel)) where
   takes : TakesCall c (states now) (states (now + 1))
   takes = let later = since.later in subst (λ (x : Change). Does x (states now) (states (now + 1))) since.is_call (does now (omega arith) (omega arith))
 
@@ -194,28 +149,28 @@ module _ (t : Descriptor) (changes : ℕ → Change) (states : ℕ → System) (
   abbrev size : ℕ
   size = length c.found.image
 
-  below : lies_below t size ≡ true
-  below = touches_below t size h (λ a touches. takes.within a (since.lent a touches))
+  low : Fits t size
+  low = λ a touches. takes.within a (since.lent a touches)
 
   abbrev Is_at : ℕ → Type 0
-  Is_at k = Is t size (states load).memory h below c.channel (states k)
+  Is_at k = Is program t n size (states load).memory h low c.channel (states k)
 
   after_load : Is_at (load + 1)
   after_load =
       let later = since.later in
       let memory = (states load).memory in
       let d = subst (λ (x : Change). Does x (states load) (states (load + 1))) since.loads.2 (does load (omega arith) (omega arith)) in
-      let start = subst (IsLoadedWith t) (sym d.0) since.loads.1 in
+      let start = subst (IsLoadedWith program) (sym d.0) since.loads.1 in
       let s = states (load + 1) in
-      kept t size memory h below c.channel (record s { memory = memory }) s refl (λ a touches. d.1.1 a)
-      (inl (at_first t (imaged size memory) (record { channel = s.channels c.channel; image = imaged size memory; flags = [] }) h (within t size memory h below memory) start refl))
+      kept program t n size memory h low c.channel (record s { memory = memory }) s refl (λ a touches. d.1.1 a)
+      (inl (at_first program t n (imaged size memory) (record { channel = s.channels c.channel; image = imaged size memory; flags = [] }) (within program t n size memory h low memory) start refl))
 
   along : (d : ℕ) → load + 1 + d ≤ now → Is_at (load + 1 + d)
   along zero l = let e : load + 1 ≡ load + 1 + zero = omega arith in subst Is_at e after_load
   along (suc d) l =
       let k = load + 1 + d in
       let e : k + 1 ≡ load + 1 + suc d = omega arith in
-      subst Is_at e (changed t size (states load).memory h below c.channel (changes k) (states k) (states (k + 1)) (does k (omega arith) (omega arith)) (since.spares k (omega arith) (omega arith)) (along d (omega arith)))
+      subst Is_at e (changed program t n size (states load).memory h low c.channel (changes k) (states k) (states (k + 1)) (does k (omega arith) (omega arith)) (since.spares k (omega arith) (omega arith)) (along d (omega arith)))
 
   at_call : Is_at now
   at_call =
@@ -224,25 +179,28 @@ module _ (t : Descriptor) (changes : ℕ → Change) (states : ℕ → System) (
       subst Is_at e (along (now - (load + 1)) (omega arith))
 
   has_all : HasCopied t (states load).memory (states (now + 1)).memory c
-  has_all = copied t size (states load).memory h below c (states now) (states (now + 1)) takes since.lent at_call
+  has_all = copied program t n size (states load).memory h low c (states now) (states (now + 1)) takes since.lent at_call
 
 pub copies_since_load : CopiesSinceLoad
-copies_since_load t changes states load now c h does since = has_all t changes states load now c h does since
+copies_since_load program t n changes states load now c h does since = has_all program t n changes states load now c h does since
 
 -- ---- among other transfers
 
 -- a channel that executes a transfer, if a call can be made on it
-executes : (t : Descriptor) (c : ChannelValue) → IsSome c.program → Holds (Some t) c → IsTransfer t × Executes t c
+abbrev Copies : Descriptor → ChannelValue → Type 0
+Copies t c = (program : List ℕ) × (n : ℕ) × Explains program t n × Executes program n c
+
+executes : (t : Descriptor) (c : ChannelValue) → IsSome c.program → Holds (Some t) c → Copies t c
 executes t c some (inl none) = absurd (not_none c.program some none)
 executes t c some (inr w) = w
 
-still : (t : Descriptor) (c : ChannelValue) → IsTransfer t → Executes t c ⊎ (c.program ≡ None) → Holds (Some t) c
-still t c h (inl w) = inr (h, w)
-still t c h (inr none) = inl none
+still : (program : List ℕ) (t : Descriptor) (n : ℕ) (c : ChannelValue) → Explains program t n → Executes program n c ⊎ (c.program ≡ None) → Holds (Some t) c
+still program t n c h (inl w) = inr (program, n, h, w)
+still program t n c h (inr none) = inl none
 
 module _ (c : Call) (s v : System) (takes : TakesCall c s v) where
   -- before the call the channel executes its transfer
-  finds : (t : Descriptor) → Holds (Some t) (s.channels c.channel) → IsTransfer t × Executes t c.found.channel
+  finds : (t : Descriptor) → Holds (Some t) (s.channels c.channel) → Copies t c.found.channel
   finds t holds = executes t c.found.channel takes.does.is_loaded (subst (Holds (Some t)) (sym takes.finds_channel) holds)
 
   -- after the call the channel has the same transfer
@@ -250,14 +208,14 @@ module _ (c : Call) (s v : System) (takes : TakesCall c s v) where
   holds_on None holds = tt
   holds_on (Some t) holds =
       let w = finds t holds in
-      let stays = call_stays_in t c.marks c.found c.most c.taken c.last c.left w.0 w.1 takes.does.steps in
-      subst (Holds (Some t)) (sym takes.leaves_channel) (still t c.left.channel w.0 stays.channel)
+      let stays = call_stays_in w.0 t w.1 c.marks c.found c.most c.taken c.last c.left w.2 w.3 takes.does.steps in
+      subst (Holds (Some t)) (sym takes.leaves_channel) (still w.0 t w.1 c.left.channel w.2 stays.channel)
 
   outside : (t : Descriptor) (o : Option Descriptor) → Holds o (s.channels c.channel) → WritesElsewhere t o c → (a : ℕ) → Touches t a → ¬ LiesIn c.written a
   outside t None holds off a touches i = off a touches i
   outside t (Some u) holds apart a touches i =
       let w = finds u holds in
-      let stays = call_stays_in u c.marks c.found c.most c.taken c.last c.left w.0 w.1 takes.does.steps in
+      let stays = call_stays_in w.0 u w.1 c.marks c.found c.most c.taken c.last c.left w.2 w.3 takes.does.steps in
       apart a touches (stays.writes a (subst (λ (r : Segment). LiesIn r a) takes.does.written i))
 
   elsewhere : (t : Descriptor) (o : Option Descriptor) → Holds o (s.channels c.channel) → WritesElsewhere t o c → KeepsTouched t s v
@@ -308,8 +266,8 @@ module _ (own : ℕ → ℕ → Option Descriptor) (changes : ℕ → Change) (s
       subst (λ (j : ℕ). Holds (own j ch) ((states j).channels ch)) e (hold (k - from) (omega arith) ch)
 
 pub channels_copy : ChannelsCopy
-channels_copy t own changes states load now c h does have since =
-    copies_since_load t changes states load now c h does (record {
+channels_copy program t n own changes states load now c h does have since =
+    copies_since_load program t n changes states load now c h does (record {
       later = since.later;
       loads = since.loads;
       is_call = since.is_call;

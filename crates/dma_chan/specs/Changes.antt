@@ -5,15 +5,14 @@ use Rattle.dma_mem.specs.declared.segment.Segment.{Segment}
 use Rattle.dma_mem.specs.Places.{Descriptor, sources, destinations, size_of, lies_below}
 use Rattle.dma_mem.specs.Image.{laid}
 use Rattle.dma_mem.specs.Marking.{MarkList}
-use Rattle.dma_mem.specs.Rules.{IsTransfer}
 use Rattle.dma_chan.specs.declared.turn.ChanTurn.{ChanTurn}
 use Rattle.dma_chan.specs.declared.turn.ChanTurn.TheVariants.{Ended, Fault, Waiting}
 use Rattle.dma_chan.specs.declared.turn.FaultKind.{FaultKind}
 use Rattle.dma_chan.specs.Channel.{ChannelValue}
 use Rattle.dma_chan.specs.Stepping.{Machine, TakesSteps, signal_after, written_after}
 use Rattle.dma_chan.specs.Written.{LiesIn}
-use Rattle.dma_chan.specs.Others.{IsLoadedWith, Misses, Touches}
-use Rattle.dma_chan.specs.CallWrites.{Executes}
+use Rattle.dma_chan.specs.Others.{Misses, Touches}
+use Rattle.dma_chan.specs.Explains.{Executes, Explains, IsCopy, IsLoadedWith}
 
 -- Channels by number, and the memory that they share: the byte at each address.
 pub record System : Type 0 where
@@ -84,13 +83,13 @@ DoesAll changes states from count =
 abbrev pub LendsAll : Descriptor → Call → Type 0
 LendsAll t call = (a : ℕ) → Touches t a → call.lends a ≡ true
 
--- A program that begins with a transfer's is loaded into a channel by change number `load`, and change number `now` is
--- a call on this channel. This call is lent what the transfer touches, and each change between these two spares the
+-- A program that begins with these bytes is loaded into a channel by change number `load`, and change number `now` is a
+-- call on this channel. This call is lent what the transfer touches, and each change between these two spares the
 -- transfer. What happens before the load or after the call has no influence.
-pub record SinceLoad (t : Descriptor) (changes : ℕ → Change) (states : ℕ → System) (load now : ℕ) (call : Call)
+pub record SinceLoad (program : List ℕ) (t : Descriptor) (changes : ℕ → Change) (states : ℕ → System) (load now : ℕ) (call : Call)
     (Spares : ℕ → Change → System → System → Type 0) : Type 0 where
   pub later : load < now
-  pub loads : (c : ChannelValue) × IsLoadedWith t c × (changes load ≡ Sets call.channel c)
+  pub loads : (c : ChannelValue) × IsLoadedWith program c × (changes load ≡ Sets call.channel c)
   pub is_call : changes now ≡ Calls call
   pub lent : LendsAll t call
   pub spares : (k : ℕ) → load < k → k < now → Spares k (changes k) (states k) (states (k + 1))
@@ -129,12 +128,12 @@ pub record HasCopied (t : Descriptor) (first memory : ℕ → ℕ) (call : Call)
   pub waits : (e : ℕ) → call.last ≡ Some (Waiting e) → t.wait ≡ Some e
   pub never_fails : (kind : FaultKind) → Misses call.marks t → call.last ≢ Some (Fault kind)
 
--- Each call on a channel has copied, if its transfer was left alone since its load.
+-- Each call on a channel has copied, if a transfer explains its program and was left alone since its load.
 abbrev pub CopiesSinceLoad : Type 0
 CopiesSinceLoad =
-    (t : Descriptor) (changes : ℕ → Change) (states : ℕ → System) (load now : ℕ) (call : Call) → IsTransfer t →
-    DoesAll changes states load (now + 1) →
-    SinceLoad t changes states load now call (λ k. LeavesAlone t call.channel) →
+    (program : List ℕ) (t : Descriptor) (n : ℕ) (changes : ℕ → Change) (states : ℕ → System) (load now : ℕ)
+    (call : Call) → Explains program t n → DoesAll changes states load (now + 1) →
+    SinceLoad program t changes states load now call (λ k. LeavesAlone t call.channel) →
     HasCopied t (states load).memory (states (now + 1)).memory call
 
 -- the bytes of an image, by their addresses
@@ -144,15 +143,15 @@ bytes_in image a = slice_index image a
 -- This is what `laid` says by places, in a memory that contains the transfer's ranges.
 abbrev pub LaidByPlace : Type 0
 LaidByPlace =
-    (t : Descriptor) (first : List ℕ) (k : ℕ) → IsTransfer t → lies_below t (length first) ≡ true →
+    (t : Descriptor) (first : List ℕ) (k : ℕ) → IsCopy t → lies_below t (length first) ≡ true →
     HasFirst t k (bytes_in first) (bytes_in (laid first t k))
 
 -- ---- among other transfers
 
--- the channel has no program, or executes that of this transfer; without a transfer, it may have any program
+-- the channel has no program, or executes one that this transfer explains; without a transfer, it may have any program
 abbrev pub Holds : Option Descriptor → ChannelValue → Type 0
 Holds None c = Unit {0}
-Holds (Some t) c = (c.program ≡ None) ⊎ (IsTransfer t × Executes t c)
+Holds (Some t) c = (c.program ≡ None) ⊎ ((program : List ℕ) × (n : ℕ) × Explains program t n × Executes program n c)
 
 -- which transfers the channels have before and after a change
 abbrev pub Gives : Change → (ℕ → Option Descriptor) → (ℕ → Option Descriptor) → Type 0
@@ -185,8 +184,8 @@ IsApart t ch own Guest before after = KeepsTouched t before after
 -- is written to other transfers' ranges, doesn't matter.
 abbrev pub ChannelsCopy : Type 0
 ChannelsCopy =
-    (t : Descriptor) (own : ℕ → ℕ → Option Descriptor) (changes : ℕ → Change) (states : ℕ → System) (load now : ℕ)
-    (call : Call) → IsTransfer t → DoesAll changes states load (now + 1) →
-    HaveTransfers own changes states load (now + 1) →
-    SinceLoad t changes states load now call (λ k. IsApart t call.channel (own k)) →
+    (program : List ℕ) (t : Descriptor) (n : ℕ) (own : ℕ → ℕ → Option Descriptor) (changes : ℕ → Change)
+    (states : ℕ → System) (load now : ℕ) (call : Call) → Explains program t n →
+    DoesAll changes states load (now + 1) → HaveTransfers own changes states load (now + 1) →
+    SinceLoad program t changes states load now call (λ k. IsApart t call.channel (own k)) →
     HasCopied t (states load).memory (states (now + 1)).memory call

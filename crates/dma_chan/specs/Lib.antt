@@ -16,8 +16,10 @@ pub mod Traffic
 pub mod Layer
 pub mod Ready
 pub mod Fails
+pub mod Explains
 pub mod RunPages
 pub mod Others
+pub mod Alone
 pub mod CallWrites
 pub mod Changes
 pub mod LentRegions

@@ -1,17 +1,15 @@
 -- Channels that execute steps over a memory that others write between the steps.
-use Rattle.std.specs.Prelude.{◌≡◌, ◌≢◌, ℕ, ◌+◌, ◌-◌, ◌<◌, ◌⊎◌, Bool, true, false, List, length, slice_index, Option, Some, IsSome}
+use Rattle.std.specs.Prelude.{◌≡◌, ◌≢◌, ℕ, ◌+◌, ◌≤◌, ◌<◌, ◌⊎◌, Bool, true, false, List, length, slice_index, Option, Some, IsSome}
 use Rattle.std.specs.List.{Contains}
 use Rattle.dma_mem.specs.Places.{Descriptor, sources, destinations, size_of, lies_below}
 use Rattle.dma_mem.specs.Image.{laid}
 use Rattle.dma_mem.specs.declared.marks.MarkKind.TheVariants.{Reading, Writing}
 use Rattle.dma_mem.specs.Marking.{MarkList, is_marked}
-use Rattle.dma_mem.specs.Rules.{IsTransfer}
 use Rattle.dma_chan.specs.declared.turn.ChanTurn.{ChanTurn}
 use Rattle.dma_chan.specs.declared.turn.ChanTurn.TheVariants.{Moved, Ended, Fault}
 use Rattle.dma_chan.specs.declared.turn.FaultKind.{FaultKind}
-use Rattle.dma_chan.specs.Channel.{ChannelValue, loaded, step_of, stepped}
-use Rattle.dma_chan.specs.Compiled.{cost, compiled}
-use Rattle.dma_chan.specs.Programs.{ProgramValue, BeginsWith}
+use Rattle.dma_chan.specs.Channel.{ChannelValue, step_of, stepped}
+use Rattle.dma_chan.specs.Explains.{Explains, IsLoadedWith}
 use Rattle.dma_chan.specs.Stepping.{Machine, TakesSteps}
 use Rattle.dma_chan.specs.NextWrites.{written_next}
 
@@ -25,30 +23,27 @@ pub record Misses (marks : MarkList) (t : Descriptor) : Type 0 where
   pub reads : (a : ℕ) → Contains (sources t) a → is_marked Reading marks a ≡ false
   pub writes : (a : ℕ) → Contains (destinations t) a → is_marked Writing marks a ≡ false
 
--- A channel into which a program was just loaded that begins with a transfer's program.
-abbrev pub IsLoadedWith : Descriptor → ChannelValue → Type 0
-IsLoadedWith t c = (p : ProgramValue) × BeginsWith p (compiled t) × (c ≡ loaded p)
-
--- A channel executes a transfer's program up to its DMAEND. `channel n` is the channel before instruction number n,
--- which is executed with these marks and flags and with a memory that contains the transfer's ranges. Between two
--- instructions others may write any byte that the transfer neither reads nor writes, and may change the memory's size,
+-- A channel executes the n instructions before DMAEND of a program that copies t. `channel k` is the channel before
+-- instruction number k, which is executed with these marks and flags and with a memory that contains the ranges of t.
+-- Between two instructions others may write any byte that t neither reads nor writes, and may change the memory's size,
 -- any flag and any mark.
-pub record RunsAmongOthers (t : Descriptor) (marks : ℕ → MarkList) (channel : ℕ → ChannelValue)
-    (image : ℕ → List ℕ) (flags : ℕ → List Bool) : Type 0 where
-  pub begins : IsLoadedWith t (channel 0)
-  pub below : (n : ℕ) → n < cost t → lies_below t (length (image n)) ≡ true
-  pub moves : (n : ℕ) → n + 1 < cost t → (step_of (marks n) (channel n) (image n) (flags n)).0 ≡ Moved
-  pub goes_on : (n : ℕ) → n + 1 < cost t → channel (n + 1) ≡ stepped (marks n) (channel n) (image n) (flags n)
-  pub unchanged : (n a : ℕ) → n + 1 < cost t → Touches t a →
-      slice_index (image (n + 1)) a ≡ slice_index (step_of (marks n) (channel n) (image n) (flags n)).1.image a
+pub record RunsAmongOthers (program : List ℕ) (t : Descriptor) (n : ℕ) (marks : ℕ → MarkList)
+    (channel : ℕ → ChannelValue) (image : ℕ → List ℕ) (flags : ℕ → List Bool) : Type 0 where
+  pub begins : IsLoadedWith program (channel 0)
+  pub below : (k : ℕ) → k ≤ n → lies_below t (length (image k)) ≡ true
+  pub moves : (k : ℕ) → k < n → (step_of (marks k) (channel k) (image k) (flags k)).0 ≡ Moved
+  pub goes_on : (k : ℕ) → k < n → channel (k + 1) ≡ stepped (marks k) (channel k) (image k) (flags k)
+  pub unchanged : (k a : ℕ) → k < n → Touches t a →
+      slice_index (image (k + 1)) a ≡ slice_index (step_of (marks k) (channel k) (image k) (flags k)).1.image a
 
--- Before DMAEND, each address that the transfer touches has the same byte as after one simultaneous copy of all the
--- transfer's bytes in the memory at the start.
+-- Before DMAEND, each address that t touches has the same byte as after one simultaneous copy of all its bytes in the
+-- memory at the start.
 abbrev pub CopiesAmongOthers : Type 0
 CopiesAmongOthers =
-    (t : Descriptor) (marks : ℕ → MarkList) (channel : ℕ → ChannelValue) (image : ℕ → List ℕ) (flags : ℕ → List Bool) →
-    IsTransfer t → RunsAmongOthers t marks channel image flags →
-    (a : ℕ) → Touches t a → slice_index (image (cost t - 1)) a ≡ slice_index (laid (image 0) t (size_of t)) a
+    (program : List ℕ) (t : Descriptor) (n : ℕ) (marks : ℕ → MarkList) (channel : ℕ → ChannelValue)
+    (image : ℕ → List ℕ) (flags : ℕ → List Bool) →
+    Explains program t n → RunsAmongOthers program t n marks channel image flags →
+    (a : ℕ) → Touches t a → slice_index (image n) a ≡ slice_index (laid (image 0) t (size_of t)) a
 
 -- After an instruction, the memory has the same size, and all bytes are the same except those that the channel's next
 -- instruction writes. This applies to every program, including one that was not compiled.
@@ -64,12 +59,12 @@ WritesNoOther =
 
 -- ---- by calls, each of which executes several steps
 
--- Calls on a channel that starts with a transfer's program. Each call has its own marks, its program is loaded, and its
--- memory contains the transfer's ranges. It executes steps from `before` to `after`. Between two calls others may write
--- any byte that the transfer neither reads nor writes, and may change the memory's size and any flag.
-pub record CalledAmongOthers (t : Descriptor) (marks : ℕ → MarkList) (calls : ℕ) (before after : ℕ → Machine)
+-- Calls on a channel that starts with a program that copies t. Each call has its own marks, its program is loaded, and
+-- its memory contains the ranges of t. It executes steps from `before` to `after`. Between two calls others may write
+-- any byte that t neither reads nor writes, and may change the memory's size and any flag.
+pub record CalledAmongOthers (program : List ℕ) (t : Descriptor) (marks : ℕ → MarkList) (calls : ℕ) (before after : ℕ → Machine)
     (last : ℕ → Option ChanTurn) : Type 0 where
-  pub begins : IsLoadedWith t (before 0).channel
+  pub begins : IsLoadedWith program (before 0).channel
   pub is_loaded : (k : ℕ) → k < calls → IsSome (before k).channel.program
   pub below : (k : ℕ) → k < calls → lies_below t (length (before k).image) ≡ true
   pub steps : (k : ℕ) → k < calls →
@@ -90,5 +85,6 @@ pub record CallsCopy (t : Descriptor) (marks : ℕ → MarkList) (calls : ℕ) (
 -- Calls among others have the result of `CallsCopy`.
 abbrev pub CallsCopyAmongOthers : Type 0
 CallsCopyAmongOthers =
-    (t : Descriptor) (marks : ℕ → MarkList) (calls : ℕ) (before after : ℕ → Machine) (last : ℕ → Option ChanTurn) →
-    IsTransfer t → CalledAmongOthers t marks calls before after last → CallsCopy t marks calls before after last
+    (program : List ℕ) (t : Descriptor) (n : ℕ) (marks : ℕ → MarkList) (calls : ℕ) (before after : ℕ → Machine)
+    (last : ℕ → Option ChanTurn) → Explains program t n → CalledAmongOthers program t marks calls before after last →
+    CallsCopy t marks calls before after last

@@ -10,3 +10,4 @@ pub mod Compiling
 pub mod Cutting
 pub mod Blocks
 pub mod Acts
+pub mod Tracing

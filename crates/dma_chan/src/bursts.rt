@@ -96,7 +96,7 @@ impl Burst {
     }
 
     // Returns how far the burst moves its address.
-    fn advance(self) -> u32
+    pub(crate) fn advance(self) -> u32
         requires { (self.size ≤ 16) × (self.beats ≤ 16) }
         ensures value { result ≡ advance self }
         ensures limit { result ≤ span_of self }

@@ -66,7 +66,7 @@ fn set_fault(reg: Reg, value: u32) -> Option<FaultKind>
 }
 
 // Executes DMAMOV, whose encoding has `len` bytes.
-fn set_register(reg: Reg, value: u32, len: u32, registers: &mut Registers) -> ChanTurn
+pub(crate) fn set_register(reg: Reg, value: u32, len: u32, registers: &mut Registers) -> ChanTurn
     requires len { len ≡ length (spelling (Mov reg value)) }
     requires pc { registers.old.pc + len ≤ most_program_bytes }
     ensures exact { SetsRegisters (Mov reg value) registers.old result registers.new }
@@ -87,7 +87,7 @@ fn set_register(reg: Reg, value: u32, len: u32, registers: &mut Registers) -> Ch
 }
 
 // Executes DMALP.
-fn begin_loop(counter: Counter, times: Times, registers: &mut Registers) -> ChanTurn
+pub(crate) fn begin_loop(counter: Counter, times: Times, registers: &mut Registers) -> ChanTurn
     requires pc { registers.old.pc + 2 ≤ most_program_bytes }
     ensures exact { SetsRegisters (Lp counter times) registers.old result registers.new }
     ensures pc { registers.new.pc ≤ registers.old.pc + 2 }
@@ -126,7 +126,7 @@ fn jump_fault(counter: Counter, back: u8, registers: &Registers) -> Option<Fault
 
 // Executes DMALPEND.
 #[tactic(auto, using(crate::proofs::LoopEnds::looped_again))]
-fn end_loop(counter: Counter, back: u8, registers: &mut Registers) -> ChanTurn
+pub(crate) fn end_loop(counter: Counter, back: u8, registers: &mut Registers) -> ChanTurn
     requires pc { registers.old.pc + 2 ≤ most_program_bytes }
     ensures exact { SetsRegisters (LpEnd counter back) registers.old result registers.new }
     ensures pc { registers.new.pc ≤ registers.old.pc + 2 }
@@ -175,7 +175,7 @@ fn wait(event: Event, invalid: bool, registers: &mut Registers, events: &mut Eve
 }
 
 // Executes an instruction whose only effect is to advance `pc`.
-fn go_on(registers: &mut Registers) -> ChanTurn
+pub(crate) fn go_on(registers: &mut Registers) -> ChanTurn
     requires { registers.old.pc + 1 ≤ most_program_bytes }
     ensures turn { result ≡ ChanTurn.Moved }
     ensures registers { registers.new ≡ record (registers.old) { pc = registers.old.pc + 1 } }

@@ -1,8 +1,10 @@
 //! Laws of transfers' programs. Each law is the postcondition of a function that does nothing.
 
+ghost use Rattle.dma_chan.specs.Alone.{ExplainedCopiesAlone};
 ghost use Rattle.dma_chan.specs.Layer.{StartsAt, AheadIs, LeftIs, StepIs, TurnReports, Survives, ShapeIs, CostIs, StoredIs, CopiesAlone};
 ghost use Rattle.dma_chan.specs.CallWrites.{CallWritesNoOther, LoadExecutes, CallStaysIn};
 ghost use Rattle.dma_chan.specs.Changes.{CopiesSinceLoad, ChannelsCopy, LaidByPlace};
+ghost use Rattle.dma_chan.specs.Explains.{CompiledExplained, ExplainedOnce};
 ghost use Rattle.dma_chan.specs.LentRegions.{GapsMiss, LiesInRegions};
 ghost use Rattle.dma_chan.specs.Others.{CallsCopyAmongOthers, CopiesAmongOthers, WritesNoOther};
 ghost use Rattle.dma_chan.specs.Ready.{ReadyIs};
@@ -35,13 +37,30 @@ pub fn costs_little()
     ensures { CostIs }
 {}
 
+/// A program that a transfer explains that doesn't wait, run alone, makes one simultaneous copy of all its bytes.
+pub fn explained_copies_alone()
+    ensures { ExplainedCopiesAlone }
+{}
+
 /// The program of a transfer that doesn't wait, run alone, makes one simultaneous copy of all its bytes.
 pub fn copies_alone()
     ensures { CopiesAlone }
 {}
 
-/// A transfer's program that runs while others write the memory between its steps makes one simultaneous copy of all
-/// its bytes, at the transfer's own places. Each step may have different marks and a memory of another size.
+/// A transfer explains its compiled program. So all laws of programs that copy apply to it.
+pub fn compiled_is_explained()
+    ensures { CompiledExplained }
+{}
+
+/// All copies that explain a program have the same places in the same order. So what `explain::explain` returns is the
+/// only explanation, up to how its ranges are cut into segments.
+pub fn is_explained_once()
+    ensures { ExplainedOnce }
+{}
+
+/// A program that a transfer explains, and that runs while others write the memory between its steps, makes one
+/// simultaneous copy of all the transfer's bytes, at the transfer's own places. Each step may have different marks and a
+/// memory of another size.
 pub fn copies_among_others()
     ensures { CopiesAmongOthers }
 {}
@@ -78,15 +97,15 @@ pub fn call_writes_no_other()
     ensures { CallWritesNoOther }
 {}
 
-/// From the load of a transfer's program to its end, the range that a call reports as written has only destinations of
-/// the transfer, whatever others write.
+/// From the load of a program that a transfer explains to its end, the range that a call reports as written has only
+/// destinations of the transfer, whatever others write.
 pub fn writes_its_destinations()
     ensures load { LoadExecutes }
     ensures call { CallStaysIn }
 {}
 
-/// A transfer's program copies if, between its own load and a call on its channel, nobody else writes what the transfer
-/// reads or writes. After each call the destinations have the bytes that are stored so far, and all of them when the
+/// A program that a transfer explains copies if, between its own load and a call on its channel, nobody else writes what
+/// the transfer reads or writes. After each call the destinations have the bytes that are stored so far, and all of them when the
 /// call reports the transfer's signal or ends. Each call may be lent other regions, and other bytes may follow the
 /// program.
 pub fn copies_since_load()
@@ -94,8 +113,8 @@ pub fn copies_since_load()
 {}
 
 /// The same of any number of channels, which are loaded at any time and stepped in any order. Of another channel with a
-/// transfer's program it is enough that the transfer writes elsewhere, and of one with any program that its calls
-/// report other addresses as written.
+/// program that a transfer explains it is enough that the transfer writes elsewhere, and of one with any program that
+/// its calls report other addresses as written.
 pub fn channels_copy()
     ensures { ChannelsCopy }
 {}

@@ -9,10 +9,10 @@
 //! alone, it makes one simultaneous copy (`laws::copies_alone`, `run_program`); `copy::copy_at_once` makes it without
 //! the program. A call over lent memory is a chain of single steps (`lent::step_over`, `step_regions`: `TakesSteps`).
 //! It changes no byte outside the range that it reports (`kept`, `laws::call_writes_no_other`), and each address in it
-//! was written (`writes_each`). A program that begins with a transfer's has copied as many bytes as the channel
-//! counts, and all of them at its signal and at its end, if since its load nobody else wrote what the transfer reads or
-//! writes (`copies_since_load`, `channels_copy`). Until its end it writes only the transfer's destinations
-//! (`writes_its_destinations`). A save restores its channel, and nothing else is accepted
+//! was written (`writes_each`). A program, compiled or not, that a transfer explains (`Explains`) has copied as many
+//! bytes as the channel counts, and all of them at its signal and at its end, if since its load nobody else wrote what
+//! the transfer reads or writes (`copies_since_load`, `channels_copy`). Until its end it writes only the transfer's
+//! destinations (`writes_its_destinations`). `explain::explain` finds the transfer, or shows that there is none. A save restores its channel, and nothing else is accepted
 //! (`Channel::save`, `restore`). No page is made except for a store (`run_program`).
 //!
 //! Not proved: that an allocation succeeds, and that blocks are moved. A `run_bodies` that moves nothing meets its
@@ -25,6 +25,7 @@ pub mod channel;
 pub mod compile;
 pub mod copy;
 mod exec;
+pub mod explain;
 pub mod laws;
 pub mod lent;
 pub mod next;

@@ -43,8 +43,8 @@ fn push(out: &mut SaveBytes, bytes: &[u8])
     };
 }
 
-// Returns the checksum of these bytes.
-fn checksum_of(bytes: &[u8]) -> u32
+/// Returns the checksum of these bytes.
+pub fn checksum_of(bytes: &[u8]) -> u32
     ensures { result ≡ checksum bytes.now }
 {
     let mut low = 1u32;

@@ -1,10 +1,12 @@
 -- Interrupts along accesses in a row.
-use Rattle.std.proofs.Common.{◌≡◌, ◌⊎◌, ℕ, zero, suc, ◌+◌, ◌<◌, ◌≤◌, List, ap, refl, sym, subst, arith, inl, inr}
+use Rattle.std.proofs.Common.{◌≡◌, ◌∙◌, ◌⊎◌, ℕ, true, zero, suc, ◌+◌, ◌<◌, ◌≤◌, List, ap, refl, sym, subst, arith, inl, inr}
 use Rattle.std.specs.Prelude.{◌↔◌}
 use Rattle.std.proofs.lemmas.Bool.{cases_eq, cases_lt}
+use Rattle.std.proofs.lemmas.Nat.Bits.{bit_at-zero}
+use Rattle.std.specs.Int.{bit_at}
 use Rattle.dma_mem.specs.Regions.{Piece, pieces_of}
 use Rattle.dma_mem.specs.declared.regions.Region.{Region}
-use Rattle.dma_device.specs.Accesses.{Access, Answer, Does, Happen, Reads, Stores, Turns, Writes}
+use Rattle.dma_device.specs.Accesses.{Access, Answer, Does, Happen, Reads, Resets, Stores, Turns, Writes}
 use Rattle.dma_device.specs.Device.{DeviceValue, irqs, written}
 use Rattle.dma_device.specs.Turns.{TakesTurn}
 use Rattle.dma_device.specs.declared.device.turns.Turn.{Turn}
@@ -51,7 +53,7 @@ write_exact k at value d regions left has =
           (subst (λ (j : ℕ). IsHigh (irqs (written ram j value d)) k ↔ (IsHigh (irqs d) k × ¬ (IsHigh value k × IsHigh d.inten k))) (sym intclr) (intclr_lowers d ram value k has))
       | inr not_intclr ↦ elim (cases_eq at 0xD04) [
         | inl dbgcmd ↦
-            let w = (dbgcmd_raises d ram value k).lines in
+            let w = (dbgcmd_raises true d ram value k).lines in
             up_exact k d e (IsHigh d.inten k × DebugSignals d value k) Up Down (λ p. (p.0, (dbgcmd, p.1))) (λ up. (up.0, up.1.1))
             (λ down. not_intclr down.0)
             (subst (λ (j : ℕ). IsHigh (irqs (written ram j value d)) k ↔ (IsHigh (irqs d) k ⊎ (IsHigh d.inten k × DebugSignals d value k))) (sym dbgcmd) w)
@@ -80,6 +82,9 @@ access_exact k (Writes at value) d e regions left answer has x =
     subst (λ (v : DeviceValue). Exact k d v (Raises k (Writes at value) d regions v left) (Clears k (Writes at value) d)) (sym x.1) (write_exact k at value d regions left has)
 access_exact k (Turns n most) d e regions left answer has x = turn_exact k n most d e regions left x.0 has x.1.1
 access_exact k (Stores addr byte) d e regions left answer has x = same_exact k d e (Raises k (Stores addr byte) d regions e left) ⊥ (ap irqs x.1) (λ up. up.1) (λ down. down)
+access_exact k Resets d e regions left answer has x =
+    let low : ¬ IsHigh (irqs e) k = (λ high. let zero_bit = ap (λ (v : DeviceValue). bit_at (irqs v) k) x.1 ∙ bit_at-zero k in omega (arith, zero_bit, high)) in
+    ((λ high. absurd (low high)), (λ why. elim why [ inl up ↦ absurd (up.1) | inr stays ↦ absurd (stays.1 tt) ]))
 
 -- ---- an access leaves a device its lines
 
@@ -89,18 +94,20 @@ written_has k ram at value d has =
       | inl intclr ↦ subst (λ (j : ℕ). HasLine (written ram j value d) k) (sym intclr) (has_kept k d (written ram 0x02C value d) refl refl has)
       | inr not_intclr ↦ elim (cases_eq at 0xD04) [
         | inl dbgcmd ↦
-            let w = dbgcmd_raises d ram value k in
+            let w = dbgcmd_raises true d ram value k in
             subst (λ (j : ℕ). HasLine (written ram j value d) k) (sym dbgcmd) (has_kept k d (written ram 0xD04 value d) w.config w.inten has)
         | inr not_dbgcmd ↦ (others_keep_lines d ram at value k has not_intclr not_dbgcmd).has
       ]
     ]
 
-access_has : (k : ℕ) (a : Access) (d e : DeviceValue) (regions left : List Region) (answer : Answer) → HasLine d k → Does a d regions answer e left → HasLine e k
+pub access_has : (k : ℕ) (a : Access) (d e : DeviceValue) (regions left : List Region) (answer : Answer) → HasLine d k → Does a d regions answer e left → HasLine e k
 access_has k (Reads at) d e regions left answer has x = subst (λ (v : DeviceValue). HasLine v k) (sym x.1) has
 access_has k (Writes at value) d e regions left answer has x = subst (λ (v : DeviceValue). HasLine v k) (sym x.1) (written_has k (pieces_of regions) at value d has)
 access_has k (Turns n most) d e regions left answer has x =
     has_kept k d e (turn_config d e regions left n most x.0 x.1.1) (turn_inten d e regions left n most x.0 x.1.1) has
 access_has k (Stores addr byte) d e regions left answer has x = subst (λ (v : DeviceValue). HasLine v k) (sym x.1) has
+access_has k Resets d e regions left answer has x =
+    subst (λ (v : DeviceValue). HasLine v k) (sym x.1) (record { events = has.events; event = has.event; inten = omega arith })
 
 -- ---- accesses in a row
 

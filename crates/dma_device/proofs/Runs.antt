@@ -20,11 +20,11 @@ use Rattle.dma_chan.specs.Written.{joined}
 use Rattle.dma_device.specs.declared.device.turns.Called.{Called}
 use Rattle.dma_device.specs.declared.device.turns.Turn.{Turn}
 use Rattle.dma_device.specs.declared.thread.Thread.{Thread}
-use Rattle.dma_device.specs.Accesses.{Access, Answer, AreAlike, Does, Done, Happen, Reads, Stores, Turned, Turns, Value, Writes}
-use Rattle.dma_device.specs.Device.{DeviceValue, read_at, with_thread, written}
+use Rattle.dma_device.specs.Accesses.{Access, Answer, AreAlike, Does, Done, Happen, Reads, Resets, Stores, Turned, Turns, Value, Writes}
+use Rattle.dma_device.specs.Device.{DeviceValue, read_at, reset_device, with_thread, written}
 use Rattle.dma_device.specs.Run.{Board, Outcome, Ram, RunsStepByStep, board_of, called, called_if, idle, left_by, next, number_of, put_from, ram_of, run, stepped, steps_in, turned, with_image}
 use Rattle.dma_device.specs.Thread.{answered, failed, is_too_wide, most_on, operand_invalid}
-use Rattle.dma_device.specs.Turns.{CallsIf, CallsOne, CallsThread, CallsUnless, TakesTurn, lines_differ, nothing, raises, runs_at, visible_events, with_flags}
+use Rattle.dma_device.specs.Turns.{CallsIf, CallsOne, CallsThread, CallsUnless, TakesTurn, lines_differ, may_follow, nothing, runs_at, visible_events, with_flags}
 
 -- ---- how many steps a call takes
 
@@ -99,7 +99,7 @@ flag_of_bit zero h = refl
 flag_of_bit (suc zero) h = refl
 flag_of_bit (suc (suc m)) h = absurd (omega arith)
 
-number_is : (n : ℕ) → n < 2 ^ 32 → number_of (flags_of n) ≡ n
+pub number_is : (n : ℕ) → n < 2 ^ 32 → number_of (flags_of n) ≡ n
 number_is n range =
     let below : number_of (flags_of n) < 2 ^ 32 = subst (λ (k : ℕ). number_of (flags_of n) < 2 ^ k) (length-flags_of n) (number_below (flags_of n)) in
     same_from_bits_below 32 (number_of (flags_of n)) n below range (λ i less.
@@ -109,7 +109,7 @@ number_is n range =
 -- ---- the pieces of a memory
 
 -- regions at the same places have the bytes of their image
-put_is : (at : ℕ) (rs qs : List Region) → map segment_of qs ≡ map segment_of rs → put_from at (bytes_above at (pieces_of qs)) (pieces_of rs) ≡ pieces_of qs
+pub put_is : (at : ℕ) (rs qs : List Region) → map segment_of qs ≡ map segment_of rs → put_from at (bytes_above at (pieces_of qs)) (pieces_of rs) ≡ pieces_of qs
 put_is at [] [] places = refl
 put_is at [] (q ∷ qs) places = absurd (cc)
 put_is at (r ∷ rs) [] places = absurd (cc)
@@ -138,7 +138,7 @@ ram_is regions left places access =
 
 -- ---- a call
 
-abbrev outcome : DeviceValue → Ram → Called → Outcome
+abbrev pub outcome : DeviceValue → Ram → Called → Outcome
 outcome e ram made = record { board = record { device = e; ram = ram }; called = made }
 
 -- a call has the outcome
@@ -177,7 +177,7 @@ one_is : (o : Option Thread) (d : DeviceValue) (regions : List Region) (n most :
 one_is None d regions n most e left made x = absurd x
 one_is (Some t) d regions n most e left made x = unless_is (is_too_wide d.config.bus (ahead_of t.channel)) d t regions n most e left made x
 
-if_is : (b : Bool) (d : DeviceValue) (regions : List Region) (n most : ℕ) (e : DeviceValue) (left : List Region) (made : Called) → CallsIf b d regions n most e left made → (if b then called n most (slice_get d.threads n) (board_of d regions) else idle (board_of d regions)) ≡ outcome e (ram_of left) made
+pub if_is : (b : Bool) (d : DeviceValue) (regions : List Region) (n most : ℕ) (e : DeviceValue) (left : List Region) (made : Called) → CallsIf b d regions n most e left made → (if b then called n most (slice_get d.threads n) (board_of d regions) else idle (board_of d regions)) ≡ outcome e (ram_of left) made
 if_is true d regions n most e left made x = one_is (slice_get d.threads n) d regions n most e left made x
 if_is false d regions n most e left made x = idle_is d e regions left made x.0 x.1 x.2
 
@@ -194,12 +194,12 @@ after_second d first second =
 
 abbrev after_first : DeviceValue → ℕ → Outcome → Board × Answer
 after_first d n first =
-    after_second d first.called (called_if (raises first.board.device first.called.signal) n 1 first.board)
+    after_second d first.called (called_if (may_follow first.board.device n first.called) n 1 first.board)
 
 turned_is : (d : DeviceValue) (regions : List Region) (n most : ℕ) (e : DeviceValue) (left : List Region) (turn : Turn) → TakesTurn d regions n most e left turn → turned n most (board_of d regions) ≡ (board_of e left, Turned turn)
 turned_is d regions n most e left turn x =
     let one = if_is (nat_lt 0 most && runs_at d n) d regions n most x.middle x.lent x.first x.call in
-    let two = if_is (raises x.middle x.first.signal && runs_at x.middle n) x.middle x.lent n 1 e left x.second x.one_more in
+    let two = if_is (may_follow x.middle n x.first && runs_at x.middle n) x.middle x.lent n 1 e left x.second x.one_more in
     ap (after_first d n) one
     ∙ ap (after_second d x.first) two
     ∙ ap (λ (w : Segment). let r : Turn = record { written = w; lines_changed = lines_differ d e } in let p : Board × Answer = (board_of e left, Turned r) in p) (sym x.written)
@@ -226,6 +226,8 @@ does_is (Stores addr byte) d regions answer e left x =
     ∙ ap (λ (i : List ℕ). let b : Board = record { device = e; ram = with_image i (ram_of regions) } in pair b Done) (sym x.4)
     ∙ ap (λ (m : Ram). let b : Board = record { device = e; ram = m } in pair b Done) (ram_is regions left x.2 x.3)
     ∙ ap (pair (board_of e left)) (sym x.0)
+does_is Resets d regions answer e left x =
+    ap (λ (b : Board). pair b Done) (alike_is (reset_device d.config) e regions left x.1 x.2) ∙ ap (pair (board_of e left)) (sym x.0)
 
 -- ---- accesses in a row
 

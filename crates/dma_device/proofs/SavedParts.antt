@@ -1,5 +1,5 @@
 -- What is read from the bytes of a save is what was written there.
-use Rattle.std.proofs.Common.{◌≡◌, ◌∙◌, append_assoc, ℕ, suc, ◌+◌, ◌-◌, ◌*◌, ◌%◌, ◌/◌, ◌^◌, ◌<◌, ◌≤◌, Bool, true, false, eqb, List, [], ◌∷◌, ◌++◌, get_or, length, take, drop, ap, append-nil, add-one, refl, sym, subst, arith}
+use Rattle.std.proofs.Common.{◌≡◌, ◌∙◌, append_assoc, ℕ, suc, ◌+◌, ◌-◌, ◌*◌, ◌%◌, ◌/◌, ◌^◌, ◌<◌, ◌≤◌, Bool, true, false, eqb, is_some, nat_lt, List, [], ◌∷◌, ◌++◌, get_or, length, take, drop, ap, append-nil, add-one, refl, sym, subst, arith}
 use Rattle.std.proofs.Math.Seq.{drop-cons, take-suc}
 use Rattle.std.proofs.lemmas.Bool.{and_parts}
 use Rattle.std.proofs.lemmas.List.{drop-drop, drop_all, drop_at, length-append, length-drop, length-take, take-append-drop, take_all, take_at}
@@ -65,11 +65,12 @@ pub thread_length : (t : Thread) → length (saved_thread t) ≡ 20 + length (sa
 unfolding saved_thread
 thread_length t = omega (arith, length-append (thread_bytes t (length (saved t.channel))) (saved t.channel), thread_head_length t (length (saved t.channel)))
 
-status_few : (events : ℕ) (b : Bool) (s : Status) → events ≤ 32 → has_status events b s ≡ true → status_bits s < 2 ^ 9
-status_few events b Stopped few h = omega arith
-status_few events b Executing few h = omega arith
-status_few events b (WaitingForEvent e) few h = let less = ltb-true e events (and_parts b _ h).1 in omega arith
-status_few events b Faulting few h = omega arith
+status_few : (events : ℕ) (t : Thread) (s : Status) → events ≤ 32 → has_status events t s ≡ true → status_bits s < 2 ^ 9
+status_few events t Stopped few h = omega arith
+status_few events t Executing few h = omega arith
+status_few events t (WaitingForEvent e) few h =
+    let less = ltb-true e events (and_parts (nat_lt e events) _ (and_parts (is_some t.channel.program) _ h).1).0 in omega arith
+status_few events t Faulting few h = omega arith
 
 csr_parts : (bits : ℕ) (b : Bool) → bits < 2 ^ 9 → ((bits + flag b * 2 ^ 21) % 512 ≡ bits) × (((bits + flag b * 2 ^ 21) / 2 ^ 21 % 2 ≡ flag b) × (bits + flag b * 2 ^ 21 < 2 ^ 32))
 csr_parts bits true few = (omega arith, (omega arith, omega arith))
@@ -87,7 +88,7 @@ pub record HasThread (t : Thread) (bytes : List ℕ) : Type 0 where
 thread_written : (events : ℕ) (t : Thread) (rest : List ℕ) → events ≤ 32 → IsThreadValue events t → length (saved t.channel) < 2 ^ 32 → HasThread t (thread_bytes t (length (saved t.channel)) ++ rest)
 unfolding thread_bytes
 thread_written events t rest few v short =
-    let bits = status_few events _ t.status few v.sound in
+    let bits = status_few events t t.status few v.sound in
     let parts = csr_parts (status_bits t.status) t.nonsecure bits in
     let back = from_le_bytes-to_le_bytes_4 (csr t) parts.1.1 in
     record {

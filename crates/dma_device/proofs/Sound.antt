@@ -1,17 +1,24 @@
 -- Each thread has a status that goes with its program, after a call too, and events stay among those of the device.
-use Rattle.std.proofs.Common.{◌≡◌, ◌∙◌, ◌⊎◌, ℕ, zero, suc, ◌+◌, ◌-◌, ◌*◌, ◌%◌, ◌^◌, ◌<◌, ◌≤◌, Bool, true, false, List, [], Option, Some, None, ap, get_or, inl, inr, length, refl, replicate, sym, subst, arith, bit_and}
-use Rattle.std.specs.Prelude.{is_some, nat_le, nat_lt, if◌then◌else◌}
+use Rattle.std.proofs.Common.{◌≡◌, ◌∙◌, ◌⊎◌, ℕ, zero, suc, ◌+◌, ◌-◌, ◌*◌, ◌%◌, ◌^◌, ◌<◌, ◌≤◌, ◌&&◌, Bool, true, false, List, [], Option, Some, None, Result, Ok, Err, ap, get_or, inl, inr, length, refl, replicate, sym, subst, arith, bit_and}
+use Rattle.std.specs.Prelude.{is_some, nat_eq, nat_le, nat_lt, slice_index_or, if◌then◌else◌}
 use Rattle.std.proofs.Math.Nat.{mod-le}
 use Rattle.std.proofs.Math.Pow.{pow-lt, pow_mono}
-use Rattle.std.proofs.lemmas.Bool.{and_parts, leb-true}
+use Rattle.std.proofs.lemmas.Bool.{and_parts, eq-eqb, leb-true, lt-ltb}
 use Rattle.std.proofs.lemmas.List.{drop_all, length-set, with_items_is}
 use Rattle.std.proofs.lemmas.List.Elements.{All-replicate, All-set}
 use Rattle.std.specs.List.{All}
 use Rattle.std.specs.Vec.{with_item, with_items}
 use Rattle.std.proofs.lemmas.Nat.{and_le_l, and_le_r, pow_pos}
 use Rattle.dma_mem.specs.Marking.{MarkList}
-use Rattle.dma_chan.specs.Channel.{ChannelValue, after_turn, ahead_of, bytes_of_program, state_of}
-use Rattle.dma_chan.specs.Exec.{State, exec_fetched}
+use Rattle.dma_chan.specs.Channel.{ChannelValue, after_turn, ahead_of, bytes_of_program, last_count, state_of, step_of, stored_by}
+use Rattle.dma_chan.specs.Bursts.{burst_len, reaches, touched}
+use Rattle.dma_chan.specs.Exec.{State, act, buffer_size, counter_of, destination_of, exec_fetched, source_of}
+use Rattle.dma_insn.specs.ControlWord.{is_control}
+use Rattle.dma_insn.specs.declared.insn.Insn.{Insn}
+use Rattle.dma_insn.specs.declared.insn.Insn.TheVariants.{Mov, Ld, St, Rmb, Wmb, Nop, End, Lp, LpEnd, Sev, Wfe}
+use Rattle.dma_insn.specs.declared.insn.Reg.TheVariants.{Sar, Ccr, Dar}
+use Rattle.dma_mem.specs.declared.marks.MarkKind.TheVariants.{Reading, Writing}
+use Rattle.dma_chan.specs.declared.turn.FaultKind.{FaultKind}
 use Rattle.dma_chan.specs.Next.{fetched, next_of}
 use Rattle.dma_insn.specs.Decoding.{decoded}
 use Rattle.dma_chan.specs.Programs.{ProgramValue}
@@ -23,9 +30,10 @@ use Rattle.dma_chan.proofs.SteppedOver.{was_moved, went_before}
 use Rattle.dma_device.specs.Config.{is_valid}
 use Rattle.dma_device.specs.declared.config.Config.{Config}
 use Rattle.dma_device.specs.declared.device.Device.TheInside.{Inside}
-use Rattle.dma_device.specs.inner.Fields.{AreKnown, AreSound, IsDevice, KnowsWide}
+use Rattle.dma_device.specs.Idle.{IsSoundDevice}
+use Rattle.dma_device.specs.inner.Fields.{AreKnown, AreSound, IsDevice, KnowsWide, device_value}
 use Rattle.dma_device.proofs.WidePrograms.{wide_kept}
-use Rattle.dma_device.specs.Thread.{IsSound, answer, answered, failed, moved, operand_invalid, reset_thread}
+use Rattle.dma_device.specs.Thread.{IsSound, answer, answered, failed, is_before_wait, moved, operand_invalid, reset_thread, waits_for}
 use Rattle.dma_device.specs.declared.thread.Status.TheVariants.{Executing, WaitingForEvent}
 use Rattle.dma_device.specs.declared.thread.Thread.{Thread}
 
@@ -40,16 +48,52 @@ moved_sound events t None loaded = loaded
 moved_sound events t (Some e) loaded =
     if_sound events (nat_lt e events) (record t { status = Executing }) (failed operand_invalid (record t { pc = (t.pc + (2 ^ 32 - 2)) % 2 ^ 32 })) loaded refl
 
-waits_sound : (events e : ℕ) (t : Thread) (b : Bool) → nat_lt e events ≡ b → is_some t.channel.program ≡ true → IsSound events (if b then record t { status = WaitingForEvent e } else failed operand_invalid t)
-waits_sound events e t true less loaded = rw (loaded, less) refl
-waits_sound events e t false less loaded = refl
+waits_sound : (events e : ℕ) (t : Thread) (b : Bool) → nat_lt e events ≡ b → is_some t.channel.program ≡ true → is_before_wait e t ≡ true → IsSound events (if b then record t { status = WaitingForEvent e } else failed operand_invalid t)
+waits_sound events e t true less loaded before = rw (loaded, less) before
+waits_sound events e t false less loaded before = refl
+
+-- ---- what answers that it waits is a DMAWFE
+
+abbrev WaitsFor : Result Insn FaultKind → ChanTurn × State → Type 0
+WaitsFor next x = (e : ℕ) → x.0 ≡ Waiting e → waits_for e next ≡ true
+
+either_waits : (b : Bool) (next : Result Insn FaultKind) (x y : ChanTurn × State) → WaitsFor next x → WaitsFor next y → WaitsFor next (if b then x else y)
+either_waits true next x y f g = f
+either_waits false next x y f g = g
+
+act_waits : (marks : MarkList) (i : Insn) (s : State) → WaitsFor (Ok i) (act marks i s)
+act_waits marks (Mov Sar v) s = λ e is. absurd (cc)
+act_waits marks (Mov Dar v) s = λ e is. absurd (cc)
+act_waits marks (Mov Ccr v) s = either_waits (is_control v) (Ok (Mov Ccr v)) _ _ (λ e is. absurd (cc)) (λ e is. absurd (cc))
+act_waits marks Ld s =
+    let b = source_of s.registers in
+    either_waits (nat_lt buffer_size (length s.buffer + burst_len b)) (Ok Ld) _ _ (λ e is. absurd (cc))
+    (either_waits (reaches Reading marks (length s.image) (touched b)) (Ok Ld) _ _ (λ e is. absurd (cc)) (λ e is. absurd (cc)))
+act_waits marks St s =
+    let b = destination_of s.registers in
+    either_waits (nat_lt (length s.buffer) (burst_len b)) (Ok St) _ _ (λ e is. absurd (cc))
+    (either_waits (reaches Writing marks (length s.image) (touched b)) (Ok St) _ _ (λ e is. absurd (cc)) (λ e is. absurd (cc)))
+act_waits marks (Lp c n) s = λ e is. absurd (cc)
+act_waits marks (LpEnd c back) s = either_waits (nat_lt 0 (counter_of c s.registers) && nat_lt s.registers.pc back) (Ok (LpEnd c back)) _ _ (λ e is. absurd (cc)) (λ e is. absurd (cc))
+act_waits marks (Sev k) s = λ e is. absurd (cc)
+act_waits marks (Wfe k v) s =
+    either_waits (slice_index_or s.flags k false) (Ok (Wfe k v)) _ _ (λ e is. absurd (cc))
+    (λ e is. let same : k ≡ e = cc in eq-eqb k e same)
+act_waits marks Rmb s = λ e is. absurd (cc)
+act_waits marks Wmb s = λ e is. absurd (cc)
+act_waits marks Nop s = λ e is. absurd (cc)
+act_waits marks End s = λ e is. absurd (cc)
+
+pub step_waits : (marks : MarkList) (next : Result Insn FaultKind) (s : State) → WaitsFor next (exec_fetched marks next s)
+step_waits marks (Ok i) s = act_waits marks i s
+step_waits marks (Err kind) s = λ e is. absurd (cc)
 
 -- after a step of a channel that has a program
-by_turn : (events : ℕ) (t : Thread) (turn : ChanTurn) (signal : Option ℕ) (s : State) (n : ℕ) (c : ChannelValue) → is_some c.program ≡ true → t.channel ≡ after_turn turn s n c → IsSound events (answer events t (Some turn) signal)
-by_turn events t Moved signal s n c loaded is = moved_sound events t signal (ap (λ (x : ChannelValue). is_some x.program) is ∙ loaded)
-by_turn events t (Waiting e) signal s n c loaded is = waits_sound events e t (nat_lt e events) refl (ap (λ (x : ChannelValue). is_some x.program) is ∙ loaded)
-by_turn events t Ended signal s n c loaded is = rw is refl
-by_turn events t (Fault kind) signal s n c loaded is = refl
+by_turn : (events : ℕ) (t : Thread) (turn : ChanTurn) (signal : Option ℕ) (s : State) (n : ℕ) (c : ChannelValue) → is_some c.program ≡ true → t.channel ≡ after_turn turn s n c → ((e : ℕ) → turn ≡ Waiting e → is_before_wait e t ≡ true) → IsSound events (answer events t (Some turn) signal)
+by_turn events t Moved signal s n c loaded is before = moved_sound events t signal (ap (λ (x : ChannelValue). is_some x.program) is ∙ loaded)
+by_turn events t (Waiting e) signal s n c loaded is before = waits_sound events e t (nat_lt e events) refl (ap (λ (x : ChannelValue). is_some x.program) is ∙ loaded) (before e refl)
+by_turn events t Ended signal s n c loaded is before = rw is refl
+by_turn events t (Fault kind) signal s n c loaded is before = refl
 
 moved_keeps : (turn : ChanTurn) (s : State) (n : ℕ) (c : ChannelValue) → turn ≡ Moved → (after_turn turn s n c).program ≡ c.program
 moved_keeps turn s n c is = rw is refl
@@ -74,6 +118,17 @@ unloaded_fails marks s none =
     ap (λ (o : Option ProgramValue). (exec_fetched marks (next_of (bytes_of_program o) c.registers.pc) from).0) none
     ∙ ap (λ (l : List ℕ). (exec_fetched marks (fetched (decoded l)) from).0) (drop_all c.registers.pc [] (omega arith))
 
+-- a thread whose call's last step waits is before the DMAWFE
+waits_before : (marks : MarkList) (u : Machine) (t : Thread) (e : ℕ) → answer_at marks u ≡ Waiting e → t.channel ≡ (after_step marks u).channel → u.channel.taken < last_count → t.pc ≡ (t.base + t.channel.registers.pc) % 2 ^ 32 → is_before_wait e t ≡ true
+waits_before marks u t e waits is counts pc =
+    let c = u.channel in
+    let x = step_of marks c u.image u.flags in
+    let same : t.channel ≡ c = is ∙ ap (λ (a : ChanTurn). after_turn a x.1 (stored_by (ahead_of c) c.registers) c) waits in
+    let next : waits_for e (ahead_of t.channel) ≡ true = ap (λ (d : ChannelValue). waits_for e (ahead_of d)) same ∙ step_waits marks (ahead_of c) (state_of c u.image u.flags) e waits in
+    let few : nat_lt t.channel.taken last_count ≡ true = ap (λ (d : ChannelValue). nat_lt d.taken last_count) same ∙ lt-ltb c.taken last_count counts in
+    let here : nat_eq t.pc ((t.base + t.channel.registers.pc) % 2 ^ 32) ≡ true = eq-eqb t.pc ((t.base + t.channel.registers.pc) % 2 ^ 32) pc in
+    rw (next, few, here) refl
+
 -- A thread is sound after a call of its channel, by whether that has a program.
 by_program : (marks : MarkList) (s v : Machine) (most taken events : ℕ) (last : Option ChanTurn) (t : Thread) (signal : Option ℕ) (o : Option ProgramValue) → s.channel.program ≡ o → TakesSteps marks s most taken last v → t.channel ≡ v.channel → IsSound events (answered events t last signal)
 by_program marks s v most zero events last t signal o program x is =
@@ -83,7 +138,8 @@ by_program marks s v most (suc j) events last t signal (Some p) program x is =
     let here = ap (λ (q : Option ProgramValue). is_some q) (program_kept marks s j x.moves ∙ program) in
     let ends = is ∙ ap (λ (m : Machine). m.channel) x.ends_at in
     subst (λ (l : Option ChanTurn). IsSound events (answered events t l signal)) (sym x.answer)
-    (by_turn events (record t { pc = (t.base + t.channel.registers.pc) % 2 ^ 32 }) (answer_at marks u) signal _ _ u.channel here ends)
+    (by_turn events (record t { pc = (t.base + t.channel.registers.pc) % 2 ^ 32 }) (answer_at marks u) signal _ _ u.channel here ends
+    (λ e waits. waits_before marks u (record t { pc = (t.base + t.channel.registers.pc) % 2 ^ 32 }) e waits ends (x.counts j (omega arith)) refl))
 by_program marks s v most (suc zero) events last t signal None program x is =
     subst (λ (l : Option ChanTurn). IsSound events (answered events t l signal)) (sym (x.answer ∙ ap (λ (a : ChanTurn). Some a) (unloaded_fails marks s program))) refl
 by_program marks s v most (suc (suc j)) events last t signal None program x is =
@@ -200,3 +256,13 @@ with_events d events interrupts inten h known = record {
   room = h.room;
   marks = h.marks;
 }
+
+-- so the device's value is sound
+pub is_sound_device : (d : Inside) → IsDevice d → IsSoundDevice (device_value d)
+is_sound_device d h =
+    let known = known_of d.config.events d.events d.interrupts d.inten h.known in
+    record {
+      few = few_events d.config h.config;
+      known = record { events = known.0; interrupts = known.1.0; inten = known.1.1 };
+      threads = sound_of d.config.events d.threads.items h.sound;
+    }

@@ -15,7 +15,7 @@ use Rattle.dma_device.specs.declared.thread.Thread.{Thread}
 
 -- ---- CSR
 
-read_csr : (d : DeviceValue) (n : ℕ) → n < 8 → read_at d (0x100 + 8 * n) ≡ of_thread csr (slice_get d.threads n)
+pub read_csr : (d : DeviceValue) (n : ℕ) → n < 8 → read_at d (0x100 + 8 * n) ≡ of_thread csr (slice_get d.threads n)
 read_csr d zero h = refl
 read_csr d (suc zero) h = refl
 read_csr d (suc (suc zero)) h = refl

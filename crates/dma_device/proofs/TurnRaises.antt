@@ -30,13 +30,13 @@ use Rattle.dma_device.specs.declared.thread.Thread.{Thread}
 use Rattle.dma_device.specs.Device.{DeviceValue, all_events, irqs}
 use Rattle.dma_device.specs.Interrupts.{HasLine, IsHigh}
 use Rattle.dma_device.specs.Thread.{is_too_wide, most_on}
-use Rattle.dma_device.specs.Turns.{CallsIf, CallsOne, CallsThread, CallsUnless, TakesTurn, raises, runs_at, visible_events, with_flags}
+use Rattle.dma_device.specs.Turns.{CallsIf, CallsOne, CallsThread, CallsUnless, TakesTurn, may_follow, runs_at, visible_events, with_flags}
 use Rattle.dma_device.specs.declared.device.turns.Turn.{Turn}
 use Rattle.dma_device.proofs.CallKeeps.{if_config}
 
 -- ---- one step
 
-abbrev IsClear : ℕ → List Bool → Type 0
+abbrev pub IsClear : ℕ → List Bool → Type 0
 IsClear k flags = get_or flags k false ≡ false
 
 cleared : (xs : List Bool) (e k : ℕ) → IsClear k xs → IsClear k (set xs e false)
@@ -56,7 +56,7 @@ load_clear marks addresses r s k h = chosen (reaches Reading marks (length s.ima
 store_clear : (marks : MarkList) (addresses : List ℕ) (n : ℕ) (writes : List ℕ → List (ℕ × ℕ)) (r : Registers) (s : State) (k : ℕ) → IsClear k s.flags → IsClear k (store marks addresses n writes r s).1.flags
 store_clear marks addresses n writes r s k h = chosen (reaches Writing marks (length s.image) addresses) _ _ k h h
 
-act_clear : (marks : MarkList) (i : Insn) (s : State) (k : ℕ) → IsClear k s.flags → signal_of (Ok i) ≢ Some k → IsClear k (act marks i s).1.flags
+pub act_clear : (marks : MarkList) (i : Insn) (s : State) (k : ℕ) → IsClear k s.flags → signal_of (Ok i) ≢ Some k → IsClear k (act marks i s).1.flags
 act_clear marks (Mov Sar v) s k h other = h
 act_clear marks (Mov Dar v) s k h other = h
 act_clear marks (Mov Ccr v) s k h other = chosen (is_control v) _ _ k h h
@@ -73,7 +73,7 @@ act_clear marks Wmb s k h other = h
 act_clear marks Nop s k h other = h
 act_clear marks End s k h other = h
 
-step_clear : (marks : MarkList) (next : Result Insn FaultKind) (s : State) (k : ℕ) → IsClear k s.flags → signal_of next ≢ Some k → IsClear k (exec_fetched marks next s).1.flags
+pub step_clear : (marks : MarkList) (next : Result Insn FaultKind) (s : State) (k : ℕ) → IsClear k s.flags → signal_of next ≢ Some k → IsClear k (exec_fetched marks next s).1.flags
 step_clear marks (Ok i) s k h other = act_clear marks i s k h other
 step_clear marks (Err kind) s k h other = h
 
@@ -91,13 +91,13 @@ insn_sets marks (Lp c n) s k is = absurd (cc)
 insn_sets marks (LpEnd c b) s k is = absurd (cc)
 insn_sets marks (Wfe x v) s k is = absurd (cc)
 
-step_sets : (marks : MarkList) (next : Result Insn FaultKind) (s : State) (k : ℕ) → signal_of next ≡ Some k → (exec_fetched marks next s).1.flags ≡ set s.flags k true
+pub step_sets : (marks : MarkList) (next : Result Insn FaultKind) (s : State) (k : ℕ) → signal_of next ≡ Some k → (exec_fetched marks next s).1.flags ≡ set s.flags k true
 step_sets marks (Ok i) s k is = insn_sets marks i s k is
 step_sets marks (Err kind) s k is = absurd (cc)
 
 -- ---- a call
 
-quiet : (turn : ChanTurn) (signal : Option ℕ) (k : ℕ) → goes_on turn signal ≡ true → signal ≢ Some k
+pub quiet : (turn : ChanTurn) (signal : Option ℕ) (k : ℕ) → goes_on turn signal ≡ true → signal ≢ Some k
 quiet Moved None k h is = cc
 quiet Moved (Some e) k h is = true≢false (sym h)
 quiet (Waiting x) None k h is = cc
@@ -107,7 +107,7 @@ quiet Ended (Some e) k h is = true≢false (sym h)
 quiet (Fault kind) None k h is = cc
 quiet (Fault kind) (Some e) k h is = true≢false (sym h)
 
-clear_after : (marks : MarkList) (s : Machine) (k j : ℕ) → ((i : ℕ) → i < suc j → goes_on_after marks s i ≡ true) → IsClear k s.flags → IsClear k (after_steps marks s j).flags
+pub clear_after : (marks : MarkList) (s : Machine) (k j : ℕ) → ((i : ℕ) → i < suc j → goes_on_after marks s i ≡ true) → IsClear k s.flags → IsClear k (after_steps marks s j).flags
 clear_after marks s k zero moves h = h
 clear_after marks s k (suc j) moves h =
     let u = after_steps marks s j in
@@ -115,7 +115,7 @@ clear_after marks s k (suc j) moves h =
     let went = went_before marks s (suc j) (moves (suc j) (omega arith)) in
     step_clear marks next (state_of u.channel u.image u.flags) k (clear_after marks s k j (λ i l. moves i (omega arith)) h) (quiet (answer_at marks u) (signal_of next) k went)
 
-is_signal : (signal : Option ℕ) (k : ℕ) → (signal ≡ Some k) ⊎ (signal ≢ Some k)
+pub is_signal : (signal : Option ℕ) (k : ℕ) → (signal ≡ Some k) ⊎ (signal ≢ Some k)
 is_signal None k = inr (λ is. cc)
 is_signal (Some e) k = elim (cases_eq e k) [ inl same ↦ inl (ap Some same) | inr other ↦ inr (λ is. other (cc is)) ]
 
@@ -177,10 +177,10 @@ by_bits r i f line signal k rb ib fb is flag = (
       ]),
 )
 
-flag_bit : (flags k : ℕ) → k < 32 → get_or (flags_of flags) k false ≡ true → bit_at flags k ≡ 1
+pub flag_bit : (flags k : ℕ) → k < 32 → get_or (flags_of flags) k false ≡ true → bit_at flags k ≡ 1
 flag_bit flags k below h = elim (cases_eq (bit_at flags k) 1) [ inl one ↦ one | inr other ↦ absurd (true≢false (sym h ∙ get_or-flags_of flags k below ∙ ne_eqb (bit_at flags k) 1 other)) ]
 
-no_bit : (flags k : ℕ) → k < 32 → IsClear k (flags_of flags) → bit_at flags k ≡ 0
+pub no_bit : (flags k : ℕ) → k < 32 → IsClear k (flags_of flags) → bit_at flags k ≡ 0
 no_bit flags k below h =
     let few = bit_at-lt flags k in
     elim (cases_eq (bit_at flags k) 1) [
@@ -189,7 +189,7 @@ no_bit flags k below h =
     ]
 
 -- a channel doesn't see an event that INTEN makes an interrupt
-hidden : (d : DeviceValue) (k : ℕ) → k < 32 → d.inten < 2 ^ 32 → IsHigh d.inten k → IsClear k (flags_of (visible_events d))
+pub hidden : (d : DeviceValue) (k : ℕ) → k < 32 → d.inten < 2 ^ 32 → IsHigh d.inten k → IsClear k (flags_of (visible_events d))
 hidden d k below range on =
     let out : bit_at (visible_events d) k ≡ min (bit_at d.events k) (1 - bit_at d.inten k) = bit_at_and d.events (bit_not w32 d.inten) k ∙ ap (λ (m : ℕ). min (bit_at d.events k) m) (bit_at_not w32 d.inten k range below) in
     let none : bit_at (visible_events d) k ≡ 0 = omega arith in
@@ -209,7 +209,7 @@ call_raises d t regions n most e left called k has x =
     ])
 
 -- nothing was signalled, and the lines are the same
-same_raises : (d e : DeviceValue) (signal : Option ℕ) (k : ℕ) → irqs e ≡ irqs d → signal ≡ None → CallRaises d e signal k
+pub same_raises : (d e : DeviceValue) (signal : Option ℕ) (k : ℕ) → irqs e ≡ irqs d → signal ≡ None → CallRaises d e signal k
 same_raises d e signal k lines none = (
   (λ high. inl (subst (λ (m : ℕ). IsHigh m k) lines high)),
   (λ why. elim why [ inl high ↦ subst (λ (m : ℕ). IsHigh m k) (sym lines) high | inr here ↦ absurd (let bad = sym none ∙ here.1 in cc) ]),
@@ -237,7 +237,7 @@ one_inten : (o : Option Thread) (d : DeviceValue) (regions : List Region) (n mos
 one_inten None d regions n most e left called x = absurd x
 one_inten (Some t) d regions n most e left called x = unless_inten (is_too_wide d.config.bus (ahead_of t.channel)) d t regions n most e left called x
 
-if_inten : (b : Bool) (d : DeviceValue) (regions : List Region) (n most : ℕ) (e : DeviceValue) (left : List Region) (called : Called) → CallsIf b d regions n most e left called → e.inten ≡ d.inten
+pub if_inten : (b : Bool) (d : DeviceValue) (regions : List Region) (n most : ℕ) (e : DeviceValue) (left : List Region) (called : Called) → CallsIf b d regions n most e left called → e.inten ≡ d.inten
 if_inten true d regions n most e left called x = one_inten (slice_get d.threads n) d regions n most e left called x
 if_inten false d regions n most e left called x = ap (λ (v : DeviceValue). v.inten) x.0
 
@@ -263,7 +263,7 @@ both d m e first second k same one two = (
 pub turn_raises : (d e : DeviceValue) (regions left : List Region) (n most k : ℕ) (turn : Turn) → (x : TakesTurn d regions n most e left turn) → HasLine d k → IsHigh (irqs e) k ↔ (IsHigh (irqs d) k ⊎ (IsHigh d.inten k × ((x.first.signal ≡ Some k) ⊎ (x.second.signal ≡ Some k))))
 turn_raises d e regions left n most k turn x has =
     let begins = nat_lt 0 most && runs_at d n in
-    let goes_on = raises x.middle x.first.signal && runs_at x.middle n in
+    let goes_on = may_follow x.middle n x.first && runs_at x.middle n in
     let same = if_inten begins d regions n most x.middle x.lent x.first x.call in
     let config = if_config begins d regions n most x.middle x.lent x.first x.call in
     let there : HasLine x.middle k = record {
@@ -278,11 +278,11 @@ turn_raises d e regions left n most k turn x has =
 -- a turn leaves INTEN as it is
 pub turn_inten : (d e : DeviceValue) (regions left : List Region) (n most : ℕ) (turn : Turn) → TakesTurn d regions n most e left turn → e.inten ≡ d.inten
 turn_inten d e regions left n most turn x =
-    if_inten (raises x.middle x.first.signal && runs_at x.middle n) x.middle x.lent n 1 e left x.second x.one_more
+    if_inten (may_follow x.middle n x.first && runs_at x.middle n) x.middle x.lent n 1 e left x.second x.one_more
     ∙ if_inten (nat_lt 0 most && runs_at d n) d regions n most x.middle x.lent x.first x.call
 
 -- a turn leaves the configuration as it is
 pub turn_config : (d e : DeviceValue) (regions left : List Region) (n most : ℕ) (turn : Turn) → TakesTurn d regions n most e left turn → e.config ≡ d.config
 turn_config d e regions left n most turn x =
-    if_config (raises x.middle x.first.signal && runs_at x.middle n) x.middle x.lent n 1 e left x.second x.one_more
+    if_config (may_follow x.middle n x.first && runs_at x.middle n) x.middle x.lent n 1 e left x.second x.one_more
     ∙ if_config (nat_lt 0 most && runs_at d n) d regions n most x.middle x.lent x.first x.call

@@ -1,4 +1,4 @@
--- What a write of a register makes of the lines irq[31:0].
+-- What a write of a register makes of the lines irq[31:0], and of the events that are set.
 use Rattle.std.proofs.Common.{◌≡◌, ◌≢◌, ◌∙◌, ◌⊎◌, ℕ, ◌+◌, ◌-◌, ◌%◌, ◌^◌, ◌<◌, ◌≤◌, Bool, true, false, ◌&&◌, List, set, Option, Some, None, ap, refl, sym, subst, arith, inl, inr, true≢false, bit_and, bit_or, w32, ◌*◌, ◌/◌}
 use Rattle.std.specs.Prelude.{◌↔◌, if◌then◌else◌, ◌==◌, min, max, nat_lt, slice_get, not}
 use Rattle.std.specs.Int.{bit_at, bit_not}
@@ -45,13 +45,14 @@ intclr_lowers d ram value k has =
 pub has_kept : (k : ℕ) (d e : DeviceValue) → e.config ≡ d.config → e.inten ≡ d.inten → HasLine d k → HasLine e k
 has_kept k d e config inten has = record { events = rw config has.events; event = rw config has.event; inten = rw inten has.inten }
 
--- the lines are as they were, and the device has line k
+-- the lines and the events are as they were, and the device has line k
 pub record Keeps (k : ℕ) (d e : DeviceValue) : Type 0 where
   pub lines : irqs e ≡ irqs d
+  pub events : e.events ≡ d.events
   pub has : HasLine e k
 
-kept : (k : ℕ) (d e : DeviceValue) → HasLine d k → irqs e ≡ irqs d → e.config ≡ d.config → e.inten ≡ d.inten → Keeps k d e
-kept k d e has lines config inten = record { lines = lines; has = has_kept k d e config inten has }
+kept : (k : ℕ) (d e : DeviceValue) → HasLine d k → irqs e ≡ irqs d → e.events ≡ d.events → e.config ≡ d.config → e.inten ≡ d.inten → Keeps k d e
+kept k d e has lines events config inten = record { lines = lines; events = events; has = has_kept k d e config inten has }
 
 passed : (k : ℕ) (b : Bool) (d x y : DeviceValue) → b ≡ false → Keeps k d y → Keeps k d (if b then x else y)
 passed k true d x y is h = absurd (true≢false is)
@@ -75,22 +76,64 @@ others_keep_lines d ram at value k has not_intclr not_dbgcmd =
     let others : DeviceValue = if at == 0x02C then lowered else below in
     let all : 2 ^ d.config.events ≤ 2 ^ 32 = pow_mono {i = d.config.events} {j = 32} has.events in
     let few : bit_and value (all_events d) < 2 ^ 32 = omega (arith, and_le_r value (all_events d)) in
-    either k (at == 0x020) d enabled others (record { lines = refl; has = record { events = has.events; event = has.event; inten = few } })
+    either k (at == 0x020) d enabled others (record { lines = refl; events = refl; has = record { events = has.events; event = has.event; inten = few } })
     (passed k (at == 0x02C) d lowered below (ne_eqb at 0x02C not_intclr)
     (passed k (at == 0xD04) d executed rest (ne_eqb at 0xD04 not_dbgcmd)
-    (either k (at == 0xD08) d first last (kept k d first has refl refl refl)
-    (either k (at == 0xD0C) d second d (kept k d second has refl refl refl) (kept k d d has refl refl refl)))))
+    (either k (at == 0xD08) d first last (kept k d first has refl refl refl refl)
+    (either k (at == 0xD0C) d second d (kept k d second has refl refl refl refl) (kept k d d has refl refl refl refl)))))
 
 -- ---- the debug instruction
 
--- line k is high after exactly if it was high before or P, and the configuration and INTEN are as they were
-pub record Rises (d e : DeviceValue) (k : ℕ) (P : Type 0) : Type 0 where
-  pub lines : IsHigh (irqs e) k ↔ (IsHigh (irqs d) k ⊎ P)
+-- the interrupts that are set, or the events
+abbrev pub word_of : Bool → DeviceValue → ℕ
+word_of true d = irqs d
+word_of false d = d.events
+
+-- a DMASEV of event k sets a bit of this word: INTEN makes it an interrupt, or not
+abbrev pub Sets : Bool → DeviceValue → ℕ → Type 0
+Sets true d k = IsHigh d.inten k
+Sets false d k = ¬ IsHigh d.inten k
+
+word_same : (kind : Bool) (d e : DeviceValue) → irqs e ≡ irqs d → e.events ≡ d.events → word_of kind e ≡ word_of kind d
+word_same true d e lines events = lines
+word_same false d e lines events = events
+
+-- bit k of the word is 1 after exactly if it was 1 before or P, and the configuration and INTEN are as they were
+pub record Rises (kind : Bool) (d e : DeviceValue) (k : ℕ) (P : Type 0) : Type 0 where
+  pub lines : IsHigh (word_of kind e) k ↔ (IsHigh (word_of kind d) k ⊎ P)
   pub config : e.config ≡ d.config
   pub inten : e.inten ≡ d.inten
 
-rises_same : (d e : DeviceValue) (k : ℕ) (P : Type 0) → irqs e ≡ irqs d → e.config ≡ d.config → e.inten ≡ d.inten → ¬ P → Rises d e k P
-rises_same d e k P same config inten none = record {
+module _ (kind : Bool) where
+  rises_same : (d e : DeviceValue) (k : ℕ) (P : Type 0) → irqs e ≡ irqs d → e.events ≡ d.events → e.config ≡ d.config → e.inten ≡ d.inten → ¬ P → Rises kind d e k P
+  rises_same d e k P lines events config inten none =
+      let same = word_same kind d e lines events in
+      record {
+        lines = (
+          (λ high. inl (subst (λ (m : ℕ). IsHigh m k) same high)),
+          (λ why. elim why [ inl high ↦ subst (λ (m : ℕ). IsHigh m k) (sym same) high | inr here ↦ absurd (none here) ]),
+        );
+        config = config;
+        inten = inten;
+      }
+
+  rises_iff : (d e : DeviceValue) (k : ℕ) (P Q : Type 0) → (P → Q) → (Q → P) → Rises kind d e k P → Rises kind d e k Q
+  rises_iff d e k P Q to back x = record {
+    lines = (
+      (λ high. elim (x.lines.0 high) [ inl before ↦ inl before | inr here ↦ inr (to here) ]),
+      (λ why. elim why [ inl before ↦ x.lines.1 (inl before) | inr here ↦ x.lines.1 (inr (back here)) ]),
+    );
+    config = x.config;
+    inten = x.inten;
+  }
+
+  branch : (b : Bool) (d x y : DeviceValue) (k : ℕ) (P : Type 0) → (b ≡ true → Rises kind d x k P) → (b ≡ false → Rises kind d y k P) → Rises kind d (if b then x else y) k P
+  branch true d x y k P f g = f refl
+  branch false d x y k P f g = g refl
+
+-- the word alone is the same
+rises_same_lines : (d e : DeviceValue) (k : ℕ) (P : Type 0) → irqs e ≡ irqs d → e.config ≡ d.config → e.inten ≡ d.inten → ¬ P → Rises true d e k P
+rises_same_lines d e k P same config inten none = record {
   lines = (
     (λ high. inl (subst (λ (m : ℕ). IsHigh m k) same high)),
     (λ why. elim why [ inl high ↦ subst (λ (m : ℕ). IsHigh m k) (sym same) high | inr here ↦ absurd (none here) ]),
@@ -99,19 +142,15 @@ rises_same d e k P same config inten none = record {
   inten = inten;
 }
 
-rises_iff : (d e : DeviceValue) (k : ℕ) (P Q : Type 0) → (P → Q) → (Q → P) → Rises d e k P → Rises d e k Q
-rises_iff d e k P Q to back x = record {
+rises_same_events : (d e : DeviceValue) (k : ℕ) (P : Type 0) → e.events ≡ d.events → e.config ≡ d.config → e.inten ≡ d.inten → ¬ P → Rises false d e k P
+rises_same_events d e k P same config inten none = record {
   lines = (
-    (λ high. elim (x.lines.0 high) [ inl before ↦ inl before | inr here ↦ inr (to here) ]),
-    (λ why. elim why [ inl before ↦ x.lines.1 (inl before) | inr here ↦ x.lines.1 (inr (back here)) ]),
+    (λ high. inl (subst (λ (m : ℕ). IsHigh m k) same high)),
+    (λ why. elim why [ inl high ↦ subst (λ (m : ℕ). IsHigh m k) (sym same) high | inr here ↦ absurd (none here) ]),
   );
-  config = x.config;
-  inten = x.inten;
+  config = config;
+  inten = inten;
 }
-
-branch : (b : Bool) (d x y : DeviceValue) (k : ℕ) (P : Type 0) → (b ≡ true → Rises d x k P) → (b ≡ false → Rises d y k P) → Rises d (if b then x else y) k P
-branch true d x y k P f g = f refl
-branch false d x y k P f g = g refl
 
 by_signal : (r s line : ℕ) → r < 2 → s < 2 → line ≡ max r s → (line ≡ 1) ↔ ((r ≡ 1) ⊎ (s ≡ 1))
 by_signal r s line rb sb is = (
@@ -127,15 +166,15 @@ power_is n k on =
       | inr other ↦ absurd (let off = bit_at-pow_other n k other in omega arith)
     ]
 
-signal_rises : (d : DeviceValue) (n k : ℕ) → Rises d (signalled n d) k (IsHigh d.inten k × (n ≡ k))
-signal_rises d n k =
+signal_rises : (kind : Bool) (d : DeviceValue) (n k : ℕ) → Rises kind d (signalled n d) k (Sets kind d k × (n ≡ k))
+signal_rises true d n k =
     let raised : DeviceValue = record d { interrupts = bit_or d.interrupts (2 ^ n) } in
     let sent : DeviceValue = record d { events = bit_or d.events (2 ^ n) } in
     let P = IsHigh d.inten k × (n ≡ k) in
-    branch (is_interrupt d n) d raised sent k P
+    branch true (is_interrupt d n) d raised sent k P
     (λ on.
     let high : IsHigh d.inten n = eqb-true (bit_at d.inten n) 1 on in
-    rises_iff d raised k (IsHigh (2 ^ n) k) P
+    rises_iff true d raised k (IsHigh (2 ^ n) k) P
     (λ bit. let is = power_is n k bit in (subst (λ (m : ℕ). IsHigh d.inten m) is high, is))
     (λ x. subst (λ (m : ℕ). IsHigh (2 ^ n) m) x.1 (bit_at-pow_same n))
     (record {
@@ -143,110 +182,129 @@ signal_rises d n k =
       config = refl;
       inten = refl;
     }))
-    (λ off. rises_same d sent k P refl refl refl (λ x. eqb-false (bit_at d.inten n) 1 off (subst (λ (m : ℕ). IsHigh d.inten m) (sym x.1) x.0)))
+    (λ off. rises_same_lines d sent k P refl refl refl (λ x. eqb-false (bit_at d.inten n) 1 off (subst (λ (m : ℕ). IsHigh d.inten m) (sym x.1) x.0)))
+signal_rises false d n k =
+    let raised : DeviceValue = record d { interrupts = bit_or d.interrupts (2 ^ n) } in
+    let sent : DeviceValue = record d { events = bit_or d.events (2 ^ n) } in
+    let P = ¬ IsHigh d.inten k × (n ≡ k) in
+    branch false (is_interrupt d n) d raised sent k P
+    (λ on.
+    let high : IsHigh d.inten n = eqb-true (bit_at d.inten n) 1 on in
+    rises_same_events d raised k P refl refl refl (λ x. x.0 (subst (λ (m : ℕ). IsHigh d.inten m) x.1 high)))
+    (λ off.
+    let low : ¬ IsHigh d.inten n = eqb-false (bit_at d.inten n) 1 off in
+    rises_iff false d sent k (IsHigh (2 ^ n) k) P
+    (λ bit. let is = power_is n k bit in (subst (λ (m : ℕ). ¬ IsHigh d.inten m) is low, is))
+    (λ x. subst (λ (m : ℕ). IsHigh (2 ^ n) m) x.1 (bit_at-pow_same n))
+    (record {
+      lines = by_signal (bit_at d.events k) (bit_at (2 ^ n) k) (bit_at sent.events k) (bit_at-lt d.events k) (bit_at-lt (2 ^ n) k) (bit_at_or d.events (2 ^ n) k);
+      config = refl;
+      inten = refl;
+    }))
 
--- the instruction is a DMASEV of event k, which the device has, and its thread is fine
-record ByDmasev (d : DeviceValue) (opcode byte k : ℕ) (fine : Bool) : Type 0 where
-  on : IsHigh d.inten k
-  opcode_is : opcode ≡ 0x34
-  byte_is : byte ≡ 8 * k
-  event : k < d.config.events
-  executes : fine ≡ true
+module _ (kind : Bool) where
+  -- the instruction is a DMASEV of event k, which the device has, and its thread is fine
+  record ByDmasev (d : DeviceValue) (opcode byte k : ℕ) (fine : Bool) : Type 0 where
+    on : Sets kind d k
+    opcode_is : opcode ≡ 0x34
+    byte_is : byte ≡ 8 * k
+    event : k < d.config.events
+    executes : fine ≡ true
 
-event_yes : (d : DeviceValue) (byte k : ℕ) → byte ≡ 8 * k → k < d.config.events → is_event d byte ≡ true
-event_yes d byte k is event =
-    let whole : (byte % 8 == 0) ≡ true = eq-eqb (byte % 8) 0 (omega arith) in
-    let less : nat_lt (byte / 8) d.config.events ≡ true = lt-ltb (byte / 8) d.config.events (omega arith) in
-    ap (λ (b : Bool). b && nat_lt (byte / 8) d.config.events) whole ∙ less
+  event_yes : (d : DeviceValue) (byte k : ℕ) → byte ≡ 8 * k → k < d.config.events → is_event d byte ≡ true
+  event_yes d byte k is event =
+      let whole : (byte % 8 == 0) ≡ true = eq-eqb (byte % 8) 0 (omega arith) in
+      let less : nat_lt (byte / 8) d.config.events ≡ true = lt-ltb (byte / 8) d.config.events (omega arith) in
+      ap (λ (b : Bool). b && nat_lt (byte / 8) d.config.events) whole ∙ less
 
-dmasev_rises : (d fails : DeviceValue) (opcode byte k : ℕ) (fine : Bool) → irqs fails ≡ irqs d → fails.config ≡ d.config → fails.inten ≡ d.inten → opcode ≡ 0x34 → fine ≡ true → Rises d (if is_event d byte then signalled (byte / 8) d else fails) k (ByDmasev d opcode byte k fine)
-dmasev_rises d fails opcode byte k fine same config inten is executes =
-    let P = ByDmasev d opcode byte k fine in
-    branch (is_event d byte) d (signalled (byte / 8) d) fails k P
-    (λ event.
-    let both = and_parts (byte % 8 == 0) (nat_lt (byte / 8) d.config.events) event in
-    let whole : byte % 8 ≡ 0 = eqb-true (byte % 8) 0 both.0 in
-    let less : byte / 8 < d.config.events = ltb-true (byte / 8) d.config.events both.1 in
-    rises_iff d (signalled (byte / 8) d) k (IsHigh d.inten k × (byte / 8 ≡ k)) P
-    (λ x. let there = x.1 in record { on = x.0; opcode_is = is; byte_is = omega arith; event = omega arith; executes = executes })
-    (λ x. let there = x.byte_is in (x.on, omega arith)) (signal_rises d (byte / 8) k))
-    (λ no_event. rises_same d fails k P same config inten (λ x. true≢false (sym (event_yes d byte k x.byte_is x.event) ∙ no_event)))
+  dmasev_rises : (d fails : DeviceValue) (opcode byte k : ℕ) (fine : Bool) → irqs fails ≡ irqs d → fails.events ≡ d.events → fails.config ≡ d.config → fails.inten ≡ d.inten → opcode ≡ 0x34 → fine ≡ true → Rises kind d (if is_event d byte then signalled (byte / 8) d else fails) k (ByDmasev d opcode byte k fine)
+  dmasev_rises d fails opcode byte k fine same events config inten is executes =
+      let P = ByDmasev d opcode byte k fine in
+      branch kind (is_event d byte) d (signalled (byte / 8) d) fails k P
+      (λ event.
+      let both = and_parts (byte % 8 == 0) (nat_lt (byte / 8) d.config.events) event in
+      let whole : byte % 8 ≡ 0 = eqb-true (byte % 8) 0 both.0 in
+      let less : byte / 8 < d.config.events = ltb-true (byte / 8) d.config.events both.1 in
+      rises_iff kind d (signalled (byte / 8) d) k (Sets kind d k × (byte / 8 ≡ k)) P
+      (λ x. let there = x.1 in record { on = x.0; opcode_is = is; byte_is = omega arith; event = omega arith; executes = executes })
+      (λ x. let there = x.byte_is in (x.on, omega arith)) (signal_rises kind d (byte / 8) k))
+      (λ no_event. rises_same kind d fails k P same events config inten (λ x. true≢false (sym (event_yes d byte k x.byte_is x.event) ∙ no_event)))
 
--- another instruction
-no_sev : (d : DeviceValue) (opcode byte k other : ℕ) (fine : Bool) → other ≢ 0x34 → (opcode == other) ≡ true → ¬ ByDmasev d opcode byte k fine
-no_sev d opcode byte k other fine differs is x = differs (sym (eqb-true opcode other is) ∙ x.opcode_is)
+  -- another instruction
+  no_sev : (d : DeviceValue) (opcode byte k other : ℕ) (fine : Bool) → other ≢ 0x34 → (opcode == other) ≡ true → ¬ ByDmasev d opcode byte k fine
+  no_sev d opcode byte k other fine differs is x = differs (sym (eqb-true opcode other is) ∙ x.opcode_is)
 
-not_sev : (d : DeviceValue) (opcode byte k : ℕ) (fine : Bool) → (opcode == 0x34) ≡ false → ¬ ByDmasev d opcode byte k fine
-not_sev d opcode byte k fine is x = eqb-false opcode 0x34 is x.opcode_is
+  not_sev : (d : DeviceValue) (opcode byte k : ℕ) (fine : Bool) → (opcode == 0x34) ≡ false → ¬ ByDmasev d opcode byte k fine
+  not_sev d opcode byte k fine is x = eqb-false opcode 0x34 is x.opcode_is
 
--- a thread that can't execute it
-cannot : (d : DeviceValue) (opcode byte k : ℕ) (faulting : Bool) → faulting ≡ true → ¬ ByDmasev d opcode byte k (not faulting)
-cannot d opcode byte k faulting is x = true≢false (sym x.executes ∙ ap not is)
+  -- a thread that can't execute it
+  cannot : (d : DeviceValue) (opcode byte k : ℕ) (faulting : Bool) → faulting ≡ true → ¬ ByDmasev d opcode byte k (not faulting)
+  cannot d opcode byte k faulting is x = true≢false (sym x.executes ∙ ap not is)
 
-thread_rises : (n : ℕ) (o : Option Thread) (opcode byte k : ℕ) (d : DeviceValue) → Rises d (by_thread n o opcode byte d) k (ByDmasev d opcode byte k (is_fine o))
-thread_rises n None opcode byte k d = rises_same d d k (ByDmasev d opcode byte k false) refl refl refl (λ x. true≢false (sym x.executes))
-thread_rises n (Some t) opcode byte k d =
-    let fine = not (is_faulting t) in
-    let P = ByDmasev d opcode byte k fine in
-    let invalid : DeviceValue = with_thread n (failed (operand_invalid + dbg_instr) t) d in
-    let undefined : DeviceValue = with_thread n (failed (undef_instr + dbg_instr) t) d in
-    let signals : DeviceValue = if is_event d byte then signalled (byte / 8) d else invalid in
-    let acts : DeviceValue = if opcode == 0x34 then signals else undefined in
-    let calm : DeviceValue = if is_faulting t then d else acts in
-    branch (opcode == 0x01) d (with_thread n (killed t) d) calm k P (λ is. rises_same d (with_thread n (killed t) d) k P refl refl refl (no_sev d opcode byte k 0x01 fine (λ e. omega (arith, e)) is))
-    (λ is. branch (is_faulting t) d d acts k P (λ faulting. rises_same d d k P refl refl refl (cannot d opcode byte k (is_faulting t) faulting))
-    (λ calm. branch (opcode == 0x34) d signals undefined k P (λ sev. dmasev_rises d invalid opcode byte k fine refl refl refl (eqb-true opcode 0x34 sev) (ap not calm)) (λ other. rises_same d undefined k P refl refl refl (not_sev d opcode byte k fine other))))
+  thread_rises : (n : ℕ) (o : Option Thread) (opcode byte k : ℕ) (d : DeviceValue) → Rises kind d (by_thread n o opcode byte d) k (ByDmasev d opcode byte k (is_fine o))
+  thread_rises n None opcode byte k d = rises_same kind d d k (ByDmasev d opcode byte k false) refl refl refl refl (λ x. true≢false (sym x.executes))
+  thread_rises n (Some t) opcode byte k d =
+      let fine = not (is_faulting t) in
+      let P = ByDmasev d opcode byte k fine in
+      let invalid : DeviceValue = with_thread n (failed (operand_invalid + dbg_instr) t) d in
+      let undefined : DeviceValue = with_thread n (failed (undef_instr + dbg_instr) t) d in
+      let signals : DeviceValue = if is_event d byte then signalled (byte / 8) d else invalid in
+      let acts : DeviceValue = if opcode == 0x34 then signals else undefined in
+      let calm : DeviceValue = if is_faulting t then d else acts in
+      branch kind (opcode == 0x01) d (with_thread n (killed t) d) calm k P (λ is. rises_same kind d (with_thread n (killed t) d) k P refl refl refl refl (no_sev d opcode byte k 0x01 fine (λ e. omega (arith, e)) is))
+      (λ is. branch kind (is_faulting t) d d acts k P (λ faulting. rises_same kind d d k P refl refl refl refl (cannot d opcode byte k (is_faulting t) faulting))
+      (λ calm. branch kind (opcode == 0x34) d signals undefined k P (λ sev. dmasev_rises d invalid opcode byte k fine refl refl refl refl (eqb-true opcode 0x34 sev) (ap not calm)) (λ other. rises_same kind d undefined k P refl refl refl refl (not_sev d opcode byte k fine other))))
 
-go_rises : (ram : List Piece) (nonsecure : Bool) (n : ℕ) (o : Option Thread) (d : DeviceValue) (k : ℕ) (P : Type 0) → ¬ P → Rises d (go ram nonsecure n o d) k P
-go_rises ram nonsecure n None d k P none = rises_same d (manager_failed operand_invalid d) k P refl refl refl none
-go_rises ram nonsecure n (Some t) d k P none =
-    let new : DeviceValue = with_thread n (started nonsecure d.dbginst1 (program_at ram d.dbginst1)) d in
-    branch (d.config.nonsecure && not nonsecure) d (manager_failed dmago_err d) (gone ram nonsecure n t d) k P
-    (λ refused. rises_same d (manager_failed dmago_err d) k P refl refl refl none)
-    (λ allowed. branch (is_stopped t) d new d k P (λ stopped. rises_same d new k P refl refl refl none) (λ busy. rises_same d d k P refl refl refl none))
+  go_rises : (ram : List Piece) (nonsecure : Bool) (n : ℕ) (o : Option Thread) (d : DeviceValue) (k : ℕ) (P : Type 0) → ¬ P → Rises kind d (go ram nonsecure n o d) k P
+  go_rises ram nonsecure n None d k P none = rises_same kind d (manager_failed operand_invalid d) k P refl refl refl refl none
+  go_rises ram nonsecure n (Some t) d k P none =
+      let new : DeviceValue = with_thread n (started nonsecure d.dbginst1 (program_at ram d.dbginst1)) d in
+      branch kind (d.config.nonsecure && not nonsecure) d (manager_failed dmago_err d) (gone ram nonsecure n t d) k P
+      (λ refused. rises_same kind d (manager_failed dmago_err d) k P refl refl refl refl none)
+      (λ allowed. branch kind (is_stopped t) d new d k P (λ stopped. rises_same kind d new k P refl refl refl refl none) (λ busy. rises_same kind d d k P refl refl refl refl none))
 
-manager_rises : (ram : List Piece) (opcode byte k : ℕ) (d : DeviceValue) → Rises d (by_manager ram opcode byte d) k (ByDmasev d opcode byte k (not d.manager.is_faulting))
-manager_rises ram opcode byte k d =
-    let fine = not d.manager.is_faulting in
-    let P = ByDmasev d opcode byte k fine in
-    let stopped : DeviceValue = record d { manager = record (d.manager) { is_faulting = false } } in
-    let signals : DeviceValue = if is_event d byte then signalled (byte / 8) d else manager_failed operand_invalid d in
-    let secure : DeviceValue = go ram false byte (slice_get d.threads byte) d in
-    let other : DeviceValue = go ram true byte (slice_get d.threads byte) d in
-    let undefined : DeviceValue = manager_failed undef_instr d in
-    let last : DeviceValue = if opcode == 0xA2 then other else undefined in
-    let goes : DeviceValue = if opcode == 0xA0 then secure else last in
-    let acts : DeviceValue = if opcode == 0x34 then signals else goes in
-    let calm : DeviceValue = if d.manager.is_faulting then d else acts in
-    branch (opcode == 0x01) d stopped calm k P (λ is. rises_same d stopped k P refl refl refl (no_sev d opcode byte k 0x01 fine (λ e. omega (arith, e)) is))
-    (λ is. branch (d.manager.is_faulting) d d acts k P (λ faulting. rises_same d d k P refl refl refl (cannot d opcode byte k d.manager.is_faulting faulting))
-    (λ calm. branch (opcode == 0x34) d signals goes k P (λ sev. dmasev_rises d (manager_failed operand_invalid d) opcode byte k fine refl refl refl (eqb-true opcode 0x34 sev) (ap not calm))
-    (λ none. let no = not_sev d opcode byte k fine none in
-    branch (opcode == 0xA0) d secure last k P (λ go_on. go_rises ram false byte (slice_get d.threads byte) d k P no)
-    (λ more. branch (opcode == 0xA2) d other undefined k P (λ go_on. go_rises ram true byte (slice_get d.threads byte) d k P no) (λ rest. rises_same d undefined k P refl refl refl no)))))
+  manager_rises : (ram : List Piece) (opcode byte k : ℕ) (d : DeviceValue) → Rises kind d (by_manager ram opcode byte d) k (ByDmasev d opcode byte k (not d.manager.is_faulting))
+  manager_rises ram opcode byte k d =
+      let fine = not d.manager.is_faulting in
+      let P = ByDmasev d opcode byte k fine in
+      let stopped : DeviceValue = record d { manager = record (d.manager) { is_faulting = false } } in
+      let signals : DeviceValue = if is_event d byte then signalled (byte / 8) d else manager_failed operand_invalid d in
+      let secure : DeviceValue = go ram false byte (slice_get d.threads byte) d in
+      let other : DeviceValue = go ram true byte (slice_get d.threads byte) d in
+      let undefined : DeviceValue = manager_failed undef_instr d in
+      let last : DeviceValue = if opcode == 0xA2 then other else undefined in
+      let goes : DeviceValue = if opcode == 0xA0 then secure else last in
+      let acts : DeviceValue = if opcode == 0x34 then signals else goes in
+      let calm : DeviceValue = if d.manager.is_faulting then d else acts in
+      branch kind (opcode == 0x01) d stopped calm k P (λ is. rises_same kind d stopped k P refl refl refl refl (no_sev d opcode byte k 0x01 fine (λ e. omega (arith, e)) is))
+      (λ is. branch kind (d.manager.is_faulting) d d acts k P (λ faulting. rises_same kind d d k P refl refl refl refl (cannot d opcode byte k d.manager.is_faulting faulting))
+      (λ calm. branch kind (opcode == 0x34) d signals goes k P (λ sev. dmasev_rises d (manager_failed operand_invalid d) opcode byte k fine refl refl refl refl (eqb-true opcode 0x34 sev) (ap not calm))
+      (λ none. let no = not_sev d opcode byte k fine none in
+      branch kind (opcode == 0xA0) d secure last k P (λ go_on. go_rises ram false byte (slice_get d.threads byte) d k P no)
+      (λ more. branch kind (opcode == 0xA2) d other undefined k P (λ go_on. go_rises ram true byte (slice_get d.threads byte) d k P no) (λ rest. rises_same kind d undefined k P refl refl refl refl no)))))
 
--- by a channel thread or the manager
-by_either : (b : Bool) (d threads manager : DeviceValue) (opcode byte k : ℕ) (one other : Bool) → Rises d threads k (ByDmasev d opcode byte k one) → Rises d manager k (ByDmasev d opcode byte k other) → Rises d (if b then threads else manager) k (ByDmasev d opcode byte k (if b then one else other))
-by_either true d threads manager opcode byte k one other x y = x
-by_either false d threads manager opcode byte k one other x y = y
+  -- by a channel thread or the manager
+  by_either : (b : Bool) (d threads manager : DeviceValue) (opcode byte k : ℕ) (one other : Bool) → Rises kind d threads k (ByDmasev d opcode byte k one) → Rises kind d manager k (ByDmasev d opcode byte k other) → Rises kind d (if b then threads else manager) k (ByDmasev d opcode byte k (if b then one else other))
+  by_either true d threads manager opcode byte k one other x y = x
+  by_either false d threads manager opcode byte k one other x y = y
 
--- after a write to DBGCMD line k is high exactly if it was high before, or the write executed a DMASEV of it while
--- INTEN made it an interrupt
-pub dbgcmd_raises : (d : DeviceValue) (ram : List Piece) (value k : ℕ) → Rises d (written ram 0xD04 value d) k (IsHigh d.inten k × DebugSignals d value k)
-dbgcmd_raises d ram value k =
-    let w = d.dbginst0 in
-    let opcode = field 16 8 w in
-    let byte = field 24 8 w in
-    let P = IsHigh d.inten k × DebugSignals d value k in
-    let n = field 8 3 w in
-    let o = slice_get d.threads n in
-    let threads : DeviceValue = by_thread n o opcode byte d in
-    let manager : DeviceValue = by_manager ram opcode byte d in
-    let executed : DeviceValue = if field 0 1 w == 1 then threads else manager in
-    branch (value % 4 == 0) d executed d k P
-    (λ is.
-    rises_iff d executed k (ByDmasev d opcode byte k (can_debug d)) P
-    (λ x. (x.on, record { command = eqb-true (value % 4) 0 is; dmasev = (x.opcode_is, x.byte_is); event = x.event; executes = x.executes }))
-    (λ x. record { on = x.0; opcode_is = x.1.dmasev.0; byte_is = x.1.dmasev.1; event = x.1.event; executes = x.1.executes })
-    (by_either (field 0 1 w == 1) d threads manager opcode byte k (is_fine o) (not d.manager.is_faulting) (thread_rises n o opcode byte k d) (manager_rises ram opcode byte k d)))
-    (λ is. rises_same d d k P refl refl refl (λ x. eqb-false (value % 4) 0 is x.1.command))
+  -- after a write to DBGCMD bit k of the word is 1 exactly if it was 1 before, or the write executed a DMASEV of event k
+  -- that sets it
+  pub dbgcmd_raises : (d : DeviceValue) (ram : List Piece) (value k : ℕ) → Rises kind d (written ram 0xD04 value d) k (Sets kind d k × DebugSignals d value k)
+  dbgcmd_raises d ram value k =
+      let w = d.dbginst0 in
+      let opcode = field 16 8 w in
+      let byte = field 24 8 w in
+      let P = Sets kind d k × DebugSignals d value k in
+      let n = field 8 3 w in
+      let o = slice_get d.threads n in
+      let threads : DeviceValue = by_thread n o opcode byte d in
+      let manager : DeviceValue = by_manager ram opcode byte d in
+      let executed : DeviceValue = if field 0 1 w == 1 then threads else manager in
+      branch kind (value % 4 == 0) d executed d k P
+      (λ is.
+      rises_iff kind d executed k (ByDmasev d opcode byte k (can_debug d)) P
+      (λ x. (x.on, record { command = eqb-true (value % 4) 0 is; dmasev = (x.opcode_is, x.byte_is); event = x.event; executes = x.executes }))
+      (λ x. record { on = x.0; opcode_is = x.1.dmasev.0; byte_is = x.1.dmasev.1; event = x.1.event; executes = x.1.executes })
+      (by_either (field 0 1 w == 1) d threads manager opcode byte k (is_fine o) (not d.manager.is_faulting) (thread_rises n o opcode byte k d) (manager_rises ram opcode byte k d)))
+      (λ is. rises_same kind d d k P refl refl refl refl (λ x. eqb-false (value % 4) 0 is x.1.command))

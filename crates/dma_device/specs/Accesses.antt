@@ -5,16 +5,17 @@ use Rattle.dma_mem.specs.Regions.{image_of, pieces_of, read_only_of}
 use Rattle.dma_mem.specs.declared.regions.Region.{Region}
 use Rattle.dma_chan.specs.LentRegions.{segment_of}
 use Rattle.dma_device.specs.declared.device.turns.Turn.{Turn}
-use Rattle.dma_device.specs.Device.{DeviceValue, read_at, written}
+use Rattle.dma_device.specs.Device.{DeviceValue, read_at, reset_device, written}
 use Rattle.dma_device.specs.Turns.{TakesTurn}
 
--- A read or a write of the register at an offset, a turn of channel n of at most `most` steps, or a byte that the
--- processor writes to an address of RAM.
+-- A read or a write of the register at an offset, a turn of channel n of at most `most` steps, a byte that the processor
+-- writes to an address of RAM, or a reset of the device.
 pub data Access : Type 0 where
   Reads : ℕ → Access
   Writes : ℕ → ℕ → Access
   Turns : ℕ → ℕ → Access
   Stores : ℕ → ℕ → Access
+  Resets : Access
 
 -- what an access returns
 pub data Answer : Type 0 where
@@ -39,6 +40,7 @@ Does (Stores addr byte) d regions answer e left =
     (answer ≡ Done) × (e ≡ d) × (map segment_of left ≡ map segment_of regions)
     × (read_only_of left ≡ read_only_of regions)
     × (image_of (pieces_of left) ≡ slice_set (image_of (pieces_of regions)) addr byte)
+Does Resets d regions answer e left = (answer ≡ Done) × (e ≡ reset_device d.config) × AreAlike left regions
 
 -- Accesses in a row, of which there are `count`: number k finds the device `before k` and the regions `lent k`, returns
 -- `answer k`, and leaves `before (k + 1)` and `lent (k + 1)`.

@@ -1,16 +1,14 @@
--- What a program that a DMAGO starts copies, if it is the compiled program of a transfer.
-use Rattle.std.specs.Prelude.{◌≡◌, ◌≢◌, ◌⊎◌, ℕ, ◌+◌, ◌*◌, ◌%◌, ◌^◌, ◌<◌, ◌≤◌, Bool, true, false, not, ◌&&◌, List, ◌++◌, length, slice_get, slice_index, IfSome, IsTrue, Ok}
+-- What a program that a DMAGO starts copies, if a transfer explains it.
+use Rattle.std.specs.Prelude.{◌≡◌, ◌≢◌, ◌⊎◌, ℕ, ◌+◌, ◌*◌, ◌%◌, ◌^◌, ◌<◌, ◌≤◌, Bool, true, false, not, ◌&&◌, List, ◌++◌, length, slice_get, slice_index, IfSome, IsTrue}
 use Rattle.dma_insn.specs.ControlWord.{flag}
 use Rattle.dma_mem.specs.Image.{laid}
 use Rattle.dma_mem.specs.Limits.{most_channels}
 use Rattle.dma_mem.specs.Places.{Descriptor, lies_below, size_of}
 use Rattle.dma_mem.specs.Regions.{Piece, image_of, in_order, pieces_of}
-use Rattle.dma_mem.specs.Rules.{IsTransfer}
 use Rattle.dma_mem.specs.declared.regions.Region.{Region}
-use Rattle.dma_chan.specs.Compiled.{compiled}
+use Rattle.dma_chan.specs.Explains.{Explains, next_in, traced}
 use Rattle.dma_chan.specs.LentRegions.{HaveAll}
 use Rattle.dma_chan.specs.Others.{Touches}
-use Rattle.dma_chan.specs.Traffic.{member}
 use Rattle.dma_device.specs.Device.{DeviceValue, irqs, program_at, read_at, written}
 use Rattle.dma_device.specs.Interrupts.{HasLine, IsHigh}
 use Rattle.dma_device.specs.Thread.{is_too_wide}
@@ -37,9 +35,9 @@ pub record MayGo (d : DeviceValue) (nonsecure : Bool) (n : ℕ) : Type 0 where
   pub manager : read_at d 0x030 ≡ 0
   pub allowed : (d.config.nonsecure && not nonsecure) ≡ false
 
--- the bytes that a DMAGO reads at an address begin with a transfer's program
-abbrev pub HasProgram : List Piece → ℕ → Descriptor → Type 0
-HasProgram ram addr t = (extra : List ℕ) × (program_at ram addr ≡ (compiled t).bytes ++ extra)
+-- the bytes that a DMAGO reads at an address begin with a program
+abbrev pub HasProgram : List Piece → ℕ → List ℕ → Type 0
+HasProgram ram addr program = (extra : List ℕ) × (program_at ram addr ≡ program ++ extra)
 
 -- the image of the memory that regions lend
 abbrev pub image_in : List Region → List ℕ
@@ -72,14 +70,14 @@ pub record HasInterrupted (before after : ℕ → DeviceValue) (k : ℕ) : Type 
   pub early : turn ≤ k
   pub raises : RaisesLine (before turn) (after turn) line
 
--- If the program in RAM is that of a transfer, then once CSR n reads as stopped after a turn of channel n, or once a
+-- If a transfer explains the program in RAM, then once CSR n reads as stopped after a turn of channel n, or once a
 -- line rose in one, each address that the transfer touches has the same byte as after one simultaneous copy of all the
 -- transfer's bytes in the memory at the first turn.
 abbrev pub DmagoCopies : Type 0
 DmagoCopies =
-    (t : Descriptor) (ram : List Piece) (nonsecure : Bool) (n addr : ℕ) (d : DeviceValue) (turns : ℕ)
-    (before after : ℕ → DeviceValue) (lent left : ℕ → List Region) →
-    IsTransfer t → MayGo d nonsecure n → HasProgram ram addr t →
+    (program : List ℕ) (t : Descriptor) (count : ℕ) (ram : List Piece) (nonsecure : Bool) (n addr : ℕ)
+    (d : DeviceValue) (turns : ℕ) (before after : ℕ → DeviceValue) (lent left : ℕ → List Region) →
+    Explains program t count → MayGo d nonsecure n → HasProgram ram addr program →
     TurnsAmongOthers t ram nonsecure n addr d turns before after lent left →
     (k a : ℕ) → k < turns → (csr_status (after k) n ≡ 0) ⊎ HasInterrupted before after k → Touches t a →
     slice_index (image_in (left k)) a ≡ slice_index (laid (image_in (lent 0)) t (size_of t)) a
@@ -94,19 +92,19 @@ pub record HasEvents (d : DeviceValue) (t : Descriptor) : Type 0 where
   pub wait : IfSome t.wait (λ e. e < d.config.events)
   pub signal : IfSome t.signal (λ e. e < d.config.events)
 
--- Each beat of a transfer's program fits the bus: none of its instructions is a DMAMOV CCR whose beats are too wide. On
--- a bus of 128 bits each does.
-abbrev pub FitsBus : BusWidth → Descriptor → Type 0
-FitsBus bus t = (n : ℕ) → is_too_wide bus (Ok (member t n)) ≡ false
+-- Each beat of a program fits the bus: none of its instructions up to number `count` is a DMAMOV CCR whose beats are too
+-- wide. On a bus of 128 bits each does.
+abbrev pub FitsBus : BusWidth → List ℕ → ℕ → Type 0
+FitsBus bus program count = (k : ℕ) → k ≤ count → is_too_wide bus (next_in program (traced program k)) ≡ false
 
 -- If in each turn the regions contain all addresses that the transfer touches, the device has its events, and each beat
 -- fits the bus, then CSR n never reads as faulting after a turn.
 abbrev pub DmagoNeverFails : Type 0
 DmagoNeverFails =
-    (t : Descriptor) (ram : List Piece) (nonsecure : Bool) (n addr : ℕ) (d : DeviceValue) (turns : ℕ)
-    (before after : ℕ → DeviceValue) (lent left : ℕ → List Region) →
-    IsTransfer t → MayGo d nonsecure n → HasProgram ram addr t →
+    (program : List ℕ) (t : Descriptor) (count : ℕ) (ram : List Piece) (nonsecure : Bool) (n addr : ℕ)
+    (d : DeviceValue) (turns : ℕ) (before after : ℕ → DeviceValue) (lent left : ℕ → List Region) →
+    Explains program t count → MayGo d nonsecure n → HasProgram ram addr program →
     TurnsAmongOthers t ram nonsecure n addr d turns before after lent left →
     ((k : ℕ) → k < turns → Reach (lent k) t) → ((k : ℕ) → k < turns → HasEvents (before k) t) →
-    ((k : ℕ) → k < turns → FitsBus (before k).config.bus t) →
+    ((k : ℕ) → k < turns → FitsBus (before k).config.bus program count) →
     (k : ℕ) → k < turns → csr_status (after k) n ≢ 15

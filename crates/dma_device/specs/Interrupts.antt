@@ -4,7 +4,7 @@ use Rattle.std.specs.Int.{bit_at}
 use Rattle.dma_insn.specs.ControlWord.{field}
 use Rattle.dma_mem.specs.declared.regions.Region.{Region}
 use Rattle.dma_device.specs.declared.device.turns.Turn.{Turn}
-use Rattle.dma_device.specs.Accesses.{Access, Answer, Happen, Turns, Writes}
+use Rattle.dma_device.specs.Accesses.{Access, Answer, Happen, Resets, Turns, Writes}
 use Rattle.dma_device.specs.Device.{DeviceValue, irqs}
 use Rattle.dma_device.specs.Thread.{is_faulting}
 use Rattle.dma_device.specs.declared.thread.Thread.{Thread}
@@ -59,9 +59,10 @@ Signals k a d regions e left = ⊥
 abbrev pub Raises : ℕ → Access → DeviceValue → List Region → DeviceValue → List Region → Type 0
 Raises k a d regions e left = IsHigh d.inten k × Signals k a d regions e left
 
--- An access clears interrupt k: a write to INTCLR with bit k, while bit k of INTEN is 1.
+-- An access clears interrupt k: a write to INTCLR with bit k, while bit k of INTEN is 1; or a reset.
 abbrev pub Clears : ℕ → Access → DeviceValue → Type 0
 Clears k (Writes at value) d = (at ≡ 0x02C) × (IsHigh value k × IsHigh d.inten k)
+Clears k Resets d = Unit {0}
 Clears k a d = ⊥
 
 -- ---- along the accesses

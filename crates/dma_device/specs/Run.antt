@@ -14,10 +14,10 @@ use Rattle.dma_chan.specs.declared.turn.ChanTurn.{ChanTurn}
 use Rattle.dma_device.specs.declared.thread.Thread.{Thread}
 use Rattle.dma_device.specs.declared.device.turns.Called.{Called}
 use Rattle.dma_device.specs.declared.device.turns.Turn.{Turn}
-use Rattle.dma_device.specs.Accesses.{Access, Answer, Done, Happen, Reads, Stores, Turned, Turns, Value, Writes}
-use Rattle.dma_device.specs.Device.{DeviceValue, read_at, with_thread, written}
+use Rattle.dma_device.specs.Accesses.{Access, Answer, Done, Happen, Reads, Resets, Stores, Turned, Turns, Value, Writes}
+use Rattle.dma_device.specs.Device.{DeviceValue, read_at, reset_device, with_thread, written}
 use Rattle.dma_device.specs.Thread.{answered, failed, is_too_wide, most_on, operand_invalid}
-use Rattle.dma_device.specs.Turns.{lines_differ, nothing, raises, runs_at, visible_events, with_flags}
+use Rattle.dma_device.specs.Turns.{lines_differ, may_follow, nothing, runs_at, visible_events, with_flags}
 
 -- Lent memory: its pieces, and the segments of those that are read-only.
 pub record Ram : Type 0 where
@@ -113,11 +113,11 @@ called_if wanted n most b =
 -- ---- accesses
 
 -- The board after a turn of channel n, and what the turn reports. After a call that raised an interrupt it takes one
--- more step.
+-- more step, if that may follow.
 abbrev pub turned : ℕ → ℕ → Board → Board × Answer
 turned n most b =
     let first = called_if (nat_lt 0 most) n most b in
-    let second = called_if (raises first.board.device first.called.signal) n 1 first.board in
+    let second = called_if (may_follow first.board.device n first.called) n 1 first.board in
     let turn : Turn = record {
       written = joined first.called.written second.called.written;
       lines_changed = lines_differ b.device second.board.device;
@@ -131,6 +131,7 @@ next (Writes at value) b = (record b { device = written b.ram.pieces at value b.
 next (Turns n most) b = turned n most b
 next (Stores addr byte) b =
     (record b { ram = with_image (slice_set (image_of b.ram.pieces) addr byte) b.ram }, Done)
+next Resets b = (record b { device = reset_device b.device.config }, Done)
 
 -- the board after this number of accesses
 abbrev pub run : (ℕ → Access) → Board → ℕ → Board

@@ -3,9 +3,9 @@ use Rattle.std.specs.Prelude.{◌≡◌, ℕ, ◌+◌, ◌-◌, ◌*◌, ◌%◌
 use Rattle.std.specs.Int.{bit_at}
 use Rattle.dma_insn.specs.ControlWord.{field}
 use Rattle.dma_insn.specs.declared.insn.Insn.{Insn}
-use Rattle.dma_insn.specs.declared.insn.Insn.TheVariants.{Mov}
+use Rattle.dma_insn.specs.declared.insn.Insn.TheVariants.{Mov, Wfe}
 use Rattle.dma_insn.specs.declared.insn.Reg.TheVariants.{Ccr}
-use Rattle.dma_chan.specs.Channel.{unloaded, loaded}
+use Rattle.dma_chan.specs.Channel.{ahead_of, last_count, loaded, unloaded}
 use Rattle.dma_chan.specs.Next.{next_of}
 use Rattle.dma_chan.specs.declared.turn.ChanTurn.{ChanTurn}
 use Rattle.dma_chan.specs.declared.turn.ChanTurn.TheVariants.{Moved, Waiting, Ended, Fault}
@@ -75,17 +75,29 @@ is_stopped t = is_stopped_status t.status
 abbrev pub runs : Thread → Bool
 runs t = is_some t.channel.program && not (is_faulting t)
 
--- Whether a thread of a device with this number of events can have this status, with a program or without: a stopped
--- thread has none, and one that executes or waits has one. The event for which it waits is one of the device's.
-abbrev pub has_status : ℕ → Bool → Status → Bool
-has_status events is_loaded Stopped = not is_loaded
-has_status events is_loaded Executing = is_loaded
-has_status events is_loaded (WaitingForEvent e) = is_loaded && nat_lt e events
-has_status events is_loaded Faulting = true
+-- whether an instruction is a DMAWFE of this event
+abbrev pub waits_for : ℕ → Result Insn FaultKind → Bool
+waits_for e (Ok (Wfe k invalid)) = k == e
+waits_for e next = false
+
+-- whether a thread's next instruction is a DMAWFE of this event, CPC is its address, and the program may execute it
+abbrev pub is_before_wait : ℕ → Thread → Bool
+is_before_wait e t =
+    waits_for e (ahead_of t.channel)
+    && (nat_lt t.channel.taken last_count && t.pc == (t.base + t.channel.registers.pc) % 2 ^ 32)
+
+-- Whether a thread of a device with this number of events can have this status: it has no program if it is stopped, and
+-- one if it executes or waits. The event for which it waits is one of the device's, and its next instruction is a
+-- DMAWFE of this event.
+abbrev pub has_status : ℕ → Thread → Status → Bool
+has_status events t Stopped = not (is_some t.channel.program)
+has_status events t Executing = is_some t.channel.program
+has_status events t (WaitingForEvent e) = is_some t.channel.program && (nat_lt e events && is_before_wait e t)
+has_status events t Faulting = true
 
 -- A thread is sound: it has a status that goes with its program.
 abbrev pub IsSound : ℕ → Thread → Type 0
-IsSound events t = has_status events (is_some t.channel.program) t.status ≡ true
+IsSound events t = has_status events t t.status ≡ true
 
 -- whether a status is no wait, or one for an event whose flag is set
 abbrev pub is_signalled : ℕ → Status → Bool

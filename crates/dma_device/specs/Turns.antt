@@ -5,10 +5,11 @@ use Rattle.dma_insn.specs.ControlWord.{flag}
 use Rattle.dma_mem.specs.Flags.{flags_of}
 use Rattle.dma_mem.specs.Regions.{image_of, names_of, pieces_of, read_only_of}
 use Rattle.dma_mem.specs.declared.regions.Region.{Region}
+use Rattle.dma_mem.specs.declared.segment.Segment.{Segment}
 use Rattle.dma_chan.specs.Channel.{ChannelValue, ahead_of, code_of}
 use Rattle.dma_chan.specs.LentRegions.{segment_of, with_gaps_of}
 use Rattle.dma_chan.specs.Stepping.{machine, TakesSteps, signal_after, written_after}
-use Rattle.dma_chan.specs.Written.{joined, range_at}
+use Rattle.dma_chan.specs.Written.{adjoins, joined, range_at, store_ahead}
 use Rattle.dma_chan.specs.declared.turn.ChanTurn.{ChanTurn}
 use Rattle.dma_device.specs.declared.thread.Thread.{Thread}
 use Rattle.dma_device.specs.declared.device.turns.Called.{Called}
@@ -38,6 +39,17 @@ abbrev pub raises : DeviceValue → Option ℕ → Bool
 raises d None = false
 raises d (Some e) = is_interrupt d e
 
+-- whether there is a thread that runs, and the range that its next instruction writes overlaps or touches this one, or
+-- one of them is empty
+abbrev pub is_beside : Segment → Option Thread → Bool
+is_beside range None = false
+is_beside range (Some t) = runs t && adjoins range (store_ahead t.channel)
+
+-- whether one more step may follow a call of channel `n`: the call's last step raised an interrupt, and the next step
+-- writes nothing, or in or beside the range that the call wrote (or the call wrote nothing)
+abbrev pub may_follow : DeviceValue → ℕ → Called → Bool
+may_follow d n called = raises d called.signal && is_beside called.written (slice_get d.threads n)
+
 -- whether there is a thread, and it runs
 abbrev pub runs_if : Option Thread → Bool
 runs_if None = false
@@ -46,6 +58,14 @@ runs_if (Some t) = runs t
 -- whether the device has thread `n`, and it runs
 abbrev pub runs_at : DeviceValue → ℕ → Bool
 runs_at d n = runs_if (slice_get d.threads n)
+
+-- whether the first call of a turn of at most `most` steps is made: channel `n` runs
+abbrev pub begins : DeviceValue → ℕ → ℕ → Bool
+begins d n most = nat_lt 0 most && runs_at d n
+
+-- whether the second is made, after a first call that did this and left this device
+abbrev pub follows : DeviceValue → ℕ → Called → Bool
+follows d n called = may_follow d n called && runs_at d n
 
 -- A call of channel `n`, which is thread `t`, over these regions. It executes at most `most` steps of the thread's
 -- program (`TakesSteps`). A burst fails at the gaps between the regions, a store also in a read-only region, and
@@ -99,14 +119,15 @@ lines_differ d e = not (irqs d == irqs e && flag (irq_abort d) == flag (irq_abor
 
 -- A turn of channel `n`: a call of at most `most` steps, if it runs. If the call's last step raised an interrupt, one
 -- more step is taken, which mostly is the program's DMAEND, since a driver's interrupt handler expects its channel to
--- be stopped.
+-- be stopped. A store apart from the range that the call wrote is left to the next turn, so that one range has all that
+-- was written.
 pub record TakesTurn (d : DeviceValue) (regions : List Region) (n most : ℕ) (e : DeviceValue)
     (left : List Region) (turn : Turn) : Type 0 where
   pub middle : DeviceValue
   pub lent : List Region
   pub first : Called
-  pub call : CallsIf (nat_lt 0 most && runs_at d n) d regions n most middle lent first
+  pub call : CallsIf (begins d n most) d regions n most middle lent first
   pub second : Called
-  pub one_more : CallsIf (raises middle first.signal && runs_at middle n) middle lent n 1 e left second
+  pub one_more : CallsIf (follows middle n first) middle lent n 1 e left second
   pub written : turn.written ≡ joined first.written second.written
   pub lines : turn.lines_changed ≡ lines_differ d e

@@ -3,6 +3,7 @@
 ghost use Rattle.std.specs.Prelude.{◌≡◌, ◌^◌, ◌-◌, ◌≤◌, true, length, replicate, IfErr, IfOk, OnOk, if◌then◌else◌};
 ghost use Rattle.dma_device.specs.Config.{is_valid};
 ghost use Rattle.dma_device.specs.Device.{all_events, irq_abort, irqs, reset_device};
+ghost use Rattle.dma_device.specs.Idle.{IsSoundDevice};
 ghost use Rattle.dma_device.specs.Thread.{can_step, reset_thread};
 ghost use Rattle.dma_device.specs.Turns.{visible_events};
 ghost use Rattle.std.specs.List.{list_any};
@@ -166,9 +167,11 @@ impl Device {
     }
 
     /// Returns whether any channel runs and, by its status, doesn't wait for an event whose flag is clear. If not,
-    /// nothing happens until the guest's next write, a reset or a restore.
+    /// nothing happens until the guest's next write, a reset or a restore (`laws::nothing_happens`).
     pub fn can_step(&self) -> bool
-        ensures { result ≡ list_any (can_step (visible_events self.now)) self.now.threads }
+        ensures value { result ≡ list_any (can_step (visible_events self.now)) self.now.threads }
+        // So the law `nothing_happens` holds of it.
+        ensures sound { IsSoundDevice self.now }
     {
         any_can_step(&self.threads, self.visible_events())
     }

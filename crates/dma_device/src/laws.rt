@@ -1,10 +1,16 @@
 //! Laws of devices. Each law is the postcondition of a function that does nothing.
 
 ghost use Rattle.dma_device.specs.Copies.{DmagoCopies, DmagoNeverFails};
+ghost use Rattle.dma_device.specs.Events.{EventsAreExact, TakenWasSet, WaitsForUnset};
+ghost use Rattle.dma_device.specs.Faults.{AbortIsFaulting, AbortsAreExact, FaultsAreExact};
+ghost use Rattle.dma_device.specs.Idle.{NothingHappens, StaySound};
 ghost use Rattle.dma_device.specs.Interrupts.{InterruptsAreExact};
+ghost use Rattle.dma_device.specs.Progress.{CompiledGoesOn, CompiledSignals, DmagoFinishes, DmagoSignals};
+ghost use Rattle.dma_device.specs.Snapshot.{DamageIsRefused};
 ghost use Rattle.dma_device.specs.Run.{RunsStepByStep};
+ghost use Rattle.dma_device.specs.Writes.{TurnWritesEach, TurnWritesInRegions};
 
-/// A transfer's compiled program, put into RAM and started by a DMAGO, makes one simultaneous copy of all the
+/// A program that a transfer explains, put into RAM and started by a DMAGO, makes one simultaneous copy of all the
 /// transfer's bytes, whatever the guest and other channels do meanwhile to other bytes and registers. It is done once
 /// the channel's CSR reads as stopped, or once a line that was low is high after a turn of the channel.
 pub fn a_dmago_copies()
@@ -17,13 +23,67 @@ pub fn a_dmago_never_fails()
     ensures { DmagoNeverFails }
 {}
 
+/// Such a program finishes: CSR reads as stopped after as many turns as the program executes instructions with its
+/// DMAEND, if each turn may take a step, the regions contain what the transfer touches, the device has its events, each
+/// beat fits the bus, and no turn begins at a DMAWFE of an event that isn't set. If the program has a DMASEV of an event
+/// that INTEN makes an interrupt, the event's line was high after one of the turns. For a compiled program the event
+/// that it waits for must be set only at first, and it has a DMASEV of the event that its transfer signals.
+pub fn a_dmago_finishes()
+    ensures finishes { DmagoFinishes }
+    ensures signals { DmagoSignals }
+    ensures goes_on { CompiledGoesOn }
+    ensures has_sev { CompiledSignals }
+{}
+
 /// An interrupt is neither lost nor invented. For every list of accesses after a reset, line n, and with it bit n of
 /// INTMIS, is high exactly if a channel's turn or the debug registers executed a DMASEV n while bit n of INTEN was 1,
-/// and no write to INTCLR has cleared it since. (After a restore, also if it was high in the save and no write to
-/// INTCLR has cleared it.) A write to INTCLR clears it if bit n of the value and of INTEN are 1. So no write to INTEN
+/// and no write to INTCLR has cleared it since, and no reset happened. (After a restore, also if it was high in the save
+/// and not cleared since.) A write to INTCLR clears it if bit n of the value and of INTEN are 1. So no write to INTEN
 /// makes an interrupt of an event, or an event of an interrupt.
 pub fn interrupts_are_exact()
     ensures { InterruptsAreExact }
+{}
+
+/// A turn of a channel with any program writes each address in the range that it reports as written, and no other. Each
+/// of them lies in a region that isn't read-only.
+pub fn a_turn_writes_each()
+    ensures each { TurnWritesEach }
+    ensures within { TurnWritesInRegions }
+{}
+
+/// An event is neither lost nor invented. For every list of accesses after a reset, event n is set exactly if a channel's
+/// turn or the debug registers executed a DMASEV n while bit n of INTEN was 0, and no DMAWFE has taken it since, and no
+/// reset happened. (After a restore, also if it was set in the save and not taken since.) So one DMASEV wakes one channel. What a DMAWFE
+/// takes was set, and INTEN made it an event. A channel that waits after its turn waits for an event that isn't set, or
+/// that INTEN makes an interrupt.
+pub fn events_are_exact()
+    ensures exact { EventsAreExact }
+    ensures taken { TakenWasSet }
+    ensures waits { WaitsForUnset }
+{}
+
+/// The line irq_abort is high exactly if a thread is faulting, as FSRD and FSRC read. It rises exactly at an access in
+/// which a step of a turn or a debug instruction fails, and falls exactly at the debug DMAKILL of the last thread that is
+/// faulting, or at a reset. For every list of accesses, a thread is faulting exactly if an access made it fail, and none
+/// since has killed it or was a reset.
+pub fn faults_are_exact()
+    ensures line { AbortIsFaulting }
+    ensures exact { FaultsAreExact }
+    ensures changes { AbortsAreExact }
+{}
+
+/// If no thread can step, a turn of any channel changes neither the device nor a byte of the regions, and reports no
+/// change. So nothing happens until the guest's next write, a reset or a restore. This holds of every list of accesses
+/// after a reset or a restore.
+pub fn nothing_happens()
+    ensures sound { StaySound }
+    ensures nothing { NothingHappens }
+{}
+
+/// A save in which one byte is another byte is the save of no device, unless the byte is the version and became 1. So a
+/// restore refuses each save in which a bit is flipped.
+pub fn damage_is_refused()
+    ensures { DamageIsRefused }
 {}
 
 /// For every list of register reads and writes, turns of channels, and bytes that the processor writes to RAM, in any

@@ -9,23 +9,28 @@
 //! Proved: a read returns the register that specs/Device.antt gives its offset, and a write leaves the device that it
 //! gives (`Device::read`, `write`). A turn is what specs/Turns.antt says (`step`). For every list of accesses, turns
 //! and bytes that the processor writes, in any order, each value read, each report, both kinds of lines and all of RAM
-//! are what `run` of specs/Run.antt gives, step by step (`laws::runs_step_by_step`). A save has the bytes that
-//! specs/Snapshot.antt gives the device, and restores it. `OtherDevice` is the error exactly for bytes that begin as a
-//! save of another version or configuration, and other bytes are refused exactly if they are the save of no device
-//! (`save`, `restore`).
+//! are what `run` of specs/Run.antt gives, step by step (`laws::runs_step_by_step`). A turn writes each address in the
+//! range that it reports as written, and no other (`laws::a_turn_writes_each`). A save has the bytes that
+//! specs/Snapshot.antt gives the device, and restores it; so does a save of version 1. `OtherDevice` is the error exactly
+//! for bytes that begin as a save of another version or configuration, and other bytes are refused exactly if they are
+//! the save of no device (`save`, `restore`), as is each save in which a bit is flipped (`laws::damage_is_refused`).
 //!
-//! A transfer's compiled program, put into RAM and started by a DMAGO, makes one simultaneous copy. The copy is done
-//! once the channel's CSR reads as stopped, or once a line that was low is high after one of its turns
-//! (`laws::a_dmago_copies`). Drivers write other programs: of these the laws of interrupts hold, and what
-//! specs/Turns.antt says of each turn. The compiled program never fails, if the regions contain all addresses that it
-//! touches, none that it writes is read-only, the device has its events, and each of its beats fits the bus
-//! (`laws::a_dmago_never_fails`). An interrupt is neither lost nor invented: from a reset on, its line is high exactly
-//! if a turn or the debug registers executed its DMASEV while INTEN made it an interrupt, and no write to INTCLR has
-//! cleared it since (`laws::interrupts_are_exact`).
+//! A program that a transfer explains (`dma_chan`'s specs/Explains.antt), put into RAM and started by a DMAGO, makes one
+//! simultaneous copy; a transfer explains its compiled program. The copy is done once the channel's CSR reads as stopped,
+//! or once a line that was low is high after one of its turns (`laws::a_dmago_copies`). Of other programs the laws of
+//! interrupts hold, and what specs/Turns.antt says of each turn. The program never fails, if the regions contain all
+//! addresses that the transfer touches, none that it writes is read-only, the device has its events, and each of the
+//! program's beats fits the bus (`laws::a_dmago_never_fails`). It then finishes after as many turns as it executes
+//! instructions, if no turn begins at a DMAWFE of an event that isn't set, and the line of the event of its DMASEV was
+//! high (`laws::a_dmago_finishes`).
+//!
+//! An interrupt is neither lost nor invented: from a reset on, its line is high exactly if a turn or the debug registers
+//! executed its DMASEV while INTEN made it an interrupt, and no write to INTCLR has cleared it since
+//! (`laws::interrupts_are_exact`). The same holds of events, which a DMAWFE takes (`laws::events_are_exact`), and of
+//! faulting threads and irq_abort, which a DMAKILL ends (`laws::faults_are_exact`). If no thread can step, nothing happens
+//! until the guest's next write (`laws::nothing_happens`).
 //!
 //! Not proved: that an allocation succeeds. Only [`device::Device::new`] allocates: no other method gets an allocator.
-//! Nor that a device which can't step is idle: the save of no run can have a channel that waits by its status, while
-//! its next instruction is another.
 //!
 //! # What differs from the chip
 //!
@@ -63,7 +68,8 @@
 //! - A debug instruction other than DMAGO, DMASEV and DMAKILL makes its thread faulting, since drivers write no other.
 //! - A debug DMASEV of a stopped channel signals, since only a faulting thread refuses it.
 //! - After the DMASEV of an interrupt the channel takes one more step in the same turn, mostly its DMAEND. On the chip
-//!   that follows at once, and a driver's interrupt handler expects its channel to be stopped.
+//!   that follows at once, and a driver's interrupt handler expects its channel to be stopped. A DMAST apart from what
+//!   the turn has written is left to the next turn.
 //! - A turn of a program that has, at any offset, a DMAMOV CCR with beats wider than the bus has one step (two after an
 //!   interrupt), so that each of its instructions is tested.
 //! - A program that has executed 4,294,967,295 instructions fails with `lockup_err`.

@@ -3,18 +3,20 @@
 //! [`Device::save`](crate::device::Device::save) writes them, and
 //! [`Device::restore`](crate::device::Device::restore) reads them.
 
-ghost use Rattle.std.specs.Prelude.{◌≡◌, ◌+◌, ◌≤◌, ◌++◌, length, drop};
-ghost use Rattle.std.specs.Int.{w32, from_le_bytes};
+ghost use Rattle.std.specs.Prelude.{◌≡◌, ◌↔◌, ◌+◌, ◌-◌, ◌≤◌, ◌++◌, IsTrue, length, drop, take};
+ghost use Rattle.std.specs.Int.{w32, from_le_bytes, to_le_bytes};
+ghost use Rattle.dma_chan.specs.Saved.{checksum, sealed};
 ghost use Rattle.arrayvec.specs.ArrayVec.{array_vec_len};
 
 use arrayvec::ArrayVec;
+use dma_chan::save::checksum_of;
 use thiserror::Error;
 
 pub(crate) mod head;
 pub(crate) mod threads;
 
-/// The most bytes of a save: 40 of the head, and 20 for each of 8 threads beside its channel's save.
-pub const MAX_SAVE: usize = 68200;
+/// The most bytes of a save: 40 of the head, 20 for each of 8 threads beside its channel's save, and 4 of the checksum.
+pub const MAX_SAVE: usize = 68204;
 
 // The length of the head in bytes.
 pub(crate) const HEAD_LEN: usize = 40;
@@ -45,6 +47,30 @@ pub(crate) fn push(out: &mut HeadBytes, bytes: &[u8])
     let Ok(()) = out.try_extend_from_slice(bytes) else {
         unreachable!()
     };
+}
+
+// The length in bytes of the checksum.
+pub(crate) const SUM_LEN: usize = 4;
+
+// Writes the checksum of the first `len` bytes behind them.
+pub(crate) fn seal(out: &mut [u8], len: usize)
+    requires { len + 4 ≤ length out.old }
+    ensures { out.new ≡ sealed (take len out.old) ++ drop (len + 4) out.old }
+{
+    let sum = checksum_of(&out[..len]);
+    out[len..len + SUM_LEN].copy_from_slice(&sum.to_le_bytes());
+}
+
+// Returns whether the last four of these bytes are the checksum of those before them.
+pub(crate) fn is_sealed(bytes: &[u8]) -> bool
+    requires { 4 ≤ length bytes.now }
+    ensures { IsTrue result
+        ↔ (drop (length bytes.now - 4) bytes.now
+        ≡ to_le_bytes w32 (checksum (take (length bytes.now - 4) bytes.now))) }
+{
+    let len = bytes.len() - SUM_LEN;
+    let sum = checksum_of(&bytes[..len]).to_le_bytes();
+    bytes[len..] == sum[..]
 }
 
 // Returns the four-byte number at an offset.

@@ -1,11 +1,11 @@
 //! The threads of a device: the manager and the channels.
 
-ghost use Rattle.std.specs.Prelude.{◌≡◌, ◌↔◌, ◌≤◌, ◌<◌, ◌^◌, length, IsSome, IsTrue, Some, IfOk};
+ghost use Rattle.std.specs.Prelude.{◌≡◌, ◌↔◌, ◌≤◌, ◌<◌, ◌^◌, length, IsSome, IsTrue, Ok, Some, IfOk};
 ghost use Rattle.dma_insn.specs.AssemblyText.{most_program_bytes};
 ghost use Rattle.dma_chan.specs.Channel.{ahead_of};
 ghost use Rattle.dma_device.specs.Device.{csr};
 ghost use Rattle.dma_device.specs.declared.thread.Status.{Status};
-ghost use Rattle.dma_device.specs.Thread.{IsSound, answer, answered, can_step, fault_bit, is_faulting, is_signalled, is_stopped, is_too_wide, killed, failed, moved, reset_thread, runs, started, status_bits, waited};
+ghost use Rattle.dma_device.specs.Thread.{IsSound, answer, answered, can_step, fault_bit, is_before_wait, is_faulting, is_signalled, is_stopped, is_too_wide, killed, failed, moved, reset_thread, runs, started, status_bits, waited, waits_for};
 
 use crate::config::BusWidth;
 use dma_chan::channel::Channel;
@@ -72,6 +72,16 @@ fn fault_bit(kind: FaultKind) -> u32
         FaultKind::InstrFetchErr => INSTR_FETCH_ERR,
         FaultKind::DataWriteErr => DATA_WRITE_ERR,
         FaultKind::DataReadErr => DATA_READ_ERR,
+    }
+}
+
+// Returns whether an instruction is a DMAWFE of this event.
+fn waits_for(insn: Insn, event: Event) -> bool
+    ensures { result ≡ waits_for event (Ok insn) }
+{
+    match insn {
+        Insn::Wfe { event: next, .. } => next.number() == event.number(),
+        _ => false,
     }
 }
 
@@ -172,8 +182,26 @@ impl Thread {
         match self.status {
             Status::Stopped => !is_loaded,
             Status::Executing => is_loaded,
-            Status::WaitingForEvent(event) => is_loaded && event.number() < events,
+            Status::WaitingForEvent(event) => {
+                is_loaded && event.number() < events && self.is_before_wait(event)
+            }
             Status::Faulting => true,
+        }
+    }
+
+    // Returns whether the next instruction is a DMAWFE of this event, CPC is its address, and the program may execute
+    // it.
+    fn is_before_wait(&self, event: Event) -> bool
+        requires { IsSome self.now.channel.program }
+        ensures { result ≡ is_before_wait event self.now }
+    {
+        match self.channel.ahead() {
+            Ok(next) => {
+                waits_for(next, event)
+                    && self.channel.taken() < u32::MAX
+                    && self.pc == self.base.wrapping_add(self.channel.pc())
+            }
+            Err(_) => false,
         }
     }
 

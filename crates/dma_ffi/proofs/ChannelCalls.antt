@@ -1,11 +1,11 @@
 -- Calls from C that load a transfer into a channel and step it.
-use Rattle.std.proofs.Common.{◌≡◌, ◌≢◌, ℕ, zero, suc, ◌+◌, ◌<◌, Bool, true, false, ◌||◌, List, [], ◌++◌, length, take, Option, Some, None, refl, sym, ap, ◌∙◌, subst, arith, inl, inr}
+use Rattle.std.proofs.Common.{◌≡◌, ◌≢◌, ℕ, zero, suc, ◌+◌, ◌-◌, ◌<◌, Bool, true, false, ◌||◌, List, [], ◌++◌, length, take, Option, Some, None, refl, sym, ap, ◌∙◌, subst, arith, inl, inr}
 use Rattle.std.specs.Prelude.{nat_le, IsSome, unwrap_or}
 use Rattle.std.specs.List.{list_any}
 use Rattle.std.proofs.lemmas.Bool.{and_parts, le-ltb}
 use Rattle.std.proofs.lemmas.List.{append-nil}
 use Rattle.dma_insn.specs.AssemblyText.{most_program_bytes}
-use Rattle.dma_mem.specs.Places.{Descriptor, copying, filling, lies_below}
+use Rattle.dma_mem.specs.Places.{Descriptor, copying, filling}
 use Rattle.dma_mem.specs.Refusals.{refusal_of, refusal_of_fill}
 use Rattle.dma_mem.specs.Regions.{has, in_order, pieces_of, run_from}
 use Rattle.dma_mem.specs.Rules.{IsTransfer}
@@ -16,21 +16,24 @@ use Rattle.dma_mem.specs.declared.transfer.TransferFault.TheVariants as transfer
 use Rattle.dma_mem.proofs.TransferRules.{copy-from_no_refusal, fill-from_no_refusal}
 use Rattle.dma_chan.specs.Channel.{ChannelValue}
 use Rattle.dma_chan.specs.Changes as chan
-use Rattle.dma_chan.specs.Compiled.{compiled}
-use Rattle.dma_chan.specs.Others.{IsLoadedWith, Misses}
+use Rattle.dma_chan.specs.Compiled.{compiled, cost}
+use Rattle.dma_chan.specs.Explains.{Explains, IsLoadedWith}
+use Rattle.dma_chan.specs.Others.{Misses}
 use Rattle.dma_chan.specs.Stepping.{Machine, Wrote}
 use Rattle.dma_chan.specs.Written.{KeepsOutside, LiesIn}
 use Rattle.dma_chan.specs.declared.lent.Taken.{Taken}
 use Rattle.dma_chan.specs.declared.turn.ChanTurn.{ChanTurn}
 use Rattle.dma_chan.specs.declared.turn.ChanTurn.TheVariants.{Moved, Waiting, Ended, Fault}
 use Rattle.dma_chan.specs.declared.turn.FaultKind.{FaultKind}
+use Rattle.dma_chan.proofs.AmongOthers.{Fits}
+use Rattle.dma_chan.proofs.CompiledExplained.{compiled_explained}
 use Rattle.dma_chan.proofs.CallsAmongOthers.{Runs, at_first, goes, survived}
-use Rattle.dma_chan.proofs.RegionsHave.{ends_after, gaps_miss, lies_in_regions}
+use Rattle.dma_chan.proofs.RegionsHave.{ends_after, gaps_miss}
 use Rattle.dma_chan.proofs.SinceLoads.{has_copied, leads}
 use Rattle.dma_chan.proofs.SteppedOver.{writes_each}
 use Rattle.dma_ffi.specs.declared.channel_steps.ChannelReport.{ChannelReport}
 use Rattle.dma_ffi.specs.declared.marked_channel.MarkedChannel.{MarkedChannel}
-use Rattle.dma_ffi.specs.ChannelLaws.{HasCopied, IsMade, LoadsATransfer, StepCall, StepsCopy, StepsAreCalls, StepsKeepTheRest, StepsSinceLoad, channel_of, machine_of, marked_of, marks_in, memory_of}
+use Rattle.dma_ffi.specs.ChannelLaws.{HasCopied, HasProgram, IsMade, LoadsATransfer, StepCall, StepsCopy, StepsAreCalls, StepsKeepTheRest, StepsSinceLoad, channel_of, machine_of, marked_of, marks_in, memory_of}
 use Rattle.dma_ffi.specs.Channels.{LoadsFrom, LoadsTransfer, StepsOver, marks_over, over, report_of}
 use Rattle.dma_ffi.specs.Codes.{ok_code, transfer_code}
 
@@ -48,7 +51,7 @@ refused transfers.SourceMeetsDestination e = cc
 refused transfers.BadEvent e = cc
 refused transfers.NoMemory e = cc
 
-was_loaded : (refusal : Option TransferFault) (t : Descriptor) (c d : ChannelValue) → LoadsTransfer refusal t c ok_code d → (refusal ≡ None) × IsLoadedWith t d
+was_loaded : (refusal : Option TransferFault) (t : Descriptor) (c d : ChannelValue) → LoadsTransfer refusal t c ok_code d → (refusal ≡ None) × IsLoadedWith (compiled t).bytes d
 was_loaded refusal t c d (inl h) = (h.1, (compiled t, ([], sym (append-nil (compiled t).bytes)), h.2))
 was_loaded refusal t c d (inr h) = absurd (refused (unwrap_or refusal transfers.NoMemory) h.0)
 
@@ -62,17 +65,24 @@ fill_made src dst wait signal small h =
     let fits = le-ltb 4294967296 (src + 1) (omega arith) in
     rw (fits, or_false) h
 
-was_read : (t : Descriptor) (regions : List Region) (addr : ℕ) (rest : List ℕ) (c d : ChannelValue) → take most_program_bytes (run_from (pieces_of regions) addr) ≡ (compiled t).bytes ++ rest → LoadsFrom regions addr c ok_code d → IsLoadedWith t d
-was_read t regions addr rest c d e (inl bad) = absurd (let f = bad.0 in cc)
-was_read t regions addr rest c d e (inr ok) = (record { bytes = take most_program_bytes (run_from (pieces_of regions) addr); cost = None }, (rest, e), ok.2)
+was_read : (program : List ℕ) (regions : List Region) (addr : ℕ) (rest : List ℕ) (c d : ChannelValue) → take most_program_bytes (run_from (pieces_of regions) addr) ≡ program ++ rest → LoadsFrom regions addr c ok_code d → IsLoadedWith program d
+was_read program regions addr rest c d e (inl bad) = absurd (let f = bad.0 in cc)
+was_read program regions addr rest c d e (inr ok) = (record { bytes = take most_program_bytes (run_from (pieces_of regions) addr); cost = None }, (rest, e), ok.2)
+
+has_compiled : (t : Descriptor) (c : ChannelValue) → IsTransfer t → IsLoadedWith (compiled t).bytes c → HasProgram t c
+has_compiled t c h l = ((compiled t).bytes, cost t - 1, compiled_explained t h, l)
 
 pub loads_a_transfer : LoadsATransfer
 loads_a_transfer = record {
-  copy = λ src dst wait signal c d h. let w = was_loaded (refusal_of (copying src dst wait signal)) (copying src dst wait signal) c d h in (copy-from_no_refusal src dst wait signal w.0, w.1);
+  copy = λ src dst wait signal c d h.
+      let t = copying src dst wait signal in
+      let w = was_loaded (refusal_of t) t c d h in
+      has_compiled t d (copy-from_no_refusal src dst wait signal w.0) w.1;
   fill = λ src dst wait signal c d small h.
-      let w = was_loaded (refusal_of_fill src dst wait signal) (filling src dst wait signal) c d h in
-      (fill-from_no_refusal src dst wait signal (fill_made src dst wait signal small w.0), w.1);
-  from = λ t regions addr rest c d h e loads. (h, was_read t regions addr rest c d e loads);
+      let t = filling src dst wait signal in
+      let w = was_loaded (refusal_of_fill src dst wait signal) t c d h in
+      has_compiled t d (fill-from_no_refusal src dst wait signal (fill_made src dst wait signal small w.0)) w.1;
+  from = λ program t n regions addr rest c d h e loads. (program, n, h, was_read program regions addr rest c d e loads);
 }
 
 -- ---- reports
@@ -219,8 +229,14 @@ module _ (t : Descriptor) (count : ℕ) (calls : ℕ → StepCall) (run : StepsS
   abbrev first : List ℕ
   first = memory_of (calls 0).lent
 
-  rules : IsTransfer t
-  rules = run.begins.0
+  abbrev program : List ℕ
+  program = run.begins.0
+
+  abbrev last_number : ℕ
+  last_number = run.begins.1
+
+  explains : Explains program t last_number
+  explains = run.begins.2
 
   does : (k : ℕ) → k < count → Took (calls k)
   does k l = took (calls k) (run.succeeds k l) (run.steps k l)
@@ -228,10 +244,10 @@ module _ (t : Descriptor) (count : ℕ) (calls : ℕ → StepCall) (run : StepsS
   ordered : (k : ℕ) → k < count → in_order (pieces_of (calls k).lent.regions) ≡ true
   ordered k l = ordered_in (calls k) (does k l)
 
-  below : (k : ℕ) → k < count → lies_below t (length (memory_of (calls k).lent)) ≡ true
-  below k l = lies_in_regions (calls k).lent.regions t rules (ordered k l) (run.have k l)
+  below : (k : ℕ) → k < count → Fits t (length (memory_of (calls k).lent))
+  below k l = λ a i. omega (arith, ends_after 0 (pieces_of (calls k).lent.regions) a (ordered k l) ((run.have k l).touched a i))
 
-  first_below : (k : ℕ) → k < count → lies_below t (length first) ≡ true
+  first_below : (k : ℕ) → k < count → Fits t (length first)
   first_below k l = below 0 (omega arith)
 
   abbrev the_call : (k : ℕ) → k < count → chan.Call
@@ -240,22 +256,22 @@ module _ (t : Descriptor) (count : ℕ) (calls : ℕ → StepCall) (run : StepsS
   does_it : (k : ℕ) (l : k < count) → chan.DoesCall (the_call k l)
   does_it k l = does_call 0 (calls k) (does k l)
 
-  along : (k : ℕ) → k < count → Runs t first (machine_of (calls k).lent)
-  along zero l = at_first t first (machine_of (calls 0).lent) rules (first_below 0 l) run.begins.1 refl
+  along : (k : ℕ) → k < count → Runs program t last_number first (machine_of (calls k).lent)
+  along zero l = at_first program t last_number first (machine_of (calls 0).lent) (first_below 0 l) run.begins.3 refl
   along (suc k) l =
       let e : k + 1 ≡ suc k = omega arith in
       let less : k + 1 < count = omega arith in
       let here : k < count = omega arith in
-      let led = leads t first rules (first_below k here) (the_call k here) (along k here) (does_it k here) in
+      let led = leads program t last_number first explains (first_below k here) (the_call k here) (along k here) (does_it k here) in
       let some : IsSome (channel_of (calls k).left).program = subst (λ (c : ChannelValue). IsSome c.program) (run.goes_on k less) (does_it (k + 1) less).is_loaded in
-      subst (λ (j : ℕ). Runs t first (machine_of (calls j).lent)) e
-      (survived t first (machine_of (calls k).left) (machine_of (calls (k + 1)).lent) (goes t first (the_call k here).last (machine_of (calls k).left) led some) (run.goes_on k less) (λ a i. run.unchanged k a less i) (below (k + 1) less))
+      subst (λ (j : ℕ). Runs program t last_number first (machine_of (calls j).lent)) e
+      (survived program t last_number first (machine_of (calls k).left) (machine_of (calls (k + 1)).lent) (goes program t last_number first (the_call k here).last (machine_of (calls k).left) led some) (run.goes_on k less) (λ a i. run.unchanged k a less i) (below (k + 1) less))
 
   copied : (k : ℕ) → k < count → HasCopied t first (calls k)
   copied k l =
       let d = does k l in
       let call = calls k in
-      let all = has_copied t first rules (first_below k l) (the_call k l) (along k l) (does_it k l) in
+      let all = has_copied program t last_number first explains (first_below k l) (the_call k l) (along k l) (does_it k l) in
       let said = d.3.reported in
       let pc = d.1.channel.registers.pc in
       record {

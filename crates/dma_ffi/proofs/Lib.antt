@@ -8,6 +8,7 @@ pub mod Casts
 pub mod Returns
 pub mod OnChannels
 pub mod ChannelCalls
+pub mod DeviceTurns
 pub mod CallsMade
 pub mod CanBeMade
 pub mod Exchanges

@@ -5,15 +5,14 @@ use Rattle.dma_mem.specs.Places.{Descriptor, copying, destinations, end_of_addre
 use Rattle.dma_mem.specs.Flags.{flags_of}
 use Rattle.dma_mem.specs.Marking.{MarkList}
 use Rattle.dma_mem.specs.Regions.{has, image_of, pieces_of, run_from}
-use Rattle.dma_mem.specs.Rules.{IsTransfer}
 use Rattle.dma_mem.specs.declared.regions.Region.{Region}
 use Rattle.dma_mem.specs.declared.segment.Segment.{Segment}
 use Rattle.dma_insn.specs.AssemblyText.{most_program_bytes}
 use Rattle.dma_chan.specs.Changes.{Call, DoesCall, HasFirst, bytes_in}
 use Rattle.dma_chan.specs.Channel.{ChannelValue, unloaded}
-use Rattle.dma_chan.specs.Compiled.{compiled}
+use Rattle.dma_chan.specs.Explains.{Explains, IsLoadedWith}
 use Rattle.dma_chan.specs.LentRegions.{HaveAll}
-use Rattle.dma_chan.specs.Others.{IsLoadedWith, Misses, Touches}
+use Rattle.dma_chan.specs.Others.{Misses, Touches}
 use Rattle.dma_chan.specs.Stepping.{Machine, Wrote, machine}
 use Rattle.dma_chan.specs.Written.{KeepsOutside, LiesIn}
 use Rattle.dma_ffi.specs.declared.channel_steps.ChannelReport.{ChannelReport}
@@ -23,19 +22,20 @@ use Rattle.dma_ffi.specs.Codes.{ok_code}
 
 -- ---- loads
 
--- A channel into which a program was just loaded that begins with the program of a transfer, which meets the rules.
+-- A channel into which a program was just loaded that begins with one that a transfer explains.
 abbrev pub HasProgram : Descriptor → ChannelValue → Type 0
-HasProgram t c = IsTransfer t × IsLoadedWith t c
+HasProgram t c = (program : List ℕ) × (n : ℕ) × Explains program t n × IsLoadedWith program c
 
--- A load that returns `ok_code` gives the channel the program of a transfer: a load of a copy; of a fill whose byte has
--- a 32-bit address; or from memory, if the bytes that it reads begin with the transfer's program.
+-- A load that returns `ok_code` gives the channel a program that a transfer explains: a load of a copy; of a fill whose
+-- byte has a 32-bit address; or from memory, if the bytes that it reads begin with a program that the transfer explains.
 pub record LoadsATransfer : Type 0 where
   pub copy : (src dst : List Segment) (wait signal : Option ℕ) (c d : ChannelValue) →
       LoadsCopy (copying src dst wait signal) c ok_code d → HasProgram (copying src dst wait signal) d
   pub fill : (src : ℕ) (dst : List Segment) (wait signal : Option ℕ) (c d : ChannelValue) → src < end_of_addresses →
       LoadsFill src dst wait signal c ok_code d → HasProgram (filling src dst wait signal) d
-  pub from : (t : Descriptor) (regions : List Region) (addr : ℕ) (rest : List ℕ) (c d : ChannelValue) → IsTransfer t →
-      take most_program_bytes (run_from (pieces_of regions) addr) ≡ (compiled t).bytes ++ rest →
+  pub from : (program : List ℕ) (t : Descriptor) (n : ℕ) (regions : List Region) (addr : ℕ) (rest : List ℕ)
+      (c d : ChannelValue) → Explains program t n →
+      take most_program_bytes (run_from (pieces_of regions) addr) ≡ program ++ rest →
       LoadsFrom regions addr c ok_code d → HasProgram t d
 
 -- ---- steps
@@ -109,9 +109,9 @@ abbrev pub StepsAreCalls : Type 0
 StepsAreCalls =
     (ch : ℕ) (from : StepCall) → IsMade from → from.code ≡ ok_code → (call : Call) × IsCallOf ch from call
 
--- ---- of a transfer's program
+-- ---- of a program that copies
 
--- Calls from C that step a channel into which a transfer's program was just loaded. Each call succeeds, and is lent
+-- Calls from C that step a channel into which a program was just loaded that a transfer explains. Each call succeeds, and is lent
 -- regions with all addresses that the transfer touches, of which none that it writes is read-only. Between two calls,
 -- nobody else writes at these addresses or changes the channel. The regions, their other bytes, the flags and the
 -- channel's marks may change.

@@ -186,6 +186,10 @@ abbrev pub found_code : {A : Type 0} → ℤ → Option A → ℤ
 found_code missing None = missing
 found_code missing (Some x) = ok_code
 
+-- no copy explains the program
+abbrev pub unexplained : ℤ
+unexplained = minus 70
+
 -- ---- other numbers
 
 -- the kind of mark with this number, if any

@@ -1,14 +1,16 @@
 -- What a call from C on a device does and returns.
-use Rattle.std.specs.Prelude.{◌≡◌, ℕ, ◌≤◌, ◌⊎◌, ◌==◌, Bool, true, false, not, ℤ, Option, Some, None, IsSomeAnd, if◌then◌else◌, List, Result, Ok, Err, length, min}
+use Rattle.std.specs.Prelude.{◌≡◌, ◌≢◌, ℕ, ◌≤◌, ◌⊎◌, ◌==◌, Bool, true, false, not, ℤ, Option, Some, None, IsSomeAnd, if◌then◌else◌, List, Result, Ok, Err, length, min}
 use Rattle.std.specs.List.{list_any}
-use Rattle.dma_mem.specs.Regions.{pieces_of}
+use Rattle.dma_mem.specs.Regions.{image_of, pieces_of}
 use Rattle.dma_mem.specs.declared.regions.Region.{Region}
-use Rattle.dma_device.specs.Accesses.{Does, Done, Reads, Turned, Turns, Value, Writes}
+use Rattle.dma_chan.specs.Written.{KeepsOutside, LiesIn}
+use Rattle.dma_device.specs.Accesses.{Does, Done, Reads, Resets, Turned, Turns, Value, Writes}
 use Rattle.dma_device.specs.Config.{is_valid}
 use Rattle.dma_device.specs.Device.{DeviceValue, irq_abort, read_at, reset_device, written}
-use Rattle.dma_device.specs.Snapshot.{IsDeviceValue, IsOfOther, most_saved, saved_device}
+use Rattle.dma_device.specs.Snapshot.{IsDeviceValue, IsOfOther, IsSavedAs, most_saved, saved_device}
 use Rattle.dma_device.specs.Thread.{can_step}
 use Rattle.dma_device.specs.Turns.{TakesTurn, visible_events}
+use Rattle.dma_device.specs.Writes.{TurnWrote}
 use Rattle.dma_device.specs.declared.config.BusWidth.{BusWidth}
 use Rattle.dma_device.specs.declared.config.BusWidth.TheVariants.{Bits32, Bits64, Bits128}
 use Rattle.dma_device.specs.declared.config.Config.{Config}
@@ -19,8 +21,8 @@ use Rattle.dma_device.specs.declared.save.RestoreFault.{RestoreFault}
 use Rattle.dma_device.specs.declared.save.RestoreFault.TheVariants.{BadSave, OtherDevice}
 use Rattle.dma_ffi.specs.declared.device_config.DeviceConfig.{DeviceConfig}
 use Rattle.dma_ffi.specs.declared.device_calls.DeviceTurn.{DeviceTurn}
-use Rattle.dma_ffi.specs.Calls.{OnOpen, WritesValue}
-use Rattle.dma_ffi.specs.Channels.{are_usable}
+use Rattle.dma_ffi.specs.Calls.{Becomes, OnOpen, WritesValue}
+use Rattle.dma_ffi.specs.Channels.{StayInPlace, are_usable}
 use Rattle.dma_ffi.specs.Codes.{already_open, bad_config, bad_regions, bad_save, no_memory, not_open, ok_code, other_device}
 
 -- ---- the configuration
@@ -110,17 +112,37 @@ ReportsTurn n most (Some d) regions before code new left report =
     ⊎ ((code ≡ ok_code) × (are_usable regions ≡ true) × IsSomeAnd new (λ e. (turn : Turn)
     × TakesTurn d regions n most e left turn × (report ≡ report_of turn e)))
 
+-- A call from C that takes a turn, of a channel with any program: if it returns `ok_code`, one of the turn's steps wrote
+-- each address in the range that it reports as written, and no byte outside the range has changed. Else nothing has
+-- changed. In either case the regions keep their places.
+pub record KeepsTheRest (n most : ℕ) (old : Option DeviceValue) (regions : List Region) (before : DeviceTurn) (code : ℤ)
+    (new : Option DeviceValue) (left : List Region) (report : DeviceTurn) : Type 0 where
+  pub kept : code ≡ ok_code → KeepsOutside report.written (image_of (pieces_of regions)) (image_of (pieces_of left))
+  pub each : (a : ℕ) → code ≡ ok_code → LiesIn report.written a →
+      (d : DeviceValue) × (e : DeviceValue) × (turn : Turn) × (old ≡ Some d) × (new ≡ Some e)
+      × TurnWrote d regions n most e left turn a
+  pub in_place : StayInPlace regions left
+  pub refused : code ≢ ok_code → (new ≡ old) × (left ≡ regions) × (report ≡ before)
+
+-- Each such call keeps the rest.
+abbrev pub TurnsKeepTheRest : Type 0
+TurnsKeepTheRest =
+    (n most : ℕ) (old : Option DeviceValue) (regions : List Region) (before : DeviceTurn) (code : ℤ)
+    (new : Option DeviceValue) (left : List Region) (report : DeviceTurn) →
+    ReportsTurn n most old regions before code new left report →
+    KeepsTheRest n most old regions before code new left report
+
 -- ---- saves
 
--- The save has at most 68,200 bytes, and the device satisfies what every device does.
+-- The save has at most 68,204 bytes, and the device satisfies what every device does.
 abbrev pub FitsSave : DeviceValue → Type 0
 FitsSave d = (length (saved_device d) ≤ most_saved) × IsDeviceValue d
 
--- The bytes are the save of this device, which has this configuration.
+-- The bytes are the save of this device, which has this configuration, in this version or in version 1.
 pub record IsSaveOf (save : List ℕ) (g : Config) (d : DeviceValue) : Type 0 where
   pub value : IsDeviceValue d
   pub config : d.config ≡ g
-  pub bytes : save ≡ saved_device d
+  pub bytes : IsSavedAs save d
 
 -- the code of the answer to a restore
 abbrev pub restore_code : {A : Type 0} → Result A RestoreFault → ℤ
@@ -134,7 +156,7 @@ restore_code (Err BadSave) = bad_save
 -- state after a reset.
 abbrev pub Restores : List ℕ → DeviceValue → ℤ → DeviceValue → Type 0
 Restores save d code e =
-    ((code ≡ ok_code) × (save ≡ saved_device e) × (e.config ≡ d.config)
+    ((code ≡ ok_code) × IsSavedAs save e × (e.config ≡ d.config)
     × ((f : DeviceValue) → IsSaveOf save d.config f → e ≡ f))
     ⊎ (((code ≡ other_device) × IsOfOther d.config save × (e ≡ d))
     ⊎ ((code ≡ bad_save) × (¬ IsOfOther d.config save) × ((f : DeviceValue) → ¬ IsSaveOf save d.config f)
@@ -143,7 +165,7 @@ Restores save d code e =
 -- ---- as accesses
 
 -- Calls from C on an open device are accesses (specs/Accesses.antt of dma_device): a read; a write that returns
--- `ok_code`; and a turn that returns `ok_code`, of which C gets the report.
+-- `ok_code`; a turn that returns `ok_code`, of which C gets the report; and a reset.
 pub record CallsAreAccesses : Type 0 where
   pub reads : (d : DeviceValue) (at before value : ℕ) (code : ℤ) (new : Option DeviceValue) (regions : List Region) →
       WritesValue (λ (e : DeviceValue). read_at e at) (Some d) code before value new →
@@ -154,3 +176,6 @@ pub record CallsAreAccesses : Type 0 where
   pub turns : (d e : DeviceValue) (n most : ℕ) (regions left : List Region) (before report : DeviceTurn) →
       ReportsTurn n most (Some d) regions before ok_code (Some e) left report →
       (turn : Turn) × (report ≡ report_of turn e) × Does (Turns n most) d regions (Turned turn) e left
+  pub resets : (d : DeviceValue) (code : ℤ) (new : Option DeviceValue) (regions : List Region) →
+      Becomes (λ (e : DeviceValue). reset_device e.config) (Some d) code new →
+      (e : DeviceValue) × (new ≡ Some e) × Does Resets d regions Done e regions

@@ -9,4 +9,5 @@ pub mod Channels
 pub mod Devices
 pub mod Laws
 pub mod ChannelLaws
+pub mod Explaining
 pub mod inner

@@ -25,7 +25,8 @@ use std::alloc::Global;
 #[repr(C)]
 #[derive(Clone, Copy)]
 pub struct DeviceTurn {
-    /// The smallest range that contains all addresses that it wrote; its length is 0 if it wrote nothing.
+    /// The range that it wrote; its length is 0 if it wrote nothing. Each byte in it was written, and no other byte of
+    /// the regions was.
     pub written: Segment,
     /// 1 if a line of irq[31:0], or irq_abort, has changed, else 0.
     pub lines_changed: u32,
@@ -221,8 +222,8 @@ fn code_of_restore(answer: Result<(), RestoreFault>) -> i32
     }
 }
 
-/// Restores the device from a save. Fails if the save is of a device of another version or configuration. Fails too if
-/// the bytes are the save of no device, and then the device is in its state after a reset.
+/// Restores the device from a save of this version or of version 1. Fails if the save is of a device of another version
+/// or configuration. Fails too if the bytes are the save of no device, and then the device is in its state after a reset.
 #[unsafe(no_mangle)]
 pub extern "C" fn dma330_device_restore(kept: &mut KeptDevice, save: &[u8]) -> i32
     ensures { OnOpen (Restores save.now) kept.old.device.value result kept.new.device.value }

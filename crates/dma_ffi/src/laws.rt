@@ -1,7 +1,7 @@
 //! Laws about what calls from C return and write. Each law is the clause of a function that does nothing.
 
 ghost use Rattle.dma_ffi.specs.ChannelLaws.{LoadsATransfer, StepsAreCalls, StepsCopy, StepsKeepTheRest};
-ghost use Rattle.dma_ffi.specs.Devices.{CallsAreAccesses};
+ghost use Rattle.dma_ffi.specs.Devices.{CallsAreAccesses, TurnsKeepTheRest};
 ghost use Rattle.dma_ffi.specs.Laws.{CallsAreTheEngines, ExchangesAreTheEngines, SessionsAreTheEngines};
 
 /// A call from C on an open controller is answered by a list of the engine's own calls. So what is proved of such
@@ -31,7 +31,13 @@ pub fn channel_calls_copy()
 {}
 
 /// Calls from C on an open device are accesses of the laws of `dma_device`. So what these say of lists of accesses
-/// holds of C's reads, writes and turns over the same regions, between which no call resets or restores the device.
+/// holds of C's reads, writes, turns and resets over the same regions, between which no call restores the device.
 pub fn device_calls_are_accesses()
     ensures { CallsAreAccesses }
+{}
+
+/// A turn of a device's channel from C, whatever its program is, changes no byte outside the range that it reports, and
+/// one of its steps wrote each address in this range.
+pub fn device_turns_keep_the_rest()
+    ensures { TurnsKeepTheRest }
 {}

@@ -22,6 +22,7 @@ mod controller;
 pub mod controller_calls;
 pub mod device_calls;
 mod device_config;
+pub mod explaining;
 mod heap_pointer;
 mod kept;
 mod kept_channel;

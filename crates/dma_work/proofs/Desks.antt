@@ -27,7 +27,7 @@ use Rattle.dma_engine.proofs.Checkpoint.{accepted, checkpoints_keep}
 use Rattle.dma_engine.proofs.Sizes.{many-channels, size-object}
 use Rattle.dma_engine.proofs.CookieCounts.{boards_count, base_counts_bounded, submits_add, terminates_add, ticks_name_channels}
 use Rattle.dma_work.specs.declared.worker.Totals.{Totals}
-use Rattle.dma_work.specs.Desk.{stepped_book}
+use Rattle.dma_work.specs.Desk.{Names, stepped_book}
 use Rattle.dma_work.specs.inner.DeskKept.{IsKept}
 use Rattle.dma_work.specs.inner.Published.{EditionState, HasActed, PublisherState, edition_and, edition_with}
 use Rattle.dma_work.specs.Ticks.{AreFinished, IsGiven, base_of, board_from, eight}
@@ -213,6 +213,19 @@ module _ (s f bytes many : ℕ) (base : Board) (log : Book) where
         bytes_are = ap size next ∙ k.bytes_are;
         many_are = ap channels next ∙ length-map (object_of old.view).channels forget ∙ k.many_are;
       })
+
+-- The same desk under a new name, with an empty book.
+pub kept_anew : (s f bytes many steps finished size_now many_now : ℕ) (base base_now : Board) (log log_now : Book) (engine : EngineState) (p : PublisherState) (b e : Totals) → IsKept s f bytes many base log engine p b → Names steps finished size_now many_now base_now log_now (record { engine = engine; base = base; log = log }) → (e.steps ≡ 0) × (e.finished ≡ 0) × (e.terminated ≡ 0) → IsKept steps finished size_now many_now base_now log_now engine p e
+kept_anew s f bytes many steps finished size_now many_now base base_now log log_now engine p b e k names none = record {
+  shown = rw (names.4, names.5) k.shown;
+  pending = k.pending;
+  opens = rw names.4 k.opens;
+  small = rw names.4 k.small;
+  counted = omega (arith, names.0, none.0);
+  done = omega (arith, names.1, none.1, none.2);
+  bytes_are = sym names.2;
+  many_are = sym names.3;
+}
 
 -- The published board has the engine's own counts of each channel.
 pub board_counts : (base : Board) (before : List Tick) (v : View) → board_from base before ≡ base_of v → IsSound v → (ch : ℕ) → ch < channels v → counts (board_from base (before ++ ticks_of v.history)) ch ≡ counts_of (channel (object_of v) ch)

@@ -2,11 +2,13 @@
 use Rattle.std.specs.Prelude.{◌≡◌, ◌≢◌, ◌⊎◌, ℕ, ◌+◌, List, ◌++◌, Result}
 use Rattle.std.specs.List.{sum_by}
 use Rattle.logbook.specs.Pages.{Book}
-use Rattle.dma_engine.specs.Answer.{StepAnswers}
+use Rattle.dma_mem.specs.declared.call.Call.{Call}
+use Rattle.dma_engine.specs.Answer.{CallAnswers, StepAnswers}
 use Rattle.dma_engine.specs.Laws.{steps_in, finishes_in}
 use Rattle.dma_engine.specs.Object.{finished_all}
 use Rattle.dma_engine.specs.Ticks.{Board, Tick, ticks_of}
 use Rattle.dma_engine.specs.View.{EngineState, IsSound, View, channels, memory_of, object_of, size}
+use Rattle.dma_engine.specs.declared.call.Reply.{Reply}
 use Rattle.dma_engine.specs.declared.fault.EngineFault.{EngineFault}
 use Rattle.dma_engine.specs.declared.turn.Turn.{Turn}
 use Rattle.dma_work.specs.declared.worker.Totals.{Totals}
@@ -44,6 +46,10 @@ Names steps finished bytes many base log p =
 -- The book is unchanged, and so are the ticks that were published before those of the history.
 abbrev pub SameBook : DeskState → DeskState → Type 0
 SameBook old new = (new.book ≡ old.book) × (new.before ≡ old.before)
+
+-- A call that publishes nothing: the engine's answer, and nothing else changes.
+abbrev pub Answers : DeskState → Call → Reply → DeskState → Type 0
+Answers old call reply new = CallAnswers old.engine.view call reply new.engine.view × SameBook old new
 
 -- an empty book
 abbrev pub no_totals : Totals

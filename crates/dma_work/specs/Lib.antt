@@ -5,5 +5,6 @@ pub mod Known
 pub mod Desk
 pub mod Tallies
 pub mod Rotation
+pub mod Taken
 pub mod Laws
 pub mod inner

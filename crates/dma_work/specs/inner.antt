@@ -4,3 +4,4 @@ pub mod TickForms
 pub mod Published
 pub mod DeskKept
 pub mod Begun
+pub mod InTurn

@@ -1,6 +1,6 @@
 //! The desk: an engine, a book of totals, and the publisher of what status readers see.
 
-ghost use Rattle.std.specs.Prelude.{◌≡◌, ◌+◌, ◌<◌, [], IfOk, IfErr, IfSome, OnErr, OnOk};
+ghost use Rattle.std.specs.Prelude.{◌≡◌, ◌+◌, ◌<◌, [], IfOk, IfErr, IfSome, IsTrue, OnErr, OnOk};
 ghost use Rattle.dma_mem.specs.Rules.{IsTransfer};
 ghost use Rattle.dma_engine.specs.Answer.{CallAnswers, StepAnswers, checked, reply_of, submit_fault};
 ghost use Rattle.dma_engine.specs.Laws.{IsQuiet};
@@ -10,11 +10,15 @@ ghost use Rattle.dma_engine.specs.View.{memory_of, object_of};
 ghost use Rattle.dma_work.specs.Desk.{Differ, IsSettled, IsSoundOf, Names, SameBook, counted, new_tally, no_totals, published, stepped_book};
 ghost use Rattle.dma_work.specs.Known.{knows};
 ghost use Rattle.dma_work.specs.Laws.{AreCounts};
+ghost use Rattle.dma_work.specs.Taken.{TookAllTurns};
 ghost use Rattle.dma_work.specs.Ticks.{base_of, board_from};
+
+mod host_calls;
 
 use crate::log::{Change, Tick};
 use crate::publisher::{Parts, Publisher};
 use crate::reader::{Closed, Receipt, StatusReader, Ticket};
+use crate::rota::{Rota, Seats};
 use crate::worker::{Tally, Totals};
 use dma_engine::{Call, Engine, EngineFault, Reply, SubmitFault, Turn};
 use dma_mem::transfer::Transfer;
@@ -22,11 +26,14 @@ use std::marker::{Brand, Model, PhantomData};
 use std::sync::Wait;
 
 /// Names a desk by the log of its published list, the counts with which this list begins, and the engine's step count,
-/// number of finished cookies, memory size and number of channels when the desk was made.
+/// number of finished cookies, memory size, number of channels and view when the desk was made, and by the jobs of its
+/// rota, if it has one.
 pub trait DeskName {
-    ghost use Rattle.std.specs.Prelude.{ℕ};
+    ghost use Rattle.std.specs.Prelude.{ℕ, List};
     ghost use Rattle.logbook.specs.Pages.{Book};
     ghost use Rattle.dma_engine.specs.Ticks.{Board};
+    ghost use Rattle.dma_engine.specs.View.{View};
+    ghost use Rattle.dma_work.specs.declared.job.Job.{Job};
 
     ghost steps: { ℕ };
 
@@ -39,10 +46,15 @@ pub trait DeskName {
     ghost base: { Board };
 
     ghost log: { Book };
+
+    ghost opening: { View };
+
+    ghost jobs: { List Job };
 }
 
 impl DeskName for Brand {
     ghost use Rattle.std.specs.Prelude.{[]};
+    ghost use Rattle.dma_engine.specs.View.{new_view};
 
     ghost steps = { 0 };
 
@@ -55,30 +67,39 @@ impl DeskName for Brand {
     ghost base = { [] };
 
     ghost log = { record { number = 0; log_name = 0; cells_name = 0 } };
+
+    ghost opening = { new_view 0 0 };
+
+    ghost jobs = { [] };
 }
 
 /// The value behind the lock: an engine, a book of what was done through it, and the publisher for status readers.
 ///
-/// Its type guarantees four facts. The published list ends with the ticks of the engine's history, and no tick is
+/// Its type guarantees five facts. The published list ends with the ticks of the engine's history, and no tick is
 /// pending. The published ticks before those add up to the counts with which the history begins. The book has the
 /// increase of the engine's step count and finished cookies since the values that N names. The engine has N's size and
-/// number of channels.
+/// number of channels. As long as the desk has a rota, nothing was done since N's opening view but the turns that the
+/// rota counts.
 pub struct Desk<N: DeskName> {
     engine: Engine,
     publisher: Publisher,
     book: Totals,
+    rota: Option<Seats>,
     of: PhantomData<N>,
 }
 
 impl<N: DeskName> Model for Desk<N> {
     ghost use Rattle.dma_work.specs.Desk.{DeskState};
+    ghost use Rattle.std.specs.Prelude.{IfSome};
     ghost use Rattle.dma_work.specs.inner.DeskKept.{IsKept};
+    ghost use Rattle.dma_work.specs.inner.InTurn.{IsInTurn};
 
     ghost Value = { DeskState };
 
     ghost view = { λ d. record { engine = d.engine; book = d.book; before = d.publisher.before } };
 
-    ghost invariant = { λ d. IsKept N.steps N.finished N.size N.channels N.base N.log d.engine d.publisher d.book };
+    ghost invariant = { λ d. IsKept N.steps N.finished N.size N.channels N.base N.log d.engine d.publisher d.book
+        × IfSome d.rota (λ r. IsInTurn N.opening N.jobs d.engine.view d.book r) };
 }
 
 impl<N: DeskName> Desk<N> {
@@ -92,7 +113,47 @@ impl<N: DeskName> Desk<N> {
             engine,
             publisher,
             book: Totals::default(),
+            rota: None,
             of: PhantomData,
+        }
+    }
+
+    /// Names the desk anew and gives it a rota, with an empty book. M names the desk as it is, and the jobs of the rota.
+    /// The rota is dropped by anything but its turns: by each other step, submit, terminate or checkpoint, and by
+    /// [`Desk::carry_out`].
+    pub fn with_rota<M: DeskName>(self, rota: Rota) -> Desk<M>
+        requires names { Names M.steps M.finished M.size M.channels M.base M.log
+            (record { engine = self.engine; base = N.base; log = N.log }) }
+        requires opening { M.opening ≡ self.engine.view }
+        requires jobs { M.jobs ≡ rota }
+        ensures { result ≡ record { engine = self.engine; book = no_totals; before = self.before } }
+    {
+        let Desk {
+            engine,
+            publisher,
+            book: _,
+            rota: _,
+            of: _,
+        } = self;
+        let book = Totals::default();
+        Desk {
+            engine,
+            publisher,
+            book,
+            rota: Some(rota.into_seats()),
+            of: PhantomData,
+        }
+    }
+
+    /// Returns whether the desk has a rota of which all turns were taken. Then they were taken one after another, in
+    /// some order, and nothing else was done since N's opening view.
+    pub fn turns_are_taken(&self) -> bool
+        ensures { IsTrue result
+            → TookAllTurns N.opening N.jobs self.now.engine.view self.now.book }
+    {
+        match &self.rota {
+            Some(seats) => seats.is_done(),
+            None => false,
         }
     }
 
@@ -143,6 +204,7 @@ impl<N: DeskName> Desk<N> {
         ensures answer { CallAnswers self.old.engine.view call.now result self.new.engine.view }
         ensures book { SameBook self.old self.new }
     {
+        self.rota = None;
         self.engine.carry_out(call)
     }
 
@@ -167,6 +229,7 @@ impl<N: DeskName> Desk<N> {
         ensures room { IfOk result (λ _. HasNoSpare self.new.engine) }
         ensures same { OnErr result (self.new ≡ self.old) }
     {
+        self.rota = None;
         self.engine.facts();
         self.engine.checkpoint()?;
         self.publisher.begin_again();
@@ -197,6 +260,7 @@ impl<N: DeskName> Desk<N> {
         self.engine.facts();
         self.book.count(&answer);
         tally.count(&answer);
+        self.rota = Seats::after(self.rota.take(), tally.worker(), ch);
         answer
     }
 
@@ -215,6 +279,7 @@ impl<N: DeskName> Desk<N> {
         ensures back { IfErr result (λ f. f.transfer ≡ transfer) }
         ensures book { SameBook self.old self.new }
     {
+        self.rota = None;
         if let Err(fault) = self.engine.check_submit(ch, &transfer) {
             return Err(SubmitFault { fault, transfer });
         }
@@ -249,6 +314,7 @@ impl<N: DeskName> Desk<N> {
         ensures same { IfErr result (λ _. self.new.book ≡ self.old.book) }
         ensures before { self.new.before ≡ self.old.before }
     {
+        self.rota = None;
         self.engine.make_room(ch)?;
         let tick = Tick::new(ch, Change::Finished(self.engine.unfinished(ch)));
         if !self.publisher.ready(tick) {
@@ -284,6 +350,7 @@ impl<N: DeskName> Desk<N> {
             engine,
             publisher,
             book,
+            rota: _,
             of: _,
         } = self;
         publisher.end(rt);

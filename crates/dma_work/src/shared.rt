@@ -29,8 +29,13 @@ impl<N: DeskName> Shared<N> {
     pub fn new(parts: Parts) -> Shared<N>
         requires { Names N.steps N.finished N.size N.channels N.base N.log parts }
     {
+        Shared::of(Desk::new(parts))
+    }
+
+    /// Puts a desk behind a lock.
+    pub fn of(desk: Desk<N>) -> Shared<N> {
         Shared {
-            desk: Mutex::new(Desk::new(parts)),
+            desk: Mutex::new(desk),
         }
     }
 

@@ -1,1 +1,2 @@
 pub mod RaceLemmas
+pub mod RaceRuns

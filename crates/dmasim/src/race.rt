@@ -1,17 +1,17 @@
-//! The command `race`: executes the lines before `go` through a desk, then steps the desk's channels with all jobs at
-//! once, and executes the lines after `go` on the resulting engine.
+//! The command `race`: executes the lines before `go` on a desk, then puts it behind its lock and steps its channels
+//! with all jobs at once, and executes the lines after `go` on the resulting engine.
 ghost use Rattle.std.specs.Prelude.{◌≡◌, ◌≤◌, ◌<◌, ◌+◌, ◌^◌, ◌++◌, ◌∷◌, [], None, OnOk, OnErr, IfOk, IfSome, MatchOption, codes, length};
 ghost use Rattle.std.specs.List.{All};
-ghost use Rattle.dma_engine.specs.View.{new_fault, new_view};
+ghost use Rattle.dma_engine.specs.View.{new_view};
 ghost use Rattle.dma_script.specs.Command.{Ends, MayAnswer, failures, longest_input, may_print_within};
 ghost use Rattle.dma_script.specs.Race.{IsEarly, IsJob, IsRace};
 ghost use Rattle.dma_script.specs.Statements.{IsWithin};
 ghost use Rattle.dma_work.specs.Desk.{Names};
-ghost use Rattle.dmasim.specs.inner.RaceSteps.{PrintsAll, PrintsFirst, PrintsGo, PrintsMissing, PrintsRefusal, PrintsTotals};
-ghost use Rattle.dmasim.specs.Race.{AreJobs, RacePrints, Took, race_may_print};
+ghost use Rattle.dmasim.specs.inner.RaceSteps.{PrintsFirst, PrintsGo, PrintsMissing, PrintsRefusal, PrintsTotals};
+ghost use Rattle.dmasim.specs.Race.{AreJobs, RacePrints, race_may_print};
 
 mod early;
-mod on_desk;
+pub mod laws;
 
 use crate::race::early::run_early_statements;
 use dma_commands::run::run_statements;
@@ -23,7 +23,8 @@ use dma_script::printing::print_line;
 use dma_script::race::{JobLine, MAX_JOBS, RaceScript, read_race_script};
 use dma_script::statements::Statements;
 use dma_work::{
-    Desk, DeskName, Job, NoGate, Parts, ShareFaultKind, Shared, StatusReader, Tally, run_workers,
+    Desk, DeskName, Job, NoGate, Parts, Rota, ShareFaultKind, Shared, StatusReader, Tally,
+    run_workers,
 };
 use std::alloc::{AllocError, Global};
 use std::marker::Brand;
@@ -58,61 +59,100 @@ fn engine_of(alloc: Global, script: &RaceScript) -> Result<Engine, AllocError>
     }
 }
 
-/// Executes the lines before `go`, dropping each one afterwards, and runs the jobs. If memory runs out it fails, and
-/// the desk is still whole.
-fn until_go<N: DeskName + Send + Sync, R: Threads + Wait + Sync>(
-    rt: &R,
-    alloc: Global,
-    shared: &Shared<N>,
-    reader: StatusReader,
-    lines: Statements,
-    jobs: &[Job],
-    out: &mut Vec<u8>,
-) -> Result<Vec<Tally<N>>, AllocError>
-    requires follows { (N.log ≡ reader.log) × (N.base ≡ reader.base) }
-    requires made { new_fault N.size N.channels ≡ None }
-    requires early { All IsEarly lines }
-    requires few { length jobs.now < 2 ^ 32 }
-    ensures ok { OnOk result (PrintsAll N.size N.channels lines out.old.items out.new.items) }
-    ensures took { IfOk result (λ tallies. Took N.size N.channels jobs.now tallies.items) }
-    ensures err { OnErr result (PrintsFirst N.size N.channels lines out.old.items out.new.items) }
-{
-    run_early_statements::<N, _, _>(rt, shared.lent(), reader, lines, out)?;
-    match run_workers(rt, alloc, shared, jobs, &NoGate) {
-        Ok(tallies) => Ok(tallies),
-        Err(NoMemory) => Err(AllocError),
-    }
-}
-
-/// Compares the tallies with the desk's book, appends the line of `go` and returns the engine. If a tally is missing,
-/// it appends the refusal and returns `None`. If memory runs out it fails and appends nothing.
+/// Appends the line of `go` and returns the engine if the desk's rota is done and the tallies add up to its book.
+/// Otherwise it appends the refusal and returns `None`. If memory runs out it fails and appends nothing.
 fn settled<N: DeskName, R: Wait>(
     rt: &R,
     desk: Desk<N>,
     tallies: Vec<Tally<N>>,
     out: &mut Vec<u8>,
 ) -> Result<Option<Engine>, AllocError>
-    requires { N.steps ≡ 0 }
     ensures ok { IfOk result (λ left. MatchOption left
         (PrintsRefusal (codes "MissingTally") out.old.items out.new.items)
-        (λ engine. PrintsTotals N.size N.channels tallies.items engine.view
-        out.old.items out.new.items)) }
+        (λ engine. PrintsTotals N.opening N.jobs engine.view out.old.items out.new.items)) }
     ensures err { OnErr result (out.new.items ≡ out.old.items) }
 {
+    let taken = desk.turns_are_taken();
     match desk.settle(rt, tallies.as_slice()) {
         Ok((engine, totals)) => {
-            print_line(
-                out,
-                &("go steps ", totals.steps, " finished ", totals.finished),
-            )?;
-            Ok(Some(engine))
+            if taken {
+                print_line(
+                    out,
+                    &("go steps ", totals.steps, " finished ", totals.finished),
+                )?;
+                return Ok(Some(engine));
+            }
         }
         Err(desk) => {
             desk.close(rt);
-            print_line(out, &"refused MissingTally")?;
-            Ok(None)
         }
     }
+    print_line(out, &"refused MissingTally")?;
+    Ok(None)
+}
+
+/// Runs all jobs at once, on a desk that has a rota of them, and appends the line of `go`. Returns the engine, or `None`
+/// if a tally is missing. If memory runs out it fails and appends nothing.
+fn go<M: DeskName, N: DeskName + Send + Sync, R: Threads + Wait + Sync>(
+    rt: &R,
+    alloc: Global,
+    desk: Desk<M>,
+    rota: Rota,
+    jobs: &[Job],
+    out: &mut Vec<u8>,
+) -> Result<Option<Engine>, AllocError>
+    requires names { Names N.steps N.finished N.size N.channels N.base N.log
+        (record { engine = desk.engine; base = M.base; log = M.log }) }
+    requires opening { N.opening ≡ desk.engine.view }
+    requires jobs { N.jobs ≡ rota }
+    requires few { length jobs.now < 2 ^ 32 }
+    ensures ok { IfOk result (λ left. MatchOption left
+        (PrintsRefusal (codes "MissingTally") out.old.items out.new.items)
+        (λ engine. PrintsTotals desk.engine.view rota engine.view
+        out.old.items out.new.items)) }
+    ensures err { OnErr result (out.new.items ≡ out.old.items) }
+{
+    let shared = Shared::<N>::of(desk.with_rota(rota));
+    match run_workers(rt, alloc, &shared, jobs, &NoGate) {
+        Ok(tallies) => settled(rt, shared.into_desk(), tallies, out),
+        Err(NoMemory) => {
+            shared.into_desk().close(rt);
+            Err(AllocError)
+        }
+    }
+}
+
+/// Executes a script up to and including its `go`. The lines before `go` run on the desk before it is put behind its
+/// lock. Returns the engine, or `None` if a tally is missing. Fails if memory runs out.
+fn raced<M: DeskName, R: Threads + Wait + Sync>(
+    rt: &R,
+    alloc: Global,
+    parts: Parts,
+    reader: StatusReader,
+    lines: Statements,
+    jobs: &[Job],
+    out: &mut Vec<u8>,
+) -> Result<Option<Engine>, AllocError>
+    requires names { Names M.steps M.finished M.size M.channels M.base M.log parts }
+    requires follows { (M.log ≡ reader.log) × (M.base ≡ reader.base) }
+    requires early { All IsEarly lines }
+    requires few { length jobs.now < 2 ^ 32 }
+    ensures ok { IfOk result (λ left. MatchOption left
+        (PrintsMissing parts.engine.view lines out.old.items out.new.items)
+        (λ engine. PrintsGo parts.engine.view lines jobs.now engine.view
+        out.old.items out.new.items)) }
+    ensures err { OnErr result (PrintsFirst parts.engine.view lines out.old.items out.new.items) }
+{
+    let (desk, early) = run_early_statements(rt, Desk::<M>::new(parts), reader, lines, out);
+    if let Err(error) = early {
+        desk.close(rt);
+        return Err(error);
+    }
+    let Ok(rota) = Rota::new(alloc, jobs) else {
+        desk.close(rt);
+        return Err(AllocError);
+    };
+    go::<M, Brand, R>(rt, alloc, desk, rota, jobs, out)
 }
 
 /// Returns the parts of a desk over an engine, and its reader, or `None` if the desk has no place for a reader. Fails
@@ -137,39 +177,6 @@ fn parts_of<R: Wait>(
             ShareFaultKind::NoMemory => Err(AllocError),
             ShareFaultKind::BadReaders => unreachable!(),
         },
-    }
-}
-
-/// Executes a script up to and including its `go`. Returns the engine, or `None` if a tally is missing. Fails if
-/// memory runs out.
-fn raced<N: DeskName + Send + Sync, R: Threads + Wait + Sync>(
-    rt: &R,
-    alloc: Global,
-    parts: Parts,
-    reader: StatusReader,
-    lines: Statements,
-    jobs: &[Job],
-    out: &mut Vec<u8>,
-) -> Result<Option<Engine>, AllocError>
-    requires names { Names N.steps N.finished N.size N.channels N.base N.log parts }
-    requires follows { (N.log ≡ reader.log) × (N.base ≡ reader.base) }
-    requires fresh { parts.engine.view.steps ≡ 0 }
-    requires made { new_fault N.size N.channels ≡ None }
-    requires early { All IsEarly lines }
-    requires few { length jobs.now < 2 ^ 32 }
-    ensures ok { IfOk result (λ left. MatchOption left
-        (PrintsMissing N.size N.channels lines out.old.items out.new.items)
-        (λ engine. PrintsGo N.size N.channels lines jobs.now engine.view
-        out.old.items out.new.items)) }
-    ensures err { OnErr result (PrintsFirst N.size N.channels lines out.old.items out.new.items) }
-{
-    let shared = Shared::<N>::new(parts);
-    match until_go(rt, alloc, &shared, reader, lines, jobs, out) {
-        Ok(tallies) => settled(rt, shared.into_desk(), tallies, out),
-        Err(error) => {
-            shared.into_desk().close(rt);
-            Err(error)
-        }
     }
 }
 

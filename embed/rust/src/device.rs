@@ -42,7 +42,8 @@ pub struct DeviceConfig {
 /// What a turn of a channel of a [`Device`] did.
 #[derive(Clone, Copy, Debug, PartialEq, Eq, Hash)]
 pub struct DeviceTurn {
-    /// The smallest range with all addresses that it wrote. Its length is 0 if it wrote nothing.
+    /// The range that it wrote. Its length is 0 if it wrote nothing. Each byte in it was written, and no other byte of the
+    /// regions was.
     pub written: Segment,
     /// Whether a line of [`Device::irqs`], or [`Device::irq_abort`], has changed.
     pub lines_changed: bool,
@@ -91,7 +92,7 @@ pub struct Device {
 }
 
 // The most bytes of a save.
-const MAX_SAVE: usize = 68200;
+const MAX_SAVE: usize = 68204;
 
 impl Device {
     /// Opens a device in its state after a reset. No other call allocates memory in the library.

@@ -79,6 +79,19 @@ pub struct RawRunEnd {
 // Only the library reads and writes them.
 #[allow(dead_code)]
 #[repr(C)]
+pub struct RawExplanation {
+    src_len: usize,
+    dst_len: usize,
+    steps: u32,
+    pc: u32,
+    cause: u32,
+    wait: i32,
+    signal: i32,
+}
+
+// Only the library reads and writes them.
+#[allow(dead_code)]
+#[repr(C)]
 struct RawChannel {
     channel: *mut c_void,
     is_open: u8,
@@ -312,6 +325,18 @@ extern "C" {
         size: usize,
         limit: u32,
         end: *mut RawRunEnd,
+    ) -> i32;
+    // The crate has no call for it yet.
+    #[allow(dead_code)]
+    fn dma330_explain(
+        program: *const u8,
+        len: usize,
+        most: u32,
+        src: *mut Segment,
+        src_room: usize,
+        dst: *mut Segment,
+        dst_room: usize,
+        explanation: *mut RawExplanation,
     ) -> i32;
     fn dma330_assemble(
         text: *const u8,

@@ -1,13 +1,13 @@
 //! Saves a device, and restores it.
 
-ghost use Rattle.std.specs.Prelude.{◌≡◌, ◌↔◌, ◌≤◌, ◌++◌, true, Err, IfSome, IsNone, IsOk, IsTrue, OnOk, drop, is_some, length, nat_le};
+ghost use Rattle.std.specs.Prelude.{◌≡◌, ◌↔◌, ◌+◌, ◌≤◌, ◌++◌, true, Err, IfSome, IsNone, IsOk, IsTrue, OnOk, drop, is_some, length, nat_le};
 ghost use Rattle.dma_device.specs.Device.{DeviceValue, reset_device};
-ghost use Rattle.dma_device.specs.Snapshot.{IsDeviceValue, IsOfOther, head_of, most_saved, saved_device};
+ghost use Rattle.dma_device.specs.Snapshot.{IsDeviceValue, IsOfOther, IsSavedAs, head_of, most_saved, parts_in, saved_device};
 
 use crate::device::{Device, reset_threads};
-use crate::save::head::{Head, is_of_other};
+use crate::save::head::{Head, OLD_VERSION, VERSION, VERSION_AT, is_of_other};
 use crate::save::threads::{restore_threads, save_threads, threads_len};
-use crate::save::{HEAD_LEN, RestoreFault};
+use crate::save::{HEAD_LEN, RestoreFault, SUM_LEN, is_sealed, seal};
 use crate::wide::wide_programs;
 
 impl Device {
@@ -21,14 +21,36 @@ impl Device {
         ensures unchanged { IsNone result → out.new ≡ out.old }
         ensures device { IsDeviceValue self.now }
     {
-        let head = self.head().bytes();
-        let len = HEAD_LEN + threads_len(&self.threads, self.config.events);
-        if out.len() < len {
+        let len = self.parts_len();
+        if out.len() < len + SUM_LEN {
             return None;
         }
+        self.write_parts(out);
+        seal(out, len);
+        Some(len + SUM_LEN)
+    }
+
+    // Returns the length of the device's save without its checksum.
+    fn parts_len(&self) -> usize
+        ensures len { result ≡ length (parts_in 2 self.now) }
+        ensures head { 40 ≤ result }
+        ensures limit { result + 4 ≤ most_saved }
+        ensures device { IsDeviceValue self.now }
+    {
+        // for the ranges of the head
+        let _head = self.head().bytes();
+        HEAD_LEN + threads_len(&self.threads, self.config.events)
+    }
+
+    // Writes the device's save without its checksum to the front of `out`. There must be room for it.
+    fn write_parts(&self, out: &mut [u8])
+        requires room { length (parts_in 2 self.now) ≤ length out.old }
+        requires head { 40 ≤ length out.old }
+        ensures { out.new ≡ parts_in 2 self.now ++ drop (length (parts_in 2 self.now)) out.old }
+    {
+        let head = self.head().bytes();
         save_threads(&self.threads, &mut out[HEAD_LEN..]);
         out[..HEAD_LEN].copy_from_slice(head.as_slice());
-        Some(len)
     }
 
     /// Replaces the device with the saved one.
@@ -38,11 +60,11 @@ impl Device {
     /// state after a reset.
     pub fn restore(&mut self, save: &[u8]) -> Result<(), RestoreFault>
         // The bytes are the save of the restored device.
-        ensures ok { OnOk result (save.now ≡ saved_device self.new) }
+        ensures ok { OnOk result (IsSavedAs save.now self.new) }
         ensures config { self.new.config ≡ self.old.config }
         // The save of any device of this configuration restores that device.
         ensures all { (d : DeviceValue) → IsDeviceValue d → d.config ≡ self.old.config
-            → save.now ≡ saved_device d → IsOk result × (self.new ≡ d) }
+            → IsSavedAs save.now d → IsOk result × (self.new ≡ d) }
         ensures cause { (result ≡ Err RestoreFault.OtherDevice)
             ↔ IsOfOther self.old.config save.now }
         ensures other { result ≡ Err RestoreFault.OtherDevice → self.new ≡ self.old }
@@ -51,7 +73,7 @@ impl Device {
         if is_of_other(save, self.config) {
             return Err(RestoreFault::OtherDevice);
         }
-        if self.restore_parts(save) {
+        if self.restore_save(save) {
             Ok(())
         } else {
             self.reset();
@@ -61,13 +83,30 @@ impl Device {
 
     // Replaces the device with the saved one, and returns whether the bytes are the save of a device of its
     // configuration. If not, its threads may have changed.
-    fn restore_parts(&mut self, save: &[u8]) -> bool
-        ensures ok { IsTrue result → save.now ≡ saved_device self.new }
+    fn restore_save(&mut self, save: &[u8]) -> bool
+        ensures ok { IsTrue result → IsSavedAs save.now self.new }
         ensures config { self.new.config ≡ self.old.config }
         ensures all { (d : DeviceValue) → IsDeviceValue d → d.config ≡ self.old.config
-            → save.now ≡ saved_device d → (result ≡ true) × (self.new ≡ d) }
+            → IsSavedAs save.now d → (result ≡ true) × (self.new ≡ d) }
     {
-        let Some(head) = Head::of_save(self.config, save) else {
+        if save.len() < HEAD_LEN {
+            return false;
+        }
+        if save[VERSION_AT] == OLD_VERSION {
+            return self.restore_parts(OLD_VERSION, save);
+        }
+        is_sealed(save) && self.restore_parts(VERSION, &save[..save.len() - SUM_LEN])
+    }
+
+    // Replaces the device with the one of these parts, and returns whether they are those of a device of its
+    // configuration in this version. If not, its threads may have changed.
+    fn restore_parts(&mut self, version: u8, save: &[u8]) -> bool
+        ensures ok { IsTrue result → save.now ≡ parts_in version self.new }
+        ensures config { self.new.config ≡ self.old.config }
+        ensures all { (d : DeviceValue) → IsDeviceValue d → d.config ≡ self.old.config
+            → save.now ≡ parts_in version d → (result ≡ true) × (self.new ≡ d) }
+    {
+        let Some(head) = Head::of_save(version, self.config, save) else {
             return false;
         };
         if !restore_threads(&mut self.threads, self.config.events, &save[HEAD_LEN..]) {
@@ -90,6 +129,7 @@ impl Device {
         ensures { result ≡ head_of self.now }
     {
         Head {
+            version: VERSION,
             config: self.config,
             manager: self.manager,
             events: self.events,

@@ -4,7 +4,7 @@ ghost use Rattle.std.specs.Prelude.{◌≡◌, ◌+◌, ◌^◌, ◌<◌, ◌&&�
 ghost use Rattle.dma_mem.specs.Regions.{in_order, pieces_of};
 ghost use Rattle.dma_chan.specs.LentRegions.{segment_of};
 ghost use Rattle.dma_device.specs.inner.Fields.{most_for};
-ghost use Rattle.dma_device.specs.Turns.{CallsIf, CallsOne, TakesTurn, nothing, raises, runs_at, visible_events, with_flags};
+ghost use Rattle.dma_device.specs.Turns.{CallsIf, CallsOne, TakesTurn, is_beside, may_follow, nothing, raises, runs_at, visible_events, with_flags};
 
 use crate::device::Device;
 use crate::thread::OPERAND_INVALID;
@@ -18,7 +18,7 @@ use dma_mem::segment::Segment;
 /// What a turn did.
 #[derive(Clone, Copy, Debug, PartialEq, Eq)]
 pub struct Turn {
-    /// The smallest range that contains all addresses that it wrote.
+    /// The range that it wrote. Each address in it was written, and no other was.
     pub written: Segment,
     /// Whether a line of `irqs`, or `irq_abort`, has changed.
     pub lines_changed: bool,
@@ -48,7 +48,7 @@ impl Device {
     /// Takes a turn of channel `n` over these regions: at most `most` steps, until one ends, waits, fails or sets a
     /// flag, or before one that writes apart from the range written so far. It is one step if the channel's program
     /// has, at any offset, a DMAMOV CCR with beats wider than the bus. If the last step raised an interrupt, it takes
-    /// one more. A channel that is stopped or faulting does nothing. A burst that touches an address outside all
+    /// one more, unless that writes apart from the range. A channel that is stopped or faulting does nothing. A burst that touches an address outside all
     /// regions fails, and so does a store that touches a read-only region.
     pub fn step(&mut self, n: u8, most: u32, regions: &mut [Region<'_>]) -> Turn
         requires { IsTrue (in_order (pieces_of regions.old)) }
@@ -57,7 +57,7 @@ impl Device {
         let n = usize::from(n);
         let before = (self.irqs(), self.irq_abort());
         let first = self.call_if(most > 0, n, most, regions);
-        let second = self.call_if(self.raises(first.signal), n, 1, regions);
+        let second = self.call_if(self.may_follow(n, first), n, 1, regions);
         Turn {
             written: joined(first.written, second.written),
             lines_changed: before.0 != self.irqs() || before.1 != self.irq_abort(),
@@ -137,6 +137,24 @@ impl Device {
         let known = flags & self.all_events();
         self.events = self.events & self.inten | known & !self.inten;
         self.interrupts |= known & self.inten;
+    }
+
+    // Returns whether one more step may follow a call of channel `n`.
+    fn may_follow(&self, n: usize, called: Called) -> bool
+        ensures { result ≡ may_follow self.now n called }
+    {
+        self.raises(called.signal) && self.is_beside(n, called.written)
+    }
+
+    // Returns whether thread `n` runs, and its next instruction writes in or beside this range, or one of them is
+    // empty.
+    fn is_beside(&self, n: usize, range: Segment) -> bool
+        ensures { result ≡ is_beside range (slice_get self.now.threads n) }
+    {
+        match self.threads.get(n) {
+            Some(thread) => thread.runs() && thread.channel.writes_beside(range),
+            None => false,
+        }
     }
 
     // Returns whether a call that set the flag of this event, if any, raised an interrupt.

@@ -1,6 +1,6 @@
 //! The head of a save.
 
-ghost use Rattle.std.specs.Prelude.{◌≡◌, ◌↔◌, ◌^◌, ◌<◌, ◌≤◌, ◌++◌, IsTrue, IfSome, List, ℕ, Some, length, take};
+ghost use Rattle.std.specs.Prelude.{◌≡◌, ◌↔◌, ◌^◌, ◌<◌, ◌≤◌, ◌++◌, IsTrue, IfSome, List, ℕ, Some, drop, length, take};
 ghost use Rattle.arrayvec.specs.ArrayVec.{array_vec_len};
 ghost use Rattle.dma_insn.specs.ControlWord.{flag};
 ghost use Rattle.dma_device.specs.Snapshot.{HasKnownEvents, IsOfOther, head_bytes, identity};
@@ -16,11 +16,18 @@ use arrayvec::ArrayVec;
 const MAGIC: [u8; 7] = [100, 109, 97, 51, 51, 48, 1];
 
 // The version of the format.
-const VERSION: u8 = 1;
+pub(crate) const VERSION: u8 = 2;
+
+// The version of saves without a checksum of their own.
+pub(crate) const OLD_VERSION: u8 = 1;
+
+// The length in bytes of what is before the threads' configuration: the magic.
+pub(crate) const VERSION_AT: usize = 7;
 
 /// What a save has before its threads.
 #[derive(Clone, Copy)]
 pub struct Head {
+    pub version: u8,
     pub config: Config,
     pub manager: Manager,
     pub events: u32,
@@ -37,13 +44,13 @@ fn flag_of(value: bool) -> u8
     if value { 1 } else { 0 }
 }
 
-// Returns the version and a configuration, as bytes.
-fn identity(config: Config) -> [u8; 8]
-    ensures { result ≡ identity config }
+// Returns a version and a configuration, as bytes.
+fn identity(version: u8, config: Config) -> [u8; 8]
+    ensures { result ≡ identity version config }
 {
     let lines = config.lines.to_le_bytes();
     [
-        VERSION,
+        version,
         config.channels,
         config.events,
         flag_of(config.nonsecure),
@@ -54,12 +61,23 @@ fn identity(config: Config) -> [u8; 8]
     ]
 }
 
+// Returns whether this version and configuration are at their place.
+fn has_identity(bytes: &[u8], version: u8, config: Config) -> bool
+    requires { 15 ≤ length bytes.now }
+    ensures { IsTrue result ↔ (take 8 (drop 7 bytes.now) ≡ identity version config) }
+{
+    let own = identity(version, config);
+    bytes[7..15] == own[..]
+}
+
 // Returns whether bytes begin as the save of a device of another version or configuration.
 pub(crate) fn is_of_other(bytes: &[u8], config: Config) -> bool
     ensures { IsTrue result ↔ IsOfOther config bytes.now }
 {
-    let own = identity(config);
-    bytes.len() >= 15 && bytes[..7] == MAGIC[..] && bytes[7..15] != own[..]
+    bytes.len() >= 15
+        && bytes[..7] == MAGIC[..]
+        && !has_identity(bytes, VERSION, config)
+        && !has_identity(bytes, OLD_VERSION, config)
 }
 
 // Returns whether a word has bits only for events that the device has.
@@ -79,7 +97,7 @@ impl Head {
     {
         let mut out = ArrayVec::new();
         push(&mut out, &MAGIC);
-        push(&mut out, &identity(self.config));
+        push(&mut out, &identity(self.version, self.config));
         push(&mut out, &[flag_of(self.manager.is_faulting)]);
         push(&mut out, &self.manager.fault.to_le_bytes());
         push(&mut out, &self.events.to_le_bytes());
@@ -90,15 +108,17 @@ impl Head {
         out
     }
 
-    // Returns the head of these bytes if they are the save of a device of this configuration. For other bytes it is
-    // another head.
-    fn read(config: Config, bytes: &[u8]) -> Head
+    // Returns the head of these bytes if they are the save of a device of this configuration in this version. For other
+    // bytes it is another head.
+    fn read(version: u8, config: Config, bytes: &[u8]) -> Head
         requires { 40 ≤ length bytes.now }
+        ensures version { result.version ≡ version }
         ensures config { result.config ≡ config }
-        ensures same { (h : Head) (rest : List ℕ) → HasHeadRanges h → h.config ≡ config
-            → bytes.now ≡ head_bytes h ++ rest → result ≡ h }
+        ensures same { (h : Head) (rest : List ℕ) → HasHeadRanges h → h.version ≡ version
+            → h.config ≡ config → bytes.now ≡ head_bytes h ++ rest → result ≡ h }
     {
         Head {
+            version,
             config,
             manager: Manager {
                 is_faulting: bytes[15] != 0,
@@ -122,22 +142,23 @@ impl Head {
             && is_known(self.inten, self.config)
     }
 
-    // Returns the head with which these bytes begin, if it is that of a device of this configuration. They begin with
-    // such a head exactly if writing what was read gives them again.
-    pub fn of_save(config: Config, bytes: &[u8]) -> Option<Head>
+    // Returns the head with which these bytes begin, if it is that of a device of this configuration in this version.
+    // They begin with such a head exactly if writing what was read gives them again.
+    pub fn of_save(version: u8, config: Config, bytes: &[u8]) -> Option<Head>
         requires { config.events ≤ 32 }
         ensures long { IfSome result (λ h. 40 ≤ length bytes.now) }
         ensures found { IfSome result (λ h. take 40 bytes.now ≡ head_bytes h) }
+        ensures version { IfSome result (λ h. h.version ≡ version) }
         ensures config { IfSome result (λ h. h.config ≡ config) }
         ensures known { IfSome result (λ h. HasKnownEvents h) }
         ensures only { (h : Head) (rest : List ℕ)
-            → HasHeadRanges h → HasKnownEvents h → h.config ≡ config
+            → HasHeadRanges h → HasKnownEvents h → h.version ≡ version → h.config ≡ config
             → bytes.now ≡ head_bytes h ++ rest → result ≡ Some h }
     {
         if bytes.len() < HEAD_LEN {
             return None;
         }
-        let head = Head::read(config, bytes);
+        let head = Head::read(version, config, bytes);
         if !head.has_known_events() {
             return None;
         }

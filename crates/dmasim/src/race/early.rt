@@ -1,98 +1,80 @@
-//! The lines of a race script before `go`. Each line except `status` is lent the desk once, for its one call, and
-//! prints after giving it back. A `status` line asks the reader, and is lent nothing.
+//! The lines of a race script before `go`. They run on the desk before it gets its lock. A `status` line asks the
+//! reader.
 ghost use Rattle.std.specs.Prelude.{◌≡◌, OnOk, OnErr};
 ghost use Rattle.std.specs.List.{All};
 ghost use Rattle.dma_engine.specs.Laws.{IsQuiet};
 ghost use Rattle.dma_script.specs.Race.{IsEarly};
-ghost use Rattle.dmasim.specs.inner.RaceSteps.{ActsEarly, PrintsStatus, RunsAll, RunsEarly, RunsFirst};
+ghost use Rattle.dma_commands.specs.Run.{line_answer};
+ghost use Rattle.dma_commands.specs.inner.RunSteps.{RunsLine};
+ghost use Rattle.dmasim.specs.inner.RaceSteps.{PrintsAll, PrintsFirst, PrintsStatus};
 
-use crate::race::on_desk::{QuietCall, Submission, Termination};
 use dma_commands::printing::Shown;
 use dma_commands::transfers::transfer_of;
-use dma_engine::{Call, EngineFault, Reply};
+use dma_engine::{Call, Reply};
 use dma_script::interpreter::Interpreter;
 use dma_script::printing::print_line;
 use dma_script::statements::{Statement, Statements};
 use dma_script::transfer_line::TransferLine;
-use dma_work::{Desk, DeskName, Lender, StatusReader};
+use dma_work::{Desk, DeskName, StatusReader};
 use std::alloc::AllocError;
-use std::marker::PhantomData;
 use std::sync::Wait;
 
 /// Makes a call that publishes nothing.
-fn answer_quiet<N: DeskName, L: Lender<Desk<N>>, R: Wait>(
-    rt: &R,
-    lender: &mut L,
+fn answer_quiet<N: DeskName>(
+    desk: &mut Desk<N>,
     call: Call,
     out: &mut Vec<u8>,
 ) -> Result<(), AllocError>
     requires { IsQuiet call }
-    ensures { RunsEarly (ActsEarly N.size N.channels L.lends) lender.old
-        (Statement.Call call) lender.new result out.old.items out.new.items }
+    ensures { RunsLine (line_answer desk.old.engine.view (Statement.Call call)) desk.new.engine.view
+        result out.old.items out.new.items }
 {
-    let mut asked = QuietCall {
-        call,
-        reply: Reply::Done,
-    };
-    lender.lend(rt, &mut asked);
-    print_line(out, &Shown((&asked.call, &asked.reply)))
+    let reply = desk.carry_out(&call);
+    print_line(out, &Shown((&call, &reply)))
 }
 
 /// Executes `submit CH LIST to LIST [wait E] [signal E]` or `submit CH fill ADDR to LIST [wait E] [signal E]`, and
 /// passes the ticket of the cookie to the reader.
-fn answer_submit<N: DeskName, L: Lender<Desk<N>>, R: Wait>(
+fn answer_submit<N: DeskName, R: Wait>(
     rt: &R,
-    lender: &mut L,
+    desk: &mut Desk<N>,
     reader: &mut StatusReader,
     ch: u8,
     words: TransferLine,
     out: &mut Vec<u8>,
 ) -> Result<(), AllocError>
     requires follows { (N.log ≡ reader.old.log) × (N.base ≡ reader.old.base) }
-    ensures line { RunsEarly (ActsEarly N.size N.channels L.lends) lender.old
-        (Statement.Submit ch words) lender.new result out.old.items out.new.items }
+    ensures line { RunsLine (line_answer desk.old.engine.view (Statement.Submit ch words))
+        desk.new.engine.view result out.old.items out.new.items }
     ensures follows { (N.log ≡ reader.new.log) × (N.base ≡ reader.new.base) }
 {
     let transfer = match transfer_of(words) {
         Ok(transfer) => transfer,
         Err(fault) => return print_line(out, &("refused ", Shown(fault))),
     };
-    let mut asked = Submission::<N> {
-        ch,
-        transfer: Some(transfer),
-        answer: Err(EngineFault::NoMemory),
-    };
-    lender.lend(rt, &mut asked);
-    let Submission { answer, .. } = asked;
-    match answer {
+    match desk.submit(rt, ch, transfer) {
         Ok(receipt) => {
             reader.learn(receipt.ticket);
             print_line(out, &("cookie ", receipt.cookie))
         }
-        Err(fault) => print_line(out, &("refused ", Shown(fault))),
+        Err(refused) => print_line(out, &("refused ", Shown(refused.fault))),
     }
 }
 
 /// Executes `terminate CH`, and passes the ticket of the cookies that it ended to the reader.
-fn answer_terminate<N: DeskName, L: Lender<Desk<N>>, R: Wait>(
+fn answer_terminate<N: DeskName, R: Wait>(
     rt: &R,
-    lender: &mut L,
+    desk: &mut Desk<N>,
     reader: &mut StatusReader,
     ch: u8,
     out: &mut Vec<u8>,
 ) -> Result<(), AllocError>
     requires follows { (N.log ≡ reader.old.log) × (N.base ≡ reader.old.base) }
-    ensures line { RunsEarly (ActsEarly N.size N.channels L.lends) lender.old
-        (Statement.Call (Call.Terminate ch)) lender.new result out.old.items out.new.items }
+    ensures line { RunsLine (line_answer desk.old.engine.view (Statement.Call (Call.Terminate ch)))
+        desk.new.engine.view result out.old.items out.new.items }
     ensures follows { (N.log ≡ reader.new.log) × (N.base ≡ reader.new.base) }
 {
-    let mut asked = Termination::<N> {
-        ch,
-        answer: Err(EngineFault::NoMemory),
-    };
-    lender.lend(rt, &mut asked);
-    let Termination { answer, .. } = asked;
-    match answer {
+    match desk.terminate(rt, ch) {
         Ok(closed) => {
             reader.learn(closed.ticket);
             print_line(out, &("aborted ", closed.count))
@@ -101,7 +83,7 @@ fn answer_terminate<N: DeskName, L: Lender<Desk<N>>, R: Wait>(
     }
 }
 
-/// Executes `status CH COOKIE`, which asks the reader and takes no lock.
+/// Executes `status CH COOKIE`, which asks the reader.
 fn answer_status(
     reader: &mut StatusReader,
     ch: u8,
@@ -121,19 +103,17 @@ fn answer_status(
     }
 }
 
-/// Executes lines before `go` on a desk that is lent for each of them, and passes their tickets to its reader.
-#[derive(Drop)]
-struct LinesOnDesk<'a, N: DeskName, L, R: Wait> {
+/// Executes lines before `go` on a desk, and passes their tickets to its reader.
+struct LinesOnDesk<'a, N: DeskName, R: Wait> {
     rt: &'a R,
-    lender: L,
+    desk: Desk<N>,
     reader: StatusReader,
-    of: PhantomData<N>,
 }
 
-impl<N: DeskName, L: Lender<Desk<N>>, R: Wait> Interpreter for LinesOnDesk<'_, N, L, R> {
+impl<N: DeskName, R: Wait> Interpreter for LinesOnDesk<'_, N, R> {
     ghost use Rattle.std.specs.Prelude.{◌≡◌};
     ghost use Rattle.dma_script.specs.Race.{IsEarly};
-    ghost use Rattle.dmasim.specs.inner.RaceSteps.{ActsEarly, alone_acts};
+    ghost use Rattle.dmasim.specs.inner.RaceSteps.{ActsEarly};
 
     type Line = Statement;
 
@@ -142,57 +122,51 @@ impl<N: DeskName, L: Lender<Desk<N>>, R: Wait> Interpreter for LinesOnDesk<'_, N
     ghost is_ready = { λ lines. (N.log ≡ lines.reader.log) × (N.base ≡ lines.reader.base) };
 
     ghost acts = { λ found line group left.
-        alone_acts (ActsEarly N.size N.channels L.lends) found.lender line group left.lender };
+        ActsEarly found.desk.engine.view line group left.desk.engine.view };
 
     fn interpret(&mut self, line: Statement, out: &mut Vec<u8>) -> Result<(), AllocError> {
         match line {
-            Statement::Submit { ch, transfer } => answer_submit::<N, _, _>(
+            Statement::Submit { ch, transfer } => answer_submit(
                 self.rt,
-                &mut self.lender,
+                &mut self.desk,
                 &mut self.reader,
                 ch,
                 transfer,
                 out,
             ),
-            Statement::Call(Call::Terminate { ch }) => answer_terminate::<N, _, _>(
-                self.rt,
-                &mut self.lender,
-                &mut self.reader,
-                ch,
-                out,
-            ),
+            Statement::Call(Call::Terminate { ch }) => {
+                answer_terminate(self.rt, &mut self.desk, &mut self.reader, ch, out)
+            }
             Statement::Call(Call::Status { ch, cookie }) => {
                 answer_status(&mut self.reader, ch, cookie, out)
             }
-            Statement::Call(call) => {
-                answer_quiet::<N, _, _>(self.rt, &mut self.lender, call, out)
-            }
+            Statement::Call(call) => answer_quiet(&mut self.desk, call, out),
             _ => unreachable!(),
         }
     }
 }
 
-/// Executes the lines before `go`, dropping each one afterwards. If memory runs out, the output keeps what the lines
-/// before printed.
-pub fn run_early_statements<N: DeskName, L: Lender<Desk<N>> + Drop, R: Wait>(
+/// Executes the lines before `go`, dropping each one afterwards, and returns the desk. If memory runs out, the output
+/// keeps what the lines before printed.
+pub fn run_early_statements<N: DeskName, R: Wait>(
     rt: &R,
-    lender: L,
+    desk: Desk<N>,
     reader: StatusReader,
     lines: Statements,
     out: &mut Vec<u8>,
-) -> Result<(), AllocError>
+) -> (Desk<N>, Result<(), AllocError>)
     requires follows { (N.log ≡ reader.log) × (N.base ≡ reader.base) }
     requires early { All IsEarly lines }
-    ensures ok { OnOk result (RunsAll (ActsEarly N.size N.channels L.lends) lender lines
+    ensures ok { OnOk result.1 (PrintsAll desk.engine.view lines result.0.engine.view
         out.old.items out.new.items) }
-    ensures err { OnErr result (RunsFirst (ActsEarly N.size N.channels L.lends) lender lines
-        out.old.items out.new.items) }
+    ensures err { OnErr result.1 (PrintsFirst desk.engine.view lines out.old.items out.new.items) }
 {
-    let mut desk = LinesOnDesk::<N, _, _> {
-        rt,
-        lender,
-        reader,
-        of: PhantomData,
-    };
-    lines.run(&mut desk, out)
+    let mut early = LinesOnDesk { rt, desk, reader };
+    let answer = lines.run(&mut early, out);
+    let LinesOnDesk {
+        rt: _,
+        desk,
+        reader: _,
+    } = early;
+    (desk, answer)
 }

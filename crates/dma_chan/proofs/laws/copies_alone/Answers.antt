@@ -1,4 +1,4 @@
-use Rattle.dma_chan.proofs.CopyAlone.{copies_alone}
+use Rattle.dma_chan.proofs.ExplainedAlone.{copies_alone}
 use Rattle.dma_chan.proofs.laws.copies_alone.Goals as goal
 
 pub returns : goal.returns

@@ -1,5 +1,6 @@
 use Rattle.std.proofs.Common.{inl, inr, refl, ap}
 use Rattle.dma_device.specs.Accesses.{Value}
+use Rattle.dma_device.specs.Device.{reset_device}
 use Rattle.dma_ffi.proofs.laws.device_calls_are_accesses.Goals as goal
 
 pub returns : goal.returns
@@ -13,4 +14,5 @@ returns c = record {
     | inl bad ↦ cc
     | inr ok ↦ (ok.2.0, ok.2.2, (ok.2.0, (refl, ok.2.1)))
   ];
+  resets = λ d code new regions h. (reset_device d.config, h.1, (refl, refl, record { pieces = refl; read_only = refl }));
 }

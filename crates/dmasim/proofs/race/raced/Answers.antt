@@ -1,15 +1,40 @@
-use Rattle.std.proofs.Common.{sym, subst}
+use Rattle.std.proofs.Common.{subst, sym}
 use Rattle.std.proofs.lemmas.Result.{IfOk-weaker, on_err_weaker}
-use Rattle.dmasim.specs.inner.RaceSteps.{PrintsFirst}
+use Rattle.dma_work.specs.Desk.{DeskState}
+use Rattle.dmasim.specs.inner.RaceSteps.{PrintsAll, PrintsFirst}
 use Rattle.dmasim.proofs.RaceLemmas.{all_then_none, go_or_missing}
 use Rattle.dmasim.proofs.race.raced.Goals as goal
 
-pub returns-in-Ok-clause-ok : goal.returns-in-Ok-clause-ok
-returns-in-Ok-clause-ok g c =
-    IfOk-weaker c.settled.result _ _ (go_or_missing _ _ (λ engine. engine.view) c.args.lines _ _ c.args.out.now.items c.until_go.new.out.items c.settled.new.out.items c.in-Ok.ensures.took c.in-Ok.ensures.ok) c.settled.ensures.ok
+pub returns-in-Err-clause-err : goal.returns-in-Err-clause-err
+returns-in-Err-clause-err g c =
+    let early = c.run_early_statements-desk in
+    subst (λ (d : DeskState). PrintsFirst d.engine.view c.args.lines c.args.out.now.items early.new.out.items) c.new.ensures (rw c.in-Err.is at early.ensures.err)
 
-pub returns-in-Ok-clause-err : goal.returns-in-Ok-clause-err
-returns-in-Ok-clause-err g c =
+pub returns-in_default-new-clause-err : goal.returns-in_default-new-clause-err
+returns-in_default-new-clause-err g c =
+    let old = c.args.out.now.items in
+    let early = c.run_early_statements-desk in
+    let mid = early.new.out.items in
+    let left = early.result.0.engine.view in
+    all_then_none c.args.parts.engine.view c.args.lines left old mid
+    (subst (λ (d : DeskState). PrintsAll d.engine.view c.args.lines left old mid) c.new.ensures (rw c.in_default.is at early.ensures.ok))
+
+pub returns-clause-ok : goal.returns-clause-ok
+returns-clause-ok g c =
+    let old = c.args.out.now.items in
+    let early = c.run_early_statements-desk in
+    let mid = early.new.out.items in
+    let left = early.result.0.engine.view in
+    let all = subst (λ (d : DeskState). PrintsAll d.engine.view c.args.lines left old mid) c.new.ensures (rw c.in_default.is at early.ensures.ok) in
+    IfOk-weaker c.go.result _ _ (go_or_missing c.args.parts.engine.view c.args.lines (λ engine. engine.view) c.args.jobs.now left old mid c.go.new.out.items all) (rw c.in-Ok.ensures at c.go.ensures.ok)
+
+pub returns-clause-err : goal.returns-clause-err
+returns-clause-err g c =
     let lines = c.args.lines in
     let old = c.args.out.now.items in
-    on_err_weaker c.settled.result (λ same. subst (PrintsFirst _ _ lines old) (sym same) (all_then_none _ _ lines old c.until_go.new.out.items c.in-Ok.ensures.ok)) c.settled.ensures.err
+    let early = c.run_early_statements-desk in
+    let mid = early.new.out.items in
+    let left = early.result.0.engine.view in
+    let start = c.args.parts.engine.view in
+    let all = subst (λ (d : DeskState). PrintsAll d.engine.view lines left old mid) c.new.ensures (rw c.in_default.is at early.ensures.ok) in
+    on_err_weaker c.go.result (λ same. subst (PrintsFirst start lines old) (sym same) (all_then_none start lines left old mid all)) c.go.ensures.err

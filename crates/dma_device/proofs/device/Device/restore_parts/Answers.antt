@@ -3,23 +3,23 @@ use Rattle.std.proofs.lemmas.List.{take-append-drop, with_items_is}
 use Rattle.std.specs.List.{All, flat_map}
 use Rattle.std.specs.Vec.{with_items}
 use Rattle.dma_device.specs.Device.{DeviceValue}
-use Rattle.dma_device.specs.Snapshot.{IsThreadValue, head_bytes, head_of, saved_device, saved_thread}
+use Rattle.dma_device.specs.Snapshot.{IsThreadValue, head_bytes, head_in, parts_in, saved_thread}
 use Rattle.dma_device.specs.Thread.{IsSound}
 use Rattle.dma_device.specs.declared.config.Config.{Config}
 use Rattle.dma_device.specs.declared.save.head.Head.{Head}
 use Rattle.dma_device.specs.declared.thread.Thread.{Thread}
 use Rattle.dma_device.proofs.SavedParts.{tail_is}
-use Rattle.dma_device.proofs.SavedDevices.{device_ranges, from_head, threads_behind}
+use Rattle.dma_device.proofs.SavedDevices.{device_ranges_in, from_head, known_in, threads_behind}
 use Rattle.dma_device.specs.inner.Fields.{AreSound, KnowsWide}
 use Rattle.dma_device.proofs.WidePrograms.{wide_reset}
 use Rattle.dma_device.proofs.Sound.{all_reset, are_known, are_sound, few_channels, sound_of, with_all}
 use Rattle.dma_device.proofs.device.Device.restore_parts.Goals as goal
 
 pub returns-in_default-clause-all : goal.returns-in_default-clause-all
-unfolding saved_device
+unfolding parts_in
 returns-in_default-clause-all c d v config e =
     let same = config ∙ sym (ap (λ (x : DeviceValue). x.config) c.self.view_is) in
-    let found = c.in_default.ensures.only (head_of d) (flat_map saved_thread d.threads) (device_ranges d v) v.known same e in
+    let found = c.in_default.ensures.only (head_in c.args.version d) (flat_map saved_thread d.threads) (device_ranges_in c.args.version d v) (known_in c.args.version d v) refl same e in
     absurd (cc found)
 
 pub restore_threads-requires-clause-sound : goal.restore_threads-requires-clause-sound
@@ -58,7 +58,7 @@ returns-then-not-restore_threads-clause-all c d v config e =
     let same = config ∙ sym (ap (λ (x : DeviceValue). x.config) c.self.view_is) in
     let count = v.count ∙ ap (λ (g : Config). g.channels) same ∙ sym c.self.invariant.count ∙ ap length (sym c.deref_mut.ensures.value) in
     let values = subst (λ (g : Config). All (IsThreadValue g.events) d.threads) same v.threads in
-    let w = c.restore_threads.ensures.all d.threads count values (threads_behind d c.args.save.now e) in
+    let w = c.restore_threads.ensures.all d.threads count values (threads_behind c.args.version d c.args.save.now e) in
     absurd (true≢false (sym w.0 ∙ c.if-not-restore_threads.true))
 
 pub invariant_of-self-2 : goal.invariant_of-self-2
@@ -76,7 +76,7 @@ invariant_of-self-2 c =
     record { config = all.config; known = all.known; count = all.count; sound = all.sound; wide = all.wide; room = all.room; marks = all.marks }
 
 pub returns-clause-ok : goal.returns-clause-ok
-unfolding saved_device
+unfolding parts_in
 returns-clause-ok c =
     λ _. (let d = c.self.inside in
     let save = c.args.save.now in
@@ -87,10 +87,11 @@ returns-clause-ok c =
     sym (take-append-drop 40 save) ∙ ap (λ (l : List ℕ). l ++ drop 40 save) c.in-Some.ensures.found
     ∙ ap (λ (l : List ℕ). head_bytes h ++ l) back
     ∙ ap (λ (g : Config). head_bytes (record h { config = g }) ++ flat_map saved_thread new) c.in-Some.ensures.config
-    ∙ ap (λ (ts : List Thread). head_bytes (record h { config = d.config }) ++ flat_map saved_thread ts) (sym (with_items_is d.threads new len)))
+    ∙ ap (λ (n : ℕ). head_bytes (record h { version = n; config = d.config }) ++ flat_map saved_thread new) c.in-Some.ensures.version
+    ∙ ap (λ (ts : List Thread). head_bytes (record h { version = c.args.version; config = d.config }) ++ flat_map saved_thread ts) (sym (with_items_is d.threads new len)))
 
 pub returns-clause-all : goal.returns-clause-all
-unfolding saved_device
+unfolding parts_in
 returns-clause-all c e v config is =
     let d = c.self.inside in
     let save = c.args.save.now in
@@ -98,13 +99,13 @@ returns-clause-all c e v config is =
     let new = c.restore_threads.new.threads in
     let len : length new ≡ d.threads.len = omega (arith, c.restore_threads.auto.threads, c.deref_mut.ensures.len) in
     let same = config ∙ sym (ap (λ (x : DeviceValue). x.config) c.self.view_is) in
-    let found = c.in-Some.ensures.only (head_of e) (flat_map saved_thread e.threads) (device_ranges e v) v.known same is in
-    let head : h ≡ head_of e = cc found in
+    let found = c.in-Some.ensures.only (head_in c.args.version e) (flat_map saved_thread e.threads) (device_ranges_in c.args.version e v) (known_in c.args.version e v) refl same is in
+    let head : h ≡ head_in c.args.version e = cc found in
     let count = v.count ∙ ap (λ (g : Config). g.channels) same ∙ sym c.self.invariant.count ∙ ap length (sym c.deref_mut.ensures.value) in
     let values = subst (λ (g : Config). All (IsThreadValue g.events) e.threads) same v.threads in
-    let w = c.restore_threads.ensures.all e.threads count values (threads_behind e save is) in (
+    let w = c.restore_threads.ensures.all e.threads count values (threads_behind c.args.version e save is) in (
       refl,
       ap (λ (ts : List Thread). from_head d.config h ts) (with_items_is d.threads new len ∙ w.1)
           ∙ ap (λ (k : Head). from_head d.config k e.threads) head
-          ∙ ap (λ (g : Config). from_head g (head_of e) e.threads) (sym same),
+          ∙ ap (λ (g : Config). from_head g (head_in c.args.version e) e.threads) (sym same),
     )

@@ -1,34 +1,39 @@
-use Rattle.std.proofs.Common.{refl}
+use Rattle.std.proofs.Common.{◌≡◌, ◌∙◌, ap, sym, subst}
 use Rattle.std.proofs.lemmas.Result.{on_ok_weaker}
-use Rattle.dma_mem.specs.declared.call.Call.TheVariants as calls
+use Rattle.dma_mem.specs.Places.{Descriptor}
+use Rattle.dma_mem.specs.Refusals.{refusal_of}
+use Rattle.dma_mem.specs.declared.call.Call.TheVariants.{Submit}
 use Rattle.dma_engine.specs.declared.call.Reply.TheVariants.{Cookie, Refused}
-use Rattle.dma_script.specs.declared.statements.Statement.TheVariants as statements
+use Rattle.dma_commands.specs.Run.{call_answer}
+use Rattle.dma_commands.specs.Transfers.{transfer_of}
+use Rattle.dma_commands.specs.inner.RunSteps.{RunsLine}
+use Rattle.dma_commands.proofs.RunLemmas.{call_runs, fit_runs}
 use Rattle.dma_commands.proofs.Served.{refused-served}
-use Rattle.dmasim.proofs.RaceLemmas.{call_early, fit_call, unfit_early}
 use Rattle.dmasim.proofs.race.early.answer_submit.Goals as goal
 
-pub returns-in-Err-clause-line : goal.returns-in-Err-clause-line
-returns-in-Err-clause-line g c =
-    let print = c.print_line.ensures in
-    unfit_early _ _ _ c.args.ch c.args.words c.in-Err.fault _ _ c.print_line.result c.args.out.now.items c.print_line.new.out.items refl c.in-Err.ensures.err print.ok print.err
+pub returns-in-Ok-submit-clause-line : goal.returns-in-Ok-submit-clause-line
+returns-in-Ok-submit-clause-line g c =
+    let v = c.args.desk.now.engine.view in
+    let w = c.submit.new.self.engine.view in
+    let out = c.args.out.now.items in
+    let new = c.print_line-in-Ok-submit.new.out.items in
+    let result = c.print_line-in-Ok-submit.result in
+    let print = c.print_line-in-Ok-submit.ensures in
+    let is : c.in-Ok.transfer ≡ transfer_of c.args.words = c.in-Ok.ensures.ok in
+    fit_runs v w (refusal_of (transfer_of c.args.words)) _ result out new (ap refusal_of (sym is) ∙ c.in-Ok.ensures.accepted)
+    (subst (λ (u : Descriptor). RunsLine (call_answer v (Submit c.args.ch u)) w result out new) is
+    (call_runs v w (Submit c.args.ch c.in-Ok.transfer) (Cookie c.in-Ok-submit.receipt.cookie) result out new c.in-Ok-submit.ensures.ok.1 (on_ok_weaker result (λ _ e. cc) print.ok) print.ok print.err))
 
-pub returns-in-Ok-answer-clause-line : goal.returns-in-Ok-answer-clause-line
-returns-in-Ok-answer-clause-line g c =
-    let t = c.in-Ok.transfer in
-    let h = c.lend.ensures in
-    let result = c.print_line-in-Ok-answer.result in
-    let print = c.print_line-in-Ok-answer.ensures in
-    let answered = rw c.in-Ok-answer.is at h.3 in
-    call_early _ _ _ (statements.Submit c.args.ch c.args.words) (calls.Submit c.args.ch t) (Cookie c.in-Ok-answer.receipt.cookie) c.args.lender.now c.lend.new.self h.0 h.1 result c.args.out.now.items c.print_line-in-Ok-answer.new.out.items
-    (fit_call c.args.ch c.args.words t h.0.engine.view c.in-Ok.ensures.ok c.in-Ok.ensures.accepted) h.2 answered (on_ok_weaker result (λ _ e. cc) print.ok) print.ok print.err
-
-pub returns-clause-line : goal.returns-clause-line
-returns-clause-line g c =
-    let t = c.in-Ok.transfer in
-    let h = c.lend.ensures in
-    let fault = c.in-Err-answer.fault in
-    let result = c.print_line-in-Err-answer.result in
-    let print = c.print_line-in-Err-answer.ensures in
-    let answered = rw c.in-Err-answer.is at h.3 in
-    call_early _ _ _ (statements.Submit c.args.ch c.args.words) (calls.Submit c.args.ch t) (Refused fault) c.args.lender.now c.lend.new.self h.0 h.1 result c.args.out.now.items c.print_line-in-Err-answer.new.out.items
-    (fit_call c.args.ch c.args.words t h.0.engine.view c.in-Ok.ensures.ok c.in-Ok.ensures.accepted) h.2 answered (on_ok_weaker result (λ p. refused-served fault p.1) print.printed) print.ok print.err
+pub returns-in-Err-submit-clause-line : goal.returns-in-Err-submit-clause-line
+returns-in-Err-submit-clause-line g c =
+    let v = c.args.desk.now.engine.view in
+    let w = c.submit.new.self.engine.view in
+    let out = c.args.out.now.items in
+    let new = c.print_line-in-Err-submit.new.out.items in
+    let result = c.print_line-in-Err-submit.result in
+    let print = c.print_line-in-Err-submit.ensures in
+    let fault = c.in-Err-submit.refused.fault in
+    let is : c.in-Ok.transfer ≡ transfer_of c.args.words = c.in-Ok.ensures.ok in
+    fit_runs v w (refusal_of (transfer_of c.args.words)) _ result out new (ap refusal_of (sym is) ∙ c.in-Ok.ensures.accepted)
+    (subst (λ (u : Descriptor). RunsLine (call_answer v (Submit c.args.ch u)) w result out new) is
+    (call_runs v w (Submit c.args.ch c.in-Ok.transfer) (Refused fault) result out new c.in-Err-submit.ensures.err (on_ok_weaker result (λ p. refused-served fault p.1) print.printed) print.ok print.err))

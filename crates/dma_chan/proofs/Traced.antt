@@ -1,0 +1,258 @@
+-- A run without memory, and one instruction of the machine beside it.
+use Rattle.std.proofs.Common.{◌≡◌, ℕ, zero, suc, ◌+◌, ◌-◌, ◌≤◌, ◌<◌, Bool, true, false, cond, ltb, ◌&&◌, List, [], ◌∷◌, ◌++◌, length, get_or, take, drop, refl, sym, ap, ◌∙◌, subst, arith, append_assoc, append-nil, length-append, inl, inr, Some, Result, Ok, Err}
+use Rattle.std.specs.Prelude.{not, nat_eq, nat_lt, slice_index, slice_index_or, slice_set, unwrap_or}
+use Rattle.std.specs.List.{Contains, range_with_len, zip}
+use Rattle.std.specs.Map.{keys_of, lookup}
+use Rattle.std.proofs.lemmas.Bool.{le-ltb, lt-ltb, cases_lt, true≢false}
+use Rattle.std.proofs.lemmas.List.{map-append, drop-append-le, take_at, drop_at, drop-drop, length-drop, length-take-le, take-map, drop-map, take-append-le}
+use Rattle.std.proofs.lemmas.List.Elements.{Contains-append_left, Contains-append_right}
+use Rattle.std.proofs.lemmas.List.FromFn.{length-range_with_len}
+use Rattle.std.proofs.Math.Seq.{take-add}
+use Rattle.dma_insn.specs.declared.insn.Reg.TheVariants.{Sar, Dar, Ccr}
+use Rattle.dma_insn.specs.declared.insn.Insn.{Insn}
+use Rattle.dma_insn.specs.declared.insn.Insn.TheVariants.{Mov, Ld, St, Rmb, Wmb, Nop, End, Lp, LpEnd, Sev, Wfe}
+use Rattle.dma_mem.specs.Image.{put, after_moves, carried, laid}
+use Rattle.dma_mem.specs.Places.{Descriptor, Apart, sources, destinations, size_of, moves}
+use Rattle.dma_mem.specs.Marking.{MarkList, is_marked}
+use Rattle.dma_mem.specs.declared.marks.MarkKind.{MarkKind}
+use Rattle.dma_mem.specs.declared.marks.MarkKind.TheVariants.{Reading, Writing}
+use Rattle.dma_mem.proofs.ImageOver.{after_moves-more, get_or-after_moves_other, length-after_moves}
+use Rattle.dma_mem.proofs.ImagePut.{get_or-put, length-put}
+use Rattle.dma_mem.proofs.OverTransfers.{keys_in, once_parts, moves-writes, drop-zip, take-zip, carried-zip}
+use Rattle.dma_chan.specs.declared.bursts.Burst.{Burst}
+use Rattle.dma_chan.specs.declared.exec.Registers.{Registers}
+use Rattle.dma_chan.specs.declared.turn.ChanTurn.{ChanTurn}
+use Rattle.dma_chan.specs.declared.turn.ChanTurn.TheVariants.{Moved, Waiting, Ended, Fault}
+use Rattle.dma_chan.specs.declared.turn.FaultKind.{FaultKind}
+use Rattle.dma_chan.specs.Bursts.{burst_len, reaches, touched, writes_of}
+use Rattle.dma_chan.specs.Exec.{source_of, destination_of, counter_of, State, state, act, read_at}
+use Rattle.dma_chan.specs.Others.{Misses, Touches}
+use Rattle.dma_chan.specs.Explains.{Trace, after_insn, after_fetch, next_in, traced, GoesOn, IsCopy}
+use Rattle.dma_chan.specs.inner.At.{moved}
+use Rattle.dma_chan.proofs.BurstsInTurn.{left_up}
+use Rattle.dma_chan.proofs.ControlWords.{touched_up}
+use Rattle.dma_chan.proofs.MemberActs.{cannot_jump, length-read_at}
+
+-- ---- the lists grow
+
+-- a trace that is longer by these addresses
+pub record Grows (x y : Trace) : Type 0 where
+  pub more_loads : List ℕ
+  pub more_stores : List ℕ
+  pub loads : y.loads ≡ x.loads ++ more_loads
+  pub stores : y.stores ≡ x.stores ++ more_stores
+
+grows_none : (x y : Trace) → y.loads ≡ x.loads → y.stores ≡ x.stores → Grows x y
+grows_none x y e f = record { more_loads = []; more_stores = []; loads = e ∙ sym (append-nil x.loads); stores = f ∙ sym (append-nil x.stores) }
+
+pub grows_insn : (i : Insn) (x : Trace) → Grows x (after_insn i x)
+grows_insn Ld x = record { more_loads = touched (source_of x.registers); more_stores = []; loads = refl; stores = sym (append-nil x.stores) }
+grows_insn St x = record { more_loads = []; more_stores = touched (destination_of x.registers); loads = sym (append-nil x.loads); stores = refl }
+grows_insn i x = grows_none x (after_insn i x) refl refl
+
+grows_fetch : (r : Result Insn FaultKind) (x : Trace) → Grows x (after_fetch r x)
+grows_fetch (Ok i) x = grows_insn i x
+grows_fetch (Err kind) x = grows_none x x refl refl
+
+pub grows_on : (x y z : Trace) → Grows x y → Grows y z → Grows x z
+grows_on x y z f g = record {
+  more_loads = f.more_loads ++ g.more_loads;
+  more_stores = f.more_stores ++ g.more_stores;
+  loads = g.loads ∙ ap (λ (xs : List ℕ). xs ++ g.more_loads) f.loads ∙ append_assoc x.loads f.more_loads g.more_loads;
+  stores = g.stores ∙ ap (λ (xs : List ℕ). xs ++ g.more_stores) f.stores ∙ append_assoc x.stores f.more_stores g.more_stores;
+}
+
+pub grows_to : (program : List ℕ) (k m : ℕ) → k ≤ m → Grows (traced program k) (traced program m)
+grows_to program k zero l =
+    let e : k ≡ zero = omega arith in
+    grows_none (traced program k) (traced program zero) (ap (λ (j : ℕ). (traced program j).loads) (sym e)) (ap (λ (j : ℕ). (traced program j).stores) (sym e))
+grows_to program k (suc m) l =
+    elim (cases_lt m k) [
+      | inl last ↦
+          let e : k ≡ suc m = omega arith in
+          grows_none (traced program k) (traced program (suc m)) (ap (λ (j : ℕ). (traced program j).loads) (sym e)) (ap (λ (j : ℕ). (traced program j).stores) (sym e))
+      | inr le ↦ grows_on (traced program k) (traced program m) (traced program (suc m)) (grows_to program k m le) (grows_fetch (next_in program (traced program m)) (traced program m))
+    ]
+
+-- the addresses of a burst that rises, as many as its bytes
+pub length_up : (b : Burst) → b.increments ≡ true → length (touched b) ≡ burst_len b
+length_up b e = ap length (touched_up b e) ∙ length-range_with_len b.addr (burst_len b)
+
+-- ---- images that have the same bytes at some places
+
+-- if two images have the same byte at an address, they still do after the same bytes are put into both
+pub put-agrees : (x y : List ℕ) (es : List (ℕ × ℕ)) (a : ℕ) → a < length x → a < length y → get_or x a 0 ≡ get_or y a 0 → get_or (put x es) a 0 ≡ get_or (put y es) a 0
+put-agrees x y es a in_x in_y same = get_or-put x es a in_x ∙ ap (unwrap_or (lookup (nat_eq a) es)) same ∙ sym (get_or-put y es a in_y)
+
+pub read_at-agrees : (x y places : List ℕ) → ((a : ℕ) → Contains places a → get_or x a 0 ≡ get_or y a 0) → read_at x places ≡ read_at y places
+read_at-agrees x y [] h = refl
+read_at-agrees x y (p ∷ rest) h =
+    let here : get_or x p 0 ≡ get_or y p 0 = h p (0, omega arith, refl) in
+    let there : read_at x rest ≡ read_at y rest = read_at-agrees x y rest (λ a i. h a (Contains-append_right (p ∷ []) rest a i)) in
+    cc
+
+-- ---- a copy that goes on
+
+-- what is put at the next destinations
+pub laid_more : (first : List ℕ) (t : Descriptor) (k n : ℕ) → IsCopy t → put (laid first t k) (zip (take n (drop k (destinations t))) (read_at first (take n (drop k (sources t))))) ≡ laid first t (k + n)
+laid_more first t k n copy =
+    let ds = destinations t in
+    let ss = sources t in
+    let zs = zip ds ss in
+    let more = take n (drop k zs) in
+    let same : carried first more ≡ zip (take n (drop k ds)) (read_at first (take n (drop k ss))) =
+    ap (carried first) (ap (take n) (drop-zip k ds ss) ∙ take-zip n (drop k ds) (drop k ss)) ∙ carried-zip first (take n (drop k ds)) (take n (drop k ss)) in
+    let apart : Apart (keys_of more) (keys_of (take k zs)) =
+    λ a i j. once_parts ds k n copy.once a (keys_in n (drop k ds) (drop k ss) a (rw drop-zip at i)) (keys_in k ds ss a j) in
+    let all = after_moves-more first (take k zs) more [] apart in
+    ap (put (laid first t k)) (sym same)
+    ∙ ap (λ (ms : List (ℕ × ℕ)). put (after_moves first ms) (carried first more)) (sym (append-nil (take k zs)))
+    ∙ sym all
+    ∙ ap (λ (ms : List (ℕ × ℕ)). after_moves first (take k zs ++ ms)) (append-nil more)
+    ∙ ap (after_moves first) (sym (take-add k n zs))
+
+-- a source keeps its byte
+pub source_kept : (first : List ℕ) (t : Descriptor) (k a : ℕ) → IsCopy t → Contains (sources t) a → get_or (laid first t k) a 0 ≡ get_or first a 0
+source_kept first t k a copy i = get_or-after_moves_other first (moves t k) a (λ j. copy.apart a i (moves-writes t k a j))
+
+pub length-laid : (first : List ℕ) (t : Descriptor) (k : ℕ) → length (laid first t k) ≡ length first
+length-laid first t k = length-after_moves first (moves t k)
+
+-- ---- where a burst isn't stopped
+
+test_all : (x y : Bool) → x ≡ true → y ≡ true → (x && y) ≡ true
+test_all true true e f = refl
+test_all true false e f = f
+test_all false y e f = absurd (cc)
+
+unmarked : (m : Bool) → m ≡ false → not m ≡ true
+unmarked false e = refl
+unmarked true e = absurd (cc)
+
+pub reaches_all : (kind : MarkKind) (marks : MarkList) (size : ℕ) (places : List ℕ) → ((a : ℕ) → Contains places a → a < size) → ((a : ℕ) → Contains places a → is_marked kind marks a ≡ false) → reaches kind marks size places ≡ true
+unfolding reaches
+reaches_all kind marks size [] low none = refl
+reaches_all kind marks size (a ∷ places) low none =
+    let here : Contains (a ∷ places) a = (0, omega arith, refl) in
+    let rest = λ (b : ℕ) (i : Contains places b). Contains-append_right (a ∷ []) places b i in
+    let one : (nat_lt a size && not (is_marked kind marks a)) ≡ true = test_all _ _ (lt-ltb a size (low a here)) (unmarked _ (none a here)) in
+    test_all _ _ one (reaches_all kind marks size places (λ b i. low b (rest b i)) (λ b i. none b (rest b i)))
+
+by_test : (P : ChanTurn × State → Type 0) (b : Bool) (x y : ChanTurn × State) → (b ≡ true → P x) → (b ≡ false → P y) → P (cond b x y)
+by_test P true x y f g = f refl
+by_test P false x y f g = g refl
+
+-- ---- the machine beside the run without memory
+
+-- Registers, buffer and memory after a run, if the memory was `first` before it: the buffer has the bytes that were at
+-- the addresses that are read and not yet written, and the memory those that are stored so far.
+pub record Mirrors (t : Descriptor) (first : List ℕ) (x : Trace) (registers : Registers) (buffer image : List ℕ) : Type 0 where
+  pub registers_are : registers ≡ x.registers
+  pub buffer_is : buffer ≡ drop (length x.stores) (read_at first x.loads)
+  pub few : length x.stores ≤ length x.loads
+  pub same : (a : ℕ) → Touches t a → get_or image a 0 ≡ get_or (laid first t (length x.stores)) a 0
+  pub fits : (a : ℕ) → Touches t a → a < length image
+
+-- what is read and written so far is a part of the copy
+pub record Inside (t : Descriptor) (x : Trace) : Type 0 where
+  pub loads_rest : List ℕ
+  pub stores_rest : List ℕ
+  pub loads : sources t ≡ x.loads ++ loads_rest
+  pub stores : destinations t ≡ x.stores ++ stores_rest
+
+-- what each answer of an instruction that goes on says
+abbrev pub Answers : Descriptor → List ℕ → MarkList → Trace → ChanTurn × State → Type 0
+Answers t first marks x (Moved, s) = Mirrors t first x s.registers s.buffer s.image
+Answers t first marks x (Waiting e, s) = t.wait ≡ Some e
+Answers t first marks x (Ended, s) = ⊥
+Answers t first marks x (Fault kind, s) = ¬ Misses marks t
+
+module _ (t : Descriptor) (first : List ℕ) (marks : MarkList) (copy : IsCopy t) (low : (a : ℕ) → Touches t a → a < length first) (x : Trace) (buffer image : List ℕ) (flags : List Bool) (m : Mirrors t first x x.registers buffer image) where
+  abbrev here : State
+  here = state x.registers buffer image flags
+
+  held : length buffer ≡ length x.loads - length x.stores
+  held = ap length m.buffer_is ∙ length-drop (length x.stores) (read_at first x.loads) ∙ ap (λ (n : ℕ). n - length x.stores) (length-read_at first x.loads)
+
+  -- an instruction that moves no byte
+  quiet : (r : Registers) (new : List Bool) → Answers t first marks (record { registers = r; loads = x.loads; stores = x.stores }) (Moved, state r buffer image new)
+  quiet r new = record { registers_are = refl; buffer_is = m.buffer_is; few = m.few; same = m.same; fits = m.fits }
+
+  load_answers : Inside t (after_insn Ld x) → GoesOn t.wait t.signal (size_of t) Ld x → Answers t first marks (after_insn Ld x) (act marks Ld here)
+  load_answers part c =
+      let b = source_of x.registers in
+      let new = touched b in
+      let room : ltb 256 (length buffer + burst_len b) ≡ false = le-ltb 256 _ (omega (arith, held, c, m.few)) in
+      let source : (a : ℕ) → Contains new a → Contains (sources t) a =
+      λ a i. subst (λ (xs : List ℕ). Contains xs a) (sym part.loads) (Contains-append_left (x.loads ++ new) part.loads_rest a (Contains-append_right x.loads new a i)) in
+      let bytes : read_at image new ≡ read_at first new = read_at-agrees image first new (λ a i. m.same a (inl (source a i)) ∙ source_kept first t (length x.stores) a copy (source a i)) in
+      rw room (by_test (Answers t first marks (after_insn Ld x)) (reaches Reading marks (length image) new) _ _ (λ e. record {
+        registers_are = refl;
+        buffer_is =
+            ap (λ (xs : List ℕ). xs ++ read_at image new) m.buffer_is
+            ∙ ap (λ (xs : List ℕ). drop (length x.stores) (read_at first x.loads) ++ xs) bytes
+            ∙ sym (drop-append-le (length x.stores) (read_at first x.loads) (read_at first new) (omega (arith, m.few, length-read_at first x.loads)))
+            ∙ ap (drop (length x.stores)) (sym (map-append (λ (a : ℕ). slice_index first a) x.loads new));
+        few = omega (arith, m.few, length-append x.loads new);
+        same = m.same;
+        fits = m.fits;
+      }) (λ e misses. true≢false (sym (reaches_all Reading marks (length image) new (λ a i. m.fits a (inl (source a i))) (λ a i. misses.reads a (source a i))) ∙ e)))
+
+  store_answers : Inside t (after_insn St x) → Inside t x → GoesOn t.wait t.signal (size_of t) St x → Answers t first marks (after_insn St x) (act marks St here)
+  store_answers part before c =
+      let b = destination_of x.registers in
+      let new = touched b in
+      let n = burst_len b in
+      let k = length x.stores in
+      let long : length new ≡ n = length_up b c.1 in
+      let whole : ltb (length buffer) n ≡ false = le-ltb _ _ (omega (arith, held, c.0)) in
+      let is_in : (a : ℕ) → Contains new a → Contains (destinations t) a =
+      λ a i. subst (λ (xs : List ℕ). Contains xs a) (sym part.stores) (Contains-append_left (x.stores ++ new) part.stores_rest a (Contains-append_right x.stores new a i)) in
+      -- the places of the burst
+      let at_dst : take n (drop k (destinations t)) ≡ new =
+      ap (λ (xs : List ℕ). take n (drop k xs)) (part.stores ∙ append_assoc x.stores new part.stores_rest)
+      ∙ ap (take n) (drop_at x.stores (new ++ part.stores_rest) k refl)
+      ∙ take_at new part.stores_rest n long in
+      let fits_in : n ≤ length (drop k x.loads) = omega (arith, c.0, length-drop k x.loads) in
+      let at_src : take n (drop k (sources t)) ≡ take n (drop k x.loads) =
+      ap (λ (xs : List ℕ). take n (drop k xs)) before.loads
+      ∙ ap (take n) (drop-append-le k x.loads before.loads_rest (omega (arith, c.0)))
+      ∙ take-append-le n (drop k x.loads) before.loads_rest fits_in in
+      let bytes : take n buffer ≡ read_at first (take n (drop k (sources t))) =
+      ap (take n) (m.buffer_is ∙ drop-map (λ (a : ℕ). slice_index first a) k x.loads)
+      ∙ take-map (λ (a : ℕ). slice_index first a) n (drop k x.loads)
+      ∙ ap (read_at first) (sym at_src) in
+      let length_bytes : length (take n buffer) ≡ n = length-take-le n buffer (omega (arith, held, c.0)) in
+      let left : writes_of b (take n buffer) ≡ zip (take n (drop k (destinations t))) (read_at first (take n (drop k (sources t)))) =
+      left_up b (take n buffer) c.1
+      ∙ ap (λ (j : ℕ). zip (range_with_len b.addr j) (take n buffer)) length_bytes
+      ∙ ap (λ (xs : List ℕ). zip xs (take n buffer)) (sym (touched_up b c.1) ∙ sym at_dst)
+      ∙ ap (zip (take n (drop k (destinations t)))) bytes in
+      let count : length (x.stores ++ new) ≡ k + n = omega (arith, length-append x.stores new, long) in
+      let base = laid first t k in
+      rw whole (by_test (Answers t first marks (after_insn St x)) (reaches Writing marks (length image) new) _ _ (λ e. record {
+        registers_are = refl;
+        buffer_is = ap (drop n) m.buffer_is ∙ drop-drop n k (read_at first x.loads) ∙ ap (λ (j : ℕ). drop j (read_at first x.loads)) (sym count);
+        few = omega (arith, c.0, count);
+        same = λ a touches.
+            ap (λ (ms : List (ℕ × ℕ)). get_or (put image ms) a 0) left
+            ∙ put-agrees image base (zip (take n (drop k (destinations t))) (read_at first (take n (drop k (sources t))))) a (m.fits a touches) (omega (arith, low a touches, length-laid first t k)) (m.same a touches)
+            ∙ ap (λ (i : List ℕ). get_or i a 0) (laid_more first t k n copy)
+            ∙ ap (λ (j : ℕ). get_or (laid first t j) a 0) (sym count);
+        fits = λ a touches. omega (arith, m.fits a touches, length-put image (writes_of b (take n buffer)));
+      }) (λ e misses. true≢false (sym (reaches_all Writing marks (length image) new (λ a i. m.fits a (inr (is_in a i))) (λ a i. misses.writes a (is_in a i))) ∙ e)))
+
+  pub answers : (i : Insn) → Inside t (after_insn i x) → Inside t x → GoesOn t.wait t.signal (size_of t) i x → Answers t first marks (after_insn i x) (act marks i here)
+  answers Ld part before c = load_answers part c
+  answers St part before c = store_answers part before c
+  answers (Mov Ccr v) part before c = rw c (quiet (moved (Mov Ccr v) x.registers) flags)
+  answers (Mov Sar v) part before c = quiet (moved (Mov Sar v) x.registers) flags
+  answers (Mov Dar v) part before c = quiet (moved (Mov Dar v) x.registers) flags
+  answers (Lp k n) part before c = quiet (moved (Lp k n) x.registers) flags
+  answers (LpEnd k back) part before c = rw (cannot_jump (counter_of k x.registers) x.registers.pc back (λ n. c (omega (arith, n)))) (quiet (moved (LpEnd k back) x.registers) flags)
+  answers Rmb part before c = quiet (moved Rmb x.registers) flags
+  answers Wmb part before c = quiet (moved Wmb x.registers) flags
+  answers Nop part before c = quiet (moved Nop x.registers) flags
+  answers End part before c = absurd c
+  answers (Sev e) part before c = quiet (moved (Sev e) x.registers) (slice_set flags e true)
+  answers (Wfe e v) part before c = by_test (Answers t first marks (after_insn (Wfe e v) x)) (slice_index_or flags e false) _ _ (λ set. quiet (moved (Wfe e v) x.registers) (slice_set flags e false)) (λ clear. c.0)

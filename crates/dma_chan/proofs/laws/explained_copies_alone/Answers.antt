@@ -1,0 +1,5 @@
+use Rattle.dma_chan.proofs.ExplainedAlone.{explained_copies_alone}
+use Rattle.dma_chan.proofs.laws.explained_copies_alone.Goals as goal
+
+pub returns : goal.returns
+returns c = explained_copies_alone

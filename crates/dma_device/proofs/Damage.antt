@@ -1,0 +1,122 @@
+-- A save in which one byte is another byte is the save of no device.
+use Rattle.std.proofs.Common.{◌≡◌, ◌≢◌, ◌∙◌, ℕ, zero, suc, ◌+◌, ◌%◌, ◌^◌, ◌<◌, ◌≤◌, ◌++◌, List, [], ◌∷◌, length, take, drop, get_or, set, ap, refl, sym, arith, inl, inr}
+use Rattle.std.specs.Int.{w32, from_le_bytes, to_le_bytes}
+use Rattle.std.proofs.lemmas.Bool.{cases_eq, cases_lt}
+use Rattle.std.proofs.lemmas.List.{drop_at, get_or-set_other, get_or-set_same, length-set, take-append-drop, take_at}
+use Rattle.std.proofs.lemmas.Nat.{from_le_bytes-to_le_bytes_4}
+use Rattle.dma_chan.specs.Saved.{adler, checksum}
+use Rattle.dma_device.specs.Device.{DeviceValue}
+use Rattle.dma_device.specs.Snapshot.{DamageIsRefused, parts_in, saved_device}
+use Rattle.dma_device.proofs.SavedDevices.{old_version, own_length, own_parts, own_version}
+
+-- ---- a list with another item
+
+take_above : (xs : List ℕ) (n k v : ℕ) → n ≤ k → take n (set xs k v) ≡ take n xs
+take_above [] n k v h = refl
+take_above (x ∷ xs) zero k v h = refl
+take_above (x ∷ xs) (suc n) zero v h = absurd (omega arith)
+take_above (x ∷ xs) (suc n) (suc k) v h = ap (λ (ys : List ℕ). x ∷ ys) (take_above xs n k v (omega arith))
+
+drop_below : (xs : List ℕ) (n k v : ℕ) → k < n → drop n (set xs k v) ≡ drop n xs
+drop_below [] n k v h = refl
+drop_below (x ∷ xs) zero k v h = absurd (omega arith)
+drop_below (x ∷ xs) (suc n) zero v h = refl
+drop_below (x ∷ xs) (suc n) (suc k) v h = drop_below xs n k v (omega arith)
+
+take_below : (xs : List ℕ) (n k v : ℕ) → k < n → take n (set xs k v) ≡ set (take n xs) k v
+take_below [] zero k v h = refl
+take_below [] (suc n) k v h = refl
+take_below (x ∷ xs) zero k v h = absurd (omega arith)
+take_below (x ∷ xs) (suc n) zero v h = refl
+take_below (x ∷ xs) (suc n) (suc k) v h = ap (λ (ys : List ℕ). x ∷ ys) (take_below xs n k v (omega arith))
+
+get_take : (xs : List ℕ) (n k : ℕ) → k < n → get_or (take n xs) k 0 ≡ get_or xs k 0
+get_take [] zero k h = absurd (omega arith)
+get_take [] (suc n) k h = refl
+get_take (x ∷ xs) zero k h = absurd (omega arith)
+get_take (x ∷ xs) (suc n) zero h = refl
+get_take (x ∷ xs) (suc n) (suc k) h = get_take xs n k (omega arith)
+
+-- ---- the sum of bytes, which is in the low half of the checksum
+
+abbrev total : List ℕ → ℕ
+total [] = 0
+total (b ∷ bs) = b + total bs
+
+total_set : (xs : List ℕ) (k v : ℕ) → k < length xs → total (set xs k v) + get_or xs k 0 ≡ total xs + v
+total_set [] k v h = absurd (omega arith)
+total_set (x ∷ xs) zero v h = omega arith
+total_set (x ∷ xs) (suc k) v h = let rest = total_set xs k v (omega arith) in omega (arith, rest)
+
+adler_low : (low high : ℕ) (bs : List ℕ) → low < 65521 → adler low high bs % 65536 ≡ (low + total bs) % 65521
+unfolding adler
+adler_low low high [] few = omega (arith, few)
+adler_low low high (b ∷ bs) few =
+    let next = (low + b) % 65521 in
+    let rest = adler_low next ((high + next) % 65521) bs (omega arith) in
+    rest ∙ omega arith
+
+adler_few : (low high : ℕ) (bs : List ℕ) → low < 65521 → high < 65521 → adler low high bs < 2 ^ 32
+unfolding adler
+adler_few low high [] a b = omega (arith, a, b)
+adler_few low high (c ∷ bs) a b =
+    let next = (low + c) % 65521 in adler_few next ((high + next) % 65521) bs (omega arith) (omega arith)
+
+sum_low : (bs : List ℕ) → checksum bs % 65536 ≡ (1 + total bs) % 65521
+unfolding checksum
+sum_low bs = adler_low 1 0 bs (omega arith)
+
+sum_few : (bs : List ℕ) → checksum bs < 2 ^ 32
+unfolding checksum
+sum_few bs = adler_few 1 0 bs (omega arith) (omega arith)
+
+-- lists with the same checksum don't differ in one byte
+one_differs : (bs : List ℕ) (k v : ℕ) → k < length bs → get_or bs k 0 < 256 → v < 256 → get_or bs k 0 ≢ v → checksum (set bs k v) ≢ checksum bs
+one_differs bs k v within old new other same =
+    let low : (1 + total (set bs k v)) % 65521 ≡ (1 + total bs) % 65521 = sym (sum_low (set bs k v)) ∙ ap (λ (n : ℕ). n % 65536) same ∙ sum_low bs in
+    let sums = total_set bs k v within in
+    omega (arith, low, sums, old, new, other)
+
+-- ---- a save
+
+front : (save : List ℕ) (d : DeviceValue) (n : ℕ) → save ≡ saved_device d → length (parts_in 2 d) ≡ n → take n save ≡ parts_in 2 d
+front save d n is count = ap (take n) (is ∙ own_parts d) ∙ take_at (parts_in 2 d) (to_le_bytes w32 (checksum (parts_in 2 d))) n count
+
+back : (save : List ℕ) (d : DeviceValue) (n : ℕ) → save ≡ saved_device d → length (parts_in 2 d) ≡ n → drop n save ≡ to_le_bytes w32 (checksum (parts_in 2 d))
+back save d n is count = ap (drop n) (is ∙ own_parts d) ∙ drop_at (parts_in 2 d) (to_le_bytes w32 (checksum (parts_in 2 d))) n count
+
+pub damage_is_refused : DamageIsRefused
+damage_is_refused d e save k v is bytes within few other version (inr old) =
+    let new : get_or (set save k v) 7 0 ≡ 1 = ap (λ (l : List ℕ). get_or l 7 0) old ∙ old_version e in
+    let was : get_or save 7 0 ≡ 2 = ap (λ (l : List ℕ). get_or l 7 0) is ∙ own_version d in
+    elim (cases_eq k 7) [
+      | inl here ↦ version here (sym (get_or-set_same save k v 0 within) ∙ ap (λ (j : ℕ). get_or (set save k v) j 0) here ∙ new)
+      | inr apart ↦
+          let same = get_or-set_other save k 7 v 0 (λ seven. apart (sym seven)) in
+          omega (arith, new, was, same)
+    ]
+damage_is_refused d e save k v is bytes within few other version (inl own) =
+    let n = length (parts_in 2 d) in
+    let changed = set save k v in
+    let long = length-set save k v in
+    let count : length (parts_in 2 e) ≡ n = omega (arith, ap length is, own_length d, ap length own, own_length e, long) in
+    let one = front save d n is refl in
+    let two = front changed e n own count in
+    let sum_one = back save d n is refl in
+    let sum_two = back changed e n own count in
+    elim (cases_lt k n) [
+      | inl below ↦
+          let parts : parts_in 2 e ≡ set (parts_in 2 d) k v = sym two ∙ take_below save n k v below ∙ ap (λ (l : List ℕ). set l k v) one in
+          let sums : to_le_bytes w32 (checksum (parts_in 2 e)) ≡ to_le_bytes w32 (checksum (parts_in 2 d)) = sym sum_two ∙ drop_below save n k v below ∙ sum_one in
+          let same : checksum (parts_in 2 e) ≡ checksum (parts_in 2 d) =
+          sym (from_le_bytes-to_le_bytes_4 (checksum (parts_in 2 e)) (sum_few (parts_in 2 e))) ∙ ap (from_le_bytes w32) sums ∙ from_le_bytes-to_le_bytes_4 (checksum (parts_in 2 d)) (sum_few (parts_in 2 d)) in
+          let item : get_or (parts_in 2 d) k 0 ≡ get_or save k 0 = ap (λ (l : List ℕ). get_or l k 0) (sym one) ∙ get_take save n k below in
+          one_differs (parts_in 2 d) k v below (omega (arith, item, bytes k)) few (λ e. other (sym item ∙ e)) (ap checksum (sym parts) ∙ same)
+      | inr above ↦
+          let parts : parts_in 2 e ≡ parts_in 2 d = sym two ∙ take_above save n k v above ∙ one in
+          let sums : drop n changed ≡ drop n save = sum_two ∙ ap (λ (l : List ℕ). to_le_bytes w32 (checksum l)) parts ∙ sym sum_one in
+          let all : changed ≡ save =
+          sym (take-append-drop n changed) ∙ ap (λ (l : List ℕ). l ++ drop n changed) (take_above save n k v above)
+          ∙ ap (λ (l : List ℕ). take n save ++ l) sums ∙ take-append-drop n save in
+          other (ap (λ (l : List ℕ). get_or l k 0) (sym all) ∙ get_or-set_same save k v 0 within)
+    ]

@@ -1,0 +1,611 @@
+-- What sets and takes events.
+use Rattle.std.proofs.Common.{◌≡◌, ◌≢◌, ◌∙◌, ◌⊎◌, ℕ, zero, suc, ◌+◌, ◌-◌, ◌%◌, ◌^◌, ◌<◌, ◌≤◌, Bool, true, false, ◌&&◌, List, [], ◌∷◌, length, get_or, set, Option, Some, None, Result, Ok, Err, ap, refl, sym, subst, arith, inl, inr, true≢false, bit_and, w32}
+use Rattle.std.specs.Prelude.{◌↔◌, if◌then◌else◌, max, min, nat_lt, slice_get, slice_index_or}
+use Rattle.std.specs.Int.{bit_at, bit_not}
+use Rattle.std.proofs.lemmas.Bool.{cases_eq, eq-eqb, ne_eqb}
+use Rattle.std.proofs.lemmas.List.{get_or-set_same, get_or-set_other, length-set}
+use Rattle.std.proofs.lemmas.Nat.Bits.{bit_at-lt, bit_at_and, bit_at_not, bit_at_ones, bit_at_or, bit_at-zero}
+use Rattle.dma_insn.specs.ControlWord.{is_control}
+use Rattle.dma_insn.specs.declared.insn.Insn.{Insn}
+use Rattle.dma_insn.specs.declared.insn.Insn.TheVariants.{Mov, Ld, St, Rmb, Wmb, Nop, End, Lp, LpEnd, Sev, Wfe}
+use Rattle.dma_insn.specs.declared.insn.Reg.TheVariants.{Sar, Ccr, Dar}
+use Rattle.dma_mem.specs.declared.marks.MarkKind.TheVariants.{Reading, Writing}
+use Rattle.dma_mem.specs.Flags.{flags_of}
+use Rattle.dma_mem.specs.Marking.{MarkList}
+use Rattle.dma_mem.specs.Regions.{image_of, pieces_of}
+use Rattle.dma_mem.specs.declared.regions.Region.{Region}
+use Rattle.dma_mem.proofs.FlagBits.{get_or-flags_of, length-flags_of}
+use Rattle.dma_chan.specs.declared.exec.Registers.{Registers}
+use Rattle.dma_chan.specs.declared.turn.ChanTurn.{ChanTurn}
+use Rattle.dma_chan.specs.declared.turn.ChanTurn.TheVariants.{Moved, Waiting, Ended, Fault}
+use Rattle.dma_chan.specs.declared.turn.FaultKind.{FaultKind}
+use Rattle.dma_chan.specs.Bursts.{reaches, burst_len, touched}
+use Rattle.dma_chan.specs.Channel.{ahead_of, code_of, state_of}
+use Rattle.dma_chan.specs.Exec.{ChangesNothing, State, act, buffer_size, counter_of, destination_of, exec_fetched, source_of}
+use Rattle.dma_chan.specs.Stepping.{Machine, TakesSteps, after_steps, answer_at, goes_on_after, machine, signal_after, signal_of}
+use Rattle.dma_chan.proofs.SteppedOver.{is_still, went_before}
+use Rattle.dma_device.specs.declared.device.turns.Called.{Called}
+use Rattle.dma_device.specs.declared.device.turns.Turn.{Turn}
+use Rattle.dma_device.specs.declared.thread.Status.TheVariants.{Executing, WaitingForEvent}
+use Rattle.dma_device.specs.declared.thread.Thread.{Thread}
+use Rattle.dma_device.specs.Accesses.{Access, Answer, Does, Happen, Reads, Resets, Stores, Turns, Writes}
+use Rattle.dma_device.specs.CallSteps.{machine_in, marks_in}
+use Rattle.dma_device.specs.Device.{DeviceValue, all_events, is_interrupt, with_thread, written}
+use Rattle.dma_device.specs.Events.{CallTakes, Ends, EventsAreExact, IsSet, NoneEnds, SetSince, Sets, TakenWasSet, WaitsForUnset}
+use Rattle.dma_device.specs.Interrupts.{DebugSignals, HasLine, IsHigh}
+use Rattle.dma_device.specs.Run.{Outcome, called_if}
+use Rattle.dma_device.specs.Thread.{answer, answered, failed, is_too_wide, moved, most_on, operand_invalid}
+use Rattle.dma_device.specs.Turns.{CallsIf, CallsThread, TakesTurn, begins, follows, is_beside, may_follow, nothing, raises, runs_at, visible_events, with_flags}
+use Rattle.dma_device.proofs.CallKeeps.{if_config}
+use Rattle.dma_device.proofs.Calls.{call_is}
+use Rattle.dma_device.proofs.Interrupts.{access_has}
+use Rattle.dma_device.proofs.Runs.{if_is}
+use Rattle.dma_device.proofs.Sound.{step_waits}
+use Rattle.dma_device.proofs.Starts.{set_found}
+use Rattle.dma_device.proofs.TurnRaises.{IsClear, flag_bit, hidden, if_inten, is_signal, no_bit, quiet, step_clear, step_sets}
+use Rattle.dma_device.proofs.Waits.{is_wfe}
+use Rattle.dma_device.proofs.WriteRaises.{dbgcmd_raises, has_kept, others_keep_lines}
+use Rattle.dma_device.proofs.History as history
+
+-- ---- one step
+
+set_true : (xs : List Bool) (e k : ℕ) → get_or xs k false ≡ true → get_or (set xs e true) k false ≡ true
+set_true [] e k h = h
+set_true (x ∷ xs) zero zero h = refl
+set_true (x ∷ xs) zero (suc k) h = h
+set_true (x ∷ xs) (suc e) zero h = h
+set_true (x ∷ xs) (suc e) (suc k) h = set_true xs e k h
+
+set_false : (xs : List Bool) (k : ℕ) → IsClear k (set xs k false)
+set_false [] k = refl
+set_false (x ∷ xs) zero = refl
+set_false (x ∷ xs) (suc k) = set_false xs k
+
+abbrev Is : ℕ → List Bool → Type 0
+Is k flags = get_or flags k false ≡ true
+
+chosen : (b : Bool) (x y : ChanTurn × State) (k : ℕ) → Is k x.1.flags → Is k y.1.flags → Is k (if b then x else y).1.flags
+chosen true x y k p q = p
+chosen false x y k p q = q
+
+abbrev passes_if : Bool → ℕ → Registers → State → ChanTurn × State
+passes_if b e r s = if b then (Moved, record s { registers = r; flags = set s.flags e false }) else (Waiting e, s)
+
+wfe_keeps : (e k : ℕ) (b : Bool) (s : State) (r : Registers) → Is k s.flags → (e ≡ k → (passes_if b e r s).0 ≢ Moved) → Is k (passes_if b e r s).1.flags
+wfe_keeps e k true s r h none = elim (cases_eq e k) [
+  | inl same ↦ absurd (none same refl)
+  | inr other ↦ get_or-set_other s.flags e k false false (λ same. other (sym same)) ∙ h
+]
+wfe_keeps e k false s r h none = h
+
+act_keeps : (marks : MarkList) (i : Insn) (s : State) (k : ℕ) → Is k s.flags → ((v : Bool) → i ≡ Wfe k v → (act marks i s).0 ≢ Moved) → Is k (act marks i s).1.flags
+act_keeps marks (Mov Sar v) s k h none = h
+act_keeps marks (Mov Dar v) s k h none = h
+act_keeps marks (Mov Ccr v) s k h none = chosen (is_control v) _ _ k h h
+act_keeps marks Ld s k h none =
+    let b = source_of s.registers in
+    chosen (nat_lt buffer_size (length s.buffer + burst_len b)) _ _ k h (chosen (reaches Reading marks (length s.image) (touched b)) _ _ k h h)
+act_keeps marks St s k h none =
+    let b = destination_of s.registers in
+    chosen (nat_lt (length s.buffer) (burst_len b)) _ _ k h (chosen (reaches Writing marks (length s.image) (touched b)) _ _ k h h)
+act_keeps marks (Lp c n) s k h none = h
+act_keeps marks (LpEnd c back) s k h none = chosen (nat_lt 0 (counter_of c s.registers) && nat_lt s.registers.pc back) _ _ k h h
+act_keeps marks (Sev e) s k h none = set_true s.flags e k h
+act_keeps marks (Wfe e v) s k h none = wfe_keeps e k (slice_index_or s.flags e false) s _ h (λ same. none v (ap (λ (j : ℕ). Wfe j v) same))
+act_keeps marks Rmb s k h none = h
+act_keeps marks Wmb s k h none = h
+act_keeps marks Nop s k h none = h
+act_keeps marks End s k h none = h
+
+-- a set flag stays set, unless a DMAWFE takes it
+step_keeps : (marks : MarkList) (next : Result Insn FaultKind) (s : State) (k : ℕ) → Is k s.flags → ((v : Bool) → next ≡ Ok (Wfe k v) → (exec_fetched marks next s).0 ≢ Moved) → Is k (exec_fetched marks next s).1.flags
+step_keeps marks (Ok i) s k h none = act_keeps marks i s k h (λ v is. none v (ap (λ (j : Insn). Ok j) is))
+step_keeps marks (Err kind) s k h none = h
+
+-- a DMAWFE that passes found its flag set, and clears it
+wfe_takes : (marks : MarkList) (s : State) (k : ℕ) (v b : Bool) → get_or s.flags k false ≡ b → (act marks (Wfe k v) s).0 ≡ Moved → Is k s.flags × IsClear k (act marks (Wfe k v) s).1.flags
+wfe_takes marks s k v true is moved = (is, rw is (set_false s.flags k))
+wfe_takes marks s k v false is moved = absurd (let waits : Waiting k ≡ Moved = rw is at moved in cc)
+
+step_takes : (marks : MarkList) (next : Result Insn FaultKind) (s : State) (k : ℕ) (v : Bool) → next ≡ Ok (Wfe k v) → (exec_fetched marks next s).0 ≡ Moved → Is k s.flags × IsClear k (exec_fetched marks next s).1.flags
+step_takes marks next s k v is moved =
+    subst (λ (x : Result Insn FaultKind). Is k s.flags × IsClear k (exec_fetched marks x s).1.flags) (sym is)
+    (wfe_takes marks s k v (get_or s.flags k false) refl (ap (λ (x : Result Insn FaultKind). (exec_fetched marks x s).0) (sym is) ∙ moved))
+
+-- one that waits found it clear
+wfe_unset : (marks : MarkList) (s : State) (k : ℕ) (v b : Bool) → get_or s.flags k false ≡ b → (act marks (Wfe k v) s).0 ≡ Waiting k → IsClear k s.flags
+wfe_unset marks s k v true is waits = absurd (let moves : Moved ≡ Waiting k = rw is at waits in cc)
+wfe_unset marks s k v false is waits = is
+
+step_unset : (marks : MarkList) (next : Result Insn FaultKind) (s : State) (k : ℕ) → (exec_fetched marks next s).0 ≡ Waiting k → IsClear k s.flags
+step_unset marks next s k waits =
+    let w = is_wfe next k (step_waits marks next s k waits) in
+    wfe_unset marks s k w.0 (get_or s.flags k false) refl (ap (λ (x : Result Insn FaultKind). (exec_fetched marks x s).0) (sym w.1) ∙ waits)
+
+-- ---- the steps of a call
+
+abbrev state_in : Machine → State
+state_in u = state_of u.channel u.image u.flags
+
+module _ (marks : MarkList) (s : Machine) (k : ℕ) where
+  abbrev at : ℕ → Machine
+  at j = after_steps marks s j
+
+  abbrev Clear : ℕ → Type 0
+  Clear j = IsClear k (at j).flags
+
+  abbrev Passes : ℕ → Type 0
+  Passes j = (v : Bool) × (ahead_of (at j).channel ≡ Ok (Wfe k v)) × (answer_at marks (at j) ≡ Moved)
+
+  abbrev GoesTo : ℕ → Type 0
+  GoesTo j = (m : ℕ) → m < suc j → goes_on_after marks s m ≡ true
+
+  clear_since : (i j : ℕ) → i ≤ j → GoesTo j → Clear i → Clear j
+  clear_since i zero few goes h = let none : i ≡ 0 = omega arith in subst Clear none h
+  clear_since i (suc j) few goes h = elim (cases_eq i (suc j)) [
+    | inl same ↦ subst Clear same h
+    | inr early ↦
+        let before = clear_since i j (omega arith) (λ m l. goes m (omega arith)) h in
+        let next = ahead_of (at j).channel in
+        step_clear marks next (state_in (at j)) k before (quiet (answer_at marks (at j)) (signal_of next) k (went_before marks s (suc j) (goes (suc j) (omega arith))))
+  ]
+
+  set_since : (j : ℕ) → GoesTo j → Is k s.flags → ((i : ℕ) → i < j → ¬ Passes i) → Is k (at j).flags
+  set_since zero goes h none = h
+  set_since (suc j) goes h none =
+      step_keeps marks (ahead_of (at j).channel) (state_in (at j)) k (set_since j (λ m l. goes m (omega arith)) h (λ i l. none i (omega arith)))
+      (λ v is moved. none j (omega arith) (v, is, moved))
+
+  passed : (j : ℕ) → Passes j → Is k (at j).flags × Clear (suc j)
+  passed j w = step_takes marks (ahead_of (at j).channel) (state_in (at j)) k w.0 w.1 w.2
+
+  set_or_clear : (flags : List Bool) → Is k flags ⊎ IsClear k flags
+  set_or_clear flags = by (get_or flags k false)
+    where
+      by : (b : Bool) → (b ≡ true) ⊎ (b ≡ false)
+      by true = inl refl
+      by false = inr refl
+
+  -- a flag is set after a call exactly if the last step signals its event, or if it was set and no step took it
+  flag_exact : (v : Machine) (most taken : ℕ) (last : Option ChanTurn) → TakesSteps marks s most taken last v → length v.flags ≡ 32 → k < 32 → Is k v.flags ↔ ((signal_after marks s taken ≡ Some k) ⊎ (Is k s.flags × ((j : ℕ) → j < taken → ¬ Passes j)))
+  flag_exact v most zero last x len below = (
+    (λ high. inr (subst (λ (m : Machine). Is k m.flags) x.ends_at high, λ j less. absurd (omega arith))),
+    (λ why. elim why [
+      | inl bad ↦ absurd (cc)
+      | inr kept ↦ subst (λ (m : Machine). Is k m.flags) (sym x.ends_at) kept.0
+    ]),
+  )
+  flag_exact v most (suc p) last x len below =
+      let u = at p in
+      let next = ahead_of u.channel in
+      let flags : v.flags ≡ (exec_fetched marks next (state_in u)).1.flags = ap (λ (m : Machine). m.flags) x.ends_at in
+      let clears : signal_of next ≢ Some k → Clear p → IsClear k v.flags = (λ other clear. subst (IsClear k) (sym flags) (step_clear marks next (state_in u) k clear other)) in (
+        (λ high. elim (is_signal (signal_of next) k) [
+          | inl here ↦ inl here
+          | inr other ↦
+              inr (
+                elim (set_or_clear s.flags) [
+                  | inl was ↦ was
+                  | inr clear ↦ absurd (true≢false (sym high ∙ clears other (clear_since 0 p (omega arith) x.moves clear)))
+                ],
+                λ j less w. elim (cases_eq j p) [
+                  | inl last ↦
+                      let clear = subst (λ (m : ℕ). Clear (suc m)) last (passed j w).1 in
+                      true≢false (sym high ∙ ap (λ (m : Machine). get_or m.flags k false) x.ends_at ∙ clear)
+                  | inr early ↦ true≢false (sym high ∙ clears other (clear_since (suc j) p (omega arith) x.moves (passed j w).1))
+                ],
+              )
+        ]),
+        (λ why. elim why [
+          | inl here ↦
+              let new : v.flags ≡ set u.flags k true = flags ∙ step_sets marks next (state_in u) k here in
+              let long : length u.flags ≡ 32 = sym (length-set u.flags k true) ∙ sym (ap (λ (f : List Bool). length f) new) ∙ len in
+              ap (λ (f : List Bool). get_or f k false) new ∙ get_or-set_same u.flags k true false (omega arith)
+          | inr kept ↦
+              let before = set_since p x.moves kept.0 (λ i l. kept.1 i (omega arith)) in
+              subst (Is k) (sym flags) (step_keeps marks next (state_in u) k before (λ v is moved. kept.1 p (omega arith) (v, is, moved)))
+        ]),
+      )
+
+-- ---- a call
+
+-- bit k of the events after a call
+event_after : (flags k : ℕ) (d : DeviceValue) → k < 32 → k < d.config.events → d.inten < 2 ^ 32 → bit_at (with_flags flags d).events k ≡ max (min (bit_at d.events k) (bit_at d.inten k)) (min (min (bit_at flags k) 1) (1 - bit_at d.inten k))
+event_after flags k d below event range =
+    let known = bit_and flags (all_events d) in
+    bit_at_or (bit_and d.events d.inten) (bit_and known (bit_not w32 d.inten)) k
+    ∙ ap (λ (m : ℕ). max m (bit_at (bit_and known (bit_not w32 d.inten)) k)) (bit_at_and d.events d.inten k)
+    ∙ ap (λ (m : ℕ). max (min (bit_at d.events k) (bit_at d.inten k)) m) (
+    bit_at_and known (bit_not w32 d.inten) k
+    ∙ ap (λ (m : ℕ). min m (bit_at (bit_not w32 d.inten) k)) (bit_at_and flags (all_events d) k ∙ ap (λ (m : ℕ). min (bit_at flags k) m) (bit_at_ones d.config.events k event))
+    ∙ ap (λ (m : ℕ). min (min (bit_at flags k) 1) m) (bit_at_not w32 d.inten k range below)
+    )
+
+-- the bit of an event that channels see
+pub seen_bit : (d : DeviceValue) (k : ℕ) → k < 32 → d.inten < 2 ^ 32 → bit_at (visible_events d) k ≡ min (bit_at d.events k) (1 - bit_at d.inten k)
+seen_bit d k below range = bit_at_and d.events (bit_not w32 d.inten) k ∙ ap (λ (m : ℕ). min (bit_at d.events k) m) (bit_at_not w32 d.inten k range below)
+
+pub flag_of_bit : (flags k : ℕ) → k < 32 → bit_at flags k ≡ 1 → Is k (flags_of flags)
+flag_of_bit flags k below on = get_or-flags_of flags k below ∙ eq-eqb (bit_at flags k) 1 on
+
+module _ (d : DeviceValue) (t : Thread) (regions : List Region) (n most : ℕ) (e : DeviceValue) (left : List Region) (called : Called) (k : ℕ) (has : HasLine d k) (x : CallsThread d t regions n most e left called) where
+  below : k < 32
+  below = omega (arith, has.events, has.event)
+
+  abbrev marks : MarkList
+  marks = marks_in regions
+
+  abbrev from : Machine
+  from = machine_in d t regions
+
+  abbrev PassesIn : ℕ → Type 0
+  PassesIn j = Passes marks from k j
+
+  abbrev NonePass : Type 0
+  NonePass = (j : ℕ) → j < x.taken → ¬ PassesIn j
+
+  flags_exact : Is k (flags_of x.flags) ↔ ((signal_after marks from x.taken ≡ Some k) ⊎ (Is k from.flags × NonePass))
+  flags_exact = flag_exact marks from k (machine x.channel (image_of (pieces_of left)) (flags_of x.flags)) most x.taken x.last x.steps (length-flags_of x.flags) below
+
+  bit_after : bit_at e.events k ≡ max (min (bit_at d.events k) (bit_at d.inten k)) (min (min (bit_at x.flags k) 1) (1 - bit_at d.inten k))
+  bit_after = ap (λ (v : DeviceValue). bit_at v.events k) x.device ∙ event_after x.flags k d below has.event has.inten
+
+  -- while INTEN makes it an interrupt, the event stays as it is
+  hides : IsHigh d.inten k → (bit_at e.events k ≡ bit_at d.events k) × NonePass
+  hides on = (
+    omega (arith, bit_after, on, bit_at-lt d.events k),
+    λ j less w.
+        let clear = clear_since marks from k 0 j (omega arith) (λ m l. x.steps.moves m (omega arith)) (hidden d k below has.inten on) in
+        true≢false (sym (passed marks from k j w).0 ∙ clear),
+  )
+
+  shows : ¬ IsHigh d.inten k → IsSet e k ↔ ((called.signal ≡ Some k) ⊎ (IsSet d k × NonePass))
+  shows off =
+      let low : bit_at d.inten k ≡ 0 = omega (arith, off, bit_at-lt d.inten k) in
+      let after : bit_at e.events k ≡ bit_at x.flags k = omega (arith, bit_after, low, bit_at-lt x.flags k) in
+      let seen : bit_at (visible_events d) k ≡ bit_at d.events k = omega (arith, seen_bit d k below has.inten, low, bit_at-lt d.events k) in (
+        (λ high. elim (flags_exact.0 (flag_of_bit x.flags k below (sym after ∙ high))) [
+          | inl here ↦ inl (x.signal ∙ here)
+          | inr kept ↦ inr (sym seen ∙ flag_bit (visible_events d) k below kept.0, kept.1)
+        ]),
+        (λ why. after ∙ flag_bit x.flags k below (elim why [
+          | inl here ↦ flags_exact.1 (inl (sym x.signal ∙ here))
+          | inr kept ↦ flags_exact.1 (inr (flag_of_bit (visible_events d) k below (seen ∙ kept.0), kept.1))
+        ])),
+      )
+
+  -- what it takes was set, and INTEN makes it an event
+  takes_set : (j : ℕ) → j < x.taken → PassesIn j → IsSet d k × (¬ IsHigh d.inten k)
+  takes_set j less w =
+      let off : ¬ IsHigh d.inten k = (λ on. (hides on).1 j less w) in
+      let low : bit_at d.inten k ≡ 0 = omega (arith, off, bit_at-lt d.inten k) in
+      let seen : bit_at (visible_events d) k ≡ bit_at d.events k = omega (arith, seen_bit d k below has.inten, low, bit_at-lt d.events k) in
+      elim (set_or_clear marks from k from.flags) [
+        | inl was ↦ (sym seen ∙ flag_bit (visible_events d) k below was, off)
+        | inr clear ↦
+            let still = clear_since marks from k 0 j (omega arith) (λ m l. x.steps.moves m (omega arith)) clear in
+            absurd (true≢false (sym (passed marks from k j w).0 ∙ still))
+      ]
+
+-- ---- a wait
+
+moved_waits : (events : ℕ) (th : Thread) (signal : Option ℕ) (k : ℕ) → (moved events th signal).status ≢ WaitingForEvent k
+moved_waits events th None k is = cc
+moved_waits events th (Some e) k is = by (nat_lt e events) is
+  where
+    by : (b : Bool) → (if b then record th { status = Executing } else failed operand_invalid (record th { pc = (th.pc + (2 ^ 32 - 2)) % 2 ^ 32 })).status ≢ WaitingForEvent k
+    by true is = cc
+    by false is = cc
+
+answer_waits : (events : ℕ) (th : Thread) (last : Option ChanTurn) (signal : Option ℕ) (k : ℕ) → (answer events th last signal).status ≡ WaitingForEvent k → last ≡ Some (Waiting k)
+answer_waits events th None signal k is = absurd (cc)
+answer_waits events th (Some Moved) signal k is = absurd (moved_waits events th signal k is)
+answer_waits events th (Some (Waiting e)) signal k is = by (nat_lt e events) is
+  where
+    by : (b : Bool) → (if b then record th { status = WaitingForEvent e } else failed operand_invalid th).status ≡ WaitingForEvent k → Some (Waiting e) ≡ Some (Waiting k)
+    by true is = let same : e ≡ k = cc in ap (λ (j : ℕ). Some (Waiting j)) same
+    by false is = absurd (cc)
+answer_waits events th (Some Ended) signal k is = absurd (cc)
+answer_waits events th (Some (Fault kind)) signal k is = absurd (cc)
+
+-- a call whose last step waits leaves the flag clear
+last_unset : (marks : MarkList) (s v : Machine) (most taken : ℕ) (last : Option ChanTurn) (k : ℕ) → TakesSteps marks s most taken last v → last ≡ Some (Waiting k) → IsClear k v.flags
+last_unset marks s v most zero last k x is = absurd (let bad = sym x.answer ∙ is in cc)
+last_unset marks s v most (suc p) last k x is =
+    let u = after_steps marks s p in
+    let answers : Some (answer_at marks u) ≡ Some (Waiting k) = sym x.answer ∙ is in
+    let waits : answer_at marks u ≡ Waiting k = cc in
+    let clear = step_unset marks (ahead_of u.channel) (state_in u) k waits in
+    let same : v ≡ u = x.ends_at ∙ is_still marks u (subst ChangesNothing (sym waits) tt) in
+    subst (λ (m : Machine). IsClear k m.flags) (sym same) clear
+
+call_unset : (d : DeviceValue) (t : Thread) (regions : List Region) (n most : ℕ) (e : DeviceValue) (left : List Region) (called : Called) (k : ℕ) → HasLine d k → (x : CallsThread d t regions n most e left called) → (answered d.config.events (record t { channel = x.channel }) x.last called.signal).status ≡ WaitingForEvent k → IsSet e k → IsHigh d.inten k
+call_unset d t regions n most e left called k has x is set =
+    let last = answer_waits d.config.events (record t { channel = x.channel; pc = (t.base + x.channel.registers.pc) % 2 ^ 32 }) x.last called.signal k is in
+    let clear = last_unset (marks_in regions) (machine_in d t regions) (machine x.channel (image_of (pieces_of left)) (flags_of x.flags)) most x.taken x.last k x.steps last in
+    let low : bit_at x.flags k ≡ 0 = no_bit x.flags k (omega (arith, has.events, has.event)) clear in
+    elim (cases_eq (bit_at d.inten k) 1) [
+      | inl on ↦ on
+      | inr off ↦ absurd (omega (arith, set, low, bit_after d t regions n most e left called k has x, off, bit_at-lt d.inten k))
+    ]
+
+found_status : (d e : DeviceValue) (n k : ℕ) (old new t : Thread) → slice_get d.threads n ≡ Some old → e.threads ≡ (with_thread n new d).threads → slice_get e.threads n ≡ Some t → t.status ≡ WaitingForEvent k → new.status ≡ WaitingForEvent k
+found_status d e n k old new t found is there waits =
+    let here : slice_get e.threads n ≡ Some new = ap (λ (ts : List Thread). slice_get ts n) is ∙ set_found d.threads n old new found in
+    let same : new ≡ t = cc in
+    ap (λ (u : Thread). u.status) same ∙ waits
+
+if_unset : (b : Bool) (d : DeviceValue) (regions : List Region) (n most : ℕ) (e : DeviceValue) (left : List Region) (called : Called) (k : ℕ) (t : Thread) → b ≡ true → HasLine d k → CallsIf b d regions n most e left called → slice_get e.threads n ≡ Some t → t.status ≡ WaitingForEvent k → IsSet e k → IsHigh d.inten k
+if_unset b d regions n most e left called k t made has x found waits set = elim (call_is b d regions n most e left called x) [
+  | inl idle ↦ absurd (true≢false (sym made ∙ idle.off))
+  | inr other ↦ elim other [
+    | inl fails ↦
+        absurd (let bad = found_status d e n k fails.thread (failed operand_invalid fails.thread) t fails.found (ap (λ (v : DeviceValue). v.threads) fails.device) found waits in cc)
+    | inr does ↦
+        let c = does.call in
+        let after = answered d.config.events (record (does.thread) { channel = c.channel }) c.last called.signal in
+        call_unset d does.thread regions n (most_on d.config.bus (code_of does.thread.channel) most) e left called k has c
+        (found_status d e n k does.thread after t does.found (ap (λ (v : DeviceValue). v.threads) c.device) found waits) set
+  ]
+]
+
+pub waits_for_unset : WaitsForUnset
+waits_for_unset d e regions left n most k turn t x has starts found waits set =
+    let one = if_inten (begins d n most) d regions n most x.middle x.lent x.first x.call in
+    let two = if_inten (follows x.middle n x.first) x.middle x.lent n 1 e left x.second x.one_more in
+    let there = has_kept k d x.middle (if_config (begins d n most) d regions n most x.middle x.lent x.first x.call) one has in
+    by (follows x.middle n x.first) refl there one two
+  where
+    by : (b : Bool) → follows x.middle n x.first ≡ b → HasLine x.middle k → x.middle.inten ≡ d.inten → e.inten ≡ x.middle.inten → IsHigh e.inten k
+    by true is there one two =
+        subst (λ (i : ℕ). IsHigh i k) (sym two) (if_unset (follows x.middle n x.first) x.middle x.lent n 1 e left x.second k t is there x.one_more found waits set)
+    by false is there one two =
+        let last = subst (λ (b : Bool). CallsIf b x.middle x.lent n 1 e left x.second) is x.one_more in
+        let same : e ≡ x.middle = last.0 in
+        let on = if_unset (begins d n most) d regions n most x.middle x.lent x.first k t starts has x.call (subst (λ (v : DeviceValue). slice_get v.threads n ≡ Some t) same found) waits (subst (λ (v : DeviceValue). IsSet v k) same set) in
+        subst (λ (i : ℕ). IsHigh i k) (sym (two ∙ one)) on
+
+-- after a call event k is set exactly if the call set it, or if it was set and the call doesn't take it
+abbrev CallSets : Bool → DeviceValue → List Region → ℕ → ℕ → DeviceValue → List Region → Called → ℕ → Type 0
+CallSets b d regions n most e left called k =
+    IsSet e k ↔ (((¬ IsHigh d.inten k) × (called.signal ≡ Some k)) ⊎ (IsSet d k × ¬ CallTakes b d regions n most e left called k))
+
+same_sets : (b : Bool) (d : DeviceValue) (regions : List Region) (n most : ℕ) (e : DeviceValue) (left : List Region) (called : Called) (k : ℕ) → e.events ≡ d.events → called ≡ nothing → ¬ CallTakes b d regions n most e left called k → CallSets b d regions n most e left called k
+same_sets b d regions n most e left called k same none no_take = (
+  (λ high. inr (subst (λ (m : ℕ). IsHigh m k) same high, no_take)),
+  (λ why. elim why [
+    | inl here ↦ absurd (let bad = sym (ap (λ (c : Called). c.signal) none) ∙ here.1 in cc)
+    | inr kept ↦ subst (λ (m : ℕ). IsHigh m k) (sym same) kept.0
+  ]),
+)
+
+call_sets : (b : Bool) (d : DeviceValue) (regions : List Region) (n most : ℕ) (e : DeviceValue) (left : List Region) (called : Called) (k : ℕ) → HasLine d k → CallsIf b d regions n most e left called → CallSets b d regions n most e left called k
+call_sets b d regions n most e left called k has x = elim (call_is b d regions n most e left called x) [
+  | inl idle ↦ same_sets b d regions n most e left called k (ap (λ (v : DeviceValue). v.events) idle.device) idle.none (λ w. true≢false (sym w.executes.on ∙ idle.off))
+  | inr other ↦ elim other [
+    | inl fails ↦
+        same_sets b d regions n most e left called k (ap (λ (v : DeviceValue). v.events) fails.device) fails.none
+        (λ w.
+        let same : w.executes.thread ≡ fails.thread = (let one = w.executes.found in let two = fails.found in cc) in
+        true≢false (sym fails.wide ∙ ap (λ (u : Thread). is_too_wide d.config.bus (ahead_of u.channel)) (sym same) ∙ w.executes.fits))
+    | inr does ↦
+        let m = most_on d.config.bus (code_of does.thread.channel) most in
+        elim (cases_eq (bit_at d.inten k) 1) [
+          | inl on ↦ (
+            (λ high. inr (
+              sym (hides d does.thread regions n m e left called k has does.call on).0 ∙ high,
+              λ w. (hides d w.executes.thread regions n (most_on d.config.bus (code_of w.executes.thread.channel) most) e left called k has w.executes.call on).1 w.step w.early (w.invalid, w.dmawfe, w.passes),
+            )),
+            (λ why. elim why [
+              | inl here ↦ absurd (here.0 on)
+              | inr kept ↦ (hides d does.thread regions n m e left called k has does.call on).0 ∙ kept.0
+            ]),
+          )
+          | inr off ↦
+              let shown = shows d does.thread regions n m e left called k has does.call off in (
+                (λ high. elim (is_signal called.signal k) [
+                  | inl here ↦ inl (off, here)
+                  | inr other ↦ elim (shown.0 high) [
+                    | inl here ↦ inl (off, here)
+                    | inr kept ↦ inr (
+                      kept.0,
+                      λ w. elim ((shows d w.executes.thread regions n (most_on d.config.bus (code_of w.executes.thread.channel) most) e left called k has w.executes.call off).0 high) [
+                        | inl here ↦ other here
+                        | inr none ↦ none.1 w.step w.early (w.invalid, w.dmawfe, w.passes)
+                      ],
+                    )
+                  ]
+                ]),
+                (λ why. elim why [
+                  | inl here ↦ shown.1 (inl here.1)
+                  | inr kept ↦ shown.1 (inr (kept.0, λ j less w. kept.1 (record { executes = does; step = j; early = less; invalid = w.0; dmawfe = w.1; passes = w.2 })))
+                ]),
+              )
+        ]
+  ]
+]
+
+call_takes_set : (b : Bool) (d : DeviceValue) (regions : List Region) (n most : ℕ) (e : DeviceValue) (left : List Region) (called : Called) (k : ℕ) → HasLine d k → CallTakes b d regions n most e left called k → IsSet d k × (¬ IsHigh d.inten k)
+call_takes_set b d regions n most e left called k has w =
+    takes_set d w.executes.thread regions n (most_on d.config.bus (code_of w.executes.thread.channel) most) e left called k has w.executes.call w.step w.early (w.invalid, w.dmawfe, w.passes)
+
+-- ---- a turn
+
+module _ (d : DeviceValue) (regions : List Region) (n most : ℕ) (e : DeviceValue) (left : List Region) (turn : Turn) (k : ℕ) (has : HasLine d k) (x : TakesTurn d regions n most e left turn) where
+  inten_same : x.middle.inten ≡ d.inten
+  inten_same = if_inten (begins d n most) d regions n most x.middle x.lent x.first x.call
+
+  has_middle : HasLine x.middle k
+  has_middle = has_kept k d x.middle (if_config (begins d n most) d regions n most x.middle x.lent x.first x.call) inten_same has
+
+  abbrev First : Type 0
+  First = CallTakes (begins d n most) d regions n most x.middle x.lent x.first k
+
+  abbrev Second : Type 0
+  Second = CallTakes (follows x.middle n x.first) x.middle x.lent n 1 e left x.second k
+
+  off_middle : ¬ IsHigh d.inten k → ¬ IsHigh x.middle.inten k
+  off_middle off = subst (λ (i : ℕ). ¬ IsHigh i k) (sym inten_same) off
+
+  off_before : ¬ IsHigh x.middle.inten k → ¬ IsHigh d.inten k
+  off_before off = subst (λ (i : ℕ). ¬ IsHigh i k) inten_same off
+
+  -- no call follows one that set event k
+  none_follows : ¬ IsHigh d.inten k → x.first.signal ≡ Some k → follows x.middle n x.first ≡ false
+  none_follows off here =
+      let low : is_interrupt x.middle k ≡ false = ne_eqb (bit_at x.middle.inten k) 1 (off_middle off) in
+      let no : raises x.middle x.first.signal ≡ false = ap (raises x.middle) here ∙ low in
+      ap (λ (b : Bool). (b && is_beside x.first.written (slice_get x.middle.threads n)) && runs_at x.middle n) no
+
+  turn_sets : IsSet e k ↔ (((¬ IsHigh d.inten k) × ((x.first.signal ≡ Some k) ⊎ (x.second.signal ≡ Some k))) ⊎ (IsSet d k × ¬ (First ⊎ Second)))
+  turn_sets =
+      let one = call_sets (begins d n most) d regions n most x.middle x.lent x.first k has x.call in
+      let two = call_sets (follows x.middle n x.first) x.middle x.lent n 1 e left x.second k has_middle x.one_more in (
+        (λ high. elim (two.0 high) [
+          | inl here ↦ inl (off_before here.0, inr here.1)
+          | inr kept ↦ elim (one.0 kept.0) [
+            | inl here ↦ inl (here.0, inl here.1)
+            | inr first ↦ inr (first.0, λ w. elim w [ inl a ↦ first.1 a | inr b ↦ kept.1 b ])
+          ]
+        ]),
+        (λ why. elim why [
+          | inl here ↦ elim (here.1) [
+            | inl first ↦ two.1 (inr (one.1 (inl (here.0, first)), λ w. true≢false (sym w.executes.on ∙ none_follows here.0 first)))
+            | inr second ↦ two.1 (inl (off_middle here.0, second))
+          ]
+          | inr kept ↦ two.1 (inr (one.1 (inr (kept.0, λ a. kept.1 (inl a))), λ b. kept.1 (inr b)))
+        ]),
+      )
+
+  turn_takes_set : First ⊎ Second → IsSet d k × (¬ IsHigh d.inten k)
+  turn_takes_set (inl a) = call_takes_set (begins d n most) d regions n most x.middle x.lent x.first k has a
+  turn_takes_set (inr b) =
+      let w = call_takes_set (follows x.middle n x.first) x.middle x.lent n 1 e left x.second k has_middle b in
+      let off = off_before w.1 in
+      elim ((call_sets (begins d n most) d regions n most x.middle x.lent x.first k has x.call).0 w.0) [
+        | inl here ↦ absurd (true≢false (sym b.executes.on ∙ none_follows off here.1))
+        | inr kept ↦ (kept.0, off)
+      ]
+
+-- what a turn's calls do is determined
+same_calls : (d : DeviceValue) (regions : List Region) (n most : ℕ) (e f : DeviceValue) (left other : List Region) (turn again : Turn) (x : TakesTurn d regions n most e left turn) (y : TakesTurn d regions n most f other again) → (x.first ≡ y.first) × (x.second ≡ y.second)
+same_calls d regions n most e f left other turn again x y =
+    let one = sym (if_is (begins d n most) d regions n most x.middle x.lent x.first x.call) ∙ if_is (begins d n most) d regions n most y.middle y.lent y.first y.call in
+    let second : Outcome → Outcome = (λ o. called_if (may_follow o.board.device n o.called) n 1 o.board) in
+    let two = sym (if_is (follows x.middle n x.first) x.middle x.lent n 1 e left x.second x.one_more) ∙ ap second one ∙ if_is (follows y.middle n y.first) y.middle y.lent n 1 f other y.second y.one_more in
+    (ap (λ (o : Outcome). o.called) one, ap (λ (o : Outcome). o.called) two)
+
+-- ---- one access
+
+abbrev Exact : ℕ → DeviceValue → DeviceValue → Type 0 → Type 0 → Type 0
+Exact k d e Up Down = IsSet e k ↔ (Up ⊎ (IsSet d k × ¬ Down))
+
+same_exact : (k : ℕ) (d e : DeviceValue) (Up Down : Type 0) → e.events ≡ d.events → ¬ Up → ¬ Down → Exact k d e Up Down
+same_exact k d e Up Down same no_up no_down = (
+  (λ high. inr (subst (λ (m : ℕ). IsHigh m k) same high, no_down)),
+  (λ why. elim why [ inl up ↦ absurd (no_up up) | inr stays ↦ subst (λ (m : ℕ). IsHigh m k) (sym same) stays.0 ]),
+)
+
+write_exact : (k at value : ℕ) (d : DeviceValue) (regions left : List Region) → HasLine d k → let e = written (pieces_of regions) at value d in Exact k d e (Sets k (Writes at value) d regions e left) (Ends k (Writes at value) d regions e left)
+write_exact k at value d regions left has =
+    let ram = pieces_of regions in
+    let e = written ram at value d in
+    let Up = Sets k (Writes at value) d regions e left in
+    elim (cases_eq at 0xD04) [
+      | inl dbgcmd ↦
+          let w = subst (λ (j : ℕ). IsSet (written ram j value d) k ↔ (IsSet d k ⊎ ((¬ IsHigh d.inten k) × DebugSignals d value k))) (sym dbgcmd) (dbgcmd_raises false d ram value k).lines in (
+            (λ high. elim (w.0 high) [ inl before ↦ inr (before, λ down. down) | inr here ↦ inl (here.0, (dbgcmd, here.1)) ]),
+            (λ why. elim why [ inl up ↦ w.1 (inr (up.0, up.1.1)) | inr stays ↦ w.1 (inl stays.0) ]),
+          )
+      | inr not_dbgcmd ↦ elim (cases_eq at 0x02C) [
+        | inl intclr ↦
+            let same : e.events ≡ d.events = subst (λ (j : ℕ). (written ram j value d).events ≡ d.events) (sym intclr) refl in
+            same_exact k d e Up ⊥ same (λ up. not_dbgcmd up.1.0) (λ down. down)
+        | inr not_intclr ↦
+            same_exact k d e Up ⊥ ((others_keep_lines d ram at value k has not_intclr not_dbgcmd).events) (λ up. not_dbgcmd up.1.0) (λ down. down)
+      ]
+    ]
+
+turn_exact : (k n most : ℕ) (d e : DeviceValue) (regions left : List Region) (turn : Turn) → HasLine d k → TakesTurn d regions n most e left turn → Exact k d e (Sets k (Turns n most) d regions e left) (Ends k (Turns n most) d regions e left)
+turn_exact k n most d e regions left turn has x = (
+  (λ high. elim ((turn_sets d regions n most e left turn k has x).0 high) [
+    | inl here ↦ inl (here.0, (turn, (x, here.1)))
+    | inr kept ↦ elim (cases_eq (bit_at d.inten k) 1) [
+      | inl on ↦ inr (kept.0, λ w. (turn_takes_set d regions n most e left w.0 k has w.1.0 w.1.1).1 on)
+      | inr off ↦ elim (is_signal x.first.signal k) [
+        | inl first ↦ inl (off, (turn, (x, inl first)))
+        | inr not_first ↦ elim (is_signal x.second.signal k) [
+          | inl second ↦ inl (off, (turn, (x, inr second)))
+          | inr not_second ↦
+              inr (
+                kept.0,
+                λ w.
+                    let y = w.1.0 in
+                    let same = same_calls d regions n most e e left left turn w.0 x y in
+                    elim ((turn_sets d regions n most e left w.0 k has y).0 high) [
+                      | inl here ↦ elim (here.1) [
+                        | inl first ↦ not_first (ap (λ (c : Called). c.signal) same.0 ∙ first)
+                        | inr second ↦ not_second (ap (λ (c : Called). c.signal) same.1 ∙ second)
+                      ]
+                      | inr none ↦ none.1 w.1.1
+                    ],
+              )
+        ]
+      ]
+    ]
+  ]),
+  (λ why. elim why [
+    | inl up ↦
+        let w = up.1 in
+        (turn_sets d regions n most e left w.0 k has w.1.0).1 (inl (up.0, w.1.1))
+    | inr stays ↦ (turn_sets d regions n most e left turn k has x).1 (inr (stays.0, λ t. stays.1 (turn, (x, t))))
+  ]),
+)
+
+access_exact : (k : ℕ) (a : Access) (d e : DeviceValue) (regions left : List Region) (answer : Answer) → HasLine d k → Does a d regions answer e left → Exact k d e (Sets k a d regions e left) (Ends k a d regions e left)
+access_exact k (Reads at) d e regions left answer has x = same_exact k d e (Sets k (Reads at) d regions e left) ⊥ (ap (λ (v : DeviceValue). v.events) x.1) (λ up. up.1) (λ down. down)
+access_exact k (Writes at value) d e regions left answer has x =
+    subst (λ (v : DeviceValue). Exact k d v (Sets k (Writes at value) d regions v left) (Ends k (Writes at value) d regions v left)) (sym x.1) (write_exact k at value d regions left has)
+access_exact k (Turns n most) d e regions left answer has x = turn_exact k n most d e regions left x.0 has x.1.1
+access_exact k (Stores addr byte) d e regions left answer has x = same_exact k d e (Sets k (Stores addr byte) d regions e left) ⊥ (ap (λ (v : DeviceValue). v.events) x.1) (λ up. up.1) (λ down. down)
+access_exact k Resets d e regions left answer has x =
+    let low : ¬ IsSet e k = (λ high. let zero_bit = ap (λ (v : DeviceValue). bit_at v.events k) x.1 ∙ bit_at-zero k in omega (arith, zero_bit, high)) in
+    ((λ high. absurd (low high)), (λ why. elim why [ inl up ↦ absurd (up.1) | inr stays ↦ absurd (stays.1 tt) ]))
+
+-- ---- accesses in a row
+
+module _ (access : ℕ → Access) (answer : ℕ → Answer) (before : ℕ → DeviceValue) (lent : ℕ → List Region) (count k : ℕ) (happen : Happen access answer before lent count) (has : HasLine (before 0) k) where
+  abbrev Up : ℕ → Type 0
+  Up j = Sets k (access j) (before j) (lent j) (before (j + 1)) (lent (j + 1))
+
+  abbrev Down : ℕ → Type 0
+  Down j = Ends k (access j) (before j) (lent j) (before (j + 1)) (lent (j + 1))
+
+  all_have : (n : ℕ) → n ≤ count → HasLine (before n) k
+  all_have zero within = has
+  all_have (suc n) within =
+      let e : n + 1 ≡ suc n = omega arith in
+      subst (λ (m : ℕ). HasLine (before m) k) e (access_has k (access n) (before n) (before (n + 1)) (lent n) (lent (n + 1)) (answer n) (all_have n (omega arith)) (happen n (omega arith)))
+
+  all_hold : (n : ℕ) → n ≤ count → IsSet (before n) k ↔ (SetSince access before lent k n ⊎ (IsSet (before 0) k × NoneEnds access before lent k 0 n))
+  all_hold n within =
+      let x = history.held (λ j. IsSet (before j) k) Up Down count (λ j less. access_exact k (access j) (before j) (before (j + 1)) (lent j) (lent (j + 1)) (answer j) (all_have j (omega arith)) (happen j less)) n within in (
+        (λ high. elim (x.0 high) [
+          | inl r ↦ inl (record { at = r.at; below = r.below; sets = r.up; stays = r.stays })
+          | inr first ↦ inr first
+        ]),
+        (λ why. elim why [
+          | inl r ↦ x.1 (inl (record { at = r.at; below = r.below; up = r.sets; stays = r.stays }))
+          | inr first ↦ x.1 (inr first)
+        ]),
+      )
+
+pub events_are_exact : EventsAreExact
+events_are_exact access answer before lent count k n happen has within = all_hold access answer before lent count k happen has n within
+
+pub taken_was_set : TakenWasSet
+taken_was_set (Reads at) d e regions left answer k x has w = absurd w
+taken_was_set (Writes at value) d e regions left answer k x has w = absurd w
+taken_was_set (Turns n most) d e regions left answer k x has w = turn_takes_set d regions n most e left w.0 k has w.1.0 w.1.1
+taken_was_set (Stores addr byte) d e regions left answer k x has w = absurd w
+taken_was_set Resets d e regions left answer k x has w = absurd w

@@ -1,0 +1,706 @@
+-- What makes threads faulting, and with them the line irq_abort high.
+use Rattle.std.proofs.Common.{◌≡◌, ◌≢◌, ◌∙◌, ◌⊎◌, ℕ, zero, suc, ◌+◌, ◌-◌, ◌*◌, ◌%◌, ◌/◌, ◌^◌, ◌<◌, ◌≤◌, Bool, true, false, ◌&&◌, ◌||◌, List, [], ◌∷◌, Option, Some, None, ap, refl, sym, subst, arith, inl, inr, true≢false, bit_and, bit_or, w32, replicate}
+use Rattle.std.specs.Prelude.{◌↔◌, ◌==◌, if◌then◌else◌, nat_lt, not, slice_get, slice_set}
+use Rattle.std.specs.Int.{bit_at, bit_not}
+use Rattle.std.specs.List.{list_any}
+use Rattle.std.proofs.Math.Bool.{or-true}
+use Rattle.std.proofs.lemmas.Bool.{and_parts, cases_eq, eq-eqb, ltb-false, ne_eqb, not-true}
+use Rattle.std.proofs.lemmas.List.Elements.{All-replicate}
+use Rattle.std.proofs.lemmas.List.Folds.{list_any_none}
+use Rattle.std.proofs.lemmas.Nat.Bits.{bit_at-suc, bit_at-zero, bit_at_lowest}
+use borrow.Author.Tests.{ltb-true}
+use Rattle.dma_insn.specs.ControlWord.{field, flag}
+use Rattle.dma_mem.specs.Regions.{Piece, pieces_of}
+use Rattle.dma_mem.specs.declared.regions.Region.{Region}
+use Rattle.dma_chan.specs.declared.turn.ChanTurn.{ChanTurn}
+use Rattle.dma_chan.specs.declared.turn.ChanTurn.TheVariants.{Moved, Waiting, Ended, Fault}
+use Rattle.dma_device.specs.declared.device.Manager.{Manager}
+use Rattle.dma_device.specs.declared.config.Config.{Config}
+use Rattle.dma_device.specs.declared.device.turns.Called.{Called}
+use Rattle.dma_device.specs.declared.device.turns.Turn.{Turn}
+use Rattle.dma_device.specs.declared.thread.Status.{Status}
+use Rattle.dma_device.specs.declared.thread.Status.TheVariants.{Stopped, Executing, WaitingForEvent, Faulting}
+use Rattle.dma_device.specs.declared.thread.Thread.{Thread}
+use Rattle.dma_device.specs.Accesses.{Access, Answer, Does, Reads, Resets, Stores, Turns, Writes}
+use Rattle.dma_device.specs.CallSteps.{Executes}
+use Rattle.dma_device.specs.Device.{reset_device, DeviceValue, all_events, by_manager, by_thread, debugged, faulting_bits, go, gone, irq_abort, is_event, is_interrupt, manager_failed, program_at, signalled, with_thread, written}
+use Rattle.dma_device.specs.Faults.{EndsFault, IsReset, AbortIsFaulting, AbortsAreExact, Addresses, CallFails, DebugFails, Fails, FaultsAreExact, Kills, LastFails, TheChannel, TheManager, TurnFails, Who, can_execute, channel_fails, debug_fails, faults_at, faults_if, go_fails, manager_fails}
+use Rattle.dma_device.specs.Interrupts.{is_fine}
+use Rattle.dma_device.specs.Thread.{answer, answered, dbg_instr, dmago_err, failed, is_faulting, is_faulting_status, is_stopped, is_stopped_status, killed, operand_invalid, reset_thread, started, undef_instr}
+use Rattle.dma_device.specs.Turns.{CallsIf, TakesTurn, begins, follows, may_follow, runs_at, runs_if, with_flags}
+use Rattle.dma_device.proofs.Calls.{call_is}
+use Rattle.dma_device.proofs.Starts.{set_found}
+use Rattle.dma_device.proofs.History as history
+
+-- ---- a thread is replaced
+
+pick : (f : DeviceValue → Bool) (b : Bool) (x y : DeviceValue) (r : Bool) → (b ≡ true → f x ≡ r) → (b ≡ false → f y ≡ r) → f (if b then x else y) ≡ r
+pick f true x y r p q = p refl
+pick f false x y r p q = q refl
+
+set_other : (ts : List Thread) (n m : ℕ) (u : Thread) → m ≢ n → slice_get (slice_set ts n u) m ≡ slice_get ts m
+set_other [] n m u other = refl
+set_other (t ∷ ts) zero zero u other = absurd (other refl)
+set_other (t ∷ ts) zero (suc m) u other = refl
+set_other (t ∷ ts) (suc n) zero u other = refl
+set_other (t ∷ ts) (suc n) (suc m) u other = set_other ts n m u (λ same. other (ap suc same))
+
+set_there : (d : DeviceValue) (n : ℕ) (t u : Thread) → slice_get d.threads n ≡ Some t → faults_at (TheChannel n) (with_thread n u d) ≡ is_faulting u
+set_there d n t u found = ap faults_if (set_found d.threads n t u found)
+
+set_elsewhere : (d : DeviceValue) (n m : ℕ) (u : Thread) → m ≢ n → faults_at (TheChannel m) (with_thread n u d) ≡ faults_at (TheChannel m) d
+set_elsewhere d n m u other = ap faults_if (set_other d.threads n m u other)
+
+signal_same : (who : Who) (k : ℕ) (d : DeviceValue) → faults_at who (signalled k d) ≡ faults_at who d
+signal_same TheManager k d = pick (faults_at TheManager) (is_interrupt d k) (record d { interrupts = bit_or d.interrupts (2 ^ k) }) (record d { events = bit_or d.events (2 ^ k) }) d.manager.is_faulting (λ e. refl) (λ e. refl)
+signal_same (TheChannel n) k d = pick (faults_at (TheChannel n)) (is_interrupt d k) (record d { interrupts = bit_or d.interrupts (2 ^ k) }) (record d { events = bit_or d.events (2 ^ k) }) (faults_at (TheChannel n) d) (λ e. refl) (λ e. refl)
+
+-- ---- the debug instruction by a channel thread
+
+thread_own : (n : ℕ) (o : Option Thread) (opcode byte : ℕ) (d : DeviceValue) → slice_get d.threads n ≡ o → faults_at (TheChannel n) (by_thread n o opcode byte d) ≡ (if opcode == 0x01 then false else (faults_if o || (is_fine o && channel_fails d opcode byte)))
+thread_own n None opcode byte d found = ap faults_if found ∙ sym (none (opcode == 0x01))
+  where
+    none : (b : Bool) → (if b then false else (false || (false && channel_fails d opcode byte))) ≡ false
+    none true = refl
+    none false = refl
+thread_own n (Some t) opcode byte d found =
+    let f = faults_at (TheChannel n) in
+    let r : Bool = if opcode == 0x01 then false else (is_faulting t || (not (is_faulting t) && channel_fails d opcode byte)) in
+    let invalid : DeviceValue = with_thread n (failed (operand_invalid + dbg_instr) t) d in
+    let undefined : DeviceValue = with_thread n (failed (undef_instr + dbg_instr) t) d in
+    let signals : DeviceValue = if is_event d byte then signalled (byte / 8) d else invalid in
+    let acts : DeviceValue = if opcode == 0x34 then signals else undefined in
+    let calm : DeviceValue = if is_faulting t then d else acts in
+    pick f (opcode == 0x01) (with_thread n (killed t) d) calm r
+    (λ kill. let right : r ≡ false = rw kill refl in set_there d n t (killed t) found ∙ sym right)
+    (λ off_it. pick f (is_faulting t) d acts r
+    (λ faulting. let right : r ≡ true = rw (off_it, faulting) refl in ap faults_if found ∙ faulting ∙ sym right)
+    (λ fine. pick f (opcode == 0x34) signals undefined r
+    (λ sev. pick f (is_event d byte) (signalled (byte / 8) d) invalid r
+    (λ event. let right : r ≡ false = rw (off_it, fine, sev, event) refl in signal_same (TheChannel n) (byte / 8) d ∙ ap faults_if found ∙ fine ∙ sym right)
+    (λ none. let right : r ≡ true = rw (off_it, fine, sev, none) refl in set_there d n t (failed (operand_invalid + dbg_instr) t) found ∙ sym right))
+    (λ other. let right : r ≡ true = rw (off_it, fine, other) refl in set_there d n t (failed (undef_instr + dbg_instr) t) found ∙ sym right)))
+
+-- what it leaves of another thread
+by_other : (who : Who) (n : ℕ) (o : Option Thread) (opcode byte : ℕ) (d : DeviceValue) → ((u : Thread) → faults_at who (with_thread n u d) ≡ faults_at who d) → faults_at who (by_thread n o opcode byte d) ≡ faults_at who d
+by_other who n None opcode byte d keeps = refl
+by_other who n (Some t) opcode byte d keeps =
+    let f = faults_at who in
+    let r = faults_at who d in
+    let invalid : DeviceValue = with_thread n (failed (operand_invalid + dbg_instr) t) d in
+    let undefined : DeviceValue = with_thread n (failed (undef_instr + dbg_instr) t) d in
+    let signals : DeviceValue = if is_event d byte then signalled (byte / 8) d else invalid in
+    let acts : DeviceValue = if opcode == 0x34 then signals else undefined in
+    let calm : DeviceValue = if is_faulting t then d else acts in
+    pick f (opcode == 0x01) (with_thread n (killed t) d) calm r (λ kill. keeps (killed t))
+    (λ off_it. pick f (is_faulting t) d acts r (λ faulting. refl)
+    (λ fine. pick f (opcode == 0x34) signals undefined r
+    (λ sev. pick f (is_event d byte) (signalled (byte / 8) d) invalid r (λ event. signal_same who (byte / 8) d) (λ none. keeps (failed (operand_invalid + dbg_instr) t)))
+    (λ other. keeps (failed (undef_instr + dbg_instr) t))))
+
+-- ---- by the manager
+
+go_own : (ram : List Piece) (nonsecure : Bool) (n : ℕ) (o : Option Thread) (d : DeviceValue) → d.manager.is_faulting ≡ false → faults_at TheManager (go ram nonsecure n o d) ≡ go_fails d nonsecure o
+go_own ram nonsecure n None d fine = refl
+go_own ram nonsecure n (Some t) d fine =
+    let f = faults_at TheManager in
+    let r = d.config.nonsecure && not nonsecure in
+    let new : DeviceValue = with_thread n (started nonsecure d.dbginst1 (program_at ram d.dbginst1)) d in
+    pick f (d.config.nonsecure && not nonsecure) (manager_failed dmago_err d) (gone ram nonsecure n t d) r (λ refused. sym refused)
+    (λ allowed. pick f (is_stopped t) new d r (λ stopped. fine ∙ sym allowed) (λ busy. fine ∙ sym allowed))
+
+manager_own : (ram : List Piece) (opcode byte : ℕ) (d : DeviceValue) → faults_at TheManager (by_manager ram opcode byte d) ≡ (if opcode == 0x01 then false else (d.manager.is_faulting || (not d.manager.is_faulting && manager_fails d opcode byte)))
+manager_own ram opcode byte d =
+    let f = faults_at TheManager in
+    let r : Bool = if opcode == 0x01 then false else (d.manager.is_faulting || (not d.manager.is_faulting && manager_fails d opcode byte)) in
+    let stopped : DeviceValue = record d { manager = record (d.manager) { is_faulting = false } } in
+    let signals : DeviceValue = if is_event d byte then signalled (byte / 8) d else manager_failed operand_invalid d in
+    let secure : DeviceValue = go ram false byte (slice_get d.threads byte) d in
+    let other : DeviceValue = go ram true byte (slice_get d.threads byte) d in
+    let undefined : DeviceValue = manager_failed undef_instr d in
+    let last : DeviceValue = if opcode == 0xA2 then other else undefined in
+    let goes : DeviceValue = if opcode == 0xA0 then secure else last in
+    let acts : DeviceValue = if opcode == 0x34 then signals else goes in
+    let calm : DeviceValue = if d.manager.is_faulting then d else acts in
+    pick f (opcode == 0x01) stopped calm r (λ kill. let right : r ≡ false = rw kill refl in sym right)
+    (λ off_it. pick f d.manager.is_faulting d acts r (λ faulting. let right : r ≡ true = rw (off_it, faulting) refl in faulting ∙ sym right)
+    (λ fine. pick f (opcode == 0x34) signals goes r
+    (λ sev. pick f (is_event d byte) (signalled (byte / 8) d) (manager_failed operand_invalid d) r
+    (λ event. let right : r ≡ false = rw (off_it, fine, sev, event) refl in signal_same TheManager (byte / 8) d ∙ fine ∙ sym right)
+    (λ none. let right : r ≡ true = rw (off_it, fine, sev, none) refl in sym right))
+    (λ none. pick f (opcode == 0xA0) secure last r
+    (λ is. let right : r ≡ go_fails d false (slice_get d.threads byte) = rw (off_it, fine, none, is) refl in go_own ram false byte (slice_get d.threads byte) d fine ∙ sym right)
+    (λ more. pick f (opcode == 0xA2) other undefined r
+    (λ is. let right : r ≡ go_fails d true (slice_get d.threads byte) = rw (off_it, fine, none, more, is) refl in go_own ram true byte (slice_get d.threads byte) d fine ∙ sym right)
+    (λ rest. let right : r ≡ true = rw (off_it, fine, none, more, rest) refl in sym right)))))
+
+stopped_fine : (s : Status) → is_stopped_status s ≡ true → is_faulting_status s ≡ false
+stopped_fine Stopped is = refl
+stopped_fine Executing is = refl
+stopped_fine (WaitingForEvent e) is = refl
+stopped_fine Faulting is = absurd (true≢false (sym is))
+
+go_channel : (ram : List Piece) (nonsecure : Bool) (n m : ℕ) (o : Option Thread) (d : DeviceValue) → slice_get d.threads n ≡ o → faults_at (TheChannel m) (go ram nonsecure n o d) ≡ faults_at (TheChannel m) d
+go_channel ram nonsecure n m None d found = refl
+go_channel ram nonsecure n m (Some t) d found =
+    let f = faults_at (TheChannel m) in
+    let r = faults_at (TheChannel m) d in
+    let u = started nonsecure d.dbginst1 (program_at ram d.dbginst1) in
+    let new : DeviceValue = with_thread n u d in
+    pick f (d.config.nonsecure && not nonsecure) (manager_failed dmago_err d) (gone ram nonsecure n t d) r (λ refused. refl)
+    (λ allowed. pick f (is_stopped t) new d r
+    (λ stopped. elim (cases_eq m n) [
+      | inl same ↦
+          let here : faults_at (TheChannel n) new ≡ faults_at (TheChannel n) d = set_there d n t u found ∙ sym (ap faults_if found ∙ stopped_fine t.status stopped) in
+          subst (λ (j : ℕ). faults_at (TheChannel j) new ≡ faults_at (TheChannel j) d) (sym same) here
+      | inr other ↦ set_elsewhere d n m u other
+    ]) (λ busy. refl))
+
+manager_channel : (ram : List Piece) (m opcode byte : ℕ) (d : DeviceValue) → faults_at (TheChannel m) (by_manager ram opcode byte d) ≡ faults_at (TheChannel m) d
+manager_channel ram m opcode byte d =
+    let f = faults_at (TheChannel m) in
+    let r = faults_at (TheChannel m) d in
+    let stopped : DeviceValue = record d { manager = record (d.manager) { is_faulting = false } } in
+    let signals : DeviceValue = if is_event d byte then signalled (byte / 8) d else manager_failed operand_invalid d in
+    let secure : DeviceValue = go ram false byte (slice_get d.threads byte) d in
+    let other : DeviceValue = go ram true byte (slice_get d.threads byte) d in
+    let undefined : DeviceValue = manager_failed undef_instr d in
+    let last : DeviceValue = if opcode == 0xA2 then other else undefined in
+    let goes : DeviceValue = if opcode == 0xA0 then secure else last in
+    let acts : DeviceValue = if opcode == 0x34 then signals else goes in
+    let calm : DeviceValue = if d.manager.is_faulting then d else acts in
+    pick f (opcode == 0x01) stopped calm r (λ kill. refl)
+    (λ off_it. pick f d.manager.is_faulting d acts r (λ faulting. refl)
+    (λ fine. pick f (opcode == 0x34) signals goes r
+    (λ sev. pick f (is_event d byte) (signalled (byte / 8) d) (manager_failed operand_invalid d) r (λ event. signal_same (TheChannel m) (byte / 8) d) (λ none. refl))
+    (λ none. pick f (opcode == 0xA0) secure last r (λ is. go_channel ram false byte m (slice_get d.threads byte) d refl)
+    (λ more. pick f (opcode == 0xA2) other undefined r (λ is. go_channel ram true byte m (slice_get d.threads byte) d refl) (λ rest. refl)))))
+
+-- ---- by either
+
+abbrev opcode_of : DeviceValue → ℕ
+opcode_of d = field 16 8 d.dbginst0
+
+-- whether the thread that executes the debug instruction is faulting after it
+abbrev debug_result : Who → DeviceValue → Bool
+debug_result who d = if opcode_of d == 0x01 then false else (faults_at who d || (can_execute who d && debug_fails who d))
+
+if_chosen : (f : DeviceValue → Bool) (b c : Bool) (x y : DeviceValue) → b ≡ c → f (if b then x else y) ≡ f (if c then x else y)
+if_chosen f b c x y is = ap (λ (a : Bool). f (if a then x else y)) is
+
+module _ (ram : List Piece) (d : DeviceValue) where
+  abbrev first_byte : ℕ
+  first_byte = field 16 8 d.dbginst0
+
+  abbrev second_byte : ℕ
+  second_byte = field 24 8 d.dbginst0
+
+  abbrev number : ℕ
+  number = field 8 3 d.dbginst0
+
+  abbrev by_channel : DeviceValue
+  by_channel = by_thread number (slice_get d.threads number) first_byte second_byte d
+
+  abbrev by_its_manager : DeviceValue
+  by_its_manager = by_manager ram first_byte second_byte d
+
+  when_channel : (who : Who) → field 0 1 d.dbginst0 ≡ 1 → faults_at who (debugged ram d) ≡ faults_at who by_channel
+  when_channel who is = if_chosen (faults_at who) (field 0 1 d.dbginst0 == 1) true by_channel by_its_manager (eq-eqb (field 0 1 d.dbginst0) 1 is)
+
+  when_manager : (who : Who) → field 0 1 d.dbginst0 ≢ 1 → faults_at who (debugged ram d) ≡ faults_at who by_its_manager
+  when_manager who is = if_chosen (faults_at who) (field 0 1 d.dbginst0 == 1) false by_channel by_its_manager (ne_eqb (field 0 1 d.dbginst0) 1 is)
+
+  -- after the debug instruction of this thread, and of another
+  addressed : (who : Who) → Addresses d who → faults_at who (debugged ram d) ≡ debug_result who d
+  addressed TheManager is = when_manager TheManager is ∙ manager_own ram first_byte second_byte d
+  addressed (TheChannel m) is =
+      subst (λ (j : ℕ). faults_at (TheChannel j) (debugged ram d) ≡ debug_result (TheChannel j) d) is.1
+      (when_channel (TheChannel number) is.0 ∙ thread_own number (slice_get d.threads number) first_byte second_byte d refl)
+
+  passed_by : (who : Who) → ¬ Addresses d who → faults_at who (debugged ram d) ≡ faults_at who d
+  passed_by TheManager off_it = elim (cases_eq (field 0 1 d.dbginst0) 1) [
+    | inl is ↦ when_channel TheManager is ∙ by_other TheManager number (slice_get d.threads number) first_byte second_byte d (λ u. refl)
+    | inr other ↦ absurd (off_it other)
+  ]
+  passed_by (TheChannel m) off_it = elim (cases_eq (field 0 1 d.dbginst0) 1) [
+    | inl is ↦ elim (cases_eq number m) [
+      | inl same ↦ absurd (off_it (is, same))
+      | inr other ↦ when_channel (TheChannel m) is ∙ by_other (TheChannel m) number (slice_get d.threads number) first_byte second_byte d (λ u. set_elsewhere d number m u (λ same. other (sym same)))
+    ]
+    | inr other ↦ when_manager (TheChannel m) other ∙ manager_channel ram m first_byte second_byte d
+  ]
+
+decide_addresses : (who : Who) (d : DeviceValue) → Addresses d who ⊎ (¬ Addresses d who)
+decide_addresses TheManager d = elim (cases_eq (field 0 1 d.dbginst0) 1) [ inl is ↦ inr (λ off_it. off_it is) | inr other ↦ inl other ]
+decide_addresses (TheChannel m) d = elim (cases_eq (field 0 1 d.dbginst0) 1) [
+  | inl is ↦ elim (cases_eq (field 8 3 d.dbginst0) m) [ inl same ↦ inl (is, same) | inr other ↦ inr (λ w. other w.1) ]
+  | inr other ↦ inr (λ w. other w.0)
+]
+
+-- ---- one write
+
+abbrev Exact : Who → DeviceValue → DeviceValue → Type 0 → Type 0 → Type 0
+Exact who d e Up Down = (faults_at who e ≡ true) ↔ (Up ⊎ ((faults_at who d ≡ true) × ¬ Down))
+
+same_exact : (who : Who) (d e : DeviceValue) (Up Down : Type 0) → faults_at who e ≡ faults_at who d → ¬ Up → ¬ Down → Exact who d e Up Down
+same_exact who d e Up Down same no_up no_down = (
+  (λ high. inr (sym same ∙ high, no_down)),
+  (λ why. elim why [ inl up ↦ absurd (no_up up) | inr stays ↦ same ∙ stays.0 ]),
+)
+
+-- a write to any register but DBGCMD leaves the threads
+others_keep : (who : Who) (ram : List Piece) (at value : ℕ) (d : DeviceValue) → at ≢ 0xD04 → faults_at who (written ram at value d) ≡ faults_at who d
+others_keep who ram at value d not_dbgcmd =
+    let f = faults_at who in
+    let r = faults_at who d in
+    let enabled : DeviceValue = record d { inten = bit_and value (all_events d) } in
+    let lowered : DeviceValue = record d { interrupts = bit_and d.interrupts (bit_not w32 (bit_and value d.inten)) } in
+    let executed : DeviceValue = if value % 4 == 0 then debugged ram d else d in
+    let first : DeviceValue = record d { dbginst0 = value } in
+    let second : DeviceValue = record d { dbginst1 = value } in
+    let last : DeviceValue = if at == 0xD0C then second else d in
+    let rest : DeviceValue = if at == 0xD08 then first else last in
+    let below : DeviceValue = if at == 0xD04 then executed else rest in
+    let others : DeviceValue = if at == 0x02C then lowered else below in
+    pick f (at == 0x020) enabled others r (λ is. same who enabled refl refl)
+    (λ more. pick f (at == 0x02C) lowered below r (λ is. same who lowered refl refl)
+    (λ more. pick f (at == 0xD04) executed rest r (λ is. absurd (true≢false (sym is ∙ ne_eqb at 0xD04 not_dbgcmd)))
+    (λ more. pick f (at == 0xD08) first last r (λ is. same who first refl refl)
+    (λ more. pick f (at == 0xD0C) second d r (λ is. same who second refl refl) (λ none. refl)))))
+  where
+    same : (who : Who) (e : DeviceValue) → e.manager ≡ d.manager → e.threads ≡ d.threads → faults_at who e ≡ faults_at who d
+    same TheManager e manager threads = ap (λ (m : Manager). m.is_faulting) manager
+    same (TheChannel n) e manager threads = ap (λ (ts : List Thread). faults_if (slice_get ts n)) threads
+
+-- a DMAKILL doesn't fail
+kill_passes : (who : Who) (d : DeviceValue) → opcode_of d ≡ 0x01 → debug_fails who d ≡ false
+kill_passes TheManager d is = let one : (opcode_of d == 0x01) ≡ true = eq-eqb (opcode_of d) 0x01 is in rw one refl
+kill_passes (TheChannel n) d is = let one : (opcode_of d == 0x01) ≡ true = eq-eqb (opcode_of d) 0x01 is in rw one refl
+
+either : (a b : Bool) → (a || b) ≡ true → (a ≡ true) ⊎ (b ≡ true)
+either true b is = inl refl
+either false b is = inr is
+
+abbrev dbgcmd_at : ℕ
+dbgcmd_at = 0xD04
+
+debug_exact : (who : Who) (ram : List Piece) (value : ℕ) (d : DeviceValue) → value % 4 ≡ 0 → Exact who d (debugged ram d) ((dbgcmd_at ≡ 0xD04) × DebugFails who d value) ((dbgcmd_at ≡ 0xD04) × ((value % 4 ≡ 0) × ((opcode_of d ≡ 0x01) × Addresses d who)))
+debug_exact who ram value d even =
+    let Up : Type 0 = (dbgcmd_at ≡ 0xD04) × DebugFails who d value in
+    let Down : Type 0 = (dbgcmd_at ≡ 0xD04) × ((value % 4 ≡ 0) × ((opcode_of d ≡ 0x01) × Addresses d who)) in
+    elim (decide_addresses who d) [
+      | inr off_it ↦ same_exact who d (debugged ram d) Up Down (passed_by ram d who off_it) (λ up. off_it up.1.addresses) (λ down. off_it down.1.1.1)
+      | inl is ↦
+          let result = addressed ram d who is in
+          elim (cases_eq (opcode_of d) 0x01) [
+            | inl kill ↦
+                let one : (opcode_of d == 0x01) ≡ true = eq-eqb (opcode_of d) 0x01 kill in
+                let off : debug_result who d ≡ false = ap (λ (b : Bool). if b then false else (faults_at who d || (can_execute who d && debug_fails who d))) one in (
+                  (λ high. absurd (true≢false (sym high ∙ result ∙ off))),
+                  (λ why. elim why [
+                    | inl up ↦ absurd (true≢false (sym up.1.fails ∙ kill_passes who d kill))
+                    | inr stays ↦ absurd (stays.1 (refl, (even, (kill, is))))
+                  ]),
+                )
+            | inr other ↦
+                let off_it : (opcode_of d == 0x01) ≡ false = ne_eqb (opcode_of d) 0x01 other in
+                let on : debug_result who d ≡ (faults_at who d || (can_execute who d && debug_fails who d)) = ap (λ (b : Bool). if b then false else (faults_at who d || (can_execute who d && debug_fails who d))) off_it in (
+                  (λ high. elim (either (faults_at who d) (can_execute who d && debug_fails who d) (sym on ∙ sym result ∙ high)) [
+                    | inl was ↦ inr (was, λ down. other down.1.1.0)
+                    | inr new ↦
+                        let w = and_parts (can_execute who d) (debug_fails who d) new in
+                        inl (refl, record { command = even; addresses = is; executes = w.0; fails = w.1 })
+                  ]),
+                  (λ why. result ∙ on ∙ elim why [
+                    | inl up ↦
+                        ap (λ (b : Bool). faults_at who d || b) (ap (λ (b : Bool). b && debug_fails who d) up.1.executes ∙ up.1.fails) ∙ or-true (faults_at who d)
+                    | inr stays ↦ ap (λ (b : Bool). b || (can_execute who d && debug_fails who d)) stays.0
+                  ]),
+                )
+          ]
+    ]
+
+write_exact : (who : Who) (at value : ℕ) (d : DeviceValue) (regions left : List Region) → let e = written (pieces_of regions) at value d in Exact who d e (Fails who (Writes at value) d regions e left) (Kills who (Writes at value) d)
+write_exact who at value d regions left =
+    let ram = pieces_of regions in
+    elim (cases_eq at 0xD04) [
+      | inl dbgcmd ↦ by who (cases_eq (value % 4) 0) dbgcmd
+      | inr other ↦ not_debug who other
+    ]
+  where
+    not_debug : (who : Who) → at ≢ 0xD04 → let e = written (pieces_of regions) at value d in Exact who d e (Fails who (Writes at value) d regions e left) (Kills who (Writes at value) d)
+    not_debug TheManager other = same_exact TheManager d (written (pieces_of regions) at value d) _ _ (others_keep TheManager (pieces_of regions) at value d other) (λ up. other up.0) (λ down. other down.0)
+    not_debug (TheChannel n) other = same_exact (TheChannel n) d (written (pieces_of regions) at value d) _ _ (others_keep (TheChannel n) (pieces_of regions) at value d other) (λ up. other up.0) (λ down. other down.0)
+
+    Goal : Who → ℕ → Type 0
+    Goal who j = Exact who d (written (pieces_of regions) j value d) ((j ≡ 0xD04) × DebugFails who d value) ((j ≡ 0xD04) × ((value % 4 ≡ 0) × ((opcode_of d ≡ 0x01) × Addresses d who)))
+
+    executes : (who : Who) → value % 4 ≡ 0 → Goal who 0xD04
+    executes who even =
+        let one : (value % 4 == 0) ≡ true = eq-eqb (value % 4) 0 even in
+        let is : debugged (pieces_of regions) d ≡ written (pieces_of regions) 0xD04 value d = ap (λ (b : Bool). let v : DeviceValue = if b then debugged (pieces_of regions) d else d in v) (sym one) in
+        subst (λ (e : DeviceValue). Exact who d e ((dbgcmd_at ≡ 0xD04) × DebugFails who d value) ((dbgcmd_at ≡ 0xD04) × ((value % 4 ≡ 0) × ((opcode_of d ≡ 0x01) × Addresses d who)))) is (debug_exact who (pieces_of regions) value d even)
+
+    ignores : (who : Who) → value % 4 ≢ 0 → Goal who 0xD04
+    ignores who some =
+        let off_it : (value % 4 == 0) ≡ false = ne_eqb (value % 4) 0 some in
+        let is : d ≡ written (pieces_of regions) 0xD04 value d = ap (λ (b : Bool). let v : DeviceValue = if b then debugged (pieces_of regions) d else d in v) (sym off_it) in
+        same_exact who d (written (pieces_of regions) 0xD04 value d) _ _ (ap (faults_at who) (sym is)) (λ up. some up.1.command) (λ down. some down.1.0)
+
+    there : (who : Who) → (value % 4 ≡ 0) ⊎ (value % 4 ≢ 0) → at ≡ 0xD04 → Goal who at
+    there who (inl even) is = subst (Goal who) (sym is) (executes who even)
+    there who (inr some) is = subst (Goal who) (sym is) (ignores who some)
+
+    by : (who : Who) → (value % 4 ≡ 0) ⊎ (value % 4 ≢ 0) → at ≡ 0xD04 → let e = written (pieces_of regions) at value d in Exact who d e (Fails who (Writes at value) d regions e left) (Kills who (Writes at value) d)
+    by TheManager c is = there TheManager c is
+    by (TheChannel n) c is = there (TheChannel n) c is
+
+-- ---- a call
+
+moved_faults : (events : ℕ) (th : Thread) (e : ℕ) (b : Bool) → nat_lt e events ≡ b → (is_faulting (if b then record th { status = Executing } else failed operand_invalid (record th { pc = (th.pc + (2 ^ 32 - 2)) % 2 ^ 32 })) ≡ true) ↔ (events ≤ e)
+moved_faults events th e true is = ((λ bad. absurd (true≢false (sym bad))), (λ over. let less = ltb-true e events is in absurd (omega (arith, less, over))))
+moved_faults events th e false is = ((λ t. ltb-false e events is), (λ over. refl))
+
+waited_faults : (events : ℕ) (th : Thread) (e : ℕ) (b : Bool) → nat_lt e events ≡ b → (is_faulting (if b then record th { status = WaitingForEvent e } else failed operand_invalid th) ≡ true) ↔ (events ≤ e)
+waited_faults events th e true is = ((λ bad. absurd (true≢false (sym bad))), (λ over. let less = ltb-true e events is in absurd (omega (arith, less, over))))
+waited_faults events th e false is = ((λ t. ltb-false e events is), (λ over. refl))
+
+answer_faults : (events : ℕ) (th : Thread) (last : Option ChanTurn) (signal : Option ℕ) → (is_faulting (answer events th last signal) ≡ true) ↔ LastFails events last signal
+answer_faults events th None signal = ((λ t. tt), (λ t. refl))
+answer_faults events th (Some Moved) None = ((λ bad. absurd (true≢false (sym bad))), (λ bad. absurd bad))
+answer_faults events th (Some Moved) (Some e) = moved_faults events th e (nat_lt e events) refl
+answer_faults events th (Some (Waiting e)) signal = waited_faults events th e (nat_lt e events) refl
+answer_faults events th (Some Ended) signal = ((λ bad. absurd (true≢false (sym bad))), (λ bad. absurd bad))
+answer_faults events th (Some (Fault kind)) signal = ((λ t. tt), (λ t. refl))
+
+executes_faults : (b : Bool) (d : DeviceValue) (regions : List Region) (n most : ℕ) (e : DeviceValue) (left : List Region) (called : Called) (x : Executes b d regions n most e left called) → (faults_at (TheChannel n) e ≡ true) ↔ LastFails d.config.events x.call.last called.signal
+executes_faults b d regions n most e left called x =
+    let c = x.call in
+    let th : Thread = record (x.thread) { channel = c.channel; pc = (x.thread.base + c.channel.registers.pc) % 2 ^ 32 } in
+    let after = answer d.config.events th c.last called.signal in
+    let is : faults_at (TheChannel n) e ≡ is_faulting after = ap (faults_at (TheChannel n)) c.device ∙ set_there d n x.thread after x.found in
+    let w = answer_faults d.config.events th c.last called.signal in
+    ((λ high. w.0 (sym is ∙ high)), (λ why. is ∙ w.1 why))
+
+call_own : (b : Bool) (d : DeviceValue) (regions : List Region) (n most : ℕ) (e : DeviceValue) (left : List Region) (called : Called) → (b ≡ true → faults_at (TheChannel n) d ≡ false) → CallsIf b d regions n most e left called → (faults_at (TheChannel n) e ≡ true) ↔ (CallFails b d regions n most e left called ⊎ (faults_at (TheChannel n) d ≡ true))
+call_own b d regions n most e left called fine x = elim (call_is b d regions n most e left called x) [
+  | inl idle ↦
+      let same = ap (faults_at (TheChannel n)) idle.device in (
+        (λ high. inr (sym same ∙ high)),
+        (λ why. elim why [
+          | inl f ↦ elim f [ inl wide ↦ absurd (true≢false (sym wide.on ∙ idle.off)) | inr does ↦ absurd (true≢false (sym does.0.on ∙ idle.off)) ]
+          | inr was ↦ same ∙ was
+        ]),
+      )
+  | inr other ↦ elim other [
+    | inl wide ↦
+        let is : faults_at (TheChannel n) e ≡ true = ap (faults_at (TheChannel n)) wide.device ∙ set_there d n wide.thread (failed operand_invalid wide.thread) wide.found in
+        ((λ high. inl (inl wide)), (λ why. is))
+    | inr does ↦ (
+      (λ high. inl (inr (does, (executes_faults b d regions n most e left called does).0 high))),
+      (λ why. elim why [
+        | inl f ↦ elim f [
+          | inl wide ↦ ap (faults_at (TheChannel n)) wide.device ∙ set_there d n wide.thread (failed operand_invalid wide.thread) wide.found
+          | inr w ↦ (executes_faults b d regions n most e left called w.0).1 w.1
+        ]
+        | inr was ↦ absurd (true≢false (sym was ∙ fine does.on))
+      ]),
+    )
+  ]
+]
+
+call_keeps : (who : Who) (b : Bool) (d : DeviceValue) (regions : List Region) (n most : ℕ) (e : DeviceValue) (left : List Region) (called : Called) → ((u : Thread) (v : DeviceValue) → faults_at who (with_thread n u v) ≡ faults_at who v) → ((flags : ℕ) → faults_at who (with_flags flags d) ≡ faults_at who d) → CallsIf b d regions n most e left called → faults_at who e ≡ faults_at who d
+call_keeps who b d regions n most e left called keeps flags x = elim (call_is b d regions n most e left called x) [
+  | inl idle ↦ ap (faults_at who) idle.device
+  | inr other ↦ elim other [
+    | inl wide ↦ ap (faults_at who) wide.device ∙ keeps (failed operand_invalid wide.thread) d
+    | inr does ↦
+        let c = does.call in
+        ap (faults_at who) c.device ∙ keeps (answered d.config.events (record (does.thread) { channel = c.channel }) c.last called.signal) (with_flags c.flags d) ∙ flags c.flags
+  ]
+]
+
+runs_fine : (o : Option Thread) → runs_if o ≡ true → faults_if o ≡ false
+runs_fine None on = absurd (true≢false (sym on))
+runs_fine (Some t) on = not-true (is_faulting t) (and_parts _ (not (is_faulting t)) on).1
+
+-- ---- a turn
+
+turn_keeps : (who : Who) (d : DeviceValue) (regions : List Region) (n most : ℕ) (e : DeviceValue) (left : List Region) (turn : Turn) → ((u : Thread) (v : DeviceValue) → faults_at who (with_thread n u v) ≡ faults_at who v) → ((flags : ℕ) (v : DeviceValue) → faults_at who (with_flags flags v) ≡ faults_at who v) → TakesTurn d regions n most e left turn → faults_at who e ≡ faults_at who d
+turn_keeps who d regions n most e left turn keeps flags x =
+    call_keeps who (follows x.middle n x.first) x.middle x.lent n 1 e left x.second keeps (λ f. flags f x.middle) x.one_more
+    ∙ call_keeps who (begins d n most) d regions n most x.middle x.lent x.first keeps (λ f. flags f d) x.call
+
+turn_own : (d : DeviceValue) (regions : List Region) (n most : ℕ) (e : DeviceValue) (left : List Region) (turn : Turn) (x : TakesTurn d regions n most e left turn) → (faults_at (TheChannel n) e ≡ true) ↔ ((CallFails (begins d n most) d regions n most x.middle x.lent x.first ⊎ CallFails (follows x.middle n x.first) x.middle x.lent n 1 e left x.second) ⊎ (faults_at (TheChannel n) d ≡ true))
+turn_own d regions n most e left turn x =
+    let one = call_own (begins d n most) d regions n most x.middle x.lent x.first (λ on. runs_fine (slice_get d.threads n) (and_parts (nat_lt 0 most) (runs_at d n) on).1) x.call in
+    let two = call_own (follows x.middle n x.first) x.middle x.lent n 1 e left x.second (λ on. runs_fine (slice_get x.middle.threads n) (and_parts (may_follow x.middle n x.first) (runs_at x.middle n) on).1) x.one_more in (
+      (λ high. elim (two.0 high) [
+        | inl second ↦ inl (inr second)
+        | inr middle ↦ elim (one.0 middle) [ inl first ↦ inl (inl first) | inr was ↦ inr was ]
+      ]),
+      (λ why. elim why [
+        | inl new ↦ elim new [ inl first ↦ two.1 (inr (one.1 (inl first))) | inr second ↦ two.1 (inl second) ]
+        | inr was ↦ two.1 (inr (one.1 (inr was)))
+      ]),
+    )
+
+turn_exact : (who : Who) (n most : ℕ) (d e : DeviceValue) (regions left : List Region) (turn : Turn) → TakesTurn d regions n most e left turn → Exact who d e (Fails who (Turns n most) d regions e left) ⊥
+turn_exact TheManager n most d e regions left turn x =
+    same_exact TheManager d e ⊥ ⊥ (turn_keeps TheManager d regions n most e left turn (λ u v. refl) (λ f v. refl) x) (λ up. up) (λ down. down)
+turn_exact (TheChannel m) n most d e regions left turn x = elim (cases_eq m n) [
+  | inl same ↦ subst (λ (j : ℕ). Exact (TheChannel j) d e ((j ≡ n) × TurnFails d regions n most e left) ⊥) (sym same) here
+  | inr other ↦
+      same_exact (TheChannel m) d e ((m ≡ n) × TurnFails d regions n most e left) ⊥
+      (turn_keeps (TheChannel m) d regions n most e left turn (λ u v. set_elsewhere v n m u other) (λ f v. refl) x) (λ up. other up.0) (λ down. down)
+]
+  where
+    here : Exact (TheChannel n) d e ((n ≡ n) × TurnFails d regions n most e left) ⊥
+    here =
+        let own = turn_own d regions n most e left turn x in (
+          (λ high. elim (own.0 high) [
+            | inl new ↦ inl (refl, (turn, (x, new)))
+            | inr was ↦ inr (was, λ down. down)
+          ]),
+          (λ why. elim why [
+            | inl up ↦ (turn_own d regions n most e left up.1.0 up.1.1.0).1 (inl up.1.1.1)
+            | inr stays ↦ own.1 (inr stays.0)
+          ]),
+        )
+
+-- ---- one access
+
+none_faults : (n m : ℕ) → faults_if (slice_get (replicate m reset_thread) n) ≡ false
+none_faults n zero = refl
+none_faults zero (suc m) = refl
+none_faults (suc n) (suc m) = none_faults n m
+
+reset_fine : (who : Who) (g : Config) → faults_at who (reset_device g) ≡ false
+reset_fine TheManager g = refl
+reset_fine (TheChannel n) g = none_faults n g.channels
+
+reset_exact : (who : Who) (d e : DeviceValue) → e ≡ reset_device d.config → (Up : Type 0) → ¬ Up → Exact who d e Up (Unit {0})
+reset_exact who d e is Up none = (
+  (λ high. absurd (true≢false (sym high ∙ ap (faults_at who) is ∙ reset_fine who d.config))),
+  (λ why. elim why [ inl up ↦ absurd (none up) | inr stays ↦ absurd (stays.1 tt) ]),
+)
+
+access_exact : (who : Who) (a : Access) (d e : DeviceValue) (regions left : List Region) (answer : Answer) → Does a d regions answer e left → Exact who d e (Fails who a d regions e left) (EndsFault who a d)
+access_exact TheManager (Reads at) d e regions left answer x = same_exact TheManager d e ⊥ ⊥ (ap (faults_at TheManager) x.1) (λ up. up) (λ down. down)
+access_exact (TheChannel n) (Reads at) d e regions left answer x = same_exact (TheChannel n) d e ⊥ ⊥ (ap (faults_at (TheChannel n)) x.1) (λ up. up) (λ down. down)
+access_exact TheManager (Writes at value) d e regions left answer x =
+    subst (λ (v : DeviceValue). Exact TheManager d v (Fails TheManager (Writes at value) d regions v left) (Kills TheManager (Writes at value) d)) (sym x.1) (write_exact TheManager at value d regions left)
+access_exact (TheChannel n) (Writes at value) d e regions left answer x =
+    subst (λ (v : DeviceValue). Exact (TheChannel n) d v (Fails (TheChannel n) (Writes at value) d regions v left) (Kills (TheChannel n) (Writes at value) d)) (sym x.1) (write_exact (TheChannel n) at value d regions left)
+access_exact TheManager (Turns n most) d e regions left answer x = turn_exact TheManager n most d e regions left x.0 x.1.1
+access_exact (TheChannel m) (Turns n most) d e regions left answer x = turn_exact (TheChannel m) n most d e regions left x.0 x.1.1
+access_exact TheManager (Stores addr byte) d e regions left answer x = same_exact TheManager d e ⊥ ⊥ (ap (faults_at TheManager) x.1) (λ up. up) (λ down. down)
+access_exact (TheChannel n) (Stores addr byte) d e regions left answer x = same_exact (TheChannel n) d e ⊥ ⊥ (ap (faults_at (TheChannel n)) x.1) (λ up. up) (λ down. down)
+access_exact TheManager Resets d e regions left answer x = reset_exact TheManager d e x.1 ⊥ (λ up. up)
+access_exact (TheChannel n) Resets d e regions left answer x = reset_exact (TheChannel n) d e x.1 ⊥ (λ up. up)
+
+pub faults_are_exact : FaultsAreExact
+faults_are_exact access answer before lent count n who happen within =
+    let x = history.held (λ j. faults_at who (before j) ≡ true) (λ j. Fails who (access j) (before j) (lent j) (before (j + 1)) (lent (j + 1))) (λ j. EndsFault who (access j) (before j)) count
+    (λ j less. access_exact who (access j) (before j) (before (j + 1)) (lent j) (lent (j + 1)) (answer j) (happen j less)) n within in (
+      (λ high. elim (x.0 high) [
+        | inl r ↦ inl (record { at = r.at; below = r.below; fails = r.up; stays = r.stays })
+        | inr first ↦ inr first
+      ]),
+      (λ why. elim why [
+        | inl r ↦ x.1 (inl (record { at = r.at; below = r.below; up = r.fails; stays = r.stays }))
+        | inr first ↦ x.1 (inr first)
+      ]),
+    )
+
+-- ---- the line
+
+any_index : (ts : List Thread) → list_any is_faulting ts ≡ true → (n : ℕ) × (faults_if (slice_get ts n) ≡ true)
+any_index [] is = absurd (true≢false (sym is))
+any_index (t ∷ ts) is = elim (either (is_faulting t) (list_any is_faulting ts) is) [
+  | inl here ↦ (0, here)
+  | inr more ↦ let w = any_index ts more in (suc w.0, w.1)
+]
+
+any_from : (ts : List Thread) (n : ℕ) → faults_if (slice_get ts n) ≡ true → list_any is_faulting ts ≡ true
+any_from [] n is = absurd (true≢false (sym is))
+any_from (t ∷ ts) zero is = ap (λ (b : Bool). b || list_any is_faulting ts) is
+any_from (t ∷ ts) (suc n) is = ap (λ (b : Bool). is_faulting t || b) (any_from ts n is) ∙ or-true (is_faulting t)
+
+line_is : (d : DeviceValue) → (irq_abort d ≡ true) ↔ ((who : Who) × (faults_at who d ≡ true))
+line_is d = (
+  (λ high. elim (either d.manager.is_faulting (list_any is_faulting d.threads) high) [
+    | inl manager ↦ (TheManager, manager)
+    | inr some ↦ let w = any_index d.threads some in (TheChannel w.0, w.1)
+  ]),
+  (λ w. by w.0 w.1),
+)
+  where
+    by : (who : Who) → faults_at who d ≡ true → irq_abort d ≡ true
+    by TheManager is = ap (λ (b : Bool). b || list_any is_faulting d.threads) is
+    by (TheChannel n) is = ap (λ (b : Bool). d.manager.is_faulting || b) (any_from d.threads n is) ∙ or-true d.manager.is_faulting
+
+flag_is : (b : Bool) → (flag b ≡ 1) ↔ (b ≡ true)
+flag_is true = ((λ e. refl), (λ e. refl))
+flag_is false = ((λ e. absurd (omega (arith, e))), (λ e. absurd (true≢false (sym e))))
+
+flag_few : (b : Bool) → flag b < 2
+flag_few true = omega arith
+flag_few false = omega arith
+
+bits_are : (ts : List Thread) (n : ℕ) → bit_at (faulting_bits ts) n ≡ flag (faults_if (slice_get ts n))
+bits_are [] n = bit_at-zero n
+bits_are (t ∷ ts) zero = bit_at_lowest (flag (is_faulting t) + 2 * faulting_bits ts) ∙ omega (arith, flag_few (is_faulting t))
+bits_are (t ∷ ts) (suc n) =
+    let half : (flag (is_faulting t) + 2 * faulting_bits ts) / 2 ≡ faulting_bits ts = omega (arith, flag_few (is_faulting t)) in
+    bit_at-suc (flag (is_faulting t) + 2 * faulting_bits ts) n ∙ ap (λ (m : ℕ). bit_at m n) half ∙ bits_are ts n
+
+pub abort_is_faulting : AbortIsFaulting
+abort_is_faulting = record {
+  line = line_is;
+  fsrd = λ d. flag_is d.manager.is_faulting;
+  fsrc = λ d n. (let w = flag_is (faults_at (TheChannel n) d) in let is = bits_are d.threads n in ((λ high. w.0 (sym is ∙ high)), (λ e. is ∙ w.1 e)));
+  reset = λ g. list_any_none is_faulting (replicate g.channels reset_thread) (All-replicate (λ (t : Thread). is_faulting t ≡ false) g.channels reset_thread refl);
+}
+
+-- a low line: no thread is faulting
+low_none : (d : DeviceValue) (who : Who) → irq_abort d ≡ false → faults_at who d ≡ true → ⊥
+low_none d who low is = true≢false (sym ((line_is d).1 (who, is)) ∙ low)
+
+not_high : (d : DeviceValue) → (irq_abort d ≡ true → ⊥) → irq_abort d ≡ false
+not_high d off_it = by (irq_abort d) off_it
+  where
+    by : (b : Bool) → (b ≡ true → ⊥) → b ≡ false
+    by true off_it = absurd (off_it refl)
+    by false off_it = refl
+
+-- a debug DMAKILL of this thread
+abbrev KillsBy : Who → ℕ → ℕ → DeviceValue → Type 0
+KillsBy who at value d = (at ≡ 0xD04) × ((value % 4 ≡ 0) × ((opcode_of d ≡ 0x01) × Addresses d who))
+
+decide_write : (who : Who) (at value : ℕ) (d : DeviceValue) → KillsBy who at value d ⊎ (¬ KillsBy who at value d)
+decide_write who at value d = elim (cases_eq at 0xD04) [
+  | inr off_it ↦ inr (λ w. off_it w.0)
+  | inl a ↦ elim (cases_eq (value % 4) 0) [
+    | inr off_it ↦ inr (λ w. off_it w.1.0)
+    | inl b ↦ elim (cases_eq (opcode_of d) 0x01) [
+      | inr off_it ↦ inr (λ w. off_it w.1.1.0)
+      | inl c ↦ elim (decide_addresses who d) [ inl e ↦ inl (a, (b, (c, e))) | inr off_it ↦ inr (λ w. off_it w.1.1.1) ]
+    ]
+  ]
+]
+
+-- an access kills a thread, or it doesn't
+decide_kills : (who : Who) (a : Access) (d : DeviceValue) → Kills who a d ⊎ (¬ Kills who a d)
+decide_kills who (Writes at value) d = decide_write who at value d
+decide_kills who (Reads at) d = inr (λ w. w)
+decide_kills who (Turns n most) d = inr (λ w. w)
+decide_kills who (Stores addr byte) d = inr (λ w. w)
+decide_kills who Resets d = inr (λ w. w)
+
+-- what ends a fault kills the thread, or is a reset
+ends_by : (who : Who) (a : Access) (d : DeviceValue) → EndsFault who a d → IsReset a ⊎ Kills who a d
+ends_by who (Writes at value) d w = inr w
+ends_by who (Reads at) d w = inr w
+ends_by who (Turns n most) d w = inr w
+ends_by who (Stores addr byte) d w = inr w
+ends_by who Resets d w = inl tt
+
+kill_ends : (who : Who) (a : Access) (d : DeviceValue) → Kills who a d → EndsFault who a d
+kill_ends who (Writes at value) d w = w
+kill_ends who (Reads at) d w = absurd w
+kill_ends who (Turns n most) d w = absurd w
+kill_ends who (Stores addr byte) d w = absurd w
+kill_ends who Resets d w = tt
+
+decide_ends : (who : Who) (a : Access) (d : DeviceValue) → EndsFault who a d ⊎ (¬ EndsFault who a d)
+decide_ends who (Writes at value) d = decide_write who at value d
+decide_ends who (Reads at) d = inr (λ w. w)
+decide_ends who (Turns n most) d = inr (λ w. w)
+decide_ends who (Stores addr byte) d = inr (λ w. w)
+decide_ends who Resets d = inl tt
+
+-- one debug instruction has one thread
+one_addressed : (who other : Who) (d : DeviceValue) → Addresses d who → Addresses d other → other ≡ who
+one_addressed TheManager TheManager d a b = refl
+one_addressed TheManager (TheChannel n) d a b = absurd (a b.0)
+one_addressed (TheChannel m) TheManager d a b = absurd (b a.0)
+one_addressed (TheChannel m) (TheChannel n) d a b = ap TheChannel (sym b.1 ∙ a.1)
+
+kills_one : (who other : Who) (a : Access) (d : DeviceValue) → Kills who a d → Kills other a d → other ≡ who
+kills_one who other (Writes at value) d x y = one_addressed who other d x.1.1.1 y.1.1.1
+kills_one who other (Reads at) d x y = absurd x
+kills_one who other (Turns n most) d x y = absurd x
+kills_one who other (Stores addr byte) d x y = absurd x
+kills_one who other Resets d x y = absurd x
+
+-- what kills a thread makes none fail
+kill_fails_none : (who other : Who) (a : Access) (d e : DeviceValue) (regions left : List Region) → Kills who a d → ¬ Fails other a d regions e left
+kill_fails_none who TheManager (Writes at value) d e regions left x f = true≢false (sym f.1.fails ∙ kill_passes TheManager d x.1.1.0)
+kill_fails_none who (TheChannel n) (Writes at value) d e regions left x f = true≢false (sym f.1.fails ∙ kill_passes (TheChannel n) d x.1.1.0)
+kill_fails_none who other (Reads at) d e regions left x f = absurd x
+kill_fails_none who other (Turns n most) d e regions left x f = absurd x
+kill_fails_none who other (Stores addr byte) d e regions left x f = absurd x
+kill_fails_none who other Resets d e regions left x f = absurd x
+
+-- after an access that leaves the line low, the fault of a thread that was faulting was ended
+was_ended : (who : Who) (a : Access) (d e : DeviceValue) (regions left : List Region) (answer : Answer) → Does a d regions answer e left → irq_abort e ≡ false → faults_at who d ≡ true → EndsFault who a d
+was_ended who a d e regions left answer x low is = elim (decide_ends who a d) [
+  | inl ends ↦ ends
+  | inr stays ↦ absurd (low_none e who low ((access_exact who a d e regions left answer x).1 (inr (is, stays))))
+]
+
+-- one that isn't a reset has killed it
+was_killed : (who : Who) (a : Access) (d e : DeviceValue) (regions left : List Region) (answer : Answer) → ¬ IsReset a → Does a d regions answer e left → irq_abort e ≡ false → faults_at who d ≡ true → Kills who a d
+was_killed who a d e regions left answer other x low is = elim (ends_by who a d (was_ended who a d e regions left answer x low is)) [
+  | inl reset ↦ absurd (other reset)
+  | inr kills ↦ kills
+]
+
+-- after a reset the line is low
+reset_low : (a : Access) (d e : DeviceValue) (regions left : List Region) (answer : Answer) → IsReset a → Does a d regions answer e left → irq_abort e ≡ false
+reset_low (Reads at) d e regions left answer is x = absurd is
+reset_low (Writes at value) d e regions left answer is x = absurd is
+reset_low (Turns n most) d e regions left answer is x = absurd is
+reset_low (Stores addr byte) d e regions left answer is x = absurd is
+reset_low Resets d e regions left answer is x = ap irq_abort x.1 ∙ abort_is_faulting.reset d.config
+
+decide_reset : (a : Access) → IsReset a ⊎ (¬ IsReset a)
+decide_reset (Reads at) = inr (λ w. w)
+decide_reset (Writes at value) = inr (λ w. w)
+decide_reset (Turns n most) = inr (λ w. w)
+decide_reset (Stores addr byte) = inr (λ w. w)
+decide_reset Resets = inl tt
+
+pub aborts_are_exact : AbortsAreExact
+aborts_are_exact a d e regions left answer x = record {
+  rises = λ low. (
+    (λ high.
+        let w = (line_is e).0 high in
+        elim ((access_exact w.0 a d e regions left answer x).0 w.1) [
+          | inl fails ↦ (w.0, fails)
+          | inr was ↦ absurd (low_none d w.0 low was.0)
+        ]),
+    (λ w. (line_is e).1 (w.0, (access_exact w.0 a d e regions left answer x).1 (inl w.1))),
+  );
+  falls = λ high. (
+    (λ low. elim (decide_reset a) [
+      | inl reset ↦ inl reset
+      | inr other ↦
+          let w = (line_is d).0 high in
+          let kills = was_killed w.0 a d e regions left answer other x low w.1 in
+          inr (w.0, kills, w.1, λ another is. kills_one w.0 another a d kills (was_killed another a d e regions left answer other x low is))
+    ]),
+    (λ why. elim why [
+      | inl reset ↦ reset_low a d e regions left answer reset x
+      | inr w ↦ not_high e (λ still.
+          let v = (line_is e).0 still in
+          elim ((access_exact v.0 a d e regions left answer x).0 v.1) [
+            | inl fails ↦ kill_fails_none w.0 v.0 a d e regions left w.1 fails
+            | inr stays ↦
+                let same : v.0 ≡ w.0 = w.3 v.0 stays.0 in
+                stays.1 (kill_ends v.0 a d (subst (λ (u : Who). Kills u a d) (sym same) w.1))
+          ])
+    ]),
+  );
+}

@@ -1,0 +1,66 @@
+-- What holds before access number n, if each access makes it hold, or leaves it, or ends it.
+use Rattle.std.proofs.Common.{◌≡◌, ◌⊎◌, ℕ, zero, suc, ◌+◌, ◌<◌, ◌≤◌, subst, arith, inl, inr}
+use Rattle.std.specs.Prelude.{◌↔◌}
+use Rattle.std.proofs.lemmas.Bool.{cases_eq, cases_lt}
+
+module _ (P Up Down : ℕ → Type 0) where
+  -- from number i up to, and without, number n nothing ends it
+  abbrev pub Stays : ℕ → ℕ → Type 0
+  Stays i n = (j : ℕ) → i ≤ j → j < n → ¬ Down j
+
+  pub record Since (n : ℕ) : Type 0 where
+    pub at : ℕ
+    pub below : at < n
+    pub up : Up at
+    pub stays : Stays (at + 1) n
+
+  abbrev pub Held : ℕ → Type 0
+  Held n = P n ↔ (Since n ⊎ (P 0 × Stays 0 n))
+
+  fewer : (i n : ℕ) → Stays i (n + 1) → Stays i n
+  fewer i n stays j from less = stays j from (omega arith)
+
+  more : (i n : ℕ) → Stays i n → ¬ Down n → Stays i (n + 1)
+  more i n stays calm j from less =
+      elim (cases_lt j n) [
+        | inl early ↦ stays j from early
+        | inr last ↦
+            let e : n ≡ j = omega arith in
+            subst (λ (m : ℕ). ¬ Down m) e calm
+      ]
+
+  since_more : (n : ℕ) → Since n → ¬ Down n → Since (n + 1)
+  since_more n r calm = record { at = r.at; below = omega (arith, r.below); up = r.up; stays = more (r.at + 1) n r.stays calm }
+
+  since_here : (n : ℕ) → Up n → Since (n + 1)
+  since_here n up = record { at = n; below = omega arith; up = up; stays = λ j from less. absurd (omega arith) }
+
+  next_held : (n : ℕ) → P (n + 1) ↔ (Up n ⊎ (P n × ¬ Down n)) → Held n → Held (n + 1)
+  next_held n x held = (
+    (λ high. elim (x.0 high) [
+      | inl up ↦ inl (since_here n up)
+      | inr stays ↦ elim (held.0 stays.0) [
+        | inl r ↦ inl (since_more n r stays.1)
+        | inr first ↦ inr (first.0, more 0 n first.1 stays.1)
+      ]
+    ]),
+    (λ why. elim why [
+      | inl r ↦ elim (cases_eq r.at n) [
+        | inl last ↦ x.1 (inl (subst Up last r.up))
+        | inr early ↦
+            let below = r.below in
+            let before_n : Since n = record { at = r.at; below = omega arith; up = r.up; stays = fewer (r.at + 1) n r.stays } in
+            x.1 (inr (held.1 (inl before_n), r.stays n (omega arith) (omega arith)))
+      ]
+      | inr first ↦ x.1 (inr (held.1 (inr (first.0, fewer 0 n first.1)), first.1 n (omega arith) (omega arith)))
+    ]),
+  )
+
+  pub held : (count : ℕ) → ((n : ℕ) → n < count → P (n + 1) ↔ (Up n ⊎ (P n × ¬ Down n))) → (n : ℕ) → n ≤ count → Held n
+  held count steps zero within = (
+    (λ high. inr (high, λ j from less. absurd (omega arith))),
+    (λ why. elim why [ inl r ↦ absurd (let below = r.below in omega arith) | inr first ↦ first.0 ]),
+  )
+  held count steps (suc n) within =
+      let e : n + 1 ≡ suc n = omega arith in
+      subst Held e (next_held n (steps n (omega arith)) (held count steps n (omega arith)))

@@ -1,0 +1,210 @@
+-- Devices stay sound, and a turn of a sound device whose threads can't step does nothing.
+use Rattle.std.proofs.Common.{◌≡◌, ◌∙◌, ℕ, zero, suc, ◌+◌, ◌%◌, ◌/◌, ◌^◌, ◌<◌, ◌≤◌, Bool, true, false, ◌&&◌, List, Option, Some, None, ap, refl, sym, subst, arith, bit_and, bit_or, inl, inr, w32}
+use Rattle.std.specs.Prelude.{◌==◌, if◌then◌else◌, nat_lt, not, slice_get}
+use Rattle.std.specs.Int.{bit_not}
+use Rattle.std.specs.List.{All}
+use borrow.Author.Tests.{ltb-true}
+use Rattle.std.proofs.Math.Pow.{pow-lt}
+use Rattle.std.proofs.lemmas.Bool.{and_parts}
+use Rattle.std.proofs.lemmas.List.Elements.{All-replicate, All-set}
+use Rattle.std.proofs.lemmas.Nat.{or_lt, pow_pos}
+use Rattle.dma_insn.specs.ControlWord.{field}
+use Rattle.dma_mem.specs.Regions.{Piece, pieces_of}
+use Rattle.dma_mem.specs.declared.regions.Region.{Region}
+use Rattle.dma_device.specs.declared.config.Config.{Config}
+use Rattle.dma_device.specs.declared.device.turns.Called.{Called}
+use Rattle.dma_device.specs.declared.device.turns.Turn.{Turn}
+use Rattle.dma_device.specs.declared.thread.Thread.{Thread}
+use Rattle.dma_device.specs.Accesses.{Access, Answer, Does, Happen, Reads, Resets, Stores, Turned, Turns, Writes}
+use Rattle.dma_device.specs.Device.{DeviceValue, all_events, by_manager, by_thread, debugged, go, gone, is_event, is_interrupt, manager_failed, program_at, signalled, with_thread, written}
+use Rattle.dma_device.specs.Idle.{IsSoundDevice, NothingHappens, StaySound}
+use Rattle.dma_device.specs.Snapshot.{IsThreadValue}
+use Rattle.dma_device.specs.Thread.{IsSound, answered, dbg_instr, dmago_err, failed, is_faulting, is_stopped, killed, operand_invalid, reset_thread, started, undef_instr}
+use Rattle.dma_device.specs.Turns.{CallsIf, TakesTurn, may_follow, runs_at, with_flags}
+use Rattle.dma_device.proofs.Calls.{call_is}
+use Rattle.dma_device.proofs.Sound.{and_fewer, and_known, answered_sound, few_events}
+use Rattle.dma_device.proofs.Waits.{turn_rests}
+
+-- ---- parts
+
+branch : (b : Bool) (x y : DeviceValue) → (b ≡ true → IsSoundDevice x) → (b ≡ false → IsSoundDevice y) → IsSoundDevice (if b then x else y)
+branch true x y f g = f refl
+branch false x y f g = g refl
+
+pub thread_sound : (d : DeviceValue) (n : ℕ) (t : Thread) → IsSoundDevice d → IsSound d.config.events t → IsSoundDevice (with_thread n t d)
+thread_sound d n t h sound = record {
+  few = h.few;
+  known = record { events = h.known.events; interrupts = h.known.interrupts; inten = h.known.inten };
+  threads = All-set (IsSound d.config.events) d.threads n t sound h.threads;
+}
+
+-- other events, manager and debug registers
+same_threads : (d e : DeviceValue) → IsSoundDevice d → e.config ≡ d.config → e.threads ≡ d.threads → e.events < 2 ^ d.config.events → e.interrupts < 2 ^ d.config.events → e.inten < 2 ^ d.config.events → IsSoundDevice e
+same_threads d e h config threads events interrupts inten =
+    let count : e.config.events ≡ d.config.events = ap (λ (g : Config). g.events) config in
+    record {
+      few = rw count h.few;
+      known = record { events = rw count events; interrupts = rw count interrupts; inten = rw count inten };
+      threads = subst (λ (m : ℕ). All (IsSound m) e.threads) (sym count) (subst (All (IsSound d.config.events)) (sym threads) h.threads);
+    }
+
+signalled_sound : (d : DeviceValue) (k : ℕ) → IsSoundDevice d → k < d.config.events → IsSoundDevice (signalled k d)
+signalled_sound d k h less =
+    let n = d.config.events in
+    let raised : DeviceValue = record d { interrupts = bit_or d.interrupts (2 ^ k) } in
+    let sent : DeviceValue = record d { events = bit_or d.events (2 ^ k) } in
+    branch (is_interrupt d k) raised sent
+    (λ on. same_threads d raised h refl refl h.known.events (or_lt n d.interrupts (2 ^ k) h.known.interrupts (pow-lt {i = k} {j = n} less)) h.known.inten)
+    (λ off. same_threads d sent h refl refl (or_lt n d.events (2 ^ k) h.known.events (pow-lt {i = k} {j = n} less)) h.known.interrupts h.known.inten)
+
+event_known : (d : DeviceValue) (byte : ℕ) → is_event d byte ≡ true → byte / 8 < d.config.events
+event_known d byte is = ltb-true (byte / 8) d.config.events (and_parts (byte % 8 == 0) (nat_lt (byte / 8) d.config.events) is).1
+
+-- ---- the debug instruction
+
+manager_sound : (d : DeviceValue) (why : ℕ) → IsSoundDevice d → IsSoundDevice (manager_failed why d)
+manager_sound d why h = same_threads d (manager_failed why d) h refl refl h.known.events h.known.interrupts h.known.inten
+
+by_thread_sound : (n : ℕ) (o : Option Thread) (opcode byte : ℕ) (d : DeviceValue) → IsSoundDevice d → IsSoundDevice (by_thread n o opcode byte d)
+by_thread_sound n None opcode byte d h = h
+by_thread_sound n (Some t) opcode byte d h =
+    let invalid : DeviceValue = with_thread n (failed (operand_invalid + dbg_instr) t) d in
+    let undefined : DeviceValue = with_thread n (failed (undef_instr + dbg_instr) t) d in
+    let signals : DeviceValue = if is_event d byte then signalled (byte / 8) d else invalid in
+    let acts : DeviceValue = if opcode == 0x34 then signals else undefined in
+    let calm : DeviceValue = if is_faulting t then d else acts in
+    branch (opcode == 0x01) (with_thread n (killed t) d) calm (λ kill. thread_sound d n (killed t) h refl)
+    (λ no. branch (is_faulting t) d acts (λ faulting. h)
+    (λ fine. branch (opcode == 0x34) signals undefined
+    (λ sev. branch (is_event d byte) (signalled (byte / 8) d) invalid (λ event. signalled_sound d (byte / 8) h (event_known d byte event)) (λ none. thread_sound d n (failed (operand_invalid + dbg_instr) t) h refl))
+    (λ other. thread_sound d n (failed (undef_instr + dbg_instr) t) h refl)))
+
+go_sound : (ram : List Piece) (nonsecure : Bool) (n : ℕ) (o : Option Thread) (d : DeviceValue) → IsSoundDevice d → IsSoundDevice (go ram nonsecure n o d)
+go_sound ram nonsecure n None d h = manager_sound d operand_invalid h
+go_sound ram nonsecure n (Some t) d h =
+    let new : DeviceValue = with_thread n (started nonsecure d.dbginst1 (program_at ram d.dbginst1)) d in
+    branch (d.config.nonsecure && not nonsecure) (manager_failed dmago_err d) (gone ram nonsecure n t d)
+    (λ refused. manager_sound d dmago_err h)
+    (λ allowed. branch (is_stopped t) new d (λ stopped. thread_sound d n (started nonsecure d.dbginst1 (program_at ram d.dbginst1)) h refl) (λ busy. h))
+
+by_manager_sound : (ram : List Piece) (opcode byte : ℕ) (d : DeviceValue) → IsSoundDevice d → IsSoundDevice (by_manager ram opcode byte d)
+by_manager_sound ram opcode byte d h =
+    let stopped : DeviceValue = record d { manager = record (d.manager) { is_faulting = false } } in
+    let signals : DeviceValue = if is_event d byte then signalled (byte / 8) d else manager_failed operand_invalid d in
+    let secure : DeviceValue = go ram false byte (slice_get d.threads byte) d in
+    let other : DeviceValue = go ram true byte (slice_get d.threads byte) d in
+    let undefined : DeviceValue = manager_failed undef_instr d in
+    let last : DeviceValue = if opcode == 0xA2 then other else undefined in
+    let goes : DeviceValue = if opcode == 0xA0 then secure else last in
+    let acts : DeviceValue = if opcode == 0x34 then signals else goes in
+    let calm : DeviceValue = if d.manager.is_faulting then d else acts in
+    branch (opcode == 0x01) stopped calm (λ kill. same_threads d stopped h refl refl h.known.events h.known.interrupts h.known.inten)
+    (λ no. branch (d.manager.is_faulting) d acts (λ faulting. h)
+    (λ fine. branch (opcode == 0x34) signals goes
+    (λ sev. branch (is_event d byte) (signalled (byte / 8) d) (manager_failed operand_invalid d) (λ event. signalled_sound d (byte / 8) h (event_known d byte event)) (λ none. manager_sound d operand_invalid h))
+    (λ none. branch (opcode == 0xA0) secure last (λ is. go_sound ram false byte (slice_get d.threads byte) d h)
+    (λ more. branch (opcode == 0xA2) other undefined (λ is. go_sound ram true byte (slice_get d.threads byte) d h) (λ rest. manager_sound d undef_instr h)))))
+
+debugged_sound : (ram : List Piece) (d : DeviceValue) → IsSoundDevice d → IsSoundDevice (debugged ram d)
+debugged_sound ram d h =
+    let opcode = field 16 8 d.dbginst0 in
+    let byte = field 24 8 d.dbginst0 in
+    let n = field 8 3 d.dbginst0 in
+    branch (field 0 1 d.dbginst0 == 1) (by_thread n (slice_get d.threads n) opcode byte d) (by_manager ram opcode byte d)
+    (λ thread. by_thread_sound n (slice_get d.threads n) opcode byte d h) (λ manager. by_manager_sound ram opcode byte d h)
+
+-- ---- a write
+
+written_sound : (ram : List Piece) (at value : ℕ) (d : DeviceValue) → IsSoundDevice d → IsSoundDevice (written ram at value d)
+written_sound ram at value d h =
+    let n = d.config.events in
+    let enabled : DeviceValue = record d { inten = bit_and value (all_events d) } in
+    let lowered : DeviceValue = record d { interrupts = bit_and d.interrupts (bit_not w32 (bit_and value d.inten)) } in
+    let executed : DeviceValue = if value % 4 == 0 then debugged ram d else d in
+    let first : DeviceValue = record d { dbginst0 = value } in
+    let second : DeviceValue = record d { dbginst1 = value } in
+    let last : DeviceValue = if at == 0xD0C then second else d in
+    let rest : DeviceValue = if at == 0xD08 then first else last in
+    let below : DeviceValue = if at == 0xD04 then executed else rest in
+    let others : DeviceValue = if at == 0x02C then lowered else below in
+    branch (at == 0x020) enabled others (λ is. same_threads d enabled h refl refl h.known.events h.known.interrupts (and_known value n))
+    (λ more. branch (at == 0x02C) lowered below (λ is. same_threads d lowered h refl refl h.known.events (and_fewer d.interrupts (bit_not w32 (bit_and value d.inten)) n h.known.interrupts) h.known.inten)
+    (λ more. branch (at == 0xD04) executed rest
+    (λ is. branch (value % 4 == 0) (debugged ram d) d (λ zero. debugged_sound ram d h) (λ other. h))
+    (λ more. branch (at == 0xD08) first last (λ is. same_threads d first h refl refl h.known.events h.known.interrupts h.known.inten)
+    (λ more. branch (at == 0xD0C) second d (λ is. same_threads d second h refl refl h.known.events h.known.interrupts h.known.inten) (λ none. h)))))
+
+-- ---- a turn
+
+flags_sound : (d : DeviceValue) (flags : ℕ) → IsSoundDevice d → IsSoundDevice (with_flags flags d)
+flags_sound d flags h =
+    let n = d.config.events in
+    let known = bit_and flags (all_events d) in
+    let few : known < 2 ^ n = and_known flags n in
+    same_threads d (with_flags flags d) h refl refl
+    (or_lt n (bit_and d.events d.inten) (bit_and known (bit_not w32 d.inten)) (and_fewer d.events d.inten n h.known.events) (and_fewer known (bit_not w32 d.inten) n few))
+    (or_lt n d.interrupts (bit_and known d.inten) h.known.interrupts (and_fewer known d.inten n few)) h.known.inten
+
+call_sound : (b : Bool) (d : DeviceValue) (regions : List Region) (n most : ℕ) (e : DeviceValue) (left : List Region) (called : Called) → IsSoundDevice d → CallsIf b d regions n most e left called → IsSoundDevice e
+call_sound b d regions n most e left called h x = elim (call_is b d regions n most e left called x) [
+  | inl idle ↦ subst IsSoundDevice (sym idle.device) h
+  | inr other ↦ elim other [
+    | inl fails ↦ subst IsSoundDevice (sym fails.device) (thread_sound d n (failed operand_invalid fails.thread) h refl)
+    | inr does ↦
+        let c = does.call in
+        let after = answered d.config.events (record (does.thread) { channel = c.channel }) c.last called.signal in
+        subst IsSoundDevice (sym c.device)
+        (thread_sound (with_flags c.flags d) n after (flags_sound d c.flags h)
+        (answered_sound _ _ _ _ c.taken d.config.events c.last (record (does.thread) { channel = c.channel }) called.signal c.steps refl))
+  ]
+]
+
+turn_sound : (d : DeviceValue) (regions : List Region) (n most : ℕ) (e : DeviceValue) (left : List Region) (turn : Turn) → IsSoundDevice d → TakesTurn d regions n most e left turn → IsSoundDevice e
+turn_sound d regions n most e left turn h x =
+    call_sound (may_follow x.middle n x.first && runs_at x.middle n) x.middle x.lent n 1 e left x.second
+    (call_sound (nat_lt 0 most && runs_at d n) d regions n most x.middle x.lent x.first h x.call) x.one_more
+
+-- ---- accesses
+
+access_sound : (a : Access) (d e : DeviceValue) (regions left : List Region) (answer : Answer) → Does a d regions answer e left → IsSoundDevice d → IsSoundDevice e
+access_sound (Reads at) d e regions left answer x h = subst IsSoundDevice (sym x.1) h
+access_sound (Writes at value) d e regions left answer x h = subst IsSoundDevice (sym x.1) (written_sound (pieces_of regions) at value d h)
+access_sound (Turns n most) d e regions left answer x h = turn_sound d regions n most e left x.0 h x.1.1
+access_sound (Stores addr byte) d e regions left answer x h = subst IsSoundDevice (sym x.1) h
+access_sound Resets d e regions left answer x h =
+    let g = d.config in
+    subst IsSoundDevice (sym x.1)
+    (record {
+      few = h.few;
+      known = record { events = pow_pos g.events; interrupts = pow_pos g.events; inten = pow_pos g.events };
+      threads = All-replicate (IsSound g.events) g.channels reset_thread refl;
+    })
+
+threads_sound : (events : ℕ) (ts : List Thread) → All (IsThreadValue events) ts → All (IsSound events) ts
+threads_sound events ts all = λ i t found. (all i t found).sound
+
+pub stay_sound : StaySound
+stay_sound = record {
+  reset = λ g valid. record {
+    few = few_events g valid;
+    known = record { events = pow_pos g.events; interrupts = pow_pos g.events; inten = pow_pos g.events };
+    threads = All-replicate (IsSound g.events) g.channels reset_thread refl;
+  };
+  restored = λ d v. record { few = few_events d.config v.config; known = v.known; threads = threads_sound d.config.events d.threads v.threads };
+  kept = access_sound;
+}
+
+module _ (access : ℕ → Access) (answer : ℕ → Answer) (before : ℕ → DeviceValue) (lent : ℕ → List Region) (count : ℕ) (happen : Happen access answer before lent count) (sound : IsSoundDevice (before 0)) where
+  pub all_sound : (k : ℕ) → k ≤ count → IsSoundDevice (before k)
+  all_sound zero within = sound
+  all_sound (suc k) within =
+      let e : k + 1 ≡ suc k = omega arith in
+      subst (λ (m : ℕ). IsSoundDevice (before m)) e
+      (access_sound (access k) (before k) (before (k + 1)) (lent k) (lent (k + 1)) (answer k) (happen k (omega arith)) (all_sound k (omega arith)))
+
+pub nothing_happens : NothingHappens
+nothing_happens access answer before lent count k n most happen sound less turns idle =
+    let here = all_sound access answer before lent count happen sound k (omega arith) in
+    let x = subst (λ (a : Access). Does a (before k) (lent k) (answer k) (before (k + 1)) (lent (k + 1))) turns (happen k less) in
+    let rests = turn_rests (before k) (lent k) n most (before (k + 1)) (lent (k + 1)) x.0 here idle x.1.1 in
+    (rests.device, rests.alike, x.1.0 ∙ ap Turned rests.report)

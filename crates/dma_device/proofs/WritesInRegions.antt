@@ -1,0 +1,124 @@
+-- What a turn writes lies in the regions, and in none that is read-only.
+use Rattle.std.proofs.Common.{◌≡◌, ◌∙◌, ◌⊎◌, ℕ, zero, suc, ◌+◌, ◌-◌, ◌<◌, ◌≤◌, Bool, true, false, ◌&&◌, ◌||◌, List, [], ◌∷◌, ◌++◌, length, map, get_or, Result, Ok, ap, refl, sym, subst, arith, inl, inr, true≢false}
+use Rattle.std.specs.Prelude.{nat_lt, not}
+use Rattle.std.specs.List.{Contains, list_all, list_any}
+use borrow.Author.Tests.{ltb-true}
+use Rattle.std.proofs.Math.Bool.{or-true}
+use Rattle.std.proofs.lemmas.Bool.{and_parts, cases_lt, le-leb, lt-ltb, not-true, or_parts}
+use Rattle.dma_insn.specs.declared.insn.Insn.{Insn}
+use Rattle.dma_insn.specs.declared.insn.Insn.TheVariants.{St}
+use Rattle.dma_mem.specs.Lent.{lies_in_any, stores_at}
+use Rattle.dma_mem.specs.Marking.{MarkList, is_marked, lies_in}
+use Rattle.dma_mem.specs.Regions.{Piece, bytes_above, end_of, gaps_above, gaps_of, has, image_of, in_order, pieces_of, read_only_of, rises_from}
+use Rattle.dma_mem.specs.declared.marks.MarkKind.TheVariants.{Writing}
+use Rattle.dma_mem.specs.declared.regions.Region.{Region}
+use Rattle.dma_mem.specs.declared.segment.Segment.{Segment}
+use Rattle.dma_mem.proofs.GapMarks.{is_marked-at, stores_in}
+use Rattle.dma_mem.proofs.Pieces.{first}
+use Rattle.dma_chan.specs.declared.turn.ChanTurn.TheVariants.{Moved}
+use Rattle.dma_chan.specs.declared.turn.FaultKind.{FaultKind}
+use Rattle.dma_chan.specs.Bursts.{burst_len, reaches, touched}
+use Rattle.dma_chan.specs.Channel.{ahead_of, state_of}
+use Rattle.dma_chan.specs.Exec.{State, act, destination_of, exec_fetched}
+use Rattle.dma_chan.specs.LentRegions.{segment_of}
+use Rattle.dma_chan.specs.NextWrites.{written_by}
+use Rattle.dma_chan.specs.Stepping.{Machine, Wrote, after_steps}
+use Rattle.dma_chan.proofs.PlacesKept.{long_above}
+use Rattle.dma_chan.proofs.SteppedOver.{steps_size}
+use Rattle.dma_device.specs.declared.device.turns.Called.{Called}
+use Rattle.dma_device.specs.CallSteps.{machine_in, marks_in}
+use Rattle.dma_device.specs.Device.{DeviceValue}
+use Rattle.dma_device.specs.Turns.{TakesTurn, begins, follows}
+use Rattle.dma_device.specs.Writes.{CallWrote, TurnWritesInRegions}
+use Rattle.dma_device.proofs.CallKeeps.{if_places, if_read_only}
+use Rattle.dma_device.proofs.InOrder.{in_order-kept}
+use Rattle.dma_device.proofs.Writes.{turn_writes_each}
+
+-- ---- a store that moved
+
+all_at : (f : ℕ → Bool) (xs : List ℕ) (i a : ℕ) → list_all f xs ≡ true → i < length xs → get_or xs i a ≡ a → f a ≡ true
+all_at f [] i a all l e = absurd (omega arith)
+all_at f (x ∷ xs) zero a all l e = subst (λ (y : ℕ). f y ≡ true) e (and_parts (f x) (list_all f xs) all).0
+all_at f (x ∷ xs) (suc i) a all l e = all_at f xs i a (and_parts (f x) (list_all f xs) all).1 (omega arith) e
+
+-- the test of one address
+abbrev fits : MarkList → ℕ → ℕ → Bool
+fits marks size a = nat_lt a size && not (is_marked Writing marks a)
+
+reached : (marks : MarkList) (size : ℕ) (xs : List ℕ) (a : ℕ) → reaches Writing marks size xs ≡ true → Contains xs a → fits marks size a ≡ true
+unfolding reaches
+reached marks size xs a all i = all_at (fits marks size) xs i.0 a all i.1 i.2
+
+store_reaches : (marks : MarkList) (s : State) → (act marks St s).0 ≡ Moved → reaches Writing marks (length s.image) (touched (destination_of s.registers)) ≡ true
+store_reaches marks s moved =
+    by (nat_lt (length s.buffer) (burst_len (destination_of s.registers))) (reaches Writing marks (length s.image) (touched (destination_of s.registers))) refl refl
+  where
+    by : (b c : Bool) → nat_lt (length s.buffer) (burst_len (destination_of s.registers)) ≡ b → reaches Writing marks (length s.image) (touched (destination_of s.registers)) ≡ c → reaches Writing marks (length s.image) (touched (destination_of s.registers)) ≡ true
+    by b true p q = q
+    by true false p q = absurd (let bad = rw p at moved in cc)
+    by false false p q = absurd (let bad = rw (p, q) at moved in cc)
+
+step_reaches : (marks : MarkList) (next : Result Insn FaultKind) (s : State) (a : ℕ) → (exec_fetched marks next s).0 ≡ Moved → Contains (written_by next s.registers) a → fits marks (length s.image) a ≡ true
+step_reaches marks (Ok St) s a moved i = reached marks (length s.image) (touched (destination_of s.registers)) a (store_reaches marks s moved) i
+step_reaches marks next s a moved i = absurd (omega (arith, i.1))
+
+wrote_fits : (marks : MarkList) (s : Machine) (n a : ℕ) → Wrote marks s n a → fits marks (length s.image) a ≡ true
+wrote_fits marks s n a w =
+    let u = after_steps marks s w.0 in
+    ap (λ (k : ℕ). fits marks k a) (sym (steps_size marks s w.0)) ∙ step_reaches marks (ahead_of u.channel) (state_of u.channel u.image u.flags) a w.2 w.3
+
+-- ---- the regions
+
+-- below the end of the pieces, what lies in no gap lies in a piece
+in_piece : (at : ℕ) (ps : List Piece) (a : ℕ) → rises_from at ps ≡ true → at ≤ a → a < at + length (bytes_above at ps) → lies_in_any (gaps_above at ps) a ≡ false → list_any (has a) ps ≡ true
+in_piece at [] a order from below gaps = absurd (omega arith)
+in_piece at (p ∷ ps) a order from below gaps =
+    let f = first at p ps order in
+    let gap : Segment = record { addr = at; len = p.addr - at } in
+    let parts = or_parts (lies_in a gap) (lies_in_any (gaps_above (end_of p) ps) a) gaps in
+    elim (cases_lt a p.addr) [
+      | inl early ↦
+          let bad : lies_in a gap ≡ true = rw (le-leb at a from, lt-ltb a (at + (p.addr - at)) (omega (arith, early, f.after))) refl in
+          absurd (true≢false (sym bad ∙ parts.0))
+      | inr begun ↦ elim (cases_lt a (end_of p)) [
+        | inl within ↦
+            let here : has a p ≡ true = rw (le-leb p.addr a begun, lt-ltb a (end_of p) within) refl in
+            ap (λ (b : Bool). b || list_any (has a) ps) here
+        | inr past ↦
+            ap (λ (b : Bool). has a p || b) (in_piece (end_of p) ps a f.rest past (omega (arith, below, long_above at p ps, f.after, begun)) parts.1) ∙ or-true (has a p)
+      ]
+    ]
+
+-- an address of a region that isn't read-only
+abbrev IsWritable : List Region → ℕ → Type 0
+IsWritable regions a = (list_any (has a) (pieces_of regions) ≡ true) × (lies_in_any (read_only_of regions) a ≡ false)
+
+call_within : (b : Bool) (d : DeviceValue) (regions : List Region) (n most : ℕ) (e : DeviceValue) (left : List Region) (called : Called) (a : ℕ) → in_order (pieces_of regions) ≡ true → CallWrote b d regions n most e left called a → IsWritable regions a
+call_within b d regions n most e left called a order w =
+    let marks = marks_in regions in
+    let test = wrote_fits marks (machine_in d w.0.thread regions) w.0.call.taken a w.1 in
+    let parts = and_parts (nat_lt a (length (image_of (pieces_of regions)))) (not (is_marked Writing marks a)) test in
+    let free : is_marked Writing marks a ≡ false = not-true (is_marked Writing marks a) parts.1 in
+    let others = stores_at (read_only_of regions) ++ [] in
+    let both = or_parts (lies_in_any (gaps_of (pieces_of regions)) a) (is_marked Writing others a) (sym (is_marked-at Writing (gaps_of (pieces_of regions)) others a) ∙ free) in
+    let writable = or_parts (lies_in_any (read_only_of regions) a) (is_marked Writing [] a) (sym (stores_in (read_only_of regions) [] a) ∙ both.1) in
+    (in_piece 0 (pieces_of regions) a order (omega arith) (omega (arith, ltb-true a (length (image_of (pieces_of regions))) parts.0)) both.0, writable.0)
+
+-- whether an address lies in a region depends on the places alone
+has_is : (rs : List Region) (a : ℕ) → list_any (has a) (pieces_of rs) ≡ list_any (lies_in a) (map segment_of rs)
+has_is [] a = refl
+has_is (r ∷ rs) a = ap (λ (b : Bool). lies_in a (segment_of r) || b) (has_is rs a)
+
+pub turn_writes_in_regions : TurnWritesInRegions
+turn_writes_in_regions d regions n most e left turn a order x i =
+    let w = (turn_writes_each d regions n most e left turn x).each a i in by w.0 w.1
+  where
+    by : (y : TakesTurn d regions n most e left turn) → (CallWrote (begins d n most) d regions n most y.middle y.lent y.first a ⊎ CallWrote (follows y.middle n y.first) y.middle y.lent n 1 e left y.second a) → IsWritable regions a
+    by y (inl w) = call_within (begins d n most) d regions n most y.middle y.lent y.first a order w
+    by y (inr w) =
+        let places = if_places (begins d n most) d regions n most y.middle y.lent y.first y.call in
+        let access = if_read_only (begins d n most) d regions n most y.middle y.lent y.first y.call in
+        let there = call_within (follows y.middle n y.first) y.middle y.lent n 1 e left y.second a (in_order-kept regions y.lent places order) w in (
+          has_is regions a ∙ ap (λ (ss : List Segment). list_any (lies_in a) ss) (sym places) ∙ sym (has_is y.lent a) ∙ there.0,
+          ap (λ (ss : List Segment). lies_in_any ss a) (sym access) ∙ there.1,
+        )

@@ -1,0 +1,170 @@
+-- What makes threads faulting, and with them the line irq_abort high.
+use Rattle.std.specs.Prelude.{◌≡◌, ◌≢◌, ◌⊎◌, ◌↔◌, ℕ, ◌+◌, ◌%◌, ◌<◌, ◌≤◌, Bool, true, false, not, ◌&&◌, ◌==◌, List, Option, Some, None, slice_get, if◌then◌else◌}
+use Rattle.dma_insn.specs.ControlWord.{field}
+use Rattle.dma_mem.specs.declared.regions.Region.{Region}
+use Rattle.dma_chan.specs.declared.turn.ChanTurn.{ChanTurn}
+use Rattle.dma_chan.specs.declared.turn.ChanTurn.TheVariants.{Moved, Waiting, Ended, Fault}
+use Rattle.dma_device.specs.declared.config.Config.{Config}
+use Rattle.dma_device.specs.declared.device.turns.Called.{Called}
+use Rattle.dma_device.specs.declared.device.turns.Turn.{Turn}
+use Rattle.dma_device.specs.declared.thread.Thread.{Thread}
+use Rattle.dma_device.specs.Accesses.{Access, Answer, Does, Happen, Resets, Turns, Writes}
+use Rattle.dma_device.specs.CallSteps.{Executes, MeetsWide}
+use Rattle.dma_device.specs.Device.{DeviceValue, irq_abort, is_event, read_at, reset_device}
+use Rattle.dma_device.specs.Interrupts.{IsHigh, is_fine}
+use Rattle.dma_device.specs.Thread.{is_faulting}
+use Rattle.dma_device.specs.Turns.{TakesTurn, begins, follows}
+
+-- a thread: the manager, or that of channel n
+pub data Who : Type 0 where
+  TheManager : Who
+  TheChannel : ℕ → Who
+
+-- whether there is a thread, and it is faulting
+abbrev pub faults_if : Option Thread → Bool
+faults_if None = false
+faults_if (Some t) = is_faulting t
+
+-- whether the device has this thread, and it is faulting
+abbrev pub faults_at : Who → DeviceValue → Bool
+faults_at TheManager d = d.manager.is_faulting
+faults_at (TheChannel n) d = faults_if (slice_get d.threads n)
+
+-- ---- the debug instruction
+
+-- the debug instruction is executed by this thread
+abbrev pub Addresses : DeviceValue → Who → Type 0
+Addresses d TheManager = field 0 1 d.dbginst0 ≢ 1
+Addresses d (TheChannel n) = (field 0 1 d.dbginst0 ≡ 1) × (field 8 3 d.dbginst0 ≡ n)
+
+-- whether the thread is there and can execute it: it isn't faulting
+abbrev pub can_execute : Who → DeviceValue → Bool
+can_execute TheManager d = not d.manager.is_faulting
+can_execute (TheChannel n) d = is_fine (slice_get d.threads n)
+
+-- whether a DMAGO fails: the device doesn't have the channel, or a non-secure manager starts a secure one
+abbrev pub go_fails : DeviceValue → Bool → Option Thread → Bool
+go_fails d nonsecure None = true
+go_fails d nonsecure (Some t) = d.config.nonsecure && not nonsecure
+
+-- Whether an instruction fails if the manager executes it: any but DMAKILL, a DMASEV of an event that the device has,
+-- and a DMAGO that doesn't.
+abbrev pub manager_fails : DeviceValue → ℕ → ℕ → Bool
+manager_fails d opcode byte =
+    if opcode == 0x01 then false else (
+    if opcode == 0x34 then not (is_event d byte) else (
+    if opcode == 0xA0 then go_fails d false (slice_get d.threads byte) else (
+    if opcode == 0xA2 then go_fails d true (slice_get d.threads byte) else true)))
+
+-- whether one fails if a channel thread executes it from the debug registers: any but DMAKILL, and a DMASEV of an event
+-- that the device has
+abbrev pub channel_fails : DeviceValue → ℕ → ℕ → Bool
+channel_fails d opcode byte =
+    if opcode == 0x01 then false else (if opcode == 0x34 then not (is_event d byte) else true)
+
+-- whether the debug instruction fails if this thread executes it
+abbrev pub debug_fails : Who → DeviceValue → Bool
+debug_fails TheManager d = manager_fails d (field 16 8 d.dbginst0) (field 24 8 d.dbginst0)
+debug_fails (TheChannel n) d = channel_fails d (field 16 8 d.dbginst0) (field 24 8 d.dbginst0)
+
+-- A write of a value to DBGCMD makes this thread execute the debug instruction, which fails.
+pub record DebugFails (who : Who) (d : DeviceValue) (value : ℕ) : Type 0 where
+  pub command : value % 4 ≡ 0
+  pub addresses : Addresses d who
+  pub executes : can_execute who d ≡ true
+  pub fails : debug_fails who d ≡ true
+
+-- ---- a step
+
+-- The last step of a call failed: its instruction failed; or it is a DMASEV or a DMAWFE of an event that the device
+-- doesn't have; or there is no step, since the program has executed as many instructions as it can.
+abbrev pub LastFails : ℕ → Option ChanTurn → Option ℕ → Type 0
+LastFails events None signal = Unit {0}
+LastFails events (Some Moved) None = ⊥
+LastFails events (Some Moved) (Some e) = events ≤ e
+LastFails events (Some (Waiting e)) signal = events ≤ e
+LastFails events (Some Ended) signal = ⊥
+LastFails events (Some (Fault kind)) signal = Unit {0}
+
+-- a call fails: it meets a DMAMOV CCR whose beats are too wide, or its last step fails
+abbrev pub CallFails : Bool → DeviceValue → List Region → ℕ → ℕ → DeviceValue → List Region → Called → Type 0
+CallFails made d regions n most e left called =
+    MeetsWide made d regions n e left called
+    ⊎ ((x : Executes made d regions n most e left called) × LastFails d.config.events x.call.last called.signal)
+
+-- one of the two calls of a turn fails
+abbrev pub TurnFails : DeviceValue → List Region → ℕ → ℕ → DeviceValue → List Region → Type 0
+TurnFails d regions n most e left =
+    (turn : Turn) × ((x : TakesTurn d regions n most e left turn)
+    × (CallFails (begins d n most) d regions n most x.middle x.lent x.first
+    ⊎ CallFails (follows x.middle n x.first) x.middle x.lent n 1 e left x.second))
+
+-- ---- what makes a thread faulting, and ends that
+
+-- An access makes this thread fail: a step of a turn of its channel, or a debug instruction that it executes.
+abbrev pub Fails : Who → Access → DeviceValue → List Region → DeviceValue → List Region → Type 0
+Fails (TheChannel m) (Turns n most) d regions e left = (m ≡ n) × TurnFails d regions n most e left
+Fails who (Writes at value) d regions e left = (at ≡ 0xD04) × DebugFails who d value
+Fails who a d regions e left = ⊥
+
+-- an access kills this thread: a debug DMAKILL that it executes
+abbrev pub Kills : Who → Access → DeviceValue → Type 0
+Kills who (Writes at value) d =
+    (at ≡ 0xD04) × ((value % 4 ≡ 0) × ((field 16 8 d.dbginst0 ≡ 0x01) × Addresses d who))
+Kills who a d = ⊥
+
+-- an access ends a fault of this thread: it kills the thread, or is a reset
+abbrev pub EndsFault : Who → Access → DeviceValue → Type 0
+EndsFault who Resets d = Unit {0}
+EndsFault who a d = Kills who a d
+
+-- an access is a reset
+abbrev pub IsReset : Access → Type 0
+IsReset Resets = Unit {0}
+IsReset a = ⊥
+
+-- ---- along the accesses
+
+-- none of the accesses from number i up to, and without, number n ends its fault
+abbrev pub NoneEnds : (ℕ → Access) → (ℕ → DeviceValue) → Who → ℕ → ℕ → Type 0
+NoneEnds access before who i n = (j : ℕ) → i ≤ j → j < n → ¬ EndsFault who (access j) (before j)
+
+-- one of the accesses below number n makes this thread fail, and none after it ends the fault
+pub record FailedSince (access : ℕ → Access) (before : ℕ → DeviceValue) (lent : ℕ → List Region)
+    (who : Who) (n : ℕ) : Type 0 where
+  pub at : ℕ
+  pub below : at < n
+  pub fails : Fails who (access at) (before at) (lent at) (before (at + 1)) (lent (at + 1))
+  pub stays : NoneEnds access before who (at + 1) n
+
+-- For every list of accesses, a thread is faulting before access number n exactly if an access made it fail, and none
+-- after it killed it or was a reset; or if it was faulting at first, as none is after a reset, and no access ended that.
+abbrev pub FaultsAreExact : Type 0
+FaultsAreExact =
+    (access : ℕ → Access) (answer : ℕ → Answer) (before : ℕ → DeviceValue) (lent : ℕ → List Region) (count n : ℕ)
+    (who : Who) → Happen access answer before lent count → n ≤ count →
+    (faults_at who (before n) ≡ true)
+    ↔ (FailedSince access before lent who n ⊎ ((faults_at who (before 0) ≡ true) × NoneEnds access before who 0 n))
+
+-- ---- the line
+
+-- What the line irq_abort says: it is high exactly if a thread is faulting; bit 0 of FSRD says whether the manager is,
+-- and bit n of FSRC whether channel n is. It is low after a reset.
+pub record AbortIsFaulting : Type 0 where
+  pub line : (d : DeviceValue) → (irq_abort d ≡ true) ↔ ((who : Who) × (faults_at who d ≡ true))
+  pub fsrd : (d : DeviceValue) → (read_at d 0x030 ≡ 1) ↔ (faults_at TheManager d ≡ true)
+  pub fsrc : (d : DeviceValue) (n : ℕ) → IsHigh (read_at d 0x034) n ↔ (faults_at (TheChannel n) d ≡ true)
+  pub reset : (g : Config) → irq_abort (reset_device g) ≡ false
+
+-- When the line changes: if it is low before an access, it is high after it exactly if the access makes a thread fail;
+-- if it is high, it is low after exactly if the access is a reset, or kills the last thread that is faulting.
+pub record AbortIsExact (a : Access) (d e : DeviceValue) (regions left : List Region) : Type 0 where
+  pub rises : irq_abort d ≡ false → (irq_abort e ≡ true) ↔ ((who : Who) × Fails who a d regions e left)
+  pub falls : irq_abort d ≡ true → (irq_abort e ≡ false)
+      ↔ (IsReset a ⊎ ((who : Who) × Kills who a d × (faults_at who d ≡ true)
+      × ((other : Who) → faults_at other d ≡ true → other ≡ who)))
+
+abbrev pub AbortsAreExact : Type 0
+AbortsAreExact =
+    (a : Access) (d e : DeviceValue) (regions left : List Region) (answer : Answer) →
+    Does a d regions answer e left → AbortIsExact a d e regions left

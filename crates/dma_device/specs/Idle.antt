@@ -1,0 +1,41 @@
+-- When nothing happens until the guest's next write.
+use Rattle.std.specs.Prelude.{◌≡◌, ℕ, ◌+◌, ◌<◌, ◌≤◌, true, false, List}
+use Rattle.std.specs.List.{All, list_any}
+use Rattle.dma_mem.specs.declared.regions.Region.{Region}
+use Rattle.dma_chan.specs.Written.{range_at}
+use Rattle.dma_device.specs.declared.config.Config.{Config}
+use Rattle.dma_device.specs.declared.device.turns.Turn.{Turn}
+use Rattle.dma_device.specs.Accesses.{Access, Answer, AreAlike, Does, Happen, Turned, Turns}
+use Rattle.dma_device.specs.Config.{is_valid}
+use Rattle.dma_device.specs.Device.{DeviceValue, reset_device}
+use Rattle.dma_device.specs.Snapshot.{HasKnownEvents, IsDeviceValue, head_of}
+use Rattle.dma_device.specs.Thread.{IsSound, can_step}
+use Rattle.dma_device.specs.Turns.{visible_events}
+
+-- A device has at most 32 events, those that are set are among them, and each thread has a status that goes with its
+-- program.
+pub record IsSoundDevice (d : DeviceValue) : Type 0 where
+  pub few : d.config.events ≤ 32
+  pub known : HasKnownEvents (head_of d)
+  pub threads : All (IsSound d.config.events) d.threads
+
+-- A device is sound after a reset, if it has a save, and after each access to a sound device.
+pub record StaySound : Type 0 where
+  pub reset : (g : Config) → is_valid g ≡ true → IsSoundDevice (reset_device g)
+  pub restored : (d : DeviceValue) → IsDeviceValue d → IsSoundDevice d
+  pub kept : (a : Access) (d e : DeviceValue) (regions left : List Region) (answer : Answer) →
+      Does a d regions answer e left → IsSoundDevice d → IsSoundDevice e
+
+-- the report of a turn that did nothing
+abbrev pub no_turn : Turn
+no_turn = record { written = range_at 0 0; lines_changed = false }
+
+-- If none of a sound device's threads can step before a turn, of any channel, then the turn changes neither the device
+-- nor a byte of the regions, and reports so. The device was sound at first, as it is after a reset and a restore.
+abbrev pub NothingHappens : Type 0
+NothingHappens =
+    (access : ℕ → Access) (answer : ℕ → Answer) (before : ℕ → DeviceValue) (lent : ℕ → List Region)
+    (count k n most : ℕ) →
+    Happen access answer before lent count → IsSoundDevice (before 0) → k < count → access k ≡ Turns n most →
+    list_any (can_step (visible_events (before k))) (before k).threads ≡ false →
+    (before (k + 1) ≡ before k) × AreAlike (lent (k + 1)) (lent k) × (answer k ≡ Turned no_turn)

@@ -1,0 +1,146 @@
+//! The rota of a desk, which has the turns of some jobs and counts those that were taken.
+
+ghost use Rattle.std.specs.Prelude.{◌≡◌, ◌+◌, ◌<◌, IfOk, IfSome, IsTrue};
+ghost use Rattle.std.specs.List.{All};
+ghost use Rattle.dma_work.specs.inner.InTurn.{AreNewSeats, IsDone, TakesNext, TakesNextOf};
+
+use crate::job::Job;
+use crate::seat::Seat;
+use dma_engine::NoMemory;
+use std::alloc::Global;
+use std::marker::Model;
+
+/// A seat for each job. Contracts see the seats.
+#[derive(Drop)]
+pub(crate) struct Seats {
+    seats: Vec<Seat>,
+}
+
+impl Model for Seats {
+    ghost use Rattle.std.specs.Prelude.{List};
+    ghost use Rattle.dma_work.specs.declared.seat.Seat.{Seat};
+
+    ghost Value = { List Seat };
+
+    ghost view = { λ s. s.seats.items };
+}
+
+/// The rota of some jobs, of which no turn was taken. Contracts see the jobs.
+#[derive(Drop)]
+pub struct Rota {
+    seats: Seats,
+}
+
+impl Model for Rota {
+    ghost use Rattle.std.specs.Prelude.{◌≡◌, List};
+    ghost use Rattle.std.specs.List.{All};
+    ghost use Rattle.dma_work.specs.declared.job.Job.{Job};
+    ghost use Rattle.dma_work.specs.declared.seat.Seat.{Seat};
+    ghost use Rattle.dma_work.specs.inner.InTurn.{jobs_of};
+
+    ghost Value = { List Job };
+
+    ghost view = { λ r. jobs_of r.seats };
+
+    ghost invariant = { λ r. All (λ (s : Seat). s.taken ≡ 0) r.seats };
+}
+
+impl Rota {
+    /// Returns a rota of these jobs. Fails if it is out of memory.
+    pub fn new(alloc: Global, jobs: &[Job]) -> Result<Rota, NoMemory>
+        ensures { IfOk result (λ r. r ≡ jobs.now) }
+    {
+        let seats = Seats::new(alloc, jobs)?;
+        Ok(Rota { seats })
+    }
+
+    /// Returns the seats.
+    pub(crate) fn into_seats(self) -> Seats
+        ensures { AreNewSeats self result }
+    {
+        let Rota { seats } = self;
+        seats
+    }
+}
+
+impl Seat {
+    // Returns the seat of a job of which no turn was taken.
+    fn new(job: Job) -> Seat
+        ensures { (result.job ≡ job) × (result.taken ≡ 0) }
+    {
+        Seat {
+            job,
+            taken: 0,
+            next: job.first,
+        }
+    }
+
+    // Returns the seat after one more turn.
+    fn after(self) -> Seat
+        requires { self.taken < self.job.turns }
+        ensures { (result.job ≡ self.job) × (result.taken ≡ self.taken + 1) }
+    {
+        let Seat { job, taken, next } = self;
+        let next = if next < job.last { next + 1 } else { job.first };
+        Seat {
+            job,
+            taken: taken + 1,
+            next,
+        }
+    }
+}
+
+impl Seats {
+    /// Returns the seats of these jobs, of which no turn was taken. Fails if it is out of memory.
+    pub fn new(alloc: Global, jobs: &[Job]) -> Result<Seats, NoMemory>
+        ensures { IfOk result (λ r. AreNewSeats jobs.now r) }
+    {
+        let mut seats = Vec::with_capacity(alloc, jobs.len())?;
+        for at in 0..jobs.len() {
+            seats.push_reserved(Seat::new(jobs[at]));
+        }
+        Ok(Seats { seats })
+    }
+
+    // Counts a worker's turn on a channel if it is the next turn of the worker's job, and returns whether it is.
+    fn takes(&mut self, worker: u32, ch: u8) -> bool
+        ensures { IsTrue result → TakesNext worker ch self.old self.new }
+    {
+        let seats = &mut self.seats;
+        let at = worker as usize;
+        if at >= seats.len() {
+            return false;
+        }
+        let seat = seats[at];
+        if seat.next != ch || seat.taken >= seat.job.turns {
+            return false;
+        }
+        seats[at] = seat.after();
+        true
+    }
+
+    /// Returns the seats after a worker's turn on a channel, or `None` if that isn't the next turn of the worker's job.
+    pub fn after(seats: Option<Seats>, worker: u32, ch: u8) -> Option<Seats>
+        ensures { IfSome result (λ r. TakesNextOf worker ch seats r) }
+    {
+        let mut seats = seats?;
+        if seats.takes(worker, ch) {
+            Some(seats)
+        } else {
+            None
+        }
+    }
+
+    /// Returns whether all turns were taken.
+    pub fn is_done(&self) -> bool
+        ensures { IsTrue result → All IsDone self.now }
+    {
+        for at in 0..self.seats.len() {
+            let seat = self.seats[at];
+            if seat.taken < seat.job.turns {
+                return false;
+            }
+        }
+        true
+    }
+}
