@@ -113,18 +113,31 @@ static const MemoryRegionOps pl330_ops = {
 /*
  * Drops the code translated from the bytes that a turn wrote, and sets them
  * dirty for migration and displays: the end of a device's mapping does both.
- * memory_region_set_dirty() would keep the code.
+ * memory_region_set_dirty() would keep the code. `written` may have gaps with
+ * ROM, registers and nothing, since a turn with an interrupt writes to two
+ * places; mapping those would write to them. So only the RAM that was lent to
+ * the turn is mapped, which address_space_map() never refuses.
  */
 static void pl330_mark_written(PL330State *s, dma330_segment written)
 {
-    hwaddr addr = written.addr, end = addr + written.len, len;
-    void *p;
+    hwaddr end = (hwaddr)written.addr + written.len;
 
-    for (; addr < end; addr += len) {
-        len = end - addr;
-        p = address_space_map(&s->as, addr, &len, true, MEMTXATTRS_UNSPECIFIED);
-        assert(p);
-        address_space_unmap(&s->as, p, len, true, len);
+    for (size_t n = 0; n < s->nr_regions; n++) {
+        const dma330_region *it = &s->regions[n];
+        hwaddr addr = MAX(written.addr, it->addr), len;
+        hwaddr stop = MIN(end, (hwaddr)it->addr + it->len);
+
+        for (; !it->read_only && addr < stop; addr += len) {
+            void *p;
+
+            len = stop - addr;
+            p = address_space_map(&s->as, addr, &len, true,
+                                  MEMTXATTRS_UNSPECIFIED);
+            if (!p) {
+                break;
+            }
+            address_space_unmap(&s->as, p, len, true, len);
+        }
     }
 }
 

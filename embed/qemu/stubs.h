@@ -10,6 +10,7 @@
 #include <stdlib.h>
 
 #define MIN(a, b) ((a) < (b) ? (a) : (b))
+#define MAX(a, b) ((a) > (b) ? (a) : (b))
 #define container_of(at, type, member) ((type *)((char *)(at) - offsetof(type, member)))
 #define extract32(value, start, length) ((value) >> (start) & ((1u << (length)) - 1))
 
