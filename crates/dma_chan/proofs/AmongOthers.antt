@@ -8,6 +8,7 @@ use Rattle.dma_insn.specs.declared.insn.Insn.TheVariants.{Mov, Ld, St, Rmb, Wmb,
 use Rattle.dma_mem.specs.Places.{Descriptor, all_below, sources, destinations, size_of, lies_below}
 use Rattle.dma_mem.specs.Image.{laid}
 use Rattle.dma_mem.specs.Marking.{MarkList}
+use Rattle.dma_chan.specs.declared.bus.Bus.{Bus}
 use Rattle.dma_chan.specs.declared.exec.Registers.{Registers}
 use Rattle.dma_chan.specs.declared.turn.ChanTurn.{ChanTurn}
 use Rattle.dma_chan.specs.declared.turn.ChanTurn.TheVariants.{Moved, Waiting, Ended, Fault}
@@ -46,20 +47,20 @@ Fits t size = (a : ℕ) → Touches t a → a < size
 
 -- Before instruction number k of the n before DMAEND: how far the channel is in the program, and at every address that
 -- the transfer touches the memory is the first one with the bytes stored so far laid over it.
-pub record Among (program : List ℕ) (t : Descriptor) (n : ℕ) (first : List ℕ) (k : ℕ) (image : List ℕ) (c : ChannelValue) : Type 0 where
+pub record Among (bus : Bus) (program : List ℕ) (t : Descriptor) (n : ℕ) (first : List ℕ) (k : ℕ) (image : List ℕ) (c : ChannelValue) : Type 0 where
   pub begins : IsSomeAnd c.program (λ p. StartsWith p program)
   pub within : k ≤ n
   pub taken : c.taken ≡ k
-  pub stored : c.stored ≡ length (traced program k).stores
-  pub mirrors : Mirrors t first (traced program k) c.registers c.buffer image
+  pub stored : c.stored ≡ length (traced bus program k).stores
+  pub mirrors : Mirrors t first (traced bus program k) c.registers c.buffer image
 
-pub is_in : (program : List ℕ) (t : Descriptor) (n : ℕ) (first : List ℕ) (k : ℕ) (image : List ℕ) (c : ChannelValue) → Among program t n first k image c → IsIn program n k c
-is_in program t n first k image c w = record { begins = w.begins; within = w.within; registers = w.mirrors.registers_are }
+pub is_in : (bus : Bus) (program : List ℕ) (t : Descriptor) (n : ℕ) (first : List ℕ) (k : ℕ) (image : List ℕ) (c : ChannelValue) → Among bus program t n first k image c → IsIn bus program n k c
+is_in bus program t n first k image c w = record { begins = w.begins; within = w.within; registers = w.mirrors.registers_are }
 
 -- a channel into which the program was just loaded, over the first memory
-pub at_start : (program : List ℕ) (t : Descriptor) (n : ℕ) (first : List ℕ) (c : ChannelValue) → Fits t (length first) → IsLoadedWith program c → Among program t n first 0 first c
-at_start program t n first c low l =
-    subst (Among program t n first 0 first) (sym l.2) (record {
+pub at_start : (bus : Bus) (program : List ℕ) (t : Descriptor) (n : ℕ) (first : List ℕ) (c : ChannelValue) → Fits t (length first) → IsLoadedWith bus program c → Among bus program t n first 0 first c
+at_start bus program t n first c low l =
+    subst (Among bus program t n first 0 first) (sym l.2) (record {
       begins = l.1;
       within = omega arith;
       taken = refl;
@@ -68,9 +69,9 @@ at_start program t n first c low l =
     })
 
 -- what others do
-pub kept : (program : List ℕ) (t : Descriptor) (n : ℕ) (first : List ℕ) (k : ℕ) (image other : List ℕ) (c d : ChannelValue) → Among program t n first k image c → d ≡ c → ((a : ℕ) → Touches t a → get_or other a 0 ≡ get_or image a 0) → Fits t (length other) → Among program t n first k other d
-kept program t n first k image other c d w same unchanged fits =
-    subst (Among program t n first k other) (sym same) (record {
+pub kept : (bus : Bus) (program : List ℕ) (t : Descriptor) (n : ℕ) (first : List ℕ) (k : ℕ) (image other : List ℕ) (c d : ChannelValue) → Among bus program t n first k image c → d ≡ c → ((a : ℕ) → Touches t a → get_or other a 0 ≡ get_or image a 0) → Fits t (length other) → Among bus program t n first k other d
+kept bus program t n first k image other c d w same unchanged fits =
+    subst (Among bus program t n first k other) (sym same) (record {
       begins = w.begins;
       within = w.within;
       taken = w.taken;
@@ -92,7 +93,7 @@ stored_insn wait signal size (LpEnd k b) x c = omega arith
 stored_insn wait signal size (Sev e) x c = omega arith
 stored_insn wait signal size (Wfe e v) x c = omega arith
 
-module _ (program : List ℕ) (t : Descriptor) (n : ℕ) (marks : MarkList) (first : List ℕ) (h : Explains program t n) (low : Fits t (length first)) where
+module _ (bus : Bus) (program : List ℕ) (t : Descriptor) (n : ℕ) (marks : MarkList) (first : List ℕ) (h : Explains bus program t n) (low : Fits t (length first)) where
   -- the program has ended, and all bytes are copied
   pub record Over (u : Machine) : Type 0 where
     pub dropped : u.channel.program ≡ None
@@ -101,24 +102,24 @@ module _ (program : List ℕ) (t : Descriptor) (n : ℕ) (marks : MarkList) (fir
 
   -- what the answer of a step says
   abbrev pub After : ℕ → Machine → ChanTurn → Type 0
-  After k u Moved = Among program t n first (suc k) (after_step marks u).image (after_step marks u).channel
+  After k u Moved = Among bus program t n first (suc k) (after_step marks u).image (after_step marks u).channel
   After k u (Waiting e) = t.wait ≡ Some e
   After k u Ended = Over (after_step marks u)
   After k u (Fault kind) = ¬ Misses marks t
 
   -- all is stored at DMAEND
-  pub stored_all : length (traced program n).stores ≡ size_of t
+  pub stored_all : length (traced bus program n).stores ≡ size_of t
   stored_all = ap length h.stores
 
-  to : (k : ℕ) (u : Machine) (i : Insn) (turn : ChanTurn) → answer_at marks u ≡ turn → Among program t n first k u.image u.channel → k < n → next_in program (traced program k) ≡ Ok i → GoesOn t.wait t.signal (size_of t) i (traced program k) → Answers t first marks (traced program (suc k)) (turn, (step_of marks u.channel u.image u.flags).1) → After k u turn
+  to : (k : ℕ) (u : Machine) (i : Insn) (turn : ChanTurn) → answer_at marks u ≡ turn → Among bus program t n first k u.image u.channel → k < n → next_in program (traced bus program k) ≡ Ok i → GoesOn t.wait t.signal (size_of t) i (traced bus program k) → Answers t first marks (traced bus program (suc k)) (turn, (step_of marks u.channel u.image u.flags).1) → After k u turn
   to k u i Moved e w less next go a =
       let c = u.channel in
-      let ahead = ahead_at program k i c w.begins w.mirrors.registers_are next in
-      let count : stored_by (ahead_of c) c.registers ≡ stored_by (Ok i) (traced program k).registers =
+      let ahead = ahead_at bus program k i c w.begins w.mirrors.registers_are next in
+      let count : stored_by (ahead_of c) c.registers ≡ stored_by (Ok i) (traced bus program k).registers =
       ap (λ (r : Result Insn FaultKind). stored_by r c.registers) ahead ∙ ap (stored_by (Ok i)) w.mirrors.registers_are in
-      let more : length (traced program (suc k)).stores ≡ length (traced program k).stores + stored_by (Ok i) (traced program k).registers =
-      ap (λ (y : Trace). length y.stores) (traced_next program t n h k i next) ∙ stored_insn t.wait t.signal (size_of t) i (traced program k) go in
-      subst (Among program t n first (suc k) (after_step marks u).image) (sym (turned marks u Moved e)) (record {
+      let more : length (traced bus program (suc k)).stores ≡ length (traced bus program k).stores + stored_by (Ok i) (traced bus program k).registers =
+      ap (λ (y : Trace). length y.stores) (traced_next bus program t n h k i next) ∙ stored_insn t.wait t.signal (size_of t) i (traced bus program k) go in
+      subst (Among bus program t n first (suc k) (after_step marks u).image) (sym (turned marks u Moved e)) (record {
         begins = w.begins;
         within = omega (arith, less);
         taken = omega (arith, w.taken);
@@ -129,15 +130,15 @@ module _ (program : List ℕ) (t : Descriptor) (n : ℕ) (marks : MarkList) (fir
   to k u i Ended e w less next go a = absurd a
   to k u i (Fault kind) e w less next go a = a
 
-  answers_at : (k : ℕ) (u : Machine) (i : Insn) → Among program t n first k u.image u.channel → k < n → next_in program (traced program k) ≡ Ok i → GoesOn t.wait t.signal (size_of t) i (traced program k) → Answers t first marks (traced program (suc k)) (step_of marks u.channel u.image u.flags)
+  answers_at : (k : ℕ) (u : Machine) (i : Insn) → Among bus program t n first k u.image u.channel → k < n → next_in program (traced bus program k) ≡ Ok i → GoesOn t.wait t.signal (size_of t) i (traced bus program k) → Answers t first marks (traced bus program (suc k)) (step_of marks u.channel u.image u.flags)
   answers_at k u i w less next go =
       let c = u.channel in
-      let x = traced program k in
+      let x = traced bus program k in
       let does : step_of marks c u.image u.flags ≡ act marks i (state x.registers c.buffer u.image u.flags) =
-      does_next marks i u (ahead_at program k i c w.begins w.mirrors.registers_are next) ∙ ap (λ (r : Registers). act marks i (state r c.buffer u.image u.flags)) w.mirrors.registers_are in
+      does_next marks i u (ahead_at bus program k i c w.begins w.mirrors.registers_are next) ∙ ap (λ (r : Registers). act marks i (state r c.buffer u.image u.flags)) w.mirrors.registers_are in
       let m : Mirrors t first x x.registers c.buffer u.image = record { registers_are = refl; buffer_is = w.mirrors.buffer_is; few = w.mirrors.few; same = w.mirrors.same; fits = w.mirrors.fits } in
-      let same = traced_next program t n h k i next in
-      let all = answers t first marks h.copy low x c.buffer u.image u.flags m i (subst (Inside t) same (inside program t n h (suc k) (omega (arith, less)))) (inside program t n h k w.within) go in
+      let same = traced_next bus program t n h k i next in
+      let all = answers t first marks h.copy low x c.buffer u.image u.flags m i (subst (Inside t) same (inside bus program t n h (suc k) (omega (arith, less)))) (inside bus program t n h k w.within) go in
       subst (λ (y : Trace). Answers t first marks y (step_of marks c u.image u.flags)) (sym same) (subst (Answers t first marks (after_insn i x)) (sym does) all)
 
   -- what the answer of a step before DMAEND says
@@ -153,26 +154,26 @@ module _ (program : List ℕ) (t : Descriptor) (n : ℕ) (marks : MarkList) (fir
   went x Ended s a = a
   went x (Fault kind) s a = a
 
-  before_by : (k : ℕ) (u : Machine) (turn : ChanTurn) → answer_at marks u ≡ turn → Among program t n first k u.image u.channel → k < n → Nexts program t n k → Before turn
+  before_by : (k : ℕ) (u : Machine) (turn : ChanTurn) → answer_at marks u ≡ turn → Among bus program t n first k u.image u.channel → k < n → Nexts bus program t n k → Before turn
   before_by k u turn e w l (Ends last next) = absurd (omega (arith, l, last))
   before_by k u turn e w l (Goes i less next go) =
       let s = (step_of marks u.channel u.image u.flags).1 in
-      went (traced program (suc k)) turn s (subst (λ (v : ChanTurn). Answers t first marks (traced program (suc k)) (v, s)) e (answers_at k u i w less next go))
+      went (traced bus program (suc k)) turn s (subst (λ (v : ChanTurn). Answers t first marks (traced bus program (suc k)) (v, s)) e (answers_at k u i w less next go))
 
-  pub goes_on_at : (k : ℕ) (u : Machine) (turn : ChanTurn) → answer_at marks u ≡ turn → Among program t n first k u.image u.channel → k < n → Before turn
-  goes_on_at k u turn e w l = before_by k u turn e w l (nexts program t n h k w.within)
+  pub goes_on_at : (k : ℕ) (u : Machine) (turn : ChanTurn) → answer_at marks u ≡ turn → Among bus program t n first k u.image u.channel → k < n → Before turn
+  goes_on_at k u turn e w l = before_by k u turn e w l (nexts bus program t n h k w.within)
 
-  by_next : (k : ℕ) (u : Machine) (turn : ChanTurn) → answer_at marks u ≡ turn → Among program t n first k u.image u.channel → Nexts program t n k → After k u turn
+  by_next : (k : ℕ) (u : Machine) (turn : ChanTurn) → answer_at marks u ≡ turn → Among bus program t n first k u.image u.channel → Nexts bus program t n k → After k u turn
   by_next k u turn e w (Goes i less next go) =
       let s = (step_of marks u.channel u.image u.flags).1 in
-      to k u i turn e w less next go (subst (λ (v : ChanTurn). Answers t first marks (traced program (suc k)) (v, s)) e (answers_at k u i w less next go))
+      to k u i turn e w less next go (subst (λ (v : ChanTurn). Answers t first marks (traced bus program (suc k)) (v, s)) e (answers_at k u i w less next go))
   by_next k u turn e w (Ends last next) =
       let c = u.channel in
-      let ahead = ahead_at program k End c w.begins w.mirrors.registers_are next in
+      let ahead = ahead_at bus program k End c w.begins w.mirrors.registers_are next in
       let does = does_next marks End u ahead in
       let over : turn ≡ Ended = sym e ∙ ends_then marks u ahead in
       let is_after = turned marks u Ended (ends_then marks u ahead) in
-      let count : length (traced program k).stores ≡ size_of t = ap (λ (j : ℕ). length (traced program j).stores) last ∙ stored_all in
+      let count : length (traced bus program k).stores ≡ size_of t = ap (λ (j : ℕ). length (traced bus program j).stores) last ∙ stored_all in
       subst (After k u) (sym over) (record {
         dropped = ap (λ (d : ChannelValue). d.program) is_after;
         stored = ap (λ (d : ChannelValue). d.stored) is_after ∙ w.stored ∙ count;
@@ -181,23 +182,23 @@ module _ (program : List ℕ) (t : Descriptor) (n : ℕ) (marks : MarkList) (fir
             ∙ ap (λ (j : ℕ). get_or (laid first t j) a 0) count;
       })
 
-  pub after_next : (k : ℕ) (u : Machine) (turn : ChanTurn) → answer_at marks u ≡ turn → Among program t n first k u.image u.channel → After k u turn
-  after_next k u turn e w = by_next k u turn e w (nexts program t n h k w.within)
+  pub after_next : (k : ℕ) (u : Machine) (turn : ChanTurn) → answer_at marks u ≡ turn → Among bus program t n first k u.image u.channel → After k u turn
+  after_next k u turn e w = by_next k u turn e w (nexts bus program t n h k w.within)
 
 pub copies_among_others : CopiesAmongOthers
-copies_among_others program t n marks channel image flags h run a touches =
+copies_among_others bus program t n marks channel image flags h run a touches =
     let w = along n (omega arith) in
     w.mirrors.same a touches ∙ ap (λ (k : ℕ). get_or (laid (image 0) t k) a 0) (ap length h.stores)
   where
-    along : (k : ℕ) → k ≤ n → Among program t n (image 0) k (image k) (channel k)
-    along zero l = at_start program t n (image 0) (channel 0) (λ b i. touched_below t (length (image 0)) b (run.below 0 l) i) run.begins
+    along : (k : ℕ) → k ≤ n → Among bus program t n (image 0) k (image k) (channel k)
+    along zero l = at_start bus program t n (image 0) (channel 0) (λ b i. touched_below t (length (image 0)) b (run.below 0 l) i) run.begins
     along (suc k) l =
         let u : Machine = record { channel = channel k; image = image k; flags = flags k } in
         let less : k < n = omega arith in
         let e : k + 1 ≡ suc k = omega arith in
         let w = along k (omega arith) in
-        let next = after_next program t n (marks k) (image 0) h (λ b i. touched_below t (length (image 0)) b (run.below 0 (omega arith)) i) k u Moved (run.moves k less) w in
-        kept program t n (image 0) (suc k) (after_step (marks k) u).image (image (suc k)) (after_step (marks k) u).channel (channel (suc k)) next
+        let next = after_next bus program t n (marks k) (image 0) h (λ b i. touched_below t (length (image 0)) b (run.below 0 (omega arith)) i) k u Moved (run.moves k less) w in
+        kept bus program t n (image 0) (suc k) (after_step (marks k) u).image (image (suc k)) (after_step (marks k) u).channel (channel (suc k)) next
         (subst (λ (j : ℕ). channel j ≡ stepped (marks k) (channel k) (image k) (flags k)) e (run.goes_on k less))
         (λ b i. subst (λ (j : ℕ). get_or (image j) b 0 ≡ get_or (step_of (marks k) (channel k) (image k) (flags k)).1.image b 0) e (run.unchanged k b less i))
         (λ b i. touched_below t (length (image (suc k))) b (run.below (suc k) l) i)

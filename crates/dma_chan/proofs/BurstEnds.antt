@@ -7,7 +7,8 @@ use Rattle.dma_insn.specs.declared.control.BurstEnd.{BurstEnd}
 use Rattle.dma_insn.specs.ControlWord.{field, size_code, size_of, beat_bytes, end_with, end_at}
 use Rattle.dma_insn.proofs.ControlLaws.{size_code-size_of}
 use Rattle.dma_chan.specs.declared.bursts.Burst.{Burst}
-use Rattle.dma_chan.specs.Bursts.{burst_at}
+use Rattle.dma_chan.specs.declared.bus.Bus.{Bus}
+use Rattle.dma_chan.specs.Bursts.{burst_at, skip_of}
 
 -- the bytes of a beat are a power of two, by its code
 beat_bytes-power : (s : BeatSize) → beat_bytes s ≡ 2 ^ size_code s
@@ -17,21 +18,27 @@ beat_bytes-power Four = refl
 beat_bytes-power Eight = refl
 beat_bytes-power Sixteen = refl
 
-abbrev burst_of : ℕ → BurstEnd → Burst
-burst_of addr e = record { addr = addr; increments = e.increments; size = beat_bytes e.size; beats = e.beats }
+abbrev burst_of : Bus → ℕ → BurstEnd → Burst
+burst_of bus addr e = record {
+  addr = addr;
+  increments = e.increments;
+  size = beat_bytes e.size;
+  beats = e.beats;
+  skip = skip_of bus e.increments addr (beat_bytes e.size);
+}
 
 some_same : (a b : BurstEnd) → Some a ≡ Some b → a ≡ b
 some_same a b e = cc
 
-of_size : (k addr w : ℕ) (o : Option BeatSize) (e : BurstEnd) → size_of (field (k + 1) 3 w) ≡ o → option_map (end_with k w) o ≡ Some e → burst_of addr e ≡ burst_at k addr w
+of_size : (bus : Bus) (k addr w : ℕ) (o : Option BeatSize) (e : BurstEnd) → size_of (field (k + 1) 3 w) ≡ o → option_map (end_with k w) o ≡ Some e → burst_of bus addr e ≡ burst_at bus k addr w
 unfolding burst_at
-of_size k addr w None e is h = absurd (cc)
-of_size k addr w (Some s) e is h =
+of_size bus k addr w None e is h = absurd (cc)
+of_size bus k addr w (Some s) e is h =
     let same : end_with k w s ≡ e = some_same (end_with k w s) e h in
     let size : beat_bytes s ≡ 2 ^ field (k + 1) 3 w = beat_bytes-power s ∙ ap (λ (n : ℕ). 2 ^ n) (size_code-size_of (field (k + 1) 3 w) s is) in
     rw (← same, size) refl
 
 -- the burst of the end whose lowest bit is bit k
-pub burst_of_end : (k addr w : ℕ) (e : BurstEnd) → end_at k w ≡ Some e → record { addr = addr; increments = e.increments; size = beat_bytes e.size; beats = e.beats } ≡ burst_at k addr w
+pub burst_of_end : (bus : Bus) (k addr w : ℕ) (e : BurstEnd) → end_at k w ≡ Some e → record { addr = addr; increments = e.increments; size = beat_bytes e.size; beats = e.beats; skip = skip_of bus e.increments addr (beat_bytes e.size) } ≡ burst_at bus k addr w
 unfolding end_at
-burst_of_end k addr w e h = of_size k addr w (size_of (field (k + 1) 3 w)) e refl h
+burst_of_end bus k addr w e h = of_size bus k addr w (size_of (field (k + 1) 3 w)) e refl h

@@ -4,13 +4,13 @@ use Rattle.std.specs.Prelude.{IsSomeAnd, nat_lt, slice_index_or}
 use Rattle.std.specs.List.{Contains}
 use Rattle.std.proofs.lemmas.Bool.{cases_lt}
 use Rattle.std.proofs.lemmas.List.Elements.{Contains-append_left, Contains-append_right}
-use Rattle.dma_insn.specs.ControlWord.{is_control}
 use Rattle.dma_insn.specs.declared.insn.Insn.{Insn}
 use Rattle.dma_insn.specs.declared.insn.Insn.TheVariants.{Mov, Ld, St, Rmb, Wmb, Nop, End, Lp, LpEnd, Sev, Wfe}
 use Rattle.dma_insn.specs.declared.insn.Reg.TheVariants.{Sar, Ccr, Dar}
 use Rattle.dma_mem.specs.Places.{Descriptor, destinations, size_of}
 use Rattle.dma_mem.specs.Marking.{MarkList}
 use Rattle.dma_mem.specs.declared.marks.MarkKind.TheVariants.{Reading, Writing}
+use Rattle.dma_chan.specs.declared.bus.Bus.{Bus}
 use Rattle.dma_chan.specs.declared.exec.Registers.{Registers}
 use Rattle.dma_chan.specs.declared.turn.ChanTurn.{ChanTurn}
 use Rattle.dma_chan.specs.declared.turn.ChanTurn.TheVariants.{Moved, Waiting, Ended, Fault}
@@ -19,6 +19,7 @@ use Rattle.dma_chan.specs.Bursts.{burst_len, touched, reaches}
 use Rattle.dma_chan.specs.Exec.{State, source_of, destination_of, counter_of, act, exec_fetched, buffer_size}
 use Rattle.dma_chan.specs.Channel.{ChannelValue, ahead_of, bytes_of_program, state_of, step_of, after_turn, stored_by}
 use Rattle.dma_chan.specs.Explains.{Executes, Explains, GoesOn, IsIn, Proceeds, StartsWith, Trace, after_fetch, after_insn, next_in, traced}
+use Rattle.dma_chan.specs.Bus.{accepts}
 use Rattle.dma_chan.specs.Next.{next_of}
 use Rattle.dma_chan.specs.NextWrites.{written_by, written_next}
 use Rattle.dma_chan.specs.Programs.{ProgramValue}
@@ -47,7 +48,7 @@ either false r x y f g = g
 pub act_leads : (marks : MarkList) (i : Insn) (s : State) → Leads (moved i s.registers) (act marks i s)
 act_leads marks (Mov Sar v) s = λ e. refl
 act_leads marks (Mov Dar v) s = λ e. refl
-act_leads marks (Mov Ccr v) s = either (is_control v) _ _ _ (λ e. refl) (λ e. absurd (cc))
+act_leads marks (Mov Ccr v) s = either (accepts s.registers.bus v) _ _ _ (λ e. refl) (λ e. absurd (cc))
 act_leads marks Ld s =
     either (nat_lt buffer_size (length s.buffer + burst_len (source_of s.registers))) _ _ _ (λ e. absurd (cc)) (either (reaches Reading marks (length s.image) (touched (source_of s.registers))) _ _ _ (λ e. refl) (λ e. absurd (cc)))
 act_leads marks St s =
@@ -64,17 +65,17 @@ act_leads marks End s = λ e. absurd (cc)
 -- ---- a channel that executes a program that copies
 
 -- the instruction after k others: it goes on, or it is DMAEND after all n
-pub data Nexts (program : List ℕ) (t : Descriptor) (n k : ℕ) : Type 0 where
-  Goes : (i : Insn) → k < n → next_in program (traced program k) ≡ Ok i → GoesOn t.wait t.signal (size_of t) i (traced program k) → Nexts program t n k
-  Ends : k ≡ n → next_in program (traced program k) ≡ Ok End → Nexts program t n k
+pub data Nexts (bus : Bus) (program : List ℕ) (t : Descriptor) (n k : ℕ) : Type 0 where
+  Goes : (i : Insn) → k < n → next_in program (traced bus program k) ≡ Ok i → GoesOn t.wait t.signal (size_of t) i (traced bus program k) → Nexts bus program t n k
+  Ends : k ≡ n → next_in program (traced bus program k) ≡ Ok End → Nexts bus program t n k
 
 next_alike : (program : List ℕ) (o : Option ProgramValue) (pc : ℕ) (i : Insn) → IsSomeAnd o (λ p. StartsWith p program) → next_of program pc ≡ Ok i → next_of (bytes_of_program o) pc ≡ Ok i
 next_alike program None pc i b h = absurd b
 next_alike program (Some p) pc i b h = ap (λ (xs : List ℕ). next_of xs pc) b.1 ∙ next-longer program b.0 pc i h
 
 -- the next instruction of a channel whose program begins with these bytes
-pub ahead_at : (program : List ℕ) (k : ℕ) (i : Insn) (c : ChannelValue) → IsSomeAnd c.program (λ p. StartsWith p program) → c.registers ≡ (traced program k).registers → next_in program (traced program k) ≡ Ok i → ahead_of c ≡ Ok i
-ahead_at program k i c begins at next = next_alike program c.program c.registers.pc i begins (ap (λ (r : Registers). next_of program r.pc) at ∙ next)
+pub ahead_at : (bus : Bus) (program : List ℕ) (k : ℕ) (i : Insn) (c : ChannelValue) → IsSomeAnd c.program (λ p. StartsWith p program) → c.registers ≡ (traced bus program k).registers → next_in program (traced bus program k) ≡ Ok i → ahead_of c ≡ Ok i
+ahead_at bus program k i c begins at next = next_alike program c.program c.registers.pc i begins (ap (λ (r : Registers). next_of program r.pc) at ∙ next)
 
 -- the channel after a step, by its answer
 pub turned : (marks : MarkList) (u : Machine) (turn : ChanTurn) → answer_at marks u ≡ turn → (after_step marks u).channel ≡ after_turn turn (step_of marks u.channel u.image u.flags).1 (stored_by (ahead_of u.channel) u.channel.registers) u.channel
@@ -106,31 +107,31 @@ none_written (LpEnd c b) r a ne w = omega (arith, w.1)
 none_written (Sev e) r a ne w = omega (arith, w.1)
 none_written (Wfe e v) r a ne w = omega (arith, w.1)
 
-module _ (program : List ℕ) (t : Descriptor) (n : ℕ) (h : Explains program t n) where
-  fetched : (k : ℕ) → k < n → (r : Result Insn FaultKind) → next_in program (traced program k) ≡ r → Proceeds t.wait t.signal (size_of t) r (traced program k) → Nexts program t n k
+module _ (bus : Bus) (program : List ℕ) (t : Descriptor) (n : ℕ) (h : Explains bus program t n) where
+  fetched : (k : ℕ) → k < n → (r : Result Insn FaultKind) → next_in program (traced bus program k) ≡ r → Proceeds t.wait t.signal (size_of t) r (traced bus program k) → Nexts bus program t n k
   fetched k l (Ok i) e go = Goes i l e go
   fetched k l (Err kind) e go = absurd go
 
-  pub nexts : (k : ℕ) → k ≤ n → Nexts program t n k
+  pub nexts : (k : ℕ) → k ≤ n → Nexts bus program t n k
   nexts k l =
       elim (cases_lt k n) [
-        | inl less ↦ fetched k less (next_in program (traced program k)) refl (h.goes k less)
-        | inr ge ↦ let e : k ≡ n = omega arith in Ends e (ap (λ (j : ℕ). next_in program (traced program j)) e ∙ h.ends)
+        | inl less ↦ fetched k less (next_in program (traced bus program k)) refl (h.goes k less)
+        | inr ge ↦ let e : k ≡ n = omega arith in Ends e (ap (λ (j : ℕ). next_in program (traced bus program j)) e ∙ h.ends)
       ]
 
   -- what is read and written so far is a part of the copy
-  pub inside : (k : ℕ) → k ≤ n → Inside t (traced program k)
+  pub inside : (k : ℕ) → k ≤ n → Inside t (traced bus program k)
   inside k l =
-      let g = grows_to program k n l in
+      let g = grows_to bus program k n l in
       record { loads_rest = g.more_loads; stores_rest = g.more_stores; loads = sym h.loads ∙ g.loads; stores = sym h.stores ∙ g.stores }
 
-  pub traced_next : (k : ℕ) (i : Insn) → next_in program (traced program k) ≡ Ok i → traced program (suc k) ≡ after_insn i (traced program k)
-  traced_next k i e = ap (λ (r : Result Insn FaultKind). after_fetch r (traced program k)) e
+  pub traced_next : (k : ℕ) (i : Insn) → next_in program (traced bus program k) ≡ Ok i → traced bus program (suc k) ≡ after_insn i (traced bus program k)
+  traced_next k i e = ap (λ (r : Result Insn FaultKind). after_fetch r (traced bus program k)) e
 
   -- its next instruction writes only destinations
-  next_writes : (k : ℕ) (c : ChannelValue) (a : ℕ) (i : Insn) → c.registers ≡ (traced program k).registers → ahead_of c ≡ Ok i → i ≡ End ⊎ ((k < n) × (next_in program (traced program k) ≡ Ok i)) → Contains (written_next c) a → Contains (destinations t) a
+  next_writes : (k : ℕ) (c : ChannelValue) (a : ℕ) (i : Insn) → c.registers ≡ (traced bus program k).registers → ahead_of c ≡ Ok i → i ≡ End ⊎ ((k < n) × (next_in program (traced bus program k) ≡ Ok i)) → Contains (written_next c) a → Contains (destinations t) a
   next_writes k c a i at ahead how w =
-      let x = traced program k in
+      let x = traced bus program k in
       let here : written_next c ≡ written_by (Ok i) x.registers = ap (λ (r : Result Insn FaultKind). written_by r c.registers) ahead ∙ ap (written_by (Ok i)) at in
       let j : Contains (written_by (Ok i) x.registers) a = subst (λ (xs : List ℕ). Contains xs a) here w in
       elim (is_store i) [
@@ -139,49 +140,49 @@ module _ (program : List ℕ) (t : Descriptor) (n : ℕ) (h : Explains program t
           | inl over ↦ absurd (let bad : End ≡ St = sym over ∙ e in cc)
           | inr less ↦
               let part = inside (suc k) (omega (arith, less.0)) in
-              let is_next : (traced program (suc k)).stores ≡ x.stores ++ touched (destination_of x.registers) = ap (λ (y : Trace). y.stores) (traced_next k i less.1 ∙ ap (λ (q : Insn). after_insn q x) e) in
+              let is_next : (traced bus program (suc k)).stores ≡ x.stores ++ touched (destination_of x.registers) = ap (λ (y : Trace). y.stores) (traced_next k i less.1 ∙ ap (λ (q : Insn). after_insn q x) e) in
               let mine : Contains (touched (destination_of x.registers)) a = subst (λ (q : Insn). Contains (written_by (Ok q) x.registers) a) e j in
               subst (λ (xs : List ℕ). Contains xs a) (sym part.stores)
-              (Contains-append_left (traced program (suc k)).stores part.stores_rest a
+              (Contains-append_left (traced bus program (suc k)).stores part.stores_rest a
               (subst (λ (xs : List ℕ). Contains xs a) (sym is_next) (Contains-append_right x.stores (touched (destination_of x.registers)) a mine)))
         ]
       ]
 
-  pub next_inside : (k : ℕ) (c : ChannelValue) (a : ℕ) → IsIn program n k c → Nexts program t n k → Contains (written_next c) a → Contains (destinations t) a
-  next_inside k c a w (Goes i less next go) j = next_writes k c a i w.registers (ahead_at program k i c w.begins w.registers next) (inr (less, next)) j
-  next_inside k c a w (Ends e next) j = next_writes k c a End w.registers (ahead_at program k End c w.begins w.registers next) (inl refl) j
+  pub next_inside : (k : ℕ) (c : ChannelValue) (a : ℕ) → IsIn bus program n k c → Nexts bus program t n k → Contains (written_next c) a → Contains (destinations t) a
+  next_inside k c a w (Goes i less next go) j = next_writes k c a i w.registers (ahead_at bus program k i c w.begins w.registers next) (inr (less, next)) j
+  next_inside k c a w (Ends e next) j = next_writes k c a End w.registers (ahead_at bus program k End c w.begins w.registers next) (inl refl) j
 
-  moved_by_next : (marks : MarkList) (k : ℕ) (u : Machine) → IsIn program n k u.channel → Nexts program t n k → answer_at marks u ≡ Moved → IsIn program n (suc k) (after_step marks u).channel
+  moved_by_next : (marks : MarkList) (k : ℕ) (u : Machine) → IsIn bus program n k u.channel → Nexts bus program t n k → answer_at marks u ≡ Moved → IsIn bus program n (suc k) (after_step marks u).channel
   moved_by_next marks k u w (Ends e next) moves =
-      let over = ends_then marks u (ahead_at program k End u.channel w.begins w.registers next) in
+      let over = ends_then marks u (ahead_at bus program k End u.channel w.begins w.registers next) in
       let bad : Ended ≡ Moved = sym over ∙ moves in absurd (cc)
   moved_by_next marks k u w (Goes i less next go) moves =
       let c = u.channel in
       let x = step_of marks c u.image u.flags in
-      let does = does_next marks i u (ahead_at program k i c w.begins w.registers next) in
+      let does = does_next marks i u (ahead_at bus program k i c w.begins w.registers next) in
       let new : x.1.registers ≡ moved i c.registers = ap (λ (y : ChanTurn × State). y.1.registers) does ∙ act_leads marks i (state_of c u.image u.flags) (sym (ap (λ (y : ChanTurn × State). y.0) does) ∙ moves) in
-      let there : moved i c.registers ≡ (traced program (suc k)).registers =
-      ap (moved i) w.registers ∙ sym (registers_after i (traced program k)) ∙ sym (ap (λ (y : Trace). y.registers) (traced_next k i next)) in
-      subst (IsIn program n (suc k)) (sym (turned marks u Moved moves)) (record { begins = w.begins; within = omega (arith, less); registers = new ∙ there })
+      let there : moved i c.registers ≡ (traced bus program (suc k)).registers =
+      ap (moved i) w.registers ∙ sym (registers_after i (traced bus program k)) ∙ sym (ap (λ (y : Trace). y.registers) (traced_next k i next)) in
+      subst (IsIn bus program n (suc k)) (sym (turned marks u Moved moves)) (record { begins = w.begins; within = omega (arith, less); registers = new ∙ there })
 
-  moved_in : (marks : MarkList) (k : ℕ) (u : Machine) → IsIn program n k u.channel → answer_at marks u ≡ Moved → IsIn program n (suc k) (after_step marks u).channel
+  moved_in : (marks : MarkList) (k : ℕ) (u : Machine) → IsIn bus program n k u.channel → answer_at marks u ≡ Moved → IsIn bus program n (suc k) (after_step marks u).channel
   moved_in marks k u w moves = moved_by_next marks k u w (nexts k w.within) moves
 
-  after_one : (marks : MarkList) (k : ℕ) (u : Machine) (turn : ChanTurn) → IsIn program n k u.channel → answer_at marks u ≡ turn → Executes program n (after_step marks u).channel ⊎ ((after_step marks u).channel.program ≡ None)
+  after_one : (marks : MarkList) (k : ℕ) (u : Machine) (turn : ChanTurn) → IsIn bus program n k u.channel → answer_at marks u ≡ turn → Executes bus program n (after_step marks u).channel ⊎ ((after_step marks u).channel.program ≡ None)
   after_one marks k u Moved w e = inl (suc k, moved_in marks k u w e)
-  after_one marks k u (Waiting x) w e = inl (k, subst (IsIn program n k) (sym (turned marks u (Waiting x) e)) w)
-  after_one marks k u (Fault x) w e = inl (k, subst (IsIn program n k) (sym (turned marks u (Fault x) e)) w)
+  after_one marks k u (Waiting x) w e = inl (k, subst (IsIn bus program n k) (sym (turned marks u (Waiting x) e)) w)
+  after_one marks k u (Fault x) w e = inl (k, subst (IsIn bus program n k) (sym (turned marks u (Fault x) e)) w)
   after_one marks k u Ended w e = inr (ap (λ (c : ChannelValue). c.program) (turned marks u Ended e))
 
   -- steps that all moved
-  many_in : (marks : MarkList) (s : Machine) (j : ℕ) → Executes program n s.channel → ((k : ℕ) → k < suc j → goes_on_after marks s k ≡ true) → Executes program n (after_steps marks s j).channel
+  many_in : (marks : MarkList) (s : Machine) (j : ℕ) → Executes bus program n s.channel → ((k : ℕ) → k < suc j → goes_on_after marks s k ≡ true) → Executes bus program n (after_steps marks s j).channel
   many_in marks s zero w moves = w
   many_in marks s (suc j) w moves =
       let u = after_steps marks s j in
       let v = many_in marks s j w (λ k l. moves k (omega arith)) in
       (suc v.0, moved_in marks v.0 u v.1 (was_moved (ahead_of u.channel) (answer_at marks u) (went_before marks s (suc j) (moves (suc j) (omega arith)))))
 
-  last_in : (marks : MarkList) (s : Machine) (taken : ℕ) → Executes program n s.channel → ((k : ℕ) → k < taken → goes_on_after marks s k ≡ true) → Executes program n (after_steps marks s taken).channel ⊎ ((after_steps marks s taken).channel.program ≡ None)
+  last_in : (marks : MarkList) (s : Machine) (taken : ℕ) → Executes bus program n s.channel → ((k : ℕ) → k < taken → goes_on_after marks s k ≡ true) → Executes bus program n (after_steps marks s taken).channel ⊎ ((after_steps marks s taken).channel.program ≡ None)
   last_in marks s zero w moves = inl w
   last_in marks s (suc j) w moves =
       let u = after_steps marks s j in
@@ -189,7 +190,7 @@ module _ (program : List ℕ) (t : Descriptor) (n : ℕ) (h : Explains program t
       after_one marks v.0 u (answer_at marks u) v.1 refl
 
 pub load_executes : LoadExecutes
-load_executes program n c l = (
+load_executes bus program n c l = (
   0,
   record {
     begins = subst (λ (d : ChannelValue). IsSomeAnd d.program (λ p. StartsWith p program)) (sym l.2) l.1;
@@ -199,10 +200,10 @@ load_executes program n c l = (
 )
 
 pub call_stays_in : CallStaysIn
-call_stays_in program t n marks s most taken last after h w steps = record {
+call_stays_in bus program t n marks s most taken last after h w steps = record {
   writes = λ a i.
       let by = writes_each marks s taken a steps.moves i in
-      let v = many_in program t n h marks s by.0 w (λ k l. steps.moves k (omega (arith, by.1))) in
-      next_inside program t n h v.0 (after_steps marks s by.0).channel a v.1 (nexts program t n h v.0 v.1.within) by.3;
-  channel = subst (λ (u : Machine). Executes program n u.channel ⊎ (u.channel.program ≡ None)) (sym steps.ends_at) (last_in program t n h marks s taken w steps.moves);
+      let v = many_in bus program t n h marks s by.0 w (λ k l. steps.moves k (omega (arith, by.1))) in
+      next_inside bus program t n h v.0 (after_steps marks s by.0).channel a v.1 (nexts bus program t n h v.0 v.1.within) by.3;
+  channel = subst (λ (u : Machine). Executes bus program n u.channel ⊎ (u.channel.program ≡ None)) (sym steps.ends_at) (last_in bus program t n h marks s taken w steps.moves);
 }

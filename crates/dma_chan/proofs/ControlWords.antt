@@ -1,29 +1,95 @@
 -- The control words of a compiled program.
-use Rattle.std.proofs.Common.{◌≡◌, ℕ, ◌+◌, ◌-◌, ◌*◌, ◌/◌, ◌%◌, ◌^◌, ◌≤◌, ◌<◌, Bool, true, false, cond, zero, suc, refl, ap, ◌∙◌, arith, Some, List, [], ◌∷◌}
-use Rattle.std.specs.Prelude.{not, replicate}
+use Rattle.std.proofs.Common.{◌≡◌, ℕ, ◌+◌, ◌-◌, ◌*◌, ◌/◌, ◌%◌, ◌^◌, ◌≤◌, ◌<◌, Bool, true, false, cond, zero, suc, refl, sym, ap, ◌∙◌, arith, Some, List, [], ◌∷◌}
+use Rattle.std.specs.Prelude.{◌==◌, ◌&&◌, nat_le, not, replicate}
 use Rattle.std.specs.List.{flat_map, range_with_len}
+use Rattle.std.proofs.lemmas.Nat.{mod_below, pow_pos}
+use Rattle.std.proofs.lemmas.Bool.{eqb-true}
+use Rattle.std.proofs.Math.Nat.{add-mod-mod, mod-one, mul-mod_left, zero-mod}
 use Rattle.dma_insn.specs.declared.control.BeatSize.{BeatSize}
 use Rattle.dma_insn.specs.declared.control.BeatSize.TheVariants.{One, Two, Four, Eight, Sixteen}
 use Rattle.dma_insn.specs.declared.control.BurstEnd.{BurstEnd}
-use Rattle.dma_insn.specs.ControlWord.{control_of, is_control, end_at, size_of, beat_bytes, bits_of, end_bits}
+use Rattle.dma_insn.specs.ControlWord.{control_of, is_control, end_at, field, size_of, beat_bytes, bits_of, end_bits}
+use Rattle.dma_chan.specs.declared.bus.Bus.{Bus}
+use Rattle.dma_chan.specs.declared.bus.Bus.TheVariants.{Ideal, Chip}
 use Rattle.dma_chan.specs.declared.pieces.Piece.{Piece}
-use Rattle.dma_chan.specs.Compiled.{beat_of, control_word, size_code}
+use Rattle.dma_chan.specs.Compiled.{beat_of, control_word, fits, size_code}
 use Rattle.dma_chan.specs.declared.bursts.Burst.{Burst}
-use Rattle.dma_chan.specs.Bursts.{burst_at, burst_len, touched, advance}
+use Rattle.dma_chan.specs.Bursts.{IsAligned, burst_at, burst_len, skip_of, touched, advance}
+use Rattle.dma_chan.specs.Traffic.{len_by}
+use Rattle.dma_chan.specs.inner.Spans.{MovesSome}
 use Rattle.dma_chan.proofs.CutPlaces.{run_of, way}
 
 -- ---- bursts by their control word alone
 
-pub addr_there : (k a w : ℕ) → (burst_at k a w).addr ≡ a
+pub addr_there : (bus : Bus) (k a w : ℕ) → (burst_at bus k a w).addr ≡ a
 unfolding burst_at
-addr_there k a w = refl
+addr_there bus k a w = refl
 
 pub touched_up : (b : Burst) → b.increments ≡ true → touched b ≡ range_with_len b.addr (burst_len b)
 touched_up b e = rw e refl
 
 -- the addresses of a rising burst from an address under a word
-pub touched_from : (k a w n : ℕ) → (burst_at k a w).increments ≡ true → burst_len (burst_at k a w) ≡ n → touched (burst_at k a w) ≡ range_with_len a n
-touched_from k a w n up len = touched_up (burst_at k a w) up ∙ ap (λ (x : ℕ). range_with_len x (burst_len (burst_at k a w))) (addr_there k a w) ∙ ap (range_with_len a) len
+pub touched_from : (bus : Bus) (k a w n : ℕ) → (burst_at bus k a w).increments ≡ true → burst_len (burst_at bus k a w) ≡ n → touched (burst_at bus k a w) ≡ range_with_len a n
+touched_from bus k a w n up len = touched_up (burst_at bus k a w) up ∙ ap (λ (x : ℕ). range_with_len x (burst_len (burst_at bus k a w))) (addr_there bus k a w) ∙ ap (range_with_len a) len
+
+-- a burst that doesn't rise leaves nothing out, on any bus
+pub fixed_whole : (bus : Bus) (k a w : ℕ) → (burst_at bus k a w).increments ≡ false → (burst_at bus k a w).skip ≡ 0
+unfolding burst_at
+fixed_whole bus k a w still = by bus (field k 1 w == 1) still
+  where
+    by : (b : Bus) (i : Bool) → i ≡ false → skip_of b i a (2 ^ field (k + 1) 3 w) ≡ 0
+    by Ideal i e = refl
+    by (Chip width) true e = absurd (cc)
+    by (Chip width) false e = refl
+
+-- nor does one at a multiple of its beat's size
+pub aligned_whole : (bus : Bus) (k a w : ℕ) → IsAligned (burst_at bus k a w) → (burst_at bus k a w).skip ≡ 0
+unfolding burst_at
+aligned_whole bus k a w aligned = by bus (field k 1 w == 1) aligned
+  where
+    by : (b : Bus) (i : Bool) → (i ≡ true → a % 2 ^ field (k + 1) 3 w ≡ 0) → skip_of b i a (2 ^ field (k + 1) 3 w) ≡ 0
+    by Ideal i h = refl
+    by (Chip width) true h = h refl
+    by (Chip width) false h = refl
+
+-- whether a burst is at such an address doesn't depend on the bus
+pub aligned_on : (bus other : Bus) (k a w : ℕ) → IsAligned (burst_at bus k a w) → IsAligned (burst_at other k a w)
+unfolding burst_at
+aligned_on bus other k a w aligned = aligned
+
+-- there a burst is the same on each bus
+pub same_burst : (bus other : Bus) (k a w : ℕ) → IsAligned (burst_at bus k a w) → burst_at bus k a w ≡ burst_at other k a w
+unfolding burst_at
+same_burst bus other k a w aligned =
+    let here : (burst_at bus k a w).skip ≡ 0 = aligned_whole bus k a w aligned in
+    let there : (burst_at other k a w).skip ≡ 0 = aligned_whole other k a w (aligned_on bus other k a w aligned) in
+    ap (λ (n : ℕ). record { addr = a; increments = field k 1 w == 1; size = 2 ^ field (k + 1) 3 w; beats = field (k + 4) 4 w + 1; skip = n }) (here ∙ sym there)
+
+-- and has as many bytes as on the ideal bus anywhere
+pub len_anywhere : (k a w : ℕ) → burst_len (burst_at Ideal k a w) ≡ len_by k w
+unfolding burst_at
+len_anywhere k a w = refl
+
+pub aligned_len : (bus : Bus) (k a w : ℕ) → IsAligned (burst_at bus k a w) → burst_len (burst_at bus k a w) ≡ len_by k w
+aligned_len bus k a w aligned = ap burst_len (same_burst bus Ideal k a w aligned) ∙ len_anywhere k a w
+
+-- the address is a multiple of the beat's size
+aligned_by : (k w b : ℕ) → ((a : ℕ) → (burst_at Ideal k a w).size ≡ b) → (bus : Bus) (a : ℕ) → a % b ≡ 0 → IsAligned (burst_at bus k a w)
+unfolding burst_at
+aligned_by k w b size bus a fits = λ up. ap (λ (n : ℕ). a % n) (size a) ∙ fits
+
+-- a burst moves some byte
+pub moves_some : (bus : Bus) (k a w : ℕ) → MovesSome (burst_at bus k a w)
+unfolding burst_at
+moves_some bus k a w =
+    let n = 2 ^ field (k + 1) 3 w in
+    let some : 1 ≤ n = pow_pos (field (k + 1) 3 w) in
+    let less : (b : Bus) (i : Bool) → skip_of b i a n < n =
+    λ b i. elim b as (λ x. skip_of x i a n < n) [
+      | Ideal ↦ some
+      | Chip width ↦ elim i as (λ y. skip_of (Chip width) y a n < n) [ true ↦ mod_below a n some | false ↦ some ]
+    ] in
+    record { size = some; beats = omega arith; skip = less bus (field k 1 w == 1); fixed = fixed_whole bus k a w }
 
 pub advance_up : (b : Burst) (n : ℕ) → b.increments ≡ true → burst_len b ≡ n → advance b ≡ n
 advance_up b n e len = rw e len
@@ -39,20 +105,24 @@ one_again (suc k) a = ap (λ (xs : List ℕ). a ∷ xs) (one_again k a)
 touched_fixed : (b : Burst) (a n : ℕ) → b.increments ≡ false → b.size ≡ 1 → b.beats ≡ n → b.addr ≡ a → touched b ≡ replicate n a
 touched_fixed b a n e size beats addr = rw (e, size, beats, addr) (one_again n a)
 
--- bursts of n bytes at both ends, with both increments, and of a fill with that of the destination alone
-pub record Moves (fill : Bool) (w n : ℕ) : Type 0 where
-  pub reads : (a : ℕ) → burst_len (burst_at 0 a w) ≡ n
-  pub writes : (a : ℕ) → burst_len (burst_at 14 a w) ≡ n
-  pub source : (a : ℕ) → touched (burst_at 0 a w) ≡ run_of fill a n
-  pub source_way : (a : ℕ) → advance (burst_at 0 a w) ≡ way fill n
-  pub destination_up : (a : ℕ) → (burst_at 14 a w).increments ≡ true
+-- bursts of n bytes at both ends, in beats of b bytes, with both increments, and of a fill with that of the destination
+-- alone; from multiples of b on, they are the same on each bus
+pub record Moves (fill : Bool) (b w n : ℕ) : Type 0 where
+  pub reads : len_by 0 w ≡ n
+  pub writes : len_by 14 w ≡ n
+  pub source : (bus : Bus) (a : ℕ) → a % b ≡ 0 → touched (burst_at bus 0 a w) ≡ run_of fill a n
+  pub source_way : (bus : Bus) (a : ℕ) → a % b ≡ 0 → advance (burst_at bus 0 a w) ≡ way fill n
+  pub source_fits : (bus : Bus) (a : ℕ) → a % b ≡ 0 → IsAligned (burst_at bus 0 a w)
+  pub destination_up : (bus : Bus) (a : ℕ) → (burst_at bus 14 a w).increments ≡ true
+  pub destination_fits : (bus : Bus) (a : ℕ) → a % b ≡ 0 → IsAligned (burst_at bus 14 a w)
+  pub whole : n % b ≡ 0
   pub valid : is_control w ≡ true
 
 -- what the words of a size of b bytes a beat say
 pub record IsBeat (fill : Bool) (b : ℕ) : Type 0 where
   pub low : 1 ≤ b
   pub high : b ≤ 16
-  pub moves : (k : ℕ) → 1 ≤ k → k ≤ 16 → Moves fill (control_word fill b k) (k * b)
+  pub moves : (k : ℕ) → 1 ≤ k → k ≤ 16 → Moves fill b (control_word fill b k) (k * b)
   pub in_range : (k : ℕ) → k ≤ 16 → control_word fill b k < 2 ^ 32
 
 size_there : (c : ℕ) → c ≤ 4 → (s : BeatSize) × (size_of c ≡ Some s)
@@ -67,47 +137,59 @@ valid_word : (w c : ℕ) → w / 2 % 8 ≡ c → w / 2 ^ 15 % 8 ≡ c → w / 2 
 unfolding is_control control_of end_at
 valid_word w c a b d e h = let s = size_there c h in rw (a, b, s.1, d, e) refl
 
-record Rises (w n : ℕ) : Type 0 where
-  reads : (a : ℕ) → burst_len (burst_at 0 a w) ≡ n
-  writes : (a : ℕ) → burst_len (burst_at 14 a w) ≡ n
-  source_up : (a : ℕ) → (burst_at 0 a w).increments ≡ true
-  destination_up : (a : ℕ) → (burst_at 14 a w).increments ≡ true
+record Rises (b w n : ℕ) : Type 0 where
+  reads : (a : ℕ) → burst_len (burst_at Ideal 0 a w) ≡ n
+  writes : (a : ℕ) → burst_len (burst_at Ideal 14 a w) ≡ n
+  source_up : (a : ℕ) → (burst_at Ideal 0 a w).increments ≡ true
+  source_size : (a : ℕ) → (burst_at Ideal 0 a w).size ≡ b
+  destination_up : (bus : Bus) (a : ℕ) → (burst_at bus 14 a w).increments ≡ true
+  destination_size : (a : ℕ) → (burst_at Ideal 14 a w).size ≡ b
+  whole : n % b ≡ 0
   valid : is_control w ≡ true
 
-rises_moves : (w n : ℕ) → Rises w n → Moves false w n
-rises_moves w n r = record {
-  reads = r.reads;
-  writes = r.writes;
-  source = λ a. touched_from 0 a w n (r.source_up a) (r.reads a);
-  source_way = λ a. advance_up (burst_at 0 a w) n (r.source_up a) (r.reads a);
-  destination_up = r.destination_up;
-  valid = r.valid;
-}
+rises_moves : (b w n : ℕ) → Rises b w n → Moves false b w n
+rises_moves b w n r =
+    let fits = aligned_by 0 w b r.source_size in
+    record {
+      reads = sym (len_anywhere 0 0 w) ∙ r.reads 0;
+      writes = sym (len_anywhere 14 0 w) ∙ r.writes 0;
+      source = λ bus a at. ap touched (same_burst bus Ideal 0 a w (fits bus a at)) ∙ touched_from Ideal 0 a w n (r.source_up a) (r.reads a);
+      source_way = λ bus a at. ap advance (same_burst bus Ideal 0 a w (fits bus a at)) ∙ advance_up (burst_at Ideal 0 a w) n (r.source_up a) (r.reads a);
+      source_fits = fits;
+      destination_up = r.destination_up;
+      destination_fits = aligned_by 14 w b r.destination_size;
+      whole = r.whole;
+      valid = r.valid;
+    }
 
 -- the same without source increment, of beats of one byte
 record Stays (w n : ℕ) : Type 0 where
-  reads : (a : ℕ) → burst_len (burst_at 0 a w) ≡ n
-  writes : (a : ℕ) → burst_len (burst_at 14 a w) ≡ n
-  fixed : (a : ℕ) → (burst_at 0 a w).increments ≡ false
-  size : (a : ℕ) → (burst_at 0 a w).size ≡ 1
-  beats : (a : ℕ) → (burst_at 0 a w).beats ≡ n
-  destination_up : (a : ℕ) → (burst_at 14 a w).increments ≡ true
+  reads : (a : ℕ) → burst_len (burst_at Ideal 0 a w) ≡ n
+  writes : (a : ℕ) → burst_len (burst_at Ideal 14 a w) ≡ n
+  fixed : (bus : Bus) (a : ℕ) → (burst_at bus 0 a w).increments ≡ false
+  size : (bus : Bus) (a : ℕ) → (burst_at bus 0 a w).size ≡ 1
+  beats : (bus : Bus) (a : ℕ) → (burst_at bus 0 a w).beats ≡ n
+  destination_up : (bus : Bus) (a : ℕ) → (burst_at bus 14 a w).increments ≡ true
+  destination_size : (a : ℕ) → (burst_at Ideal 14 a w).size ≡ 1
   valid : is_control w ≡ true
 
-stays_moves : (w n : ℕ) → Stays w n → Moves true w n
+stays_moves : (w n : ℕ) → Stays w n → Moves true 1 w n
 stays_moves w n r = record {
-  reads = r.reads;
-  writes = r.writes;
-  source = λ a. touched_fixed (burst_at 0 a w) a n (r.fixed a) (r.size a) (r.beats a) (addr_there 0 a w);
-  source_way = λ a. advance_fixed (burst_at 0 a w) (r.fixed a);
+  reads = sym (len_anywhere 0 0 w) ∙ r.reads 0;
+  writes = sym (len_anywhere 14 0 w) ∙ r.writes 0;
+  source = λ bus a at. touched_fixed (burst_at bus 0 a w) a n (r.fixed bus a) (r.size bus a) (r.beats bus a) (addr_there bus 0 a w);
+  source_way = λ bus a at. advance_fixed (burst_at bus 0 a w) (r.fixed bus a);
+  source_fits = λ bus a at. aligned_by 0 w 1 (r.size Ideal) bus a at;
   destination_up = r.destination_up;
+  destination_fits = aligned_by 14 w 1 r.destination_size;
+  whole = omega arith;
   valid = r.valid;
 }
 
 -- the fields of a word with size code c and length code l
-word_moves : (w c l n : ℕ) → w ≡ 1 + 2 * c + 16 * l + 2 ^ 14 + 2 ^ 15 * c + 2 ^ 18 * l → c ≤ 4 → l ≤ 15 → (l + 1) * 2 ^ c ≡ n → Rises w n
+word_moves : (w c l b n : ℕ) → w ≡ 1 + 2 * c + 16 * l + 2 ^ 14 + 2 ^ 15 * c + 2 ^ 18 * l → c ≤ 4 → l ≤ 15 → 2 ^ c ≡ b → (l + 1) * b ≡ n → Rises b w n
 unfolding burst_at
-word_moves w c l n e hc hl h =
+word_moves w c l beat n e hc hl p h =
     let a : w / 16 % 16 ≡ l = omega arith in
     let b : w / 2 % 8 ≡ c = omega arith in
     let d : w / 262144 % 16 ≡ l = omega arith in
@@ -115,7 +197,17 @@ word_moves w c l n e hc hl h =
     let g : w % 2 ≡ 1 = omega arith in
     let i : w / 16384 % 2 ≡ 1 = omega arith in
     let o : w / 1 ≡ w = omega arith in
-    record { reads = λ x. rw (a, b) h; writes = λ x. rw (d, f) h; source_up = λ x. rw (o, g) refl; destination_up = λ x. rw i refl; valid = valid_word w c b f (omega arith) (omega arith) hc }
+    let m : (l + 1) * beat - 0 ≡ n = omega (arith, h) in
+    record {
+      reads = λ x. rw (a, b, p) m;
+      writes = λ x. rw (d, f, p) m;
+      source_up = λ x. rw (o, g) refl;
+      source_size = λ x. rw b p;
+      destination_up = λ bus x. rw i refl;
+      destination_size = λ x. rw f p;
+      whole = ap (λ (k : ℕ). k % beat) (sym h) ∙ mul-mod_left (l + 1) beat;
+      valid = valid_word w c b f (omega arith) (omega arith) hc;
+    }
 
 word_stays : (w l n : ℕ) → w ≡ 16 * l + 2 ^ 14 + 2 ^ 18 * l → l ≤ 15 → l + 1 ≡ n → Stays w n
 unfolding burst_at
@@ -127,14 +219,23 @@ word_stays w l n e hl h =
     let g : w % 2 ≡ 0 = omega arith in
     let i : w / 16384 % 2 ≡ 1 = omega arith in
     let o : w / 1 ≡ w = omega arith in
-    let m : (l + 1) * 1 ≡ n = omega arith in
-    record { reads = λ x. rw (a, b) m; writes = λ x. rw (d, f) m; fixed = λ x. rw (o, g) refl; size = λ x. rw b refl; beats = λ x. rw a h; destination_up = λ x. rw i refl; valid = valid_word w 0 b f (omega arith) (omega arith) (omega arith) }
+    let m : (l + 1) * 1 - 0 ≡ n = omega arith in
+    record {
+      reads = λ x. rw (a, b) m;
+      writes = λ x. rw (d, f) m;
+      fixed = λ bus x. rw (o, g) refl;
+      size = λ bus x. rw b refl;
+      beats = λ bus x. rw a h;
+      destination_up = λ bus x. rw i refl;
+      destination_size = λ x. rw f refl;
+      valid = valid_word w 0 b f (omega arith) (omega arith) (omega arith);
+    }
 
 beat : (b c : ℕ) → size_code b ≡ c → c ≤ 4 → 2 ^ c ≡ b → 1 ≤ b → b ≤ 16 → IsBeat false b
 beat b c e hc p low high = record {
   low = low;
   high = high;
-  moves = λ k l h. let n : k - 1 + 1 ≡ k = omega arith in rises_moves _ _ (word_moves (control_word false b k) c (k - 1) (k * b) (rw e refl) hc (omega arith) (rw (n, p) refl));
+  moves = λ k l h. let n : k - 1 + 1 ≡ k = omega arith in rises_moves b _ _ (word_moves (control_word false b k) c (k - 1) b (k * b) (rw e refl) hc (omega arith) p (rw n refl));
   in_range = λ k h. omega (arith, e);
 }
 
@@ -162,6 +263,44 @@ beat_right p =
     pick _ 8 _ (beat 8 3 refl (omega arith) refl (omega arith) (omega arith)) (
     pick _ 4 _ (beat 4 2 refl (omega arith) refl (omega arith) (omega arith)) (
     pick _ 2 1 (beat 2 1 refl (omega arith) refl (omega arith) (omega arith)) (beat 1 0 refl (omega arith) refl (omega arith) (omega arith))))))
+
+-- multiples of c add up to one
+pub mod_sum : (a x c : ℕ) → a % c ≡ 0 → x % c ≡ 0 → (a + x) % c ≡ 0
+mod_sum a x c e f =
+    let none : a + 0 ≡ a = omega arith in
+    sym (add-mod-mod a x c) ∙ ap (λ (k : ℕ). (a + k) % c) f ∙ ap (λ (k : ℕ). k % c) none ∙ e
+
+pub mod_way : (fill : Bool) (x c : ℕ) → x % c ≡ 0 → way fill x % c ≡ 0
+mod_way false x c e = e
+mod_way true x c e = zero-mod c
+
+-- the beats of a piece divide both addresses
+abbrev Divides : Piece → ℕ → Type 0
+Divides p b = (p.src % b ≡ 0) × (p.dst % b ≡ 0)
+
+fits_divides : (b : ℕ) (p : Piece) → fits b p ≡ true → Divides p b
+fits_divides b p e = by (p.src % b == 0) (p.dst % b == 0) (nat_le b p.len) refl refl e
+  where
+    by : (x y z : Bool) → (p.src % b == 0) ≡ x → (p.dst % b == 0) ≡ y → (x && y && z) ≡ true → Divides p b
+    by true true z s d t = (eqb-true (p.src % b) 0 s, eqb-true (p.dst % b) 0 d)
+    by true false z s d t = absurd (cc)
+    by false y z s d t = absurd (cc)
+
+choose : (p : Piece) (t : Bool) (x y : ℕ) → (t ≡ true → Divides p x) → Divides p y → Divides p (cond t x y)
+choose p true x y f g = f refl
+choose p false x y f g = g
+
+ones : (p : Piece) → Divides p 1
+ones p = (mod-one p.src, mod-one p.dst)
+
+pub beat_divides : (p : Piece) → (p.src % beat_of p ≡ 0) × (p.dst % beat_of p ≡ 0)
+unfolding beat_of
+beat_divides p =
+    choose p p.fill 1 _ (λ e. ones p)
+    (choose p (fits 16 p) 16 _ (fits_divides 16 p)
+    (choose p (fits 8 p) 8 _ (fits_divides 8 p)
+    (choose p (fits 4 p) 4 _ (fits_divides 4 p)
+    (choose p (fits 2 p) 2 1 (fits_divides 2 p) (ones p)))))
 
 pub one_beat : (fill : Bool) → IsBeat fill 1
 one_beat true = filling_beat

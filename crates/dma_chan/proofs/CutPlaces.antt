@@ -58,6 +58,7 @@ pub record IsPiece (p : Piece) : Type 0 where
   pub some : 0 < p.len
   pub below : p.len ≤ 2 ^ 20
   pub src : p.src < 2 ^ 32
+  pub reads : p.src + way p.fill p.len ≤ 2 ^ 32
   pub dst : p.dst + p.len ≤ 2 ^ 32
 
 read_by-append : (a b : List Piece) → read_by (a ++ b) ≡ read_by a ++ read_by b
@@ -98,7 +99,7 @@ cut_right a n (d ∷ ds) some below fits enough all =
       sources = append-nil (range_with_len a n);
       destinations = ap (λ (xs : List ℕ). xs ++ (range_with_len (d.addr + n) (d.len - n) ++ places ds)) (append-nil (range_with_len d.addr n)) ∙ sym (append_assoc _ _ (places ds)) ∙ ap (λ (xs : List ℕ). xs ++ places ds) (sym split);
       totals = omega arith;
-      fit = (record { some = some; below = below; src = omega arith; dst = omega (arith, all.0.1) }, tt);
+      fit = (record { some = some; below = below; src = omega arith; reads = omega arith; dst = omega (arith, all.0.1) }, tt);
       rest = ((omega arith, omega (arith, all.0.1)), all.1);
       few = omega arith;
       last = λ z. absurd (omega arith);
@@ -112,7 +113,7 @@ cut_right a n (d ∷ ds) some below fits enough all =
       sources = ap (λ (xs : List ℕ). range_with_len a d.len ++ xs) r.sources ∙ sym split;
       destinations = append_assoc (range_with_len d.addr d.len) _ _ ∙ ap (λ (xs : List ℕ). range_with_len d.addr d.len ++ xs) r.destinations;
       totals = omega (arith, r.totals);
-      fit = (record { some = all.0.0; below = omega arith; src = omega arith; dst = all.0.1 }, r.fit);
+      fit = (record { some = all.0.0; below = omega arith; src = omega arith; reads = omega arith; dst = all.0.1 }, r.fit);
       rest = r.rest;
       few = omega (arith, r.few);
       last = λ z. omega (arith, r.last z);
@@ -122,7 +123,7 @@ cut_right a n (d ∷ ds) some below fits enough all =
       sources = append-nil (range_with_len a n);
       destinations = ap (λ (xs : List ℕ). xs ++ places ds) (append-nil (range_with_len d.addr n) ∙ ap (range_with_len d.addr) same);
       totals = omega arith;
-      fit = (record { some = some; below = below; src = omega arith; dst = omega (arith, all.0.1) }, tt);
+      fit = (record { some = some; below = below; src = omega arith; reads = omega arith; dst = omega (arith, all.0.1) }, tt);
       rest = all.1;
       few = omega arith;
       last = λ z. omega arith;

@@ -9,6 +9,7 @@ use Rattle.dma_mem.specs.Image.{laid}
 use Rattle.dma_mem.specs.Places.{Descriptor, destinations, moves, size_of}
 use Rattle.dma_mem.proofs.ImageOver.{get_or-after_moves_other}
 use Rattle.dma_mem.proofs.OverTransfers.{moves-writes}
+use Rattle.dma_chan.specs.declared.bus.Bus.TheVariants.{Ideal}
 use Rattle.dma_chan.specs.declared.exec.Registers.{Registers}
 use Rattle.dma_chan.specs.declared.turn.ChanTurn.{ChanTurn}
 use Rattle.dma_chan.specs.declared.turn.ChanTurn.TheVariants.{Moved, Waiting, Ended, Fault}
@@ -55,21 +56,21 @@ record Along (program : List ℕ) (t : Descriptor) (n : ℕ) (image : List ℕ) 
   has : channel.program ≡ Some (record { bytes = program; cost = None })
   registers : channel.registers ≡ s.registers
   buffer : channel.buffer ≡ s.buffer
-  among : Among program t n image k s.image channel
+  among : Among Ideal program t n image k s.image channel
   others : (a : ℕ) → ¬ Contains (destinations t) a → get_or s.image a 0 ≡ get_or image a 0
   size : length s.image ≡ length image
 
 unmarked : (t : Descriptor) → Misses [] t
 unmarked t = record { reads = λ a i. refl; writes = λ a i. refl }
 
-module _ (program : List ℕ) (t : Descriptor) (n : ℕ) (image : List ℕ) (h : Explains program t n) (waits : t.wait ≡ None) (low : Fits t (length image)) where
+module _ (program : List ℕ) (t : Descriptor) (n : ℕ) (image : List ℕ) (h : Explains Ideal program t n) (waits : t.wait ≡ None) (low : Fits t (length image)) where
   first : Along program t n image 0 (opening image)
   first = record {
     channel = loaded (record { bytes = program; cost = None });
     has = refl;
     registers = refl;
     buffer = refl;
-    among = at_start program t n image (loaded (record { bytes = program; cost = None })) low (record { bytes = program; cost = None }, ([], sym (append-nil program)), refl);
+    among = at_start Ideal program t n image (loaded (record { bytes = program; cost = None })) low (record { bytes = program; cost = None }, ([], sym (append-nil program)), refl);
     others = λ a off. refl;
     size = refl;
   }
@@ -90,9 +91,9 @@ module _ (program : List ℕ) (t : Descriptor) (n : ℕ) (image : List ℕ) (h :
     where
       by : (turn : ChanTurn) → answer_at [] (at k s w) ≡ turn → answer_at [] (at k s w) ≡ Moved
       by Moved e = e
-      by (Waiting x) e = absurd (let bad : None ≡ Some x = sym waits ∙ goes_on_at program t n [] image h low k (at k s w) (Waiting x) e w.among l in cc)
-      by Ended e = absurd (goes_on_at program t n [] image h low k (at k s w) Ended e w.among l)
-      by (Fault kind) e = absurd (goes_on_at program t n [] image h low k (at k s w) (Fault kind) e w.among l (unmarked t))
+      by (Waiting x) e = absurd (let bad : None ≡ Some x = sym waits ∙ goes_on_at Ideal program t n [] image h low k (at k s w) (Waiting x) e w.among l in cc)
+      by Ended e = absurd (goes_on_at Ideal program t n [] image h low k (at k s w) Ended e w.among l)
+      by (Fault kind) e = absurd (goes_on_at Ideal program t n [] image h low k (at k s w) (Fault kind) e w.among l (unmarked t))
 
   next : (k : ℕ) (s : State) → k < n → Along program t n image k s → Along program t n image (suc k) (exec program [] s).1
   next k s l w =
@@ -108,10 +109,10 @@ module _ (program : List ℕ) (t : Descriptor) (n : ℕ) (image : List ℕ) (h :
         has = ap (λ (c : ChannelValue). c.program) is ∙ w.has;
         registers = ap (λ (c : ChannelValue). c.registers) is ∙ ap (λ (y : State). y.registers) same;
         buffer = ap (λ (c : ChannelValue). c.buffer) is ∙ ap (λ (y : State). y.buffer) same;
-        among = subst (λ (i : List ℕ). Among program t n image (suc k) i (after_step [] u).channel) images (after_next program t n [] image h low k u Moved goes w.among);
+        among = subst (λ (i : List ℕ). Among Ideal program t n image (suc k) i (after_step [] u).channel) images (after_next Ideal program t n [] image h low k u Moved goes w.among);
         others = λ a off.
             sym (ap (λ (i : List ℕ). get_or i a 0) images)
-            ∙ kept.bytes a (λ i. off (next_inside program t n h k w.channel a (is_in program t n image k s.image w.channel w.among) (nexts program t n h k w.among.within) i))
+            ∙ kept.bytes a (λ i. off (next_inside Ideal program t n h k w.channel a (is_in Ideal program t n image k s.image w.channel w.among) (nexts Ideal program t n h k w.among.within) i))
             ∙ w.others a off;
         size = ap length (sym images) ∙ kept.size ∙ w.size;
       }
@@ -126,29 +127,29 @@ module _ (program : List ℕ) (t : Descriptor) (n : ℕ) (image : List ℕ) (h :
       let w = along k (omega arith) in
       ap (λ (y : ChanTurn × State). y.0) (sym (same_step k s w)) ∙ goes_at k s l w
 
-  over : Nexts program t n n → (w : Along program t n image n (state_after [] program (opening image) n)) → answer_at [] (at n (state_after [] program (opening image) n) w) ≡ Ended
+  over : Nexts Ideal program t n n → (w : Along program t n image n (state_after [] program (opening image) n)) → answer_at [] (at n (state_after [] program (opening image) n) w) ≡ Ended
   over (Goes i less next go) w = absurd (omega (arith, less))
-  over (Ends e next) w = ends_then [] (at n (state_after [] program (opening image) n) w) (ahead_at program n End w.channel w.among.begins w.among.mirrors.registers_are next)
+  over (Ends e next) w = ends_then [] (at n (state_after [] program (opening image) n) w) (ahead_at Ideal program n End w.channel w.among.begins w.among.mirrors.registers_are next)
 
   last : (turn_after [] program (opening image) n).0 ≡ Ended
   last =
       let s = state_after [] program (opening image) n in
       let w = along n (omega arith) in
-      ap (λ (y : ChanTurn × State). y.0) (sym (same_step n s w)) ∙ over (nexts program t n h n (omega arith)) w
+      ap (λ (y : ChanTurn × State). y.0) (sym (same_step n s w)) ∙ over (nexts Ideal program t n h n (omega arith)) w
 
   last_image : (turn_after [] program (opening image) n).1.image ≡ laid image t (size_of t)
   last_image =
       let s = state_after [] program (opening image) n in
       let w = along n (omega arith) in
       let u = at n s w in
-      let done = after_next program t n [] image h low n u Ended (over (nexts program t n h n (omega arith)) w) w.among in
+      let done = after_next Ideal program t n [] image h low n u Ended (over (nexts Ideal program t n h n (omega arith)) w) w.among in
       let kept = writes_no_other [] w.channel s.image s.flags in
       let images : (step_of [] w.channel s.image s.flags).1.image ≡ (turn_after [] program (opening image) n).1.image = ap (λ (y : ChanTurn × State). y.1.image) (same_step n s w) in
       sym images
       ∙ ext_get_or 0 (step_of [] w.channel s.image s.flags).1.image (laid image t (size_of t)) (kept.size ∙ w.size ∙ sym (length-laid image t (size_of t))) (λ a l. elim (in_or_not (destinations t) a) [
         | inl i ↦ done.all a (inr i)
         | inr off ↦
-            kept.bytes a (λ i. off (next_inside program t n h n w.channel a (is_in program t n image n s.image w.channel w.among) (nexts program t n h n (omega arith)) i))
+            kept.bytes a (λ i. off (next_inside Ideal program t n h n w.channel a (is_in Ideal program t n image n s.image w.channel w.among) (nexts Ideal program t n h n (omega arith)) i))
             ∙ w.others a off
             ∙ sym (get_or-after_moves_other image (moves t (size_of t)) a (λ i. off (moves-writes t (size_of t) a i)))
       ])

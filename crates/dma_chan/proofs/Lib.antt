@@ -22,6 +22,7 @@ pub mod LayerLaws
 pub mod CopyAlone
 pub mod TwoSlices
 pub mod ReadyLaws
+pub mod LaterBursts
 pub mod BodyMoves
 pub mod BodyBlocks
 pub mod RoundCounts
@@ -37,6 +38,9 @@ pub mod SinceLoads
 pub mod LaidPlaces
 pub mod CompiledExplained
 pub mod ExplainedOnce
+pub mod OnBuses
+pub mod BusKept
+pub mod AddressesAligned
 pub mod ExplainedAlone
 pub mod RunLists
 pub mod TracerSteps

@@ -67,7 +67,7 @@ length-fill a (d ∷ ds) = ap suc (length-fill a ds)
 
 fill_fits : (a : ℕ) (ds : List Segment) → a < 2 ^ 32 → byte_count ds ≤ 2 ^ 20 → AllByRecursion IsRange ds → AllByRecursion IsPiece (map (fill_piece a) ds)
 fill_fits a [] low few all = tt
-fill_fits a (d ∷ ds) low few all = (record { some = all.0.0; below = omega arith; src = low; dst = all.0.1 }, fill_fits a ds low (omega arith) all.1)
+fill_fits a (d ∷ ds) low few all = (record { some = all.0.0; below = omega arith; src = low; reads = omega (arith, low); dst = all.0.1 }, fill_fits a ds low (omega arith) all.1)
 
 -- the pieces of a fill's one place
 pub fill_pieces-one : (a : ℕ) (src dst : List Segment) → src ≡ record { addr = a; len = 1 } ∷ [] → map (fill_piece a) dst ≡ fill_pieces src dst

@@ -1,15 +1,22 @@
 -- The limits, as numbers, and a program worked out: rows computed from the definitions, and the code's own constants.
 -- And what a law refuses.
-use Rattle.std.proofs.Common.{◌≡◌, ℕ, ◌+◌, ◌*◌, ◌^◌, ◌≤◌, [], ◌∷◌, Some, None, false, refl, sym, ◌∙◌, arith}
+use Rattle.std.proofs.Common.{◌≡◌, ℕ, ◌+◌, ◌*◌, ◌^◌, ◌≤◌, [], ◌∷◌, map, Some, None, true, false, refl, sym, ◌∙◌, arith}
 use Rattle.dma_mem.specs.Places.{Descriptor, filling, size_of}
 use Rattle.dma_mem.specs.Rules.{IsTransfer}
 use Rattle.dma_mem.proofs.TransferRules.{size_of-some}
 use Rattle.dma_insn.specs.AssemblyText.{most_program_bytes}
+use Rattle.dma_insn.specs.ControlWord.{control_of, end_at, is_control}
 use Rattle.dma_insn.specs.declared.assembler.TheConstants.{MAX_PROGRAM_BYTES}
+use Rattle.dma_insn.specs.declared.insn.Insn.TheVariants.{Ld}
 use Rattle.dma_chan.specs.declared.bursts.TheConstants.{BUFFER_SIZE}
-use Rattle.dma_chan.specs.Bursts.{burst_at}
+use Rattle.dma_chan.specs.declared.bus.Bus.TheVariants.{Ideal, Chip}
+use Rattle.dma_chan.specs.declared.bus.BusWidth.TheVariants.{Bits32, Bits64, Bits128}
+use Rattle.dma_chan.specs.Bursts.{burst_at, burst_len, touched}
+use Rattle.dma_chan.specs.Bus.{accepts}
 use Rattle.dma_chan.specs.Changes.{Call, HasCopied}
-use Rattle.dma_chan.specs.Exec.{buffer_size}
+use Rattle.dma_chan.specs.Written.{adjoins, range_at}
+use Rattle.dma_chan.specs.Exec.{buffer_size, start, start_on}
+use Rattle.dma_chan.specs.inner.At.{moved}
 use Rattle.dma_chan.specs.Compiled.{beat_of, parts, members, cost, compiled, most_compiled}
 use Rattle.dma_chan.specs.Traffic.{read_len, write_len}
 
@@ -38,6 +45,54 @@ most_bytes_of_a_burst = refl
 least_bytes_of_a_burst : write_len 0 ≡ 1
 unfolding burst_at
 least_bytes_of_a_burst = refl
+
+-- ---- a load of 4 beats of 4 bytes at address 6: its word is 53 if the address rises, and 52 if it doesn't
+
+-- on a chip's bus the first beat ends at 8, so that 14 bytes are read, from 6 to 19, and SAR becomes 20
+first_beat_ends_at_a_multiple : touched (burst_at (Chip Bits32) 0 6 53) ≡ 6 ∷ 7 ∷ 8 ∷ 9 ∷ 10 ∷ 11 ∷ 12 ∷ 13 ∷ 14 ∷ 15 ∷ 16 ∷ 17 ∷ 18 ∷ 19 ∷ []
+unfolding burst_at
+first_beat_ends_at_a_multiple = refl
+
+sar_after_it : (moved Ld (record (start_on (Chip Bits32)) { sar = 6; ccr = 53 })).sar ≡ 20
+unfolding burst_at
+sar_after_it = refl
+
+-- it moves as many bytes on each chip's bus, and all its 16 at 8, on the ideal bus, and if the address doesn't rise
+lengths_at_6_and_8 : map burst_len (burst_at (Chip Bits64) 0 6 53 ∷ burst_at (Chip Bits32) 0 8 53 ∷ burst_at Ideal 0 6 53 ∷ burst_at (Chip Bits32) 0 6 52 ∷ []) ≡ 14 ∷ 16 ∷ 16 ∷ 16 ∷ []
+unfolding burst_at
+lengths_at_6_and_8 = refl
+
+sar_on_the_ideal_bus : (moved Ld (record start { sar = 6; ccr = 53 })).sar ≡ 22
+unfolding burst_at
+sar_on_the_ideal_bus = refl
+
+-- after the last address SAR is 0
+sar_after_the_last_address : (moved Ld (record start { sar = 4294967280; ccr = 53 })).sar ≡ 0
+unfolding burst_at
+sar_after_the_last_address = refl
+
+-- ranges that are one together, but for all 2 ^ 32 addresses
+ranges_up_to_the_last_address : adjoins (range_at 1 4294967294) (range_at 4294967295 1) ∷ adjoins (range_at 0 4294967295) (range_at 4294967295 1) ∷ [] ≡ true ∷ false ∷ []
+ranges_up_to_the_last_address = refl
+
+-- ---- control words that a bus accepts: source beats of four, eight and 16 bytes, destination beats of eight
+
+words_on_32_bits : map (λ w. accepts (Chip Bits32) w) (4 ∷ 6 ∷ 8 ∷ 98304 ∷ []) ≡ true ∷ false ∷ false ∷ false ∷ []
+unfolding is_control control_of end_at
+words_on_32_bits = refl
+
+words_on_64_bits : map (λ w. accepts (Chip Bits64) w) (4 ∷ 6 ∷ 8 ∷ 98304 ∷ []) ≡ true ∷ true ∷ false ∷ true ∷ []
+unfolding is_control control_of end_at
+words_on_64_bits = refl
+
+-- 32-byte beats, whose code is 5, fit no bus
+words_on_128_bits : map (λ w. accepts (Chip Bits128) w) (8 ∷ 10 ∷ []) ≡ true ∷ false ∷ []
+unfolding is_control control_of end_at
+words_on_128_bits = refl
+
+words_on_ideal : map (λ w. accepts Ideal w) (8 ∷ 10 ∷ []) ≡ true ∷ false ∷ []
+unfolding is_control control_of end_at
+words_on_ideal = refl
 
 -- ---- a program
 

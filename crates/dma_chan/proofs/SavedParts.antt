@@ -6,7 +6,8 @@ use Rattle.std.specs.Prelude.{is_some, IfSome}
 use Rattle.std.specs.Int.{w32, to_le_bytes}
 use Rattle.dma_chan.specs.declared.save.head.Head.{Head}
 use Rattle.dma_chan.specs.Programs.{ProgramValue}
-use Rattle.dma_chan.specs.Channel.{cost_of_program, ChannelValue, bytes_of_program, code_of}
+use Rattle.dma_chan.specs.declared.bus.Bus.{Bus}
+use Rattle.dma_chan.specs.Channel.{cost_of_program, ChannelValue, bytes_of_program, code_of, on_bus}
 use Rattle.dma_chan.specs.Saved.{AreBytes, IsLoadedAt, IsChannelValue, checksum, sealed, head_of, head_bytes, register_bytes, saved}
 use Rattle.dma_chan.specs.inner.Saves.{buffer_in, program_in, channel_in, HasHeadRanges, LoadsWhole, FitsIn}
 
@@ -78,6 +79,23 @@ head_ranges c v = record {
   buffer_len = omega (arith, v.buffer_limit);
   program_len = omega (arith, code_fits c.registers.pc c.program v.program);
 }
+
+-- a channel on another bus has the same save, and still satisfies what every channel does
+pub value_on : (bus : Bus) (c : ChannelValue) → IsChannelValue c → IsChannelValue (on_bus bus c)
+value_on bus c v =
+    let r = v.registers in
+    record {
+      registers = record { pc = r.pc; sar = r.sar; dar = r.dar; ccr = r.ccr; control = r.control; lc0 = r.lc0; lc1 = r.lc1 };
+      program = v.program;
+      buffer_limit = v.buffer_limit;
+      buffer = v.buffer;
+      taken = v.taken;
+      few = v.few;
+    }
+
+pub saved_on : (bus : Bus) (c : ChannelValue) → saved (on_bus bus c) ≡ saved c
+unfolding saved head_bytes register_bytes
+saved_on bus c = refl
 
 -- what follows the head in the save of a channel
 abbrev pub rest_of : ChannelValue → List ℕ

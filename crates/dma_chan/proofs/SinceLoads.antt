@@ -8,6 +8,7 @@ use Rattle.std.proofs.lemmas.List.FromFn.{get_or-map-range_with_len, length-map-
 use Rattle.dma_mem.specs.declared.segment.Segment.{Segment}
 use Rattle.dma_mem.specs.Places.{Descriptor, destinations, sources}
 use Rattle.dma_mem.specs.Image.{laid}
+use Rattle.dma_chan.specs.declared.bus.Bus.{Bus}
 use Rattle.dma_chan.specs.declared.turn.ChanTurn.{ChanTurn}
 use Rattle.dma_chan.specs.declared.turn.ChanTurn.TheVariants.{Moved, Waiting, Ended, Fault}
 use Rattle.dma_chan.specs.Channel.{ChannelValue}
@@ -33,42 +34,42 @@ first_agrees t k f g first memory h same left w = record {
   kept = λ a touches off. left a touches ∙ w.kept a touches off ∙ sym (same a touches);
 }
 
-module _ (program : List ℕ) (t : Descriptor) (n : ℕ) (first : List ℕ) (h : Explains program t n) (low : Fits t (length first)) where
+module _ (bus : Bus) (program : List ℕ) (t : Descriptor) (n : ℕ) (first : List ℕ) (h : Explains bus program t n) (low : Fits t (length first)) where
   abbrev IsLaid : Machine → Type 0
   IsLaid v = (a : ℕ) → Touches t a → get_or v.image a 0 ≡ get_or (laid first t v.channel.stored) a 0
 
-  runs_laid : (v : Machine) → Runs program t n first v → IsLaid v
+  runs_laid : (v : Machine) → Runs bus program t n first v → IsLaid v
   runs_laid v r a touches = r.1.mirrors.same a touches ∙ ap (λ (k : ℕ). get_or (laid first t k) a 0) (sym r.1.stored)
 
-  leads_laid : (o : Option ChanTurn) (v : Machine) → Leads program t n first o v → IsLaid v
+  leads_laid : (o : Option ChanTurn) (v : Machine) → Leads bus program t n first o v → IsLaid v
   leads_laid None v r = runs_laid v r
   leads_laid (Some Moved) v r = runs_laid v r
   leads_laid (Some (Waiting x)) v r = runs_laid v r
   leads_laid (Some (Fault kind)) v r = runs_laid v r
   leads_laid (Some Ended) v d = λ a touches. d.all a touches ∙ ap (λ (k : ℕ). get_or (laid first t k) a 0) (sym d.stored)
 
-  has_first : (o : Option ChanTurn) (v : Machine) → Leads program t n first o v → HasFirst t v.channel.stored (bytes_in first) (bytes_in v.image)
+  has_first : (o : Option ChanTurn) (v : Machine) → Leads bus program t n first o v → HasFirst t v.channel.stored (bytes_in first) (bytes_in v.image)
   has_first o v r =
       let k = v.channel.stored in
       first_agrees t k (bytes_in first) (bytes_in (laid first t k)) (bytes_in first) (bytes_in v.image) h.copy (λ a touches. refl) (leads_laid o v r) (laid_by_fits t first k h.copy low)
 
-  pub leads : (c : Call) → Runs program t n first c.found → DoesCall c → Leads program t n first c.last c.left
-  leads c r does = call program t n c.marks first h low c.found c.left c.most c.taken c.last r does.steps
+  pub leads : (c : Call) → Runs bus program t n first c.found → DoesCall c → Leads bus program t n first c.last c.left
+  leads c r does = call bus program t n c.marks first h low c.found c.left c.most c.taken c.last r does.steps
 
   -- a channel that runs the program executes it
-  runs_in : (s : Machine) → Runs program t n first s → Executes program n s.channel
-  runs_in s r = (r.0, is_in program t n first r.0 s.image s.channel r.1)
+  runs_in : (s : Machine) → Runs bus program t n first s → Executes bus program n s.channel
+  runs_in s r = (r.0, is_in bus program t n first r.0 s.image s.channel r.1)
 
-  pub has_copied : (c : Call) → Runs program t n first c.found → DoesCall c → HasCopied t (bytes_in first) (bytes_in c.left.image) c
+  pub has_copied : (c : Call) → Runs bus program t n first c.found → DoesCall c → HasCopied t (bytes_in first) (bytes_in c.left.image) c
   has_copied c r does = record {
     bytes = has_first c.last c.left (leads c r does);
     writes = λ a i.
-        let stays = call_stays_in program t n c.marks c.found c.most c.taken c.last c.left h (runs_in c.found r) does.steps in
+        let stays = call_stays_in bus program t n c.marks c.found c.most c.taken c.last c.left h (runs_in c.found r) does.steps in
         stays.writes a (subst (λ (w : Segment). LiesIn w a) does.written i);
-    signals = λ e reported. signalled program t n c.marks first h low c.found c.left c.most c.taken c.last e r does.steps (sym does.signal ∙ reported);
-    ends = λ over. (subst (λ (o : Option ChanTurn). Leads program t n first o c.left) over (leads c r does)).stored;
-    waits = λ e is. call_waits program t n c.marks first h low c.found c.left c.most c.taken e c.last r does.steps is;
-    never_fails = λ kind none. call_fails program t n c.marks first h low c.found c.left c.most c.taken c.last kind none r does.steps;
+    signals = λ e reported. signalled bus program t n c.marks first h low c.found c.left c.most c.taken c.last e r does.steps (sym does.signal ∙ reported);
+    ends = λ over. (subst (λ (o : Option ChanTurn). Leads bus program t n first o c.left) over (leads c r does)).stored;
+    waits = λ e is. call_waits bus program t n c.marks first h low c.found c.left c.most c.taken e c.last r does.steps is;
+    never_fails = λ kind none. call_fails bus program t n c.marks first h low c.found c.left c.most c.taken c.last kind none r does.steps;
   }
 
 -- ---- since the load
@@ -77,7 +78,7 @@ module _ (program : List ℕ) (t : Descriptor) (n : ℕ) (first : List ℕ) (h :
 abbrev imaged : ℕ → (ℕ → ℕ) → List ℕ
 imaged size memory = map memory (range_with_len 0 size)
 
-module _ (program : List ℕ) (t : Descriptor) (n : ℕ) (size : ℕ) (memory : ℕ → ℕ) (h : Explains program t n) (low : Fits t size) where
+module _ (bus : Bus) (program : List ℕ) (t : Descriptor) (n : ℕ) (size : ℕ) (memory : ℕ → ℕ) (h : Explains bus program t n) (low : Fits t size) where
   abbrev first : List ℕ
   first = imaged size memory
 
@@ -93,29 +94,29 @@ module _ (program : List ℕ) (t : Descriptor) (n : ℕ) (size : ℕ) (memory : 
 
   -- the channel is not finished, or it has ended
   abbrev Is : ℕ → System → Type 0
-  Is ch s = Runs program t n first (at_channel s ch) ⊎ ((s.channels ch).program ≡ None)
+  Is ch s = Runs bus program t n first (at_channel s ch) ⊎ ((s.channels ch).program ≡ None)
 
   -- a change that does not touch the channel
   kept : (ch : ℕ) (s v : System) → v.channels ch ≡ s.channels ch → KeepsTouched t s v → Is ch s → Is ch v
   kept ch s v same keeps (inl r) =
-      inl (survived program t n first (at_channel s ch) (at_channel v ch) r same (λ a touches. shows v.memory a touches ∙ keeps a touches ∙ sym (shows s.memory a touches)) (within v.memory))
+      inl (survived bus program t n first (at_channel s ch) (at_channel v ch) r same (λ a touches. shows v.memory a touches ∙ keeps a touches ∙ sym (shows s.memory a touches)) (within v.memory))
   kept ch s v same keeps (inr none) = inr (ap (λ (c : ChannelValue). c.program) same ∙ none)
 
   -- before a call on the channel
-  found : (c : Call) (s v : System) → TakesCall c s v → LendsAll t c → Is c.channel s → Runs program t n first c.found
+  found : (c : Call) (s v : System) → TakesCall c s v → LendsAll t c → Is c.channel s → Runs bus program t n first c.found
   found c s v takes lent (inl r) =
-      survived program t n first (at_channel s c.channel) c.found r takes.finds_channel (λ a touches. takes.finds a (lent a touches) ∙ sym (shows s.memory a touches)) (λ a touches. takes.within a (lent a touches))
+      survived bus program t n first (at_channel s c.channel) c.found r takes.finds_channel (λ a touches. takes.finds a (lent a touches) ∙ sym (shows s.memory a touches)) (λ a touches. takes.within a (lent a touches))
   found c s v takes lent (inr none) = absurd (not_none c.found.channel.program takes.does.is_loaded (ap (λ (d : ChannelValue). d.program) takes.finds_channel ∙ none))
 
   -- after the call
-  left : (c : Call) (s v : System) → TakesCall c s v → LendsAll t c → Runs program t n first c.left ⊎ (c.left.channel.program ≡ None) → Is c.channel v
+  left : (c : Call) (s v : System) → TakesCall c s v → LendsAll t c → Runs bus program t n first c.left ⊎ (c.left.channel.program ≡ None) → Is c.channel v
   left c s v takes lent (inl r) =
-      inl (survived program t n first c.left (at_channel v c.channel) r takes.leaves_channel (λ a touches. shows v.memory a touches ∙ takes.leaves a (lent a touches)) (within v.memory))
+      inl (survived bus program t n first c.left (at_channel v c.channel) r takes.leaves_channel (λ a touches. shows v.memory a touches ∙ takes.leaves a (lent a touches)) (within v.memory))
   left c s v takes lent (inr none) = inr (ap (λ (d : ChannelValue). d.program) takes.leaves_channel ∙ none)
 
   called : (c : Call) (s v : System) → TakesCall c s v → LendsAll t c → Is c.channel s → Is c.channel v
   called c s v takes lent i =
-      left c s v takes lent (either_way program t n first c.last c.left (leads program t n first h (within memory) c (found c s v takes lent i) takes.does))
+      left c s v takes lent (either_way bus program t n first c.last c.left (leads bus program t n first h (within memory) c (found c s v takes lent i) takes.does))
 
   changed : (ch : ℕ) (change : Change) (s v : System) → Does change s v → LeavesAlone t ch change s v → Is ch s → Is ch v
   changed ch (Sets other c) s v does alone i = elim (cases_eq other ch) [
@@ -130,7 +131,7 @@ module _ (program : List ℕ) (t : Descriptor) (n : ℕ) (size : ℕ) (memory : 
 
   copied : (c : Call) (s v : System) → TakesCall c s v → LendsAll t c → Is c.channel s → HasCopied t memory v.memory c
   copied c s v takes lent i =
-      let all = has_copied program t n first h (within memory) c (found c s v takes lent i) takes.does in
+      let all = has_copied bus program t n first h (within memory) c (found c s v takes lent i) takes.does in
       record {
         bytes = first_agrees t c.left.channel.stored (bytes_in first) (bytes_in c.left.image) memory v.memory h.copy
             (λ a touches. sym (shows memory a touches)) (λ a touches. takes.leaves a (lent a touches)) all.bytes;
@@ -141,7 +142,7 @@ module _ (program : List ℕ) (t : Descriptor) (n : ℕ) (size : ℕ) (memory : 
         never_fails = all.never_fails;
       }
 
-module _ (program : List ℕ) (t : Descriptor) (n : ℕ) (changes : ℕ → Change) (states : ℕ → System) (load now : ℕ) (c : Call) (h : Explains program t n) (does : DoesAll changes states load (now + 1)) (since : SinceLoad program t changes states load now c (λ k. LeavesAlone t c.channel)) where
+module _ (bus : Bus) (program : List ℕ) (t : Descriptor) (n : ℕ) (changes : ℕ → Change) (states : ℕ → System) (load now : ℕ) (c : Call) (h : Explains bus program t n) (does : DoesAll changes states load (now + 1)) (since : SinceLoad bus program t changes states load now c (λ k. LeavesAlone t c.channel)) where
   takes : TakesCall c (states now) (states (now + 1))
   takes = let later = since.later in subst (λ (x : Change). Does x (states now) (states (now + 1))) since.is_call (does now (omega arith) (omega arith))
 
@@ -153,24 +154,24 @@ module _ (program : List ℕ) (t : Descriptor) (n : ℕ) (changes : ℕ → Chan
   low = λ a touches. takes.within a (since.lent a touches)
 
   abbrev Is_at : ℕ → Type 0
-  Is_at k = Is program t n size (states load).memory h low c.channel (states k)
+  Is_at k = Is bus program t n size (states load).memory h low c.channel (states k)
 
   after_load : Is_at (load + 1)
   after_load =
       let later = since.later in
       let memory = (states load).memory in
       let d = subst (λ (x : Change). Does x (states load) (states (load + 1))) since.loads.2 (does load (omega arith) (omega arith)) in
-      let start = subst (IsLoadedWith program) (sym d.0) since.loads.1 in
+      let start = subst (IsLoadedWith bus program) (sym d.0) since.loads.1 in
       let s = states (load + 1) in
-      kept program t n size memory h low c.channel (record s { memory = memory }) s refl (λ a touches. d.1.1 a)
-      (inl (at_first program t n (imaged size memory) (record { channel = s.channels c.channel; image = imaged size memory; flags = [] }) (within program t n size memory h low memory) start refl))
+      kept bus program t n size memory h low c.channel (record s { memory = memory }) s refl (λ a touches. d.1.1 a)
+      (inl (at_first bus program t n (imaged size memory) (record { channel = s.channels c.channel; image = imaged size memory; flags = [] }) (within bus program t n size memory h low memory) start refl))
 
   along : (d : ℕ) → load + 1 + d ≤ now → Is_at (load + 1 + d)
   along zero l = let e : load + 1 ≡ load + 1 + zero = omega arith in subst Is_at e after_load
   along (suc d) l =
       let k = load + 1 + d in
       let e : k + 1 ≡ load + 1 + suc d = omega arith in
-      subst Is_at e (changed program t n size (states load).memory h low c.channel (changes k) (states k) (states (k + 1)) (does k (omega arith) (omega arith)) (since.spares k (omega arith) (omega arith)) (along d (omega arith)))
+      subst Is_at e (changed bus program t n size (states load).memory h low c.channel (changes k) (states k) (states (k + 1)) (does k (omega arith) (omega arith)) (since.spares k (omega arith) (omega arith)) (along d (omega arith)))
 
   at_call : Is_at now
   at_call =
@@ -179,24 +180,24 @@ module _ (program : List ℕ) (t : Descriptor) (n : ℕ) (changes : ℕ → Chan
       subst Is_at e (along (now - (load + 1)) (omega arith))
 
   has_all : HasCopied t (states load).memory (states (now + 1)).memory c
-  has_all = copied program t n size (states load).memory h low c (states now) (states (now + 1)) takes since.lent at_call
+  has_all = copied bus program t n size (states load).memory h low c (states now) (states (now + 1)) takes since.lent at_call
 
 pub copies_since_load : CopiesSinceLoad
-copies_since_load program t n changes states load now c h does since = has_all program t n changes states load now c h does since
+copies_since_load bus program t n changes states load now c h does since = has_all bus program t n changes states load now c h does since
 
 -- ---- among other transfers
 
 -- a channel that executes a transfer, if a call can be made on it
 abbrev Copies : Descriptor → ChannelValue → Type 0
-Copies t c = (program : List ℕ) × (n : ℕ) × Explains program t n × Executes program n c
+Copies t c = (bus : Bus) × (program : List ℕ) × (n : ℕ) × Explains bus program t n × Executes bus program n c
 
 executes : (t : Descriptor) (c : ChannelValue) → IsSome c.program → Holds (Some t) c → Copies t c
 executes t c some (inl none) = absurd (not_none c.program some none)
 executes t c some (inr w) = w
 
-still : (program : List ℕ) (t : Descriptor) (n : ℕ) (c : ChannelValue) → Explains program t n → Executes program n c ⊎ (c.program ≡ None) → Holds (Some t) c
-still program t n c h (inl w) = inr (program, n, h, w)
-still program t n c h (inr none) = inl none
+still : (bus : Bus) (program : List ℕ) (t : Descriptor) (n : ℕ) (c : ChannelValue) → Explains bus program t n → Executes bus program n c ⊎ (c.program ≡ None) → Holds (Some t) c
+still bus program t n c h (inl w) = inr (bus, program, n, h, w)
+still bus program t n c h (inr none) = inl none
 
 module _ (c : Call) (s v : System) (takes : TakesCall c s v) where
   -- before the call the channel executes its transfer
@@ -208,14 +209,14 @@ module _ (c : Call) (s v : System) (takes : TakesCall c s v) where
   holds_on None holds = tt
   holds_on (Some t) holds =
       let w = finds t holds in
-      let stays = call_stays_in w.0 t w.1 c.marks c.found c.most c.taken c.last c.left w.2 w.3 takes.does.steps in
-      subst (Holds (Some t)) (sym takes.leaves_channel) (still w.0 t w.1 c.left.channel w.2 stays.channel)
+      let stays = call_stays_in w.0 w.1 t w.2 c.marks c.found c.most c.taken c.last c.left w.3 w.4 takes.does.steps in
+      subst (Holds (Some t)) (sym takes.leaves_channel) (still w.0 w.1 t w.2 c.left.channel w.3 stays.channel)
 
   outside : (t : Descriptor) (o : Option Descriptor) → Holds o (s.channels c.channel) → WritesElsewhere t o c → (a : ℕ) → Touches t a → ¬ LiesIn c.written a
   outside t None holds off a touches i = off a touches i
   outside t (Some u) holds apart a touches i =
       let w = finds u holds in
-      let stays = call_stays_in w.0 u w.1 c.marks c.found c.most c.taken c.last c.left w.2 w.3 takes.does.steps in
+      let stays = call_stays_in w.0 w.1 u w.2 c.marks c.found c.most c.taken c.last c.left w.3 w.4 takes.does.steps in
       apart a touches (stays.writes a (subst (λ (r : Segment). LiesIn r a) takes.does.written i))
 
   elsewhere : (t : Descriptor) (o : Option Descriptor) → Holds o (s.channels c.channel) → WritesElsewhere t o c → KeepsTouched t s v
@@ -266,8 +267,8 @@ module _ (own : ℕ → ℕ → Option Descriptor) (changes : ℕ → Change) (s
       subst (λ (j : ℕ). Holds (own j ch) ((states j).channels ch)) e (hold (k - from) (omega arith) ch)
 
 pub channels_copy : ChannelsCopy
-channels_copy program t n own changes states load now c h does have since =
-    copies_since_load program t n changes states load now c h does (record {
+channels_copy bus program t n own changes states load now c h does have since =
+    copies_since_load bus program t n changes states load now c h does (record {
       later = since.later;
       loads = since.loads;
       is_call = since.is_call;

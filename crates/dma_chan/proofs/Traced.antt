@@ -19,6 +19,7 @@ use Rattle.dma_mem.specs.declared.marks.MarkKind.TheVariants.{Reading, Writing}
 use Rattle.dma_mem.proofs.ImageOver.{after_moves-more, get_or-after_moves_other, length-after_moves}
 use Rattle.dma_mem.proofs.ImagePut.{get_or-put, length-put}
 use Rattle.dma_mem.proofs.OverTransfers.{keys_in, once_parts, moves-writes, drop-zip, take-zip, carried-zip}
+use Rattle.dma_chan.specs.declared.bus.Bus.{Bus}
 use Rattle.dma_chan.specs.declared.bursts.Burst.{Burst}
 use Rattle.dma_chan.specs.declared.exec.Registers.{Registers}
 use Rattle.dma_chan.specs.declared.turn.ChanTurn.{ChanTurn}
@@ -62,16 +63,16 @@ grows_on x y z f g = record {
   stores = g.stores ∙ ap (λ (xs : List ℕ). xs ++ g.more_stores) f.stores ∙ append_assoc x.stores f.more_stores g.more_stores;
 }
 
-pub grows_to : (program : List ℕ) (k m : ℕ) → k ≤ m → Grows (traced program k) (traced program m)
-grows_to program k zero l =
+pub grows_to : (bus : Bus) (program : List ℕ) (k m : ℕ) → k ≤ m → Grows (traced bus program k) (traced bus program m)
+grows_to bus program k zero l =
     let e : k ≡ zero = omega arith in
-    grows_none (traced program k) (traced program zero) (ap (λ (j : ℕ). (traced program j).loads) (sym e)) (ap (λ (j : ℕ). (traced program j).stores) (sym e))
-grows_to program k (suc m) l =
+    grows_none (traced bus program k) (traced bus program zero) (ap (λ (j : ℕ). (traced bus program j).loads) (sym e)) (ap (λ (j : ℕ). (traced bus program j).stores) (sym e))
+grows_to bus program k (suc m) l =
     elim (cases_lt m k) [
       | inl last ↦
           let e : k ≡ suc m = omega arith in
-          grows_none (traced program k) (traced program (suc m)) (ap (λ (j : ℕ). (traced program j).loads) (sym e)) (ap (λ (j : ℕ). (traced program j).stores) (sym e))
-      | inr le ↦ grows_on (traced program k) (traced program m) (traced program (suc m)) (grows_to program k m le) (grows_fetch (next_in program (traced program m)) (traced program m))
+          grows_none (traced bus program k) (traced bus program (suc m)) (ap (λ (j : ℕ). (traced bus program j).loads) (sym e)) (ap (λ (j : ℕ). (traced bus program j).stores) (sym e))
+      | inr le ↦ grows_on (traced bus program k) (traced bus program m) (traced bus program (suc m)) (grows_to bus program k m le) (grows_fetch (next_in program (traced bus program m)) (traced bus program m))
     ]
 
 -- the addresses of a burst that rises, as many as its bytes

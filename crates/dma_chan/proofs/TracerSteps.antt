@@ -1,12 +1,11 @@
 -- The instructions of a run without memory, as its tracer keeps them.
-use Rattle.std.proofs.Common.{◌≡◌, ◌≢◌, ℕ, zero, suc, ◌+◌, ◌-◌, ◌*◌, ◌≤◌, ◌<◌, ◌⊎◌, Bool, true, false, cond, ◌&&◌, List, [], ◌∷◌, ◌++◌, length, Option, Some, None, Result, Ok, Err, refl, sym, ap, ◌∙◌, subst, arith, inl, inr, append_assoc, append-nil, length-append, IfErr, OnErr, OnOk, All}
+use Rattle.std.proofs.Common.{◌≡◌, ◌≢◌, ℕ, zero, suc, ◌+◌, ◌-◌, ◌*◌, ◌≤◌, ◌<◌, ◌⊎◌, Bool, true, false, cond, ◌&&◌, List, [], ◌∷◌, ◌++◌, length, Option, Some, None, Result, Ok, Err, refl, sym, ap, ◌∙◌, subst, arith, inl, inr, append_assoc, append-nil, length-append, IfErr, OnErr, OnOk, All, ◌^◌}
+use Rattle.std.proofs.Math.Nat.{mod-eq_of_lt}
 use Rattle.std.specs.Prelude.{is_err, is_some, nat_lt, replicate}
 use Rattle.std.specs.List.{Contains, flat_map, range_with_len}
 use Rattle.std.proofs.lemmas.List.FromFn.{length-range_with_len}
 use Rattle.std.proofs.lemmas.List.Elements.{Contains-append_right}
-use Rattle.std.proofs.lemmas.Nat.{mul-le}
 use Rattle.std.proofs.lemmas.Bool.{lt-ltb, cases_lt, true≢false}
-use Rattle.dma_insn.specs.ControlWord.{is_control}
 use Rattle.dma_insn.specs.declared.insn.Counter.{Counter}
 use Rattle.dma_insn.specs.declared.insn.Reg.{Reg}
 use Rattle.dma_insn.specs.declared.insn.Reg.TheVariants.{Sar, Dar, Ccr}
@@ -15,6 +14,7 @@ use Rattle.dma_insn.specs.declared.insn.Insn.TheVariants.{Mov, Ld, St, Rmb, Wmb,
 use Rattle.dma_mem.specs.declared.segment.Segment.{Segment}
 use Rattle.dma_mem.specs.Places.{Descriptor, places, range_of, size_of}
 use Rattle.dma_mem.proofs.SharedPlaces.{in_range}
+use Rattle.dma_chan.specs.Bus.{accepts}
 use Rattle.dma_chan.specs.declared.bursts.Burst.{Burst}
 use Rattle.dma_chan.specs.declared.exec.Registers.{Registers}
 use Rattle.dma_chan.specs.declared.explain.Cause.{Cause}
@@ -22,11 +22,13 @@ use Rattle.dma_chan.specs.declared.explain.tracer.Tracer.{Tracer}
 use Rattle.dma_chan.specs.declared.turn.ChanTurn.{ChanTurn}
 use Rattle.dma_chan.specs.declared.turn.ChanTurn.TheVariants.{Moved}
 use Rattle.dma_chan.specs.Bursts.{advance, burst_len, span_of, touched}
-use Rattle.dma_chan.specs.Exec.{State, source_of, destination_of, counter_of, state}
+use Rattle.dma_chan.specs.Exec.{State, source_of, destination_of, counter_of, state, wrapped}
 use Rattle.dma_chan.specs.Explains.{GoesOn, Trace, after_insn}
 use Rattle.dma_chan.specs.inner.Acts.{SetsRegisters}
 use Rattle.dma_chan.specs.inner.At.{moved}
+use Rattle.dma_chan.specs.inner.Spans.{MovesSome}
 use Rattle.dma_chan.specs.inner.Tracing.{Advances, Agrees, Could, IsRun, IsTracer, IsWait, Passes, Sets, Stops, trace_of}
+use Rattle.dma_chan.proofs.BurstReach.{some_len}
 use Rattle.dma_chan.proofs.CallWrites.{act_leads}
 use Rattle.dma_chan.proofs.ControlWords.{advance_up}
 use Rattle.dma_chan.proofs.MemberActs.{cannot_jump}
@@ -49,7 +51,7 @@ plain r = state r [] [] []
 pub mov_passes : (reg : Reg) (v : ℕ) (r after : Registers) (turn : ChanTurn) → SetsRegisters (Mov reg v) r turn after → turn ≡ Moved → Passes (Mov reg v) r
 mov_passes Sar v r after turn sets e = tt
 mov_passes Dar v r after turn sets e = tt
-mov_passes Ccr v r after turn sets e = only_true (is_control v) _ _ (λ f. cc) (ap (λ (x : ChanTurn × State). x.0) (sets [] [] [] []) ∙ e)
+mov_passes Ccr v r after turn sets e = only_true (accepts r.bus v) _ _ (λ f. cc) (ap (λ (x : ChanTurn × State). x.0) (sets [] [] [] []) ∙ e)
 
 no_jump : (n pc back : ℕ) → (nat_lt 0 n && nat_lt pc back) ≡ false → 0 < n → back ≤ pc
 no_jump n pc back e some = elim (cases_lt pc back) [
@@ -179,11 +181,13 @@ pub none_from : (o : Option ℕ) → false ≡ is_some o → o ≡ None
 none_from None e = refl
 none_from (Some x) e = absurd (cc)
 
-pub loaded_registers : (r : Registers) (b : Burst) (n : ℕ) → b ≡ source_of r → n ≡ advance b → record r { pc = r.pc + 1; sar = r.sar + n } ≡ moved Ld r
-loaded_registers r b n is e = ap (λ (k : ℕ). record r { pc = r.pc + 1; sar = r.sar + k }) (e ∙ ap advance is)
+pub loaded_registers : (r : Registers) (b : Burst) (n : ℕ) → b ≡ source_of r → n ≡ advance b → r.sar + n < 2 ^ 32 → record r { pc = r.pc + 1; sar = r.sar + n } ≡ moved Ld r
+loaded_registers r b n is e low =
+    ap (λ (a : ℕ). record r { pc = r.pc + 1; sar = a }) (sym (mod-eq_of_lt low) ∙ ap (λ (k : ℕ). wrapped (r.sar + k)) (e ∙ ap advance is))
 
-pub stored_registers : (r : Registers) (b : Burst) (n : ℕ) → b ≡ destination_of r → b.increments ≡ true → n ≡ burst_len b → record r { pc = r.pc + 1; dar = r.dar + n } ≡ moved St r
-stored_registers r b n is up e = ap (λ (k : ℕ). record r { pc = r.pc + 1; dar = r.dar + k }) (e ∙ sym (advance_up b (burst_len b) up refl) ∙ ap advance is)
+pub stored_registers : (r : Registers) (b : Burst) (n : ℕ) → b ≡ destination_of r → b.increments ≡ true → n ≡ burst_len b → r.dar + n < 2 ^ 32 → record r { pc = r.pc + 1; dar = r.dar + n } ≡ moved St r
+stored_registers r b n is up e low =
+    ap (λ (a : ℕ). record r { pc = r.pc + 1; dar = a }) (sym (mod-eq_of_lt low) ∙ ap (λ (k : ℕ). wrapped (r.dar + k)) (e ∙ sym (advance_up b (burst_len b) up refl) ∙ ap advance is))
 
 -- the range of a burst that rises
 pub touched_span : (b : Burst) (s : Segment) → b.increments ≡ true → s.addr ≡ b.addr → s.len ≡ span_of b → range_of s ≡ touched b
@@ -196,12 +200,12 @@ fixed_length zero xs = omega arith
 fixed_length (suc k) xs = omega (arith, length-append xs (flat_map (λ ys. ys) (replicate k xs)), fixed_length k xs)
 
 -- a burst touches as many addresses as it has bytes, each beat of a fixed one the same
-pub length_touched : (b : Burst) → length (touched b) ≡ burst_len b
-length_touched b = by b.increments refl
+pub length_touched : (b : Burst) → MovesSome b → length (touched b) ≡ burst_len b
+length_touched b some = by b.increments refl
   where
     by : (i : Bool) → b.increments ≡ i → length (touched b) ≡ burst_len b
     by true e = length_up b e
-    by false e = ap length (sym (touched_again b e)) ∙ fixed_length b.beats (range_with_len b.addr b.size) ∙ ap (λ (n : ℕ). b.beats * n) (length-range_with_len b.addr b.size)
+    by false e = ap length (sym (touched_again b e)) ∙ fixed_length b.beats (range_with_len b.addr b.size) ∙ ap (λ (n : ℕ). b.beats * n) (length-range_with_len b.addr b.size) ∙ omega (arith, some.fixed e)
 
 -- ---- where no copy goes on
 
@@ -241,31 +245,31 @@ set_stops (Ok v) i x h f g = tt
 set_stops (Err cause) i x h f g = λ _ t agrees could. h (goes_passes t.wait t.signal (size_of t) i (trace_of x) could.goes f g)
 
 -- a burst that ends above 4,294,967,295 touches an address that no copy has
-pub touches_last : (b : Burst) → 1 ≤ b.size → 1 ≤ b.beats → Contains (touched b) (b.addr + span_of b - 1)
-touches_last b size beats = by b.increments refl
+pub touches_last : (b : Burst) → MovesSome b → Contains (touched b) (b.addr + span_of b - 1)
+touches_last b h = by b.increments refl
   where
     by : (i : Bool) → b.increments ≡ i → Contains (touched b) (b.addr + span_of b - 1)
     by true e =
-        let some : 1 * 1 ≤ b.beats * b.size = mul-le 1 1 b.beats b.size beats size in
+        let some : 1 ≤ burst_len b = some_len b h in
         let long : span_of b ≡ burst_len b = rw e refl in
         subst (λ (xs : List ℕ). Contains xs (b.addr + span_of b - 1)) (touched_rising b e)
         (in_range b.addr (burst_len b) (b.addr + span_of b - 1) (omega (arith, long, some)) (omega (arith, long, some)))
     by false e =
         let long : span_of b ≡ b.size = rw e refl in
         subst (λ (xs : List ℕ). Contains xs (b.addr + span_of b - 1)) (touched_again b e)
-        (in_rounds b.beats (range_with_len b.addr b.size) (b.addr + span_of b - 1) beats
-        (in_range b.addr b.size (b.addr + span_of b - 1) (omega (arith, long, size)) (omega (arith, long, size))))
+        (in_rounds b.beats (range_with_len b.addr b.size) (b.addr + span_of b - 1) h.beats
+        (in_range b.addr b.size (b.addr + span_of b - 1) (omega (arith, long, h.size)) (omega (arith, long, h.size))))
 
-pub load_past : (x : Tracer) (b : Burst) (t : Descriptor) → b ≡ source_of x.registers → 1 ≤ b.size → 1 ≤ b.beats → 4294967295 < b.addr + span_of b → ¬ Could t Ld (trace_of x)
-load_past x b t is size beats high could =
+pub load_past : (x : Tracer) (b : Burst) (t : Descriptor) → b ≡ source_of x.registers → MovesSome b → 4294967295 < b.addr + span_of b → ¬ Could t Ld (trace_of x)
+load_past x b t is some high could =
     let a = b.addr + span_of b - 1 in
-    let there = Contains-append_right (places x.src.items) (touched (source_of x.registers)) a (subst (λ (c : Burst). Contains (touched c) a) is (touches_last b size beats)) in
+    let there = Contains-append_right (places x.src.items) (touched (source_of x.registers)) a (subst (λ (c : Burst). Contains (touched c) a) is (touches_last b some)) in
     omega (arith, could.low a (inl there), high)
 
-pub store_past : (x : Tracer) (b : Burst) (t : Descriptor) → b ≡ destination_of x.registers → 1 ≤ b.size → 1 ≤ b.beats → 4294967295 < b.addr + span_of b → ¬ Could t St (trace_of x)
-store_past x b t is size beats high could =
+pub store_past : (x : Tracer) (b : Burst) (t : Descriptor) → b ≡ destination_of x.registers → MovesSome b → 4294967295 < b.addr + span_of b → ¬ Could t St (trace_of x)
+store_past x b t is some high could =
     let a = b.addr + span_of b - 1 in
-    let there = Contains-append_right (places x.dst.items) (touched (destination_of x.registers)) a (subst (λ (c : Burst). Contains (touched c) a) is (touches_last b size beats)) in
+    let there = Contains-append_right (places x.dst.items) (touched (destination_of x.registers)) a (subst (λ (c : Burst). Contains (touched c) a) is (touches_last b some)) in
     omega (arith, could.low a (inr there), high)
 
 pub overrun : (x : Tracer) (b : Burst) (t : Descriptor) → IsTracer x → b ≡ source_of x.registers → 256 < x.held + burst_len b → ¬ Could t Ld (trace_of x)
@@ -277,15 +281,15 @@ underrun x b t h is few could = omega (arith, ap burst_len is, could.goes.0, h.h
 pub stands_still : (x : Tracer) (b : Burst) (t : Descriptor) → b ≡ destination_of x.registers → b.increments ≡ false → ¬ Could t St (trace_of x)
 stands_still x b t is fixed could = true≢false (sym could.goes.1 ∙ sym (ap (λ (c : Burst). c.increments) is) ∙ fixed)
 
-pub stored_late : (x : Tracer) (b : Burst) (t : Descriptor) → true ≡ is_some x.signal → Agrees t x → b ≡ destination_of x.registers → 1 ≤ b.size → 1 ≤ b.beats → ¬ Could t St (trace_of x)
-stored_late x b t known agrees is size beats could = by x.signal refl
+pub stored_late : (x : Tracer) (b : Burst) (t : Descriptor) → true ≡ is_some x.signal → Agrees t x → b ≡ destination_of x.registers → MovesSome b → ¬ Could t St (trace_of x)
+stored_late x b t known agrees is moves could = by x.signal refl
   where
     by : (o : Option ℕ) → x.signal ≡ o → ⊥
     by None e = true≢false (known ∙ ap is_some e)
     by (Some v) e =
         let all = (agrees.signal v e).1 in
-        let some : 1 * 1 ≤ b.beats * b.size = mul-le 1 1 b.beats b.size beats size in
-        omega (arith, all, some, could.few, length-append (places x.dst.items) (touched (destination_of x.registers)), ap (λ (c : Burst). length (touched c)) is, length_touched b)
+        let some : 1 ≤ burst_len b = some_len b moves in
+        omega (arith, all, some, could.few, length-append (places x.dst.items) (touched (destination_of x.registers)), ap (λ (c : Burst). length (touched c)) is, length_touched b moves)
 
 -- a list of ranges has addresses unless it is empty
 pub some_places : (xs : List Segment) → All IsRun xs → length (places xs) ≡ 0 → length xs ≡ 0

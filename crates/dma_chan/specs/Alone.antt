@@ -2,6 +2,7 @@
 use Rattle.std.specs.Prelude.{◌≡◌, ℕ, ◌+◌, ◌<◌, List, None, true, length}
 use Rattle.dma_mem.specs.Image.{laid}
 use Rattle.dma_mem.specs.Places.{Descriptor, lies_below, size_of}
+use Rattle.dma_chan.specs.declared.bus.Bus.TheVariants.{Ideal}
 use Rattle.dma_chan.specs.declared.run.RunEnd.{RunEnd}
 use Rattle.dma_chan.specs.declared.run.RunEnd.TheVariants as ends
 use Rattle.dma_chan.specs.Explains.{Explains}
@@ -13,5 +14,5 @@ use Rattle.dma_chan.specs.Run.{RunsAlone}
 abbrev pub ExplainedCopiesAlone : Type 0
 ExplainedCopiesAlone =
     (program : List ℕ) (t : Descriptor) (n : ℕ) (image after : List ℕ) (limit : ℕ) (how : RunEnd) →
-    Explains program t n → t.wait ≡ None → lies_below t (length image) ≡ true → n < limit →
+    Explains Ideal program t n → t.wait ≡ None → lies_below t (length image) ≡ true → n < limit →
     RunsAlone program image limit how after → (how ≡ ends.Ended (n + 1)) × (after ≡ laid image t (size_of t))

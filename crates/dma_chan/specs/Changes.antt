@@ -5,6 +5,7 @@ use Rattle.dma_mem.specs.declared.segment.Segment.{Segment}
 use Rattle.dma_mem.specs.Places.{Descriptor, sources, destinations, size_of, lies_below}
 use Rattle.dma_mem.specs.Image.{laid}
 use Rattle.dma_mem.specs.Marking.{MarkList}
+use Rattle.dma_chan.specs.declared.bus.Bus.{Bus}
 use Rattle.dma_chan.specs.declared.turn.ChanTurn.{ChanTurn}
 use Rattle.dma_chan.specs.declared.turn.ChanTurn.TheVariants.{Ended, Fault, Waiting}
 use Rattle.dma_chan.specs.declared.turn.FaultKind.{FaultKind}
@@ -86,10 +87,10 @@ LendsAll t call = (a : ℕ) → Touches t a → call.lends a ≡ true
 -- A program that begins with these bytes is loaded into a channel by change number `load`, and change number `now` is a
 -- call on this channel. This call is lent what the transfer touches, and each change between these two spares the
 -- transfer. What happens before the load or after the call has no influence.
-pub record SinceLoad (program : List ℕ) (t : Descriptor) (changes : ℕ → Change) (states : ℕ → System) (load now : ℕ) (call : Call)
-    (Spares : ℕ → Change → System → System → Type 0) : Type 0 where
+pub record SinceLoad (bus : Bus) (program : List ℕ) (t : Descriptor) (changes : ℕ → Change) (states : ℕ → System)
+    (load now : ℕ) (call : Call) (Spares : ℕ → Change → System → System → Type 0) : Type 0 where
   pub later : load < now
-  pub loads : (c : ChannelValue) × IsLoadedWith program c × (changes load ≡ Sets call.channel c)
+  pub loads : (c : ChannelValue) × IsLoadedWith bus program c × (changes load ≡ Sets call.channel c)
   pub is_call : changes now ≡ Calls call
   pub lent : LendsAll t call
   pub spares : (k : ℕ) → load < k → k < now → Spares k (changes k) (states k) (states (k + 1))
@@ -131,9 +132,9 @@ pub record HasCopied (t : Descriptor) (first memory : ℕ → ℕ) (call : Call)
 -- Each call on a channel has copied, if a transfer explains its program and was left alone since its load.
 abbrev pub CopiesSinceLoad : Type 0
 CopiesSinceLoad =
-    (program : List ℕ) (t : Descriptor) (n : ℕ) (changes : ℕ → Change) (states : ℕ → System) (load now : ℕ)
-    (call : Call) → Explains program t n → DoesAll changes states load (now + 1) →
-    SinceLoad program t changes states load now call (λ k. LeavesAlone t call.channel) →
+    (bus : Bus) (program : List ℕ) (t : Descriptor) (n : ℕ) (changes : ℕ → Change) (states : ℕ → System) (load now : ℕ)
+    (call : Call) → Explains bus program t n → DoesAll changes states load (now + 1) →
+    SinceLoad bus program t changes states load now call (λ k. LeavesAlone t call.channel) →
     HasCopied t (states load).memory (states (now + 1)).memory call
 
 -- the bytes of an image, by their addresses
@@ -151,7 +152,9 @@ LaidByPlace =
 -- the channel has no program, or executes one that this transfer explains; without a transfer, it may have any program
 abbrev pub Holds : Option Descriptor → ChannelValue → Type 0
 Holds None c = Unit {0}
-Holds (Some t) c = (c.program ≡ None) ⊎ ((program : List ℕ) × (n : ℕ) × Explains program t n × Executes program n c)
+Holds (Some t) c =
+    (c.program ≡ None)
+    ⊎ ((bus : Bus) × (program : List ℕ) × (n : ℕ) × Explains bus program t n × Executes bus program n c)
 
 -- which transfers the channels have before and after a change
 abbrev pub Gives : Change → (ℕ → Option Descriptor) → (ℕ → Option Descriptor) → Type 0
@@ -184,8 +187,8 @@ IsApart t ch own Guest before after = KeepsTouched t before after
 -- is written to other transfers' ranges, doesn't matter.
 abbrev pub ChannelsCopy : Type 0
 ChannelsCopy =
-    (program : List ℕ) (t : Descriptor) (n : ℕ) (own : ℕ → ℕ → Option Descriptor) (changes : ℕ → Change)
-    (states : ℕ → System) (load now : ℕ) (call : Call) → Explains program t n →
+    (bus : Bus) (program : List ℕ) (t : Descriptor) (n : ℕ) (own : ℕ → ℕ → Option Descriptor) (changes : ℕ → Change)
+    (states : ℕ → System) (load now : ℕ) (call : Call) → Explains bus program t n →
     DoesAll changes states load (now + 1) → HaveTransfers own changes states load (now + 1) →
-    SinceLoad program t changes states load now call (λ k. IsApart t call.channel (own k)) →
+    SinceLoad bus program t changes states load now call (λ k. IsApart t call.channel (own k)) →
     HasCopied t (states load).memory (states (now + 1)).memory call

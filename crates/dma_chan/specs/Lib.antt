@@ -1,7 +1,9 @@
 -- Programs of one channel of a PL330 controller, and what executing them does.
 pub mod Bursts
 pub mod Next
+pub mod Bus
 pub mod Exec
+pub mod Aligned
 pub mod Programs
 pub mod Channel
 pub mod Written

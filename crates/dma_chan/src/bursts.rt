@@ -1,6 +1,6 @@
 //! The bursts of a channel: loads from memory into its buffer, and stores from its buffer to memory.
 
-ghost use Rattle.std.specs.Prelude.{◌≡◌, ◌+◌, ◌*◌, ◌≤◌, ◌<◌, ◌++◌, IsTrue, IsNone, Bool, List, length, take, drop, replicate};
+ghost use Rattle.std.specs.Prelude.{◌≡◌, ◌+◌, ◌*◌, ◌≤◌, ◌<◌, ◌++◌, IsTrue, IsNone, Bool, List, length, take, drop, replicate, false};
 ghost use Rattle.std.specs.List.{flat_map};
 ghost use Rattle.circular_buffer.specs.Buffer.{buffer as ring};
 ghost use Rattle.dma_insn.specs.declared.insn.Insn.TheVariants.{Ld, St};
@@ -8,12 +8,13 @@ ghost use Rattle.dma_insn.specs.AssemblyText.{most_program_bytes};
 ghost use Rattle.dma_insn.specs.ControlWord.{beat_bytes};
 ghost use Rattle.dma_mem.specs.Image.{put};
 ghost use Rattle.dma_mem.specs.Lent.{Avoids, with_gaps};
-ghost use Rattle.dma_chan.specs.Bursts.{burst_len, touched, writes_of, advance, reaches, span_of};
-ghost use Rattle.dma_chan.specs.inner.Spans.{rounds_of, LieIn};
+ghost use Rattle.dma_chan.specs.Bursts.{burst_len, touched, writes_of, advance, reaches, skip_of, span_of};
+ghost use Rattle.dma_chan.specs.inner.Spans.{rounds_of, LieIn, MovesSome};
 ghost use Rattle.dma_chan.specs.Exec.{source_of, destination_of, act, buffer_size, read_at, state};
 ghost use Rattle.dma_chan.specs.Ready.{none_missing};
 ghost use Rattle.dma_chan.specs.inner.Acts.{FaultsWith};
 
+use crate::bus::Bus;
 use crate::exec::{Executor, Registers};
 use crate::turn::{ChanTurn, FaultKind};
 use circular_buffer::HeapCircularBuffer;
@@ -29,48 +30,68 @@ pub const BUFFER_SIZE: usize = 256;
 // The most beats of a burst (PL330 manual, CCR).
 const MAX_BEATS: usize = 16;
 
-/// One burst: its first address, whether its addresses rise from beat to beat, the bytes of a beat, and the number of
-/// beats.
+/// One burst: its first address, whether its addresses rise from beat to beat, the bytes of a beat, the number of beats,
+/// and how many bytes the first beat leaves out.
 #[derive(Clone, Copy, PartialEq, Eq, Debug)]
 pub struct Burst {
     pub addr: u32,
     pub increments: bool,
     pub size: u32,
     pub beats: u32,
+    pub skip: u32,
+}
+
+// Returns how many bytes the first beat of a burst leaves out.
+fn skip_of(bus: Bus, increments: bool, addr: u32, size: u32) -> u32
+    requires { 1 ≤ size }
+    ensures value { result ≡ skip_of bus increments addr size }
+    ensures less { result < size }
+    ensures fixed { increments ≡ false → result ≡ 0 }
+{
+    match bus {
+        Bus::Chip(_) if increments => addr % size,
+        _ => 0,
+    }
 }
 
 impl Burst {
-    // Returns the burst that begins at this address, with the fields of one end of a control word.
-    fn of(addr: u32, end: BurstEnd) -> Burst
+    // Returns the burst that begins at this address on a bus, with the fields of one end of a control word.
+    fn of(bus: Bus, addr: u32, end: BurstEnd) -> Burst
         ensures value { result ≡ record {
           addr = addr;
           increments = end.increments;
           size = beat_bytes end.size;
           beats = end.beats;
+          skip = skip_of bus end.increments addr (beat_bytes end.size);
         } }
-        ensures some { (1 ≤ result.size) × (1 ≤ result.beats) }
+        ensures some { MovesSome result }
         ensures limit { (result.size ≤ 16) × (result.beats ≤ 16) }
     {
+        let size = end.beat_bytes();
         Burst {
             addr,
             increments: end.increments,
-            size: end.beat_bytes(),
+            size,
             beats: u32::from(end.beats.number()),
+            skip: skip_of(bus, end.increments, addr, size),
         }
     }
 
     // Returns how many bytes the burst moves.
     pub(crate) fn len(self) -> u32
-        requires { (self.size ≤ 16) × (self.beats ≤ 16) }
+        requires some { MovesSome self }
+        requires limit { (self.size ≤ 16) × (self.beats ≤ 16) }
         ensures value { result ≡ burst_len self }
+        ensures some { 1 ≤ result }
         ensures limit { result ≤ buffer_size }
     {
-        self.beats * self.size
+        self.beats * self.size - self.skip
     }
 
     // Returns the range of addresses that the burst touches. It contains each address once.
     pub(crate) fn span(self) -> Segment
-        requires { (self.size ≤ 16) × (self.beats ≤ 16) }
+        requires some { MovesSome self }
+        requires limit { (self.size ≤ 16) × (self.beats ≤ 16) }
         ensures addr { result.addr ≡ self.addr }
         ensures len { result.len ≡ span_of self }
         ensures limit { result.len ≤ buffer_size }
@@ -87,7 +108,8 @@ impl Burst {
 
     // Returns how often the burst touches each address of its span.
     fn rounds(self) -> u32
-        requires { (self.size ≤ 16) × (self.beats ≤ 16) }
+        requires some { MovesSome self }
+        requires limit { (self.size ≤ 16) × (self.beats ≤ 16) }
         ensures value { result ≡ rounds_of self }
         ensures bytes { result * span_of self ≡ burst_len self }
         ensures limit { result ≤ 16 }
@@ -97,7 +119,8 @@ impl Burst {
 
     // Returns how far the burst moves its address.
     pub(crate) fn advance(self) -> u32
-        requires { (self.size ≤ 16) × (self.beats ≤ 16) }
+        requires some { MovesSome self }
+        requires limit { (self.size ≤ 16) × (self.beats ≤ 16) }
         ensures value { result ≡ advance self }
         ensures limit { result ≤ span_of self }
     {
@@ -110,10 +133,10 @@ impl Burst {
 pub(crate) fn source_burst(registers: &Registers) -> Burst
     ensures value { result ≡ source_of registers.now }
     ensures addr { result.addr ≡ registers.now.sar }
-    ensures some { (1 ≤ result.size) × (1 ≤ result.beats) }
+    ensures some { MovesSome result }
     ensures limit { (result.size ≤ 16) × (result.beats ≤ 16) }
 {
-    Burst::of(registers.sar, registers.ccr.source())
+    Burst::of(registers.bus, registers.sar, registers.ccr.source())
 }
 
 // Returns the burst of a store.
@@ -121,10 +144,10 @@ pub(crate) fn source_burst(registers: &Registers) -> Burst
 pub(crate) fn destination_burst(registers: &Registers) -> Burst
     ensures value { result ≡ destination_of registers.now }
     ensures addr { result.addr ≡ registers.now.dar }
-    ensures some { (1 ≤ result.size) × (1 ≤ result.beats) }
+    ensures some { MovesSome result }
     ensures limit { (result.size ≤ 16) × (result.beats ≤ 16) }
 {
-    Burst::of(registers.dar, registers.ccr.destination())
+    Burst::of(registers.bus, registers.dar, registers.ccr.destination())
 }
 
 // Returns whether a burst may touch its addresses: all of them lie in the memory, none lies in a gap or in a mark of
@@ -132,7 +155,7 @@ pub(crate) fn destination_burst(registers: &Registers) -> Burst
 #[inline(always)]
 #[tactic(auto, using(crate::proofs::BurstReach::reaches_clear))]
 fn may_touch<M: Ram>(kind: MarkKind, marks: &Marks, memory: &M, burst: Burst) -> bool
-    requires some { (1 ≤ burst.size) × (1 ≤ burst.beats) }
+    requires some { MovesSome burst }
     requires limit { (burst.size ≤ 16) × (burst.beats ≤ 16) }
     ensures exact { result ≡ reaches kind (with_gaps (M.loan memory.now) marks.now)
         (length (M.paged memory.now).image) (touched burst) }
@@ -143,7 +166,7 @@ fn may_touch<M: Ram>(kind: MarkKind, marks: &Marks, memory: &M, burst: Burst) ->
     if memory.clear(kind, span) < span.len {
         return false;
     }
-    span.end() <= u64::from(memory.size()) && !marks.hits(kind, span)
+    span.end() <= memory.size() && !marks.hits(kind, span)
 }
 
 // Appends a byte to the buffer `count` times, as one run.
@@ -181,6 +204,7 @@ fn load_span<M: Ram>(
     block: &mut [u8],
     memory: &M,
 )
+    requires some { MovesSome burst }
     requires limit { (burst.size ≤ 16) × (burst.beats ≤ 16) }
     requires room { length buffer.old.items + burst_len burst ≤ buffer.old.capacity }
     requires within { burst.addr + span_of burst ≤ length (M.paged memory.now).image }
@@ -243,7 +267,7 @@ pub(crate) fn load_burst<M: Ram>(executor: &mut Executor, memory: &M, marks: &Ma
     let burst = source_burst(&executor.registers);
     load_span(burst, &mut executor.buffer, &mut executor.block, memory);
     executor.registers.pc += 1;
-    executor.registers.sar += burst.advance();
+    executor.registers.sar = executor.registers.sar.wrapping_add(burst.advance());
     ChanTurn::Moved
 }
 
@@ -270,7 +294,7 @@ fn past<'a>(front: &'a [u8], back: &'a [u8], count: usize) -> (&'a [u8], &'a [u8
 
 // Stores the oldest bytes of the buffer as a burst. Bytes that a later beat would overwrite are not written.
 fn store_span<M: Ram>(burst: Burst, buffer: &mut HeapCircularBuffer<u8>, memory: &mut M)
-    requires some { (1 ≤ burst.size) × (1 ≤ burst.beats) }
+    requires some { MovesSome burst }
     requires limit { (burst.size ≤ 16) × (burst.beats ≤ 16) }
     requires bytes { burst_len burst ≤ length buffer.old.items }
     requires within { burst.addr + span_of burst ≤ length (M.paged memory.old).image }
@@ -345,7 +369,7 @@ pub(crate) fn store_burst<M: Ram>(
     let burst = destination_burst(&executor.registers);
     store_span(burst, &mut executor.buffer, memory);
     executor.registers.pc += 1;
-    executor.registers.dar += burst.advance();
+    executor.registers.dar = executor.registers.dar.wrapping_add(burst.advance());
     ChanTurn::Moved
 }
 

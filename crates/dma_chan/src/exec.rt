@@ -5,11 +5,12 @@ ghost use Rattle.dma_insn.specs.AssemblyText.{most_program_bytes};
 ghost use Rattle.dma_insn.specs.Spelling.{spelling};
 ghost use Rattle.dma_insn.specs.declared.insn.Insn.TheVariants.{Mov, Lp, LpEnd, Sev, Wfe};
 ghost use Rattle.dma_chan.specs.Exec.{buffer_size, counter_of, act, state};
-ghost use Rattle.dma_chan.specs.inner.Acts.{FaultsAnywhere, FaultsAt, FaultsWith, SetsFlags, SetsRegisters};
+ghost use Rattle.dma_chan.specs.inner.Acts.{FaultsAt, FaultsWith, SetsFlags, SetsRegisters};
 ghost use Rattle.dma_chan.specs.Ready.{is_ready};
 ghost use Rattle.dma_mem.specs.Lent.{with_gaps};
 
 use crate::bursts::{load_burst, load_fault, store_burst, store_fault};
+use crate::bus::Bus;
 use crate::next::Next;
 use crate::turn::{ChanTurn, FaultKind};
 use circular_buffer::HeapCircularBuffer;
@@ -20,7 +21,8 @@ use dma_mem::marks::Marks;
 use dma_mem::ram::Ram;
 
 /// The registers that instructions read and change: the offset of the next instruction in the program, the source and
-/// destination addresses, the control word, and the two loop counters, the manual's SAR, DAR, CCR, LC0 and LC1.
+/// destination addresses, the control word, and the two loop counters, the manual's SAR, DAR, CCR, LC0 and LC1. Beside
+/// them the channel's bus, which no instruction changes.
 #[derive(Clone, Copy, PartialEq, Eq, Debug)]
 pub struct Registers {
     pub pc: u32,
@@ -29,14 +31,15 @@ pub struct Registers {
     pub ccr: ControlWord,
     pub lc0: u8,
     pub lc1: u8,
+    pub bus: Bus,
 }
 
 impl Registers {
-    ghost use Rattle.dma_chan.specs.Exec.{start};
+    ghost use Rattle.dma_chan.specs.Exec.{start_on};
 
-    // Returns registers that are all 0.
-    pub(crate) fn start() -> Registers
-        ensures { result ≡ start }
+    // Returns registers on this bus that are all 0.
+    pub(crate) fn start(bus: Bus) -> Registers
+        ensures { result ≡ start_on bus }
     {
         Registers {
             pc: 0,
@@ -45,19 +48,20 @@ impl Registers {
             ccr: ControlWord::zero(),
             lc0: 0,
             lc1: 0,
+            bus,
         }
     }
 }
 
 // Returns the fault of DMAMOV: `OperandInvalid` for a control word that isn't accepted, else `None`.
-fn set_fault(reg: Reg, value: u32) -> Option<FaultKind>
-    ensures { FaultsAnywhere (Mov reg value) result }
+fn set_fault(reg: Reg, value: u32, registers: &Registers) -> Option<FaultKind>
+    ensures { FaultsAt (Mov reg value) registers.now result }
 {
     match reg {
         Reg::Sar => None,
         Reg::Dar => None,
         Reg::Ccr => {
-            if ControlWord::from_bits(value).is_err() {
+            if !registers.bus.fits(value) || ControlWord::from_bits(value).is_err() {
                 return Some(FaultKind::OperandInvalid);
             }
             None
@@ -76,6 +80,9 @@ pub(crate) fn set_register(reg: Reg, value: u32, len: u32, registers: &mut Regis
         Reg::Sar => registers.sar = value,
         Reg::Dar => registers.dar = value,
         Reg::Ccr => {
+            if !registers.bus.fits(value) {
+                return ChanTurn::Fault(FaultKind::OperandInvalid);
+            }
             let Ok(word) = ControlWord::from_bits(value) else {
                 return ChanTurn::Fault(FaultKind::OperandInvalid);
             };
@@ -245,7 +252,7 @@ pub(crate) fn fault_of<M: Ram>(
         executor.now.buffer.items (M.paged memory.now).image result }
 {
     match insn {
-        Insn::Mov(reg, value) => set_fault(reg, value),
+        Insn::Mov(reg, value) => set_fault(reg, value, &executor.registers),
         Insn::Ld => load_fault(executor, memory, marks),
         Insn::St => store_fault(executor, memory, marks),
         Insn::LpEnd { counter, back } => jump_fault(counter, back, &executor.registers),

@@ -8,6 +8,7 @@ ghost use Rattle.dma_chan.specs.inner.Tracing.{IsCopied, IsTracer, NoCopy};
 mod ranges;
 mod tracer;
 
+use crate::bus::Bus;
 use crate::explain::ranges::overlap;
 use crate::explain::tracer::Tracer;
 use crate::next::Next;
@@ -100,14 +101,14 @@ fn finish(alloc: Global, tracer: Tracer, steps: u32) -> Result<Explained, Cause>
     })
 }
 
-/// Explains a program: runs it without memory for at most `most` instructions, and returns what it copies, or why no
-/// copy explains it.
-pub fn explain(alloc: Global, program: &[u8], most: u32) -> Result<Explained, Unexplained>
+/// Explains a program on a bus: runs it without memory for at most `most` instructions, and returns what it copies, or
+/// why no copy explains it.
+pub fn explain(alloc: Global, bus: Bus, program: &[u8], most: u32) -> Result<Explained, Unexplained>
     ensures ok { IfOk result (λ x. (n : ℕ) × (x.steps ≡ n + 1)
-        × Explains program.now (copying x.src.items x.dst.items x.wait x.signal) n) }
+        × Explains bus program.now (copying x.src.items x.dst.items x.wait x.signal) n) }
     ensures err { IfErr result (λ u. u.cause ≢ Cause.NoMemory → u.cause ≢ Cause.TooLong
-        → NothingExplains program.now most) }
-    ensures place { IfErr result (λ u. u.pc ≡ (traced program.now u.steps).registers.pc) }
+        → NothingExplains bus program.now most) }
+    ensures place { IfErr result (λ u. u.pc ≡ (traced bus program.now u.steps).registers.pc) }
 {
     if program.len() > MAX_PROGRAM_BYTES {
         return Err(Unexplained {
@@ -116,7 +117,7 @@ pub fn explain(alloc: Global, program: &[u8], most: u32) -> Result<Explained, Un
             steps: 0,
         });
     }
-    let mut tracer = Tracer::new(alloc);
+    let mut tracer = Tracer::new(alloc, bus);
     for turn in 0..most {
         let pc = tracer.registers.pc;
         let next = match Next::at(program, pc) {

@@ -4,7 +4,8 @@ ghost use Rattle.dma_chan.specs.Alone.{ExplainedCopiesAlone};
 ghost use Rattle.dma_chan.specs.Layer.{StartsAt, AheadIs, LeftIs, StepIs, TurnReports, Survives, ShapeIs, CostIs, StoredIs, CopiesAlone};
 ghost use Rattle.dma_chan.specs.CallWrites.{CallWritesNoOther, LoadExecutes, CallStaysIn};
 ghost use Rattle.dma_chan.specs.Changes.{CopiesSinceLoad, ChannelsCopy, LaidByPlace};
-ghost use Rattle.dma_chan.specs.Explains.{CompiledExplained, ExplainedOnce};
+ghost use Rattle.dma_chan.specs.Aligned.{AddressesAlign};
+ghost use Rattle.dma_chan.specs.Explains.{CompiledExplained, CompiledOnBus, ExplainedOnBus, ExplainedOnce};
 ghost use Rattle.dma_chan.specs.LentRegions.{GapsMiss, LiesInRegions};
 ghost use Rattle.dma_chan.specs.Others.{CallsCopyAmongOthers, CopiesAmongOthers, WritesNoOther};
 ghost use Rattle.dma_chan.specs.Ready.{ReadyIs};
@@ -47,9 +48,23 @@ pub fn copies_alone()
     ensures { CopiesAlone }
 {}
 
-/// A transfer explains its compiled program. So all laws of programs that copy apply to it.
+/// A transfer explains its compiled program, on each bus that the program's beats fit. So all laws of programs that
+/// copy apply to it.
 pub fn compiled_is_explained()
-    ensures { CompiledExplained }
+    ensures ideal { CompiledExplained }
+    ensures on_bus { CompiledOnBus }
+{}
+
+/// A copy that explains a program on the ideal bus explains it on each bus that the program's beats fit, if each burst
+/// begins at a multiple of its beat's size.
+pub fn aligned_is_explained()
+    ensures { ExplainedOnBus }
+{}
+
+/// On a chip's bus an executed load or store whose address rises leaves the address at a multiple of its beat's size.
+/// Each burst leaves out less than a beat.
+pub fn addresses_align()
+    ensures { AddressesAlign }
 {}
 
 /// All copies that explain a program have the same places in the same order. So what `explain::explain` returns is the
@@ -59,8 +74,8 @@ pub fn is_explained_once()
 {}
 
 /// A program that a transfer explains, and that runs while others write the memory between its steps, makes one
-/// simultaneous copy of all the transfer's bytes, at the transfer's own places. Each step may have different marks and a
-/// memory of another size.
+/// simultaneous copy of all the transfer's bytes, at the transfer's own places. Each step may have different marks and
+/// a memory of another size.
 pub fn copies_among_others()
     ensures { CopiesAmongOthers }
 {}
@@ -104,10 +119,10 @@ pub fn writes_its_destinations()
     ensures call { CallStaysIn }
 {}
 
-/// A program that a transfer explains copies if, between its own load and a call on its channel, nobody else writes what
-/// the transfer reads or writes. After each call the destinations have the bytes that are stored so far, and all of them when the
-/// call reports the transfer's signal or ends. Each call may be lent other regions, and other bytes may follow the
-/// program.
+/// A program that a transfer explains copies if, between its own load and a call on its channel, nobody else writes
+/// what the transfer reads or writes. After each call the destinations have the bytes that are stored so far, and all
+/// of them when the call reports the transfer's signal or ends. Each call may be lent other regions, and other bytes
+/// may follow the program.
 pub fn copies_since_load()
     ensures { CopiesSinceLoad }
 {}

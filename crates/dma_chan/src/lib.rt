@@ -21,6 +21,7 @@
 
 mod blocks;
 mod bursts;
+pub mod bus;
 pub mod channel;
 pub mod compile;
 pub mod copy;

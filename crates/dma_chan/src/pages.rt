@@ -22,9 +22,10 @@ fn part_below<M: Ram>(span: Segment, memory: &M) -> Segment
     ensures len { result.len ≡ min span.len (length (M.paged memory.now).image - span.addr) }
 {
     let size = memory.size();
+    let (addr, len) = (u64::from(span.addr), u64::from(span.len));
     Segment {
-        addr: span.addr.min(size),
-        len: span.len.min(size.saturating_sub(span.addr)),
+        addr: addr.min(size) as u32,
+        len: len.min(size.saturating_sub(addr)) as u32,
     }
 }
 

@@ -3,37 +3,23 @@ use Rattle.std.proofs.Common.{◌≡◌, ℕ, Bool, true, false, List, Option, S
 use Rattle.std.specs.Prelude.{slice_get}
 use Rattle.dma_mem.specs.Regions.{read_only_of}
 use Rattle.dma_mem.specs.declared.regions.Region.{Region}
-use Rattle.dma_chan.specs.Channel.{ahead_of}
 use Rattle.dma_chan.specs.LentRegions.{segment_of}
 use Rattle.dma_device.specs.Device.{DeviceValue}
-use Rattle.dma_device.specs.Thread.{is_too_wide}
-use Rattle.dma_device.specs.Turns.{CallsIf, CallsOne, CallsUnless}
+use Rattle.dma_device.specs.Turns.{CallsIf, CallsOne}
 use Rattle.dma_device.specs.declared.device.turns.Called.{Called}
 use Rattle.dma_device.specs.declared.thread.Thread.{Thread}
 
-unless_config : (b : Bool) (d : DeviceValue) (th : Thread) (regions : List Region) (n most : ℕ) (e : DeviceValue) (left : List Region) (called : Called) → CallsUnless b d th regions n most e left called → e.config ≡ d.config
-unless_config true d th regions n most e left called x = ap (λ (v : DeviceValue). v.config) x.0
-unless_config false d th regions n most e left called x = ap (λ (v : DeviceValue). v.config) x.device
-
-unless_places : (b : Bool) (d : DeviceValue) (th : Thread) (regions : List Region) (n most : ℕ) (e : DeviceValue) (left : List Region) (called : Called) → CallsUnless b d th regions n most e left called → map segment_of left ≡ map segment_of regions
-unless_places true d th regions n most e left called x = ap (map segment_of) x.1
-unless_places false d th regions n most e left called x = x.places
-
-unless_read_only : (b : Bool) (d : DeviceValue) (th : Thread) (regions : List Region) (n most : ℕ) (e : DeviceValue) (left : List Region) (called : Called) → CallsUnless b d th regions n most e left called → read_only_of left ≡ read_only_of regions
-unless_read_only true d th regions n most e left called x = ap read_only_of x.1
-unless_read_only false d th regions n most e left called x = x.read_only
-
 one_config : (o : Option Thread) (d : DeviceValue) (regions : List Region) (n most : ℕ) (e : DeviceValue) (left : List Region) (called : Called) → CallsOne o d regions n most e left called → e.config ≡ d.config
 one_config None d regions n most e left called x = absurd x
-one_config (Some th) d regions n most e left called x = unless_config (is_too_wide d.config.bus (ahead_of th.channel)) d th regions n most e left called x
+one_config (Some th) d regions n most e left called x = ap (λ (v : DeviceValue). v.config) x.device
 
 one_places : (o : Option Thread) (d : DeviceValue) (regions : List Region) (n most : ℕ) (e : DeviceValue) (left : List Region) (called : Called) → CallsOne o d regions n most e left called → map segment_of left ≡ map segment_of regions
 one_places None d regions n most e left called x = absurd x
-one_places (Some th) d regions n most e left called x = unless_places (is_too_wide d.config.bus (ahead_of th.channel)) d th regions n most e left called x
+one_places (Some th) d regions n most e left called x = x.places
 
 one_read_only : (o : Option Thread) (d : DeviceValue) (regions : List Region) (n most : ℕ) (e : DeviceValue) (left : List Region) (called : Called) → CallsOne o d regions n most e left called → read_only_of left ≡ read_only_of regions
 one_read_only None d regions n most e left called x = absurd x
-one_read_only (Some th) d regions n most e left called x = unless_read_only (is_too_wide d.config.bus (ahead_of th.channel)) d th regions n most e left called x
+one_read_only (Some th) d regions n most e left called x = x.read_only
 
 pub if_config : (b : Bool) (d : DeviceValue) (regions : List Region) (n most : ℕ) (e : DeviceValue) (left : List Region) (called : Called) → CallsIf b d regions n most e left called → e.config ≡ d.config
 if_config true d regions n most e left called x = one_config (slice_get d.threads n) d regions n most e left called x

@@ -8,7 +8,9 @@ use Rattle.dma_mem.specs.Marking.{MarkList}
 use Rattle.dma_mem.specs.Places.{Descriptor, size_of}
 use Rattle.dma_mem.specs.Regions.{Piece, read_only_of}
 use Rattle.dma_mem.specs.declared.regions.Region.{Region}
-use Rattle.dma_chan.specs.Channel.{ChannelValue, ahead_of, code_of}
+use Rattle.dma_chan.specs.declared.bus.Bus.{Bus}
+use Rattle.dma_chan.specs.declared.bus.Bus.TheVariants.{Chip}
+use Rattle.dma_chan.specs.Channel.{ChannelValue}
 use Rattle.dma_chan.specs.Explains.{Explains}
 use Rattle.dma_chan.specs.LentRegions.{segment_of, with_gaps_of}
 use Rattle.dma_chan.specs.Others.{Misses, Touches}
@@ -19,22 +21,21 @@ use Rattle.dma_chan.specs.declared.turn.ChanTurn.{ChanTurn}
 use Rattle.dma_chan.specs.declared.turn.ChanTurn.TheVariants.{Moved, Waiting, Ended, Fault}
 use Rattle.dma_chan.proofs.AmongOthers.{Fits, touched_below}
 use Rattle.dma_chan.proofs.RegionsHave.{gaps_miss}
-use Rattle.dma_chan.proofs.CallsAmongOthers.{Leads, Runs, at_first, call, call_answers, call_fails, call_waits, next_ahead, signalled, survived}
-use Rattle.dma_device.specs.Copies.{DmagoCopies, DmagoNeverFails, FitsBus, HasEvents, HasInterrupted, HasProgram, RaisesLine, Reach, MayGo, TurnsAmongOthers, csr_status, image_in}
+use Rattle.dma_chan.proofs.CallsAmongOthers.{Leads, Runs, at_first, call, call_answers, call_fails, call_waits, signalled, survived}
+use Rattle.dma_device.specs.Copies.{DmagoCopies, DmagoNeverFails, HasEvents, HasInterrupted, HasProgram, RaisesLine, Reach, MayGo, TurnsAmongOthers, csr_status, image_in}
 use Rattle.dma_device.specs.Device.{DeviceValue, program_at}
-use Rattle.dma_device.specs.Thread.{answered, failed, is_faulting, is_stopped, is_too_wide, most_on, operand_invalid, started}
-use Rattle.dma_device.specs.Turns.{CallsIf, CallsOne, CallsThread, CallsUnless, TakesTurn, may_follow, nothing, runs_at, runs_if, visible_events}
+use Rattle.dma_device.specs.Thread.{answered, is_faulting, is_stopped, started}
+use Rattle.dma_device.specs.Turns.{CallsIf, CallsOne, CallsThread, TakesTurn, may_follow, nothing, runs_at, runs_if, visible_events}
+use Rattle.dma_device.specs.declared.config.Config.{Config}
 use Rattle.dma_device.specs.declared.device.turns.Called.{Called}
 use Rattle.dma_device.specs.declared.device.turns.Turn.{Turn}
 use Rattle.dma_device.specs.declared.thread.Thread.{Thread}
-use Rattle.dma_device.proofs.WidePrograms.{most_some}
 use Rattle.dma_device.proofs.Starts.{dmago_starts, reads_fine, reads_stopped, set_found}
 use Rattle.dma_device.proofs.Answered.{answer_busy, answer_channel, answer_fine, is_ended}
 use Rattle.dma_device.proofs.CallKeeps.{if_config, if_places, if_read_only}
 use Rattle.dma_device.proofs.InOrder.{marks-kept}
 use Rattle.dma_device.proofs.Stored.{all_copied, at_most, call_grows}
 use Rattle.dma_device.proofs.TurnRaises.{turn_raises}
-use Rattle.dma_device.specs.declared.config.Config.{Config}
 
 -- thread n isn't faulting
 abbrev IsFine : ℕ → DeviceValue → Type 0
@@ -46,10 +47,10 @@ Signalled called = (i : ℕ) × (called.signal ≡ Some i)
 
 -- ---- the thread of a transfer
 
-module _ (program : List ℕ) (t : Descriptor) (count : ℕ) (first : List ℕ) (h : Explains program t count) (low : Fits t (length first)) where
+module _ (bus : Bus) (program : List ℕ) (t : Descriptor) (count : ℕ) (first : List ℕ) (h : Explains bus program t count) (low : Fits t (length first)) where
   -- its program is not finished, and if F, all bytes are stored
   record Going (F : Type 0) (image : List ℕ) (th : Thread) : Type 0 where
-    runs : Runs program t count first (machine th.channel image [])
+    runs : Runs bus program t count first (machine th.channel image [])
     busy : is_stopped th ≡ false
     full : F → th.channel.stored ≡ size_of t
 
@@ -61,7 +62,7 @@ module _ (program : List ℕ) (t : Descriptor) (count : ℕ) (first : List ℕ) 
   abbrev Stands : Type 0 → List ℕ → Thread → Type 0
   Stands F image th = Going F image th ⊎ Done image th
 
-  pub leads_runs : (last : Option ChanTurn) (w : Machine) → Leads program t count first last w → last ≢ Some Ended → Runs program t count first w
+  pub leads_runs : (last : Option ChanTurn) (w : Machine) → Leads bus program t count first last w → last ≢ Some Ended → Runs bus program t count first w
   leads_runs None w l goes = l
   leads_runs (Some Moved) w l goes = l
   leads_runs (Some (Waiting x)) w l goes = l
@@ -76,23 +77,23 @@ module _ (program : List ℕ) (t : Descriptor) (count : ℕ) (first : List ℕ) 
       let v = machine x.channel (image_in left) (flags_of x.flags) in
       let at : Thread = record th { channel = x.channel; pc = (th.base + x.channel.registers.pc) % 2 ^ 32 } in
       let is = answer_channel d.config.events at x.last called.signal in
-      let leads = call program t count marks first h low s v most x.taken x.last g.runs x.steps in
+      let leads = call bus program t count marks first h low s v most x.taken x.last g.runs x.steps in
       elim (is_ended x.last) [
         | inl ended ↦
             inr (record {
-              gone = ap (λ (c : ChannelValue). c.program) is ∙ (subst (λ (o : Option ChanTurn). Leads program t count first o v) ended leads).dropped;
-              copied = (subst (λ (o : Option ChanTurn). Leads program t count first o v) ended leads).all;
+              gone = ap (λ (c : ChannelValue). c.program) is ∙ (subst (λ (o : Option ChanTurn). Leads bus program t count first o v) ended leads).dropped;
+              copied = (subst (λ (o : Option ChanTurn). Leads bus program t count first o v) ended leads).all;
             })
         | inr goes ↦
             let runs = leads_runs x.last v leads goes in
             inl (record {
-              runs = subst (λ (c : ChannelValue). Runs program t count first (machine c (image_in left) [])) (sym is) runs;
+              runs = subst (λ (c : ChannelValue). Runs bus program t count first (machine c (image_in left) [])) (sym is) runs;
               busy = answer_busy d.config.events at x.last called.signal goes;
               full = λ why.
                   ap (λ (c : ChannelValue). c.stored) is
                   ∙ elim why [
-                    | inl before ↦ omega (arith, g.full before, call_grows program t count marks first h low s v most x.taken x.last g.runs x.steps, at_most program t count marks first h low v runs)
-                    | inr new ↦ (signalled program t count marks first h low s v most x.taken x.last new.0 g.runs x.steps (sym x.signal ∙ new.1)).1
+                    | inl before ↦ omega (arith, g.full before, call_grows bus program t count marks first h low s v most x.taken x.last g.runs x.steps, at_most bus program t count marks first h low v runs)
+                    | inr new ↦ (signalled bus program t count marks first h low s v most x.taken x.last new.0 g.runs x.steps (sym x.signal ∙ new.1)).1
                   ];
             })
       ]
@@ -119,21 +120,13 @@ module _ (program : List ℕ) (t : Descriptor) (count : ℕ) (first : List ℕ) 
   no_program : (d : DeviceValue) (n : ℕ) (th : Thread) → slice_get d.threads n ≡ Some th → th.channel.program ≡ None → runs_at d n ≡ false
   no_program d n th is gone = ap runs_if is ∙ ap (λ (p : Option ProgramValue). is_some p && not (is_faulting th)) gone
 
-  unless_has : (F : Type 0) (b : Bool) (d : DeviceValue) (th : Thread) (regions : List Region) (n most : ℕ) (e : DeviceValue) (left : List Region) (called : Called) → slice_get d.threads n ≡ Some th → Going F (image_in regions) th → CallsUnless b d th regions n most e left called → Has (F ⊎ Signalled called) (image_in left) n e
-  unless_has F true d th regions n most e left called is going x =
-      let after = failed operand_invalid th in
-      record {
-        thread = after;
-        is = ap (λ (v : DeviceValue). slice_get v.threads n) x.0 ∙ set_found d.threads n th after is;
-        stands = subst (λ (rs : List Region). Stands (F ⊎ Signalled called) (image_in rs) after) (sym x.1)
-            (inl (record { runs = going.runs; busy = refl; full = λ why. going.full (no_signal F called x.2 why) }));
-      }
-  unless_has F false d th regions n most e left called is going x =
+  called_has : (F : Type 0) (d : DeviceValue) (th : Thread) (regions : List Region) (n most : ℕ) (e : DeviceValue) (left : List Region) (called : Called) → slice_get d.threads n ≡ Some th → Going F (image_in regions) th → CallsThread d th regions n most e left called → Has (F ⊎ Signalled called) (image_in left) n e
+  called_has F d th regions n most e left called is going x =
       let after = answered d.config.events (record th { channel = x.channel }) x.last called.signal in
       record {
         thread = after;
         is = ap (λ (v : DeviceValue). slice_get v.threads n) x.device ∙ set_found d.threads n th after is;
-        stands = stands_after F d th regions n (most_on d.config.bus (code_of th.channel) most) e left called going x;
+        stands = stands_after F d th regions n most e left called going x;
       }
 
   one_has : (F : Type 0) (o : Option Thread) (d : DeviceValue) (regions : List Region) (n most : ℕ) (e : DeviceValue) (left : List Region) (called : Called) → runs_at d n ≡ true → (g : Has F (image_in regions) n d) → o ≡ Some g.thread → CallsOne o d regions n most e left called → Has (F ⊎ Signalled called) (image_in left) n e
@@ -142,7 +135,7 @@ module _ (program : List ℕ) (t : Descriptor) (count : ℕ) (first : List ℕ) 
       let same : th ≡ g.thread = cc in
       let found = g.is ∙ ap Some (sym same) in
       elim (subst (Stands F (image_in regions)) (sym same) g.stands) [
-        | inl going ↦ unless_has F (is_too_wide d.config.bus (ahead_of th.channel)) d th regions n most e left called found going x
+        | inl going ↦ called_has F d th regions n most e left called found going x
         | inr done ↦ absurd (true≢false (sym on ∙ no_program d n th found done.gone))
       ]
 
@@ -166,7 +159,7 @@ module _ (program : List ℕ) (t : Descriptor) (count : ℕ) (first : List ℕ) 
     thread = g.thread;
     is = same ∙ g.is;
     stands = elim g.stands [
-      | inl going ↦ inl (record { runs = survived program t count first (machine g.thread.channel image []) (machine g.thread.channel other []) going.runs refl unchanged fits; busy = going.busy; full = going.full })
+      | inl going ↦ inl (record { runs = survived bus program t count first (machine g.thread.channel image []) (machine g.thread.channel other []) going.runs refl unchanged fits; busy = going.busy; full = going.full })
       | inr done ↦ inr (record { gone = done.gone; copied = λ a touches. unchanged a touches ∙ done.copied a touches })
     ];
   }
@@ -175,7 +168,7 @@ module _ (program : List ℕ) (t : Descriptor) (count : ℕ) (first : List ℕ) 
   is_full : (F : Type 0) (marks : MarkList) (image : List ℕ) (n : ℕ) (e : DeviceValue) → Has F image n e → F → (a : ℕ) → Touches t a → get_or image a 0 ≡ get_or (laid first t (size_of t)) a 0
   is_full F marks image n e g f a touches =
       elim g.stands [
-        | inl going ↦ all_copied program t count marks first h low (machine g.thread.channel image []) going.runs (going.full f) a touches
+        | inl going ↦ all_copied bus program t count marks first h low (machine g.thread.channel image []) going.runs (going.full f) a touches
         | inr done ↦ done.copied a touches
       ]
 
@@ -197,27 +190,25 @@ module _ (program : List ℕ) (t : Descriptor) (count : ℕ) (first : List ℕ) 
       let v = machine x.channel (image_in left) (flags_of x.flags) in
       let at : Thread = record th { channel = x.channel; pc = (th.base + x.channel.registers.pc) % 2 ^ 32 } in
       answer_fine d.config.events at x.last called.signal
-      (call_answers program t count marks first h low s v most x.taken x.last some g.runs x.steps)
-      (λ kind. call_fails program t count marks first h low s v most x.taken x.last kind misses g.runs x.steps)
-      (λ i is. subst (λ (o : Option ℕ). IfSome o (λ k. k < d.config.events)) (call_waits program t count marks first h low s v most x.taken i x.last g.runs x.steps is) events.wait)
-      (λ i is. subst (λ (o : Option ℕ). IfSome o (λ k. k < d.config.events)) (signalled program t count marks first h low s v most x.taken x.last i g.runs x.steps (sym x.signal ∙ is)).0 events.signal)
+      (call_answers bus program t count marks first h low s v most x.taken x.last some g.runs x.steps)
+      (λ kind. call_fails bus program t count marks first h low s v most x.taken x.last kind misses g.runs x.steps)
+      (λ i is. subst (λ (o : Option ℕ). IfSome o (λ k. k < d.config.events)) (call_waits bus program t count marks first h low s v most x.taken i x.last g.runs x.steps is) events.wait)
+      (λ i is. subst (λ (o : Option ℕ). IfSome o (λ k. k < d.config.events)) (signalled bus program t count marks first h low s v most x.taken x.last i g.runs x.steps (sym x.signal ∙ is)).0 events.signal)
 
-  unless_fine : (F : Type 0) (b : Bool) (d : DeviceValue) (th : Thread) (regions : List Region) (n most : ℕ) (e : DeviceValue) (left : List Region) (called : Called) → b ≡ false → 0 < most → slice_get d.threads n ≡ Some th → Going F (image_in regions) th → Misses (with_gaps_of regions []) t → HasEvents d t → FitsBus d.config.bus program count → CallsUnless b d th regions n most e left called → IsFine n e
-  unless_fine F true d th regions n most e left called narrow some is going misses events bus x new found = absurd (true≢false narrow)
-  unless_fine F false d th regions n most e left called narrow some is going misses events bus x new found =
+  called_fine : (F : Type 0) (d : DeviceValue) (th : Thread) (regions : List Region) (n most : ℕ) (e : DeviceValue) (left : List Region) (called : Called) → 0 < most → slice_get d.threads n ≡ Some th → Going F (image_in regions) th → Misses (with_gaps_of regions []) t → HasEvents d t → CallsThread d th regions n most e left called → IsFine n e
+  called_fine F d th regions n most e left called some is going misses events x new found =
       let after = answered d.config.events (record th { channel = x.channel }) x.last called.signal in
       let there = ap (λ (v : DeviceValue). slice_get v.threads n) x.device ∙ set_found d.threads n th after is in
       let is_after : after ≡ new = cc in
-      let more = most_some d.config.bus (code_of th.channel) most some in
-      subst (λ (u : Thread). is_faulting u ≡ false) is_after (fine_after F d th regions n (most_on d.config.bus (code_of th.channel) most) e left called more misses events going x)
+      subst (λ (u : Thread). is_faulting u ≡ false) is_after (fine_after F d th regions n most e left called some misses events going x)
 
-  one_fine : (F : Type 0) (o : Option Thread) (d : DeviceValue) (regions : List Region) (n most : ℕ) (e : DeviceValue) (left : List Region) (called : Called) → 0 < most → runs_at d n ≡ true → (g : Has F (image_in regions) n d) → o ≡ Some g.thread → Misses (with_gaps_of regions []) t → HasEvents d t → FitsBus d.config.bus program count → CallsOne o d regions n most e left called → IsFine n e
-  one_fine F None d regions n most e left called some on g is misses events bus x = absurd x
-  one_fine F (Some th) d regions n most e left called some on g is misses events bus x =
+  one_fine : (F : Type 0) (o : Option Thread) (d : DeviceValue) (regions : List Region) (n most : ℕ) (e : DeviceValue) (left : List Region) (called : Called) → 0 < most → runs_at d n ≡ true → (g : Has F (image_in regions) n d) → o ≡ Some g.thread → Misses (with_gaps_of regions []) t → HasEvents d t → CallsOne o d regions n most e left called → IsFine n e
+  one_fine F None d regions n most e left called some on g is misses events x = absurd x
+  one_fine F (Some th) d regions n most e left called some on g is misses events x =
       let same : th ≡ g.thread = cc in
       let found = g.is ∙ ap Some (sym same) in
       elim (subst (Stands F (image_in regions)) (sym same) g.stands) [
-        | inl going ↦ unless_fine F (is_too_wide d.config.bus (ahead_of th.channel)) d th regions n most e left called (ap (is_too_wide d.config.bus) (next_ahead program t count (with_gaps_of regions []) first h low going.runs.0 (machine th.channel (image_in regions) []) _ going.runs.1 refl) ∙ bus going.runs.0 going.runs.1.within) some found going misses events bus x
+        | inl going ↦ called_fine F d th regions n most e left called some found going misses events x
         | inr done ↦ absurd (true≢false (sym on ∙ no_program d n th found done.gone))
       ]
 
@@ -232,15 +223,15 @@ module _ (program : List ℕ) (t : Descriptor) (count : ℕ) (first : List ℕ) 
   pub misses_kept : (regions lent : List Region) → map segment_of lent ≡ map segment_of regions → read_only_of lent ≡ read_only_of regions → Misses (with_gaps_of regions []) t → Misses (with_gaps_of lent []) t
   misses_kept regions lent places access misses = subst (λ (marks : MarkList). Misses marks t) (sym (marks-kept regions lent places access)) misses
 
-  if_fine : (F : Type 0) (b : Bool) (d : DeviceValue) (regions : List Region) (n most : ℕ) (e : DeviceValue) (left : List Region) (called : Called) → (b ≡ true → (0 < most) × (runs_at d n ≡ true)) → Has F (image_in regions) n d → Misses (with_gaps_of regions []) t → HasEvents d t → FitsBus d.config.bus program count → IsFine n d → CallsIf b d regions n most e left called → IsFine n e
-  if_fine F true d regions n most e left called on g misses events bus fine x =
+  if_fine : (F : Type 0) (b : Bool) (d : DeviceValue) (regions : List Region) (n most : ℕ) (e : DeviceValue) (left : List Region) (called : Called) → (b ≡ true → (0 < most) × (runs_at d n ≡ true)) → Has F (image_in regions) n d → Misses (with_gaps_of regions []) t → HasEvents d t → IsFine n d → CallsIf b d regions n most e left called → IsFine n e
+  if_fine F true d regions n most e left called on g misses events fine x =
       let w = on refl in
-      one_fine F (slice_get d.threads n) d regions n most e left called w.0 w.1 g g.is misses events bus x
-  if_fine F false d regions n most e left called on g misses events bus fine x =
+      one_fine F (slice_get d.threads n) d regions n most e left called w.0 w.1 g g.is misses events x
+  if_fine F false d regions n most e left called on g misses events fine x =
       λ new found. fine new (ap (λ (v : DeviceValue). slice_get v.threads n) (sym x.0) ∙ found)
 
-  fine_turn : (F : Type 0) (d : DeviceValue) (regions : List Region) (n most : ℕ) (e : DeviceValue) (left : List Region) (turn : Turn) → Has F (image_in regions) n d → Misses (with_gaps_of regions []) t → HasEvents d t → FitsBus d.config.bus program count → IsFine n d → TakesTurn d regions n most e left turn → IsFine n e
-  fine_turn F d regions n most e left turn g misses events bus fine x =
+  fine_turn : (F : Type 0) (d : DeviceValue) (regions : List Region) (n most : ℕ) (e : DeviceValue) (left : List Region) (turn : Turn) → Has F (image_in regions) n d → Misses (with_gaps_of regions []) t → HasEvents d t → IsFine n d → TakesTurn d regions n most e left turn → IsFine n e
+  fine_turn F d regions n most e left turn g misses events fine x =
       let begins = nat_lt 0 most && runs_at d n in
       let on : begins ≡ true → (0 < most) × (runs_at d n ≡ true) = λ h. (let w = and_parts (nat_lt 0 most) (runs_at d n) h in (ltb-true 0 most w.0, w.1)) in
       let config = if_config begins d regions n most x.middle x.lent x.first x.call in
@@ -248,34 +239,33 @@ module _ (program : List ℕ) (t : Descriptor) (count : ℕ) (first : List ℕ) 
       (if_has F begins d regions n most x.middle x.lent x.first (λ h. (on h).1) g x.call)
       (misses_kept regions x.lent (if_places begins d regions n most x.middle x.lent x.first x.call) (if_read_only begins d regions n most x.middle x.lent x.first x.call) misses)
       (has_events d x.middle config events)
-      (subst (λ (c : Config). FitsBus c.bus program count) (sym config) bus)
-      (if_fine F begins d regions n most x.middle x.lent x.first on g misses events bus fine x.call) x.one_more
+      (if_fine F begins d regions n most x.middle x.lent x.first on g misses events fine x.call) x.one_more
 
 -- ---- along the turns
 
-module _ (program : List ℕ) (t : Descriptor) (count : ℕ) (ram : List Piece) (nonsecure : Bool) (n addr : ℕ) (d : DeviceValue) (turns : ℕ) (before after : ℕ → DeviceValue) (lent left : ℕ → List Region) (h : Explains program t count) (may : MayGo d nonsecure n) (has : HasProgram ram addr program) (run : TurnsAmongOthers t ram nonsecure n addr d turns before after lent left) where
+module _ (program : List ℕ) (t : Descriptor) (count : ℕ) (ram : List Piece) (nonsecure : Bool) (n addr : ℕ) (d : DeviceValue) (turns : ℕ) (before after : ℕ → DeviceValue) (lent left : ℕ → List Region) (h : Explains (Chip d.config.bus) program t count) (may : MayGo d nonsecure n) (has : HasProgram ram addr program) (run : TurnsAmongOthers t ram nonsecure n addr d turns before after lent left) where
   abbrev image : List ℕ
   image = image_in (lent 0)
 
   abbrev new : Thread
-  new = started nonsecure addr (program_at ram addr)
+  new = started d.config.bus nonsecure addr (program_at ram addr)
 
   fits : (k : ℕ) → k < turns → Fits t (length image)
   fits k l = λ a i. touched_below t (length image) a (run.below 0 (omega arith)) i
 
   -- thread n before and after turn number j, with what makes all bytes stored
   abbrev HasBefore : Type 0 → (k : ℕ) → k < turns → ℕ → Type 0
-  HasBefore F k l j = Has program t count image h (fits k l) F (image_in (lent j)) n (before j)
+  HasBefore F k l j = Has (Chip d.config.bus) program t count image h (fits k l) F (image_in (lent j)) n (before j)
 
   abbrev HasAfter : Type 0 → (k : ℕ) → k < turns → ℕ → Type 0
-  HasAfter F k l j = Has program t count image h (fits k l) F (image_in (left j)) n (after j)
+  HasAfter F k l j = Has (Chip d.config.bus) program t count image h (fits k l) F (image_in (left j)) n (after j)
 
   begins : (k : ℕ) → (l : k < turns) → HasBefore ⊥ k l 0
   begins k l = record {
     thread = new;
     is = run.begins ∙ dmago_starts ram nonsecure n addr d may;
     stands = inl (record {
-      runs = at_first program t count image (machine new.channel image []) (fits k l) (record { bytes = program_at ram addr; cost = None }, has, refl) refl;
+      runs = at_first (Chip d.config.bus) program t count image (machine new.channel image []) (fits k l) (record { bytes = program_at ram addr; cost = None }, has, refl) refl;
       busy = refl;
       full = λ none. absurd none;
     });
@@ -296,12 +286,12 @@ module _ (program : List ℕ) (t : Descriptor) (count : ℕ) (ram : List Piece) 
   turned_from : (F : Type 0) (j k : ℕ) → (l : k < turns) → j < suc k → (Interrupted j → F ⊎ ((i : ℕ) × RaisesLine (before j) (after j) i)) → HasBefore F k l j → HasAfter (Interrupted j) k l j
   turned_from F j k l less why g =
       let x = run.takes j (omega arith) in
-      has_less program t count image h (fits k l) ((F ⊎ Signalled x.1.1.first) ⊎ Signalled x.1.1.second) (Interrupted j) (image_in (left j)) n (after j)
+      has_less (Chip d.config.bus) program t count image h (fits k l) ((F ⊎ Signalled x.1.1.first) ⊎ Signalled x.1.1.second) (Interrupted j) (image_in (left j)) n (after j)
       (λ w. elim (why w) [
         | inl f ↦ inl (inl f)
         | inr here ↦ raised_in j F x.1.0 x.0 here.0 x.1.1 here.1
       ])
-      (turned_has program t count image h (fits k l) F (before j) (lent j) n x.0 (after j) (left j) x.1.0 g x.1.1)
+      (turned_has (Chip d.config.bus) program t count image h (fits k l) F (before j) (lent j) n x.0 (after j) (left j) x.1.0 g x.1.1)
 
   -- what others leave of it
   next_has : (F : Type 0) (j k : ℕ) → (l : k < turns) → suc j < suc k → HasAfter F k l j → HasBefore F k l (suc j)
@@ -309,7 +299,7 @@ module _ (program : List ℕ) (t : Descriptor) (count : ℕ) (ram : List Piece) 
       let next : j + 1 < turns = omega arith in
       let e : j + 1 ≡ suc j = omega arith in
       subst (HasBefore F k l) e
-      (stays program t count image h (fits k l) F (image_in (left j)) (image_in (lent (j + 1))) n (after j) (before (j + 1)) g (run.goes_on j next) (λ a touches. run.unchanged j a next touches) (λ a i. touched_below t (length (image_in (lent (j + 1)))) a (run.below (j + 1) next) i))
+      (stays (Chip d.config.bus) program t count image h (fits k l) F (image_in (left j)) (image_in (lent (j + 1))) n (after j) (before (j + 1)) g (run.goes_on j next) (λ a touches. run.unchanged j a next touches) (λ a i. touched_below t (length (image_in (lent (j + 1)))) a (run.below (j + 1) next) i))
 
   -- a turn up to number j raised a line: an earlier one, or number j
   raised_at : (j : ℕ) → Interrupted (suc j) → Interrupted j ⊎ ((i : ℕ) × RaisesLine (before (suc j)) (after (suc j)) i)
@@ -332,9 +322,9 @@ module _ (program : List ℕ) (t : Descriptor) (count : ℕ) (ram : List Piece) 
   copies : (k a : ℕ) → k < turns → (csr_status (after k) n ≡ 0) ⊎ Interrupted k → Touches t a → get_or (image_in (left k)) a 0 ≡ get_or (laid image t (size_of t)) a 0
   copies k a l (inl stopped) touches =
       let g = turned k k l (omega arith) in
-      is_done program t count image h (fits k l) (Interrupted k) (image_in (left k)) n (after k) g.thread g g.is (reads_stopped (after k) n g.thread may.few g.is stopped) a touches
+      is_done (Chip d.config.bus) program t count image h (fits k l) (Interrupted k) (image_in (left k)) n (after k) g.thread g g.is (reads_stopped (after k) n g.thread may.few g.is stopped) a touches
   copies k a l (inr raised) touches =
-      is_full program t count image h (fits k l) (Interrupted k) [] (image_in (left k)) n (after k) (turned k k l (omega arith)) raised a touches
+      is_full (Chip d.config.bus) program t count image h (fits k l) (Interrupted k) [] (image_in (left k)) n (after k) (turned k k l (omega arith)) raised a touches
 
   -- ---- without a failure
 
@@ -347,23 +337,23 @@ module _ (program : List ℕ) (t : Descriptor) (count : ℕ) (ram : List Piece) 
       let same : new ≡ th = cc in
       subst (λ (u : Thread). is_faulting u ≡ false) same refl
 
-  fine_turned : ((k : ℕ) → k < turns → Reach (lent k) t) → ((k : ℕ) → k < turns → HasEvents (before k) t) → ((k : ℕ) → k < turns → FitsBus (before k).config.bus program count) → (j k : ℕ) → (l : k < turns) → j < suc k → IsFine n (after j)
-  fine_turned reach events bus zero k l less =
+  fine_turned : ((k : ℕ) → k < turns → Reach (lent k) t) → ((k : ℕ) → k < turns → HasEvents (before k) t) → (j k : ℕ) → (l : k < turns) → j < suc k → IsFine n (after j)
+  fine_turned reach events zero k l less =
       let here : 0 < turns = omega arith in
       let x = run.takes 0 here in
-      fine_turn program t count image h (fits k l) ⊥ (before 0) (lent 0) n x.0 (after 0) (left 0) x.1.0 (begins k l) (misses 0 (reach 0 here)) (events 0 here) (bus 0 here) new_fine x.1.1
-  fine_turned reach events bus (suc j) k l less =
+      fine_turn (Chip d.config.bus) program t count image h (fits k l) ⊥ (before 0) (lent 0) n x.0 (after 0) (left 0) x.1.0 (begins k l) (misses 0 (reach 0 here)) (events 0 here) new_fine x.1.1
+  fine_turned reach events (suc j) k l less =
       let here : suc j < turns = omega arith in
       let x = run.takes (suc j) here in
       let e : j + 1 ≡ suc j = omega arith in
       let kept = subst (λ (i : ℕ). slice_get (before i).threads n ≡ slice_get (after j).threads n) e (run.goes_on j (omega arith)) in
-      let fine = fine_turned reach events bus j k l (omega arith) in
-      fine_turn program t count image h (fits k l) (Interrupted j) (before (suc j)) (lent (suc j)) n x.0 (after (suc j)) (left (suc j)) x.1.0 (next_has (Interrupted j) j k l less (turned j k l (omega arith))) (misses (suc j) (reach (suc j) here)) (events (suc j) here) (bus (suc j) here) (λ th found. fine th (sym kept ∙ found)) x.1.1
+      let fine = fine_turned reach events j k l (omega arith) in
+      fine_turn (Chip d.config.bus) program t count image h (fits k l) (Interrupted j) (before (suc j)) (lent (suc j)) n x.0 (after (suc j)) (left (suc j)) x.1.0 (next_has (Interrupted j) j k l less (turned j k l (omega arith))) (misses (suc j) (reach (suc j) here)) (events (suc j) here) (λ th found. fine th (sym kept ∙ found)) x.1.1
 
-  never_fails : ((k : ℕ) → k < turns → Reach (lent k) t) → ((k : ℕ) → k < turns → HasEvents (before k) t) → ((k : ℕ) → k < turns → FitsBus (before k).config.bus program count) → (k : ℕ) → k < turns → csr_status (after k) n ≢ 15
-  never_fails reach events bus k l =
+  never_fails : ((k : ℕ) → k < turns → Reach (lent k) t) → ((k : ℕ) → k < turns → HasEvents (before k) t) → (k : ℕ) → k < turns → csr_status (after k) n ≢ 15
+  never_fails reach events k l =
       let g = turned k k l (omega arith) in
-      reads_fine (after k) n g.thread may.few g.is (fine_turned reach events bus k k l (omega arith) g.thread g.is)
+      reads_fine (after k) n g.thread may.few g.is (fine_turned reach events k k l (omega arith) g.thread g.is)
 
 pub dmago_copies : DmagoCopies
 dmago_copies program t count ram nonsecure n addr d turns before after lent left h may has run = copies program t count ram nonsecure n addr d turns before after lent left h may has run

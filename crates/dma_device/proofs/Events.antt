@@ -5,7 +5,6 @@ use Rattle.std.specs.Int.{bit_at, bit_not}
 use Rattle.std.proofs.lemmas.Bool.{cases_eq, eq-eqb, ne_eqb}
 use Rattle.std.proofs.lemmas.List.{get_or-set_same, get_or-set_other, length-set}
 use Rattle.std.proofs.lemmas.Nat.Bits.{bit_at-lt, bit_at_and, bit_at_not, bit_at_ones, bit_at_or, bit_at-zero}
-use Rattle.dma_insn.specs.ControlWord.{is_control}
 use Rattle.dma_insn.specs.declared.insn.Insn.{Insn}
 use Rattle.dma_insn.specs.declared.insn.Insn.TheVariants.{Mov, Ld, St, Rmb, Wmb, Nop, End, Lp, LpEnd, Sev, Wfe}
 use Rattle.dma_insn.specs.declared.insn.Reg.TheVariants.{Sar, Ccr, Dar}
@@ -15,12 +14,13 @@ use Rattle.dma_mem.specs.Marking.{MarkList}
 use Rattle.dma_mem.specs.Regions.{image_of, pieces_of}
 use Rattle.dma_mem.specs.declared.regions.Region.{Region}
 use Rattle.dma_mem.proofs.FlagBits.{get_or-flags_of, length-flags_of}
+use Rattle.dma_chan.specs.Bus.{accepts}
 use Rattle.dma_chan.specs.declared.exec.Registers.{Registers}
 use Rattle.dma_chan.specs.declared.turn.ChanTurn.{ChanTurn}
 use Rattle.dma_chan.specs.declared.turn.ChanTurn.TheVariants.{Moved, Waiting, Ended, Fault}
 use Rattle.dma_chan.specs.declared.turn.FaultKind.{FaultKind}
 use Rattle.dma_chan.specs.Bursts.{reaches, burst_len, touched}
-use Rattle.dma_chan.specs.Channel.{ahead_of, code_of, state_of}
+use Rattle.dma_chan.specs.Channel.{ahead_of, state_of}
 use Rattle.dma_chan.specs.Exec.{ChangesNothing, State, act, buffer_size, counter_of, destination_of, exec_fetched, source_of}
 use Rattle.dma_chan.specs.Stepping.{Machine, TakesSteps, after_steps, answer_at, goes_on_after, machine, signal_after, signal_of}
 use Rattle.dma_chan.proofs.SteppedOver.{is_still, went_before}
@@ -28,17 +28,17 @@ use Rattle.dma_device.specs.declared.device.turns.Called.{Called}
 use Rattle.dma_device.specs.declared.device.turns.Turn.{Turn}
 use Rattle.dma_device.specs.declared.thread.Status.TheVariants.{Executing, WaitingForEvent}
 use Rattle.dma_device.specs.declared.thread.Thread.{Thread}
-use Rattle.dma_device.specs.Accesses.{Access, Answer, Does, Happen, Reads, Resets, Stores, Turns, Writes}
+use Rattle.dma_device.specs.Accesses.{Access, Answer, Does, Happen, Reads, Resets, Restores, Stores, Turns, Writes}
 use Rattle.dma_device.specs.CallSteps.{machine_in, marks_in}
 use Rattle.dma_device.specs.Device.{DeviceValue, all_events, is_interrupt, with_thread, written}
 use Rattle.dma_device.specs.Events.{CallTakes, Ends, EventsAreExact, IsSet, NoneEnds, SetSince, Sets, TakenWasSet, WaitsForUnset}
 use Rattle.dma_device.specs.Interrupts.{DebugSignals, HasLine, IsHigh}
 use Rattle.dma_device.specs.Run.{Outcome, called_if}
-use Rattle.dma_device.specs.Thread.{answer, answered, failed, is_too_wide, moved, most_on, operand_invalid}
+use Rattle.dma_device.specs.Thread.{answer, answered, failed, moved, operand_invalid}
 use Rattle.dma_device.specs.Turns.{CallsIf, CallsThread, TakesTurn, begins, follows, is_beside, may_follow, nothing, raises, runs_at, visible_events, with_flags}
 use Rattle.dma_device.proofs.CallKeeps.{if_config}
 use Rattle.dma_device.proofs.Calls.{call_is}
-use Rattle.dma_device.proofs.Interrupts.{access_has}
+use Rattle.dma_device.proofs.Interrupts.{access_has, restored_bit}
 use Rattle.dma_device.proofs.Runs.{if_is}
 use Rattle.dma_device.proofs.Sound.{step_waits}
 use Rattle.dma_device.proofs.Starts.{set_found}
@@ -81,7 +81,7 @@ wfe_keeps e k false s r h none = h
 act_keeps : (marks : MarkList) (i : Insn) (s : State) (k : ℕ) → Is k s.flags → ((v : Bool) → i ≡ Wfe k v → (act marks i s).0 ≢ Moved) → Is k (act marks i s).1.flags
 act_keeps marks (Mov Sar v) s k h none = h
 act_keeps marks (Mov Dar v) s k h none = h
-act_keeps marks (Mov Ccr v) s k h none = chosen (is_control v) _ _ k h h
+act_keeps marks (Mov Ccr v) s k h none = chosen (accepts s.registers.bus v) _ _ k h h
 act_keeps marks Ld s k h none =
     let b = source_of s.registers in
     chosen (nat_lt buffer_size (length s.buffer + burst_len b)) _ _ k h (chosen (reaches Reading marks (length s.image) (touched b)) _ _ k h h)
@@ -338,15 +338,11 @@ found_status d e n k old new t found is there waits =
 if_unset : (b : Bool) (d : DeviceValue) (regions : List Region) (n most : ℕ) (e : DeviceValue) (left : List Region) (called : Called) (k : ℕ) (t : Thread) → b ≡ true → HasLine d k → CallsIf b d regions n most e left called → slice_get e.threads n ≡ Some t → t.status ≡ WaitingForEvent k → IsSet e k → IsHigh d.inten k
 if_unset b d regions n most e left called k t made has x found waits set = elim (call_is b d regions n most e left called x) [
   | inl idle ↦ absurd (true≢false (sym made ∙ idle.off))
-  | inr other ↦ elim other [
-    | inl fails ↦
-        absurd (let bad = found_status d e n k fails.thread (failed operand_invalid fails.thread) t fails.found (ap (λ (v : DeviceValue). v.threads) fails.device) found waits in cc)
-    | inr does ↦
-        let c = does.call in
-        let after = answered d.config.events (record (does.thread) { channel = c.channel }) c.last called.signal in
-        call_unset d does.thread regions n (most_on d.config.bus (code_of does.thread.channel) most) e left called k has c
-        (found_status d e n k does.thread after t does.found (ap (λ (v : DeviceValue). v.threads) c.device) found waits) set
-  ]
+  | inr does ↦
+      let c = does.call in
+      let after = answered d.config.events (record (does.thread) { channel = c.channel }) c.last called.signal in
+      call_unset d does.thread regions n most e left called k has c
+      (found_status d e n k does.thread after t does.found (ap (λ (v : DeviceValue). v.threads) c.device) found waits) set
 ]
 
 pub waits_for_unset : WaitsForUnset
@@ -382,52 +378,44 @@ same_sets b d regions n most e left called k same none no_take = (
 call_sets : (b : Bool) (d : DeviceValue) (regions : List Region) (n most : ℕ) (e : DeviceValue) (left : List Region) (called : Called) (k : ℕ) → HasLine d k → CallsIf b d regions n most e left called → CallSets b d regions n most e left called k
 call_sets b d regions n most e left called k has x = elim (call_is b d regions n most e left called x) [
   | inl idle ↦ same_sets b d regions n most e left called k (ap (λ (v : DeviceValue). v.events) idle.device) idle.none (λ w. true≢false (sym w.executes.on ∙ idle.off))
-  | inr other ↦ elim other [
-    | inl fails ↦
-        same_sets b d regions n most e left called k (ap (λ (v : DeviceValue). v.events) fails.device) fails.none
-        (λ w.
-        let same : w.executes.thread ≡ fails.thread = (let one = w.executes.found in let two = fails.found in cc) in
-        true≢false (sym fails.wide ∙ ap (λ (u : Thread). is_too_wide d.config.bus (ahead_of u.channel)) (sym same) ∙ w.executes.fits))
-    | inr does ↦
-        let m = most_on d.config.bus (code_of does.thread.channel) most in
-        elim (cases_eq (bit_at d.inten k) 1) [
-          | inl on ↦ (
-            (λ high. inr (
-              sym (hides d does.thread regions n m e left called k has does.call on).0 ∙ high,
-              λ w. (hides d w.executes.thread regions n (most_on d.config.bus (code_of w.executes.thread.channel) most) e left called k has w.executes.call on).1 w.step w.early (w.invalid, w.dmawfe, w.passes),
-            )),
-            (λ why. elim why [
-              | inl here ↦ absurd (here.0 on)
-              | inr kept ↦ (hides d does.thread regions n m e left called k has does.call on).0 ∙ kept.0
-            ]),
-          )
-          | inr off ↦
-              let shown = shows d does.thread regions n m e left called k has does.call off in (
-                (λ high. elim (is_signal called.signal k) [
+  | inr does ↦
+      elim (cases_eq (bit_at d.inten k) 1) [
+        | inl on ↦ (
+          (λ high. inr (
+            sym (hides d does.thread regions n most e left called k has does.call on).0 ∙ high,
+            λ w. (hides d w.executes.thread regions n most e left called k has w.executes.call on).1 w.step w.early (w.invalid, w.dmawfe, w.passes),
+          )),
+          (λ why. elim why [
+            | inl here ↦ absurd (here.0 on)
+            | inr kept ↦ (hides d does.thread regions n most e left called k has does.call on).0 ∙ kept.0
+          ]),
+        )
+        | inr off ↦
+            let shown = shows d does.thread regions n most e left called k has does.call off in (
+              (λ high. elim (is_signal called.signal k) [
+                | inl here ↦ inl (off, here)
+                | inr other ↦ elim (shown.0 high) [
                   | inl here ↦ inl (off, here)
-                  | inr other ↦ elim (shown.0 high) [
-                    | inl here ↦ inl (off, here)
-                    | inr kept ↦ inr (
-                      kept.0,
-                      λ w. elim ((shows d w.executes.thread regions n (most_on d.config.bus (code_of w.executes.thread.channel) most) e left called k has w.executes.call off).0 high) [
-                        | inl here ↦ other here
-                        | inr none ↦ none.1 w.step w.early (w.invalid, w.dmawfe, w.passes)
-                      ],
-                    )
-                  ]
-                ]),
-                (λ why. elim why [
-                  | inl here ↦ shown.1 (inl here.1)
-                  | inr kept ↦ shown.1 (inr (kept.0, λ j less w. kept.1 (record { executes = does; step = j; early = less; invalid = w.0; dmawfe = w.1; passes = w.2 })))
-                ]),
-              )
-        ]
-  ]
+                  | inr kept ↦ inr (
+                    kept.0,
+                    λ w. elim ((shows d w.executes.thread regions n most e left called k has w.executes.call off).0 high) [
+                      | inl here ↦ other here
+                      | inr none ↦ none.1 w.step w.early (w.invalid, w.dmawfe, w.passes)
+                    ],
+                  )
+                ]
+              ]),
+              (λ why. elim why [
+                | inl here ↦ shown.1 (inl here.1)
+                | inr kept ↦ shown.1 (inr (kept.0, λ j less w. kept.1 (record { executes = does; step = j; early = less; invalid = w.0; dmawfe = w.1; passes = w.2 })))
+              ]),
+            )
+      ]
 ]
 
 call_takes_set : (b : Bool) (d : DeviceValue) (regions : List Region) (n most : ℕ) (e : DeviceValue) (left : List Region) (called : Called) (k : ℕ) → HasLine d k → CallTakes b d regions n most e left called k → IsSet d k × (¬ IsHigh d.inten k)
 call_takes_set b d regions n most e left called k has w =
-    takes_set d w.executes.thread regions n (most_on d.config.bus (code_of w.executes.thread.channel) most) e left called k has w.executes.call w.step w.early (w.invalid, w.dmawfe, w.passes)
+    takes_set d w.executes.thread regions n most e left called k has w.executes.call w.step w.early (w.invalid, w.dmawfe, w.passes)
 
 -- ---- a turn
 
@@ -571,25 +559,26 @@ access_exact k (Stores addr byte) d e regions left answer has x = same_exact k d
 access_exact k Resets d e regions left answer has x =
     let low : ¬ IsSet e k = (λ high. let zero_bit = ap (λ (v : DeviceValue). bit_at v.events k) x.1 ∙ bit_at-zero k in omega (arith, zero_bit, high)) in
     ((λ high. absurd (low high)), (λ why. elim why [ inl up ↦ absurd (up.1) | inr stays ↦ absurd (stays.1 tt) ]))
+access_exact k (Restores saved) d e regions left answer has x = restored_bit k saved.events d.events e.events (ap (λ (v : DeviceValue). v.events) x.1)
 
 -- ---- accesses in a row
 
-module _ (access : ℕ → Access) (answer : ℕ → Answer) (before : ℕ → DeviceValue) (lent : ℕ → List Region) (count k : ℕ) (happen : Happen access answer before lent count) (has : HasLine (before 0) k) where
+module _ (access : ℕ → Access) (answer : ℕ → Answer) (before : ℕ → DeviceValue) (lent left : ℕ → List Region) (count k : ℕ) (happen : Happen access answer before lent left count) (has : HasLine (before 0) k) where
   abbrev Up : ℕ → Type 0
-  Up j = Sets k (access j) (before j) (lent j) (before (j + 1)) (lent (j + 1))
+  Up j = Sets k (access j) (before j) (lent j) (before (j + 1)) (left j)
 
   abbrev Down : ℕ → Type 0
-  Down j = Ends k (access j) (before j) (lent j) (before (j + 1)) (lent (j + 1))
+  Down j = Ends k (access j) (before j) (lent j) (before (j + 1)) (left j)
 
   all_have : (n : ℕ) → n ≤ count → HasLine (before n) k
   all_have zero within = has
   all_have (suc n) within =
       let e : n + 1 ≡ suc n = omega arith in
-      subst (λ (m : ℕ). HasLine (before m) k) e (access_has k (access n) (before n) (before (n + 1)) (lent n) (lent (n + 1)) (answer n) (all_have n (omega arith)) (happen n (omega arith)))
+      subst (λ (m : ℕ). HasLine (before m) k) e (access_has k (access n) (before n) (before (n + 1)) (lent n) (left n) (answer n) (all_have n (omega arith)) (happen n (omega arith)))
 
-  all_hold : (n : ℕ) → n ≤ count → IsSet (before n) k ↔ (SetSince access before lent k n ⊎ (IsSet (before 0) k × NoneEnds access before lent k 0 n))
+  all_hold : (n : ℕ) → n ≤ count → IsSet (before n) k ↔ (SetSince access before lent left k n ⊎ (IsSet (before 0) k × NoneEnds access before lent left k 0 n))
   all_hold n within =
-      let x = history.held (λ j. IsSet (before j) k) Up Down count (λ j less. access_exact k (access j) (before j) (before (j + 1)) (lent j) (lent (j + 1)) (answer j) (all_have j (omega arith)) (happen j less)) n within in (
+      let x = history.held (λ j. IsSet (before j) k) Up Down count (λ j less. access_exact k (access j) (before j) (before (j + 1)) (lent j) (left j) (answer j) (all_have j (omega arith)) (happen j less)) n within in (
         (λ high. elim (x.0 high) [
           | inl r ↦ inl (record { at = r.at; below = r.below; sets = r.up; stays = r.stays })
           | inr first ↦ inr first
@@ -601,7 +590,7 @@ module _ (access : ℕ → Access) (answer : ℕ → Answer) (before : ℕ → D
       )
 
 pub events_are_exact : EventsAreExact
-events_are_exact access answer before lent count k n happen has within = all_hold access answer before lent count k happen has n within
+events_are_exact access answer before lent left count k n happen has within = all_hold access answer before lent left count k happen has n within
 
 pub taken_was_set : TakenWasSet
 taken_was_set (Reads at) d e regions left answer k x has w = absurd w
@@ -609,3 +598,4 @@ taken_was_set (Writes at value) d e regions left answer k x has w = absurd w
 taken_was_set (Turns n most) d e regions left answer k x has w = turn_takes_set d regions n most e left w.0 k has w.1.0 w.1.1
 taken_was_set (Stores addr byte) d e regions left answer k x has w = absurd w
 taken_was_set Resets d e regions left answer k x has w = absurd w
+taken_was_set (Restores saved) d e regions left answer k x has w = absurd w

@@ -12,6 +12,7 @@ use borrow.Author.Tests.{ltb-true}
 use Rattle.dma_insn.specs.ControlWord.{field, flag}
 use Rattle.dma_mem.specs.Regions.{Piece, pieces_of}
 use Rattle.dma_mem.specs.declared.regions.Region.{Region}
+use Rattle.dma_chan.specs.declared.bus.BusWidth.{BusWidth}
 use Rattle.dma_chan.specs.declared.turn.ChanTurn.{ChanTurn}
 use Rattle.dma_chan.specs.declared.turn.ChanTurn.TheVariants.{Moved, Waiting, Ended, Fault}
 use Rattle.dma_device.specs.declared.device.Manager.{Manager}
@@ -21,10 +22,10 @@ use Rattle.dma_device.specs.declared.device.turns.Turn.{Turn}
 use Rattle.dma_device.specs.declared.thread.Status.{Status}
 use Rattle.dma_device.specs.declared.thread.Status.TheVariants.{Stopped, Executing, WaitingForEvent, Faulting}
 use Rattle.dma_device.specs.declared.thread.Thread.{Thread}
-use Rattle.dma_device.specs.Accesses.{Access, Answer, Does, Reads, Resets, Stores, Turns, Writes}
+use Rattle.dma_device.specs.Accesses.{Access, Answer, Does, Reads, Resets, Restores, Stores, Turns, Writes}
 use Rattle.dma_device.specs.CallSteps.{Executes}
 use Rattle.dma_device.specs.Device.{reset_device, DeviceValue, all_events, by_manager, by_thread, debugged, faulting_bits, go, gone, irq_abort, is_event, is_interrupt, manager_failed, program_at, signalled, with_thread, written}
-use Rattle.dma_device.specs.Faults.{EndsFault, IsReset, AbortIsFaulting, AbortsAreExact, Addresses, CallFails, DebugFails, Fails, FaultsAreExact, Kills, LastFails, TheChannel, TheManager, TurnFails, Who, can_execute, channel_fails, debug_fails, faults_at, faults_if, go_fails, manager_fails}
+use Rattle.dma_device.specs.Faults.{EndsFault, EndsAll, AbortIsFaulting, AbortsAreExact, Addresses, CallFails, DebugFails, Fails, FaultsAreExact, Kills, LastFails, TheChannel, TheManager, TurnFails, Who, can_execute, channel_fails, debug_fails, faults_at, faults_if, go_fails, manager_fails}
 use Rattle.dma_device.specs.Interrupts.{is_fine}
 use Rattle.dma_device.specs.Thread.{answer, answered, dbg_instr, dmago_err, failed, is_faulting, is_faulting_status, is_stopped, is_stopped_status, killed, operand_invalid, reset_thread, started, undef_instr}
 use Rattle.dma_device.specs.Turns.{CallsIf, TakesTurn, begins, follows, may_follow, runs_at, runs_if, with_flags}
@@ -105,7 +106,7 @@ go_own ram nonsecure n None d fine = refl
 go_own ram nonsecure n (Some t) d fine =
     let f = faults_at TheManager in
     let r = d.config.nonsecure && not nonsecure in
-    let new : DeviceValue = with_thread n (started nonsecure d.dbginst1 (program_at ram d.dbginst1)) d in
+    let new : DeviceValue = with_thread n (started d.config.bus nonsecure d.dbginst1 (program_at ram d.dbginst1)) d in
     pick f (d.config.nonsecure && not nonsecure) (manager_failed dmago_err d) (gone ram nonsecure n t d) r (λ refused. sym refused)
     (λ allowed. pick f (is_stopped t) new d r (λ stopped. fine ∙ sym allowed) (λ busy. fine ∙ sym allowed))
 
@@ -145,7 +146,7 @@ go_channel ram nonsecure n m None d found = refl
 go_channel ram nonsecure n m (Some t) d found =
     let f = faults_at (TheChannel m) in
     let r = faults_at (TheChannel m) d in
-    let u = started nonsecure d.dbginst1 (program_at ram d.dbginst1) in
+    let u = started d.config.bus nonsecure d.dbginst1 (program_at ram d.dbginst1) in
     let new : DeviceValue = with_thread n u d in
     pick f (d.config.nonsecure && not nonsecure) (manager_failed dmago_err d) (gone ram nonsecure n t d) r (λ refused. refl)
     (λ allowed. pick f (is_stopped t) new d r
@@ -388,36 +389,25 @@ call_own b d regions n most e left called fine x = elim (call_is b d regions n m
       let same = ap (faults_at (TheChannel n)) idle.device in (
         (λ high. inr (sym same ∙ high)),
         (λ why. elim why [
-          | inl f ↦ elim f [ inl wide ↦ absurd (true≢false (sym wide.on ∙ idle.off)) | inr does ↦ absurd (true≢false (sym does.0.on ∙ idle.off)) ]
+          | inl does ↦ absurd (true≢false (sym does.0.on ∙ idle.off))
           | inr was ↦ same ∙ was
         ]),
       )
-  | inr other ↦ elim other [
-    | inl wide ↦
-        let is : faults_at (TheChannel n) e ≡ true = ap (faults_at (TheChannel n)) wide.device ∙ set_there d n wide.thread (failed operand_invalid wide.thread) wide.found in
-        ((λ high. inl (inl wide)), (λ why. is))
-    | inr does ↦ (
-      (λ high. inl (inr (does, (executes_faults b d regions n most e left called does).0 high))),
-      (λ why. elim why [
-        | inl f ↦ elim f [
-          | inl wide ↦ ap (faults_at (TheChannel n)) wide.device ∙ set_there d n wide.thread (failed operand_invalid wide.thread) wide.found
-          | inr w ↦ (executes_faults b d regions n most e left called w.0).1 w.1
-        ]
-        | inr was ↦ absurd (true≢false (sym was ∙ fine does.on))
-      ]),
-    )
-  ]
+  | inr does ↦ (
+    (λ high. inl (does, (executes_faults b d regions n most e left called does).0 high)),
+    (λ why. elim why [
+      | inl w ↦ (executes_faults b d regions n most e left called w.0).1 w.1
+      | inr was ↦ absurd (true≢false (sym was ∙ fine does.on))
+    ]),
+  )
 ]
 
 call_keeps : (who : Who) (b : Bool) (d : DeviceValue) (regions : List Region) (n most : ℕ) (e : DeviceValue) (left : List Region) (called : Called) → ((u : Thread) (v : DeviceValue) → faults_at who (with_thread n u v) ≡ faults_at who v) → ((flags : ℕ) → faults_at who (with_flags flags d) ≡ faults_at who d) → CallsIf b d regions n most e left called → faults_at who e ≡ faults_at who d
 call_keeps who b d regions n most e left called keeps flags x = elim (call_is b d regions n most e left called x) [
   | inl idle ↦ ap (faults_at who) idle.device
-  | inr other ↦ elim other [
-    | inl wide ↦ ap (faults_at who) wide.device ∙ keeps (failed operand_invalid wide.thread) d
-    | inr does ↦
-        let c = does.call in
-        ap (faults_at who) c.device ∙ keeps (answered d.config.events (record (does.thread) { channel = c.channel }) c.last called.signal) (with_flags c.flags d) ∙ flags c.flags
-  ]
+  | inr does ↦
+      let c = does.call in
+      ap (faults_at who) c.device ∙ keeps (answered d.config.events (record (does.thread) { channel = c.channel }) c.last called.signal) (with_flags c.flags d) ∙ flags c.flags
 ]
 
 runs_fine : (o : Option Thread) → runs_if o ≡ true → faults_if o ≡ false
@@ -470,19 +460,29 @@ turn_exact (TheChannel m) n most d e regions left turn x = elim (cases_eq m n) [
 
 -- ---- one access
 
-none_faults : (n m : ℕ) → faults_if (slice_get (replicate m reset_thread) n) ≡ false
-none_faults n zero = refl
-none_faults zero (suc m) = refl
-none_faults (suc n) (suc m) = none_faults n m
+none_faults : (bus : BusWidth) (n m : ℕ) → faults_if (slice_get (replicate m (reset_thread bus)) n) ≡ false
+none_faults bus n zero = refl
+none_faults bus zero (suc m) = refl
+none_faults bus (suc n) (suc m) = none_faults bus n m
 
 reset_fine : (who : Who) (g : Config) → faults_at who (reset_device g) ≡ false
 reset_fine TheManager g = refl
-reset_fine (TheChannel n) g = none_faults n g.channels
+reset_fine (TheChannel n) g = none_faults g.bus n g.channels
 
 reset_exact : (who : Who) (d e : DeviceValue) → e ≡ reset_device d.config → (Up : Type 0) → ¬ Up → Exact who d e Up (Unit {0})
 reset_exact who d e is Up none = (
   (λ high. absurd (true≢false (sym high ∙ ap (faults_at who) is ∙ reset_fine who d.config))),
   (λ why. elim why [ inl up ↦ absurd (none up) | inr stays ↦ absurd (stays.1 tt) ]),
+)
+
+not_false : (b : Bool) → (b ≡ false → ⊥) → b ≡ true
+not_false true h = refl
+not_false false h = absurd (h refl)
+
+restored_exact : (who : Who) (d e saved : DeviceValue) → e ≡ saved → Exact who d e (faults_at who saved ≡ true) (faults_at who saved ≡ false)
+restored_exact who d e saved is = (
+  (λ high. inl (ap (faults_at who) (sym is) ∙ high)),
+  (λ why. ap (faults_at who) is ∙ elim why [ inl up ↦ up | inr stays ↦ not_false (faults_at who saved) stays.1 ]),
 )
 
 access_exact : (who : Who) (a : Access) (d e : DeviceValue) (regions left : List Region) (answer : Answer) → Does a d regions answer e left → Exact who d e (Fails who a d regions e left) (EndsFault who a d)
@@ -498,11 +498,13 @@ access_exact TheManager (Stores addr byte) d e regions left answer x = same_exac
 access_exact (TheChannel n) (Stores addr byte) d e regions left answer x = same_exact (TheChannel n) d e ⊥ ⊥ (ap (faults_at (TheChannel n)) x.1) (λ up. up) (λ down. down)
 access_exact TheManager Resets d e regions left answer x = reset_exact TheManager d e x.1 ⊥ (λ up. up)
 access_exact (TheChannel n) Resets d e regions left answer x = reset_exact (TheChannel n) d e x.1 ⊥ (λ up. up)
+access_exact TheManager (Restores saved) d e regions left answer x = restored_exact TheManager d e saved x.1
+access_exact (TheChannel n) (Restores saved) d e regions left answer x = restored_exact (TheChannel n) d e saved x.1
 
 pub faults_are_exact : FaultsAreExact
-faults_are_exact access answer before lent count n who happen within =
-    let x = history.held (λ j. faults_at who (before j) ≡ true) (λ j. Fails who (access j) (before j) (lent j) (before (j + 1)) (lent (j + 1))) (λ j. EndsFault who (access j) (before j)) count
-    (λ j less. access_exact who (access j) (before j) (before (j + 1)) (lent j) (lent (j + 1)) (answer j) (happen j less)) n within in (
+faults_are_exact access answer before lent left count n who happen within =
+    let x = history.held (λ j. faults_at who (before j) ≡ true) (λ j. Fails who (access j) (before j) (lent j) (before (j + 1)) (left j)) (λ j. EndsFault who (access j) (before j)) count
+    (λ j less. access_exact who (access j) (before j) (before (j + 1)) (lent j) (left j) (answer j) (happen j less)) n within in (
       (λ high. elim (x.0 high) [
         | inl r ↦ inl (record { at = r.at; below = r.below; fails = r.up; stays = r.stays })
         | inr first ↦ inr first
@@ -560,7 +562,7 @@ abort_is_faulting = record {
   line = line_is;
   fsrd = λ d. flag_is d.manager.is_faulting;
   fsrc = λ d n. (let w = flag_is (faults_at (TheChannel n) d) in let is = bits_are d.threads n in ((λ high. w.0 (sym is ∙ high)), (λ e. is ∙ w.1 e)));
-  reset = λ g. list_any_none is_faulting (replicate g.channels reset_thread) (All-replicate (λ (t : Thread). is_faulting t ≡ false) g.channels reset_thread refl);
+  reset = λ g. list_any_none is_faulting (replicate g.channels (reset_thread g.bus)) (All-replicate (λ (t : Thread). is_faulting t ≡ false) g.channels (reset_thread g.bus) refl);
 }
 
 -- a low line: no thread is faulting
@@ -597,14 +599,16 @@ decide_kills who (Reads at) d = inr (λ w. w)
 decide_kills who (Turns n most) d = inr (λ w. w)
 decide_kills who (Stores addr byte) d = inr (λ w. w)
 decide_kills who Resets d = inr (λ w. w)
+decide_kills who (Restores saved) d = inr (λ w. w)
 
--- what ends a fault kills the thread, or is a reset
-ends_by : (who : Who) (a : Access) (d : DeviceValue) → EndsFault who a d → IsReset a ⊎ Kills who a d
-ends_by who (Writes at value) d w = inr w
-ends_by who (Reads at) d w = inr w
-ends_by who (Turns n most) d w = inr w
-ends_by who (Stores addr byte) d w = inr w
-ends_by who Resets d w = inl tt
+-- what ends a fault, and leaves the line low, kills the thread, or ends each fault
+ends_by : (who : Who) (a : Access) (d e : DeviceValue) (regions left : List Region) (answer : Answer) → Does a d regions answer e left → irq_abort e ≡ false → EndsFault who a d → EndsAll a ⊎ Kills who a d
+ends_by who (Writes at value) d e regions left answer x low w = inr w
+ends_by who (Reads at) d e regions left answer x low w = inr w
+ends_by who (Turns n most) d e regions left answer x low w = inr w
+ends_by who (Stores addr byte) d e regions left answer x low w = inr w
+ends_by who Resets d e regions left answer x low w = inl tt
+ends_by who (Restores saved) d e regions left answer x low w = inl (ap irq_abort (sym x.1) ∙ low)
 
 kill_ends : (who : Who) (a : Access) (d : DeviceValue) → Kills who a d → EndsFault who a d
 kill_ends who (Writes at value) d w = w
@@ -612,6 +616,11 @@ kill_ends who (Reads at) d w = absurd w
 kill_ends who (Turns n most) d w = absurd w
 kill_ends who (Stores addr byte) d w = absurd w
 kill_ends who Resets d w = tt
+kill_ends who (Restores saved) d w = absurd w
+
+is_low : (b : Bool) → (b ≡ false) ⊎ (¬ (b ≡ false))
+is_low true = inr (λ low. true≢false low)
+is_low false = inl refl
 
 decide_ends : (who : Who) (a : Access) (d : DeviceValue) → EndsFault who a d ⊎ (¬ EndsFault who a d)
 decide_ends who (Writes at value) d = decide_write who at value d
@@ -619,6 +628,7 @@ decide_ends who (Reads at) d = inr (λ w. w)
 decide_ends who (Turns n most) d = inr (λ w. w)
 decide_ends who (Stores addr byte) d = inr (λ w. w)
 decide_ends who Resets d = inl tt
+decide_ends who (Restores saved) d = is_low (faults_at who saved)
 
 -- one debug instruction has one thread
 one_addressed : (who other : Who) (d : DeviceValue) → Addresses d who → Addresses d other → other ≡ who
@@ -633,6 +643,7 @@ kills_one who other (Reads at) d x y = absurd x
 kills_one who other (Turns n most) d x y = absurd x
 kills_one who other (Stores addr byte) d x y = absurd x
 kills_one who other Resets d x y = absurd x
+kills_one who other (Restores saved) d x y = absurd x
 
 -- what kills a thread makes none fail
 kill_fails_none : (who other : Who) (a : Access) (d e : DeviceValue) (regions left : List Region) → Kills who a d → ¬ Fails other a d regions e left
@@ -642,6 +653,7 @@ kill_fails_none who other (Reads at) d e regions left x f = absurd x
 kill_fails_none who other (Turns n most) d e regions left x f = absurd x
 kill_fails_none who other (Stores addr byte) d e regions left x f = absurd x
 kill_fails_none who other Resets d e regions left x f = absurd x
+kill_fails_none who other (Restores saved) d e regions left x f = absurd x
 
 -- after an access that leaves the line low, the fault of a thread that was faulting was ended
 was_ended : (who : Who) (a : Access) (d e : DeviceValue) (regions left : List Region) (answer : Answer) → Does a d regions answer e left → irq_abort e ≡ false → faults_at who d ≡ true → EndsFault who a d
@@ -650,27 +662,29 @@ was_ended who a d e regions left answer x low is = elim (decide_ends who a d) [
   | inr stays ↦ absurd (low_none e who low ((access_exact who a d e regions left answer x).1 (inr (is, stays))))
 ]
 
--- one that isn't a reset has killed it
-was_killed : (who : Who) (a : Access) (d e : DeviceValue) (regions left : List Region) (answer : Answer) → ¬ IsReset a → Does a d regions answer e left → irq_abort e ≡ false → faults_at who d ≡ true → Kills who a d
-was_killed who a d e regions left answer other x low is = elim (ends_by who a d (was_ended who a d e regions left answer x low is)) [
-  | inl reset ↦ absurd (other reset)
+-- one that doesn't end each fault has killed it
+was_killed : (who : Who) (a : Access) (d e : DeviceValue) (regions left : List Region) (answer : Answer) → ¬ EndsAll a → Does a d regions answer e left → irq_abort e ≡ false → faults_at who d ≡ true → Kills who a d
+was_killed who a d e regions left answer other x low is = elim (ends_by who a d e regions left answer x low (was_ended who a d e regions left answer x low is)) [
+  | inl all ↦ absurd (other all)
   | inr kills ↦ kills
 ]
 
--- after a reset the line is low
-reset_low : (a : Access) (d e : DeviceValue) (regions left : List Region) (answer : Answer) → IsReset a → Does a d regions answer e left → irq_abort e ≡ false
-reset_low (Reads at) d e regions left answer is x = absurd is
-reset_low (Writes at value) d e regions left answer is x = absurd is
-reset_low (Turns n most) d e regions left answer is x = absurd is
-reset_low (Stores addr byte) d e regions left answer is x = absurd is
-reset_low Resets d e regions left answer is x = ap irq_abort x.1 ∙ abort_is_faulting.reset d.config
+-- after what ends each fault the line is low
+all_low : (a : Access) (d e : DeviceValue) (regions left : List Region) (answer : Answer) → EndsAll a → Does a d regions answer e left → irq_abort e ≡ false
+all_low (Reads at) d e regions left answer is x = absurd is
+all_low (Writes at value) d e regions left answer is x = absurd is
+all_low (Turns n most) d e regions left answer is x = absurd is
+all_low (Stores addr byte) d e regions left answer is x = absurd is
+all_low Resets d e regions left answer is x = ap irq_abort x.1 ∙ abort_is_faulting.reset d.config
+all_low (Restores saved) d e regions left answer is x = ap irq_abort x.1 ∙ is
 
-decide_reset : (a : Access) → IsReset a ⊎ (¬ IsReset a)
-decide_reset (Reads at) = inr (λ w. w)
-decide_reset (Writes at value) = inr (λ w. w)
-decide_reset (Turns n most) = inr (λ w. w)
-decide_reset (Stores addr byte) = inr (λ w. w)
-decide_reset Resets = inl tt
+decide_all : (a : Access) → EndsAll a ⊎ (¬ EndsAll a)
+decide_all (Reads at) = inr (λ w. w)
+decide_all (Writes at value) = inr (λ w. w)
+decide_all (Turns n most) = inr (λ w. w)
+decide_all (Stores addr byte) = inr (λ w. w)
+decide_all Resets = inl tt
+decide_all (Restores saved) = is_low (irq_abort saved)
 
 pub aborts_are_exact : AbortsAreExact
 aborts_are_exact a d e regions left answer x = record {
@@ -684,15 +698,15 @@ aborts_are_exact a d e regions left answer x = record {
     (λ w. (line_is e).1 (w.0, (access_exact w.0 a d e regions left answer x).1 (inl w.1))),
   );
   falls = λ high. (
-    (λ low. elim (decide_reset a) [
-      | inl reset ↦ inl reset
+    (λ low. elim (decide_all a) [
+      | inl all ↦ inl all
       | inr other ↦
           let w = (line_is d).0 high in
           let kills = was_killed w.0 a d e regions left answer other x low w.1 in
           inr (w.0, kills, w.1, λ another is. kills_one w.0 another a d kills (was_killed another a d e regions left answer other x low is))
     ]),
     (λ why. elim why [
-      | inl reset ↦ reset_low a d e regions left answer reset x
+      | inl all ↦ all_low a d e regions left answer all x
       | inr w ↦ not_high e (λ still.
           let v = (line_is e).0 still in
           elim ((access_exact v.0 a d e regions left answer x).0 v.1) [

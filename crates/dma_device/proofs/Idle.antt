@@ -6,23 +6,22 @@ use Rattle.std.specs.List.{All}
 use borrow.Author.Tests.{ltb-true}
 use Rattle.std.proofs.Math.Pow.{pow-lt}
 use Rattle.std.proofs.lemmas.Bool.{and_parts}
-use Rattle.std.proofs.lemmas.List.Elements.{All-replicate, All-set}
+use Rattle.std.proofs.lemmas.List.Elements.{All-replicate}
 use Rattle.std.proofs.lemmas.Nat.{or_lt, pow_pos}
 use Rattle.dma_insn.specs.ControlWord.{field}
 use Rattle.dma_mem.specs.Regions.{Piece, pieces_of}
 use Rattle.dma_mem.specs.declared.regions.Region.{Region}
-use Rattle.dma_device.specs.declared.config.Config.{Config}
 use Rattle.dma_device.specs.declared.device.turns.Called.{Called}
 use Rattle.dma_device.specs.declared.device.turns.Turn.{Turn}
 use Rattle.dma_device.specs.declared.thread.Thread.{Thread}
-use Rattle.dma_device.specs.Accesses.{Access, Answer, Does, Happen, Reads, Resets, Stores, Turned, Turns, Writes}
+use Rattle.dma_device.specs.Accesses.{Access, Answer, Does, Happen, Reads, Resets, Restores, Stores, Turned, Turns, Writes}
 use Rattle.dma_device.specs.Device.{DeviceValue, all_events, by_manager, by_thread, debugged, go, gone, is_event, is_interrupt, manager_failed, program_at, signalled, with_thread, written}
 use Rattle.dma_device.specs.Idle.{IsSoundDevice, NothingHappens, StaySound}
-use Rattle.dma_device.specs.Snapshot.{IsThreadValue}
+use Rattle.dma_device.specs.Snapshot.{IsDeviceValue, IsThreadValue}
 use Rattle.dma_device.specs.Thread.{IsSound, answered, dbg_instr, dmago_err, failed, is_faulting, is_stopped, killed, operand_invalid, reset_thread, started, undef_instr}
 use Rattle.dma_device.specs.Turns.{CallsIf, TakesTurn, may_follow, runs_at, with_flags}
 use Rattle.dma_device.proofs.Calls.{call_is}
-use Rattle.dma_device.proofs.Sound.{and_fewer, and_known, answered_sound, few_events}
+use Rattle.dma_device.proofs.Sound.{and_fewer, and_known, answered_sound, few_events, same_threads, thread_sound}
 use Rattle.dma_device.proofs.Waits.{turn_rests}
 
 -- ---- parts
@@ -30,23 +29,6 @@ use Rattle.dma_device.proofs.Waits.{turn_rests}
 branch : (b : Bool) (x y : DeviceValue) → (b ≡ true → IsSoundDevice x) → (b ≡ false → IsSoundDevice y) → IsSoundDevice (if b then x else y)
 branch true x y f g = f refl
 branch false x y f g = g refl
-
-pub thread_sound : (d : DeviceValue) (n : ℕ) (t : Thread) → IsSoundDevice d → IsSound d.config.events t → IsSoundDevice (with_thread n t d)
-thread_sound d n t h sound = record {
-  few = h.few;
-  known = record { events = h.known.events; interrupts = h.known.interrupts; inten = h.known.inten };
-  threads = All-set (IsSound d.config.events) d.threads n t sound h.threads;
-}
-
--- other events, manager and debug registers
-same_threads : (d e : DeviceValue) → IsSoundDevice d → e.config ≡ d.config → e.threads ≡ d.threads → e.events < 2 ^ d.config.events → e.interrupts < 2 ^ d.config.events → e.inten < 2 ^ d.config.events → IsSoundDevice e
-same_threads d e h config threads events interrupts inten =
-    let count : e.config.events ≡ d.config.events = ap (λ (g : Config). g.events) config in
-    record {
-      few = rw count h.few;
-      known = record { events = rw count events; interrupts = rw count interrupts; inten = rw count inten };
-      threads = subst (λ (m : ℕ). All (IsSound m) e.threads) (sym count) (subst (All (IsSound d.config.events)) (sym threads) h.threads);
-    }
 
 signalled_sound : (d : DeviceValue) (k : ℕ) → IsSoundDevice d → k < d.config.events → IsSoundDevice (signalled k d)
 signalled_sound d k h less =
@@ -82,10 +64,10 @@ by_thread_sound n (Some t) opcode byte d h =
 go_sound : (ram : List Piece) (nonsecure : Bool) (n : ℕ) (o : Option Thread) (d : DeviceValue) → IsSoundDevice d → IsSoundDevice (go ram nonsecure n o d)
 go_sound ram nonsecure n None d h = manager_sound d operand_invalid h
 go_sound ram nonsecure n (Some t) d h =
-    let new : DeviceValue = with_thread n (started nonsecure d.dbginst1 (program_at ram d.dbginst1)) d in
+    let new : DeviceValue = with_thread n (started d.config.bus nonsecure d.dbginst1 (program_at ram d.dbginst1)) d in
     branch (d.config.nonsecure && not nonsecure) (manager_failed dmago_err d) (gone ram nonsecure n t d)
     (λ refused. manager_sound d dmago_err h)
-    (λ allowed. branch (is_stopped t) new d (λ stopped. thread_sound d n (started nonsecure d.dbginst1 (program_at ram d.dbginst1)) h refl) (λ busy. h))
+    (λ allowed. branch (is_stopped t) new d (λ stopped. thread_sound d n (started d.config.bus nonsecure d.dbginst1 (program_at ram d.dbginst1)) h refl) (λ busy. h))
 
 by_manager_sound : (ram : List Piece) (opcode byte : ℕ) (d : DeviceValue) → IsSoundDevice d → IsSoundDevice (by_manager ram opcode byte d)
 by_manager_sound ram opcode byte d h =
@@ -148,15 +130,12 @@ flags_sound d flags h =
 call_sound : (b : Bool) (d : DeviceValue) (regions : List Region) (n most : ℕ) (e : DeviceValue) (left : List Region) (called : Called) → IsSoundDevice d → CallsIf b d regions n most e left called → IsSoundDevice e
 call_sound b d regions n most e left called h x = elim (call_is b d regions n most e left called x) [
   | inl idle ↦ subst IsSoundDevice (sym idle.device) h
-  | inr other ↦ elim other [
-    | inl fails ↦ subst IsSoundDevice (sym fails.device) (thread_sound d n (failed operand_invalid fails.thread) h refl)
-    | inr does ↦
-        let c = does.call in
-        let after = answered d.config.events (record (does.thread) { channel = c.channel }) c.last called.signal in
-        subst IsSoundDevice (sym c.device)
-        (thread_sound (with_flags c.flags d) n after (flags_sound d c.flags h)
-        (answered_sound _ _ _ _ c.taken d.config.events c.last (record (does.thread) { channel = c.channel }) called.signal c.steps refl))
-  ]
+  | inr does ↦
+      let c = does.call in
+      let after = answered d.config.events (record (does.thread) { channel = c.channel }) c.last called.signal in
+      subst IsSoundDevice (sym c.device)
+      (thread_sound (with_flags c.flags d) n after (flags_sound d c.flags h)
+      (answered_sound _ _ _ _ c.taken d.config.events c.last (record (does.thread) { channel = c.channel }) called.signal c.steps refl))
 ]
 
 turn_sound : (d : DeviceValue) (regions : List Region) (n most : ℕ) (e : DeviceValue) (left : List Region) (turn : Turn) → IsSoundDevice d → TakesTurn d regions n most e left turn → IsSoundDevice e
@@ -165,6 +144,16 @@ turn_sound d regions n most e left turn h x =
     (call_sound (nat_lt 0 most && runs_at d n) d regions n most x.middle x.lent x.first h x.call) x.one_more
 
 -- ---- accesses
+
+threads_sound : (events : ℕ) (ts : List Thread) → All (IsThreadValue events) ts → All (IsSound events) ts
+threads_sound events ts all = λ i t found. (all i t found).sound
+
+value_sound : (d : DeviceValue) → IsDeviceValue d → IsSoundDevice d
+value_sound d v = record {
+  few = few_events d.config v.config;
+  known = v.known;
+  threads = threads_sound d.config.events d.threads v.threads;
+}
 
 access_sound : (a : Access) (d e : DeviceValue) (regions left : List Region) (answer : Answer) → Does a d regions answer e left → IsSoundDevice d → IsSoundDevice e
 access_sound (Reads at) d e regions left answer x h = subst IsSoundDevice (sym x.1) h
@@ -177,34 +166,32 @@ access_sound Resets d e regions left answer x h =
     (record {
       few = h.few;
       known = record { events = pow_pos g.events; interrupts = pow_pos g.events; inten = pow_pos g.events };
-      threads = All-replicate (IsSound g.events) g.channels reset_thread refl;
+      threads = All-replicate (IsSound g.events) g.channels (reset_thread g.bus) refl;
     })
-
-threads_sound : (events : ℕ) (ts : List Thread) → All (IsThreadValue events) ts → All (IsSound events) ts
-threads_sound events ts all = λ i t found. (all i t found).sound
+access_sound (Restores saved) d e regions left answer x h = subst IsSoundDevice (sym x.1) (value_sound saved x.4)
 
 pub stay_sound : StaySound
 stay_sound = record {
   reset = λ g valid. record {
     few = few_events g valid;
     known = record { events = pow_pos g.events; interrupts = pow_pos g.events; inten = pow_pos g.events };
-    threads = All-replicate (IsSound g.events) g.channels reset_thread refl;
+    threads = All-replicate (IsSound g.events) g.channels (reset_thread g.bus) refl;
   };
-  restored = λ d v. record { few = few_events d.config v.config; known = v.known; threads = threads_sound d.config.events d.threads v.threads };
+  restored = value_sound;
   kept = access_sound;
 }
 
-module _ (access : ℕ → Access) (answer : ℕ → Answer) (before : ℕ → DeviceValue) (lent : ℕ → List Region) (count : ℕ) (happen : Happen access answer before lent count) (sound : IsSoundDevice (before 0)) where
+module _ (access : ℕ → Access) (answer : ℕ → Answer) (before : ℕ → DeviceValue) (lent left : ℕ → List Region) (count : ℕ) (happen : Happen access answer before lent left count) (sound : IsSoundDevice (before 0)) where
   pub all_sound : (k : ℕ) → k ≤ count → IsSoundDevice (before k)
   all_sound zero within = sound
   all_sound (suc k) within =
       let e : k + 1 ≡ suc k = omega arith in
       subst (λ (m : ℕ). IsSoundDevice (before m)) e
-      (access_sound (access k) (before k) (before (k + 1)) (lent k) (lent (k + 1)) (answer k) (happen k (omega arith)) (all_sound k (omega arith)))
+      (access_sound (access k) (before k) (before (k + 1)) (lent k) (left k) (answer k) (happen k (omega arith)) (all_sound k (omega arith)))
 
 pub nothing_happens : NothingHappens
-nothing_happens access answer before lent count k n most happen sound less turns idle =
-    let here = all_sound access answer before lent count happen sound k (omega arith) in
-    let x = subst (λ (a : Access). Does a (before k) (lent k) (answer k) (before (k + 1)) (lent (k + 1))) turns (happen k less) in
-    let rests = turn_rests (before k) (lent k) n most (before (k + 1)) (lent (k + 1)) x.0 here idle x.1.1 in
+nothing_happens access answer before lent left count k n most happen sound less turns idle =
+    let here = all_sound access answer before lent left count happen sound k (omega arith) in
+    let x = subst (λ (a : Access). Does a (before k) (lent k) (answer k) (before (k + 1)) (left k)) turns (happen k less) in
+    let rests = turn_rests (before k) (lent k) n most (before (k + 1)) (left k) x.0 here idle x.1.1 in
     (rests.device, rests.alike, x.1.0 ∙ ap Turned rests.report)

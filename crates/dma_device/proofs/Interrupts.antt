@@ -6,11 +6,13 @@ use Rattle.std.proofs.lemmas.Nat.Bits.{bit_at-zero}
 use Rattle.std.specs.Int.{bit_at}
 use Rattle.dma_mem.specs.Regions.{Piece, pieces_of}
 use Rattle.dma_mem.specs.declared.regions.Region.{Region}
-use Rattle.dma_device.specs.Accesses.{Access, Answer, Does, Happen, Reads, Resets, Stores, Turns, Writes}
+use Rattle.dma_device.specs.Accesses.{Access, Answer, Does, Happen, Reads, Resets, Restores, Stores, Turns, Writes}
 use Rattle.dma_device.specs.Device.{DeviceValue, irqs, written}
 use Rattle.dma_device.specs.Turns.{TakesTurn}
+use Rattle.dma_device.specs.declared.config.Config.{Config}
 use Rattle.dma_device.specs.declared.device.turns.Turn.{Turn}
 use Rattle.dma_device.specs.Interrupts.{Clears, DebugSignals, HasLine, InterruptsAreExact, IsHigh, Raises, RaisedSince, StaysSet}
+use Rattle.dma_device.proofs.Sound.{few_events, fits_word}
 use Rattle.dma_device.proofs.TurnRaises.{turn_config, turn_inten, turn_raises}
 use Rattle.dma_device.proofs.WriteRaises.{dbgcmd_raises, has_kept, intclr_lowers, others_keep_lines}
 
@@ -76,6 +78,16 @@ turn_exact k n most d e regions left turn has x = (
   ]),
 )
 
+-- after a restore a bit is that of the restored device
+pub restored_bit : (k bits before after : ℕ) → after ≡ bits → IsHigh after k ↔ (IsHigh bits k ⊎ (IsHigh before k × ¬ ¬ IsHigh bits k))
+restored_bit k bits before after is = (
+  (λ high. inl (subst (λ (m : ℕ). IsHigh m k) is high)),
+  (λ why. subst (λ (m : ℕ). IsHigh m k) (sym is) (elim why [
+    | inl up ↦ up
+    | inr stays ↦ elim (cases_eq (bit_at bits k) 1) [ inl on ↦ on | inr off ↦ absurd (stays.1 off) ]
+  ])),
+)
+
 access_exact : (k : ℕ) (a : Access) (d e : DeviceValue) (regions left : List Region) (answer : Answer) → HasLine d k → Does a d regions answer e left → Exact k d e (Raises k a d regions e left) (Clears k a d)
 access_exact k (Reads at) d e regions left answer has x = same_exact k d e (Raises k (Reads at) d regions e left) ⊥ (ap irqs x.1) (λ up. up.1) (λ down. down)
 access_exact k (Writes at value) d e regions left answer has x =
@@ -85,6 +97,7 @@ access_exact k (Stores addr byte) d e regions left answer has x = same_exact k d
 access_exact k Resets d e regions left answer has x =
     let low : ¬ IsHigh (irqs e) k = (λ high. let zero_bit = ap (λ (v : DeviceValue). bit_at (irqs v) k) x.1 ∙ bit_at-zero k in omega (arith, zero_bit, high)) in
     ((λ high. absurd (low high)), (λ why. elim why [ inl up ↦ absurd (up.1) | inr stays ↦ absurd (stays.1 tt) ]))
+access_exact k (Restores saved) d e regions left answer has x = restored_bit k (irqs saved) (irqs d) (irqs e) (ap irqs x.1)
 
 -- ---- an access leaves a device its lines
 
@@ -108,15 +121,23 @@ access_has k (Turns n most) d e regions left answer has x =
 access_has k (Stores addr byte) d e regions left answer has x = subst (λ (v : DeviceValue). HasLine v k) (sym x.1) has
 access_has k Resets d e regions left answer has x =
     subst (λ (v : DeviceValue). HasLine v k) (sym x.1) (record { events = has.events; event = has.event; inten = omega arith })
+access_has k (Restores saved) d e regions left answer has x =
+    let few = few_events saved.config x.4.config in
+    subst (λ (v : DeviceValue). HasLine v k) (sym x.1)
+    (record {
+      events = few;
+      event = subst (λ (g : Config). k < g.events) (sym x.3) has.event;
+      inten = fits_word saved.inten saved.config.events few x.4.known.inten;
+    })
 
 -- ---- accesses in a row
 
-module _ (access : ℕ → Access) (answer : ℕ → Answer) (before : ℕ → DeviceValue) (lent : ℕ → List Region) (count k : ℕ) (happen : Happen access answer before lent count) (has : HasLine (before 0) k) where
+module _ (access : ℕ → Access) (answer : ℕ → Answer) (before : ℕ → DeviceValue) (lent left : ℕ → List Region) (count k : ℕ) (happen : Happen access answer before lent left count) (has : HasLine (before 0) k) where
   abbrev Stays : ℕ → ℕ → Type 0
   Stays i n = StaysSet access before k i n
 
   abbrev Raised : ℕ → Type 0
-  Raised n = RaisedSince access before lent k n
+  Raised n = RaisedSince access before lent left k n
 
   abbrev AtFirst : ℕ → Type 0
   AtFirst n = IsHigh (irqs (before 0)) k × Stays 0 n
@@ -125,7 +146,7 @@ module _ (access : ℕ → Access) (answer : ℕ → Answer) (before : ℕ → D
   Down n = Clears k (access n) (before n)
 
   abbrev Up : ℕ → Type 0
-  Up n = Raises k (access n) (before n) (lent n) (before (n + 1)) (lent (n + 1))
+  Up n = Raises k (access n) (before n) (lent n) (before (n + 1)) (left n)
 
   fewer : (i n : ℕ) → Stays i (n + 1) → Stays i n
   fewer i n stays j from less = stays j from (omega arith)
@@ -150,7 +171,7 @@ module _ (access : ℕ → Access) (answer : ℕ → Answer) (before : ℕ → D
 
   next_holds : (n : ℕ) → n < count → HasLine (before n) k → Holds n → Holds (n + 1)
   next_holds n less here held =
-      let x = access_exact k (access n) (before n) (before (n + 1)) (lent n) (lent (n + 1)) (answer n) here (happen n less) in (
+      let x = access_exact k (access n) (before n) (before (n + 1)) (lent n) (left n) (answer n) here (happen n less) in (
         (λ high. elim (x.0 high) [
           | inl up ↦ inl (raised_here n up)
           | inr stays ↦ elim (held.0 stays.0) [
@@ -174,7 +195,7 @@ module _ (access : ℕ → Access) (answer : ℕ → Answer) (before : ℕ → D
   all_have zero within = has
   all_have (suc n) within =
       let e : n + 1 ≡ suc n = omega arith in
-      subst (λ (m : ℕ). HasLine (before m) k) e (access_has k (access n) (before n) (before (n + 1)) (lent n) (lent (n + 1)) (answer n) (all_have n (omega arith)) (happen n (omega arith)))
+      subst (λ (m : ℕ). HasLine (before m) k) e (access_has k (access n) (before n) (before (n + 1)) (lent n) (left n) (answer n) (all_have n (omega arith)) (happen n (omega arith)))
 
   all_hold : (n : ℕ) → n ≤ count → Holds n
   all_hold zero within = (
@@ -186,4 +207,4 @@ module _ (access : ℕ → Access) (answer : ℕ → Answer) (before : ℕ → D
       subst Holds e (next_holds n (omega arith) (all_have n (omega arith)) (all_hold n (omega arith)))
 
 pub interrupts_are_exact : InterruptsAreExact
-interrupts_are_exact access answer before lent count k n happen has within = all_hold access answer before lent count k happen has n within
+interrupts_are_exact access answer before lent left count k n happen has within = all_hold access answer before lent left count k happen has n within

@@ -1,13 +1,16 @@
 -- Rows computed from the definitions: values after a reset, a DMAGO of a program with its turns, and INTCLR.
 use Rattle.std.proofs.Common.{◌≡◌, ℕ, true, false, List, [], ◌∷◌, get_or, Some, None, refl}
+use Rattle.dma_insn.specs.ControlWord.{control_of, end_at, is_control}
 use Rattle.dma_mem.specs.Flags.{flags_of}
 use Rattle.dma_mem.specs.Regions.{Piece}
-use Rattle.dma_chan.specs.Channel.{loaded}
+use Rattle.dma_chan.specs.declared.bus.Bus.TheVariants.{Chip}
+use Rattle.dma_chan.specs.declared.bus.BusWidth.TheVariants.{Bits32, Bits64, Bits128}
+use Rattle.dma_chan.specs.Channel.{loaded_on}
 use Rattle.dma_chan.specs.Stepping.{Machine, after_steps, last_of, machine, signal_after}
 use Rattle.dma_chan.specs.declared.turn.ChanTurn.TheVariants.{Ended}
-use Rattle.dma_device.specs.declared.config.BusWidth.TheVariants.{Bits32, Bits128}
 use Rattle.dma_device.specs.declared.config.Config.{Config}
 use Rattle.dma_device.specs.declared.config.Revision.TheVariants.{R0p0, R1p2}
+use Rattle.dma_device.specs.Config.{is_valid}
 use Rattle.dma_device.specs.Device.{DeviceValue, irq_abort, irqs, read_at, reset_device, written}
 use Rattle.dma_device.specs.Turns.{raises, runs_at, visible_events, with_flags}
 use Rattle.dma_device.specs.Accesses.{Access, Reads, Turned, Turns, Value, Writes}
@@ -34,6 +37,38 @@ cr3-nonsecure = refl
 
 inten-reset : read_at (reset_device largest) 0x020 ≡ 0
 inten-reset = refl
+
+-- ---- chips, and the limits of the buffer's lines
+
+-- Stratix 10, Arria 10 and Cyclone V: 8 channels, 32 events, 512 lines of 64 bits
+abbrev stratix : Config
+stratix = record { channels = 8; events = 32; nonsecure = false; bus = Bits64; lines = 512; revision = R1p2 }
+
+valid-stratix : is_valid stratix ≡ true
+valid-stratix = refl
+
+crd-stratix : read_at (reset_device stratix) 0xE14 ≡ 0x1FFF7F73
+crd-stratix = refl
+
+-- Juno: 1,024 lines of 128 bits, as many as CRD has room for
+abbrev juno : Config
+juno = record { channels = 8; events = 8; nonsecure = false; bus = Bits128; lines = 1024; revision = R1p2 }
+
+valid-juno : is_valid juno ≡ true
+valid-juno = refl
+
+crd-juno : read_at (reset_device juno) 0xE14 ≡ 0x3FFF7F74
+crd-juno = refl
+
+-- Exynos 5420: 4 lines of 64 bits for 6 channels
+valid-exynos : is_valid (record stratix { channels = 6; lines = 4 }) ≡ true
+valid-exynos = refl
+
+refused-lines : is_valid (record juno { lines = 1025 }) ≡ false
+refused-lines = refl
+
+refused-no_lines : is_valid (record juno { lines = 0 }) ≡ false
+refused-no_lines = refl
 
 -- channel 7 has its registers, and a device with one channel has none of channel 1
 csr-reset : read_at (reset_device largest) 0x138 ≡ 0
@@ -79,7 +114,7 @@ runs-going = refl
 
 -- its channel after the first step, and what that sets and answers; then DMAEND
 abbrev began : Machine
-began = machine (loaded (record { bytes = 0x34 ∷ 0x08 ∷ 0x00 ∷ []; cost = None })) [] (flags_of (visible_events going))
+began = machine (loaded_on (Chip Bits128) (record { bytes = 0x34 ∷ 0x08 ∷ 0x00 ∷ []; cost = None })) [] (flags_of (visible_events going))
 
 first-flags : (after_steps [] began 1).flags ≡ flags_of 0x2
 unfolding flags_of
@@ -100,6 +135,34 @@ raises-first = refl
 second-answer : last_of [] began 2 ≡ Some Ended
 unfolding flags_of
 second-answer = refl
+
+-- ---- a bus of 32 bits
+
+-- DMAMOV CCR with beats of four bytes at both ends, and DMAMOV CCR with source beats of eight bytes
+abbrev beats : List Piece
+beats = record { addr = 0x100; bytes = 188 ∷ 1 ∷ 5 ∷ 64 ∷ 1 ∷ 0 ∷ 188 ∷ 1 ∷ 7 ∷ 64 ∷ 1 ∷ 0 ∷ 0 ∷ [] } ∷ []
+
+abbrev narrow : Board
+narrow = record {
+  device = written beats 0xD04 0 (written beats 0xD0C 0x100 (written beats 0xD08 0x03A00000 (reset_device (record largest { bus = Bits32 }))));
+  ram = record { pieces = beats; read_only = [] };
+}
+
+abbrev wide_turn : Access
+wide_turn = Turns 3 10
+
+-- after a turn the channel fails at the second, with operand_invalid
+csr-wide : (next (Reads 0x118) (next wide_turn narrow).0).1 ≡ Value 15
+unfolding flags_of is_control control_of end_at
+csr-wide = refl
+
+ftr-wide : (next (Reads 0x04C) (next wide_turn narrow).0).1 ≡ Value 2
+unfolding flags_of is_control control_of end_at
+ftr-wide = refl
+
+cpc-wide : (next (Reads 0x11C) (next wide_turn narrow).0).1 ≡ Value 0x106
+unfolding flags_of is_control control_of end_at
+cpc-wide = refl
 
 -- DMAGO of channel 8, which no device has
 abbrev lost : DeviceValue

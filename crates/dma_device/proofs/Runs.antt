@@ -13,18 +13,18 @@ use Rattle.dma_mem.specs.declared.regions.Region.{Region}
 use Rattle.dma_mem.specs.declared.segment.Segment.{Segment}
 use Rattle.dma_mem.proofs.FlagBits.{get_or-flags_of, length-flags_of}
 use Rattle.dma_chan.specs.declared.turn.ChanTurn.{ChanTurn}
-use Rattle.dma_chan.specs.Channel.{ahead_of, code_of, last_count}
+use Rattle.dma_chan.specs.Channel.{last_count}
 use Rattle.dma_chan.specs.LentRegions.{segment_of, with_gaps_of}
 use Rattle.dma_chan.specs.Stepping.{Machine, TakesSteps, after_steps, goes_on_after, last_of, machine, signal_after, written_after}
 use Rattle.dma_chan.specs.Written.{joined}
 use Rattle.dma_device.specs.declared.device.turns.Called.{Called}
 use Rattle.dma_device.specs.declared.device.turns.Turn.{Turn}
 use Rattle.dma_device.specs.declared.thread.Thread.{Thread}
-use Rattle.dma_device.specs.Accesses.{Access, Answer, AreAlike, Does, Done, Happen, Reads, Resets, Stores, Turned, Turns, Value, Writes}
+use Rattle.dma_device.specs.Accesses.{Access, Answer, AreAlike, Does, Done, Happen, Reads, Resets, Restores, Stores, Turned, Turns, Value, Writes}
 use Rattle.dma_device.specs.Device.{DeviceValue, read_at, reset_device, with_thread, written}
-use Rattle.dma_device.specs.Run.{Board, Outcome, Ram, RunsStepByStep, board_of, called, called_if, idle, left_by, next, number_of, put_from, ram_of, run, stepped, steps_in, turned, with_image}
-use Rattle.dma_device.specs.Thread.{answered, failed, is_too_wide, most_on, operand_invalid}
-use Rattle.dma_device.specs.Turns.{CallsIf, CallsOne, CallsThread, CallsUnless, TakesTurn, lines_differ, may_follow, nothing, runs_at, visible_events, with_flags}
+use Rattle.dma_device.specs.Run.{Board, Outcome, Ram, RunsStepByStep, StaysLent, board_of, called, called_if, idle, left_by, next, number_of, put_from, ram_of, run, stepped, steps_in, turned, with_image}
+use Rattle.dma_device.specs.Thread.{answered}
+use Rattle.dma_device.specs.Turns.{CallsIf, CallsOne, CallsThread, TakesTurn, lines_differ, may_follow, nothing, runs_at, visible_events, with_flags}
 
 -- ---- how many steps a call takes
 
@@ -169,13 +169,9 @@ idle_is d e regions left made device same none =
     ∙ ap (λ (rs : List Region). outcome e (ram_of rs) nothing) (sym same)
     ∙ ap (λ (c : Called). outcome e (ram_of left) c) (sym none)
 
-unless_is : (b : Bool) (d : DeviceValue) (t : Thread) (regions : List Region) (n most : ℕ) (e : DeviceValue) (left : List Region) (made : Called) → CallsUnless b d t regions n most e left made → (if b then idle (board_of (with_thread n (failed operand_invalid t) d) regions) else stepped n (most_on d.config.bus (code_of t.channel) most) t (board_of d regions)) ≡ outcome e (ram_of left) made
-unless_is true d t regions n most e left made x = idle_is (with_thread n (failed operand_invalid t) d) e regions left made x.0 x.1 x.2
-unless_is false d t regions n most e left made x = stepped_is d t regions n (most_on d.config.bus (code_of t.channel) most) e left made x
-
 one_is : (o : Option Thread) (d : DeviceValue) (regions : List Region) (n most : ℕ) (e : DeviceValue) (left : List Region) (made : Called) → CallsOne o d regions n most e left made → called n most o (board_of d regions) ≡ outcome e (ram_of left) made
 one_is None d regions n most e left made x = absurd x
-one_is (Some t) d regions n most e left made x = unless_is (is_too_wide d.config.bus (ahead_of t.channel)) d t regions n most e left made x
+one_is (Some t) d regions n most e left made x = stepped_is d t regions n most e left made x
 
 pub if_is : (b : Bool) (d : DeviceValue) (regions : List Region) (n most : ℕ) (e : DeviceValue) (left : List Region) (made : Called) → CallsIf b d regions n most e left made → (if b then called n most (slice_get d.threads n) (board_of d regions) else idle (board_of d regions)) ≡ outcome e (ram_of left) made
 if_is true d regions n most e left made x = one_is (slice_get d.threads n) d regions n most e left made x
@@ -228,24 +224,27 @@ does_is (Stores addr byte) d regions answer e left x =
     ∙ ap (pair (board_of e left)) (sym x.0)
 does_is Resets d regions answer e left x =
     ap (λ (b : Board). pair b Done) (alike_is (reset_device d.config) e regions left x.1 x.2) ∙ ap (pair (board_of e left)) (sym x.0)
+does_is (Restores saved) d regions answer e left x =
+    ap (λ (b : Board). pair b Done) (alike_is saved e regions left x.1 x.2) ∙ ap (pair (board_of e left)) (sym x.0)
 
 -- ---- accesses in a row
 
-board_at : (access : ℕ → Access) (answer : ℕ → Answer) (before : ℕ → DeviceValue) (lent : ℕ → List Region) (count : ℕ) → Happen access answer before lent count → (k : ℕ) → k ≤ count → board_of (before k) (lent k) ≡ run access (board_of (before 0) (lent 0)) k
-board_at access answer before lent count x zero within = refl
-board_at access answer before lent count x (suc k) within =
+board_at : (access : ℕ → Access) (answer : ℕ → Answer) (before : ℕ → DeviceValue) (lent left : ℕ → List Region) (count : ℕ) → Happen access answer before lent left count → StaysLent lent left count → (k : ℕ) → k ≤ count → board_of (before k) (lent k) ≡ run access (board_of (before 0) (lent 0)) k
+board_at access answer before lent left count x stays zero within = refl
+board_at access answer before lent left count x stays (suc k) within =
     let e : k + 1 ≡ suc k = omega arith in
-    let here = board_at access answer before lent count x k (omega arith) in
-    let does = does_is (access k) (before k) (lent k) (answer k) (before (k + 1)) (lent (k + 1)) (x k (omega arith)) in
+    let here = board_at access answer before lent left count x stays k (omega arith) in
+    let does = does_is (access k) (before k) (lent k) (answer k) (before (k + 1)) (left k) (x k (omega arith)) in
     ap (λ (m : ℕ). board_of (before m) (lent m)) (sym e)
+    ∙ sym (alike_is (before (k + 1)) (before (k + 1)) (left k) (lent (k + 1)) refl (stays k (omega arith)))
     ∙ sym (ap (λ (p : Board × Answer). p.0) does)
     ∙ ap (λ (b : Board). (next (access k) b).0) here
 
 pub runs_step_by_step : RunsStepByStep
-runs_step_by_step access answer before lent count x =
-    let at = board_at access answer before lent count x in (
+runs_step_by_step access answer before lent left count x stays =
+    let at = board_at access answer before lent left count x stays in (
       at,
       (λ k less.
-          sym (ap (λ (p : Board × Answer). p.1) (does_is (access k) (before k) (lent k) (answer k) (before (k + 1)) (lent (k + 1)) (x k less)))
+          sym (ap (λ (p : Board × Answer). p.1) (does_is (access k) (before k) (lent k) (answer k) (before (k + 1)) (left k) (x k less)))
           ∙ ap (λ (b : Board). (next (access k) b).1) (at k (omega arith))),
     )

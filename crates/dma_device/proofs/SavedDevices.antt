@@ -11,11 +11,11 @@ use Rattle.dma_device.specs.declared.save.head.Head.{Head}
 use Rattle.dma_device.specs.declared.thread.Thread.{Thread}
 use Rattle.dma_device.specs.Device.{DeviceValue}
 use Rattle.dma_device.specs.Snapshot.{HasKnownEvents, IsDeviceValue, IsThreadValue, head_bytes, head_in, head_of, identity, old_save, parts_in, saved_device, saved_thread}
+use Rattle.dma_device.specs.Thread.{IsOn}
 use Rattle.dma_device.specs.Config.{is_valid}
-use Rattle.dma_device.specs.inner.Fields.{AreKnown}
 use Rattle.dma_device.specs.inner.Saves.{HasHeadRanges}
 use Rattle.dma_device.proofs.SavedParts.{head_length, tail_is}
-use Rattle.dma_device.proofs.Sound.{few_events, fits_word, known_of}
+use Rattle.dma_device.proofs.Sound.{few_events, fits_word}
 
 -- The numbers of a device's head are in their ranges.
 pub device_ranges : (d : DeviceValue) → IsDeviceValue d → HasHeadRanges (head_of d)
@@ -39,18 +39,17 @@ pub known_in : (version : ℕ) (d : DeviceValue) → IsDeviceValue d → HasKnow
 known_in version d v = record { events = v.known.events; interrupts = v.known.interrupts; inten = v.known.inten }
 
 -- What every device satisfies, in parts.
-pub device_value_is : (d : DeviceValue) → is_valid d.config ≡ true → AreKnown d.config.events d.events d.interrupts d.inten → HasHeadRanges (head_of d) → length d.threads ≡ d.config.channels → All (IsThreadValue d.config.events) d.threads → IsDeviceValue d
-device_value_is d valid known r count values =
-    let k = known_of d.config.events d.events d.interrupts d.inten known in
-    record {
-      config = valid;
-      known = record { events = k.0; interrupts = k.1.0; inten = k.1.1 };
-      dbginst0 = r.dbginst0;
-      dbginst1 = r.dbginst1;
-      fault = r.fault;
-      count = count;
-      threads = values;
-    }
+pub device_value_is : (d : DeviceValue) → is_valid d.config ≡ true → HasKnownEvents (head_of d) → HasHeadRanges (head_of d) → length d.threads ≡ d.config.channels → All (IsThreadValue d.config.events) d.threads → All (IsOn d.config.bus) d.threads → IsDeviceValue d
+device_value_is d valid known r count values on = record {
+  config = valid;
+  known = known;
+  dbginst0 = r.dbginst0;
+  dbginst1 = r.dbginst1;
+  fault = r.fault;
+  count = count;
+  threads = values;
+  on = on;
+}
 
 -- the device of a configuration, a head and threads
 abbrev pub from_head : Config → Head → List Thread → DeviceValue

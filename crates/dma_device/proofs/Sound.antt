@@ -1,23 +1,24 @@
 -- Each thread has a status that goes with its program, after a call too, and events stay among those of the device.
-use Rattle.std.proofs.Common.{◌≡◌, ◌∙◌, ◌⊎◌, ℕ, zero, suc, ◌+◌, ◌-◌, ◌*◌, ◌%◌, ◌^◌, ◌<◌, ◌≤◌, ◌&&◌, Bool, true, false, List, [], Option, Some, None, Result, Ok, Err, ap, get_or, inl, inr, length, refl, replicate, sym, subst, arith, bit_and}
-use Rattle.std.specs.Prelude.{is_some, nat_eq, nat_le, nat_lt, slice_index_or, if◌then◌else◌}
+use Rattle.std.proofs.Common.{◌≡◌, ◌∙◌, ℕ, zero, suc, ◌+◌, ◌-◌, ◌*◌, ◌%◌, ◌^◌, ◌<◌, ◌≤◌, ◌&&◌, Bool, true, false, List, [], Option, Some, None, Result, Ok, Err, ap, get_or, inl, inr, length, refl, replicate, sym, subst, arith, bit_and}
+use Rattle.std.specs.Prelude.{is_some, nat_eq, nat_le, nat_lt, slice_index_or, slice_set, if◌then◌else◌}
 use Rattle.std.proofs.Math.Nat.{mod-le}
 use Rattle.std.proofs.Math.Pow.{pow-lt, pow_mono}
-use Rattle.std.proofs.lemmas.Bool.{and_parts, eq-eqb, leb-true, lt-ltb}
-use Rattle.std.proofs.lemmas.List.{drop_all, length-set, with_items_is}
+use Rattle.std.proofs.lemmas.Bool.{and_parts, cases_eq, eq-eqb, leb-true, lt-ltb}
+use Rattle.std.proofs.lemmas.List.{drop_all, get_or-set_other, get_or-set_same, length-set, with_items_is}
 use Rattle.std.proofs.lemmas.List.Elements.{All-replicate, All-set}
 use Rattle.std.specs.List.{All}
 use Rattle.std.specs.Vec.{with_item, with_items}
 use Rattle.std.proofs.lemmas.Nat.{and_le_l, and_le_r, pow_pos}
 use Rattle.dma_mem.specs.Marking.{MarkList}
+use Rattle.dma_chan.specs.Bus.{accepts}
 use Rattle.dma_chan.specs.Channel.{ChannelValue, after_turn, ahead_of, bytes_of_program, last_count, state_of, step_of, stored_by}
 use Rattle.dma_chan.specs.Bursts.{burst_len, reaches, touched}
 use Rattle.dma_chan.specs.Exec.{State, act, buffer_size, counter_of, destination_of, exec_fetched, source_of}
-use Rattle.dma_insn.specs.ControlWord.{is_control}
 use Rattle.dma_insn.specs.declared.insn.Insn.{Insn}
 use Rattle.dma_insn.specs.declared.insn.Insn.TheVariants.{Mov, Ld, St, Rmb, Wmb, Nop, End, Lp, LpEnd, Sev, Wfe}
 use Rattle.dma_insn.specs.declared.insn.Reg.TheVariants.{Sar, Ccr, Dar}
 use Rattle.dma_mem.specs.declared.marks.MarkKind.TheVariants.{Reading, Writing}
+use Rattle.dma_chan.specs.declared.bus.BusWidth.{BusWidth}
 use Rattle.dma_chan.specs.declared.turn.FaultKind.{FaultKind}
 use Rattle.dma_chan.specs.Next.{fetched, next_of}
 use Rattle.dma_insn.specs.Decoding.{decoded}
@@ -30,10 +31,11 @@ use Rattle.dma_chan.proofs.SteppedOver.{was_moved, went_before}
 use Rattle.dma_device.specs.Config.{is_valid}
 use Rattle.dma_device.specs.declared.config.Config.{Config}
 use Rattle.dma_device.specs.declared.device.Device.TheInside.{Inside}
+use Rattle.dma_device.specs.Device.{DeviceValue, with_thread}
 use Rattle.dma_device.specs.Idle.{IsSoundDevice}
-use Rattle.dma_device.specs.inner.Fields.{AreKnown, AreSound, IsDevice, KnowsWide, device_value}
-use Rattle.dma_device.proofs.WidePrograms.{wide_kept}
-use Rattle.dma_device.specs.Thread.{IsSound, answer, answered, failed, is_before_wait, moved, operand_invalid, reset_thread, waits_for}
+use Rattle.dma_device.specs.inner.Fields.{AreOn, IsDevice, device_value}
+use Rattle.dma_device.proofs.ControlFits.{reset_is_on}
+use Rattle.dma_device.specs.Thread.{IsOn, IsSound, answer, answered, failed, is_before_wait, moved, operand_invalid, reset_thread, waits_for}
 use Rattle.dma_device.specs.declared.thread.Status.TheVariants.{Executing, WaitingForEvent}
 use Rattle.dma_device.specs.declared.thread.Thread.{Thread}
 
@@ -64,7 +66,7 @@ either_waits false next x y f g = g
 act_waits : (marks : MarkList) (i : Insn) (s : State) → WaitsFor (Ok i) (act marks i s)
 act_waits marks (Mov Sar v) s = λ e is. absurd (cc)
 act_waits marks (Mov Dar v) s = λ e is. absurd (cc)
-act_waits marks (Mov Ccr v) s = either_waits (is_control v) (Ok (Mov Ccr v)) _ _ (λ e is. absurd (cc)) (λ e is. absurd (cc))
+act_waits marks (Mov Ccr v) s = either_waits (accepts s.registers.bus v) (Ok (Mov Ccr v)) _ _ (λ e is. absurd (cc)) (λ e is. absurd (cc))
 act_waits marks Ld s =
     let b = source_of s.registers in
     either_waits (nat_lt buffer_size (length s.buffer + burst_len b)) (Ok Ld) _ _ (λ e is. absurd (cc))
@@ -151,23 +153,6 @@ by_program marks s v most (suc (suc j)) events last t signal None program x is =
 pub answered_sound : (marks : MarkList) (s v : Machine) (most taken events : ℕ) (last : Option ChanTurn) (t : Thread) (signal : Option ℕ) → TakesSteps marks s most taken last v → t.channel ≡ v.channel → IsSound events (answered events t last signal)
 answered_sound marks s v most taken events last t signal x is = by_program marks s v most taken events last t signal s.channel.program refl x is
 
-turn_program : (turn : ChanTurn) (s : State) (n : ℕ) (c : ChannelValue) → ((after_turn turn s n c).program ≡ c.program) ⊎ ((after_turn turn s n c).program ≡ None)
-turn_program Moved s n c = inl refl
-turn_program (Waiting e) s n c = inl refl
-turn_program (Fault kind) s n c = inl refl
-turn_program Ended s n c = inr refl
-
--- A call keeps the program or drops it.
-pub call_program : (marks : MarkList) (s v : Machine) (most taken : ℕ) (last : Option ChanTurn) → TakesSteps marks s most taken last v → (v.channel.program ≡ s.channel.program) ⊎ (v.channel.program ≡ None)
-call_program marks s v most zero last x = inl (ap (λ (m : Machine). m.channel.program) x.ends_at)
-call_program marks s v most (suc j) last x =
-    let u = after_steps marks s j in
-    let ends = ap (λ (m : Machine). m.channel.program) x.ends_at in
-    elim (turn_program (answer_at marks u) _ _ u.channel) [
-      | inl kept ↦ inl (ends ∙ kept ∙ program_kept marks s j x.moves)
-      | inr none ↦ inr (ends ∙ none)
-    ]
-
 -- ---- events
 
 -- the events that a device has, of some
@@ -197,72 +182,83 @@ few_channels g h = leb-true g.channels 8 (and_parts (nat_le g.channels 8) _ (and
 pub fits_word : (a n : ℕ) → n ≤ 32 → a < 2 ^ n → a < 2 ^ 32
 fits_word a n few less = omega (arith, pow_mono {i = n} {j = 32} few)
 
+-- ---- a device's value
+
+pub thread_sound : (d : DeviceValue) (n : ℕ) (t : Thread) → IsSoundDevice d → IsSound d.config.events t → IsSoundDevice (with_thread n t d)
+thread_sound d n t h sound = record {
+  few = h.few;
+  known = record { events = h.known.events; interrupts = h.known.interrupts; inten = h.known.inten };
+  threads = All-set (IsSound d.config.events) d.threads n t sound h.threads;
+}
+
+-- other events, manager and debug registers
+pub same_threads : (d e : DeviceValue) → IsSoundDevice d → e.config ≡ d.config → e.threads ≡ d.threads → e.events < 2 ^ d.config.events → e.interrupts < 2 ^ d.config.events → e.inten < 2 ^ d.config.events → IsSoundDevice e
+same_threads d e h config threads events interrupts inten =
+    let count : e.config.events ≡ d.config.events = ap (λ (g : Config). g.events) config in
+    record {
+      few = rw count h.few;
+      known = record { events = rw count events; interrupts = rw count interrupts; inten = rw count inten };
+      threads = subst (λ (m : ℕ). All (IsSound m) e.threads) (sym count) (subst (All (IsSound d.config.events)) (sym threads) h.threads);
+    }
+
 -- ---- a device's fields
 
-pub are_sound : (events : ℕ) (ts : List Thread) → All (IsSound events) ts → AreSound events ts
-unfolding AreSound
-are_sound events ts h = h
+pub all_reset : (bus : BusWidth) (events n : ℕ) → All (IsSound events) (replicate n (reset_thread bus))
+all_reset bus events n = All-replicate (IsSound events) n (reset_thread bus) refl
 
-pub sound_of : (events : ℕ) (ts : List Thread) → AreSound events ts → All (IsSound events) ts
-unfolding AreSound
-sound_of events ts h = h
+pub are_on : (bus : BusWidth) (ts : List Thread) → All (IsOn bus) ts → AreOn bus ts
+unfolding AreOn
+are_on bus ts h = h
 
-pub all_reset : (events n : ℕ) → AreSound events (replicate n reset_thread)
-unfolding AreSound
-all_reset events n = All-replicate (IsSound events) n reset_thread refl
+pub on_of : (bus : BusWidth) (ts : List Thread) → AreOn bus ts → All (IsOn bus) ts
+unfolding AreOn
+on_of bus ts h = h
 
-pub are_known : (n events interrupts inten : ℕ) → events < 2 ^ n → interrupts < 2 ^ n → inten < 2 ^ n → AreKnown n events interrupts inten
-unfolding AreKnown
-are_known n events interrupts inten a b c = (a, (b, c))
+pub reset_on : (bus : BusWidth) (n : ℕ) → AreOn bus (replicate n (reset_thread bus))
+unfolding AreOn
+reset_on bus n = All-replicate (IsOn bus) n (reset_thread bus) (reset_is_on bus)
 
-pub known_of : (n events interrupts inten : ℕ) → AreKnown n events interrupts inten → (events < 2 ^ n) × ((interrupts < 2 ^ n) × (inten < 2 ^ n))
-unfolding AreKnown
-known_of n events interrupts inten h = h
+-- a thread is replaced by one on its bus
+on_kept : (bus : BusWidth) (ts : List Thread) (n : ℕ) (old new : Thread) → AreOn bus ts → old ≡ get_or ts n old → (IsOn bus old → IsOn bus new) → AreOn bus (slice_set ts n new)
+unfolding AreOn
+on_kept bus ts n old new h is kept = λ k d less. elim (cases_eq k n) [
+  | inl here ↦
+      let within : n < length ts = omega (arith, length-set ts n new, here, less) in
+      let there : get_or (slice_set ts n new) k d ≡ new = ap (λ (j : ℕ). get_or (slice_set ts n new) j d) here ∙ get_or-set_same ts n new d within in
+      subst (IsOn bus) (sym there) (kept (subst (IsOn bus) (sym is) (h n old within)))
+  | inr other ↦
+      let within : k < length ts = omega (arith, length-set ts n new, less) in
+      subst (IsOn bus) (sym (get_or-set_other ts n k new d other)) (h k d within)
+]
 
--- a thread is replaced by one with its program, or with none
-pub with_new : (d : Inside) (n : ℕ) (old new : Thread) → IsDevice d → old ≡ get_or d.threads.items n old → (new.channel.program ≡ old.channel.program) ⊎ (new.channel.program ≡ None) → IsSound d.config.events new → IsDevice (record d { threads = with_item d.threads n new })
-with_new d n old new h is same sound = record {
+-- a thread is replaced by one on its bus
+pub with_new : (d : Inside) (n : ℕ) (old new : Thread) → IsDevice d → old ≡ get_or d.threads.items n old → (IsOn d.config.bus old → IsOn d.config.bus new) → IsSound d.config.events new → IsDevice (record d { threads = with_item d.threads n new })
+with_new d n old new h is kept sound = record {
   config = h.config;
-  known = h.known;
   count = length-set d.threads.items n new ∙ h.count;
-  sound = are_sound d.config.events _ (All-set (IsSound d.config.events) d.threads.items n new sound (sound_of d.config.events d.threads.items h.sound));
-  wide = wide_kept d.config.bus d.threads.items d.wide n old new h.wide is same;
-  room = h.room;
+  sound = thread_sound (device_value d) n new h.sound sound;
+  on = on_kept d.config.bus d.threads.items n old new h.on is kept;
   marks = h.marks;
 }
 
--- all threads are replaced, and the events are these
-pub with_all : (d : Inside) (events interrupts inten : ℕ) (wide : List Bool) (ts : List Thread) → IsDevice d → AreKnown d.config.events events interrupts inten → length ts ≡ d.threads.len → length ts ≡ length d.threads.items → AreSound d.config.events ts → KnowsWide d.config.bus ts wide → length wide ≡ 8 → IsDevice (record d { events = events; interrupts = interrupts; inten = inten; wide = wide; threads = with_items d.threads ts })
-with_all d events interrupts inten wide ts h known len count sound knows room =
+-- all threads are replaced
+pub with_all : (d : Inside) (ts : List Thread) → IsDevice d → length ts ≡ d.threads.len → length ts ≡ length d.threads.items → All (IsSound d.config.events) ts → AreOn d.config.bus ts → IsDevice (record d { threads = with_items d.threads ts })
+with_all d ts h len count sound on =
     let is = with_items_is d.threads ts len in
     record {
       config = h.config;
-      known = known;
       count = ap length is ∙ count ∙ h.count;
-      sound = subst (AreSound d.config.events) (sym is) sound;
-      wide = subst (λ (us : List Thread). KnowsWide d.config.bus us wide) (sym is) knows;
-      room = room;
+      sound = record { few = h.sound.few; known = h.sound.known; threads = subst (All (IsSound d.config.events)) (sym is) sound };
+      on = subst (AreOn d.config.bus) (sym is) on;
       marks = h.marks;
     }
 
 -- the events change
-pub with_events : (d : Inside) (events interrupts inten : ℕ) → IsDevice d → AreKnown d.config.events events interrupts inten → IsDevice (record d { events = events; interrupts = interrupts; inten = inten })
-with_events d events interrupts inten h known = record {
+pub with_events : (d : Inside) (events interrupts inten : ℕ) → IsDevice d → events < 2 ^ d.config.events → interrupts < 2 ^ d.config.events → inten < 2 ^ d.config.events → IsDevice (record d { events = events; interrupts = interrupts; inten = inten })
+with_events d events interrupts inten h a b c = record {
   config = h.config;
-  known = known;
   count = h.count;
-  sound = h.sound;
-  wide = h.wide;
-  room = h.room;
+  sound = same_threads (device_value d) (device_value (record d { events = events; interrupts = interrupts; inten = inten })) h.sound refl refl a b c;
+  on = h.on;
   marks = h.marks;
 }
-
--- so the device's value is sound
-pub is_sound_device : (d : Inside) → IsDevice d → IsSoundDevice (device_value d)
-is_sound_device d h =
-    let known = known_of d.config.events d.events d.interrupts d.inten h.known in
-    record {
-      few = few_events d.config h.config;
-      known = record { events = known.0; interrupts = known.1.0; inten = known.1.1 };
-      threads = sound_of d.config.events d.threads.items h.sound;
-    }

@@ -95,18 +95,18 @@ by_opcode : (ram : List Piece) (nonsecure : Bool) (n : ℕ) (e : DeviceValue) �
 by_opcode ram true n e calm = rw calm refl
 by_opcode ram false n e calm = rw calm refl
 
-go_starts : (ram : List Piece) (nonsecure : Bool) (n : ℕ) (th : Thread) (e : DeviceValue) → (e.config.nonsecure && not nonsecure) ≡ false → is_stopped th ≡ true → go ram nonsecure n (Some th) e ≡ with_thread n (started nonsecure e.dbginst1 (program_at ram e.dbginst1)) e
+go_starts : (ram : List Piece) (nonsecure : Bool) (n : ℕ) (th : Thread) (e : DeviceValue) → (e.config.nonsecure && not nonsecure) ≡ false → is_stopped th ≡ true → go ram nonsecure n (Some th) e ≡ with_thread n (started e.config.bus nonsecure e.dbginst1 (program_at ram e.dbginst1)) e
 go_starts ram nonsecure n th e allowed stopped = rw (allowed, stopped) refl
 
 -- the thread after a driver's writes of a DMAGO
-pub dmago_starts : (ram : List Piece) (nonsecure : Bool) (n addr : ℕ) (d : DeviceValue) → MayGo d nonsecure n → slice_get (go_written ram nonsecure n addr d).threads n ≡ Some (started nonsecure addr (program_at ram addr))
+pub dmago_starts : (ram : List Piece) (nonsecure : Bool) (n addr : ℕ) (d : DeviceValue) → MayGo d nonsecure n → slice_get (go_written ram nonsecure n addr d).threads n ≡ Some (started d.config.bus nonsecure addr (program_at ram addr))
 dmago_starts ram nonsecure n addr d may =
     let e = written_both nonsecure n addr d in
     let w = word nonsecure n in
-    let th = get_or d.threads n reset_thread in
-    let is = slice_get-get_or d.threads n reset_thread may.channel in
+    let th = get_or d.threads n (reset_thread d.config.bus) in
+    let is = slice_get-get_or d.threads n (reset_thread d.config.bus) may.channel in
     let stopped = reads_stopped d n th may.few is may.stopped in
-    let new = started nonsecure addr (program_at ram addr) in
+    let new = started d.config.bus nonsecure addr (program_at ram addr) in
     let all : go_written ram nonsecure n addr d ≡ with_thread n new e =
     ap (λ (o : ℕ). executed ram e o (field 24 8 w) (field 8 3 w) (field 0 1 w)) (opcode_is nonsecure n)
     ∙ ap (λ (b : ℕ). executed ram e (0xA0 + 2 * flag nonsecure) b (field 8 3 w) (field 0 1 w)) (channel_is nonsecure n may.few)

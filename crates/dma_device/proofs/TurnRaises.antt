@@ -5,7 +5,6 @@ use Rattle.std.specs.Int.{bit_at, bit_not}
 use Rattle.std.proofs.lemmas.Bool.{cases_eq, ne_eqb}
 use Rattle.std.proofs.lemmas.List.{get_or-set_same, get_or-set_other, length-set}
 use Rattle.std.proofs.lemmas.Nat.Bits.{bit_at-lt, bit_at_and, bit_at_not, bit_at_ones, bit_at_or}
-use Rattle.dma_insn.specs.ControlWord.{is_control}
 use Rattle.dma_insn.specs.declared.insn.Insn.{Insn}
 use Rattle.dma_insn.specs.declared.insn.Insn.TheVariants.{Mov, Ld, St, Rmb, Wmb, Nop, End, Lp, LpEnd, Sev, Wfe}
 use Rattle.dma_insn.specs.declared.insn.Reg.TheVariants.{Sar, Ccr, Dar}
@@ -15,12 +14,13 @@ use Rattle.dma_mem.specs.Marking.{MarkList}
 use Rattle.dma_mem.specs.Regions.{image_of, pieces_of}
 use Rattle.dma_mem.specs.declared.regions.Region.{Region}
 use Rattle.dma_mem.proofs.FlagBits.{get_or-flags_of, length-flags_of}
+use Rattle.dma_chan.specs.Bus.{accepts}
 use Rattle.dma_chan.specs.declared.exec.Registers.{Registers}
 use Rattle.dma_chan.specs.declared.turn.ChanTurn.{ChanTurn}
 use Rattle.dma_chan.specs.declared.turn.ChanTurn.TheVariants.{Moved, Waiting, Ended, Fault}
 use Rattle.dma_chan.specs.declared.turn.FaultKind.{FaultKind}
 use Rattle.dma_chan.specs.Bursts.{reaches, burst_len, touched, writes_of}
-use Rattle.dma_chan.specs.Channel.{ahead_of, code_of, state_of}
+use Rattle.dma_chan.specs.Channel.{ahead_of, state_of}
 use Rattle.dma_chan.specs.Exec.{source_of, destination_of, counter_of, State, act, load, store, buffer_size, exec_fetched}
 use Rattle.dma_chan.specs.LentRegions.{with_gaps_of}
 use Rattle.dma_chan.specs.Stepping.{Machine, TakesSteps, after_steps, answer_at, goes_on, goes_on_after, machine, signal_of, signal_after}
@@ -29,8 +29,7 @@ use Rattle.dma_device.specs.declared.device.turns.Called.{Called}
 use Rattle.dma_device.specs.declared.thread.Thread.{Thread}
 use Rattle.dma_device.specs.Device.{DeviceValue, all_events, irqs}
 use Rattle.dma_device.specs.Interrupts.{HasLine, IsHigh}
-use Rattle.dma_device.specs.Thread.{is_too_wide, most_on}
-use Rattle.dma_device.specs.Turns.{CallsIf, CallsOne, CallsThread, CallsUnless, TakesTurn, may_follow, runs_at, visible_events, with_flags}
+use Rattle.dma_device.specs.Turns.{CallsIf, CallsOne, CallsThread, TakesTurn, may_follow, runs_at, visible_events, with_flags}
 use Rattle.dma_device.specs.declared.device.turns.Turn.{Turn}
 use Rattle.dma_device.proofs.CallKeeps.{if_config}
 
@@ -59,7 +58,7 @@ store_clear marks addresses n writes r s k h = chosen (reaches Writing marks (le
 pub act_clear : (marks : MarkList) (i : Insn) (s : State) (k : ℕ) → IsClear k s.flags → signal_of (Ok i) ≢ Some k → IsClear k (act marks i s).1.flags
 act_clear marks (Mov Sar v) s k h other = h
 act_clear marks (Mov Dar v) s k h other = h
-act_clear marks (Mov Ccr v) s k h other = chosen (is_control v) _ _ k h h
+act_clear marks (Mov Ccr v) s k h other = chosen (accepts s.registers.bus v) _ _ k h h
 act_clear marks Ld s k h other = chosen (nat_lt buffer_size (length s.buffer + burst_len (source_of s.registers))) _ _ k h (load_clear marks _ _ s k h)
 act_clear marks St s k h other =
     let b = destination_of s.registers in
@@ -215,13 +214,9 @@ same_raises d e signal k lines none = (
   (λ why. elim why [ inl high ↦ subst (λ (m : ℕ). IsHigh m k) (sym lines) high | inr here ↦ absurd (let bad = sym none ∙ here.1 in cc) ]),
 )
 
-unless_raises : (b : Bool) (d : DeviceValue) (t : Thread) (regions : List Region) (n most : ℕ) (e : DeviceValue) (left : List Region) (called : Called) (k : ℕ) → HasLine d k → CallsUnless b d t regions n most e left called → CallRaises d e called.signal k
-unless_raises true d t regions n most e left called k has x = same_raises d e called.signal k (ap irqs x.0) (ap (λ (c : Called). c.signal) x.2)
-unless_raises false d t regions n most e left called k has x = call_raises d t regions n (most_on d.config.bus (code_of t.channel) most) e left called k has x
-
 one_raises : (o : Option Thread) (d : DeviceValue) (regions : List Region) (n most : ℕ) (e : DeviceValue) (left : List Region) (called : Called) (k : ℕ) → HasLine d k → CallsOne o d regions n most e left called → CallRaises d e called.signal k
 one_raises None d regions n most e left called k has x = absurd x
-one_raises (Some t) d regions n most e left called k has x = unless_raises (is_too_wide d.config.bus (ahead_of t.channel)) d t regions n most e left called k has x
+one_raises (Some t) d regions n most e left called k has x = call_raises d t regions n most e left called k has x
 
 if_raises : (b : Bool) (d : DeviceValue) (regions : List Region) (n most : ℕ) (e : DeviceValue) (left : List Region) (called : Called) (k : ℕ) → HasLine d k → CallsIf b d regions n most e left called → CallRaises d e called.signal k
 if_raises true d regions n most e left called k has x = one_raises (slice_get d.threads n) d regions n most e left called k has x
@@ -229,13 +224,9 @@ if_raises false d regions n most e left called k has x = same_raises d e called.
 
 -- ---- a turn
 
-unless_inten : (b : Bool) (d : DeviceValue) (t : Thread) (regions : List Region) (n most : ℕ) (e : DeviceValue) (left : List Region) (called : Called) → CallsUnless b d t regions n most e left called → e.inten ≡ d.inten
-unless_inten true d t regions n most e left called x = ap (λ (v : DeviceValue). v.inten) x.0
-unless_inten false d t regions n most e left called x = ap (λ (v : DeviceValue). v.inten) x.device
-
 one_inten : (o : Option Thread) (d : DeviceValue) (regions : List Region) (n most : ℕ) (e : DeviceValue) (left : List Region) (called : Called) → CallsOne o d regions n most e left called → e.inten ≡ d.inten
 one_inten None d regions n most e left called x = absurd x
-one_inten (Some t) d regions n most e left called x = unless_inten (is_too_wide d.config.bus (ahead_of t.channel)) d t regions n most e left called x
+one_inten (Some t) d regions n most e left called x = ap (λ (v : DeviceValue). v.inten) x.device
 
 pub if_inten : (b : Bool) (d : DeviceValue) (regions : List Region) (n most : ℕ) (e : DeviceValue) (left : List Region) (called : Called) → CallsIf b d regions n most e left called → e.inten ≡ d.inten
 if_inten true d regions n most e left called x = one_inten (slice_get d.threads n) d regions n most e left called x

@@ -19,7 +19,7 @@ use Rattle.dma_mem.specs.Regions.{image_of, pieces_of, read_only_of}
 use Rattle.dma_mem.specs.declared.regions.Region.{Region}
 use Rattle.dma_mem.specs.declared.segment.Segment.{Segment}
 use Rattle.dma_mem.proofs.FlagBits.{get_or-flags_of}
-use Rattle.dma_chan.specs.Channel.{ChannelValue, ahead_of, code_of, last_count, state_of}
+use Rattle.dma_chan.specs.Channel.{ChannelValue, ahead_of, last_count, state_of}
 use Rattle.dma_chan.specs.Exec.{ChangesNothing, exec_fetched}
 use Rattle.dma_chan.specs.LentRegions.{segment_of, with_gaps_of}
 use Rattle.dma_chan.specs.Stepping.{Machine, TakesSteps, answer_at, machine, signal_after, signal_of, written_after}
@@ -28,8 +28,6 @@ use Rattle.dma_chan.specs.declared.turn.ChanTurn.{ChanTurn}
 use Rattle.dma_chan.specs.declared.turn.ChanTurn.TheVariants.{Waiting}
 use Rattle.dma_chan.specs.declared.turn.FaultKind.{FaultKind}
 use Rattle.dma_chan.proofs.SteppedOver.{is_still, was_moved, went_before}
-use Rattle.dma_device.specs.declared.config.BusWidth.{BusWidth}
-use Rattle.dma_device.specs.declared.config.BusWidth.TheVariants.{Bits32, Bits64, Bits128}
 use Rattle.dma_device.specs.declared.device.turns.Called.{Called}
 use Rattle.dma_device.specs.declared.device.turns.Turn.{Turn}
 use Rattle.dma_device.specs.declared.thread.Status.{Status}
@@ -39,12 +37,11 @@ use Rattle.dma_device.specs.Accesses.{AreAlike}
 use Rattle.dma_device.specs.Device.{DeviceValue, all_events, irq_abort, with_thread}
 use Rattle.dma_device.specs.Idle.{IsSoundDevice, no_turn}
 use Rattle.dma_device.specs.Run.{number_of, put_from}
-use Rattle.dma_device.specs.Thread.{IsSound, answered, can_step, has_status, is_before_wait, is_signalled, is_too_wide, most_on, runs, waits_for}
+use Rattle.dma_device.specs.Thread.{IsSound, answered, can_step, has_status, is_before_wait, is_signalled, runs, waits_for}
 use Rattle.dma_device.specs.Turns.{CallsIf, CallsThread, TakesTurn, lines_differ, may_follow, nothing, runs_at, runs_if, visible_events, with_flags}
 use Rattle.dma_device.specs.CallSteps.{machine_in}
 use Rattle.dma_device.proofs.Calls.{call_is}
 use Rattle.dma_device.proofs.Runs.{number_is, put_is}
-use Rattle.dma_device.proofs.WidePrograms.{most_some}
 
 -- ---- lists of threads
 
@@ -202,11 +199,6 @@ alike_is regions left places access image = record {
   read_only = access;
 }
 
-not_wide : (bus : BusWidth) (next : Result Insn FaultKind) (e : ℕ) (v : Bool) → next ≡ Ok (Wfe e v) → is_too_wide bus next ≡ false
-not_wide Bits32 next e v is = rw is refl
-not_wide Bits64 next e v is = rw is refl
-not_wide Bits128 next e v is = refl
-
 waits_still : (d : DeviceValue) (t : Thread) (regions : List Region) (n most : ℕ) (e : DeviceValue) (left : List Region) (called : Called) → IsSoundDevice d → slice_get d.threads n ≡ Some t → 0 < most → (w : Waits d.config.events (visible_events d) t) → CallsThread d t regions n most e left called → Leaves d regions e left called
 waits_still d t regions n most e left called h found some w x =
     let marks = with_gaps_of regions [] in
@@ -248,14 +240,9 @@ waits_here d n t h idle found on =
 pub call_leaves : (b : Bool) (d : DeviceValue) (regions : List Region) (n most : ℕ) (e : DeviceValue) (left : List Region) (called : Called) → IsSoundDevice d → list_any (can_step (visible_events d)) d.threads ≡ false → (b ≡ true → (0 < most) × (runs_at d n ≡ true)) → CallsIf b d regions n most e left called → Leaves d regions e left called
 call_leaves b d regions n most e left called h idle on x = elim (call_is b d regions n most e left called x) [
   | inl none ↦ record { device = none.device; alike = alike_same regions left none.same; none = none.none }
-  | inr other ↦ elim other [
-    | inl fails ↦
-        let w = waits_here d n fails.thread h idle fails.found (on fails.on).1 in
-        absurd (true≢false (sym fails.wide ∙ not_wide d.config.bus (ahead_of fails.thread.channel) w.event w.invalid w.next))
-    | inr does ↦
-        waits_still d does.thread regions n (most_on d.config.bus (code_of does.thread.channel) most) e left called h does.found
-        (most_some d.config.bus (code_of does.thread.channel) most (on does.on).0) (waits_here d n does.thread h idle does.found (on does.on).1) does.call
-  ]
+  | inr does ↦
+      waits_still d does.thread regions n most e left called h does.found (on does.on).0
+      (waits_here d n does.thread h idle does.found (on does.on).1) does.call
 ]
 
 -- ---- a turn

@@ -258,7 +258,7 @@ module _ (kind : Bool) where
   go_rises : (ram : List Piece) (nonsecure : Bool) (n : ℕ) (o : Option Thread) (d : DeviceValue) (k : ℕ) (P : Type 0) → ¬ P → Rises kind d (go ram nonsecure n o d) k P
   go_rises ram nonsecure n None d k P none = rises_same kind d (manager_failed operand_invalid d) k P refl refl refl refl none
   go_rises ram nonsecure n (Some t) d k P none =
-      let new : DeviceValue = with_thread n (started nonsecure d.dbginst1 (program_at ram d.dbginst1)) d in
+      let new : DeviceValue = with_thread n (started d.config.bus nonsecure d.dbginst1 (program_at ram d.dbginst1)) d in
       branch kind (d.config.nonsecure && not nonsecure) d (manager_failed dmago_err d) (gone ram nonsecure n t d) k P
       (λ refused. rises_same kind d (manager_failed dmago_err d) k P refl refl refl refl none)
       (λ allowed. branch kind (is_stopped t) d new d k P (λ stopped. rises_same kind d new k P refl refl refl refl none) (λ busy. rises_same kind d d k P refl refl refl refl none))

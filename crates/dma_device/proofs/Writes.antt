@@ -1,13 +1,12 @@
 -- What a turn writes.
-use Rattle.std.proofs.Common.{◌≡◌, ◌∙◌, ℕ, zero, suc, ◌≤◌, Bool, true, false, ◌&&◌, List, [], Option, Some, None, ap, refl, sym, subst, arith, inl, inr}
-use Rattle.std.specs.Prelude.{◌==◌, min, slice_get, if◌then◌else◌}
+use Rattle.std.proofs.Common.{◌≡◌, ◌∙◌, ℕ, zero, suc, ◌≤◌, Bool, true, ◌&&◌, List, [], Option, Some, None, ap, refl, sym, subst, arith, inl, inr}
+use Rattle.std.specs.Prelude.{◌==◌, slice_get}
 use Rattle.std.proofs.Math.Bool.{or-true}
 use Rattle.std.proofs.lemmas.Bool.{and_parts, cases_eq}
 use Rattle.dma_mem.specs.Marking.{MarkList}
 use Rattle.dma_mem.specs.Regions.{image_of, names_of, pieces_of}
 use Rattle.dma_mem.specs.declared.regions.Region.{Region}
 use Rattle.dma_mem.specs.declared.segment.Segment.{Segment}
-use Rattle.dma_chan.specs.Channel.{code_of}
 use Rattle.dma_chan.specs.LentRegions.{with_gaps_of}
 use Rattle.dma_chan.specs.Stepping.{Machine, answer_at, written_after}
 use Rattle.dma_chan.specs.Written.{KeepsOutside, LiesIn, adjoins, also_written, joined, range_at, store_ahead}
@@ -16,11 +15,10 @@ use Rattle.dma_chan.specs.declared.turn.ChanTurn.TheVariants.{Moved, Waiting, En
 use Rattle.dma_chan.proofs.CallWrites.{call_writes_no_other}
 use Rattle.dma_chan.proofs.SteppedOver.{writes_each}
 use Rattle.dma_chan.proofs.WrittenRanges.{in_joined, joined_first, joined_none, of_either}
-use Rattle.dma_device.specs.declared.config.BusWidth.{BusWidth}
 use Rattle.dma_device.specs.declared.device.turns.Called.{Called}
 use Rattle.dma_device.specs.declared.thread.Thread.{Thread}
 use Rattle.dma_device.specs.Device.{DeviceValue}
-use Rattle.dma_device.specs.Thread.{has_too_wide, most_on, runs}
+use Rattle.dma_device.specs.Thread.{runs}
 use Rattle.dma_device.specs.Turns.{CallsIf, begins, follows, is_beside, may_follow, nothing, raises, runs_at}
 use Rattle.dma_device.specs.CallSteps.{machine_in}
 use Rattle.dma_device.specs.Writes.{CallWrote, TurnWritesEach}
@@ -38,12 +36,9 @@ keeps_all w regions left same = subst (λ (rs : List Region). KeepsOutside w (im
 call_keeps : (b : Bool) (d : DeviceValue) (regions : List Region) (n most : ℕ) (e : DeviceValue) (left : List Region) (called : Called) → CallsIf b d regions n most e left called → KeepsOutside called.written (image regions) (image left)
 call_keeps b d regions n most e left called x = elim (call_is b d regions n most e left called x) [
   | inl idle ↦ keeps_all called.written regions left idle.same
-  | inr other ↦ elim other [
-    | inl fails ↦ keeps_all called.written regions left fails.same
-    | inr does ↦
-        subst (λ (w : Segment). KeepsOutside w (image regions) (image left)) (sym does.call.written)
-        (call_writes_no_other (with_gaps_of regions []) (machine_in d does.thread regions) _ does.call.taken does.call.last _ does.call.steps)
-  ]
+  | inr does ↦
+      subst (λ (w : Segment). KeepsOutside w (image regions) (image left)) (sym does.call.written)
+      (call_writes_no_other (with_gaps_of regions []) (machine_in d does.thread regions) _ does.call.taken does.call.last _ does.call.steps)
 ]
 
 no_address : (called : Called) (a : ℕ) → called ≡ nothing → ¬ LiesIn called.written a
@@ -53,16 +48,13 @@ no_address called a none i =
 call_writes : (b : Bool) (d : DeviceValue) (regions : List Region) (n most : ℕ) (e : DeviceValue) (left : List Region) (called : Called) (a : ℕ) → CallsIf b d regions n most e left called → LiesIn called.written a → CallWrote b d regions n most e left called a
 call_writes b d regions n most e left called a x i = elim (call_is b d regions n most e left called x) [
   | inl idle ↦ absurd (no_address called a idle.none i)
-  | inr other ↦ elim other [
-    | inl fails ↦ absurd (no_address called a fails.none i)
-    | inr does ↦ (does, writes_each (with_gaps_of regions []) (machine_in d does.thread regions) does.call.taken a does.call.steps.moves (subst (λ (w : Segment). LiesIn w a) does.call.written i))
-  ]
+  | inr does ↦ (does, writes_each (with_gaps_of regions []) (machine_in d does.thread regions) does.call.taken a does.call.steps.moves (subst (λ (w : Segment). LiesIn w a) does.call.written i))
 ]
 
 call_names : (b : Bool) (d : DeviceValue) (regions : List Region) (n most : ℕ) (e : DeviceValue) (left : List Region) (called : Called) → CallsIf b d regions n most e left called → names_of left ≡ names_of regions
 call_names b d regions n most e left called x = elim (call_is b d regions n most e left called x) [
   | inl idle ↦ ap names_of idle.same
-  | inr other ↦ elim other [ inl fails ↦ ap names_of fails.same | inr does ↦ does.call.names ]
+  | inr does ↦ does.call.names
 ]
 
 -- ---- the range of one more step
@@ -87,33 +79,21 @@ by_count w marks s zero few close = adjoins_none w (range_at 0 0) refl
 by_count w marks s (suc zero) few close = by_answer w (store_ahead s.channel) (answer_at marks s) close
 by_count w marks s (suc (suc k)) few close = absurd (omega arith)
 
-one_at_most : (bus : BusWidth) (program : List ℕ) → most_on bus program 1 ≤ 1
-one_at_most bus program = by (has_too_wide bus program)
-  where
-    by : (b : Bool) → (if b then min 1 1 else 1) ≤ 1
-    by true = omega arith
-    by false = omega arith
-
 beside_of : (w : Segment) (o : Option Thread) (t : Thread) → o ≡ Some t → is_beside w o ≡ true → adjoins w (store_ahead t.channel) ≡ true
 beside_of w None t found is = absurd (cc)
 beside_of w (Some u) t found is =
     let same : u ≡ t = cc in
     ap (λ (v : Thread). adjoins w (store_ahead v.channel)) (sym same) ∙ (and_parts (runs u) (adjoins w (store_ahead u.channel)) is).1
 
-second_beside : (d : DeviceValue) (regions : List Region) (n : ℕ) (e : DeviceValue) (left : List Region) (first second : Called) → CallsIf (may_follow d n first && runs_at d n) d regions n 1 e left second → adjoins first.written second.written ≡ true
+pub second_beside : (d : DeviceValue) (regions : List Region) (n : ℕ) (e : DeviceValue) (left : List Region) (first second : Called) → CallsIf (may_follow d n first && runs_at d n) d regions n 1 e left second → adjoins first.written second.written ≡ true
 second_beside d regions n e left first second x = elim (call_is (may_follow d n first && runs_at d n) d regions n 1 e left second x) [
   | inl idle ↦ adjoins_none first.written second.written (ap (λ (c : Called). c.written.len) idle.none)
-  | inr other ↦ elim other [
-    | inl fails ↦ adjoins_none first.written second.written (ap (λ (c : Called). c.written.len) fails.none)
-    | inr does ↦
-        let follows = (and_parts (may_follow d n first) (runs_at d n) does.on).0 in
-        let beside = (and_parts (raises d first.signal) (is_beside first.written (slice_get d.threads n)) follows).1 in
-        let close = beside_of first.written (slice_get d.threads n) does.thread does.found beside in
-        let few = does.call.steps.few in
-        let program = code_of does.thread.channel in
-        ap (adjoins first.written) does.call.written
-        ∙ by_count first.written (with_gaps_of regions []) (machine_in d does.thread regions) does.call.taken (omega (arith, few, one_at_most d.config.bus program)) close
-  ]
+  | inr does ↦
+      let follows = (and_parts (may_follow d n first) (runs_at d n) does.on).0 in
+      let beside = (and_parts (raises d first.signal) (is_beside first.written (slice_get d.threads n)) follows).1 in
+      let close = beside_of first.written (slice_get d.threads n) does.thread does.found beside in
+      ap (adjoins first.written) does.call.written
+      ∙ by_count first.written (with_gaps_of regions []) (machine_in d does.thread regions) does.call.taken does.call.steps.few close
 ]
 
 -- ---- a turn

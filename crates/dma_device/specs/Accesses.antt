@@ -1,21 +1,23 @@
 -- Accesses in a row: what a guest's driver and its processor do to a device and to RAM, and the turns that a host gives
--- to channels, in any order.
+-- to channels, in any order. The host also resets and restores the device.
 use Rattle.std.specs.Prelude.{◌≡◌, ℕ, ◌+◌, ◌<◌, List, map, slice_set}
 use Rattle.dma_mem.specs.Regions.{image_of, pieces_of, read_only_of}
 use Rattle.dma_mem.specs.declared.regions.Region.{Region}
 use Rattle.dma_chan.specs.LentRegions.{segment_of}
 use Rattle.dma_device.specs.declared.device.turns.Turn.{Turn}
 use Rattle.dma_device.specs.Device.{DeviceValue, read_at, reset_device, written}
+use Rattle.dma_device.specs.Snapshot.{IsDeviceValue}
 use Rattle.dma_device.specs.Turns.{TakesTurn}
 
 -- A read or a write of the register at an offset, a turn of channel n of at most `most` steps, a byte that the processor
--- writes to an address of RAM, or a reset of the device.
+-- writes to an address of RAM, a reset of the device, or a restore that makes it this saved device.
 pub data Access : Type 0 where
   Reads : ℕ → Access
   Writes : ℕ → ℕ → Access
   Turns : ℕ → ℕ → Access
   Stores : ℕ → ℕ → Access
   Resets : Access
+  Restores : DeviceValue → Access
 
 -- what an access returns
 pub data Answer : Type 0 where
@@ -28,7 +30,8 @@ pub record AreAlike (left regions : List Region) : Type 0 where
   pub pieces : pieces_of left ≡ pieces_of regions
   pub read_only : read_only_of left ≡ read_only_of regions
 
--- What an access makes of a device and of the regions, and what it returns.
+-- What an access makes of a device and of the regions, and what it returns. A restored device has the configuration of
+-- the one before, and satisfies what every device does.
 abbrev pub Does : Access → DeviceValue → List Region → Answer → DeviceValue → List Region → Type 0
 Does (Reads at) d regions answer e left =
     (answer ≡ Value (read_at d at)) × (e ≡ d) × AreAlike left regions
@@ -41,9 +44,12 @@ Does (Stores addr byte) d regions answer e left =
     × (read_only_of left ≡ read_only_of regions)
     × (image_of (pieces_of left) ≡ slice_set (image_of (pieces_of regions)) addr byte)
 Does Resets d regions answer e left = (answer ≡ Done) × (e ≡ reset_device d.config) × AreAlike left regions
+Does (Restores saved) d regions answer e left =
+    (answer ≡ Done) × (e ≡ saved) × AreAlike left regions × (saved.config ≡ d.config) × IsDeviceValue saved
 
 -- Accesses in a row, of which there are `count`: number k finds the device `before k` and the regions `lent k`, returns
--- `answer k`, and leaves `before (k + 1)` and `lent (k + 1)`.
-abbrev pub Happen : (ℕ → Access) → (ℕ → Answer) → (ℕ → DeviceValue) → (ℕ → List Region) → ℕ → Type 0
-Happen access answer before lent count =
-    (k : ℕ) → k < count → Does (access k) (before k) (lent k) (answer k) (before (k + 1)) (lent (k + 1))
+-- `answer k`, and leaves `before (k + 1)` and `left k`. Each access may be lent other regions: `lent (k + 1)` may
+-- differ from `left k` in places, bytes and what is read-only.
+abbrev pub Happen : (ℕ → Access) → (ℕ → Answer) → (ℕ → DeviceValue) → (lent left : ℕ → List Region) → ℕ → Type 0
+Happen access answer before lent left count =
+    (k : ℕ) → k < count → Does (access k) (before k) (lent k) (answer k) (before (k + 1)) (left k)

@@ -1,17 +1,9 @@
 -- The choices of a chip's designer.
-use Rattle.std.specs.Prelude.{ℕ, ◌*◌, ◌^◌, Bool, ◌&&◌, nat_le}
+use Rattle.std.specs.Prelude.{ℕ, Bool, ◌&&◌, nat_le}
 use Rattle.dma_mem.specs.Limits.{most_channels}
-use Rattle.dma_device.specs.declared.config.BusWidth.{BusWidth}
-use Rattle.dma_device.specs.declared.config.BusWidth.TheVariants.{Bits32, Bits64, Bits128}
 use Rattle.dma_device.specs.declared.config.Config.{Config}
 use Rattle.dma_device.specs.declared.config.Revision.{Revision}
 use Rattle.dma_device.specs.declared.config.Revision.TheVariants.{R0p0, R1p0, R1p1, R1p2}
-
--- the code of a width in CRD: the bus has 2 ^ code bytes
-abbrev pub bus_code : BusWidth → ℕ
-bus_code Bits32 = 2
-bus_code Bits64 = 3
-bus_code Bits128 = 4
 
 -- the code of a revision in periph_id_2
 abbrev pub revision_code : Revision → ℕ
@@ -20,9 +12,9 @@ revision_code R1p0 = 1
 revision_code R1p1 = 2
 revision_code R1p2 = 3
 
--- Whether a device can have this configuration: 1 to 8 channels, 1 to 32 events, and a buffer of at most 1,024 lines,
--- each as wide as the bus, with at least one line and at most 256 bytes for each channel.
+-- Whether a device can have this configuration: 1 to 8 channels, 1 to 32 events, and a buffer of 1 to 1,024 lines, each
+-- as wide as the bus (DMA-330 manual, CRD: bits 29:20 are the number of lines less 1).
 abbrev pub is_valid : Config → Bool
 is_valid g =
     nat_le 1 g.channels && (nat_le g.channels most_channels && (nat_le 1 g.events && (nat_le g.events 32
-    && (nat_le g.channels g.lines && (nat_le g.lines 1024 && nat_le (g.lines * 2 ^ bus_code g.bus) (256 * g.channels))))))
+    && (nat_le 1 g.lines && nat_le g.lines 1024))))

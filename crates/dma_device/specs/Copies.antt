@@ -6,14 +6,13 @@ use Rattle.dma_mem.specs.Limits.{most_channels}
 use Rattle.dma_mem.specs.Places.{Descriptor, lies_below, size_of}
 use Rattle.dma_mem.specs.Regions.{Piece, image_of, in_order, pieces_of}
 use Rattle.dma_mem.specs.declared.regions.Region.{Region}
-use Rattle.dma_chan.specs.Explains.{Explains, next_in, traced}
+use Rattle.dma_chan.specs.declared.bus.Bus.TheVariants.{Chip}
+use Rattle.dma_chan.specs.Explains.{Explains}
 use Rattle.dma_chan.specs.LentRegions.{HaveAll}
 use Rattle.dma_chan.specs.Others.{Touches}
 use Rattle.dma_device.specs.Device.{DeviceValue, irqs, program_at, read_at, written}
 use Rattle.dma_device.specs.Interrupts.{HasLine, IsHigh}
-use Rattle.dma_device.specs.Thread.{is_too_wide}
 use Rattle.dma_device.specs.Turns.{TakesTurn}
-use Rattle.dma_device.specs.declared.config.BusWidth.{BusWidth}
 use Rattle.dma_device.specs.declared.device.turns.Turn.{Turn}
 
 -- the device after the writes of a driver that starts channel n by a DMAGO of the program at an address
@@ -70,14 +69,14 @@ pub record HasInterrupted (before after : ℕ → DeviceValue) (k : ℕ) : Type 
   pub early : turn ≤ k
   pub raises : RaisesLine (before turn) (after turn) line
 
--- If a transfer explains the program in RAM, then once CSR n reads as stopped after a turn of channel n, or once a
--- line rose in one, each address that the transfer touches has the same byte as after one simultaneous copy of all the
--- transfer's bytes in the memory at the first turn.
+-- If a transfer explains the program in RAM on the device's bus, then once CSR n reads as stopped after a turn of
+-- channel n, or once a line rose in one, each address that the transfer touches has the same byte as after one
+-- simultaneous copy of all the transfer's bytes in the memory at the first turn.
 abbrev pub DmagoCopies : Type 0
 DmagoCopies =
     (program : List ℕ) (t : Descriptor) (count : ℕ) (ram : List Piece) (nonsecure : Bool) (n addr : ℕ)
     (d : DeviceValue) (turns : ℕ) (before after : ℕ → DeviceValue) (lent left : ℕ → List Region) →
-    Explains program t count → MayGo d nonsecure n → HasProgram ram addr program →
+    Explains (Chip d.config.bus) program t count → MayGo d nonsecure n → HasProgram ram addr program →
     TurnsAmongOthers t ram nonsecure n addr d turns before after lent left →
     (k a : ℕ) → k < turns → (csr_status (after k) n ≡ 0) ⊎ HasInterrupted before after k → Touches t a →
     slice_index (image_in (left k)) a ≡ slice_index (laid (image_in (lent 0)) t (size_of t)) a
@@ -92,19 +91,13 @@ pub record HasEvents (d : DeviceValue) (t : Descriptor) : Type 0 where
   pub wait : IfSome t.wait (λ e. e < d.config.events)
   pub signal : IfSome t.signal (λ e. e < d.config.events)
 
--- Each beat of a program fits the bus: none of its instructions up to number `count` is a DMAMOV CCR whose beats are too
--- wide. On a bus of 128 bits each does.
-abbrev pub FitsBus : BusWidth → List ℕ → ℕ → Type 0
-FitsBus bus program count = (k : ℕ) → k ≤ count → is_too_wide bus (next_in program (traced program k)) ≡ false
-
--- If in each turn the regions contain all addresses that the transfer touches, the device has its events, and each beat
--- fits the bus, then CSR n never reads as faulting after a turn.
+-- If in each turn the regions contain all addresses that the transfer touches, and the device has its events, then CSR
+-- n never reads as faulting after a turn.
 abbrev pub DmagoNeverFails : Type 0
 DmagoNeverFails =
     (program : List ℕ) (t : Descriptor) (count : ℕ) (ram : List Piece) (nonsecure : Bool) (n addr : ℕ)
     (d : DeviceValue) (turns : ℕ) (before after : ℕ → DeviceValue) (lent left : ℕ → List Region) →
-    Explains program t count → MayGo d nonsecure n → HasProgram ram addr program →
+    Explains (Chip d.config.bus) program t count → MayGo d nonsecure n → HasProgram ram addr program →
     TurnsAmongOthers t ram nonsecure n addr d turns before after lent left →
     ((k : ℕ) → k < turns → Reach (lent k) t) → ((k : ℕ) → k < turns → HasEvents (before k) t) →
-    ((k : ℕ) → k < turns → FitsBus (before k).config.bus program count) →
     (k : ℕ) → k < turns → csr_status (after k) n ≢ 15

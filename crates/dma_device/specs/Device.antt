@@ -6,7 +6,8 @@ use Rattle.dma_mem.specs.Regions.{Piece, run_from}
 use Rattle.dma_insn.specs.AssemblyText.{most_program_bytes}
 use Rattle.dma_insn.specs.ControlWord.{field, flag}
 use Rattle.dma_chan.specs.declared.exec.Registers.{Registers}
-use Rattle.dma_device.specs.Config.{bus_code, revision_code}
+use Rattle.dma_chan.specs.Bus.{bus_code}
+use Rattle.dma_device.specs.Config.{revision_code}
 use Rattle.dma_device.specs.declared.config.Config.{Config}
 use Rattle.dma_device.specs.declared.config.Revision.{Revision}
 use Rattle.dma_device.specs.declared.device.Manager.{Manager}
@@ -35,7 +36,7 @@ reset_device g = record {
   dbginst0 = 0;
   dbginst1 = 0;
   manager = record { is_faulting = false; fault = 0 };
-  threads = replicate g.channels reset_thread;
+  threads = replicate g.channels (reset_thread g.bus);
 }
 
 -- a bit for each event that the device has
@@ -179,7 +180,7 @@ program_at ram addr = take most_program_bytes (run_from ram addr)
 -- A thread that the manager starts by DMAGO. Nothing happens to one that isn't stopped.
 abbrev pub gone : List Piece → Bool → ℕ → Thread → DeviceValue → DeviceValue
 gone ram nonsecure n t d =
-    if is_stopped t then with_thread n (started nonsecure d.dbginst1 (program_at ram d.dbginst1)) d else d
+    if is_stopped t then with_thread n (started d.config.bus nonsecure d.dbginst1 (program_at ram d.dbginst1)) d else d
 
 -- DMAGO, byte 1 of which is the channel
 abbrev pub go : List Piece → Bool → ℕ → Option Thread → DeviceValue → DeviceValue

@@ -9,7 +9,7 @@ use Rattle.dma_device.specs.declared.device.turns.Called.{Called}
 use Rattle.dma_device.specs.declared.device.turns.Turn.{Turn}
 use Rattle.dma_device.specs.declared.thread.Status.TheVariants.{WaitingForEvent}
 use Rattle.dma_device.specs.declared.thread.Thread.{Thread}
-use Rattle.dma_device.specs.Accesses.{Access, Answer, Does, Happen, Resets, Turns}
+use Rattle.dma_device.specs.Accesses.{Access, Answer, Does, Happen, Resets, Restores, Turns}
 use Rattle.dma_device.specs.CallSteps.{Executes, machine_after, marks_in}
 use Rattle.dma_device.specs.Device.{DeviceValue}
 use Rattle.dma_device.specs.Interrupts.{HasLine, IsHigh, Signals}
@@ -21,8 +21,10 @@ IsSet d k = IsHigh d.events k
 
 -- ---- what sets and takes an event
 
--- An access sets event k: it executes a DMASEV of event k while bit k of INTEN is 0.
+-- An access sets event k: it executes a DMASEV of event k while bit k of INTEN is 0; or it restores a device in which
+-- the event is set.
 abbrev pub Sets : ℕ → Access → DeviceValue → List Region → DeviceValue → List Region → Type 0
+Sets k (Restores saved) d regions e left = IsSet saved k
 Sets k a d regions e left = (¬ IsHigh d.inten k) × Signals k a d regions e left
 
 -- one of a call's steps executes a DMAWFE of event k, which passes
@@ -47,35 +49,37 @@ abbrev pub Takes : ℕ → Access → DeviceValue → List Region → DeviceValu
 Takes k (Turns n most) d regions e left = TurnTakes d regions n most e left k
 Takes k a d regions e left = ⊥
 
--- an access ends event k: it takes the event, or is a reset
+-- an access ends event k: it takes the event, is a reset, or restores a device in which the event isn't set
 abbrev pub Ends : ℕ → Access → DeviceValue → List Region → DeviceValue → List Region → Type 0
 Ends k Resets d regions e left = Unit {0}
+Ends k (Restores saved) d regions e left = ¬ IsSet saved k
 Ends k a d regions e left = Takes k a d regions e left
 
 -- ---- along the accesses
 
 -- none of the accesses from number i up to, and without, number n ends event k
-abbrev pub NoneEnds : (ℕ → Access) → (ℕ → DeviceValue) → (ℕ → List Region) → ℕ → ℕ → ℕ → Type 0
-NoneEnds access before lent k i n =
-    (j : ℕ) → i ≤ j → j < n → ¬ Ends k (access j) (before j) (lent j) (before (j + 1)) (lent (j + 1))
+abbrev pub NoneEnds : (ℕ → Access) → (ℕ → DeviceValue) → (lent left : ℕ → List Region) → ℕ → ℕ → ℕ → Type 0
+NoneEnds access before lent left k i n =
+    (j : ℕ) → i ≤ j → j < n → ¬ Ends k (access j) (before j) (lent j) (before (j + 1)) (left j)
 
 -- one of the accesses below number n sets event k, and none after it ends the event
-pub record SetSince (access : ℕ → Access) (before : ℕ → DeviceValue) (lent : ℕ → List Region)
+pub record SetSince (access : ℕ → Access) (before : ℕ → DeviceValue) (lent left : ℕ → List Region)
     (k n : ℕ) : Type 0 where
   pub at : ℕ
   pub below : at < n
-  pub sets : Sets k (access at) (before at) (lent at) (before (at + 1)) (lent (at + 1))
-  pub stays : NoneEnds access before lent k (at + 1) n
+  pub sets : Sets k (access at) (before at) (lent at) (before (at + 1)) (left at)
+  pub stays : NoneEnds access before lent left k (at + 1) n
 
 -- For every list of accesses, event k is set before access number n exactly if an access set it, and none after it
 -- ended it; or if it was set at first, as it is not after a reset, and no access ended it. (A turn that takes an event
--- and then sets it leaves it set.)
+-- and then sets it leaves it set.) Each access may be lent other regions.
 abbrev pub EventsAreExact : Type 0
 EventsAreExact =
-    (access : ℕ → Access) (answer : ℕ → Answer) (before : ℕ → DeviceValue) (lent : ℕ → List Region) (count k n : ℕ) →
-    Happen access answer before lent count → HasLine (before 0) k → n ≤ count →
+    (access : ℕ → Access) (answer : ℕ → Answer) (before : ℕ → DeviceValue) (lent left : ℕ → List Region)
+    (count k n : ℕ) →
+    Happen access answer before lent left count → HasLine (before 0) k → n ≤ count →
     IsSet (before n) k
-    ↔ (SetSince access before lent k n ⊎ (IsSet (before 0) k × NoneEnds access before lent k 0 n))
+    ↔ (SetSince access before lent left k n ⊎ (IsSet (before 0) k × NoneEnds access before lent left k 0 n))
 
 -- No wake-up is invented: an event that an access takes was set before it, and INTEN made it an event.
 abbrev pub TakenWasSet : Type 0

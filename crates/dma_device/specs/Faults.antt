@@ -8,8 +8,8 @@ use Rattle.dma_device.specs.declared.config.Config.{Config}
 use Rattle.dma_device.specs.declared.device.turns.Called.{Called}
 use Rattle.dma_device.specs.declared.device.turns.Turn.{Turn}
 use Rattle.dma_device.specs.declared.thread.Thread.{Thread}
-use Rattle.dma_device.specs.Accesses.{Access, Answer, Does, Happen, Resets, Turns, Writes}
-use Rattle.dma_device.specs.CallSteps.{Executes, MeetsWide}
+use Rattle.dma_device.specs.Accesses.{Access, Answer, Does, Happen, Resets, Restores, Turns, Writes}
+use Rattle.dma_device.specs.CallSteps.{Executes}
 use Rattle.dma_device.specs.Device.{DeviceValue, irq_abort, is_event, read_at, reset_device}
 use Rattle.dma_device.specs.Interrupts.{IsHigh, is_fine}
 use Rattle.dma_device.specs.Thread.{is_faulting}
@@ -86,11 +86,10 @@ LastFails events (Some (Waiting e)) signal = events ≤ e
 LastFails events (Some Ended) signal = ⊥
 LastFails events (Some (Fault kind)) signal = Unit {0}
 
--- a call fails: it meets a DMAMOV CCR whose beats are too wide, or its last step fails
+-- a call fails: its last step fails
 abbrev pub CallFails : Bool → DeviceValue → List Region → ℕ → ℕ → DeviceValue → List Region → Called → Type 0
 CallFails made d regions n most e left called =
-    MeetsWide made d regions n e left called
-    ⊎ ((x : Executes made d regions n most e left called) × LastFails d.config.events x.call.last called.signal)
+    (x : Executes made d regions n most e left called) × LastFails d.config.events x.call.last called.signal
 
 -- one of the two calls of a turn fails
 abbrev pub TurnFails : DeviceValue → List Region → ℕ → ℕ → DeviceValue → List Region → Type 0
@@ -101,10 +100,12 @@ TurnFails d regions n most e left =
 
 -- ---- what makes a thread faulting, and ends that
 
--- An access makes this thread fail: a step of a turn of its channel, or a debug instruction that it executes.
+-- An access makes this thread fail: a step of a turn of its channel, or a debug instruction that it executes; or it
+-- restores a device in which the thread is faulting.
 abbrev pub Fails : Who → Access → DeviceValue → List Region → DeviceValue → List Region → Type 0
 Fails (TheChannel m) (Turns n most) d regions e left = (m ≡ n) × TurnFails d regions n most e left
 Fails who (Writes at value) d regions e left = (at ≡ 0xD04) × DebugFails who d value
+Fails who (Restores saved) d regions e left = faults_at who saved ≡ true
 Fails who a d regions e left = ⊥
 
 -- an access kills this thread: a debug DMAKILL that it executes
@@ -113,15 +114,18 @@ Kills who (Writes at value) d =
     (at ≡ 0xD04) × ((value % 4 ≡ 0) × ((field 16 8 d.dbginst0 ≡ 0x01) × Addresses d who))
 Kills who a d = ⊥
 
--- an access ends a fault of this thread: it kills the thread, or is a reset
+-- an access ends a fault of this thread: it kills the thread, is a reset, or restores a device in which the thread
+-- isn't faulting
 abbrev pub EndsFault : Who → Access → DeviceValue → Type 0
 EndsFault who Resets d = Unit {0}
+EndsFault who (Restores saved) d = faults_at who saved ≡ false
 EndsFault who a d = Kills who a d
 
--- an access is a reset
-abbrev pub IsReset : Access → Type 0
-IsReset Resets = Unit {0}
-IsReset a = ⊥
+-- an access ends each fault: it is a reset, or restores a device without one
+abbrev pub EndsAll : Access → Type 0
+EndsAll Resets = Unit {0}
+EndsAll (Restores saved) = irq_abort saved ≡ false
+EndsAll a = ⊥
 
 -- ---- along the accesses
 
@@ -130,21 +134,22 @@ abbrev pub NoneEnds : (ℕ → Access) → (ℕ → DeviceValue) → Who → ℕ
 NoneEnds access before who i n = (j : ℕ) → i ≤ j → j < n → ¬ EndsFault who (access j) (before j)
 
 -- one of the accesses below number n makes this thread fail, and none after it ends the fault
-pub record FailedSince (access : ℕ → Access) (before : ℕ → DeviceValue) (lent : ℕ → List Region)
+pub record FailedSince (access : ℕ → Access) (before : ℕ → DeviceValue) (lent left : ℕ → List Region)
     (who : Who) (n : ℕ) : Type 0 where
   pub at : ℕ
   pub below : at < n
-  pub fails : Fails who (access at) (before at) (lent at) (before (at + 1)) (lent (at + 1))
+  pub fails : Fails who (access at) (before at) (lent at) (before (at + 1)) (left at)
   pub stays : NoneEnds access before who (at + 1) n
 
 -- For every list of accesses, a thread is faulting before access number n exactly if an access made it fail, and none
--- after it killed it or was a reset; or if it was faulting at first, as none is after a reset, and no access ended that.
+-- after it ended that; or if it was faulting at first, as none is after a reset, and no access ended that. Each access
+-- may be lent other regions.
 abbrev pub FaultsAreExact : Type 0
 FaultsAreExact =
-    (access : ℕ → Access) (answer : ℕ → Answer) (before : ℕ → DeviceValue) (lent : ℕ → List Region) (count n : ℕ)
-    (who : Who) → Happen access answer before lent count → n ≤ count →
+    (access : ℕ → Access) (answer : ℕ → Answer) (before : ℕ → DeviceValue) (lent left : ℕ → List Region)
+    (count n : ℕ) (who : Who) → Happen access answer before lent left count → n ≤ count →
     (faults_at who (before n) ≡ true)
-    ↔ (FailedSince access before lent who n ⊎ ((faults_at who (before 0) ≡ true) × NoneEnds access before who 0 n))
+    ↔ (FailedSince access before lent left who n ⊎ ((faults_at who (before 0) ≡ true) × NoneEnds access before who 0 n))
 
 -- ---- the line
 
@@ -157,11 +162,11 @@ pub record AbortIsFaulting : Type 0 where
   pub reset : (g : Config) → irq_abort (reset_device g) ≡ false
 
 -- When the line changes: if it is low before an access, it is high after it exactly if the access makes a thread fail;
--- if it is high, it is low after exactly if the access is a reset, or kills the last thread that is faulting.
+-- if it is high, it is low after exactly if the access ends each fault, or kills the last thread that is faulting.
 pub record AbortIsExact (a : Access) (d e : DeviceValue) (regions left : List Region) : Type 0 where
   pub rises : irq_abort d ≡ false → (irq_abort e ≡ true) ↔ ((who : Who) × Fails who a d regions e left)
   pub falls : irq_abort d ≡ true → (irq_abort e ≡ false)
-      ↔ (IsReset a ⊎ ((who : Who) × Kills who a d × (faults_at who d ≡ true)
+      ↔ (EndsAll a ⊎ ((who : Who) × Kills who a d × (faults_at who d ≡ true)
       × ((other : Who) → faults_at other d ≡ true → other ≡ who)))
 
 abbrev pub AbortsAreExact : Type 0

@@ -1,5 +1,5 @@
 -- When nothing happens until the guest's next write.
-use Rattle.std.specs.Prelude.{◌≡◌, ℕ, ◌+◌, ◌<◌, ◌≤◌, true, false, List}
+use Rattle.std.specs.Prelude.{◌≡◌, ◌≢◌, ℕ, ◌+◌, ◌<◌, ◌≤◌, true, false, List, Some, slice_get}
 use Rattle.std.specs.List.{All, list_any}
 use Rattle.dma_mem.specs.declared.regions.Region.{Region}
 use Rattle.dma_chan.specs.Written.{range_at}
@@ -10,7 +10,8 @@ use Rattle.dma_device.specs.Config.{is_valid}
 use Rattle.dma_device.specs.Device.{DeviceValue, reset_device}
 use Rattle.dma_device.specs.Snapshot.{HasKnownEvents, IsDeviceValue, head_of}
 use Rattle.dma_device.specs.Thread.{IsSound, can_step}
-use Rattle.dma_device.specs.Turns.{visible_events}
+use Rattle.dma_device.specs.Turns.{TakesTurn, visible_events}
+use Rattle.dma_device.specs.declared.thread.Thread.{Thread}
 
 -- A device has at most 32 events, those that are set are among them, and each thread has a status that goes with its
 -- program.
@@ -31,11 +32,20 @@ abbrev pub no_turn : Turn
 no_turn = record { written = range_at 0 0; lines_changed = false }
 
 -- If none of a sound device's threads can step before a turn, of any channel, then the turn changes neither the device
--- nor a byte of the regions, and reports so. The device was sound at first, as it is after a reset and a restore.
+-- nor a byte of the regions, and reports so. The device was sound at first, as it is after a reset and a restore. Each
+-- access may be lent other regions.
 abbrev pub NothingHappens : Type 0
 NothingHappens =
-    (access : ℕ → Access) (answer : ℕ → Answer) (before : ℕ → DeviceValue) (lent : ℕ → List Region)
+    (access : ℕ → Access) (answer : ℕ → Answer) (before : ℕ → DeviceValue) (lent left : ℕ → List Region)
     (count k n most : ℕ) →
-    Happen access answer before lent count → IsSoundDevice (before 0) → k < count → access k ≡ Turns n most →
+    Happen access answer before lent left count → IsSoundDevice (before 0) → k < count → access k ≡ Turns n most →
     list_any (can_step (visible_events (before k))) (before k).threads ≡ false →
-    (before (k + 1) ≡ before k) × AreAlike (lent (k + 1)) (lent k) × (answer k ≡ Turned no_turn)
+    (before (k + 1) ≡ before k) × AreAlike (left k) (lent k) × (answer k ≡ Turned no_turn)
+
+-- If a thread of a sound device can step, each turn of its channel that may take a step changes the device: the thread
+-- executes an instruction, which its channel counts, or it fails, or begins to wait.
+abbrev pub TurnChanges : Type 0
+TurnChanges =
+    (d e : DeviceValue) (regions left : List Region) (n most : ℕ) (turn : Turn) (t : Thread) →
+    TakesTurn d regions n most e left turn → IsSoundDevice d → slice_get d.threads n ≡ Some t →
+    can_step (visible_events d) t ≡ true → 0 < most → e ≢ d

@@ -4,7 +4,7 @@ use Rattle.std.specs.Int.{bit_at}
 use Rattle.dma_insn.specs.ControlWord.{field}
 use Rattle.dma_mem.specs.declared.regions.Region.{Region}
 use Rattle.dma_device.specs.declared.device.turns.Turn.{Turn}
-use Rattle.dma_device.specs.Accesses.{Access, Answer, Happen, Resets, Turns, Writes}
+use Rattle.dma_device.specs.Accesses.{Access, Answer, Happen, Resets, Restores, Turns, Writes}
 use Rattle.dma_device.specs.Device.{DeviceValue, irqs}
 use Rattle.dma_device.specs.Thread.{is_faulting}
 use Rattle.dma_device.specs.declared.thread.Thread.{Thread}
@@ -55,14 +55,18 @@ Signals k a d regions e left = ⊥
 
 -- ---- what raises and clears an interrupt (DMA-330 manual, INTEN and INTCLR)
 
--- An access raises interrupt k: it executes a DMASEV of event k while bit k of INTEN is 1.
+-- An access raises interrupt k: it executes a DMASEV of event k while bit k of INTEN is 1; or it restores a device
+-- whose line k is high.
 abbrev pub Raises : ℕ → Access → DeviceValue → List Region → DeviceValue → List Region → Type 0
+Raises k (Restores saved) d regions e left = IsHigh (irqs saved) k
 Raises k a d regions e left = IsHigh d.inten k × Signals k a d regions e left
 
--- An access clears interrupt k: a write to INTCLR with bit k, while bit k of INTEN is 1; or a reset.
+-- An access clears interrupt k: a write to INTCLR with bit k, while bit k of INTEN is 1; a reset; or a restore of a
+-- device whose line k is low.
 abbrev pub Clears : ℕ → Access → DeviceValue → Type 0
 Clears k (Writes at value) d = (at ≡ 0x02C) × (IsHigh value k × IsHigh d.inten k)
 Clears k Resets d = Unit {0}
+Clears k (Restores saved) d = ¬ IsHigh (irqs saved) k
 Clears k a d = ⊥
 
 -- ---- along the accesses
@@ -72,11 +76,11 @@ abbrev pub StaysSet : (ℕ → Access) → (ℕ → DeviceValue) → ℕ → ℕ
 StaysSet access before k i n = (j : ℕ) → i ≤ j → j < n → ¬ Clears k (access j) (before j)
 
 -- one of the accesses below number n raises interrupt k, and none after it clears the interrupt
-pub record RaisedSince (access : ℕ → Access) (before : ℕ → DeviceValue) (lent : ℕ → List Region)
+pub record RaisedSince (access : ℕ → Access) (before : ℕ → DeviceValue) (lent left : ℕ → List Region)
     (k n : ℕ) : Type 0 where
   pub at : ℕ
   pub below : at < n
-  pub raises : Raises k (access at) (before at) (lent at) (before (at + 1)) (lent (at + 1))
+  pub raises : Raises k (access at) (before at) (lent at) (before (at + 1)) (left at)
   pub stays : StaysSet access before k (at + 1) n
 
 -- The device has line k. It has at most 32 events, and INTEN has 32 bits.
@@ -87,10 +91,11 @@ pub record HasLine (d : DeviceValue) (k : ℕ) : Type 0 where
 
 -- For every list of accesses, line k (and bit k of INTMIS) is high before access number n exactly if an access raised
 -- interrupt k, and none after it cleared the interrupt; or if the line was high at first, as it is not after a reset,
--- and no access cleared it.
+-- and no access cleared it. Each access may be lent other regions.
 abbrev pub InterruptsAreExact : Type 0
 InterruptsAreExact =
-    (access : ℕ → Access) (answer : ℕ → Answer) (before : ℕ → DeviceValue) (lent : ℕ → List Region) (count k n : ℕ) →
-    Happen access answer before lent count → HasLine (before 0) k → n ≤ count →
+    (access : ℕ → Access) (answer : ℕ → Answer) (before : ℕ → DeviceValue) (lent left : ℕ → List Region)
+    (count k n : ℕ) →
+    Happen access answer before lent left count → HasLine (before 0) k → n ≤ count →
     IsHigh (irqs (before n)) k
-    ↔ (RaisedSince access before lent k n ⊎ (IsHigh (irqs (before 0)) k × StaysSet access before k 0 n))
+    ↔ (RaisedSince access before lent left k n ⊎ (IsHigh (irqs (before 0)) k × StaysSet access before k 0 n))

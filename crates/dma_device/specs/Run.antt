@@ -7,16 +7,16 @@ use Rattle.dma_mem.specs.Marking.{MarkList}
 use Rattle.dma_mem.specs.Regions.{Piece, end_of, gaps_of, image_of, pieces_of, read_only_of}
 use Rattle.dma_mem.specs.declared.regions.Region.{Region}
 use Rattle.dma_mem.specs.declared.segment.Segment.{Segment}
-use Rattle.dma_chan.specs.Channel.{ahead_of, code_of, last_count}
+use Rattle.dma_chan.specs.Channel.{last_count}
 use Rattle.dma_chan.specs.Stepping.{Machine, after_steps, goes_on_after, last_of, machine, signal_after, written_after}
 use Rattle.dma_chan.specs.Written.{joined}
 use Rattle.dma_chan.specs.declared.turn.ChanTurn.{ChanTurn}
 use Rattle.dma_device.specs.declared.thread.Thread.{Thread}
 use Rattle.dma_device.specs.declared.device.turns.Called.{Called}
 use Rattle.dma_device.specs.declared.device.turns.Turn.{Turn}
-use Rattle.dma_device.specs.Accesses.{Access, Answer, Done, Happen, Reads, Resets, Stores, Turned, Turns, Value, Writes}
+use Rattle.dma_device.specs.Accesses.{Access, Answer, AreAlike, Done, Happen, Reads, Resets, Restores, Stores, Turned, Turns, Value, Writes}
 use Rattle.dma_device.specs.Device.{DeviceValue, read_at, reset_device, with_thread, written}
-use Rattle.dma_device.specs.Thread.{answered, failed, is_too_wide, most_on, operand_invalid}
+use Rattle.dma_device.specs.Thread.{answered}
 use Rattle.dma_device.specs.Turns.{lines_differ, may_follow, nothing, runs_at, visible_events, with_flags}
 
 -- Lent memory: its pieces, and the segments of those that are read-only.
@@ -97,13 +97,10 @@ stepped n most t b =
     left_by n t b (after_steps marks from k) (last_of marks from k) (signal_after marks from k)
     (written_after marks from k)
 
--- `stepped`, unless the next instruction is a DMAMOV CCR whose beats are too wide
+-- `stepped` for a thread that the device has
 abbrev pub called : ℕ → ℕ → Option Thread → Board → Outcome
 called n most None b = idle b
-called n most (Some t) b =
-    if is_too_wide b.device.config.bus (ahead_of t.channel)
-    then idle (record b { device = with_thread n (failed operand_invalid t) b.device })
-    else stepped n (most_on b.device.config.bus (code_of t.channel) most) t b
+called n most (Some t) b = stepped n most t b
 
 -- a call of channel n of at most `most` steps, if wanted and if it runs
 abbrev pub called_if : Bool → ℕ → ℕ → Board → Outcome
@@ -132,17 +129,22 @@ next (Turns n most) b = turned n most b
 next (Stores addr byte) b =
     (record b { ram = with_image (slice_set (image_of b.ram.pieces) addr byte) b.ram }, Done)
 next Resets b = (record b { device = reset_device b.device.config }, Done)
+next (Restores saved) b = (record b { device = saved }, Done)
 
 -- the board after this number of accesses
 abbrev pub run : (ℕ → Access) → Board → ℕ → Board
 run access b zero = b
 run access b (suc k) = (next (access k) (run access b k)).0
 
--- For every list of accesses, the device, with its lines, and all of the memory after each of them, and what each
--- returns, are what `run` gives.
+-- The memory stays: each access after the first is lent what the one before it left.
+abbrev pub StaysLent : (lent left : ℕ → List Region) → ℕ → Type 0
+StaysLent lent left count = (k : ℕ) → k < count → AreAlike (lent (k + 1)) (left k)
+
+-- For every list of accesses in which the memory stays, the device, with its lines, and all of the memory after each of
+-- them, and what each returns, are what `run` gives.
 abbrev pub RunsStepByStep : Type 0
 RunsStepByStep =
-    (access : ℕ → Access) (answer : ℕ → Answer) (before : ℕ → DeviceValue) (lent : ℕ → List Region) (count : ℕ) →
-    Happen access answer before lent count →
+    (access : ℕ → Access) (answer : ℕ → Answer) (before : ℕ → DeviceValue) (lent left : ℕ → List Region)
+    (count : ℕ) → Happen access answer before lent left count → StaysLent lent left count →
     ((k : ℕ) → k ≤ count → board_of (before k) (lent k) ≡ run access (board_of (before 0) (lent 0)) k)
     × ((k : ℕ) → k < count → answer k ≡ (next (access k) (run access (board_of (before 0) (lent 0)) k)).1)

@@ -7,9 +7,10 @@ use Rattle.dma_chan.specs.Saved.{AreBytes, IsChannelValue, saved, sealed}
 use Rattle.dma_device.specs.declared.config.Config.{Config}
 use Rattle.dma_device.specs.declared.save.head.Head.{Head}
 use Rattle.dma_device.specs.declared.thread.Thread.{Thread}
-use Rattle.dma_device.specs.Config.{bus_code, is_valid, revision_code}
+use Rattle.dma_chan.specs.Bus.{bus_code}
+use Rattle.dma_device.specs.Config.{is_valid, revision_code}
 use Rattle.dma_device.specs.Device.{DeviceValue, csr}
-use Rattle.dma_device.specs.Thread.{IsSound}
+use Rattle.dma_device.specs.Thread.{IsOn, IsSound}
 
 -- ---- what every device satisfies
 
@@ -45,7 +46,7 @@ abbrev pub head_of : DeviceValue → Head
 head_of d = head_in 2 d
 
 -- What every device satisfies: its configuration is valid, its events are known, its other registers have 32 bits, and
--- it has a thread for each channel.
+-- it has a thread for each channel, on the bus of its configuration (a save has no bus).
 pub record IsDeviceValue (d : DeviceValue) : Type 0 where
   pub config : is_valid d.config ≡ true
   pub known : HasKnownEvents (head_of d)
@@ -54,6 +55,7 @@ pub record IsDeviceValue (d : DeviceValue) : Type 0 where
   pub fault : d.manager.fault < 2 ^ 32
   pub count : length d.threads ≡ d.config.channels
   pub threads : All (IsThreadValue d.config.events) d.threads
+  pub on : All (IsOn d.config.bus) d.threads
 
 -- ---- the format
 

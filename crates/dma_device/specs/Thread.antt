@@ -1,19 +1,16 @@
 -- A channel thread: its status and its fault, and what a call of its channel makes of them.
-use Rattle.std.specs.Prelude.{◌≡◌, ℕ, ◌+◌, ◌-◌, ◌*◌, ◌%◌, ◌^◌, Bool, true, false, not, ◌&&◌, ◌||◌, ◌==◌, min, nat_lt, List, [], ◌∷◌, Option, Some, None, Result, Ok, is_some, if◌then◌else◌}
+use Rattle.std.specs.Prelude.{◌≡◌, ℕ, ◌+◌, ◌-◌, ◌*◌, ◌%◌, ◌^◌, Bool, true, false, not, ◌&&◌, ◌==◌, nat_lt, List, Option, Some, None, Result, Ok, is_some, if◌then◌else◌}
 use Rattle.std.specs.Int.{bit_at}
-use Rattle.dma_insn.specs.ControlWord.{field}
 use Rattle.dma_insn.specs.declared.insn.Insn.{Insn}
-use Rattle.dma_insn.specs.declared.insn.Insn.TheVariants.{Mov, Wfe}
-use Rattle.dma_insn.specs.declared.insn.Reg.TheVariants.{Ccr}
-use Rattle.dma_chan.specs.Channel.{ahead_of, last_count, loaded, unloaded}
-use Rattle.dma_chan.specs.Next.{next_of}
+use Rattle.dma_insn.specs.declared.insn.Insn.TheVariants.{Wfe}
+use Rattle.dma_chan.specs.declared.bus.BusWidth.{BusWidth}
+use Rattle.dma_chan.specs.declared.bus.Bus.TheVariants.{Chip}
+use Rattle.dma_chan.specs.Bus.{fits}
+use Rattle.dma_chan.specs.Channel.{ahead_of, last_count, loaded_on, unloaded_on}
 use Rattle.dma_chan.specs.declared.turn.ChanTurn.{ChanTurn}
 use Rattle.dma_chan.specs.declared.turn.ChanTurn.TheVariants.{Moved, Waiting, Ended, Fault}
 use Rattle.dma_chan.specs.declared.turn.FaultKind.{FaultKind}
 use Rattle.dma_chan.specs.declared.turn.FaultKind.TheVariants.{UndefInstr, OperandInvalid, MfifoErr, StDataUnavailable, InstrFetchErr, DataWriteErr, DataReadErr}
-use Rattle.dma_device.specs.Config.{bus_code}
-use Rattle.dma_device.specs.declared.config.BusWidth.{BusWidth}
-use Rattle.dma_device.specs.declared.config.BusWidth.TheVariants.{Bits128}
 use Rattle.dma_device.specs.declared.thread.Status.{Status}
 use Rattle.dma_device.specs.declared.thread.Status.TheVariants.{Stopped, Executing, WaitingForEvent, Faulting}
 use Rattle.dma_device.specs.declared.thread.Thread.{Thread}
@@ -108,26 +105,15 @@ is_signalled events s = true
 abbrev pub can_step : ℕ → Thread → Bool
 can_step events t = runs t && is_signalled events t.status
 
--- Whether an instruction is a DMAMOV CCR whose beats are wider than a bus of less than 128 bits. The codes of the sizes
--- are in bits 3:1 and 17:15 (DMA-330 manual, channel control registers).
-abbrev pub is_too_wide : BusWidth → Result Insn FaultKind → Bool
-is_too_wide Bits128 next = false
-is_too_wide bus (Ok (Mov Ccr v)) = nat_lt (bus_code bus) (field 1 3 v) || nat_lt (bus_code bus) (field 15 3 v)
-is_too_wide bus next = false
+-- A thread's channel is on a chip's bus of this width, and the beats of its control word are no wider than the bus.
+pub record IsOn (bus : BusWidth) (t : Thread) : Type 0 where
+  pub width : t.channel.registers.bus ≡ Chip bus
+  pub control : fits (Chip bus) t.channel.registers.ccr ≡ true
 
--- whether a program has such an instruction at any offset
-abbrev pub has_too_wide : BusWidth → List ℕ → Bool
-has_too_wide bus [] = false
-has_too_wide bus (b ∷ bs) = has_too_wide bus bs || is_too_wide bus (next_of (b ∷ bs) 0)
-
--- How many of `most` steps a call of a channel with this program takes at most: one if the program has a DMAMOV CCR
--- whose beats are too wide, so that each instruction is tested before it is executed.
-abbrev pub most_on : BusWidth → List ℕ → ℕ → ℕ
-most_on bus program most = if has_too_wide bus program then min most 1 else most
-
--- a thread after a reset
-abbrev pub reset_thread : Thread
-reset_thread = record { channel = unloaded; status = Stopped; fault = 0; nonsecure = false; base = 0; pc = 0 }
+-- a thread on a bus after a reset
+abbrev pub reset_thread : BusWidth → Thread
+reset_thread bus =
+    record { channel = unloaded_on (Chip bus); status = Stopped; fault = 0; nonsecure = false; base = 0; pc = 0 }
 
 -- A thread that fails. FTR keeps the fault until the next DMAGO, and the thread stays faulting until a DMAKILL.
 abbrev pub failed : ℕ → Thread → Thread
@@ -137,10 +123,10 @@ failed why t = record t { status = Faulting; fault = why }
 abbrev pub killed : Thread → Thread
 killed t = record t { channel = record (t.channel) { program = None }; status = Stopped }
 
--- a thread after a DMAGO with a program that begins at address `base`; its registers are 0 (profile)
-abbrev pub started : Bool → ℕ → List ℕ → Thread
-started nonsecure base program = record {
-  channel = loaded (record { bytes = program; cost = None });
+-- a thread on a bus after a DMAGO with a program that begins at address `base`; its registers are 0 (profile)
+abbrev pub started : BusWidth → Bool → ℕ → List ℕ → Thread
+started bus nonsecure base program = record {
+  channel = loaded_on (Chip bus) (record { bytes = program; cost = None });
   status = Executing;
   fault = 0;
   nonsecure = nonsecure;

@@ -6,7 +6,7 @@ use Rattle.dma_mem.specs.Flags.{flags_of}
 use Rattle.dma_mem.specs.Regions.{image_of, names_of, pieces_of, read_only_of}
 use Rattle.dma_mem.specs.declared.regions.Region.{Region}
 use Rattle.dma_mem.specs.declared.segment.Segment.{Segment}
-use Rattle.dma_chan.specs.Channel.{ChannelValue, ahead_of, code_of}
+use Rattle.dma_chan.specs.Channel.{ChannelValue}
 use Rattle.dma_chan.specs.LentRegions.{segment_of, with_gaps_of}
 use Rattle.dma_chan.specs.Stepping.{machine, TakesSteps, signal_after, written_after}
 use Rattle.dma_chan.specs.Written.{adjoins, joined, range_at, store_ahead}
@@ -15,7 +15,7 @@ use Rattle.dma_device.specs.declared.thread.Thread.{Thread}
 use Rattle.dma_device.specs.declared.device.turns.Called.{Called}
 use Rattle.dma_device.specs.declared.device.turns.Turn.{Turn}
 use Rattle.dma_device.specs.Device.{DeviceValue, all_events, irq_abort, irqs, is_interrupt, with_thread}
-use Rattle.dma_device.specs.Thread.{answered, failed, is_too_wide, most_on, operand_invalid, runs}
+use Rattle.dma_device.specs.Thread.{answered, runs}
 
 -- The flags that a channel sees: the events that are set. While INTEN makes an event an interrupt, channels don't see
 -- it (profile). A DMAWFE that passes clears its event, so one DMASEV wakes one waiting channel, the first that is
@@ -95,18 +95,10 @@ pub record CallsThread (d : DeviceValue) (t : Thread) (regions : List Region) (n
 abbrev pub nothing : Called
 nothing = record { written = range_at 0 0; signal = None }
 
--- `CallsThread`, unless the next instruction is a DMAMOV CCR whose beats are too wide: then the thread fails
-abbrev pub CallsUnless : Bool → DeviceValue → Thread → List Region → ℕ → ℕ → DeviceValue → List Region → Called → Type 0
-CallsUnless true d t regions n most e left called =
-    (e ≡ with_thread n (failed operand_invalid t) d) × (left ≡ regions) × (called ≡ nothing)
-CallsUnless false d t regions n most e left called =
-    CallsThread d t regions n (most_on d.config.bus (code_of t.channel) most) e left called
-
--- `CallsUnless` for a thread that the device has
+-- `CallsThread` for a thread that the device has
 abbrev pub CallsOne : Option Thread → DeviceValue → List Region → ℕ → ℕ → DeviceValue → List Region → Called → Type 0
 CallsOne None d regions n most e left called = ⊥
-CallsOne (Some t) d regions n most e left called =
-    CallsUnless (is_too_wide d.config.bus (ahead_of t.channel)) d t regions n most e left called
+CallsOne (Some t) d regions n most e left called = CallsThread d t regions n most e left called
 
 -- a call of channel `n`, if any
 abbrev pub CallsIf : Bool → DeviceValue → List Region → ℕ → ℕ → DeviceValue → List Region → Called → Type 0

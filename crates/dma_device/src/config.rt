@@ -1,41 +1,20 @@
 //! The choices of a chip's designer.
 
 ghost use Rattle.std.specs.Prelude.{◌≡◌, ◌≤◌};
-ghost use Rattle.dma_device.specs.Config.{bus_code, is_valid, revision_code};
+ghost use Rattle.dma_device.specs.Config.{is_valid, revision_code};
 
+pub use dma_chan::bus::BusWidth;
 use dma_mem::limits::MAX_CHANNELS;
 use thiserror::Error;
 
 /// The most events that a device can have.
 pub const MAX_EVENTS: u8 = 32;
 
-/// The most lines that a device's buffer can have.
+/// The most lines of a buffer that CRD has room for.
 pub const MAX_LINES: u16 = 1024;
 
-/// The most bytes of the buffer for each channel: as many as a channel can hold between loads and stores.
+/// The bytes of buffer that each channel has for itself, as many as it can hold between loads and stores.
 pub const MAX_BUFFER: u32 = 256;
-
-/// The width of the data bus.
-#[derive(Clone, Copy, Debug, PartialEq, Eq)]
-pub enum BusWidth {
-    Bits32,
-    Bits64,
-    Bits128,
-}
-
-impl BusWidth {
-    /// Returns the code in CRD: the bus has two to this power bytes.
-    pub fn code(self) -> u32
-        ensures value { result ≡ bus_code self }
-        ensures range { result ≤ 4 }
-    {
-        match self {
-            BusWidth::Bits32 => 2,
-            BusWidth::Bits64 => 3,
-            BusWidth::Bits128 => 4,
-        }
-    }
-}
 
 /// The revision of the controller, for instance r1p2. Linux's driver puts barriers between loads and stores only for
 /// r0p0.
@@ -73,7 +52,8 @@ pub struct Config {
     pub nonsecure: bool,
     /// The width of the data bus. A beat that is wider is an invalid operand of DMAMOV CCR.
     pub bus: BusWidth,
-    /// The number of lines of the buffer, each as wide as the bus: at least one and at most 256 bytes for each channel.
+    /// The number of lines of the buffer, each as wide as the bus, 1 to 1,024. It only shows in CRD: each channel has
+    /// 256 bytes of buffer for itself.
     pub lines: u16,
     pub revision: Revision,
 }
@@ -93,14 +73,11 @@ impl Config {
     pub fn is_valid(&self) -> bool
         ensures { result ≡ is_valid self.now }
     {
-        let channels = u32::from(self.channels);
-        let lines = u32::from(self.lines);
         1 <= self.channels
             && self.channels <= MAX_CHANNELS
             && 1 <= self.events
             && self.events <= MAX_EVENTS
-            && channels <= lines
+            && 1 <= self.lines
             && self.lines <= MAX_LINES
-            && lines * (1 << self.bus.code()) <= MAX_BUFFER * channels
     }
 }

@@ -8,7 +8,7 @@ ghost use Rattle.dma_device.specs.Thread.{can_step, reset_thread};
 ghost use Rattle.dma_device.specs.Turns.{visible_events};
 ghost use Rattle.std.specs.List.{list_any};
 
-use crate::config::{Config, NewFault};
+use crate::config::{BusWidth, Config, NewFault};
 use crate::device::registers::any_faulting;
 use crate::thread::Thread;
 use dma_mem::marks::Marks;
@@ -42,8 +42,6 @@ pub struct Device {
     dbginst1: u32,
     manager: Manager,
     threads: Vec<Thread>,
-    // For each thread with a program, whether the program has a DMAMOV CCR whose beats are wider than the bus.
-    wide: [bool; 8],
     // Always empty.
     marks: Marks,
 }
@@ -60,19 +58,19 @@ impl Model for Device {
     ghost invariant = { IsDevice };
 }
 
-// Returns threads in their state after a reset.
-fn new_threads(alloc: Global, count: u8) -> Result<Vec<Thread>, AllocError>
-    ensures { IfOk result (λ threads. threads.items ≡ replicate count reset_thread) }
+// Returns threads on this bus in their state after a reset.
+fn new_threads(alloc: Global, bus: BusWidth, count: u8) -> Result<Vec<Thread>, AllocError>
+    ensures { IfOk result (λ threads. threads.items ≡ replicate count (reset_thread bus)) }
 {
     let mut threads = Vec::new(alloc);
     for _n in 0..count {
-        let thread = Thread::new(alloc)?;
+        let thread = Thread::new(alloc, bus)?;
         threads.push(thread)?;
     }
     Ok(threads)
 }
 
-// Returns whether a step of a thread does more than wait, with these flags of events.
+// Returns whether a thread runs and, by its status, doesn't wait for an event whose flag is clear.
 fn any_can_step(threads: &[Thread], events: u32) -> bool
     ensures { result ≡ list_any (can_step events) threads.now }
 {
@@ -84,12 +82,12 @@ fn any_can_step(threads: &[Thread], events: u32) -> bool
     false
 }
 
-// Puts threads into their state after a reset.
-fn reset_threads(threads: &mut [Thread])
-    ensures { threads.new ≡ replicate (length threads.old) reset_thread }
+// Puts threads into their state after a reset, on this bus.
+fn reset_threads(threads: &mut [Thread], bus: BusWidth)
+    ensures { threads.new ≡ replicate (length threads.old) (reset_thread bus) }
 {
     for n in 0..threads.len() {
-        threads[n].reset();
+        threads[n].reset(bus);
     }
 }
 
@@ -118,7 +116,7 @@ impl Device {
         requires { is_valid config ≡ true }
         ensures { IfOk result (λ device. device ≡ reset_device config) }
     {
-        let threads = new_threads(alloc, config.channels)?;
+        let threads = new_threads(alloc, config.bus, config.channels)?;
         Ok(Device {
             config,
             events: 0,
@@ -131,7 +129,6 @@ impl Device {
                 fault: 0,
             },
             threads,
-            wide: [false; 8],
             marks: Marks::new(alloc),
         })
     }
@@ -140,7 +137,7 @@ impl Device {
     pub fn reset(&mut self)
         ensures { self.new ≡ reset_device self.old.config }
     {
-        reset_threads(&mut self.threads);
+        reset_threads(&mut self.threads, self.config.bus);
         self.events = 0;
         self.interrupts = 0;
         self.inten = 0;

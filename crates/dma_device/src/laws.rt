@@ -3,31 +3,31 @@
 ghost use Rattle.dma_device.specs.Copies.{DmagoCopies, DmagoNeverFails};
 ghost use Rattle.dma_device.specs.Events.{EventsAreExact, TakenWasSet, WaitsForUnset};
 ghost use Rattle.dma_device.specs.Faults.{AbortIsFaulting, AbortsAreExact, FaultsAreExact};
-ghost use Rattle.dma_device.specs.Idle.{NothingHappens, StaySound};
+ghost use Rattle.dma_device.specs.Idle.{NothingHappens, StaySound, TurnChanges};
 ghost use Rattle.dma_device.specs.Interrupts.{InterruptsAreExact};
 ghost use Rattle.dma_device.specs.Progress.{CompiledGoesOn, CompiledSignals, DmagoFinishes, DmagoSignals};
 ghost use Rattle.dma_device.specs.Snapshot.{DamageIsRefused};
 ghost use Rattle.dma_device.specs.Run.{RunsStepByStep};
 ghost use Rattle.dma_device.specs.Writes.{TurnWritesEach, TurnWritesInRegions};
 
-/// A program that a transfer explains, put into RAM and started by a DMAGO, makes one simultaneous copy of all the
-/// transfer's bytes, whatever the guest and other channels do meanwhile to other bytes and registers. It is done once
-/// the channel's CSR reads as stopped, or once a line that was low is high after a turn of the channel.
+/// A program that a transfer explains on the device's bus, put into RAM and started by a DMAGO, makes one simultaneous
+/// copy of all the transfer's bytes, whatever the guest and other channels do meanwhile to other bytes and registers.
+/// It is done once the channel's CSR reads as stopped, or once a line that was low is high after a turn of the channel.
 pub fn a_dmago_copies()
     ensures { DmagoCopies }
 {}
 
 /// Such a program never fails if the regions contain all addresses that the transfer touches, none that it writes is
-/// read-only, the device has the transfer's events, and each beat of the program fits the bus.
+/// read-only, and the device has the transfer's events.
 pub fn a_dmago_never_fails()
     ensures { DmagoNeverFails }
 {}
 
 /// Such a program finishes: CSR reads as stopped after as many turns as the program executes instructions with its
-/// DMAEND, if each turn may take a step, the regions contain what the transfer touches, the device has its events, each
-/// beat fits the bus, and no turn begins at a DMAWFE of an event that isn't set. If the program has a DMASEV of an event
-/// that INTEN makes an interrupt, the event's line was high after one of the turns. For a compiled program the event
-/// that it waits for must be set only at first, and it has a DMASEV of the event that its transfer signals.
+/// DMAEND, if each turn may take a step, the regions contain what the transfer touches, the device has its events, and
+/// no turn begins at a DMAWFE of an event that isn't set. If the program has a DMASEV of an event that INTEN makes an
+/// interrupt, the event's line was high after one of the turns. For a compiled program the event that it waits for must
+/// be set only at first, and it has a DMASEV of the event that its transfer signals.
 pub fn a_dmago_finishes()
     ensures finishes { DmagoFinishes }
     ensures signals { DmagoSignals }
@@ -37,9 +37,10 @@ pub fn a_dmago_finishes()
 
 /// An interrupt is neither lost nor invented. For every list of accesses after a reset, line n, and with it bit n of
 /// INTMIS, is high exactly if a channel's turn or the debug registers executed a DMASEV n while bit n of INTEN was 1,
-/// and no write to INTCLR has cleared it since, and no reset happened. (After a restore, also if it was high in the save
-/// and not cleared since.) A write to INTCLR clears it if bit n of the value and of INTEN are 1. So no write to INTEN
-/// makes an interrupt of an event, or an event of an interrupt.
+/// or a restored device had it high, and since then no write to INTCLR has cleared it, and neither a reset nor a
+/// restore of a device with a low line happened. A write to INTCLR clears it if bit n of the value and of INTEN are 1.
+/// So no write to INTEN makes an interrupt of an event, or an event of an interrupt. Each access may be lent other
+/// regions, here and in the laws of events and faults.
 pub fn interrupts_are_exact()
     ensures { InterruptsAreExact }
 {}
@@ -51,11 +52,11 @@ pub fn a_turn_writes_each()
     ensures within { TurnWritesInRegions }
 {}
 
-/// An event is neither lost nor invented. For every list of accesses after a reset, event n is set exactly if a channel's
-/// turn or the debug registers executed a DMASEV n while bit n of INTEN was 0, and no DMAWFE has taken it since, and no
-/// reset happened. (After a restore, also if it was set in the save and not taken since.) So one DMASEV wakes one channel. What a DMAWFE
-/// takes was set, and INTEN made it an event. A channel that waits after its turn waits for an event that isn't set, or
-/// that INTEN makes an interrupt.
+/// An event is neither lost nor invented. For every list of accesses after a reset, event n is set exactly if a
+/// channel's turn or the debug registers executed a DMASEV n while bit n of INTEN was 0, or a restored device had it
+/// set, and since then no DMAWFE has taken it, and neither a reset nor a restore of a device without it happened. So
+/// one DMASEV wakes one channel. What a DMAWFE takes was set, and INTEN made it an event. A channel that waits after
+/// its turn waits for an event that isn't set, or that INTEN makes an interrupt.
 pub fn events_are_exact()
     ensures exact { EventsAreExact }
     ensures taken { TakenWasSet }
@@ -63,9 +64,10 @@ pub fn events_are_exact()
 {}
 
 /// The line irq_abort is high exactly if a thread is faulting, as FSRD and FSRC read. It rises exactly at an access in
-/// which a step of a turn or a debug instruction fails, and falls exactly at the debug DMAKILL of the last thread that is
-/// faulting, or at a reset. For every list of accesses, a thread is faulting exactly if an access made it fail, and none
-/// since has killed it or was a reset.
+/// which a step of a turn or a debug instruction fails, or a device with a faulting thread is restored, and falls
+/// exactly at the debug DMAKILL of the last thread that is faulting, at a reset, or at the restore of a device without
+/// one. For every list of accesses, a thread is faulting exactly if an access made it fail, or restored it so, and none
+/// since ended that.
 pub fn faults_are_exact()
     ensures line { AbortIsFaulting }
     ensures exact { FaultsAreExact }
@@ -74,21 +76,23 @@ pub fn faults_are_exact()
 
 /// If no thread can step, a turn of any channel changes neither the device nor a byte of the regions, and reports no
 /// change. So nothing happens until the guest's next write, a reset or a restore. This holds of every list of accesses
-/// after a reset or a restore.
+/// after a reset, whatever regions each is lent. If a thread can step, each turn of its channel that may take a step
+/// changes the device.
 pub fn nothing_happens()
     ensures sound { StaySound }
     ensures nothing { NothingHappens }
+    ensures changes { TurnChanges }
 {}
 
 /// A save in which one byte is another byte is the save of no device, unless the byte is the version and became 1. So a
-/// restore refuses each save in which a bit is flipped.
+/// restore refuses each save of this version in which a bit is flipped.
 pub fn damage_is_refused()
     ensures { DamageIsRefused }
 {}
 
-/// For every list of register reads and writes, turns of channels, and bytes that the processor writes to RAM, in any
-/// order, each value read, each report, the device with both kinds of lines, and all of RAM are what `run` of the
-/// definitions gives, step by step.
+/// For every list of register reads and writes, turns of channels, bytes that the processor writes to RAM, resets and
+/// restores, in any order, each value read, each report, the device with both kinds of lines, and all of RAM are what
+/// `run` of the definitions gives, step by step, if each access is lent the memory that the one before it left.
 pub fn runs_step_by_step()
     ensures { RunsStepByStep }
 {}

@@ -1,16 +1,17 @@
 //! The threads of a device: the manager and the channels.
 
-ghost use Rattle.std.specs.Prelude.{◌≡◌, ◌↔◌, ◌≤◌, ◌<◌, ◌^◌, length, IsSome, IsTrue, Ok, Some, IfOk};
-ghost use Rattle.dma_insn.specs.AssemblyText.{most_program_bytes};
-ghost use Rattle.dma_chan.specs.Channel.{ahead_of};
-ghost use Rattle.dma_device.specs.Device.{csr};
+ghost use Rattle.std.specs.Prelude.{◌≡◌, ◌↔◌, ◌<◌, ◌^◌, IsSome, IsTrue, Ok, Some, IfOk};
+ghost use Rattle.dma_mem.specs.Regions.{pieces_of};
+ghost use Rattle.dma_device.specs.Device.{csr, program_at};
 ghost use Rattle.dma_device.specs.declared.thread.Status.{Status};
-ghost use Rattle.dma_device.specs.Thread.{IsSound, answer, answered, can_step, fault_bit, is_before_wait, is_faulting, is_signalled, is_stopped, is_too_wide, killed, failed, moved, reset_thread, runs, started, status_bits, waited, waits_for};
+ghost use Rattle.dma_device.specs.Thread.{IsSound, answer, answered, can_step, fault_bit, is_before_wait, is_faulting, is_signalled, is_stopped, killed, failed, moved, reset_thread, runs, started, status_bits, waited, waits_for};
 
 use crate::config::BusWidth;
+use dma_chan::bus::Bus;
 use dma_chan::channel::Channel;
 use dma_chan::turn::{ChanTurn, FaultKind};
-use dma_insn::insn::{Event, Insn, Reg};
+use dma_insn::insn::{Event, Insn};
+use dma_mem::regions::Region;
 use std::alloc::{AllocError, Global};
 
 /// Faults by their bits in FTRD and FTR (DMA-330 manual, fault type registers).
@@ -125,11 +126,12 @@ impl Status {
 }
 
 impl Thread {
-    /// Returns a thread in its state after a reset.
-    pub fn new(alloc: Global) -> Result<Thread, AllocError>
-        ensures { IfOk result (λ thread. thread ≡ reset_thread) }
+    /// Returns a thread on this bus in its state after a reset.
+    pub fn new(alloc: Global, bus: BusWidth) -> Result<Thread, AllocError>
+        ensures { IfOk result (λ thread. thread ≡ reset_thread bus) }
     {
-        let channel = Channel::new(alloc)?;
+        let mut channel = Channel::new(alloc)?;
+        channel.reset(Bus::Chip(bus));
         Ok(Thread {
             channel,
             status: Status::Stopped,
@@ -140,11 +142,11 @@ impl Thread {
         })
     }
 
-    /// Puts the thread into its state after a reset.
-    pub fn reset(&mut self)
-        ensures { self.new ≡ reset_thread }
+    /// Puts the thread into its state after a reset, on this bus.
+    pub fn reset(&mut self, bus: BusWidth)
+        ensures { self.new ≡ reset_thread bus }
     {
-        self.channel.reset();
+        self.channel.reset(Bus::Chip(bus));
         self.status = Status::Stopped;
         self.fault = 0;
         self.nonsecure = false;
@@ -212,28 +214,11 @@ impl Thread {
         self.channel.is_loaded() && !self.is_faulting()
     }
 
-    /// Returns whether a step of the thread does more than wait, with these flags of events.
+    /// Returns whether the thread runs and, by its status, doesn't wait for an event whose flag is clear.
     pub fn can_step(&self, events: u32) -> bool
         ensures { result ≡ can_step events self.now }
     {
         self.runs() && self.status.is_signalled(events)
-    }
-
-    /// Returns whether the next instruction is a DMAMOV CCR whose beats are wider than a bus of less than 128 bits.
-    /// (The channel itself refuses beats of more than 128 bits.)
-    pub fn is_too_wide(&self, bus: BusWidth) -> bool
-        requires { IsSome self.now.channel.program }
-        ensures { result ≡ is_too_wide bus (ahead_of self.now.channel) }
-    {
-        if let BusWidth::Bits128 = bus {
-            return false;
-        }
-        match self.channel.ahead() {
-            Ok(Insn::Mov(Reg::Ccr, value)) => {
-                bus.code() < (value >> 1) % 8 || bus.code() < (value >> 15) % 8
-            }
-            _ => false,
-        }
     }
 
     /// Makes the thread faulting.
@@ -252,12 +237,12 @@ impl Thread {
         self.status = Status::Stopped;
     }
 
-    /// Starts the thread with these bytes as its program, which begins at address `base`.
-    pub fn start(&mut self, nonsecure: bool, base: u32, program: &[u8])
-        requires { length program.now ≤ most_program_bytes }
-        ensures { self.new ≡ started nonsecure base program.now }
+    /// Starts the thread on this bus with the program that begins at address `base` of these regions.
+    pub fn start(&mut self, bus: BusWidth, nonsecure: bool, base: u32, regions: &[Region<'_>])
+        ensures { let program = program_at (pieces_of regions.now) base in
+            self.new ≡ started bus nonsecure base program }
     {
-        self.channel.load_bytes(program);
+        self.channel.load_from(regions, base, Bus::Chip(bus));
         self.status = Status::Executing;
         self.fault = 0;
         self.nonsecure = nonsecure;

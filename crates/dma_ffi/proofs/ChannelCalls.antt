@@ -14,6 +14,7 @@ use Rattle.dma_mem.specs.declared.segment.Segment.{Segment}
 use Rattle.dma_mem.specs.declared.transfer.TransferFault.{TransferFault}
 use Rattle.dma_mem.specs.declared.transfer.TransferFault.TheVariants as transfers
 use Rattle.dma_mem.proofs.TransferRules.{copy-from_no_refusal, fill-from_no_refusal}
+use Rattle.dma_chan.specs.declared.bus.Bus.TheVariants.{Ideal}
 use Rattle.dma_chan.specs.Channel.{ChannelValue}
 use Rattle.dma_chan.specs.Changes as chan
 use Rattle.dma_chan.specs.Compiled.{compiled, cost}
@@ -51,7 +52,7 @@ refused transfers.SourceMeetsDestination e = cc
 refused transfers.BadEvent e = cc
 refused transfers.NoMemory e = cc
 
-was_loaded : (refusal : Option TransferFault) (t : Descriptor) (c d : ChannelValue) → LoadsTransfer refusal t c ok_code d → (refusal ≡ None) × IsLoadedWith (compiled t).bytes d
+was_loaded : (refusal : Option TransferFault) (t : Descriptor) (c d : ChannelValue) → LoadsTransfer refusal t c ok_code d → (refusal ≡ None) × IsLoadedWith Ideal (compiled t).bytes d
 was_loaded refusal t c d (inl h) = (h.1, (compiled t, ([], sym (append-nil (compiled t).bytes)), h.2))
 was_loaded refusal t c d (inr h) = absurd (refused (unwrap_or refusal transfers.NoMemory) h.0)
 
@@ -65,11 +66,11 @@ fill_made src dst wait signal small h =
     let fits = le-ltb 4294967296 (src + 1) (omega arith) in
     rw (fits, or_false) h
 
-was_read : (program : List ℕ) (regions : List Region) (addr : ℕ) (rest : List ℕ) (c d : ChannelValue) → take most_program_bytes (run_from (pieces_of regions) addr) ≡ program ++ rest → LoadsFrom regions addr c ok_code d → IsLoadedWith program d
+was_read : (program : List ℕ) (regions : List Region) (addr : ℕ) (rest : List ℕ) (c d : ChannelValue) → take most_program_bytes (run_from (pieces_of regions) addr) ≡ program ++ rest → LoadsFrom regions addr c ok_code d → IsLoadedWith Ideal program d
 was_read program regions addr rest c d e (inl bad) = absurd (let f = bad.0 in cc)
 was_read program regions addr rest c d e (inr ok) = (record { bytes = take most_program_bytes (run_from (pieces_of regions) addr); cost = None }, (rest, e), ok.2)
 
-has_compiled : (t : Descriptor) (c : ChannelValue) → IsTransfer t → IsLoadedWith (compiled t).bytes c → HasProgram t c
+has_compiled : (t : Descriptor) (c : ChannelValue) → IsTransfer t → IsLoadedWith Ideal (compiled t).bytes c → HasProgram t c
 has_compiled t c h l = ((compiled t).bytes, cost t - 1, compiled_explained t h, l)
 
 pub loads_a_transfer : LoadsATransfer
@@ -235,7 +236,7 @@ module _ (t : Descriptor) (count : ℕ) (calls : ℕ → StepCall) (run : StepsS
   abbrev last_number : ℕ
   last_number = run.begins.1
 
-  explains : Explains program t last_number
+  explains : Explains Ideal program t last_number
   explains = run.begins.2
 
   does : (k : ℕ) → k < count → Took (calls k)
@@ -256,22 +257,22 @@ module _ (t : Descriptor) (count : ℕ) (calls : ℕ → StepCall) (run : StepsS
   does_it : (k : ℕ) (l : k < count) → chan.DoesCall (the_call k l)
   does_it k l = does_call 0 (calls k) (does k l)
 
-  along : (k : ℕ) → k < count → Runs program t last_number first (machine_of (calls k).lent)
-  along zero l = at_first program t last_number first (machine_of (calls 0).lent) (first_below 0 l) run.begins.3 refl
+  along : (k : ℕ) → k < count → Runs Ideal program t last_number first (machine_of (calls k).lent)
+  along zero l = at_first Ideal program t last_number first (machine_of (calls 0).lent) (first_below 0 l) run.begins.3 refl
   along (suc k) l =
       let e : k + 1 ≡ suc k = omega arith in
       let less : k + 1 < count = omega arith in
       let here : k < count = omega arith in
-      let led = leads program t last_number first explains (first_below k here) (the_call k here) (along k here) (does_it k here) in
+      let led = leads Ideal program t last_number first explains (first_below k here) (the_call k here) (along k here) (does_it k here) in
       let some : IsSome (channel_of (calls k).left).program = subst (λ (c : ChannelValue). IsSome c.program) (run.goes_on k less) (does_it (k + 1) less).is_loaded in
-      subst (λ (j : ℕ). Runs program t last_number first (machine_of (calls j).lent)) e
-      (survived program t last_number first (machine_of (calls k).left) (machine_of (calls (k + 1)).lent) (goes program t last_number first (the_call k here).last (machine_of (calls k).left) led some) (run.goes_on k less) (λ a i. run.unchanged k a less i) (below (k + 1) less))
+      subst (λ (j : ℕ). Runs Ideal program t last_number first (machine_of (calls j).lent)) e
+      (survived Ideal program t last_number first (machine_of (calls k).left) (machine_of (calls (k + 1)).lent) (goes Ideal program t last_number first (the_call k here).last (machine_of (calls k).left) led some) (run.goes_on k less) (λ a i. run.unchanged k a less i) (below (k + 1) less))
 
   copied : (k : ℕ) → k < count → HasCopied t first (calls k)
   copied k l =
       let d = does k l in
       let call = calls k in
-      let all = has_copied program t last_number first explains (first_below k l) (the_call k l) (along k l) (does_it k l) in
+      let all = has_copied Ideal program t last_number first explains (first_below k l) (the_call k l) (along k l) (does_it k l) in
       let said = d.3.reported in
       let pc = d.1.channel.registers.pc in
       record {

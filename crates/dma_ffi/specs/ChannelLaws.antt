@@ -8,6 +8,7 @@ use Rattle.dma_mem.specs.Regions.{has, image_of, pieces_of, run_from}
 use Rattle.dma_mem.specs.declared.regions.Region.{Region}
 use Rattle.dma_mem.specs.declared.segment.Segment.{Segment}
 use Rattle.dma_insn.specs.AssemblyText.{most_program_bytes}
+use Rattle.dma_chan.specs.declared.bus.Bus.TheVariants.{Ideal}
 use Rattle.dma_chan.specs.Changes.{Call, DoesCall, HasFirst, bytes_in}
 use Rattle.dma_chan.specs.Channel.{ChannelValue, unloaded}
 use Rattle.dma_chan.specs.Explains.{Explains, IsLoadedWith}
@@ -24,7 +25,7 @@ use Rattle.dma_ffi.specs.Codes.{ok_code}
 
 -- A channel into which a program was just loaded that begins with one that a transfer explains.
 abbrev pub HasProgram : Descriptor → ChannelValue → Type 0
-HasProgram t c = (program : List ℕ) × (n : ℕ) × Explains program t n × IsLoadedWith program c
+HasProgram t c = (program : List ℕ) × (n : ℕ) × Explains Ideal program t n × IsLoadedWith Ideal program c
 
 -- A load that returns `ok_code` gives the channel a program that a transfer explains: a load of a copy; of a fill whose
 -- byte has a 32-bit address; or from memory, if the bytes that it reads begin with a program that the transfer explains.
@@ -34,7 +35,7 @@ pub record LoadsATransfer : Type 0 where
   pub fill : (src : ℕ) (dst : List Segment) (wait signal : Option ℕ) (c d : ChannelValue) → src < end_of_addresses →
       LoadsFill src dst wait signal c ok_code d → HasProgram (filling src dst wait signal) d
   pub from : (program : List ℕ) (t : Descriptor) (n : ℕ) (regions : List Region) (addr : ℕ) (rest : List ℕ)
-      (c d : ChannelValue) → Explains program t n →
+      (c d : ChannelValue) → Explains Ideal program t n →
       take most_program_bytes (run_from (pieces_of regions) addr) ≡ program ++ rest →
       LoadsFrom regions addr c ok_code d → HasProgram t d
 

@@ -11,7 +11,8 @@ use Rattle.dma_mem.specs.declared.segment.Segment.{Segment}
 use Rattle.dma_mem.specs.declared.transfer.TransferFault.{TransferFault}
 use Rattle.dma_mem.specs.declared.transfer.TransferFault.TheVariants as transfers
 use Rattle.dma_insn.specs.AssemblyText.{most_program_bytes}
-use Rattle.dma_chan.specs.Channel.{ChannelValue, unloaded, loaded}
+use Rattle.dma_chan.specs.declared.bus.Bus.TheVariants.{Ideal}
+use Rattle.dma_chan.specs.Channel.{ChannelValue, on_bus, unloaded, loaded}
 use Rattle.dma_chan.specs.Compiled.{compiled}
 use Rattle.dma_chan.specs.LentRegions.{segment_of, with_gaps_of}
 use Rattle.dma_chan.specs.Saved.{IsChannelValue, IsSave, most_saved, saved}
@@ -120,17 +121,19 @@ save_of m = saved m.channel
 abbrev pub FitsSave : MarkedChannel → Type 0
 FitsSave m = (length (saved m.channel) ≤ most_saved) × IsChannelValue m.channel
 
--- Makes the channel the one of a save: these bytes are its save, and no other value that satisfies `IsChannelValue`
--- has this save. Fails with `bad_save` exactly if the bytes aren't a save, and then nothing changes.
+-- Makes the channel the one of a save, on the ideal bus: these bytes are its save, and no other value that satisfies
+-- `IsChannelValue` has this save, except on another bus. Fails with `bad_save` exactly if the bytes aren't a save, and
+-- then nothing changes.
 abbrev pub Restores : List ℕ → ChannelValue → ℤ → ChannelValue → Type 0
 Restores save c code d =
-    ((code ≡ ok_code) × (save ≡ saved d) × ((e : ChannelValue) → IsChannelValue e → save ≡ saved e → d ≡ e))
+    ((code ≡ ok_code) × (save ≡ saved d)
+    × ((e : ChannelValue) → IsChannelValue e → save ≡ saved e → d ≡ on_bus Ideal e))
     ⊎ ((code ≡ bad_save) × (¬ IsSave save) × (d ≡ c))
 
 -- ---- the caller's memory
 
 -- whether channels can be stepped over these regions: there are at most 64, in the order of their addresses, without a
--- shared address, and none ends above 4,294,967,295
+-- shared address, and none reaches beyond address 4,294,967,295
 abbrev pub are_usable : List Region → Bool
 are_usable regions = nat_le (length regions) 64 && in_order (pieces_of regions)
 

@@ -79,7 +79,7 @@ bad_range = minus 15
 abbrev pub size_out_of_range : ℤ
 size_out_of_range = minus 21
 
--- there are more than 64 regions, they aren't in order, or one ends above 4,294,967,295
+-- there are more than 64 regions, they aren't in order, or one reaches beyond address 4,294,967,295
 abbrev pub bad_regions : ℤ
 bad_regions = minus 22
 

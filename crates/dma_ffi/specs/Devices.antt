@@ -4,15 +4,15 @@ use Rattle.std.specs.List.{list_any}
 use Rattle.dma_mem.specs.Regions.{image_of, pieces_of}
 use Rattle.dma_mem.specs.declared.regions.Region.{Region}
 use Rattle.dma_chan.specs.Written.{KeepsOutside, LiesIn}
-use Rattle.dma_device.specs.Accesses.{Does, Done, Reads, Resets, Turned, Turns, Value, Writes}
+use Rattle.dma_device.specs.Accesses.{Does, Done, Reads, Resets, Restores as RestoresTo, Turned, Turns, Value, Writes}
 use Rattle.dma_device.specs.Config.{is_valid}
 use Rattle.dma_device.specs.Device.{DeviceValue, irq_abort, read_at, reset_device, written}
 use Rattle.dma_device.specs.Snapshot.{IsDeviceValue, IsOfOther, IsSavedAs, most_saved, saved_device}
 use Rattle.dma_device.specs.Thread.{can_step}
 use Rattle.dma_device.specs.Turns.{TakesTurn, visible_events}
 use Rattle.dma_device.specs.Writes.{TurnWrote}
-use Rattle.dma_device.specs.declared.config.BusWidth.{BusWidth}
-use Rattle.dma_device.specs.declared.config.BusWidth.TheVariants.{Bits32, Bits64, Bits128}
+use Rattle.dma_chan.specs.declared.bus.BusWidth.{BusWidth}
+use Rattle.dma_chan.specs.declared.bus.BusWidth.TheVariants.{Bits32, Bits64, Bits128}
 use Rattle.dma_device.specs.declared.config.Config.{Config}
 use Rattle.dma_device.specs.declared.config.Revision.{Revision}
 use Rattle.dma_device.specs.declared.config.Revision.TheVariants.{R0p0, R1p0, R1p1, R1p2}
@@ -88,7 +88,7 @@ WritesRegister regions at value d code e =
 abbrev pub abort_line : DeviceValue → ℕ
 abort_line d = if irq_abort d then 1 else 0
 
--- 1 if a step of any channel does more than wait, else 0
+-- 1 if any channel runs and, by its status, doesn't wait for an event whose flag is clear, else 0
 abbrev pub any_can_step : DeviceValue → ℕ
 any_can_step d = if list_any (can_step (visible_events d)) d.threads then 1 else 0
 
@@ -150,13 +150,13 @@ restore_code (Ok x) = ok_code
 restore_code (Err OtherDevice) = other_device
 restore_code (Err BadSave) = bad_save
 
--- Makes the device the one of a save: these bytes are its save, and no other device of its configuration has this save.
--- Fails with `other_device` exactly if the bytes begin as the save of a device of another version or configuration, and
--- then nothing changes; else with `bad_save` exactly if they are the save of no device, and then the device is in its
--- state after a reset.
+-- Makes the device the one of a save: these bytes are its save, it satisfies what every device does, and no other device
+-- of its configuration has this save. Fails with `other_device` exactly if the bytes begin as the save of a device of
+-- another version or configuration, and then nothing changes; else with `bad_save` exactly if they are the save of no
+-- device, and then the device is in its state after a reset.
 abbrev pub Restores : List ℕ → DeviceValue → ℤ → DeviceValue → Type 0
 Restores save d code e =
-    ((code ≡ ok_code) × IsSavedAs save e × (e.config ≡ d.config)
+    ((code ≡ ok_code) × IsSaveOf save d.config e
     × ((f : DeviceValue) → IsSaveOf save d.config f → e ≡ f))
     ⊎ (((code ≡ other_device) × IsOfOther d.config save × (e ≡ d))
     ⊎ ((code ≡ bad_save) × (¬ IsOfOther d.config save) × ((f : DeviceValue) → ¬ IsSaveOf save d.config f)
@@ -165,7 +165,8 @@ Restores save d code e =
 -- ---- as accesses
 
 -- Calls from C on an open device are accesses (specs/Accesses.antt of dma_device): a read; a write that returns
--- `ok_code`; a turn that returns `ok_code`, of which C gets the report; and a reset.
+-- `ok_code`; a turn that returns `ok_code`, of which C gets the report; a reset; a restore that returns `ok_code`, as it
+-- does for the save of any device of the same configuration; and a restore that returns `bad_save`, which is a reset.
 pub record CallsAreAccesses : Type 0 where
   pub reads : (d : DeviceValue) (at before value : ℕ) (code : ℤ) (new : Option DeviceValue) (regions : List Region) →
       WritesValue (λ (e : DeviceValue). read_at e at) (Some d) code before value new →
@@ -179,3 +180,9 @@ pub record CallsAreAccesses : Type 0 where
   pub resets : (d : DeviceValue) (code : ℤ) (new : Option DeviceValue) (regions : List Region) →
       Becomes (λ (e : DeviceValue). reset_device e.config) (Some d) code new →
       (e : DeviceValue) × (new ≡ Some e) × Does Resets d regions Done e regions
+  pub restores : (d e : DeviceValue) (save : List ℕ) (regions : List Region) →
+      OnOpen (Restores save) (Some d) ok_code (Some e) → Does (RestoresTo e) d regions Done e regions
+  pub saves_restore : (d e saved : DeviceValue) (save : List ℕ) (code : ℤ) →
+      OnOpen (Restores save) (Some d) code (Some e) → IsSaveOf save d.config saved → (code ≡ ok_code) × (e ≡ saved)
+  pub refuses : (d e : DeviceValue) (save : List ℕ) (regions : List Region) →
+      OnOpen (Restores save) (Some d) bad_save (Some e) → Does Resets d regions Done e regions

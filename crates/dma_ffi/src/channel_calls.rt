@@ -16,11 +16,12 @@ use crate::codes::{
 };
 use crate::kept_channel::KeptChannel;
 use crate::marked_channel::MarkedChannel;
+use dma_chan::bus::Bus;
 use dma_chan::channel::Channel;
 use dma_chan::compile::compile;
 use dma_chan::program::MAX_PROGRAM_BYTES;
 use dma_mem::marks::Marks;
-use dma_mem::regions::{Region, are_in_order, copy_run};
+use dma_mem::regions::{Region, are_in_order};
 use dma_mem::segment::Segment;
 use dma_mem::transfer::{Transfer, TransferFault};
 use std::alloc::Global;
@@ -150,7 +151,7 @@ pub extern "C" fn dma330_channel_load_program(kept: &mut KeptChannel, program: &
     if program.len() > MAX_PROGRAM_BYTES {
         return PROGRAM_TOO_LONG;
     }
-    marked.channel.load_bytes(program);
+    marked.channel.load_bytes(program, Bus::Ideal);
     OK
 }
 
@@ -178,9 +179,7 @@ pub extern "C" fn dma330_channel_load_from(
     if !are_usable(regions) {
         return BAD_REGIONS;
     }
-    let mut program = [0; MAX_PROGRAM_BYTES];
-    let len = copy_run(regions, addr, &mut program);
-    marked.channel.load_bytes(&program[..len]);
+    marked.channel.load_from(regions, addr, Bus::Ideal);
     OK
 }
 
@@ -293,7 +292,7 @@ pub extern "C" fn dma330_channel_restore(kept: &mut KeptChannel, save: &[u8]) ->
     let Some(marked) = kept.as_kept().get_mut() else {
         return NOT_OPEN;
     };
-    match marked.channel.restore(save) {
+    match marked.channel.restore(save, Bus::Ideal) {
         Ok(()) => OK,
         Err(_) => BAD_SAVE,
     }

@@ -49,7 +49,7 @@ pub const RUNNING: i32 = -16;
 pub const BAD_CHANNELS: i32 = -20;
 /// A memory can't have this size.
 pub const SIZE_OUT_OF_RANGE: i32 = -21;
-/// There are more than 64 regions, they aren't in order, or one ends above 4,294,967,295.
+/// There are more than 64 regions, they aren't in order, or one ends above 4,294,967,296.
 pub const BAD_REGIONS: i32 = -22;
 /// No device can have this configuration.
 pub const BAD_CONFIG: i32 = -23;

@@ -30,7 +30,7 @@ pub struct DeviceTurn {
     pub written: Segment,
     /// 1 if a line of irq[31:0], or irq_abort, has changed, else 0.
     pub lines_changed: u32,
-    /// 1 if a step of any channel does more than wait, else 0.
+    /// 1 if any channel runs and, by its status, doesn't wait for an event whose flag is clear, else 0.
     pub can_step: u32,
 }
 
@@ -184,7 +184,7 @@ pub extern "C" fn dma330_device_irq_abort(kept: &mut KeptDevice, line: &mut u32)
     OK
 }
 
-/// Writes 1 if a step of any channel does more than wait, else 0.
+/// Writes 1 if any channel runs and, by its status, doesn't wait for an event whose flag is clear, else 0.
 #[unsafe(no_mangle)]
 pub extern "C" fn dma330_device_can_step(kept: &mut KeptDevice, can_step: &mut u32) -> i32
     ensures { WritesValue any_can_step kept.old.device.value result can_step.old can_step.new

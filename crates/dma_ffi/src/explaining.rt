@@ -5,6 +5,7 @@ ghost use Rattle.dma_ffi.specs.Codes.{event_of};
 ghost use Rattle.dma_ffi.specs.Explaining.{ExplainsProgram, Writes};
 
 use crate::codes::{BUFFER_TOO_SMALL, NO_MEMORY, OK, PROGRAM_TOO_LONG, UNEXPLAINED};
+use dma_chan::bus::Bus;
 use dma_chan::explain::{Cause, Explained, Unexplained, explain};
 use dma_chan::turn::FaultKind;
 use dma_mem::segment::Segment;
@@ -115,7 +116,7 @@ pub extern "C" fn dma330_explain(
 ) -> i32
     ensures { ExplainsProgram program.now most result src.new dst.new explanation.new }
 {
-    match explain(alloc, program, most) {
+    match explain(alloc, Bus::Ideal, program, most) {
         Ok(explained) => write_out(&explained, src, dst, explanation),
         Err(Unexplained { cause, pc, steps }) => {
             *explanation = Explanation {

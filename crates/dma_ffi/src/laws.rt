@@ -31,7 +31,7 @@ pub fn channel_calls_copy()
 {}
 
 /// Calls from C on an open device are accesses of the laws of `dma_device`. So what these say of lists of accesses
-/// holds of C's reads, writes, turns and resets over the same regions, between which no call restores the device.
+/// holds of C's reads, writes, turns, resets and restores over the same regions.
 pub fn device_calls_are_accesses()
     ensures { CallsAreAccesses }
 {}

@@ -60,7 +60,7 @@ context at (p ∷ ps) (suc i) h l =
 -- the order and the gaps are those of the addresses and lengths
 pub same_order : (at : ℕ) (ps : List Piece) (i : ℕ) (bs : List ℕ) → i < length ps → length bs ≡ length (piece_at ps i).bytes → rises_from at (set ps i (with_bytes ps i bs)) ≡ rises_from at ps
 same_order at [] i bs l e = absurd (omega arith)
-same_order at (p ∷ ps) zero bs l e = ap (λ (n : ℕ). nat_le at p.addr && (nat_le (p.addr + n) 4294967295 && rises_from (p.addr + n) ps)) e
+same_order at (p ∷ ps) zero bs l e = ap (λ (n : ℕ). nat_le at p.addr && (nat_le (p.addr + n) 4294967296 && rises_from (p.addr + n) ps)) e
 same_order at (p ∷ ps) (suc i) bs l e =
     let next = same_order (end_of p) ps i bs (omega arith) e in
     rw next refl
@@ -209,7 +209,7 @@ place_found rs addr len i w some within none = elim (cases_lt i (length rs)) [
 ]
 
 -- addresses that may be written fit 32 bits
-pub writable_most : (rs : List Region) (addr len : ℕ) → Writable rs addr len → addr + len ≤ 4294967295
+pub writable_most : (rs : List Region) (addr len : ℕ) → Writable rs addr len → addr + len ≤ 4294967296
 writable_most rs addr len w = let inside = w.within in omega (arith, image_of-most (pieces_of rs) w.order)
 
 pub rewritten_length : (old new : List Region) (addr : ℕ) (bs : List ℕ) → Rewritten old new addr bs → length (image_of (pieces_of new)) ≡ length (image_of (pieces_of old))

@@ -31,24 +31,24 @@ drop_at ps i h = drop_more ps i nowhere h
 -- what holds of the first of pieces that rise
 pub record First (at : ℕ) (p : Piece) (ps : List Piece) : Type 0 where
   pub after : at ≤ p.addr
-  pub most : end_of p ≤ 4294967295
+  pub most : end_of p ≤ 4294967296
   pub rest : rises_from (end_of p) ps ≡ true
 
 pub first : (at : ℕ) (p : Piece) (ps : List Piece) → rises_from at (p ∷ ps) ≡ true → First at p ps
 first at p ps h =
-    let one = and_parts (nat_le at p.addr) (nat_le (end_of p) 4294967295 && rises_from (end_of p) ps) h in
-    let two = and_parts (nat_le (end_of p) 4294967295) (rises_from (end_of p) ps) one.1 in
-    record { after = leb-true at p.addr one.0; most = leb-true (end_of p) 4294967295 two.0; rest = two.1 }
+    let one = and_parts (nat_le at p.addr) (nat_le (end_of p) 4294967296 && rises_from (end_of p) ps) h in
+    let two = and_parts (nat_le (end_of p) 4294967296) (rises_from (end_of p) ps) one.1 in
+    record { after = leb-true at p.addr one.0; most = leb-true (end_of p) 4294967296 two.0; rest = two.1 }
 
 -- the pieces from an index on rise where those after it do, from the end of its piece
-pub rises_more : (ps : List Piece) (p : Piece) (i at : ℕ) → i < length ps → piece_at ps i ≡ p → at ≤ p.addr → end_of p ≤ 4294967295 → rises_from at (drop i ps) ≡ rises_from (end_of p) (drop (i + 1) ps)
+pub rises_more : (ps : List Piece) (p : Piece) (i at : ℕ) → i < length ps → piece_at ps i ≡ p → at ≤ p.addr → end_of p ≤ 4294967296 → rises_from at (drop i ps) ≡ rises_from (end_of p) (drop (i + 1) ps)
 rises_more ps p i at h is after most =
     ap (rises_from at) (drop_at ps i h)
     ∙ ap (λ (q : Piece). rises_from at (q ∷ drop (i + 1) ps)) is
-    ∙ rw (le-leb at p.addr after, le-leb (end_of p) 4294967295 most) refl
+    ∙ rw (le-leb at p.addr after, le-leb (end_of p) 4294967296 most) refl
 
 -- and don't, where it begins too low or ends too high
-pub rises_not : (ps : List Piece) (p : Piece) (i at : ℕ) → i < length ps → piece_at ps i ≡ p → (p.addr < at) ⊎ (4294967295 < end_of p) → rises_from at (drop i ps) ≡ false
+pub rises_not : (ps : List Piece) (p : Piece) (i at : ℕ) → i < length ps → piece_at ps i ≡ p → (p.addr < at) ⊎ (4294967296 < end_of p) → rises_from at (drop i ps) ≡ false
 rises_not ps p i at h is bad =
     ap (rises_from at) (drop_at ps i h)
     ∙ ap (λ (q : Piece). rises_from at (q ∷ drop (i + 1) ps)) is
@@ -86,7 +86,7 @@ end_from-last at (p ∷ []) (suc i) h = absurd (omega arith)
 end_from-last at (p ∷ (q ∷ qs)) zero h = absurd (omega arith)
 end_from-last at (p ∷ (q ∷ qs)) (suc i) h = end_from-last (end_of p) (q ∷ qs) i (omega arith)
 
-end_from-most : (at : ℕ) (ps : List Piece) → at ≤ 4294967295 → rises_from at ps ≡ true → end_from at ps ≤ 4294967295
+end_from-most : (at : ℕ) (ps : List Piece) → at ≤ 4294967296 → rises_from at ps ≡ true → end_from at ps ≤ 4294967296
 unfolding end_from
 end_from-most at [] low h = low
 end_from-most at (p ∷ ps) low h = let f = first at p ps h in end_from-most (end_of p) ps f.most f.rest
@@ -95,7 +95,7 @@ end_from-most at (p ∷ ps) low h = let f = first at p ps h in end_from-most (en
 pub length-image_of : (ps : List Piece) (i : ℕ) → in_order ps ≡ true → i + 1 ≡ length ps → length (image_of ps) ≡ end_of (piece_at ps i)
 length-image_of ps i h last = omega (arith, length-bytes_above 0 ps h, end_from-last 0 ps i last)
 
-pub image_of-most : (ps : List Piece) → in_order ps ≡ true → length (image_of ps) ≤ 4294967295
+pub image_of-most : (ps : List Piece) → in_order ps ≡ true → length (image_of ps) ≤ 4294967296
 image_of-most ps h = omega (arith, length-bytes_above 0 ps h, end_from-most 0 ps (omega arith) h)
 
 -- ---- the gaps

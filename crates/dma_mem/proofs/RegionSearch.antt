@@ -237,7 +237,7 @@ gaps_from at (p ∷ ps) (suc i) a h l low =
 
 rises_at : (at : ℕ) (ps : List Piece) (i : ℕ) → rises_from at ps ≡ true → i < length ps → rises_from 0 (drop i ps) ≡ true
 rises_at at [] i h l = absurd (omega arith)
-rises_at at (p ∷ ps) zero h l = let f = first at p ps h in rw (le-leb 0 p.addr (omega arith), le-leb (end_of p) 4294967295 f.most, f.rest) refl
+rises_at at (p ∷ ps) zero h l = let f = first at p ps h in rw (le-leb 0 p.addr (omega arith), le-leb (end_of p) 4294967296 f.most, f.rest) refl
 rises_at at (p ∷ ps) (suc i) h l = let f = first at p ps h in rises_at (end_of p) ps i f.rest (omega arith)
 
 closed_from : (kind : MarkKind) (at : ℕ) (rs : List Region) (i a : ℕ) → rises_from at (pieces_of rs) ≡ true → i < length rs → (piece_at (pieces_of rs) i).addr ≤ a → lies_in_any (closed kind rs) a ≡ lies_in_any (closed kind (drop i rs)) a
@@ -287,9 +287,6 @@ drop_item rs i r h e = drop_more rs i r h ∙ ap (λ (x : Region). x ∷ drop (i
 
 pub walk_item : (kind : MarkKind) (rs : List Region) (i : ℕ) (r : Region) (addr end : ℕ) → i < length rs → r ≡ get_or rs i r → Walk kind rs (drop i rs) addr end → Walk kind rs (r ∷ drop (i + 1) rs) addr end
 walk_item kind rs i r addr end h e w = subst (λ (rest : List Region). Walk kind rs rest addr end) (drop_item rs i r h e) w
-
-pub walk_most : (kind : MarkKind) (rs : List Region) (r : Region) (rest : List Region) (addr end : ℕ) → Walk kind rs (r ∷ rest) addr end → end_of (piece_of r) ≤ 4294967295
-walk_most kind rs r rest addr end w = let f = first end (piece_of r) (pieces_of rest) w.rises in f.most
 
 -- ---- addresses in one region
 

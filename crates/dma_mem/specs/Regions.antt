@@ -3,10 +3,9 @@ use Rattle.std.specs.Prelude.{ℕ, ◌+◌, ◌-◌, ◌==◌, Bool, true, ◌&&
 use Rattle.dma_mem.specs.declared.regions.Region.{Region}
 use Rattle.dma_mem.specs.declared.segment.Segment.{Segment}
 
--- the largest end of a region (profile): one less than the end of the 32-bit addresses, since SAR or DAR would be 2^32
--- after a burst to the last address
+-- the largest end of a region: the end of the 32-bit addresses, 2 ^ 32
 abbrev pub largest_end : ℕ
-largest_end = 4294967295
+largest_end = 4294967296
 
 -- A piece of a memory: the address of its first byte, and its bytes.
 pub record Piece : Type 0 where

@@ -1,6 +1,6 @@
 //! The memory that a channel's bursts read and write, as a trait, and the trait for bytes that a caller lends.
 
-ghost use Rattle.std.specs.Prelude.{◌≡◌, ℕ, ◌+◌, ◌≤◌, ◌<◌, ◌⊎◌, ◌++◌, [], ◌∷◌, length, take, drop, replicate, nat_lt, true, IfOk, IfErr, OnOk, OnErr, IsTrue};
+ghost use Rattle.std.specs.Prelude.{◌≡◌, ℕ, ◌+◌, ◌^◌, ◌≤◌, ◌<◌, ◌⊎◌, ◌++◌, [], ◌∷◌, length, take, drop, replicate, nat_lt, true, IfOk, IfErr, OnOk, OnErr, IsTrue};
 ghost use Rattle.std.specs.List.{list_all, range_with_len};
 ghost use Rattle.dma_mem.specs.Places.{range_of};
 ghost use Rattle.dma_mem.specs.Limits.{largest_size};
@@ -24,9 +24,10 @@ pub trait Ram {
     // changes them.
     ghost loan: { Self → Loan };
 
-    /// Returns the size of the memory in bytes.
-    fn size(&self) -> u32
-        ensures { result ≡ length (paged self.now).image };
+    /// Returns the size of the memory in bytes, at most 4,294,967,296.
+    fn size(&self) -> u64
+        ensures value { result ≡ length (paged self.now).image }
+        ensures limit { result ≤ 2 ^ 32 };
 
     /// Returns whether each address of a segment lies below the size and on a page that is made.
     fn made(&self, segment: Segment) -> bool
@@ -111,8 +112,8 @@ impl Ram for Memory {
     ghost loan = { λ _. not_lent };
 
     #[inline(always)]
-    fn size(&self) -> u32 {
-        Memory::size(self)
+    fn size(&self) -> u64 {
+        u64::from(Memory::size(self))
     }
 
     #[inline(always)]
@@ -178,8 +179,8 @@ impl Ram for LentRam<'_> {
     ghost loan = { λ r. record { names = r.bytes.ghost_name ∷ []; gaps = []; read_only = [] } };
 
     #[inline(always)]
-    fn size(&self) -> u32 {
-        self.bytes.len() as u32
+    fn size(&self) -> u64 {
+        self.bytes.len() as u64
     }
 
     #[inline(always)]

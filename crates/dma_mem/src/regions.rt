@@ -17,6 +17,9 @@ use crate::table::{put_bytes, put_parts};
 // How many bytes are copied at once from one region to another.
 const BLOCK_SIZE: usize = 1024;
 
+// The largest end of a region: the end of the 32-bit addresses.
+const LARGEST_END: u64 = 1 << 32;
+
 /// A part of a caller's memory.
 #[repr(C)]
 #[derive(Drop)]
@@ -39,17 +42,9 @@ impl Region<'_> {
         start <= addr && addr - start < self.bytes.len() as u64
     }
 
-    // Returns the address after the region's last byte.
-    #[inline(always)]
-    pub(crate) fn end(&self) -> u32
-        requires { end_of (piece_of self.now) ≤ largest_end }
-        ensures { result ≡ end_of (piece_of self.now) }
-    {
-        self.addr + self.bytes.len() as u32
-    }
-
     // Returns the address after the region's last byte, which needn't be an address of 32 bits.
-    fn past(&self) -> u64
+    #[inline(always)]
+    pub(crate) fn end(&self) -> u64
         ensures { result ≡ end_of (piece_of self.now) }
     {
         u64::from(self.addr) + shared(&self.bytes).len() as u64
@@ -76,25 +71,25 @@ impl Region<'_> {
 
     // Returns whether bursts of a kind fail at an address at or below which the regions before this one end.
     #[inline(always)]
-    pub(crate) fn fails_at(&self, kind: MarkKind, addr: u32) -> bool
-        requires { end_of (piece_of self.now) ≤ largest_end }
+    pub(crate) fn fails_at(&self, kind: MarkKind, addr: u64) -> bool
         ensures { result ≡ (nat_lt addr self.now.addr
             || (bars kind self.now && nat_lt addr (end_of (piece_of self.now)))) }
     {
-        addr < self.addr || (self.bars(kind) && addr < self.end())
+        addr < u64::from(self.addr) || (self.bars(kind) && addr < self.end())
     }
 }
 
-/// Returns whether regions are in rising order, share no address, and end at or below 4,294,967,295.
+/// Returns whether regions are in rising order, share no address, and end at or below 4,294,967,296.
 pub fn are_in_order(regions: &[Region<'_>]) -> bool
     ensures { result ≡ in_order (pieces_of regions.now) }
 {
     let mut end = 0;
     for region in regions {
-        if region.addr < end || region.bytes.len() > (u32::MAX - region.addr) as usize {
+        let past = region.end();
+        if u64::from(region.addr) < end || past > LARGEST_END {
             return false;
         }
-        end = region.end();
+        end = past;
     }
     true
 }
@@ -127,7 +122,7 @@ pub fn copy_run(regions: &[Region<'_>], addr: u32, block: &mut [u8]) -> usize
             let part = &rest[..rest.len().min(block.len() - count)];
             put_bytes(block, count, part);
             count += part.len();
-            at = region.past();
+            at = region.end();
         }
     }
     count
@@ -194,7 +189,9 @@ fn write(regions: &mut [Region<'_>], addr: u32, front: &[u8], back: &[u8])
         put_in_region(regions, index, addr, front, back);
     } else {
         put_by_bytes(regions, addr, front);
-        put_by_bytes(regions, addr + front.len() as u32, back);
+        if !back.is_empty() {
+            put_by_bytes(regions, addr + front.len() as u32, back);
+        }
     }
 }
 
@@ -342,7 +339,7 @@ impl Ram for LentRegions<'_, '_> {
     } };
 
     #[inline(always)]
-    fn size(&self) -> u32 {
+    fn size(&self) -> u64 {
         size_of(shared(&self.regions))
     }
 
@@ -351,7 +348,7 @@ impl Ram for LentRegions<'_, '_> {
         if segment.len == 0 {
             return true;
         }
-        segment.addr as usize + segment.len as usize <= Ram::size(self) as usize
+        segment.end() <= Ram::size(self)
     }
 
     #[inline(always)]
@@ -372,7 +369,7 @@ impl Ram for LentRegions<'_, '_> {
 
     #[tactic(auto, using(crate::proofs::WholeMemory::whole_all))]
     fn prepare(&mut self, segment: Segment) -> Result<(), MemFault> {
-        if segment.addr as usize + segment.len as usize > Ram::size(self) as usize {
+        if segment.end() > Ram::size(self) {
             return Err(MemFault::OutOfMemoryRange);
         }
         Ok(())

@@ -1,6 +1,7 @@
 //! Programs that are explained, and programs that no copy explains.
 
 use crate::chan::segment;
+use dma_chan::bus::{Bus, BusWidth};
 use dma_chan::explain::{Cause, Explained, Unexplained, explain};
 use dma_chan::turn::FaultKind;
 use std::process::Abort;
@@ -14,7 +15,7 @@ static COPY_OF_FOUR: [u8; 27] = [
 
 #[test]
 fn a_compiled_program_is_explained(rt: HostRuntime) -> Result<(), Fail> {
-    let explained = explain(rt.alloc(), &COPY_OF_FOUR, 10).map_err(|_| "unexplained")?;
+    let explained = explain(rt.alloc(), Bus::Ideal, &COPY_OF_FOUR, 10).map_err(|_| "unexplained")?;
     assert!(rt; explained.src.as_slice() == [segment(0x1000, 4)].as_slice());
     assert!(rt; explained.dst.as_slice() == [segment(0x2000, 4)].as_slice());
     assert!(rt; explained.wait == Some(3) && explained.signal == Some(5));
@@ -28,11 +29,29 @@ static TWO_LOADS: &[u8] =
 
 #[test]
 fn loads_may_run_ahead(rt: HostRuntime) -> Result<(), Fail> {
-    let explained = explain(rt.alloc(), TWO_LOADS, 100).map_err(|_| "unexplained")?;
+    let explained = explain(rt.alloc(), Bus::Ideal, TWO_LOADS, 100).map_err(|_| "unexplained")?;
     assert!(rt; explained.src.as_slice() == [segment(0x100, 16)].as_slice());
     assert!(rt; explained.dst.as_slice() == [segment(0x200, 16)].as_slice());
     assert!(rt; explained.wait.is_none() && explained.signal.is_none());
     assert!(rt; explained.steps == 8);
+    Ok(())
+}
+
+// Sets the control word to four beats of four bytes and the addresses to 0x106 and 0x202; then twice a load and a store.
+static FROM_BETWEEN_WORDS: &[u8] =
+    b"\xbc\x01\x35\x40\x0d\0\xbc\0\x06\x01\0\0\xbc\x02\x02\x02\0\0\x04\x08\x04\x08\0";
+
+#[test]
+fn a_chip_shortens_the_first_beat(rt: HostRuntime) -> Result<(), Fail> {
+    let rows = [(Bus::Ideal, 32), (Bus::Chip(BusWidth::Bits32), 30)];
+    for (bus, len) in rows {
+        let explained = explain(rt.alloc(), bus, FROM_BETWEEN_WORDS, 100).map_err(
+            |_| "unexplained",
+        )?;
+        assert!(rt; explained.src.as_slice() == [segment(0x106, len)].as_slice());
+        assert!(rt; explained.dst.as_slice() == [segment(0x202, len)].as_slice());
+        assert!(rt; explained.steps == 8);
+    }
     Ok(())
 }
 
@@ -65,7 +84,7 @@ fn other_programs_are_refused(rt: HostRuntime) -> Result<(), Fail> {
             pc: *pc,
             steps: *steps,
         };
-        match explain(rt.alloc(), bytes, 20) {
+        match explain(rt.alloc(), Bus::Ideal, bytes, 20) {
             Ok(explained) => {
                 let Explained { .. } = explained;
                 assert!(rt; false, "{bytes:?}");

@@ -1,10 +1,12 @@
 //! The program of a channel, in memory that the channel keeps.
 
-ghost use Rattle.std.specs.Prelude.{◌≡◌, ◌≤◌, length, is_some, None, Some, IfOk};
+ghost use Rattle.std.specs.Prelude.{◌≡◌, ◌≤◌, length, take, is_some, None, Some, IfOk};
 ghost use Rattle.dma_insn.specs.AssemblyText.{most_program_bytes};
+ghost use Rattle.dma_mem.specs.Regions.{pieces_of, run_from};
 ghost use Rattle.dma_chan.specs.Channel.{bytes_of_program, cost_of_program};
 
 use crate::program::MAX_PROGRAM_BYTES;
+use dma_mem::regions::{Region, copy_run};
 use std::alloc::{AllocError, Global};
 use std::marker::Model;
 
@@ -50,6 +52,21 @@ impl Code {
             unreachable!()
         };
         self.cost = cost;
+        self.is_loaded = true;
+    }
+
+    // Loads the program that begins at an address of the regions in place of the one before: the bytes from there up to
+    // the first address that no region has, at most 8,192. It has no cost.
+    pub(super) fn load_from(&mut self, regions: &[Region<'_>], addr: u32)
+        ensures { let bytes = take most_program_bytes (run_from (pieces_of regions.now) addr) in
+            self.new ≡ Some (record { bytes = bytes; cost = None }) }
+    {
+        let Ok(()) = self.bytes.resize(MAX_PROGRAM_BYTES, 0) else {
+            unreachable!()
+        };
+        let len = copy_run(regions, addr, &mut self.bytes);
+        self.bytes.truncate(len);
+        self.cost = None;
         self.is_loaded = true;
     }
 

@@ -1,10 +1,11 @@
 //! Saves a channel, and restores it.
 
 ghost use Rattle.std.specs.Prelude.{◌≡◌, ◌≤◌, ◌++◌, length, drop, nat_le, is_some, IsNone, IfSome, IsOk, OnOk, OnErr};
-ghost use Rattle.dma_chan.specs.Channel.{ChannelValue};
+ghost use Rattle.dma_chan.specs.Channel.{ChannelValue, on_bus};
 ghost use Rattle.dma_chan.specs.Exec.{buffer_size};
 ghost use Rattle.dma_chan.specs.Saved.{head_of, most_saved, saved, IsChannelValue};
 
+use crate::bus::Bus;
 use crate::channel::Channel;
 use crate::save::head::Head;
 use crate::save::{RestoreFault, SaveBytes, write};
@@ -29,17 +30,28 @@ impl Channel {
         Some(len)
     }
 
-    /// Replaces the channel with the saved one. The error is `BadSave` if the bytes aren't the save of any channel.
-    /// Then nothing changes.
-    pub fn restore(&mut self, save: &[u8]) -> Result<(), RestoreFault>
-        // The bytes are the save of the restored channel.
+    /// Returns the length of the channel's save in bytes.
+    pub fn save_len(&self) -> usize
+        ensures len { result ≡ length (saved self.now) }
+        ensures limit { length (saved self.now) ≤ most_saved }
+        ensures channel { IsChannelValue self.now }
+    {
+        self.saved_bytes().len()
+    }
+
+    /// Replaces the channel with the saved one, on this bus, since a save has no bus. The error is `BadSave` if the
+    /// bytes aren't the save of any channel. Then nothing changes.
+    pub fn restore(&mut self, save: &[u8], bus: Bus) -> Result<(), RestoreFault>
+        // The bytes are the save of the restored channel, which satisfies what every channel does.
         ensures ok { OnOk result (save.now ≡ saved self.new) }
+        ensures channel { OnOk result (IsChannelValue self.new) }
+        ensures bus { OnOk result (self.new.registers.bus ≡ bus) }
         // The save of any channel restores that channel.
         ensures all { (c : ChannelValue) → IsChannelValue c → save.now ≡ saved c
-            → IsOk result × (self.new ≡ c) }
+            → IsOk result × (self.new ≡ on_bus bus c) }
         ensures unchanged { OnErr result (self.new ≡ self.old) }
     {
-        let Some(head) = Head::of_save(save) else {
+        let Some(head) = Head::of_save(save, bus) else {
             return Err(RestoreFault::BadSave);
         };
         if head.is_loaded {

@@ -4,11 +4,12 @@ ghost use Rattle.std.specs.Prelude.{◌≡◌, ℕ, ◌+◌, ◌≤◌, ◌++◌
 ghost use Rattle.dma_insn.specs.ControlWord.{flag};
 ghost use Rattle.std.specs.Int.{w16, w32, w64, from_le_bytes};
 ghost use Rattle.dma_chan.specs.declared.save.head.Head.{Head};
-ghost use Rattle.dma_chan.specs.Channel.{ChannelValue};
+ghost use Rattle.dma_chan.specs.Channel.{ChannelValue, on_bus};
 ghost use Rattle.dma_chan.specs.Saved.{head_bytes, saved, IsChannelValue};
 ghost use Rattle.dma_chan.specs.inner.Saves.{buffer_in, program_in, channel_in, HasHeadRanges, FitsIn};
 
 use crate::bursts::BUFFER_SIZE;
+use crate::bus::Bus;
 use crate::exec::Registers;
 use crate::program::MAX_PROGRAM_BYTES;
 use crate::save::write;
@@ -70,10 +71,12 @@ fn cost_of(flag_byte: u8, number: u32) -> Option<u32>
     if flag_byte != 0 { Some(number) } else { None }
 }
 
-// Returns the registers in a head, or `None` if the control word isn't accepted.
-fn registers_in(save: &[u8]) -> Option<Registers>
+// Returns the registers in a head, on this bus, or `None` if the control word isn't accepted.
+fn registers_in(save: &[u8], bus: Bus) -> Option<Registers>
     requires { 48 ≤ length save.now }
-    ensures { (h : Head) (rest : List ℕ) → HasHeadRanges h → save.now ≡ head_bytes h ++ rest
+    ensures bus { IfSome result (λ r. r.bus ≡ bus) }
+    ensures read { (h : Head) (rest : List ℕ)
+        → h.registers.bus ≡ bus → HasHeadRanges h → save.now ≡ head_bytes h ++ rest
         → result ≡ Some h.registers }
 {
     let Ok(ccr) = ControlWord::from_bits(u32_at(save, 20)) else {
@@ -86,18 +89,20 @@ fn registers_in(save: &[u8]) -> Option<Registers>
         ccr,
         lc0: save[24],
         lc1: save[25],
+        bus,
     })
 }
 
 impl Head {
-    // Returns the head of these bytes if they are a save. For other bytes the result may be a head too.
-    fn read(save: &[u8]) -> Option<Head>
+    // Returns the head of these bytes, on this bus, if they are a save. For other bytes the result may be a head too.
+    fn read(save: &[u8], bus: Bus) -> Option<Head>
         requires { 48 ≤ length save.now }
-        ensures { (h : Head) (rest : List ℕ)
-            → HasHeadRanges h → save.now ≡ head_bytes h ++ rest
+        ensures bus { IfSome result (λ h. h.registers.bus ≡ bus) }
+        ensures read { (h : Head) (rest : List ℕ)
+            → h.registers.bus ≡ bus → HasHeadRanges h → save.now ≡ head_bytes h ++ rest
             → result ≡ Some h }
     {
-        let Some(registers) = registers_in(save) else {
+        let Some(registers) = registers_in(save, bus) else {
             return None;
         };
         Some(Head {
@@ -145,19 +150,20 @@ impl Head {
         &save[start..start + usize::from(self.program_len)]
     }
 
-    // Returns the head of a save, or `None` if the bytes aren't a save. They are a save exactly if they equal the save
-    // that is written again from the head and the parts that they contain.
-    pub fn of_save(save: &[u8]) -> Option<Head>
+    // Returns the head of a save, on this bus, or `None` if the bytes aren't a save. They are a save exactly if they
+    // equal the save that is written again from the head and the parts that they contain.
+    pub fn of_save(save: &[u8], bus: Bus) -> Option<Head>
         ensures fits { IfSome result (λ h. FitsIn (length save.now) h) }
         ensures found { IfSome result (λ h. save.now ≡ saved (channel_in save.now h)) }
         ensures channel { IfSome result (λ h. IsChannelValue (channel_in save.now h)) }
+        ensures bus { IfSome result (λ h. h.registers.bus ≡ bus) }
         ensures only { (c : ChannelValue) → IsChannelValue c → save.now ≡ saved c
-            → MatchOption result ⊥ (λ h. channel_in save.now h ≡ c) }
+            → MatchOption result ⊥ (λ h. channel_in save.now h ≡ on_bus bus c) }
     {
         if save.len() < HEAD_LEN {
             return None;
         }
-        let Some(head) = Head::read(save) else {
+        let Some(head) = Head::read(save, bus) else {
             return None;
         };
         if !head.fits(save.len()) {

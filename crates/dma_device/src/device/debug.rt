@@ -8,9 +8,7 @@ ghost use Rattle.dma_device.specs.Thread.{failed, killed, started};
 
 use crate::device::Device;
 use crate::thread::{DBG_INSTR, DMAGO_ERR, OPERAND_INVALID, UNDEF_INSTR};
-use crate::wide::has_too_wide;
-use dma_chan::program::MAX_PROGRAM_BYTES;
-use dma_mem::regions::{Region, copy_run};
+use dma_mem::regions::Region;
 
 impl Device {
     /// Writes the register at this offset for the guest. An offset that has no register ignores writes. A DMAGO reads
@@ -124,15 +122,12 @@ impl Device {
     // Starts channel `n`.
     fn start(&mut self, regions: &[Region<'_>], nonsecure: bool, n: usize)
         requires { n < length self.old.threads }
-        ensures { let base = self.old.dbginst1 in self.new
-            ≡ with_thread n (started nonsecure base (program_at (pieces_of regions.now) base))
-            self.old }
+        ensures { let base = self.old.dbginst1 in
+            let program = program_at (pieces_of regions.now) base in self.new
+            ≡ with_thread n (started self.old.config.bus nonsecure base program) self.old }
     {
-        let base = self.dbginst1;
-        let mut program = [0; MAX_PROGRAM_BYTES];
-        let len = copy_run(regions, base, &mut program);
-        self.wide[n] = has_too_wide(self.config.bus, &program[..len]);
-        self.threads[n].start(nonsecure, base, &program[..len]);
+        let (bus, base) = (self.config.bus, self.dbginst1);
+        self.threads[n].start(bus, nonsecure, base, regions);
     }
 
     // Executes an instruction by channel thread `n`.

@@ -8,7 +8,6 @@ use crate::device::{Device, reset_threads};
 use crate::save::head::{Head, OLD_VERSION, VERSION, VERSION_AT, is_of_other};
 use crate::save::threads::{restore_threads, save_threads, threads_len};
 use crate::save::{HEAD_LEN, RestoreFault, SUM_LEN, is_sealed, seal};
-use crate::wide::wide_programs;
 
 impl Device {
     /// Writes the device's save to the front of `out`, and returns its length in bytes, at most
@@ -59,8 +58,9 @@ impl Device {
     /// then nothing changes. It is `BadSave` if the bytes aren't the save of any device, and then the device is in its
     /// state after a reset.
     pub fn restore(&mut self, save: &[u8]) -> Result<(), RestoreFault>
-        // The bytes are the save of the restored device.
+        // The bytes are the save of the restored device, which satisfies what every device does.
         ensures ok { OnOk result (IsSavedAs save.now self.new) }
+        ensures value { OnOk result (IsDeviceValue self.new) }
         ensures config { self.new.config ≡ self.old.config }
         // The save of any device of this configuration restores that device.
         ensures all { (d : DeviceValue) → IsDeviceValue d → d.config ≡ self.old.config
@@ -85,6 +85,7 @@ impl Device {
     // configuration. If not, its threads may have changed.
     fn restore_save(&mut self, save: &[u8]) -> bool
         ensures ok { IsTrue result → IsSavedAs save.now self.new }
+        ensures value { IsTrue result → IsDeviceValue self.new }
         ensures config { self.new.config ≡ self.old.config }
         ensures all { (d : DeviceValue) → IsDeviceValue d → d.config ≡ self.old.config
             → IsSavedAs save.now d → (result ≡ true) × (self.new ≡ d) }
@@ -102,6 +103,7 @@ impl Device {
     // configuration in this version. If not, its threads may have changed.
     fn restore_parts(&mut self, version: u8, save: &[u8]) -> bool
         ensures ok { IsTrue result → save.now ≡ parts_in version self.new }
+        ensures value { IsTrue result → IsDeviceValue self.new }
         ensures config { self.new.config ≡ self.old.config }
         ensures all { (d : DeviceValue) → IsDeviceValue d → d.config ≡ self.old.config
             → save.now ≡ parts_in version d → (result ≡ true) × (self.new ≡ d) }
@@ -109,11 +111,11 @@ impl Device {
         let Some(head) = Head::of_save(version, self.config, save) else {
             return false;
         };
-        if !restore_threads(&mut self.threads, self.config.events, &save[HEAD_LEN..]) {
-            reset_threads(&mut self.threads);
+        let config = self.config;
+        if !restore_threads(&mut self.threads, config, &save[HEAD_LEN..]) {
+            reset_threads(&mut self.threads, config.bus);
             return false;
         }
-        self.wide = wide_programs(self.config.bus, &self.threads);
         self.manager.is_faulting = head.manager.is_faulting;
         self.manager.fault = head.manager.fault;
         self.events = head.events;

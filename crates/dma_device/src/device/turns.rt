@@ -1,13 +1,11 @@
 //! Turns of channels.
 
-ghost use Rattle.std.specs.Prelude.{◌≡◌, ◌+◌, ◌^◌, ◌<◌, ◌&&◌, IsTrue, length, map, slice_get};
+ghost use Rattle.std.specs.Prelude.{◌≡◌, ◌+◌, ◌^◌, ◌≤◌, ◌<◌, ◌&&◌, IsTrue, length, map, slice_get};
 ghost use Rattle.dma_mem.specs.Regions.{in_order, pieces_of};
 ghost use Rattle.dma_chan.specs.LentRegions.{segment_of};
-ghost use Rattle.dma_device.specs.inner.Fields.{most_for};
 ghost use Rattle.dma_device.specs.Turns.{CallsIf, CallsOne, TakesTurn, is_beside, may_follow, nothing, raises, runs_at, visible_events, with_flags};
 
 use crate::device::Device;
-use crate::thread::OPERAND_INVALID;
 use dma_chan::lent::step_regions;
 use dma_chan::written::joined;
 use dma_insn::insn::Event;
@@ -46,10 +44,9 @@ impl Called {
 
 impl Device {
     /// Takes a turn of channel `n` over these regions: at most `most` steps, until one ends, waits, fails or sets a
-    /// flag, or before one that writes apart from the range written so far. It is one step if the channel's program
-    /// has, at any offset, a DMAMOV CCR with beats wider than the bus. If the last step raised an interrupt, it takes
-    /// one more, unless that writes apart from the range. A channel that is stopped or faulting does nothing. A burst that touches an address outside all
-    /// regions fails, and so does a store that touches a read-only region.
+    /// flag, or before one that writes apart from the range written so far. If the last step raised an interrupt, it
+    /// takes one more, unless that writes apart from the range. A channel that is stopped or faulting does nothing. A
+    /// burst that touches an address outside all regions fails, and so does a store that touches a read-only region.
     pub fn step(&mut self, n: u8, most: u32, regions: &mut [Region<'_>]) -> Turn
         requires { IsTrue (in_order (pieces_of regions.old)) }
         ensures { TakesTurn self.old regions.old n most self.new regions.new result }
@@ -70,7 +67,7 @@ impl Device {
         ensures calls { CallsIf (wanted && runs_at self.old n) self.old regions.old n most
             self.new regions.new result }
         ensures places { map segment_of regions.new ≡ map segment_of regions.old }
-        ensures end { result.written.addr + result.written.len < 2 ^ 32 }
+        ensures end { result.written.addr + result.written.len ≤ 2 ^ 32 }
     {
         if !wanted || !self.runs(n) {
             return Called::nothing();
@@ -96,14 +93,9 @@ impl Device {
         ensures calls { CallsOne (slice_get self.old.threads n) self.old regions.old n most
             self.new regions.new result }
         ensures places { map segment_of regions.new ≡ map segment_of regions.old }
-        ensures end { result.written.addr + result.written.len < 2 ^ 32 }
+        ensures end { result.written.addr + result.written.len ≤ 2 ^ 32 }
     {
         let config = self.config;
-        if self.threads[n].is_too_wide(config.bus) {
-            self.threads[n].fail(OPERAND_INVALID);
-            return Called::nothing();
-        }
-        let most = self.most(n, most);
         let mut events = Events::from_bits(self.visible_events());
         let thread = &mut self.threads[n];
         let taken = step_regions(&mut thread.channel, regions, &mut events, &self.marks, most);
@@ -113,14 +105,6 @@ impl Device {
             written: taken.written,
             signal: taken.signal,
         }
-    }
-
-    // Returns how many of `most` steps a call of channel `n`, which runs, takes at most.
-    fn most(&self, n: usize, most: u32) -> u32
-        requires { IsTrue (runs_at self.now n) }
-        ensures { result ≡ most_for self.now.config.bus (slice_get self.now.threads n) most }
-    {
-        if self.wide[n] { most.min(1) } else { most }
     }
 
     // Returns the flags that a channel sees.

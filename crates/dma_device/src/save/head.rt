@@ -151,6 +151,7 @@ impl Head {
         ensures version { IfSome result (λ h. h.version ≡ version) }
         ensures config { IfSome result (λ h. h.config ≡ config) }
         ensures known { IfSome result (λ h. HasKnownEvents h) }
+        ensures ranges { IfSome result (λ h. HasHeadRanges h) }
         ensures only { (h : Head) (rest : List ℕ)
             → HasHeadRanges h → HasKnownEvents h → h.version ≡ version → h.config ≡ config
             → bytes.now ≡ head_bytes h ++ rest → result ≡ Some h }

@@ -1,17 +1,18 @@
 //! The threads of a save, one after another.
 
-ghost use Rattle.std.specs.Prelude.{◌≡◌, ◌+◌, ◌*◌, ◌^◌, ◌<◌, ◌≤◌, ◌++◌, ℕ, IsTrue, List, Some, IfSome, true, length, drop, take};
+ghost use Rattle.std.specs.Prelude.{◌≡◌, ◌↔◌, ◌+◌, ◌*◌, ◌^◌, ◌<◌, ◌≤◌, ◌++◌, ℕ, IsTrue, List, Some, IfSome, true, length, drop, take};
 ghost use Rattle.std.specs.List.{All, flat_map};
 ghost use Rattle.arrayvec.specs.ArrayVec.{array_vec_len};
 ghost use Rattle.dma_mem.specs.Limits.{most_channels};
 ghost use Rattle.dma_device.specs.Snapshot.{IsThreadValue, saved_thread, thread_bytes};
-ghost use Rattle.dma_device.specs.Thread.{IsSound};
+ghost use Rattle.dma_device.specs.Thread.{IsOn, IsSound};
 ghost use Rattle.dma_device.specs.declared.thread.Thread.{Thread};
 
+use crate::config::{BusWidth, Config};
 use crate::save::{HeadBytes, THREAD_LEN, push, u32_at};
 use crate::thread::{Status, Thread};
 use arrayvec::ArrayVec;
-use dma_chan::save::MAX_SAVE;
+use dma_chan::bus::Bus;
 
 impl Thread {
     // Returns what is saved of the thread beside its channel, whose save has this length.
@@ -36,11 +37,7 @@ impl Thread {
         ensures limit { result ≤ 8520 }
         ensures value { IsThreadValue events self.now }
     {
-        let mut bytes = [0; MAX_SAVE];
-        let Some(len) = self.channel.save(&mut bytes) else {
-            unreachable!()
-        };
-        THREAD_LEN + len
+        THREAD_LEN + self.channel.save_len()
     }
 
     // Writes the thread's save to the front of `out`, and returns its length. There must be room for it.
@@ -58,16 +55,35 @@ impl Thread {
         THREAD_LEN + len
     }
 
+    // Returns whether the beats of the thread's control word are no wider than the bus, which is that of its channel.
+    fn is_on(&self, bus: BusWidth) -> bool
+        requires { self.now.channel.registers.bus ≡ Bus.Chip bus }
+        ensures { IsTrue result ↔ IsOn bus self.now }
+    {
+        Bus::Chip(bus).fits(self.channel.control())
+    }
+
+    // Returns whether a device with this configuration, on whose bus the channel is, can have the thread.
+    fn is_possible(&self, config: Config) -> bool
+        requires { self.now.channel.registers.bus ≡ Bus.Chip config.bus }
+        ensures { IsTrue result ↔ (IsSound config.events self.now × IsOn config.bus self.now) }
+    {
+        self.is_sound(config.events) && self.is_on(config.bus)
+    }
+
     // Replaces the thread with the one whose save is at the front of these bytes, and returns the length of that save.
-    // It returns `None` if no save of a thread is there.
-    fn restore(&mut self, events: u8, bytes: &[u8]) -> Option<usize>
-        requires few { events ≤ 32 }
-        requires sound { IsSound events self.old }
+    // It returns `None` if no save of a thread is there. The thread is one of a device with this configuration.
+    fn restore(&mut self, config: Config, bytes: &[u8]) -> Option<usize>
+        requires few { config.events ≤ 32 }
+        requires sound { IsSound config.events self.old }
+        requires on { IsOn config.bus self.old }
         ensures long { IfSome result (λ n. n ≤ length bytes.now) }
         ensures found { IfSome result (λ n. take n bytes.now ≡ saved_thread self.new) }
-        ensures sound { IsSound events self.new }
+        ensures value { IfSome result (λ n. IsThreadValue config.events self.new) }
+        ensures sound { IsSound config.events self.new }
+        ensures on { IsOn config.bus self.new }
         ensures all { (t : Thread) (rest : List ℕ)
-            → IsThreadValue events t → bytes.now ≡ saved_thread t ++ rest
+            → IsThreadValue config.events t → IsOn config.bus t → bytes.now ≡ saved_thread t ++ rest
             → (result ≡ Some (length (saved_thread t))) × (self.new ≡ t) }
     {
         if bytes.len() < THREAD_LEN {
@@ -82,7 +98,10 @@ impl Thread {
         if rest.len() < len as usize {
             return None;
         }
-        let Ok(()) = self.channel.restore(&rest[..len as usize]) else {
+        let Ok(()) = self
+            .channel
+            .restore(&rest[..len as usize], Bus::Chip(config.bus))
+        else {
             return None;
         };
         self.status = status;
@@ -90,8 +109,8 @@ impl Thread {
         self.fault = u32_at(bytes, 4);
         self.base = u32_at(bytes, 8);
         self.pc = u32_at(bytes, 12);
-        if !self.is_sound(events) {
-            self.reset();
+        if !self.is_possible(config) {
+            self.reset(config.bus);
             return None;
         }
         let again = self.head_bytes(len);
@@ -130,19 +149,23 @@ pub(crate) fn save_threads(threads: &[Thread], out: &mut [u8])
     }
 }
 
-// Replaces threads with those whose saves these bytes are, and returns whether they are the saves of as many threads.
-pub(crate) fn restore_threads(threads: &mut [Thread], events: u8, bytes: &[u8]) -> bool
-    requires few { events ≤ 32 }
-    requires sound { All (IsSound events) threads.old }
+// Replaces the threads of a device with this configuration with those whose saves these bytes are, and returns whether
+// they are the saves of as many threads.
+pub(crate) fn restore_threads(threads: &mut [Thread], config: Config, bytes: &[u8]) -> bool
+    requires few { config.events ≤ 32 }
+    requires sound { All (IsSound config.events) threads.old }
+    requires on { All (IsOn config.bus) threads.old }
     ensures ok { IsTrue result → bytes.now ≡ flat_map saved_thread threads.new }
-    ensures sound { All (IsSound events) threads.new }
+    ensures values { IsTrue result → All (IsThreadValue config.events) threads.new }
+    ensures sound { All (IsSound config.events) threads.new }
+    ensures on { All (IsOn config.bus) threads.new }
     ensures all { (ts : List Thread) → length ts ≡ length threads.old
-        → All (IsThreadValue events) ts → bytes.now ≡ flat_map saved_thread ts
-        → (result ≡ true) × (threads.new ≡ ts) }
+        → All (IsThreadValue config.events) ts → All (IsOn config.bus) ts
+        → bytes.now ≡ flat_map saved_thread ts → (result ≡ true) × (threads.new ≡ ts) }
 {
     let mut at = 0;
     for n in 0..threads.len() {
-        let Some(len) = threads[n].restore(events, &bytes[at..]) else {
+        let Some(len) = threads[n].restore(config, &bytes[at..]) else {
             return false;
         };
         at += len;

@@ -103,15 +103,16 @@ fn clear_by_walk(regions: &[Region<'_>], kind: MarkKind, segment: Segment) -> u3
         (barred kind (gaps_of (pieces_of regions.now)) (read_only_of regions.now))
         (segment.addr + result)) }
 {
+    let start = u64::from(segment.addr);
     let mut end = 0;
     for index in begun_by(regions, segment.addr).saturating_sub(1)..regions.len() {
         let region = &regions[index];
-        let first = segment.addr.max(end);
-        if first - segment.addr >= segment.len {
+        let first = start.max(end);
+        if first - start >= u64::from(segment.len) {
             return segment.len;
         }
         if region.fails_at(kind, first) {
-            return first - segment.addr;
+            return (first - start) as u32;
         }
         end = region.end();
     }
@@ -144,7 +145,7 @@ pub(crate) fn clear_of(regions: &[Region<'_>], kind: MarkKind, segment: Segment)
 
 /// Returns the end of the last region, or 0 if there are no regions.
 #[inline(always)]
-pub(crate) fn size_of(regions: &[Region<'_>]) -> u32
+pub(crate) fn size_of(regions: &[Region<'_>]) -> u64
     requires { IsTrue (in_order (pieces_of regions.now)) }
     ensures { result ≡ length (image_of (pieces_of regions.now)) }
 {

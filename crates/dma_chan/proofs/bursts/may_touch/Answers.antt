@@ -8,12 +8,11 @@ pub returns-then-clear-span-clause-exact : goal.returns-then-clear-span-clause-e
 returns-then-clear-span-clause-exact g c =
     let below : c.clear.result < span_of c.args.burst = omega arith in
     let gap = rw c.span-span.ensures.addr at (c.clear.ensures.next (omega arith)) in
-    sym (reaches_gap c.args.kind (g.M.Ram.loan c.args.memory.now) c.args.marks.now _ c.args.burst c.clear.result c.requires.some.0 c.requires.some.1 below gap)
+    sym (reaches_gap c.args.kind (g.M.Ram.loan c.args.memory.now) c.args.marks.now _ c.args.burst c.clear.result c.requires.some below gap)
 
-pub returns-then-end-from-clause-lie : goal.returns-then-end-from-clause-lie
-returns-then-end-from-clause-lie g c = λ hit. record {
-  within = omega (arith, c.end.ensures, c.size.ensures, c.span-span.ensures);
-  below = omega (arith, c.end.ensures, c.size.ensures, c.span-span.ensures);
+pub returns-then-end-size-clause-lie : goal.returns-then-end-size-clause-lie
+returns-then-end-size-clause-lie g c = λ hit. record {
+  within = omega (arith, c.end.ensures, c.size.ensures.value, c.span-span.ensures);
   clear = barred_gaps c.args.kind (g.M.Ram.loan c.args.memory.now) c.args.burst.addr (span_of c.args.burst)
       (λ a low high. c.clear.ensures.none a (omega (arith, low, c.span-span.ensures.addr)) (omega (arith, high, c.span-span.ensures.addr, c.span-span.ensures.len)));
 }

@@ -1,5 +1,8 @@
-use Rattle.dma_chan.proofs.CompiledExplained.{compiled_explained}
+use Rattle.dma_chan.proofs.CompiledExplained.{compiled_explained, compiled_on_bus}
 use Rattle.dma_chan.proofs.laws.compiled_is_explained.Goals as goal
 
-pub returns : goal.returns
-returns c = compiled_explained
+pub returns-clause-ideal : goal.returns-clause-ideal
+returns-clause-ideal c = compiled_explained
+
+pub returns-clause-on_bus : goal.returns-clause-on_bus
+returns-clause-on_bus c = compiled_on_bus

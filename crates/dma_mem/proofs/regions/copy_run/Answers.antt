@@ -32,7 +32,7 @@ loop-region-preserved c =
           (long ∙ w.min.ensures ∙ ap (λ (xs : List ℕ). min (length xs) (n - count)) w.rest_from-rest.ensures) so_far in
           record {
             room = omega (arith, w.count-is, long, w.min.ensures, c.if-has.auto.block);
-            copied = run_same c.if-has.block (put block (bytes_at count part)) c.if-has.count (count + length part) c.if-has.at (end_of (piece_of r)) (length c.if-has.block) n (pieces_of rest) (w.block-is ∙ w.put_bytes.ensures) w.count-is (w.at-is ∙ w.past-at.ensures) c.if-has.auto.block
+            copied = run_same c.if-has.block (put block (bytes_at count part)) c.if-has.count (count + length part) c.if-has.at (end_of (piece_of r)) (length c.if-has.block) n (pieces_of rest) (w.block-is ∙ w.put_bytes.ensures) w.count-is (w.at-is ∙ w.end-at.ensures) c.if-has.auto.block
                 ∙ is
                 ∙ sym (ap (λ (k : ℕ). take k (run_from (pieces_of rs) c.args.addr)) c.if-has.auto.block);
           }

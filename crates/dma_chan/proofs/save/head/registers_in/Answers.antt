@@ -8,12 +8,12 @@ refused : (b : Bool) → false ≡ b → IsTrue b → ⊥
 refused true e t = absurd cc
 refused false e t = absurd cc
 
-pub returns-in_default : goal.returns-in_default
-returns-in_default c h rest r e =
+pub returns-in_default-clause-read : goal.returns-in_default-clause-read
+returns-in_default-clause-read c h rest b r e =
     let f = head_fields h rest c.args.save.now r e in
     absurd (refused (is_control h.registers.ccr) (c.in_default.ensures.accepted ∙ ap is_control (c.u32_at.ensures ∙ f.ccr)) r.registers.control)
 
-pub returns : goal.returns
-returns c h rest r e =
+pub returns-clause-read : goal.returns-clause-read
+returns-clause-read c h rest b r e =
     let f = head_fields h rest c.args.save.now r e in
-    rw (c.u32_at-2.ensures, f.pc, c.u32_at-3.ensures, f.sar, c.u32_at-4.ensures, f.dar, f.lc0, f.lc1, c.in-Ok.ensures.ok, c.u32_at.ensures, f.ccr) refl
+    rw (c.u32_at-2.ensures, f.pc, c.u32_at-3.ensures, f.sar, c.u32_at-4.ensures, f.dar, f.lc0, f.lc1, c.in-Ok.ensures.ok, c.u32_at.ensures, f.ccr, ← b) refl

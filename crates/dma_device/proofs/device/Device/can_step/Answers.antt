@@ -1,7 +1,6 @@
 use Rattle.std.proofs.Common.{subst}
 use Rattle.dma_device.specs.Idle.{IsSoundDevice}
-use Rattle.dma_device.proofs.Sound.{is_sound_device}
 use Rattle.dma_device.proofs.device.Device.can_step.Goals as goal
 
 pub returns-clause-sound : goal.returns-clause-sound
-returns-clause-sound c = subst IsSoundDevice c.self.view_is (is_sound_device c.self.inside c.self.invariant)
+returns-clause-sound c = subst IsSoundDevice c.self.view_is c.self.invariant.sound

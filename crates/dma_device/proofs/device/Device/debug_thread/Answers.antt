@@ -1,20 +1,19 @@
-use Rattle.std.proofs.Common.{ap, inl, inr, refl, subst, sym}
-use Rattle.dma_device.specs.Thread.{IsSound}
-use Rattle.dma_device.specs.declared.thread.Thread.{Thread}
+use Rattle.std.proofs.Common.{refl, subst, sym}
+use Rattle.dma_device.specs.Thread.{IsOn, IsSound}
 use Rattle.dma_device.proofs.Sound.{with_new}
 use Rattle.dma_device.proofs.device.Device.debug_thread.Goals as goal
 
 pub invariant_of-self : goal.invariant_of-self
 invariant_of-self c =
     let d = c.self.inside in
-    with_new d c.args.n c.index_mut.result.now c.kill.new.self c.self.invariant c.index_mut.ensures.value (inr (ap (λ (x : Thread). x.channel.program) c.kill.ensures)) (subst (IsSound d.config.events) (sym c.kill.ensures) refl)
+    with_new d c.args.n c.index_mut.result.now c.kill.new.self c.self.invariant c.index_mut.ensures.value (λ on. subst (IsOn d.config.bus) (sym c.kill.ensures) (record { width = on.width; control = on.control })) (subst (IsSound d.config.events) (sym c.kill.ensures) refl)
 
 pub invariant_of-self-then-opcode-ne52 : goal.invariant_of-self-then-opcode-ne52
 invariant_of-self-then-opcode-ne52 c =
     let d = c.self.inside in
-    with_new d c.args.n c.index_mut-then-opcode-ne52.result.now c.fail.new.self c.self.invariant c.index_mut-then-opcode-ne52.ensures.value (inl (ap (λ (x : Thread). x.channel.program) c.fail.ensures)) (subst (IsSound d.config.events) (sym c.fail.ensures) refl)
+    with_new d c.args.n c.index_mut-then-opcode-ne52.result.now c.fail.new.self c.self.invariant c.index_mut-then-opcode-ne52.ensures.value (λ on. subst (IsOn d.config.bus) (sym c.fail.ensures) (record { width = on.width; control = on.control })) (subst (IsSound d.config.events) (sym c.fail.ensures) refl)
 
 pub invariant_of-self-else-is_event : goal.invariant_of-self-else-is_event
 invariant_of-self-else-is_event c =
     let d = c.self.inside in
-    with_new d c.args.n c.index_mut-else-is_event.result.now c.fail-else-is_event.new.self c.self.invariant c.index_mut-else-is_event.ensures.value (inl (ap (λ (x : Thread). x.channel.program) c.fail-else-is_event.ensures)) (subst (IsSound d.config.events) (sym c.fail-else-is_event.ensures) refl)
+    with_new d c.args.n c.index_mut-else-is_event.result.now c.fail-else-is_event.new.self c.self.invariant c.index_mut-else-is_event.ensures.value (λ on. subst (IsOn d.config.bus) (sym c.fail-else-is_event.ensures) (record { width = on.width; control = on.control })) (subst (IsSound d.config.events) (sym c.fail-else-is_event.ensures) refl)

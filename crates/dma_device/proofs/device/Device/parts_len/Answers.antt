@@ -7,7 +7,7 @@ use Rattle.dma_device.specs.declared.thread.Thread.{Thread}
 use Rattle.dma_device.specs.inner.Fields.{device_value}
 use Rattle.dma_device.specs.inner.Saves.{HasHeadRanges}
 use Rattle.dma_device.proofs.SavedDevices.{device_length, device_value_is}
-use Rattle.dma_device.proofs.Sound.{few_channels, sound_of}
+use Rattle.dma_device.proofs.Sound.{few_channels, on_of}
 use Rattle.dma_device.proofs.device.Device.parts_len.Goals as goal
 
 -- the length of a device's parts, by that of its threads
@@ -19,14 +19,14 @@ whole d e ts len is threads count =
 pub threads_len-requires-clause-sound : goal.threads_len-requires-clause-sound
 threads_len-requires-clause-sound c =
     let d = c.self.inside in
-    subst (All (IsSound d.config.events)) (sym c.deref.ensures.value) (sound_of d.config.events d.threads.items c.self.invariant.sound)
+    subst (All (IsSound d.config.events)) (sym c.deref.ensures.value) c.self.invariant.sound.threads
 
 pub returns-clause-device : goal.returns-clause-device
 returns-clause-device c =
     let d = device_value c.self.inside in
     let h = c.self.invariant in
     let ranges = subst HasHeadRanges (c.head.ensures ∙ ap head_of (sym c.self.view_is)) c.bytes-head.ensures.ranges in
-    subst IsDeviceValue c.self.view_is (device_value_is d h.config h.known ranges h.count (subst (All (IsThreadValue d.config.events)) c.deref.ensures.value c.threads_len.ensures.values))
+    subst IsDeviceValue c.self.view_is (device_value_is d h.config h.sound.known ranges h.count (subst (All (IsThreadValue d.config.events)) c.deref.ensures.value c.threads_len.ensures.values) (on_of d.config.bus d.threads h.on))
 
 pub returns-clause-len : goal.returns-clause-len
 returns-clause-len c =

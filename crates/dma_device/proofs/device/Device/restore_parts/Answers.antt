@@ -3,16 +3,16 @@ use Rattle.std.proofs.lemmas.List.{take-append-drop, with_items_is}
 use Rattle.std.specs.List.{All, flat_map}
 use Rattle.std.specs.Vec.{with_items}
 use Rattle.dma_device.specs.Device.{DeviceValue}
-use Rattle.dma_device.specs.Snapshot.{IsThreadValue, head_bytes, head_in, parts_in, saved_thread}
-use Rattle.dma_device.specs.Thread.{IsSound}
+use Rattle.dma_device.specs.Snapshot.{HasKnownEvents, IsThreadValue, head_bytes, head_in, head_of, parts_in, saved_thread}
+use Rattle.dma_device.specs.Thread.{IsOn, IsSound}
 use Rattle.dma_device.specs.declared.config.Config.{Config}
 use Rattle.dma_device.specs.declared.save.head.Head.{Head}
 use Rattle.dma_device.specs.declared.thread.Thread.{Thread}
 use Rattle.dma_device.proofs.SavedParts.{tail_is}
-use Rattle.dma_device.proofs.SavedDevices.{device_ranges_in, from_head, known_in, threads_behind}
-use Rattle.dma_device.specs.inner.Fields.{AreSound, KnowsWide}
-use Rattle.dma_device.proofs.WidePrograms.{wide_reset}
-use Rattle.dma_device.proofs.Sound.{all_reset, are_known, are_sound, few_channels, sound_of, with_all}
+use Rattle.dma_device.proofs.SavedDevices.{device_ranges_in, device_value_is, from_head, known_in, threads_behind}
+use Rattle.dma_device.specs.inner.Fields.{AreOn}
+use Rattle.dma_device.specs.inner.Saves.{HasHeadRanges}
+use Rattle.dma_device.proofs.Sound.{all_reset, are_on, on_of, reset_on, with_all}
 use Rattle.dma_device.proofs.device.Device.restore_parts.Goals as goal
 
 pub returns-in_default-clause-all : goal.returns-in_default-clause-all
@@ -25,7 +25,12 @@ returns-in_default-clause-all c d v config e =
 pub restore_threads-requires-clause-sound : goal.restore_threads-requires-clause-sound
 restore_threads-requires-clause-sound c =
     let d = c.self.inside in
-    subst (All (IsSound d.config.events)) (sym c.deref_mut.ensures.value) (sound_of d.config.events d.threads.items c.self.invariant.sound)
+    subst (All (IsSound d.config.events)) (sym c.deref_mut.ensures.value) c.self.invariant.sound.threads
+
+pub restore_threads-requires-clause-on : goal.restore_threads-requires-clause-on
+restore_threads-requires-clause-on c =
+    let d = c.self.inside in
+    subst (All (IsOn d.config.bus)) (sym c.deref_mut.ensures.value) (on_of d.config.bus d.threads.items c.self.invariant.on)
 
 pub invariant_of-self : goal.invariant_of-self
 invariant_of-self c =
@@ -38,27 +43,19 @@ invariant_of-self c =
     let reset = second ∙ c.reset_threads.ensures in
     record {
       config = h.config;
-      known = h.known;
       count = omega (arith, ap length second, c.reset_threads.auto.threads, ap length c.deref_mut-then-not-restore_threads.ensures.value, ap length first, c.restore_threads.auto.threads, ap length c.deref_mut.ensures.value, h.count);
-      sound = subst (AreSound d.config.events) (sym reset) (all_reset d.config.events _);
-      wide = subst (λ (ts : List Thread). KnowsWide d.config.bus ts d.wide) (sym reset) (wide_reset d.config.bus _ d.wide);
-      room = h.room;
+      sound = record { few = h.sound.few; known = h.sound.known; threads = subst (All (IsSound d.config.events)) (sym reset) (all_reset d.config.bus d.config.events _) };
+      on = subst (AreOn d.config.bus) (sym reset) (reset_on d.config.bus _);
       marks = h.marks;
     }
-
-pub wide_programs-self-inside-requires : goal.wide_programs-self-inside-requires
-wide_programs-self-inside-requires c =
-    let d = c.self.inside in
-    let one = c.restore_threads.new.threads in
-    let first = with_items_is d.threads one (omega (arith, c.restore_threads.auto.threads, c.deref_mut.ensures.len)) in
-    omega (arith, ap length c.deref.ensures.value, ap length first, c.restore_threads.auto.threads, ap length c.deref_mut.ensures.value, c.self.invariant.count, few_channels d.config c.self.invariant.config)
 
 pub returns-then-not-restore_threads-clause-all : goal.returns-then-not-restore_threads-clause-all
 returns-then-not-restore_threads-clause-all c d v config e =
     let same = config ∙ sym (ap (λ (x : DeviceValue). x.config) c.self.view_is) in
     let count = v.count ∙ ap (λ (g : Config). g.channels) same ∙ sym c.self.invariant.count ∙ ap length (sym c.deref_mut.ensures.value) in
     let values = subst (λ (g : Config). All (IsThreadValue g.events) d.threads) same v.threads in
-    let w = c.restore_threads.ensures.all d.threads count values (threads_behind c.args.version d c.args.save.now e) in
+    let on = subst (λ (g : Config). All (IsOn g.bus) d.threads) same v.on in
+    let w = c.restore_threads.ensures.all d.threads count values on (threads_behind c.args.version d c.args.save.now e) in
     absurd (true≢false (sym w.0 ∙ c.if-not-restore_threads.true))
 
 pub invariant_of-self-2 : goal.invariant_of-self-2
@@ -67,13 +64,24 @@ invariant_of-self-2 c =
     let new = c.restore_threads.new.threads in
     let len : length new ≡ d.threads.len = omega (arith, c.restore_threads.auto.threads, c.deref_mut.ensures.len) in
     let k = c.in-Some.ensures.known in
-    let n = d.config.events in
     let same = ap (λ (g : Config). 2 ^ g.events) c.in-Some.ensures.config in
     let h = c.in-Some.head in
-    let known = are_known n h.events h.interrupts h.inten (subst (λ (m : ℕ). h.events < m) same k.events) (subst (λ (m : ℕ). h.interrupts < m) same k.interrupts) (subst (λ (m : ℕ). h.inten < m) same k.inten) in
-    let all = with_all d h.events h.interrupts h.inten c.wide_programs-self-inside.result new c.self.invariant known len (c.restore_threads.auto.threads ∙ ap length c.deref_mut.ensures.value) (are_sound d.config.events new c.restore_threads.ensures.sound)
-    (subst (λ (ts : List Thread). KnowsWide d.config.bus ts c.wide_programs-self-inside.result) (c.deref.ensures.value ∙ with_items_is d.threads new len) c.wide_programs-self-inside.ensures.knows) c.wide_programs-self-inside.ensures.room in
-    record { config = all.config; known = all.known; count = all.count; sound = all.sound; wide = all.wide; room = all.room; marks = all.marks }
+    let all = with_all d new c.self.invariant len (c.restore_threads.auto.threads ∙ ap length c.deref_mut.ensures.value) c.restore_threads.ensures.sound (are_on d.config.bus new c.restore_threads.ensures.on) in
+    record {
+      config = all.config;
+      count = all.count;
+      sound = record {
+        few = all.sound.few;
+        known = record {
+          events = subst (λ (m : ℕ). h.events < m) same k.events;
+          interrupts = subst (λ (m : ℕ). h.interrupts < m) same k.interrupts;
+          inten = subst (λ (m : ℕ). h.inten < m) same k.inten;
+        };
+        threads = all.sound.threads;
+      };
+      on = all.on;
+      marks = all.marks;
+    }
 
 pub returns-clause-ok : goal.returns-clause-ok
 unfolding parts_in
@@ -103,9 +111,30 @@ returns-clause-all c e v config is =
     let head : h ≡ head_in c.args.version e = cc found in
     let count = v.count ∙ ap (λ (g : Config). g.channels) same ∙ sym c.self.invariant.count ∙ ap length (sym c.deref_mut.ensures.value) in
     let values = subst (λ (g : Config). All (IsThreadValue g.events) e.threads) same v.threads in
-    let w = c.restore_threads.ensures.all e.threads count values (threads_behind c.args.version e save is) in (
+    let on = subst (λ (g : Config). All (IsOn g.bus) e.threads) same v.on in
+    let w = c.restore_threads.ensures.all e.threads count values on (threads_behind c.args.version e save is) in (
       refl,
       ap (λ (ts : List Thread). from_head d.config h ts) (with_items_is d.threads new len ∙ w.1)
           ∙ ap (λ (k : Head). from_head d.config k e.threads) head
           ∙ ap (λ (g : Config). from_head g (head_in c.args.version e) e.threads) (sym same),
     )
+
+pub returns-clause-value : goal.returns-clause-value
+returns-clause-value c =
+    λ _. (let d = c.self.inside in
+    let h = c.in-Some.head in
+    let new = c.restore_threads.new.threads in
+    let len : length new ≡ d.threads.len = omega (arith, c.restore_threads.auto.threads, c.deref_mut.ensures.len) in
+    let k = c.in-Some.ensures.known in
+    let r = c.in-Some.ensures.ranges in
+    let same = ap (λ (g : Config). 2 ^ g.events) c.in-Some.ensures.config in
+    let all = with_all d new c.self.invariant len (c.restore_threads.auto.threads ∙ ap length c.deref_mut.ensures.value) c.restore_threads.ensures.sound (are_on d.config.bus new c.restore_threads.ensures.on) in
+    let e = from_head d.config h (with_items d.threads new).items in
+    let known : HasKnownEvents (head_of e) = record {
+      events = subst (λ (m : ℕ). h.events < m) same k.events;
+      interrupts = subst (λ (m : ℕ). h.interrupts < m) same k.interrupts;
+      inten = subst (λ (m : ℕ). h.inten < m) same k.inten;
+    } in
+    let ranges : HasHeadRanges (head_of e) = record { fault = r.fault; events = r.events; interrupts = r.interrupts; inten = r.inten; dbginst0 = r.dbginst0; dbginst1 = r.dbginst1 } in
+    let values = subst (All (IsThreadValue d.config.events)) (sym (with_items_is d.threads new len)) (c.restore_threads.ensures.values c.if-not-restore_threads.false) in
+    device_value_is e all.config known ranges all.count values (on_of d.config.bus _ all.on))

@@ -1,11 +1,13 @@
-use Rattle.std.proofs.Common.{◌≡◌, ◌∙◌, ◌<◌, ◌≤◌, ◌++◌, ℕ, List, [], ◌∷◌, add-one, ap, append-nil, arith, drop, get_or, length, suc, sym, take}
+use Rattle.std.proofs.Common.{◌≡◌, ◌∙◌, ◌<◌, ◌≤◌, ◌++◌, ℕ, List, [], ◌∷◌, add-one, ap, append-nil, arith, drop, get_or, inl, inr, length, subst, suc, sym, take}
 use Rattle.std.proofs.Math.Seq.{take-add, take-suc}
-use Rattle.std.proofs.lemmas.List.{length-set, length-take, take_more_set}
+use Rattle.std.specs.Prelude.{slice_set}
+use Rattle.std.proofs.lemmas.Bool.{cases_eq}
+use Rattle.std.proofs.lemmas.List.{get_or-set_other, get_or-set_same, length-set, length-take, take_more_set}
 use Rattle.std.proofs.lemmas.List.Concat.{flat_map-append}
 use Rattle.std.proofs.lemmas.List.Elements.{All-set}
 use Rattle.std.specs.List.{flat_map}
-use Rattle.dma_device.specs.Snapshot.{saved_thread}
-use Rattle.dma_device.specs.Thread.{IsSound}
+use Rattle.dma_device.specs.Snapshot.{IsThreadValue, saved_thread}
+use Rattle.dma_device.specs.Thread.{IsOn, IsSound}
 use Rattle.dma_device.specs.declared.thread.Thread.{Thread}
 use Rattle.dma_device.proofs.SavedParts.{part_at, tail_is}
 use Rattle.dma_device.proofs.save.threads.restore_threads.Goals as goal
@@ -33,26 +35,37 @@ loop-n-preserved c =
           ∙ ap (λ (l : List ℕ). flat_map saved_thread (take n threads) ++ l) (sym (append-nil (saved_thread new)))
           ∙ sym (flat_map-append saved_thread (take n threads) (new ∷ []))
           ∙ ap (flat_map saved_thread) (sym set);
-      sound = All-set (IsSound c.args.events) threads n new c.in-Some.ensures.sound c.loop-n.invariant.sound;
-      all = λ ts count values is.
+      values = λ k d below. elim (cases_eq k n) [
+        | inl here ↦
+            let there : get_or (slice_set threads n new) k d ≡ new = ap (λ (j : ℕ). get_or (slice_set threads n new) j d) here ∙ get_or-set_same threads n new d (omega arith) in
+            subst (IsThreadValue c.args.config.events) (sym there) c.in-Some.ensures.value
+        | inr other ↦
+            subst (IsThreadValue c.args.config.events) (sym (get_or-set_other threads n k new d other)) (c.loop-n.invariant.values k d (omega arith))
+      ];
+      sound = All-set (IsSound c.args.config.events) threads n new c.in-Some.ensures.sound c.loop-n.invariant.sound;
+      on = All-set (IsOn c.args.config.bus) threads n new c.in-Some.ensures.on c.loop-n.invariant.on;
+      all = λ ts count values on is.
           let same : length ts ≡ length threads = count ∙ length-set threads n new in
           let less : n < length ts = omega arith in
-          let before = c.loop-n.invariant.all ts same values is in
+          let before = c.loop-n.invariant.all ts same values on is in
           let behind = here ts threads n at bytes new less c.loop-n.invariant.at c.loop-n.invariant.bytes before is in
-          let w = c.in-Some.ensures.all (get_or ts n new) (flat_map saved_thread (drop (suc n) ts)) (values n new less) (tail_is at bytes ∙ behind) in
+          let w = c.in-Some.ensures.all (get_or ts n new) (flat_map saved_thread (drop (suc n) ts)) (values n new less) (on n new less) (tail_is at bytes ∙ behind) in
           set ∙ ap (λ (us : List Thread). us ++ new ∷ []) before ∙ ap (λ (u : Thread). take n ts ++ u ∷ []) w.1
           ∙ sym (take-suc ts n new less) ∙ ap (λ (m : ℕ). take m ts) (sym (add-one n));
     }
 
 pub returns-in_default-clause-all : goal.returns-in_default-clause-all
-returns-in_default-clause-all c ts count values is =
+returns-in_default-clause-all c ts count values on is =
     let threads = c.loop-n.threads in
     let n = c.loop-n.n in
     let new = c.restore.new.self in
     let same : length ts ≡ length threads = omega arith in
     let less : n < length ts = omega arith in
-    let before = c.loop-n.invariant.all ts same values is in
+    let before = c.loop-n.invariant.all ts same values on is in
     let behind = here ts threads n c.loop-n.at c.args.bytes.now new less c.loop-n.invariant.at c.loop-n.invariant.bytes before is in
-    let w = c.in_default.ensures.all (get_or ts n new) (flat_map saved_thread (drop (suc n) ts)) (values n new less) (tail_is c.loop-n.at c.args.bytes.now ∙ behind) in
+    let w = c.in_default.ensures.all (get_or ts n new) (flat_map saved_thread (drop (suc n) ts)) (values n new less) (on n new less) (tail_is c.loop-n.at c.args.bytes.now ∙ behind) in
     let none = w.0 in
     absurd (cc none)
+
+pub returns-clause-values : goal.returns-clause-values
+returns-clause-values c = λ _ k d less. c.loop-n.invariant.values k d (omega arith)

@@ -5,12 +5,16 @@ use Rattle.std.proofs.lemmas.Bool.Decides.{Decides-eqb}
 use Rattle.std.proofs.lemmas.List.{length-drop, length-take}
 use Rattle.std.proofs.lemmas.Slice.Eq.{slice_eq-Decides}
 use Rattle.dma_insn.specs.ControlWord.{flag}
-use Rattle.dma_chan.specs.Channel.{ChannelValue}
+use Rattle.dma_chan.specs.declared.bus.Bus.{Bus}
+use Rattle.dma_chan.specs.declared.bus.Bus.TheVariants.{Chip}
+use Rattle.dma_chan.specs.declared.bus.BusWidth.{BusWidth}
+use Rattle.dma_chan.specs.Channel.{ChannelValue, on_bus}
 use Rattle.dma_chan.specs.Saved.{saved}
 use Rattle.dma_device.specs.Snapshot.{saved_thread, thread_bytes}
-use Rattle.dma_device.specs.Thread.{IsSound}
+use Rattle.dma_device.specs.Thread.{IsOn, IsSound}
 use Rattle.dma_device.specs.declared.thread.Status.{Status}
 use Rattle.dma_device.specs.declared.thread.Thread.{Thread}
+use Rattle.dma_device.proofs.ControlFits.{reset_is_on}
 use Rattle.dma_device.proofs.SavedParts.{bit_back, tail_is, thread_found, thread_length}
 use Rattle.dma_device.proofs.thread.Thread.restore.Goals as goal
 
@@ -30,44 +34,51 @@ read_is t channel status fault word base pc a b d n e f =
     let nonsecure : nat_eq (word / 2 ^ 21 % 2) 1 ≡ t.nonsecure = ap (λ (k : ℕ). nat_eq k 1) n ∙ bit_back t.nonsecure in
     rw (a, b, d, nonsecure, e, f) refl
 
+-- a channel on this bus already
+on_bus_same : (bus : BusWidth) (t : Thread) → IsOn bus t → on_bus (Chip bus) t.channel ≡ t.channel
+on_bus_same bus t on = ap (λ (b : Bus). on_bus b t.channel) (sym on.width)
+
 pub returns-then-bytes-lt-THREAD_LEN-clause-all : goal.returns-then-bytes-lt-THREAD_LEN-clause-all
-returns-then-bytes-lt-THREAD_LEN-clause-all c t rest v e =
-    let found = thread_found c.args.events t rest c.args.bytes.now c.requires.few v e in
+returns-then-bytes-lt-THREAD_LEN-clause-all c t rest v on e =
+    let found = thread_found c.args.config.events t rest c.args.bytes.now c.requires.few v e in
     absurd (omega (arith, found.long))
 
 pub returns-in_default-clause-all : goal.returns-in_default-clause-all
-returns-in_default-clause-all c t rest v e =
-    let found = thread_found c.args.events t rest c.args.bytes.now c.requires.few v e in
+returns-in_default-clause-all c t rest v on e =
+    let found = thread_found c.args.config.events t rest c.args.bytes.now c.requires.few v e in
     let some = c.in_default.ensures t.status (ap (λ (n : ℕ). n % 512) c.u32_at-csr.ensures ∙ found.fields.status) in
     absurd cc
 
 pub returns-then-rest-len-clause-all : goal.returns-then-rest-len-clause-all
-returns-then-rest-len-clause-all c t rest v e =
-    let found = thread_found c.args.events t rest c.args.bytes.now c.requires.few v e in
+returns-then-rest-len-clause-all c t rest v on e =
+    let found = thread_found c.args.config.events t rest c.args.bytes.now c.requires.few v e in
     let len = c.u32_at-len.ensures ∙ found.fields.len in
     absurd (omega (arith, found.long, len, ap length (tail_is 20 c.args.bytes.now), length-drop 20 c.args.bytes.now))
 
 pub returns-in_default-restore-clause-all : goal.returns-in_default-restore-clause-all
-returns-in_default-restore-clause-all c t rest v e =
+returns-in_default-restore-clause-all c t rest v on e =
     let bytes = c.args.bytes.now in
-    let found = thread_found c.args.events t rest bytes c.requires.few v e in
+    let found = thread_found c.args.config.events t rest bytes c.requires.few v e in
     let len = c.u32_at-len.ensures ∙ found.fields.len in
     let channel = c.in_default-restore.ensures.all t.channel v.channel (ap (λ (n : ℕ). take n (take (length bytes - 20) (drop 20 bytes))) len ∙ ap (take (length (saved t.channel))) (tail_is 20 bytes) ∙ found.channel) in
     absurd (true≢false (sym channel.0))
 
-pub returns-then-not-is_sound-clause-all : goal.returns-then-not-is_sound-clause-all
-returns-then-not-is_sound-clause-all c t rest v e =
+pub returns-then-not-is_possible-clause-all : goal.returns-then-not-is_possible-clause-all
+returns-then-not-is_possible-clause-all c t rest v on e =
     let bytes = c.args.bytes.now in
-    let found = thread_found c.args.events t rest bytes c.requires.few v e in
+    let found = thread_found c.args.config.events t rest bytes c.requires.few v e in
     let len = c.u32_at-len.ensures ∙ found.fields.len in
     let channel = c.in-Ok.ensures.all t.channel v.channel (ap (λ (n : ℕ). take n (take (length bytes - 20) (drop 20 bytes))) len ∙ ap (take (length (saved t.channel))) (tail_is 20 bytes) ∙ found.channel) in
     let some = c.in-Some.ensures t.status (ap (λ (n : ℕ). n % 512) c.u32_at-csr.ensures ∙ found.fields.status) in
     let status : c.in-Some.status ≡ t.status = cc some in
     let word = ap (λ (n : ℕ). n / 2 ^ 21 % 2) c.u32_at-csr.ensures ∙ found.fields.nonsecure in
     let same = read_is t c.restore.new.self c.in-Some.status c.u32_at-self.result c.u32_at-csr.result c.u32_at-self-2.result c.u32_at-self-3.result
-    channel.1 status (c.u32_at-self.ensures ∙ found.fields.fault) word (c.u32_at-self-2.ensures ∙ found.fields.base) (c.u32_at-self-3.ensures ∙ found.fields.pc) in
-    let sound = c.is_sound.ensures.1 (subst (IsSound c.args.events) (sym same) v.sound) in
-    absurd (cc (sound, c.if-not-is_sound.true))
+    (channel.1 ∙ on_bus_same c.args.config.bus t on) status (c.u32_at-self.ensures ∙ found.fields.fault) word (c.u32_at-self-2.ensures ∙ found.fields.base) (c.u32_at-self-3.ensures ∙ found.fields.pc) in
+    let possible = c.is_possible.ensures.1 (subst (IsSound c.args.config.events) (sym same) v.sound, subst (IsOn c.args.config.bus) (sym same) on) in
+    absurd (cc (possible, c.if-not-is_possible.true))
+
+pub returns-then-not-is_possible-clause-on : goal.returns-then-not-is_possible-clause-on
+returns-then-not-is_possible-clause-on c = subst (IsOn c.args.config.bus) (sym c.reset.ensures) (reset_is_on c.args.config.bus)
 
 pub returns-then-eq-clause-found : goal.returns-then-eq-clause-found
 unfolding saved_thread
@@ -84,9 +95,9 @@ returns-then-eq-clause-found c =
     ∙ ap (λ (n : ℕ). thread_bytes new n ++ saved new.channel) count
 
 pub returns-then-eq-clause-all : goal.returns-then-eq-clause-all
-returns-then-eq-clause-all c t rest v e =
+returns-then-eq-clause-all c t rest v on e =
     let bytes = c.args.bytes.now in
-    let found = thread_found c.args.events t rest bytes c.requires.few v e in
+    let found = thread_found c.args.config.events t rest bytes c.requires.few v e in
     let len = c.u32_at-len.ensures ∙ found.fields.len in
     let channel = c.in-Ok.ensures.all t.channel v.channel (ap (λ (n : ℕ). take n (take (length bytes - 20) (drop 20 bytes))) len ∙ ap (take (length (saved t.channel))) (tail_is 20 bytes) ∙ found.channel) in
     let some = c.in-Some.ensures t.status (ap (λ (n : ℕ). n % 512) c.u32_at-csr.ensures ∙ found.fields.status) in
@@ -95,20 +106,20 @@ returns-then-eq-clause-all c t rest v e =
     let total : 20 + c.u32_at-len.result ≡ length (saved_thread t) = omega (arith, len, thread_length t) in (
       ap (λ (n : ℕ). Some n) total,
       read_is t c.restore.new.self c.in-Some.status c.u32_at-self.result c.u32_at-csr.result c.u32_at-self-2.result c.u32_at-self-3.result
-          channel.1 status (c.u32_at-self.ensures ∙ found.fields.fault) word (c.u32_at-self-2.ensures ∙ found.fields.base) (c.u32_at-self-3.ensures ∙ found.fields.pc),
+          (channel.1 ∙ on_bus_same c.args.config.bus t on) status (c.u32_at-self.ensures ∙ found.fields.fault) word (c.u32_at-self-2.ensures ∙ found.fields.base) (c.u32_at-self-3.ensures ∙ found.fields.pc),
     )
 
 pub returns-else-eq-clause-all : goal.returns-else-eq-clause-all
-returns-else-eq-clause-all c t rest v e =
+returns-else-eq-clause-all c t rest v on e =
     let bytes = c.args.bytes.now in
-    let found = thread_found c.args.events t rest bytes c.requires.few v e in
+    let found = thread_found c.args.config.events t rest bytes c.requires.few v e in
     let len = c.u32_at-len.ensures ∙ found.fields.len in
     let channel = c.in-Ok.ensures.all t.channel v.channel (ap (λ (n : ℕ). take n (take (length bytes - 20) (drop 20 bytes))) len ∙ ap (take (length (saved t.channel))) (tail_is 20 bytes) ∙ found.channel) in
     let some = c.in-Some.ensures t.status (ap (λ (n : ℕ). n % 512) c.u32_at-csr.ensures ∙ found.fields.status) in
     let status : c.in-Some.status ≡ t.status = cc some in
     let word = ap (λ (n : ℕ). n / 2 ^ 21 % 2) c.u32_at-csr.ensures ∙ found.fields.nonsecure in
     let same = read_is t c.restore.new.self c.in-Some.status c.u32_at-self.result c.u32_at-csr.result c.u32_at-self-2.result c.u32_at-self-3.result
-    channel.1 status (c.u32_at-self.ensures ∙ found.fields.fault) word (c.u32_at-self-2.ensures ∙ found.fields.base) (c.u32_at-self-3.ensures ∙ found.fields.pc) in
+    (channel.1 ∙ on_bus_same c.args.config.bus t on) status (c.u32_at-self.ensures ∙ found.fields.fault) word (c.u32_at-self-2.ensures ∙ found.fields.base) (c.u32_at-self-3.ensures ∙ found.fields.pc) in
     let again : c.as_slice.result.now ≡ take 20 bytes =
     c.as_slice.ensures.value ∙ c.head_bytes-again.ensures.bytes ∙ ap (λ (u : Thread). thread_bytes u c.u32_at-len.result) same
     ∙ ap (λ (n : ℕ). thread_bytes t n) len ∙ sym found.head in

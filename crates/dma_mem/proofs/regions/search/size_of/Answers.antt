@@ -1,15 +1,8 @@
 use Rattle.std.proofs.Common.{◌-◌, length, arith, ap, sym, ◌∙◌}
 use Rattle.std.proofs.lemmas.List.{length-map}
 use Rattle.dma_mem.specs.Regions.{Piece, pieces_of, piece_of, end_of}
-use Rattle.dma_mem.proofs.Pieces.{piece_at_item, length-image_of, image_of-most}
+use Rattle.dma_mem.proofs.Pieces.{piece_at_item, length-image_of}
 use Rattle.dma_mem.proofs.regions.search.size_of.Goals as goal
-
-pub end-requires : goal.end-requires
-end-requires c =
-    let rs = c.args.regions.now in
-    let i = length rs - 1 in
-    let is = piece_at_item rs i c.index-regions-count.result (omega arith) c.index-regions-count.is in
-    omega (arith, ap (λ (p : Piece). end_of p) is, length-image_of (pieces_of rs) i c.requires (omega (arith, length-map rs piece_of)), image_of-most (pieces_of rs) c.requires)
 
 pub returns-else-count-eq0 : goal.returns-else-count-eq0
 returns-else-count-eq0 c =

@@ -7,9 +7,9 @@ returns-clause-ok c =
     let x = c.args.self.now in
     let b = c.source_burst-burst.result in
     let is = c.source_burst-burst.ensures.value in
-    load_advances x _ b c.requires.tracer is (loaded_registers x.registers b c.advance.result is c.advance.ensures.value) (omega (arith, c.len.ensures.value)) (omega (arith, c.if-held-gt256.false)) (at_ok c.push_burst.result _ c.if-is_err.ensures.value c.push_burst.ensures.ok) (length_touched b) (at_ok c.push_burst.result _ c.if-is_err.ensures.value c.push_burst.ensures.runs) refl refl refl
+    load_advances x _ b c.requires.tracer is (loaded_registers x.registers b c.advance.result is c.advance.ensures.value (omega (arith, c.if-end-from.false, c.end.ensures, c.from.ensures, c.span.ensures.addr, c.span.ensures.len, c.advance.ensures.limit, c.source_burst-burst.ensures.addr))) (omega (arith, c.len.ensures.value)) (omega (arith, c.if-held-gt256.false)) (at_ok c.push_burst.result _ c.if-is_err.ensures.value c.push_burst.ensures.ok) (length_touched b c.source_burst-burst.ensures.some) (at_ok c.push_burst.result _ c.if-is_err.ensures.value c.push_burst.ensures.runs) refl refl refl
 
 pub returns-then-end-from-clause-err : goal.returns-then-end-from-clause-err
 returns-then-end-from-clause-err c =
     let b = c.source_burst-burst in
-    λ _ t agrees could. load_past c.args.self.now b.result t b.ensures.value b.ensures.some.0 b.ensures.some.1 (omega (arith, c.if-end-from.true, c.end.ensures, c.from.ensures, c.span.ensures.addr, c.span.ensures.len)) could
+    λ _ t agrees could. load_past c.args.self.now b.result t b.ensures.value b.ensures.some (omega (arith, c.if-end-from.true, c.end.ensures, c.from.ensures, c.span.ensures.addr, c.span.ensures.len)) could

@@ -1,0 +1,119 @@
+-- A run without memory is the same on each bus, but for the bus, if its bursts begin at multiples of their beats' sizes.
+use Rattle.std.proofs.Common.{◌≡◌, ℕ, zero, suc, ◌+◌, ◌≤◌, ◌&&◌, Bool, true, false, List, ◌++◌, length, Option, Result, Ok, Err, refl, sym, ap, ◌∙◌, subst, arith}
+use Rattle.dma_insn.specs.ControlWord.{is_control}
+use Rattle.dma_insn.specs.declared.insn.Counter.{Counter}
+use Rattle.dma_insn.specs.declared.insn.Counter.TheVariants.{Lc0, Lc1}
+use Rattle.dma_insn.specs.declared.insn.Reg.TheVariants.{Sar, Dar, Ccr}
+use Rattle.dma_insn.specs.declared.insn.Insn.{Insn}
+use Rattle.dma_insn.specs.declared.insn.Insn.TheVariants.{Mov, Ld, St, Rmb, Wmb, Nop, End, Lp, LpEnd, Sev, Wfe}
+use Rattle.dma_mem.specs.Places.{size_of}
+use Rattle.dma_chan.specs.declared.bus.Bus.{Bus}
+use Rattle.dma_chan.specs.declared.bus.Bus.TheVariants.{Ideal}
+use Rattle.dma_chan.specs.declared.exec.Registers.{Registers}
+use Rattle.dma_chan.specs.declared.turn.FaultKind.{FaultKind}
+use Rattle.dma_chan.specs.Bus.{accepts, fits}
+use Rattle.dma_chan.specs.declared.bursts.Burst.{Burst}
+use Rattle.dma_chan.specs.Bursts.{IsAligned, advance, burst_len, touched}
+use Rattle.dma_chan.specs.Exec.{buffer_size, destination_of, looped, past, source_of, wrapped}
+use Rattle.dma_chan.specs.Explains.{ExplainedOnBus, GoesOn, IsAlignedTo, MovesAligned, Proceeds, Trace, after_fetch, after_insn, fits_bus, next_in, traced}
+use Rattle.dma_chan.proofs.ControlWords.{same_burst}
+
+module _ (bus : Bus) where
+  -- the registers, and a run, on the bus
+  abbrev registers_on : Registers → Registers
+  registers_on r = record r { bus = bus }
+
+  abbrev pub trace_on : Trace → Trace
+  trace_on x = record x { registers = registers_on x.registers }
+
+  looped_on : (k : ℕ) (c : Counter) (back : ℕ) (r : Registers) → looped k c back (registers_on r) ≡ registers_on (looped k c back r)
+  looped_on zero c back r = refl
+  looped_on (suc k) Lc0 back r = refl
+  looped_on (suc k) Lc1 back r = refl
+
+  -- a burst at a multiple of its beat's size is the same on the bus
+  source_on : (r : Registers) → IsAligned (source_of r) → source_of (registers_on r) ≡ source_of r
+  source_on r aligned = sym (same_burst r.bus bus 0 r.sar r.ccr aligned)
+
+  destination_on : (r : Registers) → IsAligned (destination_of r) → destination_of (registers_on r) ≡ destination_of r
+  destination_on r aligned = sym (same_burst r.bus bus 14 r.dar r.ccr aligned)
+
+  insn_on : (i : Insn) (x : Trace) → MovesAligned (Ok i) x.registers → after_insn i (trace_on x) ≡ trace_on (after_insn i x)
+  insn_on (Mov Sar v) x a = refl
+  insn_on (Mov Dar v) x a = refl
+  insn_on (Mov Ccr v) x a = refl
+  insn_on (Lp Lc0 n) x a = refl
+  insn_on (Lp Lc1 n) x a = refl
+  insn_on (LpEnd Lc0 back) x a =
+      ap (λ (r : Registers). record x { registers = r }) (looped_on x.registers.lc0 Lc0 back x.registers)
+  insn_on (LpEnd Lc1 back) x a =
+      ap (λ (r : Registers). record x { registers = r }) (looped_on x.registers.lc1 Lc1 back x.registers)
+  insn_on Ld x a =
+      let r = registers_on x.registers in
+      ap (λ (b : Burst). record { registers = past Ld (record r { sar = wrapped (r.sar + advance b) }); loads = x.loads ++ touched b; stores = x.stores }) (source_on x.registers a)
+  insn_on St x a =
+      let r = registers_on x.registers in
+      ap (λ (b : Burst). record { registers = past St (record r { dar = wrapped (r.dar + advance b) }); loads = x.loads; stores = x.stores ++ touched b }) (destination_on x.registers a)
+  insn_on i x a = refl
+
+  fetch_on : (r : Result Insn FaultKind) (x : Trace) → MovesAligned r x.registers → after_fetch r (trace_on x) ≡ trace_on (after_fetch r x)
+  fetch_on (Ok i) x a = insn_on i x a
+  fetch_on (Err kind) x a = refl
+
+  pub traced_on : (program : List ℕ) (n : ℕ) → IsAlignedTo program n → traced bus program n ≡ trace_on (traced Ideal program n)
+  traced_on program zero a = refl
+  traced_on program (suc n) a =
+      let x = traced Ideal program n in
+      ap (λ (y : Trace). after_fetch (next_in program y) y) (traced_on program n (λ k l. a k (omega arith)))
+      ∙ fetch_on (next_in program x) x (a n (omega arith))
+
+  both : (a b : Bool) → a ≡ true → b ≡ true → (a && b) ≡ true
+  both true b e f = f
+  both false b e f = e
+
+  ideal : (b : Bus) (v : ℕ) → accepts b v ≡ true → is_control v ≡ true
+  ideal b v e = by (fits b v) (is_control v) e
+    where
+      by : (c d : Bool) → (c && d) ≡ true → d ≡ true
+      by true d f = f
+      by false true f = refl
+      by false false f = f
+
+  goes_on : (wait signal : Option ℕ) (size : ℕ) (i : Insn) (x : Trace) → fits_bus bus (Ok i) ≡ true → MovesAligned (Ok i) x.registers → GoesOn wait signal size i x → GoesOn wait signal size i (trace_on x)
+  goes_on wait signal size (Mov Ccr v) x f a g = both (fits bus v) (is_control v) f (ideal x.registers.bus v g)
+  goes_on wait signal size (Mov Sar v) x f a g = g
+  goes_on wait signal size (Mov Dar v) x f a g = g
+  goes_on wait signal size Ld x f a g =
+      subst (λ (b : Burst). length x.loads + burst_len b ≤ length x.stores + buffer_size) (sym (source_on x.registers a)) g
+  goes_on wait signal size St x f a g =
+      subst (λ (b : Burst). (length x.stores + burst_len b ≤ length x.loads) × (b.increments ≡ true)) (sym (destination_on x.registers a)) g
+  goes_on wait signal size (Lp c n) x f a g = g
+  goes_on wait signal size (LpEnd Lc0 back) x f a g = g
+  goes_on wait signal size (LpEnd Lc1 back) x f a g = g
+  goes_on wait signal size (Sev e) x f a g = g
+  goes_on wait signal size (Wfe e v) x f a g = g
+  goes_on wait signal size Rmb x f a g = g
+  goes_on wait signal size Wmb x f a g = g
+  goes_on wait signal size Nop x f a g = g
+  goes_on wait signal size End x f a g = g
+
+  proceeds : (wait signal : Option ℕ) (size : ℕ) (r : Result Insn FaultKind) (x : Trace) → fits_bus bus r ≡ true → MovesAligned r x.registers → Proceeds wait signal size r x → Proceeds wait signal size r (trace_on x)
+  proceeds wait signal size (Ok i) x f a g = goes_on wait signal size i x f a g
+  proceeds wait signal size (Err kind) x f a g = g
+
+pub explained_on_bus : ExplainedOnBus
+explained_on_bus bus program t n h fit aligned =
+    let same : (k : ℕ) → k ≤ n → traced bus program k ≡ trace_on bus (traced Ideal program k) =
+    λ k l. traced_on bus program k (λ j less. aligned j (omega arith)) in
+    let last = same n (omega arith) in
+    record {
+      goes = λ k l.
+          let x = traced Ideal program k in
+          subst (λ (y : Trace). Proceeds t.wait t.signal (size_of t) (next_in program y) y) (sym (same k (omega arith)))
+          (proceeds bus t.wait t.signal (size_of t) (next_in program x) x (fit k l) (aligned k l) (h.goes k l));
+      ends = ap (λ (y : Trace). next_in program y) last ∙ h.ends;
+      loads = ap (λ (y : Trace). y.loads) last ∙ h.loads;
+      stores = ap (λ (y : Trace). y.stores) last ∙ h.stores;
+      few = h.few;
+      copy = h.copy;
+    }

@@ -1,0 +1,50 @@
+//! The data bus of a channel.
+
+ghost use Rattle.std.specs.Prelude.{◌≡◌, ◌≤◌};
+ghost use Rattle.dma_chan.specs.Bus.{bus_code, fits};
+
+/// The width of a chip's data bus.
+#[derive(Clone, Copy, Debug, PartialEq, Eq)]
+pub enum BusWidth {
+    Bits32,
+    Bits64,
+    Bits128,
+}
+
+impl BusWidth {
+    /// Returns the code in CRD: the bus has two to this power bytes.
+    pub fn code(self) -> u32
+        ensures value { result ≡ bus_code self }
+        ensures range { result ≤ 4 }
+    {
+        match self {
+            BusWidth::Bits32 => 2,
+            BusWidth::Bits64 => 3,
+            BusWidth::Bits128 => 4,
+        }
+    }
+}
+
+/// What a channel's data bus can do. No instruction changes it, and no save has it.
+#[derive(Clone, Copy, Debug, PartialEq, Eq)]
+pub enum Bus {
+    /// Beats of up to 16 bytes, each whole at any address (profile). The engine's channels have this bus.
+    Ideal,
+    /// A chip's: beats of at most this width. The first beat of a burst whose address rises ends at the next multiple of
+    /// its size.
+    Chip(BusWidth),
+}
+
+impl Bus {
+    /// Returns whether the beats of a control word with these bits fit the bus.
+    pub fn fits(self, bits: u32) -> bool
+        ensures { result ≡ fits self bits }
+    {
+        match self {
+            Bus::Ideal => true,
+            Bus::Chip(width) => {
+                (bits >> 1) % 8 <= width.code() && (bits >> 15) % 8 <= width.code()
+            }
+        }
+    }
+}
