@@ -1,44 +1,55 @@
 #!/bin/sh
-# Boots Linux in the two emulators that build.sh has built, and compares their PL330: ./boot.sh [--migrate N] [FOLDER]
+# Boots Linux in the two emulators that build.sh has built, and compares their PL330:
+#
+#     ./boot.sh [--migrate N] [--exynos] [--replay] [FOLDER]
 #
 # FOLDER is that of build.sh, the current one if none is given; its path has no spaces or colons. Linux is Debian's
 # linux-source-6.1 with its driver pl330 and its test dmatest; it is built once. The tests copy 1,600 times at random on
 # eight channels, and 64 times 1 MiB on one. With --migrate, a third machine is moved to a new process N times while
-# qemu-dma330 makes 4,000 N copies. The consoles are in FOLDER/*.log. The status is 0 only if no test failed.
+# qemu-dma330 makes 4,000 N copies. With --exynos, the machine smdkc210, with two processors, makes 2,400 copies on 24
+# channels. With --replay, a run with -icount is recorded and replayed: the consoles must be the same. A machine whose
+# console is silent for a minute is ended, and counts as a failure. The consoles are in FOLDER/*.log. The status is 0
+# only if nothing failed.
 set -eu
 here=$(cd "$(dirname "$0")" && pwd)
+# shellcheck source=common.sh
+. "$here/common.sh"
 
-fail() {
-    printf '%s\n' "$@" >&2
-    exit 1
-}
-
+usage="usage: boot.sh [--migrate N] [--exynos] [--replay] [FOLDER]"
 migrations=0
-if [ "${1:-}" = --migrate ]; then
-    migrations=${2:-none}
+exynos=
+replay=
+while [ $# -gt 0 ]; do
+    case $1 in
+        --migrate)
+            migrations=${2:-none}
+            [ $# -eq 1 ] || shift
+            ;;
+        --exynos) exynos=1 ;;
+        --replay) replay=1 ;;
+        *) break ;;
+    esac
     shift
-    [ $# -eq 0 ] || shift
-fi
+done
 case $migrations in
-    *[!0-9]*) fail "usage: boot.sh [--migrate N] [FOLDER]" ;;
+    *[!0-9]*) fail "$usage" ;;
 esac
-[ $# -le 1 ] || fail "usage: boot.sh [--migrate N] [FOLDER]"
-cd "${1:-.}"
-
-for it in qemu-stock qemu-dma330; do
-    [ -x "$it" ] || fail "$PWD has no $it: build.sh builds it"
-done
-missing=
-for it in linux-source-6.1 gcc-arm-linux-gnueabihf libc6-dev-armhf-cross gcc make bc bison flex xz-utils; do
-    dpkg-query -W -f '${Status}' "$it" 2>/dev/null | grep -q ' installed$' || missing="$missing $it"
-done
-[ -z "$missing" ] || fail "packages are missing: apt-get install --no-install-recommends$missing"
+case ${1:-} in
+    -*) fail "$usage" ;;
+esac
+[ $# -le 1 ] || fail "$usage"
+enter "${1:-.}"
 
 # ---- Linux, and its root with one program ----
 
+# One Linux for both machines. Without SMP it would tick by the global timer of QEMU's Cortex-A9, which loses a tick,
+# and so hangs, if QEMU is late.
 options="MMU ARCH_MULTI_V7 ARCH_ZYNQ AEABI VFP PRINTK TTY SERIAL_XILINX_PS_UART SERIAL_XILINX_PS_UART_CONSOLE
     BLK_DEV_INITRD BINFMT_ELF SYSFS MULTIUSER POSIX_TIMERS HIGH_RES_TIMERS COMPAT_32BIT_TIME
-    DMADEVICES PL330_DMA DMATEST"
+    DMADEVICES PL330_DMA DMATEST SMP
+    ARCH_EXYNOS ARCH_EXYNOS4 CPU_EXYNOS4210 SERIAL_SAMSUNG SERIAL_SAMSUNG_CONSOLE CLKSRC_EXYNOS_MCT SUSPEND
+    CADENCE_TTC_TIMER ARM_GLOBAL_TIMER POWER_RESET POWER_RESET_SYSCON REGULATOR REGULATOR_FIXED_VOLTAGE PM HOTPLUG_CPU
+    PM_GENERIC_DOMAINS"
 if ! [ -f zImage ]; then
     [ -d linux-source-6.1 ] || {
         rm -rf part
@@ -52,37 +63,77 @@ if ! [ -f zImage ]; then
     make="make -C linux-source-6.1 O=$PWD/linux ARCH=arm CROSS_COMPILE=arm-linux-gnueabihf-"
     $make KCONFIG_ALLCONFIG="$PWD/linux.config" allnoconfig
     grep -vxFf linux/.config linux.config && fail "linux-source-6.1 doesn't have these options"
-    $make -j"${JOBS:-$(nproc)}" zImage zynq-zc702.dtb
-    cp linux/arch/arm/boot/dts/zynq-zc702.dtb linux/arch/arm/boot/zImage .
+    $make -j"${JOBS:-$(nproc)}" zImage zynq-zc702.dtb exynos4210-smdkv310.dtb
+    # (with -icount QEMU's model of the timer cdns,ttc may set itself to the present time for ever)
+    dtc="linux/scripts/dtc/dtc -q"
+    $dtc -I dtb -O dts linux/arch/arm/boot/dts/zynq-zc702.dtb |
+        sed 's/compatible = "cdns,ttc";/& status = "disabled";/' | $dtc -I dts -O dtb -o zynq-zc702.dtb -
+    cp linux/usr/gen_init_cpio linux/arch/arm/boot/dts/exynos4210-smdkv310.dtb linux/arch/arm/boot/zImage .
 fi
 arm-linux-gnueabihf-gcc -static -O2 -Wall -o init "$here/init.c"
-linux/usr/gen_init_cpio - >root.cpio <<END
+./gen_init_cpio - >root.cpio <<END
 dir /dev 755 0 0
 nod /dev/console 600 0 0 c 5 1
+nod /dev/kmsg 600 0 0 c 1 11
 dir /sys 755 0 0
 file /init init 755 0 0
 END
 
 # ---- the machines ----
 
-# start EMULATOR NAME TESTS OPTION..: starts a machine; its console is in NAME.log, its monitor reads from descriptor 3
+# start EMULATOR NAME TESTS OPTION..: starts a machine, on the board in $board; its console is in NAME.log, its monitor
+# reads from descriptor 3
 start() {
     emulator=$1 name=$2 tests=$3
     shift 3
+    case $board in
+        zynq) set -- -M xilinx-zynq-a9 -m 256M -dtb zynq-zc702.dtb -serial null "$@" ;;
+        exynos) set -- -M smdkc210 -smp 2 -dtb exynos4210-smdkv310.dtb "$@" ;;
+    esac
+    case $board in
+        zynq) tty=ttyPS0 ;;
+        exynos) tty="ttySAC0,115200n8 off=1" ;; # QEMU's machine has no reset by Linux
+    esac
     rm -f monitor
     mkfifo monitor
-    timeout -k 5 1200 "./$emulator" -M xilinx-zynq-a9 -m 256M -display none -no-reboot -monitor stdio \
-        -chardev "file,id=console,path=$name.log,append=on" -serial null -serial chardev:console \
-        -kernel zImage -dtb zynq-zc702.dtb -initrd root.cpio -append "console=ttyPS0 $tests" "$@" \
-        <monitor >>monitor.log 2>&1 &
+    timeout -k 5 3600 "./$emulator" -display none -no-reboot -monitor stdio \
+        -chardev "file,id=console,path=$name.log,append=on" "$@" -serial chardev:console \
+        -kernel zImage -initrd root.cpio -append "console=$tty $tests" <monitor >>monitor.log 2>&1 &
     pid=$!
     exec 3>monitor
+    size=0
+    since=$(date +%s)
+}
+
+# runs: waits a moment, and succeeds if the machine still runs; ends it if its console was silent for a minute
+runs() {
+    sleep 0.2
+    kill -0 "$pid" 2>/dev/null || return 1
+    was=$size now=$(date +%s)
+    size=$(stat -c %s "$name.log" 2>/dev/null || echo 0)
+    [ "$size" -eq "$was" ] || since=$now
+    [ $((now - since)) -ge 60 ] || return 0
+    echo "$name: no output for a minute: the machine hangs"
+    failed=$((failed + 1))
+    kill "$pid"
+    return 1
 }
 
 # finish: waits for the machine to end
 finish() {
+    while runs; do
+        :
+    done
     wait "$pid" || true
     pid=
+}
+
+# boot EMULATOR NAME TESTS OPTION..: starts a machine, waits for its end, and writes NAME.summaries
+boot() {
+    rm -f "$2.log"
+    start "$@"
+    finish
+    summaries "$name" >"$name.summaries"
 }
 
 # move NAME TESTS: moves the machine to a new process and counts that; ends the new one if the guest has ended before
@@ -108,9 +159,16 @@ move() {
 
 # summaries NAME: prints the test, channel, tests, failures and KB/s of each of dmatest's summaries
 summaries() {
-    tr -d '\r' <"$1.log" | awk '
+    tr -d '\r' <"$1.log" | sed 's/^\[ *[0-9.]*\] //' | awk '
         /^init: .* begins/ {test = $2}
         /^dmatest: .* summary/ {sub(/-.*/, "", $2); print test "-" $2, $4, $6, $(NF - 2)}' | sort
+}
+
+# compare NAME NAME: prints the summaries of two machines side by side
+compare() {
+    echo "dmatest's tests, failures and KB/s: $1, $2"
+    join "$1.summaries" "$2.summaries" |
+        awk '{printf "%-18s %6d %3d %7d %9d %3d %7d\n", $1, $2, $3, $4, $5, $6, $7}'
 }
 
 # check NAME COPIES: adds a failure unless as many copies passed, and none failed
@@ -127,33 +185,62 @@ old=
 trap '' PIPE
 trap 'exit 1' INT TERM
 trap 'for it in $pid $old; do kill "$it"; done' EXIT
-rm -f monitor.log qemu-stock.log qemu-dma330.log migrated.log
+rm -f monitor.log
 failed=0
+board=zynq
 for it in qemu-stock qemu-dma330; do
-    start "$it" "$it" "random=200 long=64"
-    finish
-    summaries "$it" >"$it.summaries"
+    boot "$it" "$it" "random=200 long=64"
 done
-echo "dmatest's tests, failures and KB/s: qemu-stock, qemu-dma330"
-join qemu-stock.summaries qemu-dma330.summaries |
-    awk '{printf "%-18s %6d %3d %7d %9d %3d %7d\n", $1, $2, $3, $4, $5, $6, $7}'
+compare qemu-stock qemu-dma330
 check qemu-stock 1664
 check qemu-dma330 1664
 
 if [ "$migrations" -gt 0 ]; then
     tests="random=$((500 * migrations))"
     moved=0
+    rm -f migrated.log
     start qemu-dma330 migrated "$tests"
-    until grep -qs '^init: random begins' migrated.log || ! kill -0 "$pid"; do
-        sleep 0.1
+    while runs && ! grep -qs '^init: random begins' migrated.log; do
+        :
     done
-    while [ "$moved" -lt "$migrations" ] && kill -0 "$pid"; do
-        sleep 0.2
+    while [ "$moved" -lt "$migrations" ] && runs; do
         move migrated "$tests"
     done
-    finish
+    [ -z "$pid" ] || finish
     check migrated $((4000 * migrations))
     echo "migrated: $moved of $migrations migrations"
     [ "$moved" -eq "$migrations" ] || failed=$((failed + 1))
+fi
+
+if [ -n "$exynos" ]; then
+    board=exynos
+    for it in stock dma330; do
+        boot "qemu-$it" "exynos-$it" "random=100"
+    done
+    compare exynos-stock exynos-dma330
+    for it in exynos-stock exynos-dma330; do
+        # with QEMU's own, the serial port takes two channels for itself
+        channels=24
+        [ "$it" = exynos-dma330 ] || channels=$(grep -c '^dmatest: Added 1 threads' "$it.log") || true
+        check "$it" $((100 * channels))
+        tr -d '\r' <"$it.log" >"$it.text"
+        grep -qx 'init: 2 processors' "$it.text" || {
+            echo "$it: Linux doesn't use two processors"
+            failed=$((failed + 1))
+        }
+    done
+fi
+
+if [ -n "$replay" ]; then
+    board=zynq
+    for it in record replay; do
+        boot qemu-dma330 "$it" "random=50 long=16" -icount "shift=4,rr=$it,rrfile=replay.bin" -global pl330.step-ns=20
+        check "$it" 416
+    done
+    if cmp record.log replay.log; then
+        echo "replay: the consoles are the same"
+    else
+        failed=$((failed + 1))
+    fi
 fi
 [ "$failed" -eq 0 ]

@@ -1,5 +1,6 @@
 /*
- * The PL330 of QEMU's Zynq and Exynos4 machines, by the library dma330.h.
+ * The PL330 of QEMU's Zynq and Exynos4 machines, by the library dma330.h. This
+ * file is for QEMU 7.2 and QEMU 10.0.
  *
  * It takes the place of hw/dma/pl330.c, with the same type name, properties,
  * memory link, register window and interrupt lines. docs/QEMU.md lists what it
@@ -21,6 +22,29 @@
 #define TYPE_PL330 "pl330"
 OBJECT_DECLARE_SIMPLE_TYPE(PL330State, PL330)
 
+/*
+ * If step-ns is 0, channels take turns of this many steps in a slice of this
+ * time, and then pause, so that a processor can take the big lock.
+ */
+#define PL330_STEPS 1024
+#define PL330_SLICE_NS 200000
+#define PL330_PAUSE_NS 50000
+
+/* If step-ns isn't 0, a slice is one turn of each channel of this many steps. */
+#define PL330_TIMED_STEPS 16
+
+/* The bits 3:0 of a thread's status register */
+#define PL330_STOPPED 0
+#define PL330_WAITING 4
+#define PL330_FAULTING 15
+
+/* RAM and ROM that is lent to the library; each owner is kept by a reference */
+typedef struct PL330Lent {
+    size_t count;
+    dma330_region regions[DMA330_MAX_REGIONS];
+    MemoryRegion *owners[DMA330_MAX_REGIONS];
+} PL330Lent;
+
 struct PL330State {
     SysBusDevice parent_obj;
 
@@ -28,79 +52,135 @@ struct PL330State {
     qemu_irq irq_abort, irq[32];
     QEMUTimer *timer;
     dma330_device_config config;
+    uint32_t step_ns;
     uint32_t ignored[10];
+    bool has_request;
     dma330_device device;
     uint8_t status[1 + DMA330_MAX_CHANNELS];
-    size_t save_len;
+    uint32_t next_channel;
+    uint64_t save_len;
     uint8_t save[DMA330_MAX_DEVICE_SAVE];
 
     MemoryRegion *memory;
     AddressSpace as;
     MemoryListener listener;
-    dma330_region regions[DMA330_MAX_REGIONS];
-    size_t nr_regions;
+    PL330Lent lent, next;
 };
 
-static uint64_t pl330_read(void *opaque, hwaddr offset, unsigned size)
+static uint32_t pl330_register(PL330State *s, uint32_t offset)
 {
-    PL330State *s = opaque;
     uint32_t value = 0;
 
     dma330_device_read(&s->device, offset, &value);
     return value;
 }
 
-/* Logs which threads left status 0 (stopped) or came to 15 (faulting). */
-static void pl330_log(PL330State *s)
+/* Returns the status of thread n; thread -1 is the manager. */
+static uint8_t pl330_status(PL330State *s, int n)
 {
-    for (int n = -1; n < (int)s->config.channels; n++) { /* -1: the manager */
-        hwaddr csr = n < 0 ? 0x000 : 0x100 + 8 * n, pc = csr + 4;
-        hwaddr ftr = n < 0 ? 0x038 : 0x040 + 4 * n;
-        uint8_t before = s->status[1 + n], now = pl330_read(s, csr, 4) & 15;
+    return pl330_register(s, n < 0 ? 0x000 : 0x100 + 8 * n) & 15;
+}
 
-        s->status[1 + n] = now;
-        if (before == 0 && now != 0 &&
-            trace_event_get_state_backends(TRACE_PL330_DMAGO)) {
-            qemu_log("pl330: thread %d runs from 0x%08" PRIx64 " on\n", n,
-                     pl330_read(s, pc, 4));
+/* Reports each thread that left the status `stopped` or came to `faulting`. */
+static void pl330_report(PL330State *s)
+{
+    for (int n = -1; n < (int)s->config.channels; n++) {
+        uint8_t before = s->status[1 + n], now = pl330_status(s, n);
+        uint32_t pc, ftr;
+
+        if (now == before) {
+            continue;
         }
-        if (before != 15 && now == 15) {
+        s->status[1 + n] = now;
+        pc = pl330_register(s, n < 0 ? 0x004 : 0x104 + 8 * n);
+        ftr = pl330_register(s, n < 0 ? 0x038 : 0x040 + 4 * n);
+        if (before == PL330_STOPPED) {
+            trace_dma330_start(n, pc);
+        }
+        if (now == PL330_FAULTING) {
+            trace_dma330_fault(n, pc, ftr);
             qemu_log_mask(LOG_GUEST_ERROR, "pl330: thread %d fails at 0x%08"
-                          PRIx64 ", fault 0x%08" PRIx64 "\n", n,
-                          pl330_read(s, pc, 4), pl330_read(s, ftr, 4));
+                          PRIx32 ", fault 0x%08" PRIx32 "\n", n, pc, ftr);
         }
     }
 }
 
-/* Follows each write, reset and restore, and each round of turns. */
-static void pl330_update(PL330State *s)
+static void pl330_set_irqs(PL330State *s)
 {
-    uint32_t irqs = 0, irq_abort = 0, can_step = 0;
+    uint32_t irqs = 0, irq_abort = 0;
 
-    pl330_log(s);
     dma330_device_irqs(&s->device, &irqs);
     dma330_device_irq_abort(&s->device, &irq_abort);
+    trace_dma330_irqs(irqs, irq_abort);
     qemu_set_irq(s->irq_abort, irq_abort);
     for (uint32_t n = 0; n < s->config.events; n++) {
         qemu_set_irq(s->irq[n], extract32(irqs, n, 1));
     }
-    dma330_device_can_step(&s->device, &can_step);
-    if (can_step) {
-        timer_mod(s->timer, qemu_clock_get_ns(QEMU_CLOCK_VIRTUAL) + 1);
-    } else {
-        timer_del(s->timer);
+}
+
+/* Returns how many channels execute instructions; one that waits does not. */
+static uint32_t pl330_running(PL330State *s)
+{
+    uint32_t running = 0;
+
+    for (uint32_t n = 0; n < s->config.channels; n++) {
+        uint8_t now = pl330_status(s, n);
+
+        running += now != PL330_STOPPED && now != PL330_WAITING &&
+                   now != PL330_FAULTING;
     }
+    /* (a waiting channel whose event was just set runs in the next slice) */
+    return MAX(running, 1);
+}
+
+/*
+ * Arms the timer for the next slice, unless it is armed already, or stops it if
+ * no channel can step. If step-ns isn't 0, it takes the place of the pause, for
+ * each step that the slice may have.
+ */
+static void pl330_arm(PL330State *s, int64_t pause)
+{
+    uint32_t can_step = 0;
+
+    dma330_device_can_step(&s->device, &can_step);
+    if (!can_step) {
+        timer_del(s->timer);
+    } else if (!timer_pending(s->timer)) {
+        if (s->step_ns) {
+            pause = (int64_t)s->step_ns * PL330_TIMED_STEPS * pl330_running(s);
+        }
+        timer_mod(s->timer, qemu_clock_get_ns(QEMU_CLOCK_VIRTUAL) + pause);
+    }
+}
+
+/* The regions are built so that the library never refuses them. */
+static void pl330_check(int32_t code)
+{
+    if (code != DMA330_OK) {
+        warn_report_once("pl330: the library returned %s",
+                         dma330_code_name(code));
+    }
+}
+
+static uint64_t pl330_read(void *opaque, hwaddr offset, unsigned size)
+{
+    uint32_t value = pl330_register(opaque, offset);
+
+    trace_dma330_read(offset, value);
+    return value;
 }
 
 static void pl330_write(void *opaque, hwaddr offset, uint64_t value,
                         unsigned size)
 {
     PL330State *s = opaque;
-    int32_t code = dma330_device_write(&s->device, offset, value, s->regions,
-                                       s->nr_regions);
 
-    assert(code == DMA330_OK);
-    pl330_update(s);
+    trace_dma330_write(offset, value);
+    pl330_check(dma330_device_write(&s->device, offset, value, s->lent.regions,
+                                    s->lent.count));
+    pl330_report(s);
+    pl330_set_irqs(s);
+    pl330_arm(s, 1);
 }
 
 static const MemoryRegionOps pl330_ops = {
@@ -113,17 +193,16 @@ static const MemoryRegionOps pl330_ops = {
 /*
  * Drops the code translated from the bytes that a turn wrote, and sets them
  * dirty for migration and displays: the end of a device's mapping does both.
- * memory_region_set_dirty() would keep the code. `written` may have gaps with
- * ROM, registers and nothing, since a turn with an interrupt writes to two
- * places; mapping those would write to them. So only the RAM that was lent to
- * the turn is mapped, which address_space_map() never refuses.
+ * memory_region_set_dirty() would keep the code. Only RAM that was lent is
+ * mapped, which address_space_map() never refuses: mapping a register would
+ * write to it.
  */
 static void pl330_mark_written(PL330State *s, dma330_segment written)
 {
     hwaddr end = (hwaddr)written.addr + written.len;
 
-    for (size_t n = 0; n < s->nr_regions; n++) {
-        const dma330_region *it = &s->regions[n];
+    for (size_t n = 0; n < s->lent.count; n++) {
+        const dma330_region *it = &s->lent.regions[n];
         hwaddr addr = MAX(written.addr, it->addr), len;
         hwaddr stop = MIN(end, (hwaddr)it->addr + it->len);
 
@@ -141,76 +220,139 @@ static void pl330_mark_written(PL330State *s, dma330_segment written)
     }
 }
 
-/*
- * Lets each channel execute up to 4096 instructions. A timer of the virtual
- * clock calls it: a bottom half would go on while the machine is stopped.
- */
-static void pl330_run(void *opaque)
+/* Lets the next channel take a turn. Returns whether any can step after it. */
+static bool pl330_turn(PL330State *s)
 {
-    PL330State *s = opaque;
-    dma330_device_turn turn;
+    uint32_t n = s->next_channel;
+    uint32_t most = s->step_ns ? PL330_TIMED_STEPS : PL330_STEPS;
+    dma330_device_turn turn = { 0 };
 
-    for (uint32_t n = 0; n < s->config.channels; n++) {
-        int32_t code = dma330_device_step(&s->device, n, 4096, s->regions,
-                                          s->nr_regions, &turn);
-
-        assert(code == DMA330_OK);
+    pl330_check(dma330_device_step(&s->device, n, most, s->lent.regions,
+                                   s->lent.count, &turn));
+    if (turn.written.len) {
+        trace_dma330_store(n, turn.written.addr, turn.written.len);
         pl330_mark_written(s, turn.written);
     }
-    pl330_update(s);
-}
-
-static void pl330_reset(DeviceState *dev)
-{
-    dma330_device_reset(&PL330(dev)->device);
-    pl330_update(PL330(dev));
-}
-
-static void pl330_begin_regions(MemoryListener *l)
-{
-    container_of(l, PL330State, listener)->nr_regions = 0;
+    if (turn.lines_changed) {
+        pl330_set_irqs(s);
+    }
+    s->next_channel = (n + 1) % s->config.channels;
+    return turn.can_step;
 }
 
 /*
- * Lends a section of RAM or ROM below 4 GiB - 1. Sections come by rising
- * address. Bytes at two of the guest's addresses are lent at the lower one.
+ * Runs the channels for a slice. A timer of the virtual clock calls it: a
+ * bottom half would go on while the machine is stopped. With -icount, and if
+ * step-ns isn't 0, each channel takes one turn, whatever time that takes: the
+ * virtual clock stands still meanwhile, and a replay does the same.
  */
-static void pl330_add_region(MemoryListener *l, MemoryRegionSection *section)
+static void pl330_slice(void *opaque)
+{
+    PL330State *s = opaque;
+    int64_t began = qemu_clock_get_ns(QEMU_CLOCK_VIRTUAL), took;
+    uint32_t turns = 0;
+    bool can_step, is_over;
+
+    do {
+        can_step = pl330_turn(s);
+        turns++;
+        took = qemu_clock_get_ns(QEMU_CLOCK_VIRTUAL) - began;
+        is_over = s->step_ns || took == 0 ? turns >= s->config.channels
+                                          : took >= PL330_SLICE_NS;
+    } while (can_step && !is_over);
+    if (!can_step) {
+        s->next_channel = 0; /* (so that a replay needn't know it) */
+    }
+    pl330_report(s);
+    pl330_arm(s, PL330_PAUSE_NS);
+}
+
+static void pl330_begin(MemoryListener *l)
+{
+    container_of(l, PL330State, listener)->next.count = 0;
+}
+
+/* Lends the bytes of a region that aren't lent at a lower address already. */
+static void pl330_lend(PL330Lent *lent, MemoryRegion *mr, dma330_region it)
+{
+    while (it.len > 0) {
+        uintptr_t at = (uintptr_t)it.bytes;
+        size_t len = it.len;
+        bool is_lent = false;
+
+        for (size_t n = 0; n < lent->count; n++) {
+            uintptr_t from = (uintptr_t)lent->regions[n].bytes;
+
+            if (from > at) {
+                len = MIN(len, from - at);
+            } else if (at - from < lent->regions[n].len) {
+                len = MIN(len, lent->regions[n].len - (at - from));
+                is_lent = true;
+            }
+        }
+        if (!is_lent && lent->count == DMA330_MAX_REGIONS) {
+            warn_report_once("pl330: no DMA to memory from 0x%08" PRIx32 " on",
+                             it.addr);
+            return;
+        }
+        if (!is_lent) {
+            memory_region_ref(mr);
+            trace_dma330_lend(it.addr, len, it.read_only);
+            lent->owners[lent->count] = mr;
+            lent->regions[lent->count] = it;
+            lent->regions[lent->count++].len = len;
+        }
+        it.addr += len;
+        it.bytes += len;
+        it.len -= len;
+    }
+}
+
+/* Lends RAM and ROM below 4 GiB. Sections come by rising address. */
+static void pl330_add(MemoryListener *l, MemoryRegionSection *section)
 {
     PL330State *s = container_of(l, PL330State, listener);
     hwaddr addr = section->offset_within_address_space;
     MemoryRegion *mr = section->mr;
+    bool is_ram = memory_region_is_ram(mr) && !memory_region_is_ram_device(mr);
     dma330_region it;
-    size_t n;
 
-    if (!memory_access_is_direct(mr, false) || addr >= UINT32_MAX) {
+    if ((!is_ram && !memory_region_is_romd(mr)) || addr > UINT32_MAX) {
         return;
     }
     it.addr = addr;
     it.bytes = memory_region_get_ram_ptr(mr) + section->offset_within_region;
-    it.len = MIN(int128_get64(section->size), UINT32_MAX - addr);
-    it.read_only = section->readonly || !memory_access_is_direct(mr, true);
-    for (n = 0; n < s->nr_regions; n++) {
-        if (it.bytes < s->regions[n].bytes + s->regions[n].len &&
-            s->regions[n].bytes < it.bytes + it.len) {
-            return;
-        }
+    it.len = MIN(int128_get64(section->size), UINT32_MAX - addr + 1);
+    it.read_only = section->readonly || !is_ram;
+    pl330_lend(&s->next, mr, it);
+}
+
+/* Takes the regions lent since begin, and drops the references to the old. */
+static void pl330_commit(MemoryListener *l)
+{
+    PL330State *s = container_of(l, PL330State, listener);
+
+    for (size_t n = 0; n < s->lent.count; n++) {
+        memory_region_unref(s->lent.owners[n]);
     }
-    if (n < DMA330_MAX_REGIONS) {
-        s->regions[s->nr_regions++] = it;
-    } else {
-        warn_report_once("pl330: no DMA to memory from 0x%08x on", it.addr);
-    }
+    s->lent = s->next;
 }
 
 static int pl330_pre_save(void *opaque)
 {
     PL330State *s = opaque;
+    size_t len = 0;
+    int32_t code = dma330_device_save(&s->device, s->save, sizeof(s->save),
+                                      &len);
 
-    return dma330_device_save(&s->device, s->save, sizeof(s->save),
-                              &s->save_len);
+    s->save_len = len;
+    return code == DMA330_OK ? 0 : -EINVAL;
 }
 
+/*
+ * Sets no line: what the lines lead to migrates with its own state, and the
+ * timer came with this one.
+ */
 static int pl330_post_load(void *opaque, int version_id)
 {
     PL330State *s = opaque;
@@ -220,41 +362,76 @@ static int pl330_post_load(void *opaque, int version_id)
         error_report("pl330: the state is damaged, or another device's");
         return -EINVAL;
     }
-    pl330_update(s);
+    for (int n = -1; n < (int)s->config.channels; n++) {
+        s->status[1 + n] = pl330_status(s, n);
+    }
+    pl330_arm(s, 1);
     return 0;
 }
 
 static const VMStateDescription vmstate_pl330 = {
     .name = "dma330",
-    .version_id = 1,
-    .minimum_version_id = 1,
+    .version_id = 2,
+    .minimum_version_id = 2,
     .pre_save = pl330_pre_save,
     .post_load = pl330_post_load,
-    .fields = (VMStateField[]) {
+    .fields = (const VMStateField[]) {
         VMSTATE_UINT64(save_len, PL330State),
         VMSTATE_BUFFER(save, PL330State),
+        VMSTATE_TIMER_PTR(timer, PL330State),
         VMSTATE_END_OF_LIST()
     }
 };
 
-/* A peripheral's request does nothing: the library has no peripherals. */
-static void pl330_peripheral(void *opaque, int n, int level)
+static void pl330_reset_enter(Object *obj, ResetType type)
 {
+    PL330State *s = PL330(obj);
+
+    dma330_device_reset(&s->device);
+    memset(s->status, PL330_STOPPED, sizeof(s->status));
+    s->next_channel = 0;
+    timer_del(s->timer);
+}
+
+#if QEMU_VERSION_MAJOR < 10
+static void pl330_reset_hold(Object *obj)
+#else
+static void pl330_reset_hold(Object *obj, ResetType type)
+#endif
+{
+    pl330_set_irqs(PL330(obj));
+}
+
+/* A peripheral's request does nothing: the library has no peripherals. */
+static void pl330_request(void *opaque, int n, int level)
+{
+    PL330State *s = opaque;
+
+    if (level && !s->has_request) {
+        s->has_request = true;
+        qemu_log_mask(LOG_UNIMP, "pl330: requests of peripherals do nothing; "
+                      "the first is of peripheral %d\n", n);
+    }
 }
 
 static void pl330_realize(DeviceState *dev, Error **errp)
 {
     PL330State *s = PL330(dev);
     SysBusDevice *sbd = SYS_BUS_DEVICE(dev);
+    int32_t code;
 
     if (!s->memory) {
         error_setg(errp, "'memory' link is not set");
         return;
     }
     s->config.revision = 2; /* r1p1 */
-    if (dma330_device_open(&s->device, &s->config) != DMA330_OK) {
+    code = dma330_device_open(&s->device, &s->config);
+    if (code == DMA330_BAD_CONFIG) {
         error_setg(errp, "no PL330 has these num_chnls, num_events, data_width "
                    "and data_buffer_dep");
+        return;
+    } else if (code != DMA330_OK) {
+        error_setg(errp, "the library returned %s", dma330_code_name(code));
         return;
     }
     memory_region_init_io(&s->iomem, OBJECT(s), &pl330_ops, s, "pl330", 0x1000);
@@ -263,26 +440,46 @@ static void pl330_realize(DeviceState *dev, Error **errp)
     for (uint32_t n = 0; n < s->config.events; n++) {
         sysbus_init_irq(sbd, &s->irq[n]);
     }
-    qdev_init_gpio_in(dev, pl330_peripheral, 32);
-    s->timer = timer_new_ns(QEMU_CLOCK_VIRTUAL, pl330_run, s);
+    qdev_init_gpio_in(dev, pl330_request, 32);
+    s->timer = timer_new_ns(QEMU_CLOCK_VIRTUAL, pl330_slice, s);
     address_space_init(&s->as, s->memory, "pl330");
     s->listener = (MemoryListener) {
         .name = "pl330",
-        .begin = pl330_begin_regions,
-        .region_add = pl330_add_region, .region_nop = pl330_add_region,
+        .begin = pl330_begin,
+        .region_add = pl330_add,
+        .region_nop = pl330_add,
+        .commit = pl330_commit,
     };
     memory_listener_register(&s->listener, &s->as);
 }
 
+static void pl330_unrealize(DeviceState *dev)
+{
+    PL330State *s = PL330(dev);
+
+    timer_free(s->timer);
+    /* (begins and commits without regions, which drops all references) */
+    memory_listener_unregister(&s->listener);
+    address_space_destroy(&s->as);
+    dma330_device_close(&s->device);
+}
+
+#if QEMU_VERSION_MAJOR < 10
+#define PL330_CONST
+#else
+#define PL330_CONST const
+#endif
+
 #define PL330_IGNORED(n, name, value) \
     DEFINE_PROP_UINT32(name, PL330State, ignored[n], value)
 
-static Property pl330_properties[] = {
+static PL330_CONST Property pl330_properties[] = {
     DEFINE_PROP_UINT32("num_chnls", PL330State, config.channels, 8),
     DEFINE_PROP_UINT32("num_events", PL330State, config.events, 16),
     DEFINE_PROP_UINT32("mgr_ns_at_rst", PL330State, config.nonsecure, 0),
     DEFINE_PROP_UINT32("data_width", PL330State, config.bus, 64),
     DEFINE_PROP_UINT32("data_buffer_dep", PL330State, config.lines, 256),
+    DEFINE_PROP_UINT32("step-ns", PL330State, step_ns, 0),
     PL330_IGNORED(0, "num_periph_req", 4), PL330_IGNORED(1, "i-cache_len", 4),
     PL330_IGNORED(2, "num_i-cache_lines", 8), PL330_IGNORED(3, "wr_cap", 8),
     PL330_IGNORED(4, "wr_q_dep", 16), PL330_IGNORED(5, "rd_cap", 8),
@@ -290,16 +487,21 @@ static Property pl330_properties[] = {
     PL330_IGNORED(8, "INS", 0), PL330_IGNORED(9, "PNS", 0),
     DEFINE_PROP_LINK("memory", PL330State, memory, TYPE_MEMORY_REGION,
                      MemoryRegion *),
-    DEFINE_PROP_END_OF_LIST(),
+#ifdef DEFINE_PROP_END_OF_LIST
+    DEFINE_PROP_END_OF_LIST(), /* until QEMU 9.2 */
+#endif
 };
 
 static void pl330_class_init(ObjectClass *klass, void *data)
 {
     DeviceClass *dc = DEVICE_CLASS(klass);
+    ResettableClass *rc = RESETTABLE_CLASS(klass);
 
     dc->realize = pl330_realize;
-    dc->reset = pl330_reset;
+    dc->unrealize = pl330_unrealize;
     dc->vmsd = &vmstate_pl330;
+    rc->phases.enter = pl330_reset_enter;
+    rc->phases.hold = pl330_reset_hold;
     device_class_set_props(dc, pl330_properties);
 }
 

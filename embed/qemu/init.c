@@ -1,5 +1,8 @@
-/* The guest's only program: runs Linux's dmatest twice, prints how long it took, and ends the machine. The kernel's
- * command line has how many copies each test makes on a channel: random=COPIES long=COPIES. */
+/* The guest's only program: runs Linux's dmatest twice, prints how long it took, and ends the machine: switches it off
+ * if the kernel's command line has off=1, else resets it. The command line has how many copies each test makes on a
+ * channel: random=COPIES long=COPIES. While a test runs, it prints a line every five seconds, so that a silent console
+ * means that the machine hangs. All its lines go through the kernel's log: a line that goes straight to the console
+ * could come between the parts of one of the kernel's. */
 #include <fcntl.h>
 #include <stdio.h>
 #include <stdlib.h>
@@ -31,16 +34,22 @@ static void set(const char *name, const char *value)
     close(file);
 }
 
-/* Returns whether a test still runs. The first read after its end releases the channels. */
+/* Returns whether a test still runs. A read says that none does also if no thread of the test has begun, so ten reads
+ * must agree. The first read after its end releases the channels. */
 static int runs(void)
 {
-    char answer = 'N';
-    int file = open_parameter("run", O_RDONLY);
+    for (int reads = 0; reads < 10; reads++) {
+        char answer = 'N';
+        int file = open_parameter("run", O_RDONLY);
 
-    if (read(file, &answer, 1) < 0)
-        perror("run");
-    close(file);
-    return answer == 'Y';
+        if (read(file, &answer, 1) < 0)
+            perror("run");
+        close(file);
+        if (answer == 'Y')
+            return 1;
+        usleep(5000);
+    }
+    return 0;
 }
 
 static double seconds(void)
@@ -55,7 +64,7 @@ static double seconds(void)
 static void test(const char *name, const char *bytes, int whole, const char *channels)
 {
     const char *copies = getenv(name);
-    double began = seconds();
+    double began = seconds(), told = began;
 
     if (!copies || atoi(copies) == 0)
         return;
@@ -67,19 +76,27 @@ static void test(const char *name, const char *bytes, int whole, const char *cha
     set("timeout", "30000");
     set("channel", "\n");
     set("run", "1");
-    do
+    usleep(5000);
+    while (runs()) {
         usleep(5000);
-    while (runs());
+        if (seconds() >= told + 5) {
+            told = seconds();
+            printf("init: %s runs\n", name);
+        }
+    }
     printf("init: %s took %.2f s\n", name, seconds() - began);
 }
 
 int main(void)
 {
+    if (!freopen("/dev/kmsg", "w", stdout))
+        return 1;
     setvbuf(stdout, NULL, _IOLBF, 0);
     mount("sysfs", "/sys", "sysfs", 0, NULL);
+    printf("init: %ld processors\n", sysconf(_SC_NPROCESSORS_ONLN));
     test("random", "16384", 0, "0");
     test("long", "1048576", 1, "1");
     printf("init: ends\n");
-    reboot(RB_AUTOBOOT);
+    reboot(getenv("off") ? RB_POWER_OFF : RB_AUTOBOOT);
     return 1;
 }

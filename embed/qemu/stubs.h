@@ -1,4 +1,5 @@
-/* The declarations of QEMU that dma330.c uses, with which ../check.sh compiles it without QEMU. */
+/* The declarations of QEMU 7.2, or of QEMU 10.0 if QEMU_VERSION_MAJOR is 10, that dma330.c uses, with which ../check.sh
+ * compiles it without QEMU. */
 #ifndef STUBS_H
 #define STUBS_H
 
@@ -8,6 +9,7 @@
 #include <stdbool.h>
 #include <stddef.h>
 #include <stdlib.h>
+#include <string.h>
 
 #define MIN(a, b) ((a) < (b) ? (a) : (b))
 #define MAX(a, b) ((a) > (b) ? (a) : (b))
@@ -22,8 +24,14 @@ typedef struct AddressSpace { int it; } AddressSpace;
 typedef struct MemoryRegion { int it; } MemoryRegion;
 typedef struct SysBusDevice { int it; } SysBusDevice;
 typedef struct DeviceState { SysBusDevice it; } DeviceState;
+typedef struct Object Object;
 typedef struct ObjectClass ObjectClass;
+#if QEMU_VERSION_MAJOR < 10
 typedef struct Property Property;
+#define DEFINE_PROP_END_OF_LIST() {NULL, 0, 0}
+#else
+typedef const struct Property Property;
+#endif
 
 typedef struct MemoryRegionOps {
     uint64_t (*read)(void *opaque, hwaddr offset, unsigned size);
@@ -43,6 +51,7 @@ struct MemoryListener {
     void (*begin)(MemoryListener *listener);
     void (*region_add)(MemoryListener *listener, MemoryRegionSection *section);
     void (*region_nop)(MemoryListener *listener, MemoryRegionSection *section);
+    void (*commit)(MemoryListener *listener);
 };
 typedef struct VMStateField { size_t offset, size; } VMStateField;
 typedef struct VMStateDescription {
@@ -55,16 +64,27 @@ typedef struct VMStateDescription {
 struct Property { const char *name; size_t offset; uint32_t value; };
 typedef struct DeviceClass {
     void (*realize)(DeviceState *dev, Error **errp);
-    void (*reset)(DeviceState *dev);
+    void (*unrealize)(DeviceState *dev);
     const VMStateDescription *vmsd;
 } DeviceClass;
+typedef enum ResetType { RESET_TYPE_COLD } ResetType;
+typedef struct ResettableClass {
+    struct {
+        void (*enter)(Object *obj, ResetType type);
+#if QEMU_VERSION_MAJOR < 10
+        void (*hold)(Object *obj);
+#else
+        void (*hold)(Object *obj, ResetType type);
+#endif
+    } phases;
+} ResettableClass;
 typedef struct TypeInfo {
     const char *name, *parent;
     size_t instance_size;
     void (*class_init)(ObjectClass *klass, void *data);
 } TypeInfo;
 
-enum { DEVICE_LITTLE_ENDIAN, QEMU_CLOCK_VIRTUAL, LOG_GUEST_ERROR, TRACE_PL330_DMAGO };
+enum { DEVICE_LITTLE_ENDIAN, QEMU_CLOCK_VIRTUAL, LOG_GUEST_ERROR, LOG_UNIMP };
 #define MEMTXATTRS_UNSPECIFIED 0
 #define TYPE_SYS_BUS_DEVICE "sys-bus-device"
 #define TYPE_MEMORY_REGION "memory-region"
@@ -72,32 +92,46 @@ enum { DEVICE_LITTLE_ENDIAN, QEMU_CLOCK_VIRTUAL, LOG_GUEST_ERROR, TRACE_PL330_DM
 #define DEFINE_TYPES(types) const TypeInfo *defined_types(void); const TypeInfo *defined_types(void) { return types; }
 #define SYS_BUS_DEVICE(dev) (&(dev)->it)
 #define DEVICE_CLASS(klass) ((DeviceClass *)(klass))
+#define RESETTABLE_CLASS(klass) ((ResettableClass *)(klass))
 #define OBJECT(it) ((void *)(it))
 #define VMSTATE_UINT64(field, Type) {offsetof(Type, field), sizeof ((Type *)0)->field}
 #define VMSTATE_BUFFER(field, Type) {offsetof(Type, field), sizeof ((Type *)0)->field}
+#define VMSTATE_TIMER_PTR(field, Type) {offsetof(Type, field), sizeof ((Type *)0)->field}
 #define VMSTATE_END_OF_LIST() {0, 0}
 #define DEFINE_PROP_UINT32(name, Type, field, value) {name, offsetof(Type, field), value}
 #define DEFINE_PROP_LINK(name, Type, field, type, pointer) {name, offsetof(Type, field), 0}
-#define DEFINE_PROP_END_OF_LIST() {NULL, 0, 0}
-#define qemu_log_mask(mask, ...) ((mask) == LOG_GUEST_ERROR ? qemu_log(__VA_ARGS__) : (void)0)
 
-__attribute__((format(printf, 1, 2))) void qemu_log(const char *format, ...);
+__attribute__((format(printf, 2, 3))) void qemu_log_mask(int mask, const char *format, ...);
 __attribute__((format(printf, 1, 2))) void error_report(const char *format, ...);
 __attribute__((format(printf, 1, 2))) void warn_report_once(const char *format, ...);
 __attribute__((format(printf, 2, 3))) void error_setg(Error **errp, const char *format, ...);
-bool trace_event_get_state_backends(int event);
+void trace_dma330_read(uint32_t offset, uint32_t value);
+void trace_dma330_write(uint32_t offset, uint32_t value);
+void trace_dma330_start(int thread, uint32_t pc);
+void trace_dma330_fault(int thread, uint32_t pc, uint32_t fault);
+void trace_dma330_store(uint32_t channel, uint32_t addr, uint32_t len);
+void trace_dma330_irqs(uint32_t irqs, uint32_t irq_abort);
+void trace_dma330_lend(uint32_t addr, uint32_t len, uint32_t read_only);
 void qemu_set_irq(qemu_irq irq, int level);
 QEMUTimer *timer_new_ns(int clock, void (*call)(void *opaque), void *opaque);
 void timer_mod(QEMUTimer *timer, int64_t at);
 void timer_del(QEMUTimer *timer);
+void timer_free(QEMUTimer *timer);
+bool timer_pending(QEMUTimer *timer);
 int64_t qemu_clock_get_ns(int clock);
 uint64_t int128_get64(Int128 value);
-bool memory_access_is_direct(MemoryRegion *mr, bool is_write);
+bool memory_region_is_ram(MemoryRegion *mr);
+bool memory_region_is_ram_device(MemoryRegion *mr);
+bool memory_region_is_romd(MemoryRegion *mr);
+void memory_region_ref(MemoryRegion *mr);
+void memory_region_unref(MemoryRegion *mr);
 void *memory_region_get_ram_ptr(MemoryRegion *mr);
 void memory_region_init_io(MemoryRegion *mr, void *owner, const MemoryRegionOps *ops, void *opaque, const char *name,
                            uint64_t size);
 void memory_listener_register(MemoryListener *listener, AddressSpace *as);
+void memory_listener_unregister(MemoryListener *listener);
 void address_space_init(AddressSpace *as, MemoryRegion *root, const char *name);
+void address_space_destroy(AddressSpace *as);
 void *address_space_map(AddressSpace *as, hwaddr addr, hwaddr *len, bool is_write, int attrs);
 void address_space_unmap(AddressSpace *as, void *bytes, hwaddr len, bool is_write, hwaddr written);
 void sysbus_init_mmio(SysBusDevice *dev, MemoryRegion *mr);

@@ -1,0 +1,97 @@
+#!/bin/sh
+# Runs guests that attack the PL330 on the two emulators that build.sh has built: ./attack.sh [--seeds N] [FOLDER]
+#
+# FOLDER is that of build.sh, the current one if none is given; its path has no spaces or colons. The guests are in
+# guests/; the random one runs with the seeds 1 to N, 4 if none is given, on qemu-stock only with seed 1. A run fails if
+# QEMU crashes or runs for more than a minute, if a check of the guest fails, or if the guest finds that DMA reaches a
+# register. Prints a line for each run, and last the numbers of those on qemu-dma330 that passed and failed. The status
+# is 0 if none failed. Runs on qemu-stock are only reported. The consoles are in FOLDER/attack/.
+set -eu
+here=$(cd "$(dirname "$0")" && pwd)
+# shellcheck source=common.sh
+. "$here/common.sh"
+
+usage="usage: attack.sh [--seeds N] [FOLDER]"
+seeds=4
+if [ "${1:-}" = --seeds ]; then
+    seeds=${2:-none}
+    shift
+    [ $# -eq 0 ] || shift
+fi
+case $seeds in
+    '' | *[!0-9]*) fail "$usage" ;;
+esac
+case ${1:-} in
+    -*) fail "$usage" ;;
+esac
+[ $# -le 1 ] || fail "$usage"
+enter "${1:-.}"
+mkdir -p attack
+
+# guest NAME SOURCE FLAG..: builds attack/NAME.elf
+guest() {
+    name=$1 source=$here/guests/$2
+    shift 2
+    arm-linux-gnueabihf-gcc -marm -mcpu=cortex-a9 -mfpu=vfpv3-d16 -O1 -ffreestanding -fno-pic -no-pie -static \
+        -nostdlib -nostartfiles -Wall -Wextra -Werror -Wno-array-bounds \
+        -Wl,-T,"$here/guests/guest.lds" -Wl,--build-id=none -Wl,--no-warn-rwx-segments "$@" \
+        -o "attack/$name.elf" "$source" -lgcc
+}
+
+# verdict STATUS CONSOLE: prints why a run failed; prints nothing if it passed
+verdict() {
+    case $1 in
+        0) ;;
+        124 | 137) echo "QEMU runs for more than a minute" && return ;;
+        *) echo "QEMU ends with status $1" && return ;;
+    esac
+    grep -q '^guest: ends with ' "$2" || { echo "the guest ends early" && return; }
+    sed -n 's/^guest: wrong: //p; s/^guest: \(DMA reaches\)/\1/p' "$2" | sort | uniq -c |
+        awk '{n = $1; $1 = ""; printf("%s%s%s", sep, substr($0, 2), n == 1 ? "" : " (" n " times)"); sep = "; "}'
+}
+
+# run EMULATOR GUEST OPTION..: runs a guest, and prints and counts the result
+run() {
+    emulator=$1 name=$2 console=attack/$1-$2.log status=0
+    shift 2
+    rm -f "$console"
+    # (-serial null is the second port)
+    timeout -k 5 60 "./$emulator" -M xilinx-zynq-a9 -m 256M -display none -no-reboot -monitor none \
+        -serial "file:$console" -serial null -kernel "attack/$name.elf" "$@" </dev/null >"$console.qemu" 2>&1 ||
+        status=$?
+    why=$(touch "$console" && tr -d '\r' <"$console" >"$console.text" && mv "$console.text" "$console" &&
+        verdict "$status" "$console")
+    said=$(sed -n 's/^guest: \([0-9].* in .*\|stopped .*\|.*longest.*\)/\1/p' "$console" | paste -s -d '|' |
+        sed 's/|/; /g')
+    if [ "$emulator" = qemu-dma330 ]; then
+        if [ -z "$why" ]; then passed=$((passed + 1)); else failed=$((failed + 1)); fi
+    fi
+    echo "$emulator $name: ${why:-passed}${said:+ ($said)}"
+}
+
+guest stores stores.c
+guest latency latency.c
+guest fixed latency.c -DFIXED=1
+guest clock clock.c -DSTEP_NS=100
+guest real-clock clock.c -DSTEP_NS=1000 -DEXACT=0
+guest fuzz-1 fuzz.c -DSEED=1
+n=0
+fuzz=
+while [ "$n" -lt "$seeds" ]; do
+    n=$((n + 1))
+    guest "fuzz-$n" fuzz.c -DSEED="$n"
+    fuzz="$fuzz fuzz-$n"
+done
+
+passed=0
+failed=0
+for it in stores latency fuzz-1; do
+    run qemu-stock "$it"
+done
+for it in stores latency fixed $fuzz; do
+    run qemu-dma330 "$it"
+done
+run qemu-dma330 clock -icount shift=0,sleep=off -global pl330.step-ns=100
+run qemu-dma330 real-clock -global pl330.step-ns=1000
+echo "$passed passed, $failed failed"
+[ "$failed" -eq 0 ]

@@ -1,0 +1,141 @@
+/* What the guests of this folder share. Each is a program without an operating system for QEMU's machine
+ * xilinx-zynq-a9, prints lines to the first serial port, and ends the machine by a reset. */
+#ifndef GUEST_H
+#define GUEST_H
+
+#include <stdint.h>
+
+#define REG(address) (*(volatile uint32_t *)(address))
+#define BYTE(address) (*(volatile uint8_t *)(address))
+#define UART 0xE0000000u
+#define SLCR 0xF8000000u
+#define TIMER 0xF8F00200u /* the global timer, 100 ticks a microsecond */
+#define DMA 0xF8003000u
+#define INTEN (DMA + 0x20)
+#define FTR(channel) (DMA + 0x40 + 4 * (channel))
+#define CSR(channel) (DMA + 0x100 + 8 * (channel))
+#define DAR(channel) (DMA + 0x404 + 0x20 * (channel))
+#define STOPPED 0
+#define WAITING 4
+#define FAULTING 15
+
+__asm__(".section .text.start\n.global _start\n_start:\n ldr sp, =stack_top\n bl main\n1: b 1b\n.text\n");
+
+static uint32_t wrong; /* how many checks failed */
+
+static inline void print(const char *text)
+{
+    while (*text)
+        REG(UART + 0x30) = *text++;
+}
+
+static inline void print_hex(uint32_t value)
+{
+    for (int at = 28; at >= 0; at -= 4)
+        REG(UART + 0x30) = "0123456789ABCDEF"[value >> at & 15];
+}
+
+static inline void print_number(uint32_t value)
+{
+    if (value > 9)
+        print_number(value / 10);
+    REG(UART + 0x30) = '0' + value % 10;
+}
+
+/* Prints a line and counts it, unless the check holds. */
+static inline void check(int holds, const char *text)
+{
+    if (holds)
+        return;
+    wrong++;
+    print("guest: wrong: ");
+    print(text);
+    print("\n");
+}
+
+static inline void begin(void)
+{
+    REG(UART) = 0x14; /* transmit and receive */
+    REG(TIMER + 8) = 1;
+}
+
+/* Prints the last line, and ends the machine. */
+__attribute__((noreturn)) static inline void end(void)
+{
+    REG(UART) = 0x14;
+    print("guest: ends with ");
+    print_number(wrong);
+    print(" wrong\n");
+    REG(SLCR + 8) = 0xDF0D;
+    REG(SLCR + 0x200) = 1;
+    for (;;)
+        ;
+}
+
+/* ---- programs of the DMA-330 ---- */
+
+enum { SAR = 0, CCR = 1, DAR_ = 2 };
+enum { DMAEND = 0x00, DMALD = 0x04, DMAST = 0x08, DMALP_0 = 0x20, DMALP_1 = 0x22, DMASEV = 0x34, DMAWFE = 0x36,
+       DMALPEND_0 = 0x38, DMALPEND_1 = 0x3C };
+
+/* CCR for bursts of `beats` beats of 1 << size bytes; source and destination rise if their flag is 1. */
+#define CONTROL(size, beats, src_rises, dst_rises) \
+    ((src_rises) | (size) << 1 | ((beats) - 1) << 4 | (dst_rises) << 14 | (size) << 15 | ((beats) - 1) << 18)
+
+/* Appends one byte, two bytes, or a DMAMOV to a program. */
+static inline uint8_t *op(uint8_t *at, uint8_t byte)
+{
+    *at = byte;
+    return at + 1;
+}
+
+static inline uint8_t *op2(uint8_t *at, uint8_t byte, uint8_t operand)
+{
+    return op(op(at, byte), operand);
+}
+
+static inline uint8_t *move(uint8_t *at, uint8_t to, uint32_t value)
+{
+    at = op2(at, 0xBC, to);
+    for (int shift = 0; shift < 32; shift += 8)
+        at = op(at, value >> shift);
+    return at;
+}
+
+/* Starts a channel by a DMAGO of the manager. */
+static inline void go(uint32_t channel, uint32_t program)
+{
+    REG(DMA + 0xD08) = 0xA0u << 16 | channel << 24;
+    REG(DMA + 0xD0C) = program;
+    REG(DMA + 0xD04) = 0;
+}
+
+/* Stops a channel by a DMAKILL. */
+static inline void stop(uint32_t channel)
+{
+    REG(DMA + 0xD08) = 1u << 16 | 1 | channel << 8;
+    REG(DMA + 0xD0C) = 0;
+    REG(DMA + 0xD04) = 0;
+}
+
+/* Stops the manager by a DMAKILL, so that one that is faulting executes DMAGO again. */
+static inline void stop_manager(void)
+{
+    REG(DMA + 0xD08) = 1u << 16;
+    REG(DMA + 0xD0C) = 0;
+    REG(DMA + 0xD04) = 0;
+}
+
+static inline uint32_t status(uint32_t channel)
+{
+    return REG(CSR(channel)) & 15;
+}
+
+/* Waits until a channel is stopped or faulting; reads its status at most this many times. */
+static inline void wait_for(uint32_t channel, uint32_t reads)
+{
+    while (reads-- && status(channel) != STOPPED && status(channel) != FAULTING)
+        ;
+}
+
+#endif

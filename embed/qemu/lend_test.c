@@ -1,0 +1,109 @@
+/* Tests which regions dma330.c lends: a part of RAM that the guest sees at two addresses is lent at the lower one only,
+ * the rest of both sections is lent, and each reference to an owner that was taken is dropped. ../check.sh compiles it
+ * with stubs in place of QEMU's headers; the functions that it doesn't define are never called. */
+#include "dma330.c"
+#include <stdio.h>
+
+static uint8_t ram[0x1000];
+static int owners; /* references that are held */
+
+bool memory_region_is_ram(MemoryRegion *mr)
+{
+    return mr->it == 0;
+}
+
+bool memory_region_is_ram_device(MemoryRegion *mr)
+{
+    return false;
+}
+
+bool memory_region_is_romd(MemoryRegion *mr)
+{
+    return mr->it == 1;
+}
+
+void memory_region_ref(MemoryRegion *mr)
+{
+    owners++;
+}
+
+void memory_region_unref(MemoryRegion *mr)
+{
+    owners--;
+}
+
+void *memory_region_get_ram_ptr(MemoryRegion *mr)
+{
+    return ram;
+}
+
+uint64_t int128_get64(Int128 value)
+{
+    return value;
+}
+
+void warn_report_once(const char *format, ...)
+{
+}
+
+void trace_dma330_lend(uint32_t addr, uint32_t len, uint32_t read_only)
+{
+}
+
+static int failed;
+
+/* Begins, adds these sections, commits, and compares what is lent then: address, offset in RAM, length, read-only. */
+static void test(const char *name, MemoryRegionSection *sections, size_t count, const uint32_t (*wanted)[4],
+                 size_t lent)
+{
+    static PL330State s;
+    size_t n;
+
+    pl330_begin(&s.listener);
+    for (n = 0; n < count; n++)
+        pl330_add(&s.listener, &sections[n]);
+    pl330_commit(&s.listener);
+    for (n = 0; n < s.lent.count && n < lent; n++) {
+        const dma330_region *it = &s.lent.regions[n];
+
+        if (it->addr != wanted[n][0] || it->bytes != ram + wanted[n][1] || it->len != wanted[n][2] ||
+            it->read_only != wanted[n][3])
+            break;
+    }
+    if (n != lent || s.lent.count != lent || owners != (int)lent) {
+        printf("%s: %zu regions and %d references, the first wrong one is %zu\n", name, s.lent.count, owners, n);
+        failed = 1;
+    }
+}
+
+int main(void)
+{
+    static MemoryRegion mem = {0}, rom = {1}, regs = {2};
+    MemoryRegionSection apart[] = {{0x100, &mem, 0, 0x1000, false}, {0x100, &mem, 0x100, 0x8000, true},
+                                   {0x100, &regs, 0, 0x9000, false}, {0x80, &rom, 0x200, 0xA000, false}};
+    MemoryRegionSection same[] = {{0x100, &mem, 0, 0x1000, false}, {0x100, &mem, 0, 0x8000, false}};
+    MemoryRegionSection tail[] = {{0x100, &mem, 0, 0x1000, false}, {0x100, &mem, 0x80, 0x8000, false}};
+    MemoryRegionSection around[] = {{0x40, &mem, 0x80, 0x1000, false}, {0x40, &mem, 0x140, 0x2000, true},
+                                    {0x200, &mem, 0, 0x8000, false}};
+    MemoryRegionSection top[] = {{0x1000, &mem, 0, 0xFFFFF000, false}, {0x1000, &mem, 0, 0x100000000, false}};
+    MemoryRegionSection many[DMA330_MAX_REGIONS + 8];
+    uint32_t many_wanted[DMA330_MAX_REGIONS][4];
+
+    for (uint32_t n = 0; n < DMA330_MAX_REGIONS + 8; n++) {
+        many[n] = (MemoryRegionSection){8, &mem, 8 * n, 0x1000 * n, false};
+        if (n < DMA330_MAX_REGIONS)
+            memcpy(many_wanted[n], (uint32_t[4]){0x1000 * n, 8 * n, 8, 0}, sizeof many_wanted[n]);
+    }
+    test("apart", apart, 4,
+         (const uint32_t[][4]){{0x1000, 0, 0x100, 0}, {0x8000, 0x100, 0x100, 1}, {0xA000, 0x200, 0x80, 1}}, 3);
+    test("the same twice", same, 2, (const uint32_t[][4]){{0x1000, 0, 0x100, 0}}, 1);
+    test("a tail", tail, 2, (const uint32_t[][4]){{0x1000, 0, 0x100, 0}, {0x8080, 0x100, 0x80, 0}}, 2);
+    test("around two", around, 3,
+         (const uint32_t[][4]){{0x1000, 0x80, 0x40, 0}, {0x2000, 0x140, 0x40, 1}, {0x8000, 0, 0x80, 0},
+                               {0x80C0, 0xC0, 0x80, 0}, {0x8180, 0x180, 0x80, 0}}, 5);
+    test("the top", top, 2, (const uint32_t[][4]){{0xFFFFF000, 0, 0x1000, 0}}, 1);
+    test("more than fit", many, DMA330_MAX_REGIONS + 8, (const uint32_t(*)[4])many_wanted, DMA330_MAX_REGIONS);
+    test("none", NULL, 0, NULL, 0);
+    printf(failed ? "failed\n" : "passed\n");
+    return failed;
+}
