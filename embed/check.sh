@@ -1,6 +1,7 @@
 #!/bin/sh
 # Builds and runs the tests of the library for C and Rust, and adds up their counts. `make check` calls it with the
 # compilers (CC, CXX, CARGO) and the archive (LIB). If a compiler is missing, its part is left out, and a line says so.
+# QEMU_FOLDER may name a folder of qemu/build.sh: then the device for QEMU is also compiled with the headers in it.
 set -u
 cd "$(dirname "$0")" || exit 2
 out=out/check
@@ -182,13 +183,29 @@ staged() {
         grep -qx prefix=/opt/dma330 "$out/staged/opt/dma330/lib/pkgconfig/dma330.pc"
 }
 
-# qemu_device: succeeds if the device for QEMU compiles without a warning, with stubs in place of QEMU's headers
-qemu_device() {
+# qemu_stubs MAJOR: succeeds if the device for QEMU of this version compiles without a warning, with stubs in place of
+# QEMU's headers, and lends the regions that it should
+qemu_stubs() {
     for it in $(sed -n 's/^#include "\(.*\)"$/\1/p' qemu/dma330.c | grep -vx dma330.h); do
         mkdir -p "$out/qemu/$(dirname "$it")"
         echo '#include "stubs.h"' >"$out/qemu/$it"
     done
-    $CC -std=gnu11 -Wall -Wextra -Wno-unused-parameter -Werror -fsyntax-only -I"$out/qemu" -Iqemu -Ic qemu/dma330.c
+    stubs="-std=gnu11 -O1 -Wall -Wextra -Wno-unused-parameter -Werror -DQEMU_VERSION_MAJOR=$1 -I$out/qemu -Iqemu -Ic"
+    $CC $stubs -fsyntax-only qemu/dma330.c &&
+        $CC $stubs -ffunction-sections -fdata-sections -Wl,--gc-sections -o "$out/lend_test" qemu/lend_test.c &&
+        "$out/lend_test"
+}
+
+# qemu_headers FOLDER: succeeds if the device compiles without a warning with the headers and flags of the QEMU that
+# qemu/build.sh built in FOLDER
+qemu_headers() {
+    command=$(sed -n 's|^ *"command": "\(.*\) -c [^ ]*/hw/dma/dma330\.c",$|\1|p' "$1/build/compile_commands.json" |
+        sed 's/\\\(["\\]\)/\1/g')
+    [ -n "$command" ] || return 1
+    c=$PWD/c
+    device=$PWD/qemu/dma330.c
+    (cd "$1/build" &&
+        eval "$command -Werror -fsyntax-only -iquote ../source/hw/dma -iquote \"\$c\" -c \"\$device\"")
 }
 
 # in_c SET COMPILER FLAG..: builds the programs with these flags, and runs them
@@ -206,7 +223,7 @@ in_c() {
     make_it "$set walk.c" "$@" -o "$to/walk" c/walk.c $rows "$LIB" &&
         count "$set walk.c" "$last_line" "$to/walk" rows.txt
     wrap=-Wl,--wrap=malloc,--wrap=realloc,--wrap=free
-    for it in device_test device_registers device_saves device_wild; do
+    for it in device_test device_bursts device_registers device_saves device_wild; do
         make_it "$set $it.c" "$@" $wrap -o "$to/$it" "c/$it.c" c/guest.c c/heap.c "$LIB" &&
             count "$set $it.c" "$last_line" "$to/$it"
     done
@@ -254,7 +271,11 @@ if has "$CC"; then
     fi
     try "names of codes and turns" named
     try "README.md" readme -Ic "$LIB"
-    try "qemu device" qemu_device
+    try "qemu device with stubs of QEMU 7.2" qemu_stubs 7
+    try "qemu device with stubs of QEMU 10.0" qemu_stubs 10
+    if [ -n "${QEMU_FOLDER:-}" ]; then
+        try "qemu device with the headers of QEMU $(cat "$QEMU_FOLDER/source/VERSION")" qemu_headers "$QEMU_FOLDER"
+    fi
     if has make; then
         try "make install" installed
         try "make install with DESTDIR" staged

@@ -129,10 +129,10 @@ static int32_t invoke_load_text(void)
 static dma330_segment joined(dma330_segment a, dma330_segment b)
 {
     dma330_segment both = a.addr < b.addr ? a : b;
-    uint32_t a_end = a.addr + a.len, b_end = b.addr + b.len;
+    uint64_t a_end = (uint64_t)a.addr + a.len, b_end = (uint64_t)b.addr + b.len;
     if (a.len == 0 || b.len == 0)
         return a.len == 0 ? b : a;
-    both.len = (a_end > b_end ? a_end : b_end) - both.addr;
+    both.len = (uint32_t)((a_end > b_end ? a_end : b_end) - both.addr);
     return both;
 }
 

@@ -44,9 +44,43 @@ static void has_configurations(void)
                 g = plain(channels, events, k % 2 != 0);
                 g.bus = 32u << k / 2 % 3;
                 g.revision = k / 6;
-                g.lines = k % 5 == 0 ? channels : 256 * channels / (g.bus / 8);
+                g.lines = k % 5 == 0 ? channels : k % 5 == 1 ? 1 : k % 5 == 2 ? 1024 : 256 * channels / (g.bus / 8);
                 has_configuration(g, 10000 * channels + 100 * events + k);
             }
+}
+
+/* On each chip a channel has 256 bytes for itself: two loads of 128 bytes fit, and a third doesn't. */
+static void has_buffer(uint32_t channel, uint32_t n)
+{
+    uint32_t at = put_move(&m, put_move(&m, LOW, TO_SAR, LOW), TO_CCR, BURSTS_OF(3));
+
+    put(&m, put(&m, put(&m, at, DMALD), DMALD), DMALD);
+    start(&m, channel, LOW);
+    check(!run(&m, channel) && get(&m, FTR + 4 * channel) == 1 << 12, "a load too many", n);
+    check(get(&m, CPC + 8 * channel) == LOW + 14, "is the third", n);
+}
+
+/* Chips as Linux logs them: CR0 and CRD, by the manual's fields; a copy; and the buffer. */
+static void has_chips(void)
+{
+    static const struct {
+        dma330_device_config config;
+        uint32_t cr0, crd;
+    } chips[] = {
+        {{8, 32, 0, 64, 512, 3}, 0x003E0070, 0x1FFF7F73},  /* Cyclone V, Arria 10 */
+        {{8, 8, 0, 64, 512, 3}, 0x000E0070, 0x1FFF7F73},   /* Stratix 10 */
+        {{8, 8, 0, 128, 1024, 3}, 0x000E0070, 0x3FFF7F74}, /* Juno */
+        {{6, 32, 0, 64, 4, 3}, 0x003E0050, 0x003F7F73},    /* Exynos 5420 */
+    };
+
+    for (uint32_t n = 0; n < sizeof chips / sizeof chips[0]; n++) {
+        set_up(&m, chips[n].config);
+        check(get(&m, CR0) == chips[n].cr0, "CR0 of a chip", n);
+        check(get(&m, CRD) == chips[n].crd, "CRD of a chip", n);
+        check_work(&m, chips[n].config.channels - 1, "a chip copies", n);
+        has_buffer(chips[n].config.channels - 1, n);
+        tear_down(&m);
+    }
 }
 
 /* Each number of a configuration just outside its limits, and one that would be inside if it were cut to fewer bits. */
@@ -58,13 +92,14 @@ static void refuses_configurations(void)
         {2, 0, 0, 128, 16, 3}, {2, 33, 0, 128, 16, 3}, {2, 256 + 4, 0, 128, 16, 3}, {2, 0xFFFFFFFF, 0, 128, 16, 3},
         {2, 4, 0, 0, 16, 3}, {2, 4, 0, 8, 16, 3}, {2, 4, 0, 31, 16, 3}, {2, 4, 0, 33, 16, 3}, {2, 4, 0, 96, 16, 3},
         {2, 4, 0, 256, 16, 3}, {2, 4, 0, 65536 + 128, 16, 3}, {2, 4, 0, 0xFFFFFFFF, 16, 3},
-        {2, 4, 0, 128, 0, 3}, {2, 4, 0, 128, 1, 3}, {2, 4, 0, 128, 33, 3}, {2, 4, 0, 64, 65, 3}, {2, 4, 0, 32, 129, 3},
-        {8, 4, 0, 128, 129, 3}, {2, 4, 0, 128, 65536 + 16, 3}, {2, 4, 0, 128, 0xFFFFFFFF, 3},
+        {2, 4, 0, 128, 0, 3}, {2, 4, 0, 128, 1025, 3}, {2, 4, 0, 64, 1025, 3}, {8, 4, 0, 32, 1025, 3},
+        {2, 4, 0, 128, 2048, 3}, {2, 4, 0, 128, 65536 + 16, 3}, {2, 4, 0, 128, 0xFFFFFFFF, 3},
         {2, 4, 0, 128, 16, 4}, {2, 4, 0, 128, 16, 256}, {2, 4, 0, 128, 16, 0xFFFFFFFF}
     };
     static const dma330_device_config good[] = {
         {2, 4, 0, 128, 2, 3}, {2, 4, 0, 128, 32, 3}, {2, 4, 0, 64, 64, 3}, {2, 4, 0, 32, 128, 3}, {8, 4, 0, 128, 128, 3},
-        {8, 32, 256, 32, 512, 0}
+        {8, 32, 256, 32, 512, 0}, {2, 4, 0, 128, 1, 3}, {2, 4, 0, 128, 33, 3}, {2, 4, 0, 64, 65, 3},
+        {2, 4, 0, 32, 129, 3}, {8, 4, 0, 128, 129, 3}, {8, 4, 0, 64, 1, 3}, {1, 4, 0, 32, 1024, 3}
     };
     dma330_device device = DMA330_DEVICE_INIT;
 
@@ -270,6 +305,24 @@ static void has_beats(uint32_t bus, uint32_t bus_code, uint32_t code)
     }
 }
 
+/* Bytes behind a program that would be a DMAMOV CCR with beats that are too wide don't matter: a turn takes all its
+ * steps. */
+static void takes_all_steps(void)
+{
+    dma330_device_config config = plain(1, 4, false);
+    uint32_t at;
+
+    config.bus = 32;
+    config.lines = 4;
+    set_up(&m, config);
+    at = put(&m, put(&m, put(&m, LOW, DMANOP), DMANOP), DMANOP);
+    put_move(&m, put(&m, at, DMAEND), TO_CCR, 4 << 1);
+    start(&m, 0, LOW);
+    check(turn(&m, 0, 3) && get(&m, CPC) == LOW + 3, "three steps", 3);
+    check(!turn(&m, 0, 3) && get(&m, CSR) == 0, "and the end", 3);
+    tear_down(&m);
+}
+
 /* ---- refusals ---- */
 
 static void refuses_a_closed_device(dma330_device *device)
@@ -319,7 +372,7 @@ static void refuses_regions(void)
     check(are_refused(two, 2), "regions that share an address", 0);
     two[1].addr = 0x800;
     check(are_refused(two, 2), "regions that don't rise", 0);
-    two[1].addr = 0xFFFFFFF0;
+    two[1].addr = 0xFFFFFFF1;
     check(are_refused(two, 2), "a region that ends too high", 0);
     for (uint32_t n = 0; n < 65; n++) {
         const dma330_region region = {0x1000 * n, m.bytes + 16 * n, 16, 0};
@@ -338,6 +391,7 @@ int main(void)
     dma330_device device = DMA330_DEVICE_INIT;
 
     has_configurations();
+    has_chips();
     refuses_configurations();
     runs_out_of_memory();
     ignores_writes();
@@ -349,6 +403,7 @@ int main(void)
     for (uint32_t code = 0; code < 8; code++)
         for (uint32_t bus_code = 2; bus_code <= 4; bus_code++)
             has_beats(8u << bus_code, bus_code, code);
+    takes_all_steps();
     refuses_a_closed_device(&device);
     refuses_regions();
     return end_checks();

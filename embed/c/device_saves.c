@@ -140,7 +140,7 @@ static void want_step(void)
 {
     uint32_t code = program[get(&m, CPC) - LOW], sar = get(&m, SAR), dar = get(&m, DAR);
 
-    for (uint32_t n = 0; n < sizeof buffer; n++) {
+    for (uint32_t n = 0; n < 16u << (get(&m, CCR) >> 1) % 8; n++) {
         if (code == DMALD)
             buffer[n] = *byte_at(m.wanted, sar + n);
         if (code == DMAST)
@@ -166,7 +166,7 @@ static void copies_what_is_there(uint32_t bus)
 
     config.bus = bus;
     set_up(&m, config);
-    put_copy(&m, LOW, NO_EVENT, LOW + 0x43, LOW + 0x1801, 8, 1);
+    put_copy(&m, LOW, NO_EVENT, LOW + 0x43, LOW + 0x1801, 2, 1);
     memcpy(program, byte_at(m.bytes, LOW), sizeof program);
     want_ram(&m);
     start(&m, 0, LOW);
@@ -183,7 +183,7 @@ static void copies_what_is_there(uint32_t bus)
         check(is_ram_wanted(&m), "RAM after a turn", step);
         write_anywhere(&seed);
     }
-    check(step > 300 && get(&m, DAR) == LOW + 0x1801 + 8 * 512 && get(&m, INT_EVENT_RIS) == 1 << 1, "it has ended", step);
+    check(step > 300 && get(&m, DAR) == LOW + 0x1801 + 2 * 512 && get(&m, INT_EVENT_RIS) == 1 << 1, "it has ended", step);
     lend(&m);
     tear_down(&m);
 }
@@ -251,6 +251,36 @@ static void refuses_forged_words(void)
     check(forged_word(HEAD, 1 | 1 << 22) == DMA330_BAD_SAVE, "a bit that CSR doesn't have", 0);
     check(forged_word(HEAD + 16, 0xFFFFFFFF) == DMA330_BAD_SAVE, "a length past the end", 0);
     check(forged_word(MANAGER_FAULTS, good.bytes[MANAGER_FAULTS] ^ 2) == DMA330_BAD_SAVE, "a truth of 2 or 3", 0);
+}
+
+/* The save of a device on the widest bus, whose channel has beats of 2 to the power of `size` bytes at one end or at
+ * both, becomes that of a bus of 2 to the power of `width` bytes. It is restored exactly if the beats fit. */
+static void refuses_beats_wider_than_the_bus(void)
+{
+    enum { BUS = 11 };
+    static const uint32_t ends[] = {1, 1 << 14, 1 | 1 << 14};
+    dma330_device_config config = plain(1, 1, false);
+
+    for (uint32_t row = 0; row < 5 * 3 * 3; row++) {
+        uint32_t size = row % 5, width = row / 5 % 3 + 2, control = size * 2 * ends[row / 15];
+
+        config.bus = 128;
+        set_up(&m, config);
+        put(&m, put_move(&m, LOW, TO_CCR, control), DMAEND);
+        start(&m, 0, LOW);
+        turn(&m, 0, 1);
+        take(&m, &bad);
+        check(get(&m, CCR) == control, "a control word", row);
+        tear_down(&m);
+        bad.bytes[BUS] = (uint8_t)width;
+        seal(&bad);
+        config.bus = 8u << width;
+        set_up(&m, config);
+        check(dma330_device_restore(&m.device, bad.bytes, bad.len) == (size <= width ? DMA330_OK : DMA330_BAD_SAVE),
+              "beats of a forged save", row);
+        check(get(&m, CCR) == (size <= width ? control : 0), "its control word", row);
+        tear_down(&m);
+    }
 }
 
 /* Each byte becomes each of some others, each save is cut at each place, and each gets one more byte. */
@@ -368,6 +398,7 @@ int main(void)
         restores_at_each_step(bus);
         copies_what_is_there(bus);
     }
+    refuses_beats_wider_than_the_bus();
     restores_anything();
     needs_room();
     restores_this_layout();

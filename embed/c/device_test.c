@@ -68,31 +68,46 @@ static void takes_its_steps(void)
     }
 }
 
-/* After the DMASEV of an interrupt comes a DMAST. It belongs to the same turn if it writes beside what the turn wrote,
- * else to the next turn, so that a report's range has no byte that wasn't written. */
-static void reports_what_it_wrote(bool is_apart)
+/* Two stores of 16 bytes, after the first of which comes the DMASEV of an interrupt, and the length of the range that the
+ * turn reports. If the second neither overlaps nor touches the first, it is left to the next turn. */
+static const struct { const char *what; uint32_t first, second, len; } stores[] = {
+    {"a store behind one", LOW + 0x1000, LOW + 0x1010, 32},
+    {"before one", LOW + 0x1010, LOW + 0x1000, 32},
+    {"over its end", LOW + 0x1000, LOW + 0x1001, 17},
+    {"a byte behind it", LOW + 0x1000, LOW + 0x1011, 16},
+    {"a byte before it", LOW + 0x1011, LOW + 0x1000, 16},
+    {"behind ROM and what isn't lent", LOW + 0x2FF0, FAR, 16},
+    {"before them", FAR_END - 16, LOW + 0x1000, 16},
+};
+
+/* Writes the program of two stores, from LOW + 0x800 and LOW + 0x810. */
+static void put_stores(uint32_t first, uint32_t second)
 {
-    dma330_device_turn t;
-    uint32_t at;
+    uint32_t at = put_move(&m, put_move(&m, LOW, TO_SAR, LOW + 0x800), TO_CCR, BURSTS_OF(0));
+
+    at = put(&m, put(&m, put_move(&m, at, TO_DAR, first), DMALD), DMAST);
+    at = put(&m, put_move(&m, at, TO_DAR, second), DMALD);
+    put(&m, put(&m, put_two(&m, at, DMASEV, 2 << 3), DMAST), DMAEND);
+}
+
+/* A turn's range has no byte that wasn't written: an emulator may map all of it for writing. */
+static void reports_what_it_wrote(const char *what, uint32_t first, uint32_t second, uint32_t len)
+{
+    bool is_left = len == 16;
 
     set_up(&m, plain(1, 4, false));
-    at = put_move(&m, LOW, TO_SAR, LOW + 0x800);
-    at = put_move(&m, at, TO_DAR, LOW + 0x1000);
-    at = put_move(&m, at, TO_CCR, BURSTS_OF(2));
-    at = put(&m, put(&m, at, DMALD), DMAST);
-    if (is_apart)
-        at = put_move(&m, at, TO_DAR, FAR + 0x100);
-    at = put_two(&m, put(&m, at, DMALD), DMASEV, 2 << 3);
-    put(&m, put(&m, at, DMAST), DMAEND);
+    m.regions[1].read_only = 1;
+    put_stores(first, second);
     set(&m, INTEN, 1 << 2);
     start(&m, 0, LOW);
-    check(dma330_device_step(&m.device, 0, 1000, m.regions, REGIONS, &t) == DMA330_OK, "a turn", is_apart);
-    check(t.written.addr == LOW + 0x1000 && t.written.len == (is_apart ? 64 : 128), "its range", t.written.len);
-    check(irqs(&m) == 1 << 2 && get(&m, CSR) == 1, "its interrupt", is_apart);
-    check(dma330_device_step(&m.device, 0, 1000, m.regions, REGIONS, &t) == DMA330_OK, "the next", is_apart);
-    check(t.written.len == (is_apart ? 64 : 0), "its range", t.written.len);
-    check(!is_apart || t.written.addr == FAR + 0x100, "its place", t.written.addr);
-    check(get(&m, CSR) == 0, "it has ended", is_apart);
+    want_ram(&m);
+    for (uint32_t n = 0; n < (is_left ? 1 : 2); n++)
+        memcpy(byte_at(m.wanted, n == 0 ? first : second), byte_at(m.wanted, LOW + 0x800 + 16 * n), 16);
+    check(turn(&m, 0, 1000) && get(&m, CSR) == 1 && irqs(&m) == 1 << 2 && is_ram_wanted(&m), what, first);
+    check(m.written.addr == (is_left || first < second ? first : second) && m.written.len == len, what, m.written.len);
+    memcpy(byte_at(m.wanted, second), byte_at(m.wanted, LOW + 0x810), 16);
+    check(!turn(&m, 0, 1000) && get(&m, CSR) == 0 && get(&m, FTR) == 0 && is_ram_wanted(&m), what, second);
+    check(is_left ? m.written.addr == second && m.written.len == 16 : m.written.len == 0, what, m.written.len);
     tear_down(&m);
 }
 
@@ -271,11 +286,11 @@ static const struct {
     {"a load below RAM", 1 << 18, 6, {MOVE(TO_SAR, LOW - 1), DMALD}},
     {"a load above it", 1 << 18, 6, {MOVE(TO_SAR, FAR_END), DMALD}},
     {"a load in a gap", 1 << 18, 6, {MOVE(TO_SAR, NEXT_END), DMALD}},
-    {"a load into a gap", 1 << 18, 12, {MOVE(TO_SAR, NEXT_END - 127), MOVE(TO_CCR, BURSTS_OF(3)), DMALD}},
+    {"a load into a gap", 1 << 18, 12, {MOVE(TO_SAR, NEXT_END - 120), MOVE(TO_CCR, BURSTS_OF(3)), DMALD}},
     {"a store below RAM", 1 << 17, 13, {MOVE(TO_SAR, LOW), MOVE(TO_DAR, LOW - 1), DMALD, DMAST}},
     {"a store at 0", 1 << 17, 7, {MOVE(TO_SAR, LOW), DMALD, DMAST}},
     {"a store into a gap", 1 << 17, 19,
-     {MOVE(TO_SAR, LOW), MOVE(TO_DAR, NEXT_END - 127), MOVE(TO_CCR, BURSTS_OF(3)), DMALD, DMAST}},
+     {MOVE(TO_SAR, LOW), MOVE(TO_DAR, NEXT_END - 120), MOVE(TO_CCR, BURSTS_OF(3)), DMALD, DMAST}},
     {"no instruction", 1 << 0, 1, {DMANOP, 0xFF}},
     {"DMAKILL in a program", 1 << 0, 0, {DMAKILL}},
     {"DMASTZ", 1 << 0, 0, {0x0C}},
@@ -327,6 +342,51 @@ static void fails_as_the_manual_says(void)
     tear_down(&m);
 }
 
+/* Writes a program that moves one burst of 64 bytes. */
+static void put_burst(uint32_t at, uint32_t src, uint32_t dst)
+{
+    at = put_move(&m, at, TO_CCR, BURSTS_OF(2));
+    at = put_move(&m, at, TO_SAR, src);
+    at = put_move(&m, at, TO_DAR, dst);
+    put(&m, put_two(&m, at, DMALD, DMAST), DMAEND);
+}
+
+/* Moves a burst, and checks SAR, DAR, and FTR, 0 if it doesn't fail. */
+static void moves_at_the_top(uint32_t src, uint32_t dst, uint32_t sar, uint32_t dar, uint32_t fault)
+{
+    dma330_device_turn t = {{1, 1}, 2, 2};
+
+    put_burst(LOW, src, dst);
+    start(&m, 0, LOW);
+    check(dma330_device_step(&m.device, 0, 9, m.regions, REGIONS, &t) == DMA330_OK, "a turn at the top", src);
+    check(get(&m, SAR) == sar && get(&m, DAR) == dar && get(&m, FTR) == fault, "registers at the top", src);
+    check(fault ? t.written.len == 0 : t.written.addr == dst && t.written.len == 64, "what it wrote at the top", src);
+    stop(&m, 0);
+}
+
+/* RAM has the last address: a burst to it leaves 0 in SAR or DAR, and one that goes beyond it moves no byte. A region
+ * that ends above 2^32 is refused. */
+static void reaches_the_last_address(void)
+{
+    uint8_t *const last = m.bytes + FAR_AT + (FAR_END - FAR) - 64;
+    uint32_t value = 0;
+
+    set_up(&m, plain(1, 4, false));
+    moves_at_the_top(0xFFFFFFC0, LOW + 0x800, 0, LOW + 0x840, 0);
+    check(memcmp(byte_at(m.bytes, LOW + 0x800), last, 64) == 0, "from the last address", 0);
+    moves_at_the_top(LOW + 0x900, 0xFFFFFFC0, LOW + 0x940, 0, 0);
+    check(memcmp(byte_at(m.bytes, LOW + 0x900), last, 64) == 0, "to the last address", 0);
+    want_ram(&m);
+    moves_at_the_top(0xFFFFFFC4, LOW + 0x800, 0xFFFFFFC4, LOW + 0x800, 1 << 18);
+    moves_at_the_top(LOW + 0x800, 0xFFFFFFC4, LOW + 0x840, 0xFFFFFFC4, 1 << 17);
+    check(memcmp(last, m.wanted + (last - m.bytes), 64) == 0, "bytes before the end", 0);
+    m.regions[2].addr++;
+    check(dma330_device_write(&m.device, INTEN, 1, m.regions, REGIONS) == DMA330_BAD_REGIONS, "beyond 2^32", 0);
+    check(dma330_device_read(&m.device, INTEN, &value) == DMA330_OK && value == 0, "it changes nothing", 0);
+    lend(&m);
+    tear_down(&m);
+}
+
 /* Checks instructions of the debug registers that fail. */
 static void debug_instructions_fail(void)
 {
@@ -366,8 +426,8 @@ int main(void)
         for (uint32_t bus = 32; bus <= 128; bus *= 2)
             copies_on_two_channels(bus, mosts[n]);
     takes_its_steps();
-    reports_what_it_wrote(false);
-    reports_what_it_wrote(true);
+    for (size_t n = 0; n < sizeof stores / sizeof stores[0]; n++)
+        reports_what_it_wrote(stores[n].what, stores[n].first, stores[n].second, stores[n].len);
     is_killed_and_reset();
     waits_for_another_channel();
     waits_for_the_guest();
@@ -377,6 +437,7 @@ int main(void)
     keeps_events_and_interrupts_apart(false);
     keeps_events_and_interrupts_apart(true);
     fails_as_the_manual_says();
+    reaches_the_last_address();
     debug_instructions_fail();
     return end_checks();
 }

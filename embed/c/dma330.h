@@ -12,8 +12,8 @@
  * A call returns DMA330_OK, which is 0, or a negative code; dma330_status returns a state instead of DMA330_OK. A
  * call's comment lists its codes in the order in which they are tested; the first that applies is returned.
  * DMA330_NOT_OPEN comes before all others. A refused call, which returns a negative code, changes nothing and writes no
- * output, except `*place` where the code has a place, `*conflict` for DMA330_BUSY and DMA330_RUNNING, and a device for
- * DMA330_BAD_SAVE.
+ * output, except `*place` where the code has a place, `*conflict` for DMA330_BUSY and DMA330_RUNNING, `*explanation`, and
+ * a device for DMA330_BAD_SAVE.
  *
  * Further duties: 32 KiB of stack are free; no call comes from a signal handler or from the child of a fork of a program with
  * threads; malloc, realloc and free are one allocator. Addresses and lengths of segments have 32 bits, channels and events 8:
@@ -31,9 +31,9 @@ extern "C" {
 /* The version, by numbers for #if, and as dma330_version writes it. CHANGES.md has the rule: a program for this version
  * works with all later ones of the same MAJOR. */
 #define DMA330_VERSION_MAJOR 1
-#define DMA330_VERSION_MINOR 2
+#define DMA330_VERSION_MINOR 3
 #define DMA330_VERSION_PATCH 0
-#define DMA330_VERSION "dilkwafam 1.2"
+#define DMA330_VERSION "dilkwafam 1.3"
 
 /* Room for what dma330_version writes in any version. */
 #define DMA330_MAX_VERSION 32
@@ -48,8 +48,9 @@ extern "C" {
 /* No event to wait for, or to signal; so is each other negative number. */
 #define DMA330_NO_EVENT (-1)
 
-/* The most segments of a list, bytes of a transfer, bytes of a program, channels of a controller or device, regions of the
- * caller's memory, and bytes of a channel's and of a device's save. */
+/* The most segments of a list, bytes of a transfer, bytes of a program, channels of a controller or device, regions of
+ * the caller's memory, and bytes of a channel's and of a device's save. In version 1.2 a device's save is 4 bytes
+ * shorter: compile all callers of dma330_device_save with this header. */
 #define DMA330_MAX_SEGMENTS 64
 #define DMA330_MAX_BYTES 1048576
 #define DMA330_MAX_PROGRAM 8192
@@ -163,13 +164,15 @@ typedef struct dma330_device_config {
     uint32_t events;    /* 1 to 32, each an event or an interrupt, as INTEN says */
     uint32_t nonsecure; /* 0 if the manager is in the secure state after a reset */
     uint32_t bus;       /* the width of the data bus in bits: 32, 64 or 128; a wider beat is an invalid operand */
-    uint32_t lines;     /* of the buffer, each as wide as the bus: for each channel a line at least, 256 bytes at most */
+    uint32_t lines;     /* of the buffer that CRD shows, 1 to 1024; each channel has 256 bytes for itself */
     uint32_t revision;  /* 0 for r0p0, 1 for r1p0, 2 for r1p1, 3 for r1p2; Linux uses barriers only for r0p0 */
 } dma330_device_config;
 
 /* What dma330_device_step did. */
 typedef struct dma330_device_turn {
-    dma330_segment written; /* the range that it wrote, each byte of it; its len is 0 if it wrote nothing */
+    dma330_segment written; /* its steps wrote each byte of this range, some perhaps with the value that it had, and no
+                             * byte elsewhere; its len is 0 if they wrote nothing. It may end at 2^32, so add addr and
+                             * len in 64 bits */
     uint32_t lines_changed; /* 1 if a line of irq[31:0], or irq_abort, has changed, else 0 */
     uint32_t can_step;      /* what dma330_device_can_step writes now */
 } dma330_device_turn;
@@ -257,7 +260,7 @@ enum dma330_code {
     DMA330_BAD_CHANNELS = -20,        /* the number of channels isn't 1 to 8 */
     DMA330_SIZE_OUT_OF_RANGE = -21,   /* the size of a memory isn't 1 to 4294963200 */
     DMA330_BAD_REGIONS = -22,         /* more than 64 regions, or one begins before the end of the one before it (also
-                                       * if one of them is empty), or one ends above 4294967295 */
+                                       * if one of them is empty), or one ends above 4294967296 */
     DMA330_BAD_CONFIG = -23,          /* no device can have this configuration */
     DMA330_EMPTY_LIST = -30,          /* a list has no segment */
     DMA330_TOO_MANY_SEGMENTS = -31,   /* a list has more than 64 segments */
@@ -478,14 +481,14 @@ int32_t dma330_channel_load_program(dma330_channel *channel, const uint8_t *prog
 int32_t dma330_channel_load_from(dma330_channel *channel, const dma330_region *regions, size_t region_count,
                                  uint32_t addr) DMA330_NO_NULLS;
 
-/* Takes at most `most` steps over the regions and the flags of events 0 to 31, which are the bits of `*flags`. It ends after
- * a step that doesn't move or that sets a flag, so that the caller can raise an interrupt. It also ends before a store
- * that neither overlaps nor touches the range written so far; the report then says MOVED, and the next call begins with
- * that store. Loads outside the regions fail with DMA330_DATA_READ_ERR, stores outside them or to a read-only region
- * with DMA330_DATA_WRITE_ERR. The array of regions isn't written, only their bytes. A burst may cross from one region
- * into one that touches it. A burst to address 4294967295 always fails, since no region has it. The library keeps no
- * fault: the next step tries the instruction again, so a model stops stepping a channel that failed. Codes:
- * BAD_REGIONS, NO_PROGRAM. */
+/* Takes at most `most` steps over the regions and the flags of events 0 to 31, which are the bits of `*flags`. It ends
+ * after a step that doesn't move or that sets a flag, so that the caller can raise an interrupt. It also ends before a
+ * store that neither overlaps nor touches the range written so far, and before one with which the range would have all
+ * 2^32 addresses. The report then says MOVED, and the next call begins with that store. Loads outside the regions fail
+ * with DMA330_DATA_READ_ERR, stores outside them or to a read-only region with DMA330_DATA_WRITE_ERR. The array of
+ * regions isn't written, only their bytes. A burst may cross from one region into one that touches it. After a burst
+ * to address 4294967295 SAR or DAR is 0; a burst that goes beyond it fails. The library keeps no fault: the next step
+ * tries the instruction again, so a model stops stepping a channel that failed. Codes: BAD_REGIONS, NO_PROGRAM. */
 int32_t dma330_channel_step(dma330_channel *channel, dma330_region *regions, size_t region_count, uint32_t *flags,
                             uint32_t most, dma330_channel_report *report) DMA330_NO_NULLS;
 
@@ -514,9 +517,9 @@ int32_t dma330_channel_restore(dma330_channel *channel, const uint8_t *save, siz
  * The registers of a DMA-330 as a guest's driver sees them (Technical Reference Manual, ARM DDI 0424). Its channels
  * execute the guest's programs in the caller's memory, which is lent as for a channel. An emulator forwards the guest's
  * accesses to read and write, lets channels take turns by step while can_step writes 1, and sets its interrupt lines
- * from irqs and irq_abort after each write, reset and restore, and after each turn that reports lines_changed. The head
- * of crates/dma_device/src/lib.rt lists what differs from the chip. Only open allocates. Each call but open and close
- * fails with NOT_OPEN if the device isn't open; a call that fails changes nothing, except a restore of BAD_SAVE. */
+ * from irqs and irq_abort after each write, reset and restore, and after each turn that reports lines_changed.
+ * docs/CHIP.md lists what differs from the chip. Only open allocates. Each call but open and close fails with NOT_OPEN
+ * if the device isn't open; a call that fails changes nothing, except a restore that returns BAD_SAVE. */
 
 /* Opens a device in its state after a reset. Codes: ALREADY_OPEN, BAD_CONFIG, NO_MEMORY. */
 int32_t dma330_device_open(dma330_device *device, const dma330_device_config *config) DMA330_NO_NULLS;
@@ -536,10 +539,12 @@ int32_t dma330_device_read(dma330_device *device, uint32_t offset, uint32_t *val
 int32_t dma330_device_write(dma330_device *device, uint32_t offset, uint32_t value, const dma330_region *regions,
                             size_t region_count) DMA330_NO_NULLS;
 
-/* Takes a turn of a channel: at most `most` steps, until one ends, waits, fails or executes a DMASEV, or before a store
- * that neither overlaps nor touches the range written so far. It takes one step if the program has, at any offset, a
- * DMAMOV CCR with beats wider than the bus. After the DMASEV of an interrupt it takes one more, mostly the DMAEND, since
- * a driver's handler expects its channel to be stopped. Does nothing for a channel that is stopped or faulting, or that
+/* Takes a turn of a channel: at most `most` steps. The turn ends after a step that ends, waits, fails or executes a
+ * DMASEV. It also ends before a store that neither overlaps nor touches the range written so far, and before one with
+ * which the range would have all 2^32 addresses. After the DMASEV of an interrupt it takes one more step, mostly the
+ * DMAEND, since a driver's handler expects its channel to be stopped; if that step is such a store, it is left to the
+ * next turn. Whatever the guest's program is, a step wrote each address in `turn->written`, each lies in a region that
+ * isn't read-only, and no byte elsewhere has changed. Does nothing for a channel that is stopped or faulting, or that
  * the device doesn't have. Codes: BAD_REGIONS. */
 int32_t dma330_device_step(dma330_device *device, uint8_t channel, uint32_t most, dma330_region *regions,
                            size_t region_count, dma330_device_turn *turn) DMA330_NO_NULLS;
@@ -550,15 +555,18 @@ int32_t dma330_device_irqs(dma330_device *device, uint32_t *lines) DMA330_NO_NUL
 /* Writes 1 if the line irq_abort is high, else 0. It is high until the guest kills each faulting thread. */
 int32_t dma330_device_irq_abort(dma330_device *device, uint32_t *line) DMA330_NO_NULLS;
 
-/* Writes 1 if any channel runs and doesn't wait for an event that is clear. Else it writes 0, and nothing happens until
- * the guest's next write, a reset or a restore. */
+/* Writes 1 if a channel can step, else 0. A channel can step if it runs and doesn't wait; one that waits can if its
+ * event is set and INTEN doesn't make it an interrupt. After a 0 nothing happens until the guest's next write of a
+ * register, a reset or a restore: a turn changes nothing, and reports no byte and no line. */
 int32_t dma330_device_can_step(dma330_device *device, uint32_t *can_step) DMA330_NO_NULLS;
 
-/* Writes the whole device as bytes, and their number, at most DMA330_MAX_DEVICE_SAVE. Codes: BUFFER_TOO_SMALL. */
+/* Writes the whole device as bytes, and their number, at most DMA330_MAX_DEVICE_SAVE. The last 4 are a checksum of all
+ * before them. Codes: BUFFER_TOO_SMALL. */
 int32_t dma330_device_save(dma330_device *device, uint8_t *out, size_t room, size_t *len) DMA330_NO_NULLS;
 
-/* Makes the device the one that was saved. Codes: OTHER_DEVICE; BAD_SAVE, after which the device is in its state after a
- * reset. */
+/* Makes the device the one that was saved, by this version or an earlier one. Refuses bytes that are the save of no
+ * device of this configuration, among them each save of this version in which one bit is flipped. Codes: OTHER_DEVICE;
+ * BAD_SAVE, after which the device is in its state after a reset. */
 int32_t dma330_device_restore(dma330_device *device, const uint8_t *save, size_t len) DMA330_NO_NULLS;
 
 /* ---- without a controller ----
@@ -592,20 +600,28 @@ int32_t dma330_run_program(const uint8_t *program, size_t len, uint8_t *memory, 
 typedef struct dma330_explanation {
     size_t src_len;          /* the number of source segments */
     size_t dst_len;          /* the number of destination segments */
-    uint32_t steps;          /* the number of executed instructions, DMAEND included; or before the one at `pc` */
-    uint32_t pc;             /* the offset of the instruction at which no copy is possible */
-    uint32_t cause;          /* 0, or why: 1 program too long; 2 undefined instruction, 3 operand, 4 fetch or jump; 5 buffer
-                              * overrun, 6 underrun; 8 load or 9 store ends above 2^32 - 1; 10 store at a fixed address; 11
-                              * wait after a load, 12 for a second event; 13 signal of a second event; 14 store after a
-                              * signal; 15 bytes left at DMAEND; 16 byte stored twice, 17 stored where one is loaded; 18 no
-                              * DMAEND among the first `most`; 19 out of memory */
-    int32_t wait;            /* the event that it waits for, or -1 */
-    int32_t signal;          /* the event that it signals, or -1 */
+    uint32_t steps;          /* how many instructions are executed, DMAEND too; for a cause, how many before `pc` */
+    uint32_t pc;             /* 0; for a cause, the offset of the instruction at which the call gave up */
+    uint32_t cause;          /* 0, or why: 1 the program is too long; 2 undefined instruction, 3 invalid operand, 4
+                              * fetch or jump out of the program; 5 a load finds no room in the buffer, 6 a store no
+                              * bytes; 8 a load, 9 a store goes to address 4294967295 or beyond; 10 a store at a fixed
+                              * address; 11 a wait after a load, 12 a wait for a second event; 13 a signal of a second
+                              * event; 14 a store after a signal; 18 no DMAEND among the first `most`; 19 out of
+                              * memory. Found at the DMAEND: 15 bytes left in the buffer; 16 a byte stored twice, 17 a
+                              * byte stored where one is loaded */
+    int32_t wait;            /* the event that it waits for, or DMA330_NO_EVENT */
+    int32_t signal;          /* the event that it signals, or DMA330_NO_EVENT */
 } dma330_explanation;
 
-/* Explains a program by one run without memory, for at most `most` instructions: writes the segments that it reads and
- * writes, in order, and their numbers. Wherever it then runs alone or among others that write elsewhere, it makes this
- * copy. Codes: UNEXPLAINED, PROGRAM_TOO_LONG, NO_MEMORY; BUFFER_TOO_SMALL for too few segments, whose numbers are written. */
+/* Preliminary: a later 1.x may change its arguments. Explains a program by one run without memory, for at most `most`
+ * instructions: writes the segments that it reads and those that it writes, each in the order of the run, and their
+ * numbers, which may be above DMA330_MAX_SEGMENTS. A channel without marks that runs the program copies the one list to
+ * the other, if the regions contain all these segments, none that it writes is read-only, and nobody else writes there
+ * meanwhile. So does a device, if besides no beat of the program is wider than the bus, and each burst whose address
+ * rises begins at a multiple of its beat's size. UNEXPLAINED is returned only if no copy explains the program in `most`
+ * instructions, or if the program goes to address 4294967295. A call that returns a negative code writes
+ * `*explanation` alone: the cause and the place, or for BUFFER_TOO_SMALL the numbers of segments that need room.
+ * Codes: PROGRAM_TOO_LONG, UNEXPLAINED, NO_MEMORY, BUFFER_TOO_SMALL. */
 int32_t dma330_explain(const uint8_t *program, size_t len, uint32_t most, dma330_segment *src, size_t src_room,
                        dma330_segment *dst, size_t dst_room, dma330_explanation *explanation) DMA330_NO_NULLS;
 
@@ -641,6 +657,7 @@ DMA330_ASSERT(device, sizeof(dma330_device) == 16 && offsetof(dma330_device, is_
 DMA330_ASSERT(device_config, sizeof(dma330_device_config) == 24 && offsetof(dma330_device_config, revision) == 20);
 DMA330_ASSERT(device_turn, sizeof(dma330_device_turn) == 16 && offsetof(dma330_device_turn, can_step) == 12);
 DMA330_ASSERT(run_end, sizeof(dma330_run_end) == 20 && offsetof(dma330_run_end, pc) == 16);
+DMA330_ASSERT(explanation, sizeof(dma330_explanation) == 40 && offsetof(dma330_explanation, signal) == 32);
 #undef DMA330_ASSERT
 
 #ifdef __cplusplus

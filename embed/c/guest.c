@@ -93,6 +93,7 @@ void lend(machine *m)
     };
 
     memcpy(m->regions, regions, sizeof regions);
+    m->region_count = REGIONS;
 }
 
 void set_up(machine *m, dma330_device_config config)
@@ -163,15 +164,15 @@ uint32_t put_move(machine *m, uint32_t at, uint32_t to, uint32_t value)
 void put_copy(machine *m, uint32_t at, uint32_t wait, uint32_t src, uint32_t dst, uint32_t blocks, uint32_t signal)
 {
     static const uint8_t body[] = {DMALD, DMARMB, DMAST, DMAWMB};
-    uint32_t outer, inner;
+    uint32_t size = (src | dst) % 4 == 0 ? 2 : 0, outer, inner;
 
     if (wait < NO_EVENT)
         at = put_two(m, at, DMAWFE, wait << 3);
-    at = put_move(m, at, TO_CCR, BURSTS_OF(2));
+    at = put_move(m, at, TO_CCR, BURSTS_OF(size));
     at = put_move(m, at, TO_SAR, src);
     at = put_move(m, at, TO_DAR, dst);
     outer = at = put_two(m, at, DMALP, blocks - 1);
-    inner = at = put_two(m, at, DMALP | 2, 512 / 64 - 1);
+    inner = at = put_two(m, at, DMALP | 2, (512 / 16 >> size) - 1);
     for (size_t n = 0; n < sizeof body; n++)
         at = put(m, at, body[n]);
     at = put_two(m, at, DMALPEND | 4, at - inner);
@@ -203,7 +204,7 @@ uint32_t get(machine *m, uint32_t offset)
 
 void set(machine *m, uint32_t offset, uint32_t value)
 {
-    must(dma330_device_write(&m->device, offset, value, m->regions, REGIONS), "dma330_device_write");
+    must(dma330_device_write(&m->device, offset, value, m->regions, m->region_count), "dma330_device_write");
 }
 
 uint32_t irqs(machine *m)
@@ -256,13 +257,23 @@ void stop(machine *m, int thread)
     debug(m, thread, DMAKILL, 0, 0);
 }
 
-/* Returns whether the bytes that have changed lie in the range. */
+/* Returns whether an address lies in a region that isn't read-only. */
+static bool is_writable(const machine *m, uint32_t addr)
+{
+    for (size_t n = 0; n < m->region_count; n++)
+        if (addr - m->regions[n].addr < m->regions[n].len)
+            return m->regions[n].read_only == 0;
+    return false;
+}
+
+/* Returns whether each byte of the range can be written, and no other byte has changed. */
 static bool wrote_only(machine *m, dma330_segment range)
 {
-    for (uint32_t n = 0; n < range.len; n++)
-        for (int k = 0; k < REGIONS; k++)
-            if (range.addr + n - m->regions[k].addr < m->regions[k].len)
-                *byte_at(m->former, range.addr + n) = *byte_at(m->bytes, range.addr + n);
+    for (uint32_t n = 0; n < range.len; n++) {
+        if (!is_writable(m, range.addr + n))
+            return false;
+        *byte_at(m->former, range.addr + n) = *byte_at(m->bytes, range.addr + n);
+    }
     return memcmp(m->former, m->bytes, sizeof m->bytes) == 0;
 }
 
@@ -275,7 +286,8 @@ bool turn(machine *m, uint32_t channel, uint32_t most)
     bool line = irq_abort(m);
 
     memcpy(m->former, m->bytes, sizeof m->bytes);
-    must(dma330_device_step(&m->device, (uint8_t)channel, most, m->regions, REGIONS, &t), "dma330_device_step");
+    must(dma330_device_step(&m->device, (uint8_t)channel, most, m->regions, m->region_count, &t), "dma330_device_step");
+    m->written = t.written;
     always(t.lines_changed == (lines != irqs(m) || line != irq_abort(m)), "a turn reports a change of the lines", channel);
     always(wrote_only(m, t.written), "a turn reports what it wrote", channel);
     always(t.can_step == can_step(m), "a turn reports whether there is more to do", channel);

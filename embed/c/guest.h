@@ -1,6 +1,6 @@
 /* A machine with a dma330_device, and a guest's driver for it: it writes programs as bytes into RAM, and uses only the
  * device's registers and interrupt lines. What each test expects follows from the manual of the DMA-330 (ARM DDI 0424)
- * and from the list of differences at the head of crates/dma_device/src/lib.rt. */
+ * and from the list of differences in docs/CHIP.md. */
 #ifndef GUEST_H
 #define GUEST_H
 
@@ -26,19 +26,22 @@ int32_t open_device(dma330_device *device, const dma330_device_config *config);
 
 /* ---- a machine ---- */
 
-/* RAM is three regions, the second next to the first. On the host each lies between bytes that must not change. */
+/* RAM is three regions, the second next to the first, the third up to the last address: FAR_END is 2^32, in 32 bits. On
+ * the host each lies between bytes that must not change. */
 #define LOW 0x80000000u
 #define NEXT 0x80003000u
-#define FAR 0xC0000000u
+#define FAR 0xFFFFE000u
 #define NEXT_END 0x80005000u
-#define FAR_END 0xC0002000u
+#define FAR_END 0u
 
 enum { GUARD = 0x200, LOW_AT = GUARD, NEXT_AT = LOW_AT + 0x3000 + GUARD, FAR_AT = NEXT_AT + 0x2000 + GUARD };
 enum { ALL_BYTES = FAR_AT + 0x2000 + GUARD, REGIONS = 3, REGISTERS = 0x1000 };
 
 typedef struct machine {
     dma330_device device;
-    dma330_region regions[REGIONS];
+    dma330_region regions[DMA330_MAX_REGIONS];
+    size_t region_count;
+    dma330_segment written;    /* by the last turn */
     uint8_t bytes[ALL_BYTES];
     uint8_t wanted[ALL_BYTES]; /* what a test expects them to become */
     uint8_t former[ALL_BYTES]; /* what they were before a turn */
@@ -48,7 +51,7 @@ typedef struct machine {
 dma330_device_config plain(uint32_t channels, uint32_t events, bool nonsecure);
 
 /* set_up fills RAM with a pattern and opens the device. tear_down checks that nothing but RAM was written, and closes
- * the device. lend makes the regions those of the machine's bytes. */
+ * the device. lend makes the regions those of the machine's bytes, each of them RAM. */
 void set_up(machine *m, dma330_device_config config);
 void tear_down(machine *m);
 void lend(machine *m);
@@ -76,8 +79,9 @@ uint32_t put(machine *m, uint32_t at, uint32_t code);
 uint32_t put_two(machine *m, uint32_t at, uint32_t code, uint32_t operand);
 uint32_t put_move(machine *m, uint32_t at, uint32_t to, uint32_t value);
 
-/* Writes a program that copies blocks of 512 bytes with a loop in a loop, in bursts of 64 bytes, which each bus can
- * have. It may wait for an event first and signal one at the end. */
+/* Writes a program that copies blocks of 512 bytes with a loop in a loop, in bursts of 16 beats: of 4 bytes, which each
+ * bus can have, or of a byte if an address isn't a multiple of 4, as Linux's driver does. It may wait for an event first
+ * and signal one at the end. */
 enum { NO_EVENT = 32 };
 void put_copy(machine *m, uint32_t at, uint32_t wait, uint32_t src, uint32_t dst, uint32_t blocks, uint32_t signal);
 
@@ -105,7 +109,8 @@ void debug(machine *m, int thread, uint32_t code, uint32_t operand, uint32_t num
 void start(machine *m, uint32_t channel, uint32_t program);
 void stop(machine *m, int thread);
 
-/* Lets a channel take a turn, and checks its report. Returns whether the channel still executes or waits. */
+/* Lets a channel take a turn, and checks its report. Returns whether the channel still executes or waits. `written` of the
+ * machine is then the range that the turn reports. */
 bool turn(machine *m, uint32_t channel, uint32_t most);
 
 /* Lets a channel take turns until it doesn't execute. Returns whether it waits. */

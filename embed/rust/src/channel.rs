@@ -150,7 +150,8 @@ impl Channel {
     }
 
     /// Takes at most `most` steps. Ends after a step that doesn't move or that sets a flag, and before a store that
-    /// neither overlaps nor touches the range written so far; the next call begins with that store.
+    /// neither overlaps nor touches the range written so far, or with which it would have all 2^32 addresses; the next
+    /// call begins with that store.
     ///
     /// Bit `n` of `flags` is the flag of event `n`. A load outside the regions ends with the fault `DataReadErr`, a
     /// store outside them or in a read-only one with `DataWriteErr`.

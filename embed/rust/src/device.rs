@@ -33,7 +33,8 @@ pub struct DeviceConfig {
     pub nonsecure: bool,
     /// The width of the data bus.
     pub bus: BusWidth,
-    /// The number of lines of the buffer, each as wide as the bus: at least one and at most 256 bytes for each channel.
+    /// The number of lines of the buffer, each as wide as the bus, 1 to 1,024. It only shows in CRD: each channel has
+    /// 256 bytes of buffer for itself.
     pub lines: u16,
     /// The revision.
     pub revision: Revision,
@@ -42,8 +43,8 @@ pub struct DeviceConfig {
 /// What a turn of a channel of a [`Device`] did.
 #[derive(Clone, Copy, Debug, PartialEq, Eq, Hash)]
 pub struct DeviceTurn {
-    /// The range that it wrote. Its length is 0 if it wrote nothing. Each byte in it was written, and no other byte of the
-    /// regions was.
+    /// The range that its steps wrote: each byte in it, also where the value stayed the same, and no other byte of the
+    /// regions. Its length is 0 if they wrote nothing.
     pub written: Segment,
     /// Whether a line of [`Device::irqs`], or [`Device::irq_abort`], has changed.
     pub lines_changed: bool,
@@ -133,9 +134,12 @@ impl Device {
     }
 
     /// Takes a turn of a channel: at most `most` steps, until one ends, waits, fails or executes a DMASEV, or before a
-    /// store that neither overlaps nor touches the range written so far. It takes one step if the program has, at any
-    /// offset, a DMAMOV CCR with beats wider than the bus. After the DMASEV of an interrupt it takes one more. It does
-    /// nothing for a channel that is stopped or faulting, or that the device doesn't have.
+    /// store that neither overlaps nor touches the range written so far, or with which it would have all 2^32 addresses.
+    /// After the DMASEV of an interrupt it takes one more, but a store apart from the range is left to the next turn, here
+    /// too. It does nothing for a channel that is stopped or faulting, or that the device doesn't have.
+    ///
+    /// So each address in the range was written, and lies in a region that isn't read-only, and no byte elsewhere has
+    /// changed, whatever the guest's program is.
     ///
     /// Fails with `BadRegions`.
     pub fn step(&mut self, channel: u8, most: u32, regions: &mut [Region<'_>]) -> Result<DeviceTurn, Error> {
@@ -154,12 +158,14 @@ impl Device {
         self.handle.irq_abort()
     }
 
-    /// Returns whether a step of any channel does more than wait. If not, nothing happens until the guest's next write.
+    /// Returns whether any channel runs and doesn't wait for an event that is clear, or that INTEN makes an interrupt. If
+    /// not, nothing happens until the guest's next write of a register, a reset or a restore: a turn changes nothing, and
+    /// reports no byte and no line.
     pub fn can_step(&self) -> bool {
         self.handle.can_step()
     }
 
-    /// Returns the whole device as bytes.
+    /// Returns the whole device as bytes. The last 4 are a checksum of all before them.
     pub fn save(&self) -> Vec<u8> {
         let mut out = vec![0; MAX_SAVE];
         let len = self.handle.save(&mut out).expect("no save is longer");
@@ -167,7 +173,8 @@ impl Device {
         out
     }
 
-    /// Makes the device the one that was saved.
+    /// Makes the device the one that was saved, by this version or an earlier one. Bytes that are the save of no device of
+    /// this configuration are refused, so each save of this version with a flipped bit.
     ///
     /// Fails with `OtherDevice`; or with `BadSave`, after which the device is in its state after a reset.
     pub fn restore(&mut self, save: &[u8]) -> Result<(), Error> {

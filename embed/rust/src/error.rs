@@ -48,7 +48,7 @@ pub enum Error {
     /// The size of a memory isn't 1 to 4294963200 bytes.
     SizeOutOfRange,
     /// There are more than 64 regions, or one begins before the end of the one before it (also if one of them is
-    /// empty), or one ends above 4294967295.
+    /// empty), or one ends above 4294967296.
     BadRegions,
     /// No device can have this configuration.
     BadConfig,
@@ -238,7 +238,7 @@ impl fmt::Display for Error {
             }
             Error::BadChannels => "the number of channels is not 1 to 8",
             Error::SizeOutOfRange => "the size is not 1 to 4294963200 bytes",
-            Error::BadRegions => "there are more than 64 regions, or they don't rise, overlap, or end above 4294967295",
+            Error::BadRegions => "there are more than 64 regions, or they don't rise, overlap, or end above 4294967296",
             Error::BadConfig => "no device can have this configuration",
             Error::EmptyList => "a list has no segment",
             Error::TooManySegments => "a list has more than 64 segments",

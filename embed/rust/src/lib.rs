@@ -492,7 +492,7 @@ impl fmt::Debug for Controller {
 /// Returns the version of the library.
 ///
 /// ```
-/// assert_eq!(dma330::version(), "dilkwafam 1.2");
+/// assert_eq!(dma330::version(), "dilkwafam 1.3");
 /// ```
 pub fn version() -> String {
     let mut out = vec![0; 64];

@@ -59,7 +59,8 @@ fn joined(a: Segment, b: Segment) -> Segment {
         return if a.len == 0 { b } else { a };
     }
     let addr = a.addr.min(b.addr);
-    Segment { addr, len: (a.addr + a.len).max(b.addr + b.len) - addr }
+    let last = (a.addr + (a.len - 1)).max(b.addr + (b.len - 1));
+    Segment { addr, len: last - addr + 1 }
 }
 
 // Returns the regions of these parts.
@@ -155,11 +156,11 @@ impl Runner {
             "rom" => self.parts[words.number() as usize].is_rom = true,
             "poke" => {
                 let (addr, bytes) = (words.number(), words.bytes());
-                (addr..).zip(bytes).for_each(|(addr, byte)| self.rest(addr)[0] = byte);
+                (0..).zip(bytes).for_each(|(n, byte)| self.rest(addr + n)[0] = byte);
             }
             "peek" => {
                 let (addr, len) = (words.number(), words.number());
-                return Some(hex(&(addr..addr + len).map(|addr| self.rest(addr)[0]).collect::<Vec<u8>>()));
+                return Some(hex(&(0..len).map(|n| self.rest(addr + n)[0]).collect::<Vec<u8>>()));
             }
             "equal" => {
                 let (a, b, len) = (words.number(), words.number(), words.number() as usize);

@@ -38,13 +38,21 @@ fn a_device_has_its_configuration() -> Result<(), Error> {
 }
 
 #[test]
+fn any_number_of_lines_that_crd_has_room_for() -> Result<(), Error> {
+    for lines in [1, 33, 512, 1024] {
+        assert_eq!(Device::open(DeviceConfig { lines, ..CONFIG })?.read(0xE14) >> 20, u32::from(lines) - 1);
+    }
+    Ok(())
+}
+
+#[test]
 fn no_device_is_outside_the_limits() {
     for config in [
         DeviceConfig { channels: 0, ..CONFIG },
         DeviceConfig { channels: 9, ..CONFIG },
         DeviceConfig { events: 33, ..CONFIG },
-        DeviceConfig { lines: 1, ..CONFIG },
-        DeviceConfig { lines: 33, ..CONFIG },
+        DeviceConfig { lines: 0, ..CONFIG },
+        DeviceConfig { lines: 1025, ..CONFIG },
     ] {
         assert_eq!(Device::open(config).err(), Some(Error::BadConfig), "{config:?}");
     }
@@ -70,6 +78,37 @@ fn turns_report_what_they_did() -> Result<(), Error> {
     assert_eq!((turn.lines_changed, device.irq_abort(), device.read(0x034)), (true, true, 1 << 1));
     device.reset();
     assert_eq!((device.irq_abort(), device.read(0x020), device.read(0x034)), (false, 0, 0));
+    Ok(())
+}
+
+// The program stores to RAM, raises an interrupt, and stores to far RAM, behind ROM and addresses that aren't lent. Each
+// turn's range has the bytes that were written in this turn, and no others: the second store is left to the next turn.
+#[test]
+fn a_turn_writes_each_byte_of_its_range() -> Result<(), Error> {
+    const FAR: u32 = 0xFFFC_0000;
+    let text = "DMAMOV SAR 0x80000100\nDMAMOV CCR 0x00014005\nDMAMOV DAR 0x80000FFC\nDMALD\nDMAST\n\
+                DMAMOV DAR 0xFFFC0000\nDMALD\nDMASEV 3\nDMAST\nDMAEND";
+    for most in 1..=12 {
+        let (mut ram, mut rom, mut far) = (vec![7; 0x1000], vec![8; 0x1000], vec![9; 0x100]);
+        ram[0x100..0x108].copy_from_slice(&[1, 2, 3, 4, 5, 6, 7, 8]);
+        let mut device = Device::open(CONFIG)?;
+        device.write(0x020, 1 << 3, &[])?;
+        start(&mut device, &mut ram, text)?;
+        let mut ranges = Vec::new();
+        while device.can_step() {
+            let kept = (ram.clone(), far.clone());
+            let mut lent =
+                [Region::new(RAM, &mut ram), Region::read_only(RAM + 0x1000, &mut rom), Region::new(FAR, &mut far)];
+            let written = device.step(1, most, &mut lent)?.written;
+            let is_in = |addr: u32| written.addr <= addr && addr - written.addr < written.len;
+            assert!((0..0x1000).all(|n| (kept.0[n as usize] != ram[n as usize]) == is_in(RAM + n)), "{written:?}");
+            assert!((0..0x100).all(|n| (kept.1[n as usize] != far[n as usize]) == is_in(FAR + n)), "{written:?}");
+            ranges.extend(Some(written).filter(|range| range.len > 0));
+        }
+        assert_eq!(ranges, [Segment::new(RAM + 0xFFC, 4), Segment::new(FAR, 4)], "{most} steps a turn");
+        assert_eq!((&ram[0xFFC..], &far[..4]), (&[1, 2, 3, 4][..], &[5, 6, 7, 8][..]));
+        assert_eq!((device.read(0x108), device.irqs(), device.irq_abort()), (0, 1 << 3, false));
+    }
     Ok(())
 }
 

@@ -2,7 +2,8 @@
 //! crate `dma330`.
 //!
 //! A [`LentMemory`] lends the memory for some calls. Each call marks what it wrote as dirty in the memory's bitmap, for
-//! instance in an `AtomicBitmap`, for a migration or a display. `examples/vmm.rs` is a device of a small VMM.
+//! instance in an `AtomicBitmap`, for a migration or a display: each byte of the range that it reports, and nothing but
+//! bytes of regions that it was lent for writing. `examples/vmm.rs` is a device of a small VMM.
 //!
 //! It is for version 0.10 of `vm-memory`, which Debian packs as `librust-vm-memory-dev`; `.cargo/config.toml` takes it
 //! from there. It is a crate of its own, since with an optional dependency `dma330` couldn't be built offline without
@@ -80,8 +81,9 @@ const MAX_REGIONS: usize = 64;
 /// drop(lent);
 /// ```
 pub struct LentMemory<'a, B = ()> {
-    memory: &'a GuestMemoryMmap<B>,
     regions: Vec<Region<'a>>,
+    // The regions that a call may write, and the addresses at which each is lent.
+    writable: Vec<(Range<u64>, &'a GuestRegionMmap<B>)>,
 }
 
 impl<'a, B: Bitmap + 'static> LentMemory<'a, B> {
@@ -101,7 +103,7 @@ impl<'a, B: Bitmap + 'static> LentMemory<'a, B> {
         memory: &'a GuestMemoryMmap<B>,
         is_rom: impl Fn(&GuestRegionMmap<B>) -> bool,
     ) -> Result<LentMemory<'a, B>, Error> {
-        let mut lent = LentMemory { memory, regions: Vec::new() };
+        let mut lent = LentMemory { regions: Vec::new(), writable: Vec::new() };
         let mut taken: Vec<Range<*mut u8>> = Vec::new();
         for region in memory.iter() {
             let (addr, len) = usable_part(region);
@@ -117,6 +119,9 @@ impl<'a, B: Bitmap + 'static> LentMemory<'a, B> {
             // does. No other region has them. For references and accesses by others, see the head of this file.
             lent.regions.push(unsafe { Region::from_raw_parts(addr, bytes.start, len, read_only) });
             taken.push(bytes);
+            if !read_only {
+                lent.writable.push((addr.into()..u64::from(addr) + len as u64, region));
+            }
         }
         Ok(lent)
     }
@@ -126,7 +131,8 @@ impl<'a, B: Bitmap + 'static> LentMemory<'a, B> {
         device.write(offset, value, &self.regions).expect(USABLE);
     }
 
-    /// Takes a turn of a device's channel, as [`Device::step`] does, and then marks what it wrote as dirty.
+    /// Takes a turn of a device's channel, as [`Device::step`] does, and then marks each byte that it wrote as dirty, also
+    /// where the value stayed the same, and no other.
     pub fn step(&mut self, device: &mut Device, channel: u8, most: u32) -> DeviceTurn {
         let turn = device.step(channel, most, &mut self.regions).expect(USABLE);
         self.mark(turn.written);
@@ -138,7 +144,8 @@ impl<'a, B: Bitmap + 'static> LentMemory<'a, B> {
         channel.load_from(&self.regions, addr).expect(USABLE);
     }
 
-    /// Takes steps of a channel, as [`Channel::step`] does, and then marks what they wrote as dirty.
+    /// Takes steps of a channel, as [`Channel::step`] does, and then marks each byte that they wrote as dirty, also where
+    /// the value stayed the same, and no other.
     ///
     /// Fails with `NoProgram`.
     pub fn step_channel(&mut self, channel: &mut Channel, flags: &mut u32, most: u32) -> Result<ChannelSteps, Error> {
@@ -147,14 +154,14 @@ impl<'a, B: Bitmap + 'static> LentMemory<'a, B> {
         Ok(steps)
     }
 
-    // Marks a range as dirty in the bitmap of each region that has a part of it.
+    // Marks a range as dirty in the bitmap of each region that has a part of it and that a call may write. By the
+    // library's laws these regions have all of it; no other region is marked whatever the range is.
     fn mark(&self, written: Segment) {
         let (start, len) = (u64::from(written.addr), u64::from(written.len));
-        for region in self.memory.iter() {
-            let base = region.start_addr().raw_value();
-            let (from, to) = (start.max(base), (start + len).min(base + region.len()));
+        for (lent, region) in &self.writable {
+            let (from, to) = (start.max(lent.start), (start + len).min(lent.end));
             if from < to {
-                region.bitmap().mark_dirty((from - base) as usize, (to - from) as usize);
+                region.bitmap().mark_dirty((from - lent.start) as usize, (to - from) as usize);
             }
         }
     }
@@ -165,7 +172,32 @@ const USABLE: &str = "the regions are at most 64, and rise as those of the memor
 
 // Returns the first address of a region, and the number of bytes from there on that can be lent.
 fn usable_part<B: Bitmap>(region: &GuestRegionMmap<B>) -> (u32, usize) {
-    let addr = u32::try_from(region.start_addr().raw_value()).unwrap_or(u32::MAX);
-    let room = if region.prot() & PROT_READ == 0 { 0 } else { u32::MAX - addr };
-    (addr, region.len().min(room.into()) as usize)
+    let Ok(addr) = u32::try_from(region.start_addr().raw_value()) else {
+        return (0, 0);
+    };
+    let room = if region.prot() & PROT_READ == 0 { 0 } else { (1 << 32) - u64::from(addr) };
+    (addr, region.len().min(room) as usize)
+}
+
+#[cfg(test)]
+mod tests {
+    use super::*;
+    use vm_memory::bitmap::AtomicBitmap;
+    use vm_memory::GuestAddress;
+
+    // No call reports such a range: it has gaps, ROM, and what isn't lent.
+    #[test]
+    fn only_what_may_be_written_is_marked() {
+        let ranges = [(0x1000, 0x1000), (0x3000, 0x1000), (0x5000, 0x2000), (0xFFFF_F000, 0x2000)];
+        let ranges = ranges.map(|(base, len)| (GuestAddress(base), len));
+        let memory = GuestMemoryMmap::<AtomicBitmap>::from_ranges(&ranges).expect("the ranges rise");
+        let is_rom = |region: &GuestRegionMmap<AtomicBitmap>| region.start_addr() == GuestAddress(0x3000);
+        let lent = LentMemory::with_rom(&memory, is_rom).expect("it has four regions");
+        lent.mark(Segment::new(0, u32::MAX));
+        lent.mark(Segment::new(u32::MAX, u32::MAX));
+        let dirty =
+            |base: u64, offset| memory.find_region(GuestAddress(base)).expect("it is a region").bitmap().dirty_at(offset);
+        assert_eq!([dirty(0x1000, 0), dirty(0x3000, 0), dirty(0x5000, 0), dirty(0x5000, 0x1000)], [true, false, true, true]);
+        assert_eq!([dirty(0xFFFF_F000, 0), dirty(0xFFFF_F000, 0x1000)], [true, false]);
+    }
 }

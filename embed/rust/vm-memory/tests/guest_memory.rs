@@ -139,6 +139,29 @@ fn each_turn_marks_its_own_range() {
     assert_eq!(dirty_pages(&memory), [0x4000]);
 }
 
+// After the DMASEV of an interrupt, a store that is far from the first belongs to the next turn.
+#[test]
+fn nothing_between_two_stores_is_marked() {
+    let memory = ram_of(&[(0x1000, 0x3000), (0x8000, 0x1000), (0xFFFC_0000, 0x1000)]);
+    let text = "DMAMOV SAR 0x00002000\nDMAMOV CCR 0x00014005\nDMAMOV DAR 0x00003000\nDMALD\nDMAST\n\
+                DMAMOV DAR 0xFFFC0000\nDMALD\nDMASEV 3\nDMAST\nDMAEND";
+    put(&memory, 0x1000, &assemble(text).expect("it is a program"));
+    put(&memory, 0x2000, &numbers(8));
+    clean(&memory);
+    let lent = LentMemory::with_rom(&memory, |region| region.start_addr() == GuestAddress(0x8000));
+    let (mut lent, mut device) = (lent.expect("it has three regions"), Device::open(CONFIG).expect("there is memory"));
+    for (offset, value) in [(0x020, 1 << 3), (0xD08, 0x01A0_0000), (0xD0C, 0x1000), (0xD04, 0)] {
+        lent.write(&mut device, offset, value);
+    }
+    assert_eq!(lent.step(&mut device, 1, 100).written, Segment::new(0x3000, 4));
+    assert_eq!((device.irqs(), get(&memory, 0xFFFC_0000, 4)), (1 << 3, vec![0; 4]));
+    assert_eq!(dirty_pages(&memory), [0x3000]);
+    clean(&memory);
+    assert_eq!(lent.step(&mut device, 1, 100).written, Segment::new(0xFFFC_0000, 4));
+    assert_eq!((device.can_step(), get(&memory, 0xFFFC_0000, 4)), (false, vec![4, 5, 6, 7]));
+    assert_eq!(dirty_pages(&memory), [0xFFFC_0000]);
+}
+
 #[test]
 fn holes_are_faults() {
     let memory = ram_of(&[(0x1000, 0x1000), (0x3000, 0x1000)]);
@@ -153,7 +176,7 @@ fn holes_are_faults() {
 
 #[test]
 fn memory_above_four_gibibytes_is_left_out() {
-    let memory = ram_of(&[(0x1000, 0x1000), (0xFFFF_FFFF, 0x1000), (0x1_0000_2000, 0x1000), (0x7_0000_0000, 0x1000)]);
+    let memory = ram_of(&[(0x1000, 0x1000), (0x1_0000_0000, 0x1000), (0x1_0000_2000, 0x1000), (0x7_0000_0000, 0x1000)]);
     put(&memory, 0x1_0000_2000, &[7; 0x1000]);
     assert_eq!(run_clean(&memory, 0x1000, &copy(0x2000, 0x1800, BYTES, 1)), DATA_READ_ERR);
     for dst in [0x0000_0000, 0x0000_2000, 0xFFFF_FFFF] {
@@ -164,18 +187,18 @@ fn memory_above_four_gibibytes_is_left_out() {
 }
 
 #[test]
-fn memory_up_to_four_gibibytes_is_lent_except_for_its_last_byte() {
+fn memory_up_to_four_gibibytes_is_lent() {
     for len in [0x1_0000, 0x3_0000] {
         let memory = ram_of(&[(0xFFFF_0000, len)]);
         put(&memory, 0xFFFF_8000, &[1, 2]);
-        assert_eq!(run_clean(&memory, 0xFFFF_0000, &copy(0xFFFF_8000, 0xFFFF_FFFD, BYTES, 2)), 0);
-        assert_eq!(get(&memory, 0xFFFF_FFFD, 3), [1, 2, 0]);
+        assert_eq!(run_clean(&memory, 0xFFFF_0000, &copy(0xFFFF_8000, 0xFFFF_FFFE, BYTES, 2)), 0);
+        assert_eq!(get(&memory, 0xFFFF_FFFD, 3), [0, 1, 2]);
         assert_eq!(dirty_pages(&memory), [0xFFFF_F000]);
-        assert_eq!(run_clean(&memory, 0xFFFF_0000, &copy(0xFFFF_FFFE, 0xFFFF_9000, BYTES, 1)), 0);
-        assert_eq!(get(&memory, 0xFFFF_9000, 1), [2]);
-        assert_eq!(run_clean(&memory, 0xFFFF_0000, &copy(0xFFFF_8000, 0xFFFF_FFFF, BYTES, 1)), DATA_WRITE_ERR);
-        assert_eq!(run_clean(&memory, 0xFFFF_0000, &copy(0xFFFF_FFFF, 0xFFFF_9000, BYTES, 1)), DATA_READ_ERR);
-        assert_eq!(get(&memory, 0xFFFF_FFFD, 3), [1, 2, 0]);
+        assert_eq!(run_clean(&memory, 0xFFFF_0000, &copy(0xFFFF_FFFE, 0xFFFF_9000, BYTES, 2)), 0);
+        assert_eq!(get(&memory, 0xFFFF_9000, 2), [1, 2]);
+        assert_eq!(run_clean(&memory, 0xFFFF_0000, &copy(0xFFFF_8000, 0xFFFF_FF10, BURSTS, 1)), DATA_WRITE_ERR);
+        assert_eq!(run_clean(&memory, 0xFFFF_0000, &copy(0xFFFF_FF10, 0xFFFF_9000, BURSTS, 1)), DATA_READ_ERR);
+        assert_eq!(get(&memory, 0xFFFF_FFFD, 3), [0, 1, 2]);
     }
 }
 
