@@ -282,6 +282,70 @@ ordered_from rs h = record {
   ends = λ i j d l m. elim (cases_lt i j) [ inl low ↦ omega (arith, h.apart i j d low m) | inr same_ ↦ omega (arith, ap (λ k. (get_or rs k d).addr + (get_or rs k d).len) (same_index i j l same_)) ];
 }
 
+-- ---- one list for each set of addresses
+
+-- the first address of coalesced ranges
+first_place : (x : Segment) (xs : List Segment) (a : ℕ) → IsCoalesced (x ∷ xs) → Contains (places (x ∷ xs)) a → x.addr ≤ a
+first_place x xs a h i = elim (places-cons x xs a i) [
+  | inl here ↦ here.0
+  | inr later ↦ let at = places_in xs nowhere a later in omega (arith, h.apart 0 (suc at.k) nowhere (omega arith) (omega (arith, at.within)), at.lies.0)
+]
+
+-- behind the first range, all addresses lie past its end
+later_place : (x : Segment) (xs : List Segment) (a : ℕ) → IsCoalesced (x ∷ xs) → Contains (places xs) a → x.addr + x.len < a
+later_place x xs a h i =
+    let at = places_in xs nowhere a i in
+    omega (arith, h.apart 0 (suc at.k) nowhere (omega arith) (omega (arith, at.within)), at.lies.0)
+
+coalesced_rest : (x : Segment) (xs : List Segment) → IsCoalesced (x ∷ xs) → IsCoalesced xs
+coalesced_rest x xs h = record {
+  filled = All-tail (λ (s : Segment). 0 < s.len) x xs h.filled;
+  apart = λ i j d l m. h.apart (suc i) (suc j) d (omega arith) (omega arith);
+}
+
+-- of two lists with the same addresses, the first range of the second begins no later, and ends no later
+begins_by : (x y : Segment) (xs ys : List Segment) → IsCoalesced (x ∷ xs) → IsCoalesced (y ∷ ys) → SameAddresses (x ∷ xs) (y ∷ ys) → y.addr ≤ x.addr
+begins_by x y xs ys h k same =
+    first_place y ys x.addr k ((same x.addr).0 (place_here x xs x.addr (omega arith, omega (arith, h.filled 0 nowhere (omega arith)))))
+
+ends_by : (x y : Segment) (xs ys : List Segment) → IsCoalesced (x ∷ xs) → SameAddresses (x ∷ xs) (y ∷ ys) → x.addr ≡ y.addr → y.addr + y.len ≤ x.addr + x.len
+ends_by x y xs ys h same start = elim (cases_lt (x.addr + x.len) (y.addr + y.len)) [
+  | inl past ↦
+      let e = x.addr + x.len in
+      absurd (elim (places-cons x xs e ((same e).1 (place_here y ys e (omega (arith, start), past)))) [
+        | inl here ↦ omega (arith, here.1)
+        | inr later ↦ omega (arith, later_place x xs e h later)
+      ])
+  | inr within ↦ within
+]
+
+same_segment : (x y : Segment) → x.addr ≡ y.addr → x.len ≡ y.len → x ≡ y
+same_segment x y e f = ap (λ a. record { addr = a; len = x.len }) e ∙ ap (λ n. record { addr = y.addr; len = n }) f
+
+-- the addresses of the later ranges
+same_rest : (x : Segment) (xs ys : List Segment) → IsCoalesced (x ∷ xs) → IsCoalesced (x ∷ ys) → SameAddresses (x ∷ xs) (x ∷ ys) → SameAddresses xs ys
+same_rest x xs ys h k same = λ a. (
+  λ i. elim (places-cons x ys a ((same a).0 (place_later x xs a i))) [ inl here ↦ absurd (omega (arith, here.1, later_place x xs a h i)) | inr later ↦ later ],
+  λ i. elim (places-cons x xs a ((same a).1 (place_later x ys a i))) [ inl here ↦ absurd (omega (arith, here.1, later_place x ys a k i)) | inr later ↦ later ],
+)
+
+-- so coalesced ranges with the same addresses are the same ranges
+pub coalesced_same : (xs ys : List Segment) → IsCoalesced xs → IsCoalesced ys → SameAddresses xs ys → xs ≡ ys
+coalesced_same [] [] h k same = refl
+coalesced_same [] (y ∷ ys) h k same =
+    let i = (same y.addr).1 (place_here y ys y.addr (omega arith, omega (arith, k.filled 0 nowhere (omega arith)))) in absurd (omega (arith, i.1))
+coalesced_same (x ∷ xs) [] h k same =
+    let i = (same x.addr).0 (place_here x xs x.addr (omega arith, omega (arith, h.filled 0 nowhere (omega arith)))) in absurd (omega (arith, i.1))
+coalesced_same (x ∷ xs) (y ∷ ys) h k same =
+    let back : SameAddresses (y ∷ ys) (x ∷ xs) = λ a. ((same a).1, (same a).0) in
+    let start : x.addr ≡ y.addr = omega (arith, begins_by x y xs ys h k same, begins_by y x ys xs k h back) in
+    let len : x.len ≡ y.len = omega (arith, start, ends_by x y xs ys h same start, ends_by y x ys xs k back (sym start)) in
+    let one = sym (same_segment x y start len) in
+    let k' = subst (λ (s : Segment). IsCoalesced (s ∷ ys)) one k in
+    let same' = subst (λ (s : Segment). SameAddresses (x ∷ xs) (s ∷ ys)) one same in
+    let rest = coalesced_same xs ys (coalesced_rest x xs h) (coalesced_rest y ys k) (same_rest x xs ys h k' same') in
+    ap (λ (s : Segment). s ∷ xs) (sym one) ∙ ap (λ l. y ∷ l) rest
+
 -- a list has an address of the set where one of its segments has
 pub share-each : (list : List Segment) (ys : List ℕ) → list_any (λ s. share (range_of s) ys) list ≡ share (places list) ys
 share-each [] ys = sym (share_none [] ys (λ a i j. omega (arith, i.1)))

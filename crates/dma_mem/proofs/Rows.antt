@@ -1,18 +1,27 @@
--- The limits, as numbers: rows computed from the definitions, and the code's own constants.
-use Rattle.std.proofs.Common.{◌≡◌, ℕ, ◌+◌, ◌*◌, ◌<◌, ◌≤◌, List, [], ◌∷◌, Option, Some, None, true, false, length, map, refl, sym, ◌∙◌, arith}
-use Rattle.std.specs.List.{Contains, range_with_len}
+-- Rows computed from the definitions: the limits, as numbers, and the code's own constants; fills; sets of addresses;
+-- pages.
+use Rattle.std.proofs.Common.{◌≡◌, ℕ, ◌+◌, ◌*◌, ◌/◌, ◌<◌, ◌≤◌, List, [], ◌∷◌, Option, Some, None, Bool, true, false, length, map, get_or, inl, inr, refl, sym, ap, subst, ◌∙◌, arith}
+use Rattle.std.specs.Prelude.{nat_eq}
+use Rattle.std.specs.List.{Contains, list_all, list_any, range_with_len}
 use Rattle.dma_mem.specs.declared.segment.Segment.{Segment}
 use Rattle.dma_mem.specs.declared.transfer.TransferFault.TheVariants.{TooManySegments, SegmentWraps, TooLong, SourceMeetsDestination, BadEvent}
 use Rattle.dma_mem.specs.declared.limits.TheConstants as code
 use Rattle.dma_mem.specs.Limits as limits
-use Rattle.dma_mem.specs.Places.{Descriptor, filling, moves, places, share, sources}
+use Rattle.dma_mem.specs.Pages.{Paged, AllMade, Keeps, MakesNoOther, has_page, is_made}
+use Rattle.dma_mem.specs.Places.{Descriptor, filling, moves, places, range_of, share, sources}
+use Rattle.dma_mem.specs.Ranges.{IsCoalesced, SameAddresses}
 use Rattle.dma_mem.specs.Flags.{all_clear}
 use Rattle.dma_mem.specs.Image.{is_size}
 use Rattle.dma_mem.specs.Refusals.{refusal_of, refusal_of_fill}
 use Rattle.dma_mem.specs.Rules.{IsTransfer, IsSegmentList}
 use Rattle.dma_mem.proofs.TransferRules.{copy-from_no_refusal, length-places, meets_any-places, once-places}
-use Rattle.dma_mem.proofs.SharedPlaces.{share-false, share_none}
+use Rattle.dma_mem.proofs.PageImages.{is_made-from, is_made-parts, segment_made, segment_not_made}
+use Rattle.dma_mem.proofs.RangeSets.{coalesced_same, same-trans, spread_from}
+use Rattle.dma_mem.proofs.SharedPlaces.{in_range, range_in, share-false, share_none}
+use Rattle.std.proofs.lemmas.Bool.{cases_lt, eqb-true, false_from_ne_true, true≢false}
 use Rattle.std.proofs.lemmas.List.FromFn.{length-range_with_len, get_or-range_with_len}
+use Rattle.std.proofs.lemmas.List.Sums.{AllPass-from_list_all}
+use Rattle.std.proofs.lemmas.Map.Views.{Contains-from_any}
 
 -- ---- the code's constants
 
@@ -191,3 +200,105 @@ over_its_byte = refl
 up_to_its_byte : refusal_of_fill 16 (record { addr = 14; len = 2 } ∷ record { addr = 17; len = 2 } ∷ []) None None ≡ None
 unfolding share
 up_to_its_byte = refl
+
+-- ---- sets of addresses
+
+-- four segments in no order, of which three meet or touch, and their addresses as ranges
+abbrev given : List Segment
+given =
+    record { addr = 16; len = 4 } ∷ record { addr = 18; len = 4 } ∷ record { addr = 32; len = 2 } ∷ record { addr = 22; len = 2 } ∷ []
+
+abbrev joined : List Segment
+joined = record { addr = 16; len = 8 } ∷ record { addr = 32; len = 2 } ∷ []
+
+addresses_in : (xs ys : List ℕ) → list_all (λ a. list_any (nat_eq a) ys) xs ≡ true → (a : ℕ) → Contains xs a → Contains ys a
+addresses_in xs ys h a i =
+    let found : list_any (nat_eq (get_or xs i.0 a)) ys ≡ true = AllPass-from_list_all (λ b. list_any (nat_eq b) ys) xs h i.0 a i.1 in
+    subst (Contains ys) i.2 (Contains-from_any eqb-true (get_or xs i.0 a) ys found)
+
+joined_same : SameAddresses joined given
+joined_same = λ a. (addresses_in (places joined) (places given) refl a, addresses_in (places given) (places joined) refl a)
+
+joined_coalesced : IsCoalesced joined
+joined_coalesced = (spread_from 0 joined (omega arith, omega arith, (omega arith, omega arith, tt))).coalesced
+
+-- a set of the four segments has these ranges and no others
+joined_alone : (ranges : List Segment) → SameAddresses ranges given → IsCoalesced ranges → ranges ≡ joined
+joined_alone ranges same h = coalesced_same ranges joined h joined_coalesced (same-trans ranges given joined same (λ a. ((joined_same a).1, (joined_same a).0)))
+
+-- a set of no segment has none
+none_alone : (ranges : List Segment) → SameAddresses ranges [] → IsCoalesced ranges → ranges ≡ []
+none_alone ranges same h = coalesced_same ranges [] h (spread_from 0 [] tt).coalesced same
+
+-- whether ranges meet the segment of this address and length
+abbrev met : List Segment → ℕ → ℕ → Bool
+met ranges addr len = share (range_of (record { addr = addr; len = len })) (places ranges)
+
+meets_the_last_joined : met joined 23 1 ≡ true
+unfolding share
+meets_the_last_joined = refl
+
+meets_across_a_start : met joined 31 2 ≡ true
+unfolding share
+meets_across_a_start = refl
+
+between_the_ranges : met joined 24 8 ≡ false
+unfolding share
+between_the_ranges = refl
+
+before_the_second : met joined 31 1 ≡ false
+unfolding share
+before_the_second = refl
+
+empty_in_a_range : met joined 18 0 ≡ false
+unfolding share
+empty_in_a_range = refl
+
+meets_no_range : met [] 0 1 ≡ false
+unfolding share
+meets_no_range = refl
+
+-- ---- pages
+
+-- a memory of four pages, of which none is made
+record HasNoPage (m : Paged) : Type 0 where
+  pub size : length m.image ≡ 16384
+  pub none : (p : ℕ) → has_page m p ≡ false
+
+-- the last byte of the second page and the first of the third
+abbrev prepared : List ℕ
+prepared = range_of (record { addr = 8191; len = 2 })
+
+-- the memory before and after a call that prepares them
+record IsPrepared (old new : Paged) : Type 0 where
+  pub made : AllMade new prepared
+  pub keeps : Keeps old new
+  pub others : MakesNoOther old new prepared
+
+page_is : (a p : ℕ) → 4096 * p ≤ a → a < 4096 * p + 4096 → a / 4096 ≡ p
+page_is a p low high = omega arith
+
+-- an address on a page without the flag isn't made
+unflagged : (m : Paged) (a p : ℕ) → a / 4096 ≡ p → has_page m p ≡ false → is_made m a ≡ false
+unflagged m a p on none =
+    false_from_ne_true _ (λ e. true≢false (sym (is_made-parts m a e).1 ∙ ap (has_page m) on ∙ none))
+
+not_made_at_first : (m : Paged) → HasNoPage m → list_all (is_made m) (range_of (record { addr = 4096; len = 1 })) ≡ false
+not_made_at_first m h = segment_not_made m 4096 1 4096 (omega arith) (omega arith) (unflagged m 4096 1 (omega arith) (h.none 1))
+
+-- afterwards both pages are made
+second_and_third : (old new : Paged) → HasNoPage old → IsPrepared old new → list_all (is_made new) (range_of (record { addr = 4096; len = 8192 })) ≡ true
+second_and_third old new h k =
+    let flag : (a p : ℕ) → 8191 ≤ a → a < 8193 → a / 4096 ≡ p → has_page new p ≡ true = λ a p low high on.
+    ap (has_page new) (sym on) ∙ (is_made-parts new a (k.made a (in_range 8191 2 a low high))).1 in
+    segment_made new 4096 8192 (λ a low high.
+    is_made-from new a (omega (arith, high, k.keeps.size, h.size)) (elim (cases_lt a 8192) [
+      | inl second ↦ ap (has_page new) (page_is a 1 (omega arith) (omega arith)) ∙ flag 8191 1 (omega arith) (omega arith) (omega arith)
+      | inr third ↦ ap (has_page new) (page_is a 2 (omega arith) (omega arith)) ∙ flag 8192 2 (omega arith) (omega arith) (omega arith)
+    ]))
+
+-- and the first isn't
+first_is_not : (old new : Paged) → HasNoPage old → IsPrepared old new → list_all (is_made new) (range_of (record { addr = 4095; len = 2 })) ≡ false
+first_is_not old new h k =
+    let same : has_page new 0 ≡ has_page old 0 = k.others 0 (λ a i on. let low = (range_in 8191 2 a i).0 in omega (arith, low, on)) in
+    segment_not_made new 4095 2 4095 (omega arith) (omega arith) (unflagged new 4095 0 (omega arith) (same ∙ h.none 0))

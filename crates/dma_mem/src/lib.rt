@@ -20,7 +20,7 @@ pub mod limits;
 pub mod lists;
 pub mod marks;
 pub mod memory;
-mod ordered;
+pub mod ordered;
 mod page_flags;
 pub mod ram;
 pub mod range_set;

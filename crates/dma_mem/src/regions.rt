@@ -2,7 +2,7 @@
 
 mod search;
 
-ghost use Rattle.std.specs.Prelude.{◌≡◌, ◌+◌, ◌-◌, ◌<◌, ◌≤◌, ◌⊎◌, ◌++◌, ◌∷◌, [], ◌&&◌, ◌||◌, nat_lt, length, take, drop, replicate, IsTrue, slice_index};
+ghost use Rattle.std.specs.Prelude.{◌≡◌, ◌+◌, ◌-◌, ◌<◌, ◌≤◌, ◌⊎◌, ◌++◌, ◌∷◌, [], ◌&&◌, ◌||◌, nat_lt, length, take, drop, replicate, IsTrue, slice_index, vec_capacity};
 ghost use Rattle.dma_mem.specs.Regions.{in_order, pieces_of, piece_of, end_of, has, image_of, largest_end, run_from};
 ghost use Rattle.dma_mem.specs.inner.Rewritten.{bars, Holds, Writable, Rewritten, rest_from};
 
@@ -12,7 +12,7 @@ use crate::ram::Ram;
 use crate::regions::search::{clear_of, place, region_with_range, size_of};
 use crate::segment::Segment;
 use crate::table::blocks::{copy_bytes_apart, fill_bytes};
-use crate::table::{put_bytes, put_parts};
+use crate::table::put_parts;
 
 // How many bytes are copied at once from one region to another.
 const BLOCK_SIZE: usize = 1024;
@@ -107,25 +107,25 @@ fn bytes_from<'a>(regions: &'a [Region<'_>], addr: u32) -> &'a [u8]
     regions[index].rest_from(u64::from(addr))
 }
 
-/// Copies the bytes from an address up to the first address that no region has to a block, as many as fit, and returns
-/// their number.
-pub fn copy_run(regions: &[Region<'_>], addr: u32, block: &mut [u8]) -> usize
-    ensures few { result ≤ length block.new }
-    ensures run { take result block.new
-        ≡ take (length block.old) (run_from (pieces_of regions.now) addr) }
+/// Replaces the bytes of a list that has room for `most` by those from an address up to the first address that no region
+/// has, at most `most`. Each of them is copied once, and nothing is allocated.
+pub fn copy_run(regions: &[Region<'_>], addr: u32, most: usize, bytes: &mut Vec<u8>)
+    requires { most ≤ vec_capacity bytes.old }
+    ensures run { bytes.new.items ≡ take most (run_from (pieces_of regions.now) addr) }
+    ensures room { vec_capacity bytes.old ≤ vec_capacity bytes.new }
 {
+    bytes.clear();
     let mut at = u64::from(addr);
-    let mut count = 0;
     for region in regions {
         if region.has(at) {
             let rest = region.rest_from(at);
-            let part = &rest[..rest.len().min(block.len() - count)];
-            put_bytes(block, count, part);
-            count += part.len();
+            let part = &rest[..rest.len().min(most - bytes.len())];
+            let Ok(()) = bytes.extend_from_slice(part) else {
+                unreachable!()
+            };
             at = region.end();
         }
     }
-    count
 }
 
 // Returns the byte at an address, or 0 if no region has it.

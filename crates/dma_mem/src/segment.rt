@@ -1,8 +1,11 @@
 //! A range of addresses.
 
-ghost use Rattle.std.specs.Prelude.{◌≡◌, ◌+◌, ◌↔◌, IsTrue, nat_lt};
+ghost use Rattle.std.specs.Prelude.{◌≡◌, ◌+◌, ◌<◌, ◌↔◌, All, IsTrue, nat_lt};
+ghost use Rattle.std.specs.List.Sorted.{IsNonDecreasingBy};
+ghost use Rattle.dma_mem.specs.declared.segment.Segment.{Segment};
 ghost use Rattle.dma_mem.specs.Meeting.{Meets, meets};
 ghost use Rattle.dma_mem.specs.Places.{end_of_addresses};
+ghost use Rattle.dma_mem.specs.Refusals.{some_meet};
 
 /// The end of the 32-bit addresses (PL330 manual, SAR and DAR).
 const END_OF_ADDRESSES: u64 = 4_294_967_296;
@@ -42,4 +45,18 @@ pub fn meets(a: Segment, b: Segment) -> bool
         return false;
     }
     u64::from(a.addr) < b.end() && u64::from(b.addr) < a.end()
+}
+
+/// Returns whether two of the segments meet. They are sorted by their first addresses, so two neighbours meet then.
+pub fn neighbours_meet(sorted: &[Segment]) -> bool
+    requires filled { All (λ s. 0 < s.len) sorted.now }
+    requires rising { IsNonDecreasingBy (λ (s : Segment). s.addr) sorted.now }
+    ensures { result ≡ some_meet sorted.now }
+{
+    for next in 1..sorted.len() {
+        if u64::from(sorted[next].addr) < sorted[next - 1].end() {
+            return true;
+        }
+    }
+    false
 }

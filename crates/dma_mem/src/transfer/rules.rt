@@ -1,18 +1,17 @@
 //! The rules of a transfer, tested one after another.
 
-ghost use Rattle.std.specs.Prelude.{◌≡◌, ◌+◌, ◌<◌, ◌≤◌, All, IfOk, IfErr, MatchResult, length, OnOk};
+ghost use Rattle.std.specs.Prelude.{◌≡◌, ◌<◌, ◌≤◌, All, IfOk, IfErr, MatchResult, length, OnOk};
 ghost use Rattle.dma_mem.specs.Limits.{most_segments};
 ghost use Rattle.dma_mem.specs.Places.{Descriptor, filling, places, range_of, share};
 ghost use Rattle.dma_mem.specs.Meeting.{meets};
 ghost use Rattle.std.specs.List.{list_any};
-ghost use Rattle.std.specs.List.Sorted.{IsNonDecreasingBy};
 ghost use Rattle.dma_mem.specs.declared.segment.Segment.{Segment};
 ghost use Rattle.dma_mem.specs.inner.Checking.{may_differ};
-ghost use Rattle.dma_mem.specs.Refusals.{refusal_of, refusal_of_fill, overlap_of, total, some_meet, meets_any, has_empty_segment, has_wrapping_segment, is_bad_event};
+ghost use Rattle.dma_mem.specs.Refusals.{refusal_of, refusal_of_fill, overlap_of, total, meets_any, has_empty_segment, has_wrapping_segment, is_bad_event};
 
 use crate::limits::{LAST_EVENT, MAX_SEGMENTS, MAX_TRANSFER_BYTES};
 use crate::ordered::{any_meets_ordered, sort_by_address};
-use crate::segment::{Segment, meets};
+use crate::segment::{Segment, meets, neighbours_meet};
 use crate::transfer::TransferFault;
 
 // Returns whether a segment of the list has no byte.
@@ -63,20 +62,6 @@ pub(crate) fn lists_meet(list: &[Segment], others: &[Segment]) -> bool
     ensures { result ≡ share (places list.now) (places others.now) }
 {
     meets_any(list, others)
-}
-
-// Returns whether two of the segments meet. They are sorted by their first addresses, so two neighbours meet then.
-fn neighbours_meet(sorted: &[Segment]) -> bool
-    requires filled { All (λ s. 0 < s.len) sorted.now }
-    requires rising { IsNonDecreasingBy (λ (s : Segment). s.addr) sorted.now }
-    ensures { result ≡ some_meet sorted.now }
-{
-    for next in 1..sorted.len() {
-        if u64::from(sorted[next].addr) < sorted[next - 1].end() {
-            return true;
-        }
-    }
-    false
 }
 
 // Returns how the lists overlap: two destinations meet, or else a source meets a destination. The destinations are

@@ -1,12 +1,11 @@
-use Rattle.std.proofs.Common.{◌≡◌, ℕ, ◌+◌, ◌-◌, ◌++◌, ◌∷◌, List, length, min, take, drop, true, false, refl, arith, ap, sym, ◌∙◌}
-use Rattle.std.proofs.lemmas.List.{length-take-le}
+use Rattle.std.proofs.Common.{◌≡◌, ℕ, ◌+◌, ◌-◌, ◌≤◌, ◌++◌, ◌∷◌, List, Vec, Global, vec_capacity, length, min, take, drop, true, false, arith, ap, sym, ◌∙◌}
+use Rattle.std.proofs.lemmas.List.{length-append, length-take-le}
 use Rattle.dma_mem.specs.declared.regions.Region.{Region}
-use Rattle.dma_mem.specs.Image.{put, bytes_at}
-use Rattle.dma_mem.specs.Regions.{pieces_of, piece_of, has, run_from, end_of}
+use Rattle.dma_mem.specs.Regions.{pieces_of, piece_of, has, run_from}
 use Rattle.dma_mem.proofs.RegionSearch.{drop_item}
-use Rattle.dma_mem.proofs.RunsCopied.{run_copied, run_same, run_past}
+use Rattle.dma_mem.proofs.RunsCopied.{run_copied, run_past}
 use Rattle.dma_mem.proofs.regions.copy_run.Goals as goal
-use Rattle.dma_mem.proofs.regions.copy_run.Goals.{then-has, else-has}
+use Rattle.dma_mem.proofs.regions.copy_run.Goals.{then-has+in-Ok, else-has}
 
 pub loop-region-preserved : goal.loop-region-preserved
 loop-region-preserved c =
@@ -14,35 +13,41 @@ loop-region-preserved c =
     let i = c.loop-region.region-index in
     let r = c.region-item.result in
     let rest = drop (i + 1) rs in
-    let block = c.loop-region.block in
+    let bytes = c.loop-region.bytes.items in
     let at = c.loop-region.at in
-    let count = c.loop-region.count in
-    let n = length block in
-    let all = take n (run_from (pieces_of rs) c.args.addr) in
-    let so_far : take count block ++ take (n - count) (run_from (piece_of r ∷ pieces_of rest) at) ≡ all =
-    sym (ap (λ (qs : List Region). take count block ++ take (n - count) (run_from (pieces_of qs) at)) (drop_item rs i r (omega arith) c.region-item.is)) ∙ c.loop-region.invariant.copied in
+    let most = c.args.most in
+    let all = take most (run_from (pieces_of rs) c.args.addr) in
+    let so_far : bytes ++ take (most - length bytes) (run_from (piece_of r ∷ pieces_of rest) at) ≡ all =
+    sym (ap (λ (qs : List Region). bytes ++ take (most - length bytes) (run_from (pieces_of qs) at)) (drop_item rs i r (omega arith) c.region-item.is)) ∙ c.loop-region.invariant.copied in
     elim c.if-has.branch [
-      | then-has w ↦
-          let bytes = w.rest_from-rest.result.now in
-          let part = take w.min.result bytes in
-          let long : length part ≡ w.min.result = length-take-le w.min.result bytes (omega (arith, w.min.ensures)) in
+      | then-has+in-Ok w ↦
+          let found = w.rest_from-rest.result.now in
+          let part = take w.min.result found in
+          let long : length part ≡ w.min.result = length-take-le w.min.result found (omega (arith, w.min.ensures)) in
           let here : has at (piece_of r) ≡ true = sym c.has.ensures ∙ w.if-has.true in
-          let is = run_copied (piece_of r) (pieces_of rest) at n count block part all here c.loop-region.invariant.room refl
-          (ap (λ (k : ℕ). take k bytes) w.min.ensures ∙ ap (λ (xs : List ℕ). take (min (length xs) (n - count)) xs) w.rest_from-rest.ensures)
-          (long ∙ w.min.ensures ∙ ap (λ (xs : List ℕ). min (length xs) (n - count)) w.rest_from-rest.ensures) so_far in
+          let cut : w.min.result ≡ min (length found) (most - length bytes) = omega (arith, w.min.ensures, w.len.ensures, c.loop-region.bytes.ok) in
+          let both : c.if-has.bytes.items ≡ bytes ++ part = ap (λ (v : Vec ℕ Global). v.items) w.bytes-is ∙ w.in-Ok.ensures.items in
+          let size : length c.if-has.bytes.items ≡ length bytes + w.min.result = ap length both ∙ length-append bytes part ∙ ap (λ (n : ℕ). length bytes + n) long in
+          let larger : vec_capacity c.loop-region.bytes ≤ vec_capacity c.if-has.bytes = omega (arith, ap (λ (v : Vec ℕ Global). vec_capacity v) w.bytes-is, w.in-Ok.ensures.capacity) in
           record {
-            room = omega (arith, w.count-is, long, w.min.ensures, c.if-has.auto.block);
-            copied = run_same c.if-has.block (put block (bytes_at count part)) c.if-has.count (count + length part) c.if-has.at (end_of (piece_of r)) (length c.if-has.block) n (pieces_of rest) (w.block-is ∙ w.put_bytes.ensures) w.count-is (w.at-is ∙ w.end-at.ensures) c.if-has.auto.block
-                ∙ is
-                ∙ sym (ap (λ (k : ℕ). take k (run_from (pieces_of rs) c.args.addr)) c.if-has.auto.block);
+            few = omega (arith, size, cut, c.loop-region.invariant.few);
+            room = omega (arith, larger, c.loop-region.invariant.room);
+            keeps = omega (arith, larger, c.loop-region.invariant.keeps);
+            copied = run_copied (piece_of r) (pieces_of rest) at c.if-has.at most bytes part c.if-has.bytes.items all here (w.at-is ∙ w.end-at.ensures)
+                (ap (λ (k : ℕ). take k found) cut ∙ ap (λ (xs : List ℕ). take (min (length xs) (most - length bytes)) xs) w.rest_from-rest.ensures) both
+                (long ∙ cut ∙ ap (λ (xs : List ℕ). min (length xs) (most - length bytes)) w.rest_from-rest.ensures) so_far;
           }
       | else-has w ↦
           let no : has at (piece_of r) ≡ false = sym c.has.ensures ∙ w.if-has.false in
+          let same : c.if-has.bytes.items ≡ bytes = ap (λ (v : Vec ℕ Global). v.items) w.bytes-is in
+          let room : vec_capacity c.if-has.bytes ≡ vec_capacity c.loop-region.bytes = ap (λ (v : Vec ℕ Global). vec_capacity v) w.bytes-is in
           record {
-            room = omega (arith, w.count-is, c.if-has.auto.block);
-            copied = run_same c.if-has.block block c.if-has.count count c.if-has.at at (length c.if-has.block) n (pieces_of rest) w.block-is w.count-is w.at-is c.if-has.auto.block
-                ∙ ap (λ (xs : List ℕ). take count block ++ take (n - count) xs) (sym (run_past (piece_of r) (pieces_of rest) at no))
-                ∙ so_far
-                ∙ sym (ap (λ (k : ℕ). take k (run_from (pieces_of rs) c.args.addr)) c.if-has.auto.block);
+            few = omega (arith, ap length same, c.loop-region.invariant.few);
+            room = omega (arith, room, c.loop-region.invariant.room);
+            keeps = omega (arith, room, c.loop-region.invariant.keeps);
+            copied = ap (λ (xs : List ℕ). xs ++ take (most - length xs) (run_from (pieces_of rest) c.if-has.at)) same
+                ∙ ap (λ (k : ℕ). bytes ++ take (most - length bytes) (run_from (pieces_of rest) k)) w.at-is
+                ∙ ap (λ (xs : List ℕ). bytes ++ take (most - length bytes) xs) (sym (run_past (piece_of r) (pieces_of rest) at no))
+                ∙ so_far;
           }
     ]

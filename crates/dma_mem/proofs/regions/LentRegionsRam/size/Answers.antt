@@ -1,4 +1,4 @@
-use Rattle.std.proofs.Common.{◌≡◌, ℕ, List, length, true, arith, rules, ap}
+use Rattle.std.proofs.Common.{◌≡◌, List, length, true, arith, rules, ap}
 use Rattle.dma_mem.specs.declared.regions.Region.{Region}
 use Rattle.dma_mem.specs.Regions.{pieces_of, image_of, in_order}
 use Rattle.dma_mem.proofs.Pieces.{image_of-most}

@@ -2,7 +2,7 @@ use Rattle.std.proofs.Common.{◌≡◌, ◌+◌, ◌-◌, get_or, ap, sym, inl,
 use Rattle.std.proofs.lemmas.Bool.{cases_lt}
 use Rattle.dma_mem.proofs.RangeSets.{nowhere}
 use Rattle.dma_mem.proofs.NeighboursMeet.{none_overlap, some_overlap}
-use Rattle.dma_mem.proofs.transfer.rules.neighbours_meet.Goals as goal
+use Rattle.dma_mem.proofs.segment.neighbours_meet.Goals as goal
 
 pub returns-then-from-end : goal.returns-then-from-end
 returns-then-from-end c =

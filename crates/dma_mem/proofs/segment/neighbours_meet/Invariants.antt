@@ -1,5 +1,5 @@
 use Rattle.dma_mem.proofs.NeighboursMeet.{NoOverlap}
-use Rattle.dma_mem.proofs.transfer.rules.neighbours_meet.Given as goal
+use Rattle.dma_mem.proofs.segment.neighbours_meet.Given as goal
 
 abbrev pub invariant-loop-next : goal.invariant-loop-next
 invariant-loop-next l = NoOverlap l.sorted l.next
